@@ -1,0 +1,203 @@
+// The state of one relay.
+ghost use Rattle.std.specs.Prelude.{◌≡◌, ◌<◌, [], drop, length, min, take, IfErr, IfNone, IfOk, IfSome, OnErr, OnOk};
+
+use crate::accounts::Accounts;
+use crate::answers::{Entry, Hold, Job, Taken};
+use crate::fault::BoardFault;
+use crate::limits::{ARCHIVE, BATCH_SIZE, HANDS, INPUTS, QUEUE_SIZE, WORKERS};
+use std::alloc::{AllocError, Global};
+use std::marker::Model;
+use std::mem;
+use sy_chain::{Chain, Node};
+
+/// The state of one relay: the hands of its input, its queue, the batch of the queue's worker, and the
+/// totals.
+#[derive(Drop)]
+pub struct Board {
+    alloc: Global,
+    hands: Vec<Option<Node>>,
+    queue: Chain,
+    batch: Chain,
+    accounts: Accounts,
+}
+
+impl Model for Board {
+    ghost use Rattle.sy_board.specs.States.{BoardState, IsBalanced};
+
+    ghost Value = { BoardState };
+
+    ghost view = { λ b. record {
+      hands = b.hands.items;
+      queue = b.queue;
+      batch = b.batch;
+      taken = b.accounts.taken;
+      in_hands = b.accounts.in_hands;
+      in_queues = b.accounts.in_queues;
+      grabbed = b.accounts.grabbed;
+    } };
+
+    ghost invariant = { λ b. IsBalanced (record {
+      hands = b.hands.items;
+      queue = b.queue;
+      batch = b.batch;
+      taken = b.accounts.taken;
+      in_hands = b.accounts.in_hands;
+      in_queues = b.accounts.in_queues;
+      grabbed = b.accounts.grabbed;
+    }) };
+}
+
+// Moves a batch from the front of the queue into the empty one. A queue that fits is taken whole by a swap,
+// so that both keep their room: then no message costs memory here.
+fn move_batch(queue: &mut Chain, batch: &mut Chain) -> Result<usize, AllocError>
+    requires { batch.old ≡ [] }
+    ensures count { IfOk result (λ count. count ≡ min BATCH_SIZE (length queue.old)) }
+    ensures front { IfOk result (λ count. batch.new ≡ take count queue.old) }
+    ensures rest { IfOk result (λ count. queue.new ≡ drop count queue.old) }
+    ensures err { OnErr result ((queue.new ≡ queue.old) × (batch.new ≡ batch.old) × (BATCH_SIZE < length queue.old)) }
+{
+    let waiting = queue.len();
+    if waiting <= BATCH_SIZE {
+        mem::swap(queue, batch);
+        return Ok(waiting);
+    }
+    *batch = queue.cut_front(BATCH_SIZE)?;
+    Ok(BATCH_SIZE)
+}
+
+impl Board {
+    ghost use Rattle.sy_board.specs.States.{IsBalanced, IsOfList, accounts_of, opening};
+    ghost use Rattle.sy_board.specs.Steps.{EnterFails, EnterIs, GrabFails, Grabs, IsJobOf, SettleFails, Settles, TakeFails, TakeIs};
+
+    /// The board of one input, one queue with one worker, and one archive. It holds no message yet.
+    pub fn single(alloc: Global) -> Result<Board, AllocError>
+        ensures { IfOk result (λ board. board ≡ opening) }
+    {
+        let mut hands = Vec::with_capacity(alloc, HANDS as usize)?;
+        for _ in 0..HANDS {
+            hands.push(None)?;
+        }
+        Ok(Board {
+            alloc,
+            hands,
+            queue: Chain::new(alloc),
+            batch: Chain::new(alloc),
+            accounts: Accounts {
+                taken: 0,
+                in_hands: 0,
+                in_queues: 0,
+                grabbed: 0,
+            },
+        })
+    }
+
+    /// A message comes to a free hand of an input.
+    ///
+    /// The node's list, input and due set are those of the board's one list and input.
+    pub fn take(&mut self, input: u32, hand: u32, node: Node) -> Result<Taken, (Node, BoardFault)>
+        requires input { input < INPUTS }
+        requires hand { hand < HANDS }
+        requires node { IsOfList input node }
+        ensures ok { IfOk result (λ taken. TakeIs taken self.old hand node self.new) }
+        ensures err { IfErr result (λ e. TakeFails e.1 self.old hand self.new) }
+        ensures back { IfErr result (λ e. e.0 ≡ node) }
+    {
+        let _ = input;
+        let hand = hand as usize;
+        if self.hands[hand].is_some() {
+            return Err((node, BoardFault::HandTaken));
+        }
+        if self.accounts.taken == u64::MAX {
+            return Err((node, BoardFault::TotalsFull));
+        }
+        self.hands[hand] = Some(node);
+        self.accounts.taken += 1;
+        self.accounts.in_hands += 1;
+        Ok(Taken::InHand)
+    }
+
+    /// The hand's message goes to the end of the input's queue, unless the queue is full.
+    #[tactic(auto, using(crate::proofs::Hands::set_twice_back))]
+    pub fn enter(&mut self, input: u32, hand: u32) -> Result<Entry, BoardFault>
+        requires input { input < INPUTS }
+        requires hand { hand < HANDS }
+        ensures ok { IfOk result (λ entry. EnterIs entry self.old hand self.new) }
+        ensures err { IfErr result (λ fault. EnterFails fault self.old hand self.new) }
+    {
+        let _ = input;
+        let hand = hand as usize;
+        if self.hands[hand].is_none() {
+            return Err(BoardFault::HandEmpty);
+        }
+        if self.queue.len() >= QUEUE_SIZE {
+            return Ok(Entry::Held(Hold::Full));
+        }
+        let Some(node) = self.hands[hand].take() else {
+            return Err(BoardFault::HandEmpty);
+        };
+        if let Err(node) = self.queue.push_back(node) {
+            self.hands[hand] = Some(node);
+            return Err(BoardFault::NoMemory);
+        }
+        self.accounts.in_hands -= 1;
+        self.accounts.in_queues += 1;
+        Ok(Entry::Entered)
+    }
+
+    /// A worker without entries takes a batch from the front of its queue. The answer is how many entries
+    /// left the queue, 0 only where it is empty, and those of them that are lost: none are discardable.
+    ///
+    /// A queue that fits the batch is taken whole, which takes no memory.
+    pub fn grab(&mut self, worker: u32) -> Result<(usize, Chain), BoardFault>
+        requires { worker < WORKERS }
+        ensures ok { IfOk result (λ grabbed. Grabs self.old grabbed.0 grabbed.1 self.new) }
+        ensures err { IfErr result (λ fault. GrabFails fault self.old self.new) }
+    {
+        let _ = worker;
+        if !self.batch.is_empty() {
+            return Err(BoardFault::SlotBusy);
+        }
+        let Ok(count) = move_batch(&mut self.queue, &mut self.batch) else {
+            return Err(BoardFault::NoMemory);
+        };
+        self.accounts.in_queues -= count as u64;
+        self.accounts.grabbed += count as u64;
+        Ok((count, Chain::new(self.alloc)))
+    }
+
+    /// The first occurrence due for a worker: the archive's action, run on the first message of its batch.
+    pub fn job(&self, worker: u32) -> Option<Job<'_>>
+        requires { worker < WORKERS }
+        ensures some { IfSome result (λ job. IsJobOf self.now.batch job) }
+        ensures none { IfNone result (self.now.batch ≡ []) }
+    {
+        let _ = worker;
+        let node = self.batch.front()?;
+        Some(Job::Run {
+            action: ARCHIVE,
+            message: node.message(),
+            tag: node.tag(),
+        })
+    }
+
+    /// The worker's job is done. Nothing more is due for its message, which leaves the board.
+    pub fn settle(&mut self, worker: u32) -> Result<(), BoardFault>
+        requires { worker < WORKERS }
+        ensures ok { OnOk result (Settles self.old self.new) }
+        ensures err { IfErr result (λ fault. SettleFails fault self.old self.new) }
+    {
+        let _ = worker;
+        match self.batch.pop_front() {
+            Some(_done) => Ok(()),
+            None => Err(BoardFault::NoJob),
+        }
+    }
+
+    /// The totals.
+    pub fn accounts(&self) -> &Accounts
+        ensures totals { result.now ≡ accounts_of self.now }
+        ensures balanced { IsBalanced self.now }
+    {
+        &self.accounts
+    }
+}

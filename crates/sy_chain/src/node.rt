@@ -1,0 +1,107 @@
+// One entry, on the heap.
+ghost use Rattle.std.specs.Prelude.{◌≡◌, IfErr, IfOk};
+ghost use Rattle.std.specs.Arc.{arc_value};
+
+use std::alloc::Global;
+use std::marker::Model;
+use std::sync::Arc;
+use sy_wire::Message;
+
+// What one node carries.
+#[derive(Drop)]
+struct Fields {
+    message: Arc<Message>,
+    list: u32,
+    input: u32,
+    due: u64,
+    tag: u64,
+}
+
+/// An entry: a message with what is still due for it.
+///
+/// A node is one allocation, which moves from chain to chain.
+#[derive(Drop)]
+pub struct Node {
+    fields: Box<Fields>,
+}
+
+impl Model for Node {
+    ghost use Rattle.std.specs.Arc.{arc_value};
+    ghost use Rattle.sy_chain.specs.Entries.{Entry};
+
+    ghost Value = { Entry };
+
+    ghost view = { λ n. record {
+      message = arc_value n.fields.value.message;
+      list = n.fields.value.list;
+      input = n.fields.value.input;
+      due = n.fields.value.due;
+      tag = n.fields.value.tag;
+    } };
+}
+
+impl Node {
+    /// Makes a node, which takes memory once. Where there is none, the message comes back.
+    ///
+    /// `list` and `input` are numbers of the relay's, bit k of `due` is set where the list's occurrence k is
+    /// still to be executed, and the tag is carried and never looked at.
+    pub fn new(
+        alloc: Global,
+        message: Arc<Message>,
+        list: u32,
+        input: u32,
+        due: u64,
+        tag: u64,
+    ) -> Result<Node, Arc<Message>>
+        ensures ok { IfOk result (λ n. n ≡ record { message = arc_value message; list = list; input = input; due = due; tag = tag }) }
+        ensures err { IfErr result (λ m. m ≡ message) }
+    {
+        let fields = Fields {
+            message,
+            list,
+            input,
+            due,
+            tag,
+        };
+        match Box::new(alloc, fields) {
+            Ok(fields) => Ok(Node { fields }),
+            Err(failed) => Err(failed.value.message),
+        }
+    }
+
+    pub fn message(&self) -> &Arc<Message>
+        ensures { arc_value result.now ≡ self.now.message }
+    {
+        &self.fields.message
+    }
+
+    pub fn list(&self) -> u32
+        ensures { result ≡ self.now.list }
+    {
+        self.fields.list
+    }
+
+    pub fn input(&self) -> u32
+        ensures { result ≡ self.now.input }
+    {
+        self.fields.input
+    }
+
+    pub fn due(&self) -> u64
+        ensures { result ≡ self.now.due }
+    {
+        self.fields.due
+    }
+
+    pub fn tag(&self) -> u64
+        ensures { result ≡ self.now.tag }
+    {
+        self.fields.tag
+    }
+
+    pub(crate) fn set_due(&mut self, due: u64)
+        ensures { self.new ≡ record self.old { due = due } }
+    {
+        self.fields.due = due;
+    }
+}

@@ -1,0 +1,109 @@
+-- The frames of a stream don't depend on how it is cut into pieces.
+use Rattle.std.proofs.Common.{◌≡◌, ◌≢◌, ℕ, ◌+◌, ◌<◌, ◌≤◌, inl, inr, List, [], ◌∷◌, ◌++◌, length, refl, sym, ap, ◌∙◌, arith, length-append}
+use Rattle.std.specs.List.{concat, flat_map}
+use Rattle.std.specs.Fmt.{decimal}
+use Rattle.std.proofs.lemmas.Fmt.{decimal_injective, first_decimal, decimal_nonempty}
+use Rattle.std.proofs.lemmas.List.{append_assoc, append-nil}
+use Rattle.std.proofs.lemmas.List.Concat.{flat_map-append}
+use Rattle.sy_wire.specs.Frames.{Held, IsBadLength, IsDigit, IsSize, IsTooLong, NoFrame, frame, stream}
+use Rattle.sy_wire.specs.Steps.{Feeds, GivesFrame}
+use Rattle.sy_wire.specs.Cuttings.{CuttingIsFree, OneFront, Runs, SameFrames, starts, feeds, gives}
+use Rattle.sy_wire.proofs.Opens.{digits_decimal, first_of, first_of_decimal, front_digits, one_front, space_is_none, value_le}
+
+-- lists of one length at the front of equal lists are equal
+same_front : (a b x y : List ℕ) → length a ≡ length b → a ++ x ≡ b ++ y → (a ≡ b) × (x ≡ y)
+same_front [] [] x y same e = (refl, e)
+same_front [] (b ∷ bs) x y same e = absurd (omega arith)
+same_front (a ∷ az) [] x y same e = absurd (omega arith)
+same_front (a ∷ az) (b ∷ bs) x y same e =
+    let rest : az ++ x ≡ bs ++ y = cc in
+    let head : a ≡ b = cc in
+    let parts = same_front az bs x y (omega arith) rest in
+    (let tail : az ≡ bs = parts.0 in cc, parts.1)
+
+pub one_frame : (m n x y : List ℕ) → IsSize (length m) → IsSize (length n) → frame m ++ x ≡ frame n ++ y → (m ≡ n) × (x ≡ y)
+one_frame m n x y p q e =
+    let whole : decimal (length m) ++ 32 ∷ (m ++ x) ≡ decimal (length n) ++ 32 ∷ (n ++ y) =
+    sym (append_assoc (decimal (length m)) (32 ∷ m) x) ∙ e ∙ append_assoc (decimal (length n)) (32 ∷ n) y in
+    let parts = one_front _ _ 32 32 _ _ (digits_decimal (length m) (omega (arith, p.1))) (digits_decimal (length n) (omega (arith, q.1))) space_is_none space_is_none whole in
+    let same : length m ≡ length n = decimal_injective (length m) (length n) (omega (arith, p.1)) (omega (arith, q.1)) parts.0 in
+    same_front m n x y same parts.2
+
+data Sized : List (List ℕ) → Type 0 where
+  none : Sized []
+  more : {m : List ℕ} {ms : List (List ℕ)} → IsSize (length m) → Sized ms → Sized (m ∷ ms)
+
+sized_more : (ms : List (List ℕ)) (m : List ℕ) → Sized ms → IsSize (length m) → Sized (ms ++ m ∷ [])
+sized_more [] m none size = more size none
+sized_more (x ∷ xs) m (more p ps) size = more p (sized_more xs m ps size)
+
+one_stream : (ms ns : List (List ℕ)) (x y : List ℕ) → Sized ms → Sized ns → NoFrame x → NoFrame y → stream ms ++ x ≡ stream ns ++ y → (ms ≡ ns) × (x ≡ y)
+one_stream [] [] x y p q nx ny e = (refl, e)
+one_stream [] (n ∷ ns) x y p (more q qs) nx ny e = absurd (nx n (stream ns ++ y) q (e ∙ append_assoc (frame n) (stream ns) y))
+one_stream (m ∷ ms) [] x y (more p ps) q nx ny e = absurd (ny m (stream ms ++ x) p (sym e ∙ append_assoc (frame m) (stream ms) x))
+one_stream (m ∷ ms) (n ∷ ns) x y (more p ps) (more q qs) nx ny e =
+    let fronts = one_frame m n (stream ms ++ x) (stream ns ++ y) p q (sym (append_assoc (frame m) (stream ms) x) ∙ e ∙ append_assoc (frame n) (stream ns) y) in
+    let rests = one_stream ms ns x y ps qs nx ny fronts.1 in
+    (let head : m ≡ n = fronts.0 in let tail : ms ≡ ns = rests.0 in cc, rests.1)
+
+concat_more : (xs : List (List ℕ)) (y : List ℕ) → concat (xs ++ y ∷ []) ≡ concat xs ++ y
+concat_more [] y = append-nil y
+concat_more (x ∷ xs) y = ap (λ z. x ++ z) (concat_more xs y) ∙ sym (append_assoc x (concat xs) y)
+
+stream_more : (ms : List (List ℕ)) (m : List ℕ) → stream (ms ++ m ∷ []) ≡ stream ms ++ frame m
+stream_more ms m = flat_map-append frame ms (m ∷ []) ∙ ap (λ z. stream ms ++ z) (append-nil (frame m))
+
+-- what was fed is the stream of the frames given, and then what is left
+record Stands (pieces frames : List (List ℕ)) (held : Held) : Type 0 where
+  whole : concat pieces ≡ stream frames ++ held.left
+  sized : Sized frames
+
+run_stands : (pieces frames : List (List ℕ)) (held : Held) → Runs pieces frames held → Stands pieces frames held
+run_stands pieces frames held starts = record { whole = refl; sized = none }
+run_stands _ frames new (feeds {pieces = pieces} {old = old} piece run fed) =
+    let before = run_stands pieces frames old run in
+    let left_is : new.left ≡ old.left ++ piece = ap (λ (v : Held). v.left) fed.after in
+    record {
+      whole = concat_more pieces piece ∙ ap (λ z. z ++ piece) before.whole ∙ append_assoc (stream frames) old.left piece ∙ ap (λ z. stream frames ++ z) (sym left_is);
+      sized = before.sized;
+    }
+run_stands pieces _ new (gives {frames = frames} {old = old} message run given) =
+    let before = run_stands pieces frames old run in
+    record {
+      whole = before.whole ∙ ap (λ z. stream frames ++ z) given.taken ∙ sym (append_assoc (stream frames) (frame message) new.left) ∙ ap (λ z. z ++ new.left) (sym (stream_more frames message));
+      sized = sized_more frames message before.sized given.size;
+    }
+
+pub cutting_is_free : CuttingIsFree
+cutting_is_free pieces parts frames others one other run that fed none_left none_there =
+    let a = run_stands pieces frames one run in
+    let b = run_stands parts others other that in
+    let same = one_stream frames others one.left other.left a.sized b.sized none_left none_there (sym a.whole ∙ fed ∙ b.whole) in
+    record { frames_are = same.0; left_is = same.1 }
+
+bad_is_none : (bytes : List ℕ) → IsBadLength bytes → NoFrame bytes
+bad_is_none bytes (inl b) message rest size e =
+    first_of_decimal (length message) (32 ∷ message ++ rest) b.0 b.1 size (sym (e ∙ append_assoc (decimal (length message)) (32 ∷ message) rest) ∙ b.2) b.3
+bad_is_none bytes (inr b) message rest size e =
+    let parts = one_front _ _ b.1 32 _ _ (digits_decimal b.0 (omega (arith, b.3))) (digits_decimal (length message) (omega (arith, size.1))) b.5 space_is_none
+    (sym b.4 ∙ e ∙ append_assoc (decimal (length message)) (32 ∷ message) rest) in
+    b.6 parts.1
+
+long_is_none : (bytes : List ℕ) → IsTooLong bytes → NoFrame bytes
+long_is_none bytes long message rest size e =
+    let whole : decimal (length message) ++ 32 ∷ (message ++ rest) ≡ decimal long.0 ++ long.1 = sym (append_assoc (decimal (length message)) (32 ∷ message) rest) ∙ sym e ∙ long.4 in
+    let inside = front_digits (decimal (length message)) (decimal long.0) 32 (message ++ rest) long.1 (digits_decimal long.0 long.3) space_is_none whole in
+    let le = value_le long.0 (length message) inside.0 long.3 (omega (arith, size.1)) inside.1 in
+    omega (arith, long.2, size.1)
+
+bad_or_long : (bytes : List ℕ) → IsBadLength bytes → IsTooLong bytes → ⊥
+bad_or_long bytes (inl b) long =
+    let first = first_of (decimal long.0) long.1 b.0 b.1 (digits_decimal long.0 long.3) (decimal_nonempty long.0 (omega (arith, long.3))) (first_decimal long.0 (omega (arith, long.2)) (omega (arith, long.3))) (sym long.4 ∙ b.2) in
+    b.3 (let above : 48 < b.0 = first.1 in omega arith) first.0
+bad_or_long bytes (inr b) long =
+    let inside = front_digits (decimal b.0) (decimal long.0) b.1 b.2 long.1 (digits_decimal long.0 long.3) b.5 (sym b.4 ∙ long.4) in
+    let le = value_le long.0 b.0 inside.0 long.3 (omega (arith, b.3)) inside.1 in
+    omega (arith, long.2, b.3)
+
+pub front_is_one : (bytes : List ℕ) → OneFront bytes
+front_is_one bytes = record { bad_is_no_frame = bad_is_none bytes; long_is_no_frame = long_is_none bytes; bad_is_not_long = bad_or_long bytes }

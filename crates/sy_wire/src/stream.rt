@@ -1,0 +1,58 @@
+// Where bytes come from and where they go. Both traits tell, for proofs alone, how many calls
+// failed: std's `Read` and `Write` don't, so nothing could be said of when a caller may give up.
+ghost use Rattle.std.specs.Prelude.{◌≡◌, ◌<◌, ◌≤◌, ℕ, List, Bool, Option, false, length, true, IfOk, OnErr, OnOk};
+ghost use Rattle.std.specs.Io.KnownBytes.{Keeps, ReadConsumes, WriteAppends};
+ghost use Rattle.sy_wire.specs.Streams.{Rose, count_after};
+
+/// A read failed. What the stream has left is unchanged.
+#[derive(Clone, Copy, Debug, PartialEq, Eq)]
+pub struct ReadFault;
+
+/// A write or a flush failed. Nothing of that call was written.
+#[derive(Clone, Copy, Debug, PartialEq, Eq)]
+pub struct WriteFault;
+
+/// Where bytes come from.
+pub trait Source {
+    // the bytes that reads will give from here on, where they are known
+    ghost remaining: { Self → Option (List ℕ) };
+    // the reads that failed, and all reads: each count stops at 2^64 - 1
+    ghost faults: { Self → ℕ };
+
+    ghost calls: { Self → ℕ };
+
+    /// Reads the next bytes into the front of the buffer, and answers how many. It is none only
+    /// at the end of the stream or with an empty buffer.
+    fn read(&mut self, buffer: &mut [u8]) -> Result<usize, ReadFault>
+        ensures bound { IfOk result (λ n. n ≤ length buffer.new) }
+        ensures bytes { ReadConsumes (remaining self.old) (remaining self.new) result buffer.new }
+        ensures call { calls self.new ≡ count_after (calls self.old) 1 }
+        ensures count { faults self.old ≤ faults self.new }
+        ensures err { OnErr result (Rose (faults self.old) (faults self.new)) };
+}
+
+/// Where bytes go.
+pub trait Sink {
+    // the bytes that were written, where they are known
+    ghost contents: { Self → Option (List ℕ) };
+    // the writes and flushes that failed, counted up to 2^64 - 1
+    ghost faults: { Self → ℕ };
+    // whether nothing was written since the last flush that succeeded
+    ghost is_flushed: { Self → Bool };
+
+    /// Writes a front of the bytes, and answers how many: at least one where there are any.
+    fn write(&mut self, bytes: &[u8]) -> Result<usize, WriteFault>
+        ensures bound { IfOk result (λ n. n ≤ length bytes.now) }
+        ensures some { IfOk result (λ n. 0 < length bytes.now → 0 < n) }
+        ensures bytes { WriteAppends (contents self.old) (contents self.new) result bytes.now }
+        ensures held_back { IfOk result (λ n. 0 < n → is_flushed self.new ≡ false) }
+        ensures count { faults self.old ≤ faults self.new }
+        ensures err { OnErr result (Rose (faults self.old) (faults self.new)) };
+
+    /// Hands on what was written and is still held back.
+    fn flush(&mut self) -> Result<(), WriteFault>
+        ensures bytes { Keeps (contents self.old) (contents self.new) }
+        ensures ok { OnOk result (is_flushed self.new ≡ true) }
+        ensures count { faults self.old ≤ faults self.new }
+        ensures err { OnErr result (Rose (faults self.old) (faults self.new)) };
+}

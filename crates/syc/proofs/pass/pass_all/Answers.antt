@@ -1,0 +1,30 @@
+use Rattle.std.proofs.Common.{rules, ◌≡◌, ◌+◌, ◌∙◌, sym, ap, refl}
+use Rattle.sy_board.specs.declared.accounts.Accounts.{Accounts}
+use Rattle.std.proofs.KnownBytes.{Keeps-refl}
+use Rattle.sy_wire.specs.Frames.{Held}
+use Rattle.sy_wire.proofs.Opens.{nothing_is_open}
+use Rattle.syc.proofs.Passes.{passed_nothing}
+use Rattle.syc.proofs.pass.pass_all.Goals as goal
+
+pub returns-in_default-clause-err : goal.returns-in_default-clause-err
+returns-in_default-clause-err g c = λ input known. record { taken = 0; stops = (_, _, passed_nothing _ _ _ (Keeps-refl _)); number = refl }
+
+pub returns-in_default-vec-clause-err : goal.returns-in_default-vec-clause-err
+returns-in_default-vec-clause-err g c = λ input known. record { taken = 0; stops = (_, _, passed_nothing _ _ _ (Keeps-refl _)); number = refl }
+
+pub turns-passed-requires-clause-between : goal.turns-passed-requires-clause-between
+turns-passed-requires-clause-between g c = record {
+  idle = rw c.in-Ok.ensures (record { hand = refl; queue = refl; batch = refl });
+  good = ap (λ (f : Held). f.has_failed) c.new-framer.ensures;
+  is_open = rw c.new-framer.ensures nothing_is_open;
+}
+
+pub returns-in-Ok-passed-clause-ok : goal.returns-in-Ok-passed-clause-ok
+returns-in-Ok-passed-clause-ok g c = λ input known. let h = c.in-Ok-passed.ensures.ok input known in (h.n, h.passed)
+
+pub returns-clause-err : goal.returns-clause-err
+returns-clause-err g c = λ input known. record {
+  taken = c.turns-passed.new.board.taken;
+  stops = c.in-Err.ensures.err input known;
+  number = ap (λ (a : Accounts). a.taken + 1) c.accounts.ensures.totals;
+}

@@ -1,0 +1,22 @@
+use Rattle.std.proofs.Common.{◌≡◌, ◌<◌, ◌≤◌, ◌+◌, ◌*◌, ℕ, List, ◌++◌, length, Some}
+use Rattle.sy_wire.specs.Streams.{count_after}
+use Rattle.syc.specs.Stops.{Advances, IsBetween}
+use Rattle.syc.proofs.pass.turns.Given as goal
+
+abbrev pub invariant-loop : goal.invariant-loop
+invariant-loop g l =
+    record {
+      between : IsBetween l.board l.framer;
+      some : 0 < length l.block;
+      block : length l.block ≤ 65536;
+      room : l.board.taken + length l.framer.left ≤ l.counter * 65536;
+      first : l.counter ≡ 0 → g.R.Source.calls l.reader ≡ g.R.Source.calls l.initial.reader;
+      calls : 0 < l.counter → g.R.Source.calls l.reader ≡ count_after (g.R.Source.calls l.initial.reader) l.counter;
+      bound : g.R.Source.calls l.reader ≤ g.R.Source.calls l.initial.reader + l.counter;
+      reads : g.R.Source.faults l.initial.reader ≤ g.R.Source.faults l.reader;
+      writes : g.W.Sink.faults l.initial.writer ≤ g.W.Sink.faults l.writer;
+      passed :
+          (input : List ℕ) → g.R.Source.remaining l.initial.reader ≡ Some input
+          → (ahead : List ℕ) × (g.R.Source.remaining l.reader ≡ Some ahead)
+          × Advances input (g.W.Sink.contents l.initial.writer) (g.W.Sink.contents l.writer) (l.framer.left ++ ahead) 0 l.board.taken;
+    }

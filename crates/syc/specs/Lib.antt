@@ -1,0 +1,4 @@
+pub mod Pass
+pub mod Reports
+pub mod Stops
+pub mod Words

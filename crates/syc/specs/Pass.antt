@@ -1,0 +1,118 @@
+-- What a pass reads and writes.
+use Rattle.std.specs.Prelude.{◌≡◌, ◌≢◌, ℕ, ◌+◌, List, [], ◌∷◌, ◌++◌, ◌⊎◌, length, Option}
+use Rattle.std.specs.List.{AllByRecursion, flat_map}
+use Rattle.std.specs.Io.KnownBytes.{Appends}
+use Rattle.sy_wire.specs.Frames.{IsBadLength, IsOpen, IsSize, IsTooLong, frame, stream}
+use Rattle.sy_wire.specs.Messages.{IsFault, IsMessage, Said}
+use Rattle.sy_wire.specs.Streams.{Rose, count_after}
+use Rattle.sy_wire.specs.declared.framer.FrameFault.TheVariants.{BadLength, TooLong, Truncated, NoMemory as OutOfMemory, Failed}
+use Rattle.sy_wire.specs.declared.message.MsgFault.{MsgFault}
+use Rattle.syc.specs.Reports.{report}
+use Rattle.syc.specs.declared.stop.Stop.{Stop}
+use Rattle.syc.specs.declared.stop.Stop.TheVariants.{Frame, Message, NoMemory, ReadFailed, WriteFailed}
+
+-- a message's line: its bytes and a line feed
+abbrev pub line : List ℕ → List ℕ
+line raw = raw ++ 10 ∷ []
+
+-- the lines of the messages, one after another
+abbrev pub lines : List (List ℕ) → List ℕ
+lines messages = flat_map line messages
+
+-- bytes that a frame can carry and that are a message
+pub record IsFramed (raw : List ℕ) : Type 0 where
+  pub said : Said
+  pub is_message : IsMessage said
+  pub text : said.raw ≡ raw
+  pub size : IsSize (length raw)
+
+-- The bytes are the frames of n messages and then the rest, and the lines of these messages were written.
+pub record Passed (bytes : List ℕ) (old new : Option (List ℕ)) (rest : List ℕ) (n : ℕ) : Type 0 where
+  pub messages : List (List ℕ)
+  pub count : length messages ≡ n
+  pub each : AllByRecursion IsFramed messages
+  pub whole : bytes ≡ stream messages ++ rest
+  pub wrote : Appends old new (lines messages)
+
+-- a frame stands at the front whose bytes are no message, with this fault
+pub record CarriesFault (fault : MsgFault) (rest : List ℕ) : Type 0 where
+  pub raw : List ℕ
+  pub more : List ℕ
+  pub size : IsSize (length raw)
+  pub front : rest ≡ frame raw ++ more
+  pub fault_is : IsFault raw fault.code fault.offset
+
+-- The fault that the rest begins with, where the rest is all that the input still has: it is no frame, a
+-- frame that carries no message, or ends within a frame.
+abbrev pub BeginsWith : Stop → List ℕ → Type 0
+BeginsWith (Frame BadLength) rest = IsBadLength rest
+BeginsWith (Frame TooLong) rest = IsTooLong rest
+BeginsWith (Frame Truncated) rest = (rest ≢ []) × IsOpen rest
+BeginsWith (Frame OutOfMemory) rest = ⊥
+BeginsWith (Frame Failed) rest = ⊥
+BeginsWith (Message fault) rest = CarriesFault fault rest
+BeginsWith NoMemory rest = ⊥
+BeginsWith ReadFailed rest = ⊥
+BeginsWith WriteFailed rest = ⊥
+
+-- a part of the line of the message whose frame stands at the front, or nothing
+abbrev pub IsPart : List ℕ → List ℕ → Type 0
+IsPart part rest = (part ≡ []) ⊎ ((raw more tail : List ℕ) × IsFramed raw × (rest ≡ frame raw ++ more) × (line raw ≡ part ++ tail))
+
+-- the lines of messages at the front of the bytes were written, and then at most a part of one more
+pub record PartPassed (bytes : List ℕ) (old new : Option (List ℕ)) : Type 0 where
+  pub messages : List (List ℕ)
+  pub rest : List ℕ
+  pub part : List ℕ
+  pub each : AllByRecursion IsFramed messages
+  pub whole : bytes ≡ stream messages ++ rest
+  pub is_part : IsPart part rest
+  pub wrote : Appends old new (lines messages ++ part)
+
+-- The four ends of a pass over an input. `Tells` says what was printed on standard error.
+
+-- the whole input is frames of messages, and all their lines were written
+abbrev pub EndsWhole : List ℕ → Option (List ℕ) → Option (List ℕ) → Type 0
+EndsWhole input old new = (n : ℕ) × Passed input old new [] n
+
+-- the input reads as messages up to a fault, their lines were written, and the fault with the number of its frame was told
+pub record EndsAtFault (input : List ℕ) (old new : Option (List ℕ)) (Tells : List ℕ → Type 0) : Type 0 where
+  pub stop : Stop
+  pub rest : List ℕ
+  pub n : ℕ
+  pub passed : Passed input old new rest n
+  pub fault : BeginsWith stop rest
+  pub told : Tells (report stop (n + 1))
+
+-- the lines of messages at the front of the input were written, and that memory ran out was told
+pub record EndsForMemory (input : List ℕ) (old new : Option (List ℕ)) (Tells : List ℕ → Type 0) : Type 0 where
+  pub rest : List ℕ
+  pub n : ℕ
+  pub passed : Passed input old new rest n
+  pub told : Tells (report NoMemory 0)
+
+-- the same and at most a part of one more line, and that a read or a write failed was told
+pub record EndsFailing (input : List ℕ) (old new : Option (List ℕ)) (Tells : List ℕ → Type 0) : Type 0 where
+  pub part : PartPassed input old new
+  pub told : Tells (report ReadFailed 0) ⊎ Tells (report WriteFailed 0)
+
+-- the exit status of a pass over an input
+abbrev pub PassIs : ℕ → List ℕ → Option (List ℕ) → Option (List ℕ) → (List ℕ → Type 0) → Type 0
+PassIs status input old new Tells =
+    ((status ≡ 0) × EndsWhole input old new)
+    ⊎ ((status ≡ 2) × EndsAtFault input old new Tells)
+    ⊎ ((status ≡ 3) × EndsForMemory input old new Tells)
+    ⊎ ((status ≡ 4) × EndsFailing input old new Tells)
+
+-- all the reads that a pass may make were made
+abbrev pub AreReadsUsed : ℕ → ℕ → Type 0
+AreReadsUsed before after = after ≡ count_after before 1000000000000
+
+-- why a pass may answer that a read or a write failed: one of the reads or of the writes did, or the reads are used up
+abbrev pub HasFailed : ℕ → ℕ → ℕ → ℕ → ℕ → ℕ → Type 0
+HasFailed reads_failed reads_failed' reads reads' writes_failed writes_failed' =
+    Rose reads_failed reads_failed' ⊎ AreReadsUsed reads reads' ⊎ Rose writes_failed writes_failed'
+
+-- the exit statuses of a pass
+abbrev pub IsStatus : ℕ → Type 0
+IsStatus status = (status ≡ 0) ⊎ (status ≡ 2) ⊎ (status ≡ 3) ⊎ (status ≡ 4)

@@ -1,0 +1,107 @@
+-- How far a pass has come between its calls, and what they leave when it stops.
+use Rattle.std.specs.Prelude.{◌≡◌, ◌≢◌, ℕ, ◌+◌, Bool, true, false, Result, Ok, Err, List, [], ◌∷◌, ◌++◌, ◌⊎◌, length, Option, Some, None, slice_get}
+use Rattle.std.specs.Io.KnownBytes.{Appends, Keeps}
+use Rattle.sy_wire.specs.Frames.{Held, IsOpen}
+use Rattle.sy_wire.specs.Streams.{Rose, count_after}
+use Rattle.sy_wire.specs.declared.framer.FrameFault.TheVariants.{BadLength, TooLong, Truncated, NoMemory as OutOfMemory, Failed}
+use Rattle.sy_chain.specs.Entries.{Entry}
+use Rattle.sy_board.specs.States.{BoardState}
+use Rattle.syc.specs.Pass.{AreReadsUsed, BeginsWith, PartPassed, Passed}
+use Rattle.syc.specs.declared.stop.Stop.{Stop}
+use Rattle.syc.specs.declared.stop.Stop.TheVariants.{Frame, Message, NoMemory, ReadFailed, WriteFailed}
+
+-- no message is on the board where the next one comes
+pub record IsIdle (b : BoardState) : Type 0 where
+  pub hand : slice_get b.hands 0 ≡ Some None
+  pub queue : b.queue ≡ []
+  pub batch : b.batch ≡ []
+
+-- the message with this text waits to be written
+pub record IsReady (b : BoardState) (raw : List ℕ) : Type 0 where
+  pub entry : Entry
+  pub hand : slice_get b.hands 0 ≡ Some None
+  pub queue : b.queue ≡ []
+  pub batch : b.batch ≡ entry ∷ []
+  pub text : entry.message.raw ≡ raw
+
+-- a front of the bytes was written
+pub record Torn (old new : Option (List ℕ)) (bytes : List ℕ) : Type 0 where
+  pub part : List ℕ
+  pub tail : List ℕ
+  pub wrote : Appends old new part
+  pub front : bytes ≡ part ++ tail
+
+-- a message's line was not, or not wholly, written
+abbrev pub CarryFails : Stop → Option (List ℕ) → Option (List ℕ) → List ℕ → Type 0
+CarryFails NoMemory old new bytes = Keeps old new
+CarryFails WriteFailed old new bytes = Torn old new bytes
+CarryFails _ old new bytes = ⊥
+
+-- the messages at the front of the bytes were passed, and the board took each of them
+pub record Advances (bytes : List ℕ) (old new : Option (List ℕ)) (rest : List ℕ) (before after : ℕ) : Type 0 where
+  pub n : ℕ
+  pub passed : Passed bytes old new rest n
+  pub taken : after ≡ before + n
+
+-- the same up to a fault
+pub record StopsAt (stop : Stop) (bytes : List ℕ) (old new : Option (List ℕ)) (before after : ℕ) : Type 0 where
+  pub rest : List ℕ
+  pub advances : Advances bytes old new rest before after
+  pub fault : BeginsWith stop rest
+
+-- some messages at the front of the bytes were passed
+abbrev pub PassedSome : List ℕ → Option (List ℕ) → Option (List ℕ) → Type 0
+PassedSome bytes old new = (rest : List ℕ) × (n : ℕ) × Passed bytes old new rest n
+
+-- what stops a pass over bytes of which more may come
+abbrev pub DrainFails : Stop → List ℕ → Option (List ℕ) → Option (List ℕ) → ℕ → ℕ → Type 0
+DrainFails (Frame BadLength) bytes old new before after = StopsAt (Frame BadLength) bytes old new before after
+DrainFails (Frame TooLong) bytes old new before after = StopsAt (Frame TooLong) bytes old new before after
+DrainFails (Frame _) bytes old new before after = ⊥
+DrainFails (Message fault) bytes old new before after = StopsAt (Message fault) bytes old new before after
+DrainFails NoMemory bytes old new before after = PassedSome bytes old new
+DrainFails ReadFailed bytes old new before after = ⊥
+DrainFails WriteFailed bytes old new before after = PartPassed bytes old new
+
+-- what stops a pass over a whole input
+abbrev pub StopIs : Stop → List ℕ → Option (List ℕ) → Option (List ℕ) → ℕ → ℕ → Type 0
+StopIs (Frame fault) input old new before after = StopsAt (Frame fault) input old new before after
+StopIs (Message fault) input old new before after = StopsAt (Message fault) input old new before after
+StopIs NoMemory input old new before after = PassedSome input old new
+StopIs ReadFailed input old new before after = PartPassed input old new
+StopIs WriteFailed input old new before after = PartPassed input old new
+
+-- between two reads
+pub record IsBetween (board : BoardState) (framer : Held) : Type 0 where
+  pub idle : IsIdle board
+  pub good : framer.has_failed ≡ false
+  pub is_open : IsOpen framer.left
+
+-- one turn over what is held and ahead
+abbrev pub TurnIs : Result Bool Stop → List ℕ → List ℕ → Option (List ℕ) → Option (List ℕ) → Option (List ℕ) → ℕ → ℕ → Type 0
+TurnIs (Ok true) bytes left ahead old new before after = (next : List ℕ) × (ahead ≡ Some next) × Advances bytes old new (left ++ next) before after
+TurnIs (Ok false) bytes left ahead old new before after = Advances bytes old new [] before after
+TurnIs (Err stop) bytes left ahead old new before after = StopIs stop bytes old new before after
+
+-- a failed write has its cause
+abbrev pub WriteCause : Stop → ℕ → ℕ → Type 0
+WriteCause WriteFailed before after = Rose before after
+WriteCause _ before after = Unit {0}
+
+-- a failed read or write has its cause
+abbrev pub FailCause : Stop → ℕ → ℕ → ℕ → ℕ → Type 0
+FailCause ReadFailed reads_before reads_after writes_before writes_after = Rose reads_before reads_after
+FailCause WriteFailed reads_before reads_after writes_before writes_after = Rose writes_before writes_after
+FailCause _ reads_before reads_after writes_before writes_after = Unit {0}
+
+-- the same where the reads may be used up too
+abbrev pub PassCause : Stop → ℕ → ℕ → ℕ → ℕ → ℕ → ℕ → Type 0
+PassCause ReadFailed failed failed' reads reads' writes_failed writes_failed' = Rose failed failed' ⊎ AreReadsUsed reads reads'
+PassCause WriteFailed failed failed' reads reads' writes_failed writes_failed' = Rose writes_failed writes_failed'
+PassCause _ failed failed' reads reads' writes_failed writes_failed' = Unit {0}
+
+-- the same with the number of the frame in which it stopped, counted from 1
+pub record StopsIn (stop : Stop) (frame : ℕ) (input : List ℕ) (old new : Option (List ℕ)) : Type 0 where
+  pub taken : ℕ
+  pub stops : StopIs stop input old new 0 taken
+  pub number : frame ≡ taken + 1

@@ -1,0 +1,55 @@
+// The program `syc`.
+#![tactic(auto)]
+
+mod carry;
+mod command;
+mod files;
+mod output;
+mod pass;
+mod run;
+mod stop;
+
+use files::NoFiles;
+use run::run;
+use std::env;
+use std::io::BufWriter;
+use std::process::ExitCode;
+use sy_wire::{FromRead, FromWrite};
+
+/// How many bytes of lines are held back until the next read.
+const OUTPUT_BUFFER: usize = 65536;
+
+/// Room for the longest line on standard error, so that it is written at once.
+const ERROR_BUFFER: usize = 128;
+
+fn main(rt: HostRuntime) -> ExitCode {
+    ExitCode::from(start(&rt))
+}
+
+// Runs the commands on the process's own words and streams.
+fn start(rt: &HostRuntime) -> u8 {
+    let alloc = rt.alloc();
+    let Ok(errors) = BufWriter::with_capacity(alloc, ERROR_BUFFER, rt.stderr()) else {
+        return stop::out_of_memory(&mut FromWrite::new(rt.stderr()));
+    };
+    let mut errors = FromWrite::new(errors);
+    let Ok(args) = env::args(rt) else {
+        return stop::out_of_memory(&mut errors);
+    };
+    let Ok(words) = args.skip(1).collect::<Vec<String>>(alloc) else {
+        return stop::out_of_memory(&mut errors);
+    };
+    let Ok(writer) = BufWriter::with_capacity(alloc, OUTPUT_BUFFER, rt.stdout()) else {
+        return stop::out_of_memory(&mut errors);
+    };
+    let mut writer = FromWrite::new(writer);
+    let mut reader = FromRead::new(rt.stdin());
+    run(
+        alloc,
+        words.as_slice(),
+        &NoFiles,
+        &mut reader,
+        &mut writer,
+        &mut errors,
+    )
+}

@@ -1,0 +1,51 @@
+// Writing whole texts by as many writes as it takes.
+ghost use Rattle.std.specs.Prelude.{◌≤◌, OnErr, OnOk};
+ghost use Rattle.std.specs.Fmt.{decimal};
+ghost use Rattle.std.specs.Io.KnownBytes.{Appends};
+ghost use Rattle.sy_wire.specs.Streams.{Rose};
+ghost use Rattle.syc.specs.Pass.{line};
+ghost use Rattle.syc.specs.Stops.{Torn};
+
+use sy_wire::{Sink, WriteFault};
+
+/// Writes all the bytes, or a front of them.
+pub fn write_all<W: Sink>(writer: &mut W, bytes: &[u8]) -> Result<(), WriteFault>
+    ensures ok { OnOk result (Appends (W.contents writer.old) (W.contents writer.new) bytes.now) }
+    ensures torn { OnErr result (Torn (W.contents writer.old) (W.contents writer.new) bytes.now) }
+    ensures count { W.faults writer.old ≤ W.faults writer.new }
+    ensures err { OnErr result (Rose (W.faults writer.old) (W.faults writer.new)) }
+{
+    let mut at = 0;
+    while at < bytes.len() {
+        let (_, rest) = bytes.split_at(at);
+        let count = writer.write(rest)?;
+        at += count;
+    }
+    Ok(())
+}
+
+/// Writes a message and a line feed.
+pub fn write_line<W: Sink>(writer: &mut W, message: &[u8]) -> Result<(), WriteFault>
+    ensures ok { OnOk result (Appends (W.contents writer.old) (W.contents writer.new) (line message.now)) }
+    ensures torn { OnErr result (Torn (W.contents writer.old) (W.contents writer.new) (line message.now)) }
+    ensures count { W.faults writer.old ≤ W.faults writer.new }
+    ensures err { OnErr result (Rose (W.faults writer.old) (W.faults writer.new)) }
+{
+    write_all(writer, message)?;
+    write_all(writer, b"\n")?;
+    Ok(())
+}
+
+/// Writes a number in decimal digits.
+pub fn write_decimal<W: Sink>(writer: &mut W, number: u64) -> Result<(), WriteFault>
+    ensures ok { OnOk result (Appends (W.contents writer.old) (W.contents writer.new) (decimal number)) }
+    ensures count { W.faults writer.old ≤ W.faults writer.new }
+    ensures err { OnErr result (Rose (W.faults writer.old) (W.faults writer.new)) }
+{
+    if number >= 10 {
+        write_decimal(writer, number / 10)?;
+    }
+    let digit = b'0' + (number % 10) as u8;
+    write_all(writer, &[digit])?;
+    Ok(())
+}

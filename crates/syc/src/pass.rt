@@ -1,0 +1,214 @@
+// Standard input as frames, one line a message on standard output.
+ghost use Rattle.std.specs.Prelude.{◌≡◌, ◌+◌, ◌*◌, ◌<◌, ◌≤◌, ◌^◌, ◌⊎◌, ◌++◌, ℕ, [], List, Option, false, true, IfErr, OnOk, Ok, Some, length};
+ghost use Rattle.sy_wire.specs.Frames.{IsOpen};
+ghost use Rattle.sy_wire.specs.Streams.{Rose, count_after};
+ghost use Rattle.syc.specs.Pass.{EndsWhole, HasFailed, IsStatus, PassIs};
+ghost use Rattle.syc.specs.Reports.{Told, status_shown};
+ghost use Rattle.syc.specs.Stops.{Advances, DrainFails, FailCause, IsBetween, IsIdle, PassCause, StopIs, StopsIn, TurnIs, WriteCause};
+
+use crate::carry::carry;
+use crate::stop::{Stop, status_of, tell};
+use std::alloc::Global;
+use sy_board::Board;
+use sy_wire::{FrameFault, Framer, Message, Sink, Source};
+
+/// How many bytes a read asks for.
+const BLOCK: usize = 65536;
+
+/// How many reads a pass makes at most.
+const READS: u64 = 1_000_000_000_000;
+
+// Passes all whole frames that the framer holds.
+fn drain<W: Sink>(
+    alloc: Global,
+    board: &mut Board,
+    framer: &mut Framer,
+    writer: &mut W,
+) -> Result<(), Stop>
+    requires idle { IsIdle board.old }
+    requires good { framer.old.has_failed ≡ false }
+    requires room { board.old.taken + length framer.old.left < 2 ^ 64 }
+    ensures between { OnOk result (IsBetween board.new framer.new) }
+    ensures ok { OnOk result (Advances framer.old.left (W.contents writer.old) (W.contents writer.new) framer.new.left board.old.taken board.new.taken) }
+    ensures room { OnOk result (board.new.taken + length framer.new.left ≤ board.old.taken + length framer.old.left) }
+    ensures bound { board.new.taken ≤ board.old.taken + length framer.old.left }
+    ensures err { IfErr result (λ e. DrainFails e framer.old.left (W.contents writer.old) (W.contents writer.new) board.old.taken board.new.taken) }
+    ensures count { W.faults writer.old ≤ W.faults writer.new }
+    ensures cause { IfErr result (λ e. WriteCause e (W.faults writer.old) (W.faults writer.new)) }
+{
+    'frames: loop {
+        match framer.next_frame() {
+            Ok(Some(raw)) => match Message::read(raw) {
+                Ok(message) => carry(alloc, board, writer, message)?,
+                Err((_, fault)) => return Err(Stop::Message(fault)),
+            },
+            Ok(None) => return Ok(()),
+            Err(FrameFault::NoMemory) => return Err(Stop::NoMemory),
+            Err(fault) => return Err(Stop::Frame(fault)),
+        }
+    }
+}
+
+// Hands on the lines so far, reads once, and passes what is whole then. It answers whether more may come.
+fn turn<R: Source, W: Sink>(
+    alloc: Global,
+    reader: &mut R,
+    block: &mut [u8],
+    board: &mut Board,
+    framer: &mut Framer,
+    writer: &mut W,
+) -> Result<bool, Stop>
+    requires some { 0 < length block.old }
+    requires block { length block.old ≤ 65536 }
+    requires between { IsBetween board.old framer.old }
+    requires room { board.old.taken + length framer.old.left + 65536 < 2 ^ 64 }
+    ensures between { result ≡ Ok true → IsBetween board.new framer.new }
+    ensures room { result ≡ Ok true → board.new.taken + length framer.new.left ≤ board.old.taken + length framer.old.left + 65536 }
+    ensures bound { board.new.taken ≤ board.old.taken + length framer.old.left + 65536 }
+    ensures turned { (ahead : List ℕ) → R.remaining reader.old ≡ Some ahead →
+        TurnIs result (framer.old.left ++ ahead) framer.new.left (R.remaining reader.new) (W.contents writer.old) (W.contents writer.new) board.old.taken board.new.taken }
+    ensures flushed { result ≡ Ok false → W.is_flushed writer.new ≡ true }
+    ensures call { result ≡ Ok true → R.calls reader.new ≡ count_after (R.calls reader.old) 1 }
+    ensures calls { R.calls reader.new ≤ R.calls reader.old + 1 }
+    ensures reads { R.faults reader.old ≤ R.faults reader.new }
+    ensures writes { W.faults writer.old ≤ W.faults writer.new }
+    ensures cause { IfErr result (λ e. FailCause e (R.faults reader.old) (R.faults reader.new) (W.faults writer.old) (W.faults writer.new)) }
+{
+    let Ok(()) = writer.flush() else {
+        return Err(Stop::WriteFailed);
+    };
+    let Ok(n) = reader.read(block) else {
+        return Err(Stop::ReadFailed);
+    };
+    if n == 0 {
+        let Ok(()) = framer.end() else {
+            return Err(Stop::Frame(FrameFault::Truncated));
+        };
+        return Ok(false);
+    }
+    let Ok(()) = framer.feed(&block[..n]) else {
+        return Err(Stop::NoMemory);
+    };
+    drain(alloc, board, framer, writer)?;
+    Ok(true)
+}
+
+// Passes the whole input, block by block.
+fn turns<R: Source, W: Sink>(
+    alloc: Global,
+    reader: &mut R,
+    block: &mut [u8],
+    board: &mut Board,
+    framer: &mut Framer,
+    writer: &mut W,
+) -> Result<(), Stop>
+    requires some { 0 < length block.old }
+    requires block { length block.old ≤ 65536 }
+    requires between { IsBetween board.old framer.old }
+    requires new { framer.old.left ≡ [] }
+    requires first { board.old.taken ≡ 0 }
+    ensures bound { board.new.taken + 1 < 2 ^ 64 }
+    ensures ok { (input : List ℕ) → R.remaining reader.old ≡ Some input → OnOk result (Advances input (W.contents writer.old) (W.contents writer.new) [] 0 board.new.taken) }
+    ensures err { (input : List ℕ) → R.remaining reader.old ≡ Some input → IfErr result (λ e. StopIs e input (W.contents writer.old) (W.contents writer.new) 0 board.new.taken) }
+    ensures flushed { OnOk result (W.is_flushed writer.new ≡ true) }
+    ensures calls { R.calls reader.new ≤ R.calls reader.old + 1000000000000 }
+    ensures writes { W.faults writer.old ≤ W.faults writer.new }
+    ensures cause { IfErr result (λ e. PassCause e (R.faults reader.old) (R.faults reader.new) (R.calls reader.old) (R.calls reader.new) (W.faults writer.old) (W.faults writer.new)) }
+{
+    for _ in 0..READS {
+        if !turn(alloc, reader, block, board, framer, writer)? {
+            return Ok(());
+        }
+    }
+    Err(Stop::ReadFailed)
+}
+
+// Why a pass stopped, and in which frame, counted from 1.
+#[derive(Clone, Copy)]
+struct Stopped {
+    stop: Stop,
+    frame: u64,
+}
+
+// Passes the whole input over a new board.
+fn pass_all<R: Source, W: Sink>(
+    alloc: Global,
+    reader: &mut R,
+    writer: &mut W,
+) -> Result<(), Stopped>
+    ensures ok { (input : List ℕ) → R.remaining reader.old ≡ Some input → OnOk result (EndsWhole input (W.contents writer.old) (W.contents writer.new)) }
+    ensures err { (input : List ℕ) → R.remaining reader.old ≡ Some input → IfErr result (λ e. StopsIn e.stop e.frame input (W.contents writer.old) (W.contents writer.new)) }
+    ensures flushed { OnOk result (W.is_flushed writer.new ≡ true) }
+    ensures calls { R.calls reader.new ≤ R.calls reader.old + 1000000000000 }
+    ensures writes { W.faults writer.old ≤ W.faults writer.new }
+    ensures cause { IfErr result (λ e. PassCause e.stop (R.faults reader.old) (R.faults reader.new) (R.calls reader.old) (R.calls reader.new) (W.faults writer.old) (W.faults writer.new)) }
+{
+    let Ok(mut board) = Board::single(alloc) else {
+        return Err(Stopped {
+            stop: Stop::NoMemory,
+            frame: 1,
+        });
+    };
+    let Ok(mut block) = vec![in alloc; 0u8; BLOCK] else {
+        return Err(Stopped {
+            stop: Stop::NoMemory,
+            frame: 1,
+        });
+    };
+    let mut framer = Framer::new(alloc);
+    let passed = turns(
+        alloc,
+        reader,
+        block.as_mut_slice(),
+        &mut board,
+        &mut framer,
+        writer,
+    );
+    match passed {
+        Ok(()) => Ok(()),
+        Err(stop) => Err(Stopped {
+            stop,
+            frame: board.accounts().taken + 1,
+        }),
+    }
+}
+
+// Hands on the lines that were written before the stop, and tells of it.
+fn give_up<W: Sink, E: Sink>(writer: &mut W, errors: &mut E, stopped: Stopped) -> u8
+    ensures pass { (input : List ℕ) (first : Option (List ℕ)) → StopsIn stopped.stop stopped.frame input first (W.contents writer.old) →
+        PassIs result input first (W.contents writer.new)
+        (λ text. Told (E.contents errors.old) (E.contents errors.new) (E.faults errors.old) (E.faults errors.new) text) }
+    ensures status { (result ≡ 2) ⊎ (result ≡ 3) ⊎ (result ≡ 4) }
+    ensures flushed { result ≡ 2 → W.is_flushed writer.new ≡ true }
+    ensures writes { W.faults writer.old ≤ W.faults writer.new }
+    ensures cause { result ≡ 4 → (status_shown stopped.stop ≡ 4) ⊎ Rose (W.faults writer.old) (W.faults writer.new) }
+{
+    let stop = match writer.flush() {
+        Ok(()) => stopped.stop,
+        Err(_) => Stop::WriteFailed,
+    };
+    tell(errors, stop, stopped.frame);
+    status_of(stop)
+}
+
+/// Reads the input as frames to its end or up to the first fault, and writes each message and a line
+/// feed as soon as its frame is whole. It answers the exit status.
+pub fn pass<R: Source, W: Sink, E: Sink>(
+    alloc: Global,
+    reader: &mut R,
+    writer: &mut W,
+    errors: &mut E,
+) -> u8
+    ensures pass { (input : List ℕ) → R.remaining reader.old ≡ Some input →
+        PassIs result input (W.contents writer.old) (W.contents writer.new)
+        (λ text. Told (E.contents errors.old) (E.contents errors.new) (E.faults errors.old) (E.faults errors.new) text) }
+    ensures status { IsStatus result }
+    ensures flushed { (result ≡ 0) ⊎ (result ≡ 2) → W.is_flushed writer.new ≡ true }
+    ensures calls { R.calls reader.new ≤ R.calls reader.old + 1000000000000 }
+    ensures cause { result ≡ 4 → HasFailed (R.faults reader.old) (R.faults reader.new) (R.calls reader.old) (R.calls reader.new) (W.faults writer.old) (W.faults writer.new) }
+{
+    match pass_all(alloc, reader, writer) {
+        Ok(()) => 0,
+        Err(stopped) => give_up(writer, errors, stopped),
+    }
+}

@@ -1,0 +1,65 @@
+// The commands.
+ghost use Rattle.std.specs.Prelude.{◌≡◌, ◌≤◌, ◌+◌, ◌⊎◌, ◌∷◌, [], ℕ, List, Some, codes, map, string_bytes, true};
+ghost use Rattle.syc.specs.Pass.{HasFailed, IsStatus, PassIs};
+ghost use Rattle.syc.specs.Reports.{Told};
+
+use crate::command::{Command, all_words, command_of};
+use crate::files::Files;
+use crate::output::write_all;
+use crate::pass::pass;
+use crate::stop::{out_of_memory, write_failed};
+use clap::Error;
+use clap::error::ErrorKind;
+use std::alloc::Global;
+use sy_wire::{Sink, Source};
+
+// Prints what clap answers in place of a command, and answers the exit status.
+fn show<W: Sink, E: Sink>(alloc: Global, writer: &mut W, errors: &mut E, error: &Error) -> u8 {
+    let Ok(text) = format!(in alloc; "{error}") else {
+        return out_of_memory(errors);
+    };
+    if error.use_stderr() {
+        let _ = write_all(errors, text.as_bytes());
+        let _ = errors.flush();
+        return 2;
+    }
+    let Ok(()) = write_all(writer, text.as_bytes()) else {
+        return write_failed(errors);
+    };
+    let Ok(()) = writer.flush() else {
+        return write_failed(errors);
+    };
+    0
+}
+
+/// Runs the command that the words name, those after the program's name, and answers the exit status: 0
+/// accepted or done, 1 refused, 2 faulty input or command line, 3 no memory, 4 a read or write failed.
+pub fn run<R: Source, W: Sink, E: Sink, F: Files>(
+    alloc: Global,
+    args: &[String],
+    files: &F,
+    reader: &mut R,
+    writer: &mut W,
+    errors: &mut E,
+) -> u8
+    ensures pass { map string_bytes args.now ≡ codes "pass" ∷ [] → (input : List ℕ) → R.remaining reader.old ≡ Some input →
+        PassIs result input (W.contents writer.old) (W.contents writer.new)
+        (λ text. Told (E.contents errors.old) (E.contents errors.new) (E.faults errors.old) (E.faults errors.new) text) }
+    ensures status { map string_bytes args.now ≡ codes "pass" ∷ [] → IsStatus result }
+    ensures flushed { map string_bytes args.now ≡ codes "pass" ∷ [] → (result ≡ 0) ⊎ (result ≡ 2) → W.is_flushed writer.new ≡ true }
+    ensures calls { map string_bytes args.now ≡ codes "pass" ∷ [] → R.calls reader.new ≤ R.calls reader.old + 1000000000000 }
+    ensures cause { map string_bytes args.now ≡ codes "pass" ∷ [] → result ≡ 4 →
+        HasFailed (R.faults reader.old) (R.faults reader.new) (R.calls reader.old) (R.calls reader.new) (W.faults writer.old) (W.faults writer.new) }
+{
+    let _ = files;
+    let Ok(words) = all_words(alloc, args) else {
+        return out_of_memory(errors);
+    };
+    match command_of(alloc, words.as_slice()) {
+        Ok(Command::Pass) => pass(alloc, reader, writer, errors),
+        Err(error) => match error.kind() {
+            ErrorKind::OutOfMemory => out_of_memory(errors),
+            _ => show(alloc, writer, errors, &error),
+        },
+    }
+}
