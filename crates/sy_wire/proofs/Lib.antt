@@ -1,6 +1,12 @@
-pub mod Digits
-pub mod Opens
-pub mod Priorities
-pub mod PartLaws
-pub mod OneReading
 pub mod CuttingLaws
+pub mod Digits
+pub mod Elements
+pub mod Moments
+pub mod Names
+pub mod OneReading
+pub mod Opens
+pub mod Options
+pub mod PartLaws
+pub mod Priorities
+pub mod Runs
+pub mod Values

@@ -1,7 +1,10 @@
+pub mod Characters
+pub mod Cuttings
 pub mod Frames
 pub mod Heads
 pub mod Messages
 pub mod Places
 pub mod Steps
 pub mod Streams
-pub mod Cuttings
+pub mod StructuredData
+pub mod Timestamps

@@ -3,11 +3,15 @@
 
 pub mod class;
 pub mod framer;
+#[cfg(test)]
+mod framer_tests;
 pub mod from_read;
 pub mod from_write;
 pub mod laws;
 pub mod message;
 pub mod stream;
+#[cfg(test)]
+mod stream_tests;
 
 pub use class::Class;
 pub use framer::{FrameFault, Framer, MAX_FRAME};

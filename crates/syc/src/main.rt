@@ -8,6 +8,8 @@ mod output;
 mod pass;
 mod run;
 mod stop;
+#[cfg(test)]
+mod tests;
 
 use files::NoFiles;
 use run::run;

@@ -1,0 +1,124 @@
+// Frames for several cuttings of one stream, and each fault once.
+use crate::{FrameFault, Framer};
+use std::alloc::Global;
+use std::process::Abort;
+use std::test::Fail;
+
+const MESSAGES: [&[u8]; 4] = [b"<34>1 - - - - - -", b"a\nb", b"12 34 <", b"0123456789"];
+
+const STREAM: &[u8] = b"17 <34>1 - - - - - -3 a\nb7 12 34 <10 0123456789";
+
+// Feeds a piece, and again where memory was refused.
+fn feed(framer: &mut Framer, piece: &[u8]) -> Result<(), FrameFault> {
+    match framer.feed(piece) {
+        Err(FrameFault::NoMemory) => framer.feed(piece),
+        answer => answer,
+    }
+}
+
+fn next_frame(framer: &mut Framer) -> Result<Option<Vec<u8>>, FrameFault> {
+    match framer.next_frame() {
+        Err(FrameFault::NoMemory) => framer.next_frame(),
+        answer => answer,
+    }
+}
+
+// Feeds the stream in pieces of this size, and compares each frame as soon as it is whole.
+fn assert_frames(rt: &impl Abort, alloc: Global, size: usize) {
+    let mut framer = Framer::new(alloc);
+    let mut count = 0;
+    for piece in STREAM.chunks(size.max(1)) {
+        assert_eq!(rt; feed(&mut framer, piece), Ok(()));
+        for _ in 0..MESSAGES.len() {
+            let Ok(Some(frame)) = next_frame(&mut framer) else {
+                break;
+            };
+            assert!(rt; count < MESSAGES.len());
+            assert_eq!(rt; frame.as_slice(), MESSAGES[count], "in pieces of {size}");
+            count += 1;
+        }
+    }
+    assert_eq!(rt; count, MESSAGES.len(), "in pieces of {size}");
+    assert!(rt; matches!(next_frame(&mut framer), Ok(None)));
+}
+
+#[test]
+fn gives_the_same_frames_for_every_cutting(rt: HostRuntime) {
+    for size in [1, 2, 3, 7, 47, 100] {
+        assert_frames(&rt, rt.alloc(), size);
+    }
+}
+
+// The first fault of the stream, fed byte by byte, and how many bytes were fed when it came.
+fn first_fault(alloc: Global, stream: &[u8]) -> Option<(FrameFault, usize)> {
+    let mut framer = Framer::new(alloc);
+    for i in 0..stream.len() {
+        if let Err(fault) = feed(&mut framer, &stream[i..i + 1]) {
+            return Some((fault, i + 1));
+        }
+        if let Err(fault) = next_frame(&mut framer) {
+            return Some((fault, i + 1));
+        }
+    }
+    None
+}
+
+#[test]
+fn answers_the_fault_at_the_byte_that_decides(rt: HostRuntime) -> Result<(), Fail> {
+    let rows: [(&[u8], Option<(FrameFault, usize)>); 9] = [
+        (b"0", Some((FrameFault::BadLength, 1))),
+        (b" 1", Some((FrameFault::BadLength, 1))),
+        (b"x", Some((FrameFault::BadLength, 1))),
+        (b"12x", Some((FrameFault::BadLength, 3))),
+        (b"6553x", Some((FrameFault::BadLength, 5))),
+        (b"65537 ", Some((FrameFault::TooLong, 5))),
+        (b"99999999", Some((FrameFault::TooLong, 5))),
+        (b"100000 ", Some((FrameFault::TooLong, 6))),
+        (b"65536 abc", None),
+    ];
+    for (stream, fault) in rows {
+        assert_eq!(rt; first_fault(rt.alloc(), stream), fault, "in {stream:?}");
+    }
+    Ok(())
+}
+
+#[test]
+fn fails_for_good_after_a_fault(rt: HostRuntime) {
+    let mut framer = Framer::new(rt.alloc());
+    assert_eq!(rt; feed(&mut framer, b"2 ab0"), Ok(()));
+    assert!(rt; matches!(next_frame(&mut framer), Ok(Some(_))));
+    assert!(rt; matches!(next_frame(&mut framer), Err(FrameFault::BadLength)));
+    assert!(rt; matches!(next_frame(&mut framer), Err(FrameFault::Failed)));
+    assert_eq!(rt; feed(&mut framer, b"1 a"), Err(FrameFault::Failed));
+}
+
+// The answer at the end of the stream, after all its frames.
+fn at_end(alloc: Global, stream: &[u8]) -> Option<Result<(), FrameFault>> {
+    let mut framer = Framer::new(alloc);
+    feed(&mut framer, stream).ok()?;
+    for _ in 0..3 {
+        if let Ok(None) = framer.next_frame() {
+            return Some(framer.end());
+        }
+    }
+    None
+}
+
+#[test]
+fn ends_only_behind_a_whole_frame(rt: HostRuntime) {
+    let rows: [(&[u8], Result<(), FrameFault>); 6] = [
+        (b"", Ok(())),
+        (b"1 a", Ok(())),
+        (b"1 a1 b", Ok(())),
+        (b"1", Err(FrameFault::Truncated)),
+        (b"65536", Err(FrameFault::Truncated)),
+        (b"1 a2 b", Err(FrameFault::Truncated)),
+    ];
+    for (stream, answer) in rows {
+        assert_eq!(rt;
+            at_end(rt.alloc(), stream),
+            Some(answer),
+            "at the end of {stream:?}"
+        );
+    }
+}

@@ -1,0 +1,236 @@
+// Runs of `pass` over readers and writers that give and take little at once, or fail.
+use crate::files::NoFiles;
+use crate::run::run;
+use std::alloc::{AllocError, Global};
+use std::io::{self, ErrorKind, Read, Write};
+use std::process::Abort;
+use std::test::Fail;
+use sy_wire::{FromRead, FromWrite};
+
+const INPUT: &[u8] = b"17 <34>1 - - - - - -21 <35>1 - - - - - - a\nb18 <191>1 - - - - - -";
+
+const LINES: &[u8] = b"<34>1 - - - - - -\n<35>1 - - - - - - a\nb\n<191>1 - - - - - -\n";
+
+const NEVER: usize = usize::MAX;
+
+// Gives at most `size` bytes at a read, and fails at the read of number `failing`, counted from 0.
+#[derive(Drop)]
+struct Pieces<'a> {
+    rest: &'a [u8],
+    size: usize,
+    failing: usize,
+}
+
+impl Read for Pieces<'_> {
+    fn read(&mut self, buf: &mut [u8]) -> io::Result<usize> {
+        if self.failing == 0 {
+            return Err(io::Error::from(ErrorKind::Other));
+        }
+        self.failing -= 1;
+        let n = self.size.min(buf.len()).min(self.rest.len());
+        let (front, rest) = self.rest.split_at(n);
+        buf[..n].copy_from_slice(front);
+        self.rest = rest;
+        Ok(n)
+    }
+}
+
+// Takes at most `size` bytes at a write, and fails at the write or flush of number `failing`.
+#[derive(Drop)]
+struct Slow {
+    bytes: Vec<u8>,
+    size: usize,
+    failing: usize,
+}
+
+impl Slow {
+    fn new(alloc: Global, size: usize, failing: usize) -> Slow {
+        Slow {
+            bytes: Vec::new(alloc),
+            size,
+            failing,
+        }
+    }
+
+    fn count_call(&mut self) -> io::Result<()> {
+        if self.failing == 0 {
+            return Err(io::Error::from(ErrorKind::Other));
+        }
+        self.failing -= 1;
+        Ok(())
+    }
+}
+
+impl Write for Slow {
+    fn write(&mut self, buf: &[u8]) -> io::Result<usize> {
+        self.count_call()?;
+        let n = self.size.min(buf.len());
+        self.bytes.extend_from_slice(&buf[..n])?;
+        Ok(n)
+    }
+
+    fn flush(&mut self) -> io::Result<()> {
+        self.count_call()
+    }
+}
+
+// What a run answered and wrote.
+#[derive(Drop)]
+struct Answer {
+    status: u8,
+    output: Vec<u8>,
+    errors: Vec<u8>,
+}
+
+// Runs `pass`.
+fn pass(alloc: Global, reader: Pieces<'_>, writer: Slow) -> Result<Answer, AllocError> {
+    let args = vec![in alloc; String::from_str(alloc, "pass")?]?;
+    let mut reader = FromRead::new(reader);
+    let mut writer = FromWrite::new(writer);
+    let mut errors = FromWrite::new(Slow::new(alloc, NEVER, NEVER));
+    let status = run(
+        alloc,
+        args.as_slice(),
+        &NoFiles,
+        &mut reader,
+        &mut writer,
+        &mut errors,
+    );
+    let Slow {
+        bytes: output,
+        size: _,
+        failing: _,
+    } = writer.into_inner();
+    let Slow {
+        bytes: errors,
+        size: _,
+        failing: _,
+    } = errors.into_inner();
+    Ok(Answer {
+        status,
+        output,
+        errors,
+    })
+}
+
+fn assert_passed(rt: &impl Abort, answer: Answer) {
+    assert_eq!(rt; answer.status, 0);
+    assert_eq!(rt; answer.output.as_slice(), LINES);
+    assert_eq!(rt; answer.errors.as_slice(), b"".as_slice());
+}
+
+#[test]
+fn passes_the_same_for_every_cutting(rt: HostRuntime) -> Result<(), Fail> {
+    let alloc = rt.alloc();
+    for size in [1, 2, 3, 7, NEVER] {
+        let reader = Pieces {
+            rest: INPUT,
+            size,
+            failing: NEVER,
+        };
+        assert_passed(&rt, pass(alloc, reader, Slow::new(alloc, NEVER, NEVER))?);
+    }
+    Ok(())
+}
+
+#[test]
+fn passes_through_a_writer_that_takes_a_byte_at_a_time(rt: HostRuntime) -> Result<(), Fail> {
+    let alloc = rt.alloc();
+    let reader = Pieces {
+        rest: INPUT,
+        size: NEVER,
+        failing: NEVER,
+    };
+    assert_passed(&rt, pass(alloc, reader, Slow::new(alloc, 1, NEVER))?);
+    Ok(())
+}
+
+#[test]
+fn stops_at_each_write_that_fails(rt: HostRuntime) -> Result<(), Fail> {
+    let alloc = rt.alloc();
+    // Each line is two writes, and a flush comes before each of the two reads.
+    for failing in 0..8 {
+        let reader = Pieces {
+            rest: INPUT,
+            size: NEVER,
+            failing: NEVER,
+        };
+        let answer = pass(alloc, reader, Slow::new(alloc, NEVER, failing))?;
+        assert_eq!(rt; answer.status, 4, "at write {failing}");
+        assert!(rt;
+            LINES.starts_with(answer.output.as_slice()),
+            "at write {failing}"
+        );
+        assert_eq!(rt; answer.errors.as_slice(), b"syc: write failed\n".as_slice());
+    }
+    let reader = Pieces {
+        rest: INPUT,
+        size: NEVER,
+        failing: NEVER,
+    };
+    assert_passed(&rt, pass(alloc, reader, Slow::new(alloc, NEVER, 8))?);
+    Ok(())
+}
+
+#[test]
+fn stops_at_each_read_that_fails(rt: HostRuntime) -> Result<(), Fail> {
+    let alloc = rt.alloc();
+    // The whole lines after so many reads of 20 bytes, the length of the first frame.
+    for (failing, lines) in [(0, 0), (1, 18), (2, 18), (3, 40), (4, 59)] {
+        let reader = Pieces {
+            rest: INPUT,
+            size: 20,
+            failing,
+        };
+        let answer = pass(alloc, reader, Slow::new(alloc, NEVER, NEVER))?;
+        assert_eq!(rt; answer.status, 4, "at read {failing}");
+        assert!(rt; lines <= LINES.len());
+        assert_eq!(rt;
+            answer.output.as_slice(),
+            &LINES[..lines],
+            "at read {failing}"
+        );
+        assert_eq!(rt; answer.errors.as_slice(), b"syc: read failed\n".as_slice());
+    }
+    Ok(())
+}
+
+#[test]
+fn tells_the_fault_and_its_frame(rt: HostRuntime) -> Result<(), Fail> {
+    let alloc = rt.alloc();
+    let rows: [(&[u8], &[u8], &[u8]); 5] = [
+        (
+            b"17 <34>1 - - - - - -17 <35>1",
+            b"<34>1 - - - - - -\n",
+            b"syc: 13 Truncated in frame 2\n",
+        ),
+        (
+            b"017 <34>1 - - - - - -",
+            b"",
+            b"syc: 11 BadLength in frame 1\n",
+        ),
+        (b"65537 ", b"", b"syc: 12 TooLong in frame 1\n"),
+        (
+            b"18 <192>1 - - - - - -",
+            b"",
+            b"syc: 1 Pri at 1 in frame 1\n",
+        ),
+        (
+            b"17 <34>1 - - - - - -18 <34>1 - - - - - -x",
+            b"<34>1 - - - - - -\n",
+            b"syc: 9 Trailing at 17 in frame 2\n",
+        ),
+    ];
+    for (input, output, errors) in rows {
+        let reader = Pieces {
+            rest: input,
+            size: NEVER,
+            failing: NEVER,
+        };
+        let answer = pass(alloc, reader, Slow::new(alloc, NEVER, NEVER))?;
+        assert_eq!(rt; answer.status, 2, "on {input:?}");
+        assert_eq!(rt; answer.output.as_slice(), output, "on {input:?}");
+        assert_eq!(rt; answer.errors.as_slice(), errors, "on {input:?}");
+    }
+    Ok(())
+}
