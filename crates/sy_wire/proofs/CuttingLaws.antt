@@ -1,13 +1,13 @@
 -- The frames of a stream don't depend on how it is cut into pieces.
-use Rattle.std.proofs.Common.{◌≡◌, ◌≢◌, ℕ, ◌+◌, ◌<◌, ◌≤◌, inl, inr, List, [], ◌∷◌, ◌++◌, length, refl, sym, ap, ◌∙◌, arith, length-append}
-use Rattle.std.specs.List.{concat, flat_map}
+use Rattle.std.proofs.Common.{◌≡◌, ◌≢◌, ℕ, ◌+◌, ◌<◌, ◌≤◌, ◌⊎◌, inl, inr, List, [], ◌∷◌, ◌++◌, length, refl, sym, ap, ◌∙◌, arith, length-append}
+use Rattle.std.specs.List.{AllByRecursion, concat, flat_map}
 use Rattle.std.specs.Fmt.{decimal}
 use Rattle.std.proofs.lemmas.Fmt.{decimal_injective, first_decimal, decimal_nonempty}
 use Rattle.std.proofs.lemmas.List.{append_assoc, append-nil}
 use Rattle.std.proofs.lemmas.List.Concat.{flat_map-append}
-use Rattle.sy_wire.specs.Frames.{Held, IsBadLength, IsDigit, IsSize, IsTooLong, NoFrame, frame, stream}
+use Rattle.sy_wire.specs.Frames.{Held, IsBadLength, IsSize, IsTooLong, NoFrame, frame, stream}
 use Rattle.sy_wire.specs.Steps.{Feeds, GivesFrame}
-use Rattle.sy_wire.specs.Cuttings.{CuttingIsFree, OneFront, Runs, SameFrames, starts, feeds, gives}
+use Rattle.sy_wire.specs.Cuttings.{BytesAreFrames, CuttingIsFree, FaultStays, OneFront, Runs, SameFault, SameFrames, Stands, starts, feeds, gives}
 use Rattle.sy_wire.proofs.Opens.{digits_decimal, first_of, first_of_decimal, front_digits, one_front, space_is_none, value_le}
 
 -- lists of one length at the front of equal lists are equal
@@ -29,21 +29,20 @@ one_frame m n x y p q e =
     let same : length m ≡ length n = decimal_injective (length m) (length n) (omega (arith, p.1)) (omega (arith, q.1)) parts.0 in
     same_front m n x y same parts.2
 
-data Sized : List (List ℕ) → Type 0 where
-  none : Sized []
-  more : {m : List ℕ} {ms : List (List ℕ)} → IsSize (length m) → Sized ms → Sized (m ∷ ms)
+abbrev Sized : List (List ℕ) → Type 0
+Sized frames = AllByRecursion (λ message. IsSize (length message)) frames
 
 sized_more : (ms : List (List ℕ)) (m : List ℕ) → Sized ms → IsSize (length m) → Sized (ms ++ m ∷ [])
-sized_more [] m none size = more size none
-sized_more (x ∷ xs) m (more p ps) size = more p (sized_more xs m ps size)
+sized_more [] m all size = (size, tt)
+sized_more (x ∷ xs) m all size = (all.0, sized_more xs m all.1 size)
 
 one_stream : (ms ns : List (List ℕ)) (x y : List ℕ) → Sized ms → Sized ns → NoFrame x → NoFrame y → stream ms ++ x ≡ stream ns ++ y → (ms ≡ ns) × (x ≡ y)
 one_stream [] [] x y p q nx ny e = (refl, e)
-one_stream [] (n ∷ ns) x y p (more q qs) nx ny e = absurd (nx n (stream ns ++ y) q (e ∙ append_assoc (frame n) (stream ns) y))
-one_stream (m ∷ ms) [] x y (more p ps) q nx ny e = absurd (ny m (stream ms ++ x) p (sym e ∙ append_assoc (frame m) (stream ms) x))
-one_stream (m ∷ ms) (n ∷ ns) x y (more p ps) (more q qs) nx ny e =
-    let fronts = one_frame m n (stream ms ++ x) (stream ns ++ y) p q (sym (append_assoc (frame m) (stream ms) x) ∙ e ∙ append_assoc (frame n) (stream ns) y) in
-    let rests = one_stream ms ns x y ps qs nx ny fronts.1 in
+one_stream [] (n ∷ ns) x y p q nx ny e = absurd (nx n (stream ns ++ y) q.0 (e ∙ append_assoc (frame n) (stream ns) y))
+one_stream (m ∷ ms) [] x y p q nx ny e = absurd (ny m (stream ms ++ x) p.0 (sym e ∙ append_assoc (frame m) (stream ms) x))
+one_stream (m ∷ ms) (n ∷ ns) x y p q nx ny e =
+    let fronts = one_frame m n (stream ms ++ x) (stream ns ++ y) p.0 q.0 (sym (append_assoc (frame m) (stream ms) x) ∙ e ∙ append_assoc (frame n) (stream ns) y) in
+    let rests = one_stream ms ns x y p.1 q.1 nx ny fronts.1 in
     (let head : m ≡ n = fronts.0 in let tail : ms ≡ ns = rests.0 in cc, rests.1)
 
 concat_more : (xs : List (List ℕ)) (y : List ℕ) → concat (xs ++ y ∷ []) ≡ concat xs ++ y
@@ -53,32 +52,27 @@ concat_more (x ∷ xs) y = ap (λ z. x ++ z) (concat_more xs y) ∙ sym (append_
 stream_more : (ms : List (List ℕ)) (m : List ℕ) → stream (ms ++ m ∷ []) ≡ stream ms ++ frame m
 stream_more ms m = flat_map-append frame ms (m ∷ []) ∙ ap (λ z. stream ms ++ z) (append-nil (frame m))
 
--- what was fed is the stream of the frames given, and then what is left
-record Stands (pieces frames : List (List ℕ)) (held : Held) : Type 0 where
-  whole : concat pieces ≡ stream frames ++ held.left
-  sized : Sized frames
-
-run_stands : (pieces frames : List (List ℕ)) (held : Held) → Runs pieces frames held → Stands pieces frames held
-run_stands pieces frames held starts = record { whole = refl; sized = none }
+pub run_stands : (pieces frames : List (List ℕ)) (held : Held) → Runs pieces frames held → Stands pieces frames held
+run_stands pieces frames held starts = record { whole = refl; sizes = tt }
 run_stands _ frames new (feeds {pieces = pieces} {old = old} piece run fed) =
     let before = run_stands pieces frames old run in
     let left_is : new.left ≡ old.left ++ piece = ap (λ (v : Held). v.left) fed.after in
     record {
       whole = concat_more pieces piece ∙ ap (λ z. z ++ piece) before.whole ∙ append_assoc (stream frames) old.left piece ∙ ap (λ z. stream frames ++ z) (sym left_is);
-      sized = before.sized;
+      sizes = before.sizes;
     }
 run_stands pieces _ new (gives {frames = frames} {old = old} message run given) =
     let before = run_stands pieces frames old run in
     record {
       whole = before.whole ∙ ap (λ z. stream frames ++ z) given.taken ∙ sym (append_assoc (stream frames) (frame message) new.left) ∙ ap (λ z. z ++ new.left) (sym (stream_more frames message));
-      sized = sized_more frames message before.sized given.size;
+      sizes = sized_more frames message before.sizes given.size;
     }
 
 pub cutting_is_free : CuttingIsFree
 cutting_is_free pieces parts frames others one other run that fed none_left none_there =
     let a = run_stands pieces frames one run in
     let b = run_stands parts others other that in
-    let same = one_stream frames others one.left other.left a.sized b.sized none_left none_there (sym a.whole ∙ fed ∙ b.whole) in
+    let same = one_stream frames others one.left other.left a.sizes b.sizes none_left none_there (sym a.whole ∙ fed ∙ b.whole) in
     record { frames_are = same.0; left_is = same.1 }
 
 bad_is_none : (bytes : List ℕ) → IsBadLength bytes → NoFrame bytes
@@ -107,3 +101,28 @@ bad_or_long bytes (inr b) long =
 
 pub front_is_one : (bytes : List ℕ) → OneFront bytes
 front_is_one bytes = record { bad_is_no_frame = bad_is_none bytes; long_is_no_frame = long_is_none bytes; bad_is_not_long = bad_or_long bytes }
+
+pub bad_more : (bytes more : List ℕ) → IsBadLength bytes → IsBadLength (bytes ++ more)
+bad_more bytes more (inl b) = inl (b.0, b.1 ++ more, ap (λ x. x ++ more) b.2, b.3)
+bad_more bytes more (inr b) = inr (b.0, b.1, b.2 ++ more, b.3, ap (λ x. x ++ more) b.4 ∙ append_assoc (decimal b.0) (b.1 ∷ b.2) more, b.5, b.6)
+
+pub long_more : (bytes more : List ℕ) → IsTooLong bytes → IsTooLong (bytes ++ more)
+long_more bytes more b = (b.0, b.1 ++ more, b.2, b.3, ap (λ x. x ++ more) b.4 ∙ append_assoc (decimal b.0) b.1 more)
+
+none_more : (bytes more : List ℕ) → IsBadLength bytes ⊎ IsTooLong bytes → NoFrame (bytes ++ more)
+none_more bytes more (inl bad) = bad_is_none (bytes ++ more) (bad_more bytes more bad)
+none_more bytes more (inr long) = long_is_none (bytes ++ more) (long_more bytes more long)
+
+pub fault_stays : FaultStays
+fault_stays pieces parts frames others more one other run that fed fault none_there =
+    let a = run_stands pieces frames one run in
+    let b = run_stands parts others other that in
+    let whole : stream frames ++ (one.left ++ more) ≡ stream others ++ other.left =
+    sym (append_assoc (stream frames) one.left more) ∙ ap (λ z. z ++ more) (sym a.whole) ∙ fed ∙ b.whole in
+    let same = one_stream frames others (one.left ++ more) other.left a.sizes b.sizes (none_more one.left more fault) none_there whole in
+    record {
+      frames_are = same.0;
+      left_is = sym same.1;
+      bad = λ bad. rw (← same.1) (bad_more one.left more bad);
+      long = λ long. rw (← same.1) (long_more one.left more long);
+    }

@@ -122,3 +122,52 @@ fn ends_only_behind_a_whole_frame(rt: HostRuntime) {
         );
     }
 }
+
+// The numbers that the program prints.
+#[test]
+fn numbers_its_faults(rt: HostRuntime) {
+    assert_eq!(rt; FrameFault::BadLength as u8, 11);
+    assert_eq!(rt; FrameFault::TooLong as u8, 12);
+    assert_eq!(rt; FrameFault::Truncated as u8, 13);
+    assert_eq!(rt; FrameFault::NoMemory as u8, 14);
+    assert_eq!(rt; FrameFault::Failed as u8, 15);
+}
+
+const ESCAPES: &[u8] = b"<34>1 - - - - - [a b=\"\\]\\\"\\q\"] x";
+
+const TWO_FRAMES: &[u8] = b"32 <34>1 - - - - - [a b=\"\\]\\\"\\q\"] x17 <34>1 - - - - - -";
+
+// The frames that one piece gives, the next one first; the others stay where they were.
+fn assert_next(rt: &impl Abort, framer: &mut Framer, piece: &[u8], count: &mut usize) {
+    assert_eq!(rt; feed(framer, piece), Ok(()));
+    for _ in 0..2 {
+        let Ok(Some(frame)) = next_frame(framer) else {
+            return;
+        };
+        let wanted = if *count == 0 { ESCAPES } else { MESSAGES[0] };
+        assert_eq!(rt; frame.as_slice(), wanted);
+        *count = count.saturating_add(1);
+    }
+}
+
+#[test]
+fn gives_two_frames_for_every_cutting_into_two_pieces(rt: HostRuntime) {
+    for at in 0..TWO_FRAMES.len() + 1 {
+        let mut framer = Framer::new(rt.alloc());
+        let (front, back) = TWO_FRAMES.split_at(at);
+        let mut count = 0;
+        assert_next(&rt, &mut framer, front, &mut count);
+        assert_next(&rt, &mut framer, back, &mut count);
+        assert_eq!(rt; count, 2, "cut at {at}");
+    }
+}
+
+#[test]
+fn gives_two_frames_byte_by_byte(rt: HostRuntime) {
+    let mut framer = Framer::new(rt.alloc());
+    let mut count = 0;
+    for at in 0..TWO_FRAMES.len() {
+        assert_next(&rt, &mut framer, &TWO_FRAMES[at..at + 1], &mut count);
+    }
+    assert_eq!(rt; count, 2);
+}

@@ -27,6 +27,7 @@ pub trait Source {
         ensures bound { IfOk result (λ n. n ≤ length buffer.new) }
         ensures bytes { ReadConsumes (remaining self.old) (remaining self.new) result buffer.new }
         ensures call { calls self.new ≡ count_after (calls self.old) 1 }
+        ensures ok { OnOk result (faults self.new ≡ faults self.old) }
         ensures count { faults self.old ≤ faults self.new }
         ensures err { OnErr result (Rose (faults self.old) (faults self.new)) };
 }
@@ -46,13 +47,17 @@ pub trait Sink {
         ensures some { IfOk result (λ n. 0 < length bytes.now → 0 < n) }
         ensures bytes { WriteAppends (contents self.old) (contents self.new) result bytes.now }
         ensures held_back { IfOk result (λ n. 0 < n → is_flushed self.new ≡ false) }
+        ensures not_flushed { is_flushed self.new ≡ true → is_flushed self.old ≡ true }
+        ensures ok { OnOk result (faults self.new ≡ faults self.old) }
         ensures count { faults self.old ≤ faults self.new }
         ensures err { OnErr result (Rose (faults self.old) (faults self.new)) };
 
     /// Hands on what was written and is still held back.
     fn flush(&mut self) -> Result<(), WriteFault>
         ensures bytes { Keeps (contents self.old) (contents self.new) }
-        ensures ok { OnOk result (is_flushed self.new ≡ true) }
+        ensures flushed { OnOk result (is_flushed self.new ≡ true) }
+        ensures not_flushed { OnErr result (is_flushed self.new ≡ true → is_flushed self.old ≡ true) }
+        ensures ok { OnOk result (faults self.new ≡ faults self.old) }
         ensures count { faults self.old ≤ faults self.new }
         ensures err { OnErr result (Rose (faults self.old) (faults self.new)) };
 }

@@ -17,6 +17,7 @@ use Rattle.syc.specs.Pass.{BeginsWith, CarriesFault, IsFramed, IsPart, PartPasse
 use Rattle.syc.specs.Stops.{Advances, CarryFails, DrainFails, PassedSome, StopIs, StopsAt, Torn}
 use Rattle.syc.specs.declared.stop.Stop.{Stop}
 use Rattle.syc.specs.declared.stop.Stop.TheVariants.{Frame, Message, NoMemory, ReadFailed, WriteFailed}
+use Rattle.sy_wire.proofs.CuttingLaws.{bad_more, long_more}
 use Rattle.syc.proofs.Lines.{appends_kept_front}
 
 all_append : (xs ys : List (List ℕ)) → AllByRecursion IsFramed xs → AllByRecursion IsFramed ys → AllByRecursion IsFramed (xs ++ ys)
@@ -119,13 +120,6 @@ after_read ahead (Some next) bytes h = (next, refl, h)
 pub at_end : (ahead : List ℕ) (new : Option (List ℕ)) → Consumes (Some ahead) new [] → IsAtEnd new → ahead ≡ []
 at_end ahead None h e = absurd h
 at_end ahead (Some next) h e = h ∙ e
-
-bad_more : (bytes more : List ℕ) → IsBadLength bytes → IsBadLength (bytes ++ more)
-bad_more bytes more (inl b) = inl (b.0, b.1 ++ more, ap (λ x. x ++ more) b.2, b.3)
-bad_more bytes more (inr b) = inr (b.0, b.1, b.2 ++ more, b.3, ap (λ x. x ++ more) b.4 ∙ append_assoc (decimal b.0) (b.1 ∷ b.2) more, b.5, b.6)
-
-long_more : (bytes more : List ℕ) → IsTooLong bytes → IsTooLong (bytes ++ more)
-long_more bytes more b = (b.0, b.1 ++ more, b.2, b.3, ap (λ x. x ++ more) b.4 ∙ append_assoc (decimal b.0) b.1 more)
 
 fault_more : (fault : MsgFault) (bytes more : List ℕ) → CarriesFault fault bytes → CarriesFault fault (bytes ++ more)
 fault_more fault bytes more n = record { raw = n.raw; more = n.more ++ more; size = n.size; front = ap (λ x. x ++ more) n.front ∙ append_assoc (frame n.raw) n.more more; fault_is = n.fault_is }

@@ -1,11 +1,12 @@
 -- What each exit status says.
-use Rattle.std.proofs.Common.{◌≡◌, ◌≢◌, ℕ, ◌+◌, ◌⊎◌, inl, inr, List, [], ◌++◌, refl, ap, sym, ◌∙◌, arith}
+use Rattle.std.proofs.Common.{◌≡◌, ◌≢◌, ℕ, ◌+◌, ◌<◌, ◌≤◌, ◌⊎◌, inl, inr, List, [], ◌++◌, refl, ap, subst, sym, ◌∙◌, arith}
 use Rattle.std.specs.Prelude.{Option}
 use Rattle.std.specs.Io.KnownBytes.{Keeps}
 use Rattle.std.proofs.KnownBytes.{Appends-kept, Keeps-refl}
 use Rattle.sy_wire.specs.declared.framer.FrameFault.{FrameFault}
 use Rattle.sy_wire.specs.declared.framer.FrameFault.TheVariants.{BadLength, TooLong, Truncated, NoMemory as OutOfMemory, Failed}
-use Rattle.syc.specs.Pass.{EndsAtFault, EndsFailing, EndsForMemory, HasFailed, PartPassed, PassIs, Passed, lines}
+use Rattle.sy_wire.specs.Streams.{Rose}
+use Rattle.syc.specs.Pass.{EndsAtFault, EndsFailing, EndsForMemory, GivesUpFailing, HasFailed, PartPassed, PassIs, Passed, lines}
 use Rattle.syc.specs.Reports.{report, status_shown}
 use Rattle.syc.specs.Stops.{PassCause, StopIs, StopsAt, StopsIn}
 use Rattle.syc.specs.declared.stop.Stop.{Stop}
@@ -64,11 +65,29 @@ module _ (input : List ℕ) (a b c : Option (List ℕ)) (kept : Keeps b c) (Tell
 pub nothing_passed : (input : List ℕ) (a : Option (List ℕ)) (Tells : List ℕ → Type 0) → Tells (report NoMemory 0) → PassIs 3 input a a Tells
 nothing_passed input a Tells told = inr (inr (inl (refl, record { rest = input; n = 0; passed = passed_nothing input a a (Keeps-refl a); told = told })))
 
--- a stop of status 4 has a cause
-pub has_failed : (e : Stop) (rf rf' rc rc' wf wf' : ℕ) → status_shown e ≡ 4 → PassCause e rf rf' rc rc' wf wf' → HasFailed rf rf' rc rc' wf wf'
-has_failed (Frame f) rf rf' rc rc' wf wf' e h = absurd (omega (arith, e))
-has_failed (Message f) rf rf' rc rc' wf wf' e h = absurd (omega (arith, e))
-has_failed NoMemory rf rf' rc rc' wf wf' e h = absurd (omega (arith, e))
-has_failed ReadFailed rf rf' rc rc' wf wf' e (inl h) = inl h
-has_failed ReadFailed rf rf' rc rc' wf wf' e (inr h) = inr (inl h)
-has_failed WriteFailed rf rf' rc rc' wf wf' e h = inr (inr h)
+rose_more : (a b c : ℕ) → b ≤ c → Rose a b → Rose a c
+rose_more a b c le (inl h) = inl (omega arith)
+rose_more a b c le (inr h) = inr (omega arith)
+
+more_rose : (a b c : ℕ) → a ≤ b → Rose b c → Rose a c
+more_rose a b c le (inl h) = inl (omega arith)
+more_rose a b c le (inr h) = inr h
+
+-- a failure that the last steps answer has a cause
+pub has_failed : (Tells : List ℕ → Type 0) (e : Stop) (rf rf' rc rc' w0 w1 w2 : ℕ) → w0 ≤ w1 → w1 ≤ w2 → PassCause e rf rf' rc rc' w0 w1 → GivesUpFailing Tells e w1 w2 → HasFailed Tells rf rf' rc rc' w0 w2
+has_failed Tells e rf rf' rc rc' w0 w1 w2 le le' cause (inl read) = let h : PassCause ReadFailed rf rf' rc rc' w0 w1 = subst (λ (s : Stop). PassCause s rf rf' rc rc' w0 w1) read.1 cause in inl (read.0, h)
+has_failed Tells e rf rf' rc rc' w0 w1 w2 le le' cause (inr write) = inr (
+  write.0,
+  elim write.1 [
+    | inl is ↦ let h : PassCause WriteFailed rf rf' rc rc' w0 w1 = subst (λ (s : Stop). PassCause s rf rf' rc rc' w0 w1) is cause in rose_more w0 w1 w2 le' h
+    | inr rose ↦ more_rose w0 w1 w2 le rose
+  ],
+)
+
+-- the last flush may have failed
+pub gives_up : (Tells : List ℕ → Type 0) (e : Stop) (frame w w' : ℕ) → status_shown e ≡ 4 → Tells (report e frame) → GivesUpFailing Tells e w w'
+gives_up Tells (Frame f) frame w w' is told = absurd (omega (arith, is))
+gives_up Tells (Message f) frame w w' is told = absurd (omega (arith, is))
+gives_up Tells NoMemory frame w w' is told = absurd (omega (arith, is))
+gives_up Tells ReadFailed frame w w' is told = inl (told, refl)
+gives_up Tells WriteFailed frame w w' is told = inr (told, inl refl)

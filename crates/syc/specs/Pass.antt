@@ -108,10 +108,17 @@ PassIs status input old new Tells =
 abbrev pub AreReadsUsed : ℕ → ℕ → Type 0
 AreReadsUsed before after = after ≡ count_after before 1000000000000
 
--- why a pass may answer that a read or a write failed: one of the reads or of the writes did, or the reads are used up
-abbrev pub HasFailed : ℕ → ℕ → ℕ → ℕ → ℕ → ℕ → Type 0
-HasFailed reads_failed reads_failed' reads reads' writes_failed writes_failed' =
-    Rose reads_failed reads_failed' ⊎ AreReadsUsed reads reads' ⊎ Rose writes_failed writes_failed'
+-- why a pass may answer that a read or a write failed, with what it says then: a read did, or the reads are used up; or a write did
+abbrev pub HasFailed : (List ℕ → Type 0) → ℕ → ℕ → ℕ → ℕ → ℕ → ℕ → Type 0
+HasFailed Tells reads_failed reads_failed' reads reads' writes_failed writes_failed' =
+    (Tells (report ReadFailed 0) × (Rose reads_failed reads_failed' ⊎ AreReadsUsed reads reads'))
+    ⊎ (Tells (report WriteFailed 0) × Rose writes_failed writes_failed')
+
+-- the same of the last steps, after this stop
+abbrev pub GivesUpFailing : (List ℕ → Type 0) → Stop → ℕ → ℕ → Type 0
+GivesUpFailing Tells stop writes_failed writes_failed' =
+    (Tells (report ReadFailed 0) × (stop ≡ ReadFailed))
+    ⊎ (Tells (report WriteFailed 0) × ((stop ≡ WriteFailed) ⊎ Rose writes_failed writes_failed'))
 
 -- the exit statuses of a pass
 abbrev pub IsStatus : ℕ → Type 0

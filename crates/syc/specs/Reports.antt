@@ -1,5 +1,5 @@
 -- What the program prints of a stop, and the exit status that it answers.
-use Rattle.std.specs.Prelude.{ℕ, ◌+◌, List, [], ◌∷◌, ◌++◌, ◌⊎◌, Option, codes}
+use Rattle.std.specs.Prelude.{◌≡◌, ℕ, ◌+◌, Bool, true, List, [], ◌∷◌, ◌++◌, ◌⊎◌, Option, codes}
 use Rattle.std.specs.Fmt.{decimal}
 use Rattle.std.specs.Io.KnownBytes.{Appends}
 use Rattle.sy_wire.specs.Streams.{Rose}
@@ -46,9 +46,9 @@ cause WriteFailed frame = codes "write failed"
 abbrev pub report : Stop → ℕ → List ℕ
 report stop frame = codes "syc: " ++ (cause stop frame ++ 10 ∷ [])
 
--- the text was written, or a write or flush failed
-abbrev pub Told : Option (List ℕ) → Option (List ℕ) → ℕ → ℕ → List ℕ → Type 0
-Told old new faults_before faults_after text = Appends old new text ⊎ Rose faults_before faults_after
+-- the text was written and handed on, or a write or flush failed
+abbrev pub Told : Option (List ℕ) → Option (List ℕ) → Bool → ℕ → ℕ → List ℕ → Type 0
+Told old new is_flushed faults_before faults_after text = (Appends old new text × (is_flushed ≡ true)) ⊎ Rose faults_before faults_after
 
 -- the exit status of a command that stopped: 2 for faulty input, 3 for no memory, 4 for a failed read or write
 abbrev pub status_shown : Stop → ℕ

@@ -1,5 +1,5 @@
 // A message's way over the board, from its frame to its line.
-ghost use Rattle.std.specs.Prelude.{◌≡◌, ◌+◌, ◌<◌, ◌≤◌, ◌^◌, IfErr, OnOk};
+ghost use Rattle.std.specs.Prelude.{◌≡◌, ◌+◌, ◌<◌, ◌≤◌, ◌^◌, Err, IfErr, OnOk};
 ghost use Rattle.std.specs.Io.KnownBytes.{Appends};
 ghost use Rattle.syc.specs.Pass.{line};
 ghost use Rattle.syc.specs.Stops.{CarryFails, IsIdle, IsReady, WriteCause};
@@ -66,6 +66,7 @@ pub fn carry<W: Sink>(
     ensures taken { OnOk result (board.new.taken ≡ board.old.taken + 1) }
     ensures bound { board.new.taken ≤ board.old.taken + 1 }
     ensures err { IfErr result (λ e. CarryFails e (W.contents writer.old) (W.contents writer.new) (line message.raw)) }
+    ensures held { result ≡ Err Stop.WriteFailed → IsReady board.new message.raw }
     ensures count { W.faults writer.old ≤ W.faults writer.new }
     ensures cause { IfErr result (λ e. WriteCause e (W.faults writer.old) (W.faults writer.new)) }
 {

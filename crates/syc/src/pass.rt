@@ -2,8 +2,9 @@
 ghost use Rattle.std.specs.Prelude.{◌≡◌, ◌+◌, ◌*◌, ◌<◌, ◌≤◌, ◌^◌, ◌⊎◌, ◌++◌, ℕ, [], List, Option, false, true, IfErr, OnOk, Ok, Some, length};
 ghost use Rattle.sy_wire.specs.Frames.{IsOpen};
 ghost use Rattle.sy_wire.specs.Streams.{Rose, count_after};
-ghost use Rattle.syc.specs.Pass.{EndsWhole, HasFailed, IsStatus, PassIs};
-ghost use Rattle.syc.specs.Reports.{Told, status_shown};
+ghost use Rattle.std.specs.Io.KnownBytes.{Keeps};
+ghost use Rattle.syc.specs.Pass.{EndsWhole, GivesUpFailing, HasFailed, IsStatus, PassIs};
+ghost use Rattle.syc.specs.Reports.{Told};
 ghost use Rattle.syc.specs.Stops.{Advances, DrainFails, FailCause, IsBetween, IsIdle, PassCause, StopIs, StopsIn, TurnIs, WriteCause};
 
 use crate::carry::carry;
@@ -177,11 +178,13 @@ fn pass_all<R: Source, W: Sink>(
 fn give_up<W: Sink, E: Sink>(writer: &mut W, errors: &mut E, stopped: Stopped) -> u8
     ensures pass { (input : List ℕ) (first : Option (List ℕ)) → StopsIn stopped.stop stopped.frame input first (W.contents writer.old) →
         PassIs result input first (W.contents writer.new)
-        (λ text. Told (E.contents errors.old) (E.contents errors.new) (E.faults errors.old) (E.faults errors.new) text) }
+        (λ text. Told (E.contents errors.old) (E.contents errors.new) (E.is_flushed errors.new) (E.faults errors.old) (E.faults errors.new) text) }
     ensures status { (result ≡ 2) ⊎ (result ≡ 3) ⊎ (result ≡ 4) }
-    ensures flushed { result ≡ 2 → W.is_flushed writer.new ≡ true }
+    ensures flushed { (W.is_flushed writer.new ≡ true) ⊎ ((result ≡ 4) × Rose (W.faults writer.old) (W.faults writer.new)) }
     ensures writes { W.faults writer.old ≤ W.faults writer.new }
-    ensures cause { result ≡ 4 → (status_shown stopped.stop ≡ 4) ⊎ Rose (W.faults writer.old) (W.faults writer.new) }
+    ensures cause { result ≡ 4 → GivesUpFailing
+        (λ text. Told (E.contents errors.old) (E.contents errors.new) (E.is_flushed errors.new) (E.faults errors.old) (E.faults errors.new) text)
+        stopped.stop (W.faults writer.old) (W.faults writer.new) }
 {
     let stop = match writer.flush() {
         Ok(()) => stopped.stop,
@@ -201,11 +204,14 @@ pub fn pass<R: Source, W: Sink, E: Sink>(
 ) -> u8
     ensures pass { (input : List ℕ) → R.remaining reader.old ≡ Some input →
         PassIs result input (W.contents writer.old) (W.contents writer.new)
-        (λ text. Told (E.contents errors.old) (E.contents errors.new) (E.faults errors.old) (E.faults errors.new) text) }
+        (λ text. Told (E.contents errors.old) (E.contents errors.new) (E.is_flushed errors.new) (E.faults errors.old) (E.faults errors.new) text) }
     ensures status { IsStatus result }
-    ensures flushed { (result ≡ 0) ⊎ (result ≡ 2) → W.is_flushed writer.new ≡ true }
+    ensures quiet { result ≡ 0 → Keeps (E.contents errors.old) (E.contents errors.new) }
+    ensures flushed { (W.is_flushed writer.new ≡ true) ⊎ ((result ≡ 4) × Rose (W.faults writer.old) (W.faults writer.new)) }
     ensures calls { R.calls reader.new ≤ R.calls reader.old + 1000000000000 }
-    ensures cause { result ≡ 4 → HasFailed (R.faults reader.old) (R.faults reader.new) (R.calls reader.old) (R.calls reader.new) (W.faults writer.old) (W.faults writer.new) }
+    ensures cause { result ≡ 4 → HasFailed
+        (λ text. Told (E.contents errors.old) (E.contents errors.new) (E.is_flushed errors.new) (E.faults errors.old) (E.faults errors.new) text)
+        (R.faults reader.old) (R.faults reader.new) (R.calls reader.old) (R.calls reader.new) (W.faults writer.old) (W.faults writer.new) }
 {
     match pass_all(alloc, reader, writer) {
         Ok(()) => 0,

@@ -1,5 +1,7 @@
 // The commands.
 ghost use Rattle.std.specs.Prelude.{◌≡◌, ◌≤◌, ◌+◌, ◌⊎◌, ◌∷◌, [], ℕ, List, Some, codes, map, string_bytes, true};
+ghost use Rattle.std.specs.Io.KnownBytes.{Keeps};
+ghost use Rattle.sy_wire.specs.Streams.{Rose};
 ghost use Rattle.syc.specs.Pass.{HasFailed, IsStatus, PassIs};
 ghost use Rattle.syc.specs.Reports.{Told};
 
@@ -14,7 +16,9 @@ use std::alloc::Global;
 use sy_wire::{Sink, Source};
 
 // Prints what clap answers in place of a command, and answers the exit status.
-fn show<W: Sink, E: Sink>(alloc: Global, writer: &mut W, errors: &mut E, error: &Error) -> u8 {
+fn show<W: Sink, E: Sink>(alloc: Global, writer: &mut W, errors: &mut E, error: &Error) -> u8
+    ensures { IsStatus result }
+{
     let Ok(text) = format!(in alloc; "{error}") else {
         return out_of_memory(errors);
     };
@@ -44,12 +48,16 @@ pub fn run<R: Source, W: Sink, E: Sink, F: Files>(
 ) -> u8
     ensures pass { map string_bytes args.now ≡ codes "pass" ∷ [] → (input : List ℕ) → R.remaining reader.old ≡ Some input →
         PassIs result input (W.contents writer.old) (W.contents writer.new)
-        (λ text. Told (E.contents errors.old) (E.contents errors.new) (E.faults errors.old) (E.faults errors.new) text) }
-    ensures status { map string_bytes args.now ≡ codes "pass" ∷ [] → IsStatus result }
-    ensures flushed { map string_bytes args.now ≡ codes "pass" ∷ [] → (result ≡ 0) ⊎ (result ≡ 2) → W.is_flushed writer.new ≡ true }
-    ensures calls { map string_bytes args.now ≡ codes "pass" ∷ [] → R.calls reader.new ≤ R.calls reader.old + 1000000000000 }
-    ensures cause { map string_bytes args.now ≡ codes "pass" ∷ [] → result ≡ 4 →
-        HasFailed (R.faults reader.old) (R.faults reader.new) (R.calls reader.old) (R.calls reader.new) (W.faults writer.old) (W.faults writer.new) }
+        (λ text. Told (E.contents errors.old) (E.contents errors.new) (E.is_flushed errors.new) (E.faults errors.old) (E.faults errors.new) text) }
+    ensures status { IsStatus result }
+    ensures quiet { map string_bytes args.now ≡ codes "pass" ∷ [] → result ≡ 0 → Keeps (E.contents errors.old) (E.contents errors.new) }
+    ensures flushed { map string_bytes args.now ≡ codes "pass" ∷ [] → (W.is_flushed writer.old ≡ true → W.is_flushed writer.new ≡ true)
+        ⊎ ((result ≡ 4) × Rose (W.faults writer.old) (W.faults writer.new)) }
+    ensures done { map string_bytes args.now ≡ codes "pass" ∷ [] → (result ≡ 0) ⊎ (result ≡ 2) → W.is_flushed writer.new ≡ true }
+    ensures calls { R.calls reader.new ≤ R.calls reader.old + 1000000000000 }
+    ensures cause { map string_bytes args.now ≡ codes "pass" ∷ [] → result ≡ 4 → HasFailed
+        (λ text. Told (E.contents errors.old) (E.contents errors.new) (E.is_flushed errors.new) (E.faults errors.old) (E.faults errors.new) text)
+        (R.faults reader.old) (R.faults reader.new) (R.calls reader.old) (R.calls reader.new) (W.faults writer.old) (W.faults writer.new) }
 {
     let _ = files;
     let Ok(words) = all_words(alloc, args) else {

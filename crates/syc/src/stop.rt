@@ -1,5 +1,5 @@
 // Why a command stops early, and what it prints then.
-ghost use Rattle.std.specs.Prelude.{◌≡◌, ◌≤◌, OnErr, OnOk};
+ghost use Rattle.std.specs.Prelude.{◌≡◌, ◌≤◌, true, OnErr, OnOk};
 ghost use Rattle.std.specs.Io.KnownBytes.{Appends};
 ghost use Rattle.sy_wire.specs.Streams.{Rose};
 ghost use Rattle.syc.specs.Reports.{Told, cause, frame_fault_words, frame_number, message_fault_words, report, status_shown};
@@ -106,6 +106,7 @@ fn write_cause<E: Sink>(errors: &mut E, stop: Stop, frame: u64) -> Result<(), Wr
 
 fn write_report<E: Sink>(errors: &mut E, stop: Stop, frame: u64) -> Result<(), WriteFault>
     ensures ok { OnOk result (Appends (E.contents errors.old) (E.contents errors.new) (report stop frame)) }
+    ensures flushed { OnOk result (E.is_flushed errors.new ≡ true) }
     ensures count { E.faults errors.old ≤ E.faults errors.new }
     ensures err { OnErr result (Rose (E.faults errors.old) (E.faults errors.new)) }
 {
@@ -118,7 +119,7 @@ fn write_report<E: Sink>(errors: &mut E, stop: Stop, frame: u64) -> Result<(), W
 
 /// Prints why the command stopped. That this fails changes nothing else.
 pub fn tell<E: Sink>(errors: &mut E, stop: Stop, frame: u64)
-    ensures { Told (E.contents errors.old) (E.contents errors.new) (E.faults errors.old) (E.faults errors.new) (report stop frame) }
+    ensures { Told (E.contents errors.old) (E.contents errors.new) (E.is_flushed errors.new) (E.faults errors.old) (E.faults errors.new) (report stop frame) }
 {
     let _ = write_report(errors, stop, frame);
 }
@@ -137,7 +138,7 @@ pub fn status_of(stop: Stop) -> u8
 /// Prints that memory ran out, and answers the exit status for that.
 pub fn out_of_memory<E: Sink>(errors: &mut E) -> u8
     ensures status { result ≡ 3 }
-    ensures told { Told (E.contents errors.old) (E.contents errors.new) (E.faults errors.old) (E.faults errors.new) (report Stop.NoMemory 0) }
+    ensures told { Told (E.contents errors.old) (E.contents errors.new) (E.is_flushed errors.new) (E.faults errors.old) (E.faults errors.new) (report Stop.NoMemory 0) }
 {
     tell(errors, Stop::NoMemory, 0);
     3
@@ -146,7 +147,7 @@ pub fn out_of_memory<E: Sink>(errors: &mut E) -> u8
 /// Prints that a write failed, and answers the exit status for that.
 pub fn write_failed<E: Sink>(errors: &mut E) -> u8
     ensures status { result ≡ 4 }
-    ensures told { Told (E.contents errors.old) (E.contents errors.new) (E.faults errors.old) (E.faults errors.new) (report Stop.WriteFailed 0) }
+    ensures told { Told (E.contents errors.old) (E.contents errors.new) (E.is_flushed errors.new) (E.faults errors.old) (E.faults errors.new) (report Stop.WriteFailed 0) }
 {
     tell(errors, Stop::WriteFailed, 0);
     4

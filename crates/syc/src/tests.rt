@@ -234,3 +234,77 @@ fn tells_the_fault_and_its_frame(rt: HostRuntime) -> Result<(), Fail> {
     }
     Ok(())
 }
+
+// Takes what fits its room, and no memory.
+#[derive(Drop)]
+struct Fixed {
+    bytes: [u8; 128],
+    len: usize,
+}
+
+impl Write for Fixed {
+    fn write(&mut self, buf: &[u8]) -> io::Result<usize> {
+        for byte in buf {
+            if self.len >= self.bytes.len() {
+                return Err(io::Error::from(ErrorKind::Other));
+            }
+            self.bytes[self.len] = *byte;
+            self.len += 1;
+        }
+        Ok(buf.len())
+    }
+
+    fn flush(&mut self) -> io::Result<()> {
+        Ok(())
+    }
+}
+
+// The words of the command, or none where memory for them is refused.
+fn pass_words(alloc: Global) -> Result<Vec<String>, AllocError> {
+    let mut words = Vec::new(alloc);
+    words.push(String::from_str(alloc, "pass")?)?;
+    Ok(words)
+}
+
+// Whichever allocation is refused: the whole, or status 3 after whole lines alone.
+#[test]
+fn ends_with_whole_lines_where_memory_is_refused(rt: HostRuntime) {
+    let alloc = rt.alloc();
+    let Ok(args) = pass_words(alloc) else {
+        return;
+    };
+    let mut reader = FromRead::new(INPUT);
+    let mut writer = FromWrite::new(Fixed {
+        bytes: [0; 128],
+        len: 0,
+    });
+    let mut errors = FromWrite::new(Fixed {
+        bytes: [0; 128],
+        len: 0,
+    });
+    let status = run(
+        alloc,
+        args.as_slice(),
+        &NoFiles,
+        &mut reader,
+        &mut writer,
+        &mut errors,
+    );
+    let Fixed { bytes, len } = writer.into_inner();
+    assert!(rt; len <= bytes.len());
+    let output = &bytes[..len];
+    let Fixed {
+        bytes: told,
+        len: told_len,
+    } = errors.into_inner();
+    assert!(rt; told_len <= told.len());
+    if status == 0 {
+        assert_eq!(rt; output, LINES);
+        assert_eq!(rt; told_len, 0);
+    } else {
+        assert_eq!(rt; status, 3);
+        assert_eq!(rt; &told[..told_len], b"syc: no memory\n".as_slice());
+        assert!(rt; [0, 18, 40, 59].contains(&len));
+        assert!(rt; LINES.starts_with(output));
+    }
+}

@@ -1,5 +1,6 @@
-use Rattle.std.proofs.Common.{◌≡◌, List, ℕ, refl}
-use Rattle.syc.proofs.Statuses.{flush_failed, stopped}
+use Rattle.std.proofs.Common.{◌≡◌, ◌∙◌, List, ℕ, inl, inr, refl, ap, sym}
+use Rattle.syc.specs.Reports.{Told, status_shown}
+use Rattle.syc.proofs.Statuses.{flush_failed, gives_up, stopped}
 use Rattle.syc.proofs.pass.give_up.Goals as goal
 use Rattle.syc.proofs.pass.give_up.Goals.{in-Ok, in-Err}
 
@@ -8,4 +9,18 @@ returns-clause-pass g c = λ input first s.
     elim c.match-flush.branch [
       | in-Ok w ↦ rw (c.status_of.ensures, w.stop-is) (stopped input first _ _ c.flush.ensures.bytes _ c.args.stopped.stop c.args.stopped.frame s (rw w.stop-is at c.tell.ensures))
       | in-Err w ↦ rw (c.status_of.ensures, w.stop-is) (flush_failed input first _ _ c.flush.ensures.bytes _ c.args.stopped.stop c.args.stopped.frame s (rw w.stop-is at c.tell.ensures))
+    ]
+
+pub returns-clause-flushed : goal.returns-clause-flushed
+returns-clause-flushed g c =
+    elim c.match-flush.branch [
+      | in-Ok w ↦ inl w.in-Ok.ensures.flushed
+      | in-Err w ↦ inr (c.status_of.ensures ∙ ap status_shown w.stop-is, w.in-Err.ensures.err)
+    ]
+
+pub returns-clause-cause : goal.returns-clause-cause
+returns-clause-cause g c = λ is.
+    elim c.match-flush.branch [
+      | in-Ok w ↦ gives_up (λ text. Told (g.E.Sink.contents c.args.errors.now) (g.E.Sink.contents c.tell.new.errors) (g.E.Sink.is_flushed c.tell.new.errors) (g.E.Sink.faults c.args.errors.now) (g.E.Sink.faults c.tell.new.errors) text) c.args.stopped.stop c.args.stopped.frame _ _ (ap status_shown (sym w.stop-is) ∙ sym c.status_of.ensures ∙ is) (rw w.stop-is at c.tell.ensures)
+      | in-Err w ↦ inr (rw w.stop-is at c.tell.ensures, inr w.in-Err.ensures.err)
     ]

@@ -1,0 +1,15 @@
+pub mod LexSteps
+pub mod ReadBack
+pub mod ReadBackExpr
+pub mod ReadBackStmt
+pub mod Turns
+pub mod Sound
+pub mod SoundExpr
+pub mod SoundStmt
+pub mod Takes
+pub mod Order
+pub mod Places
+pub mod Local
+pub mod LocalItems
+pub mod LocalExpr
+pub mod LocalStmt

@@ -1,0 +1,19 @@
+use Rattle.std.proofs.Common.{arith}
+use Rattle.sy_script.proofs.SoundStmt.{reading_ok}
+use Rattle.sy_script.proofs.ReadBackStmt.{script_reads}
+use Rattle.sy_script.proofs.script.read_script.Goals as goal
+
+pub returns-in-Ok-clause-found : goal.returns-in-Ok-clause-found
+returns-in-Ok-clause-found c = reading_ok c.args.text.now c.in-Ok.script (omega arith) c.in-Ok.ensures
+
+pub returns-in-Ok-clause-only : goal.returns-in-Ok-clause-only
+returns-in-Ok-clause-only c script is =
+    let read = script_reads c.args.text.now script is in
+    let found = c.in-Ok.ensures in
+    cc (read, found)
+
+pub returns-in_default-clause-only : goal.returns-in_default-clause-only
+returns-in_default-clause-only c script is =
+    let read = script_reads c.args.text.now script is in
+    let stopped = c.in-Err.ensures c.in_default.not-NoMemory in
+    absurd (cc (read, stopped))

@@ -1,0 +1,10 @@
+pub mod formers
+pub mod Lex
+pub mod Reading
+pub mod ReadingExpr
+pub mod ReadingStmt
+pub mod Answer
+pub mod Grammar
+pub mod Spans
+pub mod Place
+pub mod DeadEnd

@@ -1,0 +1,22 @@
+-- Lines and columns, in terms of the line feeds before a place.
+use Rattle.std.specs.Prelude.{◌≡◌, ◌≢◌, ◌⊎◌, ℕ, ◌+◌, if◌then◌else◌, ◌==◌, List, [], ◌∷◌, ◌++◌, length}
+
+-- how many line feeds there are
+abbrev pub feeds : List ℕ → ℕ
+feeds [] = 0
+feeds (b ∷ bytes) = if b == 10 then feeds bytes + 1 else feeds bytes
+
+-- none is a line feed
+abbrev pub IsOneLine : List ℕ → Type 0
+IsOneLine [] = Unit {0}
+IsOneLine (b ∷ bytes) = (b ≢ 10) × IsOneLine bytes
+
+-- The place behind these bytes: the line is one more than the line feeds before it, and the column one more than the bytes behind the last of them.
+pub record IsPlace (before : List ℕ) (line column : ℕ) : Type 0 where
+  pub above : List ℕ
+  pub last : List ℕ
+  pub is_before : before ≡ above ++ last
+  pub is_one_line : IsOneLine last
+  pub is_above : (above ≡ []) ⊎ ((lines : List ℕ) × (above ≡ lines ++ 10 ∷ []))
+  pub line_is : line ≡ feeds before + 1
+  pub column_is : column ≡ length last + 1

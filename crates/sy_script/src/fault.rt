@@ -1,0 +1,51 @@
+//! What may be wrong with a script, and where.
+
+ghost use Rattle.std.specs.Prelude.{◌≡◌};
+ghost use Rattle.sy_script.specs.Answer as spec;
+
+use crate::items::Items;
+
+/// The faults of a script. Their numbers are those of `number`.
+#[derive(Clone, Copy, Debug, PartialEq, Eq)]
+pub enum FaultCode {
+    /// A byte that begins no token, or that may not stand behind the `\` of a string.
+    Byte,
+    /// A string, comment, parenthesis or brace that isn't ended.
+    Unclosed,
+    /// A token that may not stand where it stands, or the end of the text in its place.
+    Unexpected,
+    /// A token that makes the depth 33.
+    TooDeep,
+    /// A text of more than 1 MiB.
+    TooLarge,
+    /// A statement of RainerScript that this profile leaves out.
+    LeftOut,
+    /// Memory ran out.
+    NoMemory,
+}
+
+impl FaultCode {
+    /// The number of the fault: 21 for `Byte` to 27 for `NoMemory`.
+    pub fn number(self) -> u8
+        ensures { result ≡ spec.number self }
+    {
+        match self {
+            FaultCode::Byte => 21,
+            FaultCode::Unclosed => 22,
+            FaultCode::Unexpected => 23,
+            FaultCode::TooDeep => 24,
+            FaultCode::TooLarge => 25,
+            FaultCode::LeftOut => 26,
+            FaultCode::NoMemory => 27,
+        }
+    }
+}
+
+/// A fault and its place. Lines count from 1, columns from 1 in bytes; the word is that of `LeftOut`, and else empty.
+#[derive(Debug, Drop)]
+pub struct ScriptFault {
+    pub code: FaultCode,
+    pub line: usize,
+    pub column: usize,
+    pub word: Items<u8>,
+}

@@ -1,0 +1,33 @@
+//! Laws of the grammar.
+
+ghost use Rattle.std.specs.Prelude.{◌≡◌, ℕ, List, length, Err};
+ghost use Rattle.sy_script.specs.Answer as answer;
+ghost use Rattle.sy_script.specs.DeadEnd.{AtToken, IsDeadEnd};
+ghost use Rattle.sy_script.specs.Grammar.{IsScript};
+ghost use Rattle.sy_script.specs.ReadingStmt.{tops};
+ghost use Rattle.sy_script.specs.declared.token.Token.{Token};
+ghost use Rattle.sy_script.specs.declared.halt.Halt.{Halt};
+ghost use Rattle.sy_script.specs.Lex as spec;
+ghost use Rattle.sy_script.specs.Place.{IsPlace};
+ghost use Rattle.sy_script.specs.Spans.{InOrder};
+ghost use Rattle.sy_script.specs.declared.tree.Script.{Script};
+
+/// One text, one tree.
+pub fn one_tree()
+    ensures { (text : List ℕ) (a b : Script) → IsScript text a → IsScript text b → a ≡ b }
+{}
+
+/// The spans of a text's tokens are in order, and within the text.
+pub fn spans_in_order()
+    ensures { (text : List ℕ) → InOrder 0 (spec.tokens text).0 (length text) }
+{}
+
+/// The line is one more than the line feeds before a place, the column one more than the bytes behind the last of them.
+pub fn places()
+    ensures { (before : List ℕ) → IsPlace before (answer.place before).0 (answer.place before).1 }
+{}
+
+/// A token that reading stops at may not stand there: no script begins with the tokens up to it.
+pub fn dead_ends()
+    ensures { (text : List ℕ) (ts : List Token) (h : Halt) → AtToken h → tops text ts ≡ Err h → IsDeadEnd text ts h }
+{}
