@@ -1,5 +1,5 @@
-/* Runs a program once and tells what it took: measure INPUT PROGRAM [ARGUMENT..]. INPUT is a file, or `-` for this
- * program's own standard input. What the program writes is thrown away (/dev/null), so that its own work is measured.
+/* Runs a program once and tells what it took: measure INPUT OUTPUT PROGRAM [ARGUMENT..]. INPUT is a file, or `-` for
+ * this program's own standard input. OUTPUT is a file, made or emptied first.
  * It prints: wall-clock seconds, processor seconds (user), processor seconds (system), peak resident KiB, exit status. */
 #include <fcntl.h>
 #include <stdio.h>
@@ -20,11 +20,11 @@ static double seconds(struct timeval time) {
 }
 
 int main(int count, char **words) {
-    if (count < 3) {
-        fprintf(stderr, "usage: measure INPUT PROGRAM [ARGUMENT..]\n");
+    if (count < 4) {
+        fprintf(stderr, "usage: measure INPUT OUTPUT PROGRAM [ARGUMENT..]\n");
         return 2;
     }
-    int in = strcmp(words[1], "-") ? open(words[1], O_RDONLY) : 0, out = open("/dev/null", O_WRONLY);
+    int in = strcmp(words[1], "-") ? open(words[1], O_RDONLY) : 0, out = open(words[2], O_WRONLY | O_CREAT | O_TRUNC, 0600);
     if (in < 0 || out < 0) {
         perror(words[1]);
         return 2;
@@ -34,8 +34,8 @@ int main(int count, char **words) {
     if (child == 0) {
         dup2(in, 0);
         dup2(out, 1);
-        execvp(words[2], words + 2);
-        perror(words[2]);
+        execvp(words[3], words + 3);
+        perror(words[3]);
         _exit(127);
     }
     int status;
