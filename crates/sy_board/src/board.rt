@@ -1,5 +1,5 @@
 // The state of one relay.
-ghost use Rattle.std.specs.Prelude.{◌≡◌, ◌<◌, [], drop, length, min, take, IfErr, IfNone, IfOk, IfSome, OnErr, OnOk};
+ghost use Rattle.std.specs.Prelude.{◌≡◌, ◌<◌, ◌∷◌, [], drop, length, min, take, IfErr, IfNone, IfOk, IfSome, OnErr, OnOk};
 
 use crate::accounts::Accounts;
 use crate::answers::{Entry, Hold, Job, Taken};
@@ -191,6 +191,20 @@ impl Board {
             Some(_done) => Ok(()),
             None => Err(BoardFault::NoJob),
         }
+    }
+
+    /// The same as `settle`, and the entry that leaves is handed out.
+    pub fn settle_out(&mut self, worker: u32) -> Result<Node, BoardFault>
+        requires { worker < WORKERS }
+        ensures ok { OnOk result (Settles self.old self.new) }
+        ensures entry { IfOk result (λ node. self.old.batch ≡ node ∷ self.new.batch) }
+        ensures err { IfErr result (λ fault. SettleFails fault self.old self.new) }
+    {
+        let _ = worker;
+        let Some(done) = self.batch.pop_front() else {
+            return Err(BoardFault::NoJob);
+        };
+        Ok(done)
     }
 
     /// The totals.

@@ -1,9 +1,10 @@
 // One entry, on the heap.
-ghost use Rattle.std.specs.Prelude.{◌≡◌, IfErr, IfOk};
+ghost use Rattle.std.specs.Prelude.{◌≡◌, IfErr, IfOk, OnErr, OnOk};
 ghost use Rattle.std.specs.Arc.{arc_value};
 
 use std::alloc::Global;
 use std::marker::Model;
+use std::mem;
 use std::sync::Arc;
 use sy_wire::Message;
 
@@ -67,6 +68,33 @@ impl Node {
             Ok(fields) => Ok(Node { fields }),
             Err(failed) => Err(failed.value.message),
         }
+    }
+
+    /// Makes an entry of another message in the memory of this one, and hands the message back that it had.
+    /// Where that message has another owner too, nothing changes and the new message comes back.
+    pub fn renew(
+        &mut self,
+        message: Message,
+        list: u32,
+        input: u32,
+        due: u64,
+        tag: u64,
+    ) -> Result<Message, Message>
+        ensures ok { OnOk result (self.new ≡ record { message = message; list = list; input = input; due = due; tag = tag }) }
+        ensures old { IfOk result (λ m. m ≡ self.old.message) }
+        ensures err { IfErr result (λ m. m ≡ message) }
+        ensures unchanged { OnErr result (self.new ≡ self.old) }
+    {
+        let fields = &mut *self.fields;
+        let Some(place) = Arc::get_mut(&mut fields.message) else {
+            return Err(message);
+        };
+        let old = mem::replace(place, message);
+        fields.list = list;
+        fields.input = input;
+        fields.due = due;
+        fields.tag = tag;
+        Ok(old)
     }
 
     pub fn message(&self) -> &Arc<Message>

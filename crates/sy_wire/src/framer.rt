@@ -1,11 +1,12 @@
 // Octet-counted frames (RFC 6587, 3.4.1) from pieces of a stream.
-ghost use Rattle.std.specs.Prelude.{◌≡◌, ◌≢◌, ◌+◌, ◌<◌, ◌≤◌, [], ◌++◌, false, length, drop, OnOk, IfErr, MatchOption, MatchResult};
+ghost use Rattle.std.specs.Prelude.{◌≡◌, ◌≢◌, ◌+◌, ◌<◌, ◌≤◌, [], ◌++◌, false, length, drop, OnOk, IfErr, IfOk, MatchOption, MatchResult};
 ghost use Rattle.sy_wire.specs.Frames.{IsOpen};
 ghost use Rattle.sy_wire.specs.Heads.{HeadIs};
 ghost use Rattle.sy_wire.specs.Steps.{EndFails, Ends, FeedFails, Feeds, FrameFails, GivesFrame, GivesNone};
 
-use std::alloc::Global;
+use std::alloc::{AllocError, Global};
 use std::marker::Model;
+use std::mem;
 
 /// The longest message that a frame may carry, in bytes.
 pub const MAX_FRAME: usize = 65536;
@@ -71,6 +72,8 @@ pub struct Framer {
     // the bytes before this one were given already
     at: usize,
     has_failed: bool,
+    // memory for the next message; its bytes mean nothing
+    spare: Vec<u8>,
 }
 
 impl Model for Framer {
@@ -94,6 +97,15 @@ fn drop_front(bytes: &mut Vec<u8>, n: usize)
     bytes.truncate(len - n);
 }
 
+// The bytes, in this memory where they have room there.
+fn copy_into(mut room: Vec<u8>, bytes: &[u8]) -> Result<Vec<u8>, AllocError>
+    ensures { IfOk result (λ copy. copy.items ≡ bytes.now) }
+{
+    room.clear();
+    room.extend_from_slice(bytes)?;
+    Ok(room)
+}
+
 impl Framer {
     /// A framer to which nothing was fed. It takes no memory yet.
     pub fn new(alloc: Global) -> Framer
@@ -104,6 +116,7 @@ impl Framer {
             bytes: Vec::new(alloc),
             at: 0,
             has_failed: false,
+            spare: Vec::new(alloc),
         }
     }
 
@@ -138,13 +151,16 @@ impl Framer {
         }
         let (_, rest) = self.bytes.split_at(self.at);
         match head_of(rest) {
-            Head::Whole { from, to } => match Vec::from_slice(self.alloc, &rest[from..to]) {
-                Ok(message) => {
-                    self.at += to;
-                    Ok(Some(message))
+            Head::Whole { from, to } => {
+                let room = mem::replace(&mut self.spare, Vec::new(self.alloc));
+                match copy_into(room, &rest[from..to]) {
+                    Ok(message) => {
+                        self.at += to;
+                        Ok(Some(message))
+                    }
+                    Err(_) => Err(FrameFault::NoMemory),
                 }
-                Err(_) => Err(FrameFault::NoMemory),
-            },
+            }
             Head::Partial => Ok(None),
             Head::BadLength => {
                 self.has_failed = true;
@@ -155,6 +171,14 @@ impl Framer {
                 Err(FrameFault::TooLong)
             }
         }
+    }
+
+    /// Takes bytes that nobody needs any more, so that the next message is made in their memory. It
+    /// shows in no answer: a message that has no room there takes memory as ever.
+    pub fn give_back(&mut self, used: Vec<u8>)
+        ensures { self.new ≡ self.old }
+    {
+        self.spare = used;
     }
 
     /// The stream has ended: all whole frames and any other fault were answered before. It answers

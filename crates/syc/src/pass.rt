@@ -7,7 +7,7 @@ ghost use Rattle.syc.specs.Pass.{EndsWhole, GivesUpFailing, HasFailed, IsStatus,
 ghost use Rattle.syc.specs.Reports.{Told};
 ghost use Rattle.syc.specs.Stops.{Advances, DrainFails, FailCause, IsBetween, IsIdle, PassCause, StopIs, StopsIn, TurnIs, WriteCause};
 
-use crate::carry::carry;
+use crate::carry::{carry, entry};
 use crate::stop::{Stop, status_of, tell};
 use std::alloc::Global;
 use sy_board::Board;
@@ -37,10 +37,14 @@ fn drain<W: Sink>(
     ensures count { W.faults writer.old ≤ W.faults writer.new }
     ensures cause { IfErr result (λ e. WriteCause e (W.faults writer.old) (W.faults writer.new)) }
 {
+    let mut used = None;
     'frames: loop {
         match framer.next_frame() {
             Ok(Some(raw)) => match Message::read(raw) {
-                Ok(message) => carry(alloc, board, writer, message)?,
+                Ok(message) => {
+                    let node = entry(alloc, framer, used, message)?;
+                    used = Some(carry(board, writer, node)?);
+                }
                 Err((_, fault)) => return Err(Stop::Message(fault)),
             },
             Ok(None) => return Ok(()),

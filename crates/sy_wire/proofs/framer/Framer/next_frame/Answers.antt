@@ -8,7 +8,7 @@ returns-in-Ok c =
     let left_is : c.args.self.now.left ≡ drop c.self.inside.at c.self.inside.bytes.items = sym (ap (λ v. v.left) c.self.view_is) in
     let good : c.args.self.now.has_failed ≡ false = sym (ap (λ v. v.has_failed) c.self.view_is) ∙ c.if-self.false in
     let h = rw rest_is at c.in-Whole.ensures in
-    let items = rw rest_is at c.in-Ok.ensures.items in
+    let items = rw rest_is at c.in-Ok.ensures in
     record { answer = rw c.if-self.false (gives _ c.self.inside.bytes.items _ [] c.self.inside.at c.in-Whole.from c.in-Whole.to h.0 h.1 good left_is h.2 h.3 h.4 h.5 h.6 items) }
 
 pub returns-in-Partial : goal.returns-in-Partial
@@ -25,4 +25,4 @@ returns-in-Err c =
     let good : c.args.self.now.has_failed ≡ false = sym (ap (λ v. v.has_failed) c.self.view_is) ∙ c.if-self.false in
     let h = rw rest_is at c.in-Whole.ensures in
     let given = gives _ c.self.inside.bytes.items _ [] c.self.inside.at c.in-Whole.from c.in-Whole.to h.0 h.1 good left_is h.2 h.3 h.4 h.5 h.6 refl in
-    record { answer = ((_, _, given.size, given.taken), record { good = good; same = refl }) }
+    record { answer = ((_, _, given.size, given.taken), record { good = good; same = c.self.view_is }) }
