@@ -4,7 +4,6 @@ ghost use Rattle.std.specs.Arc.{arc_value};
 
 use std::alloc::Global;
 use std::marker::Model;
-use std::mem;
 use std::sync::Arc;
 use sy_wire::Message;
 
@@ -70,8 +69,8 @@ impl Node {
         }
     }
 
-    /// Makes an entry of another message in the memory of this one, and hands the message back that it had.
-    /// Where that message has another owner too, nothing changes and the new message comes back.
+    /// Makes an entry of another message in the memory of this one, and hands out the bytes of the message that
+    /// it had. Where that one has another owner too, nothing changes and the new message comes back.
     pub fn renew(
         &mut self,
         message: Message,
@@ -79,9 +78,9 @@ impl Node {
         input: u32,
         due: u64,
         tag: u64,
-    ) -> Result<Message, Message>
+    ) -> Result<Vec<u8>, Message>
         ensures ok { OnOk result (self.new ≡ record { message = message; list = list; input = input; due = due; tag = tag }) }
-        ensures old { IfOk result (λ m. m ≡ self.old.message) }
+        ensures old { IfOk result (λ bytes. bytes.items ≡ self.old.message.raw) }
         ensures err { IfErr result (λ m. m ≡ message) }
         ensures unchanged { OnErr result (self.new ≡ self.old) }
     {
@@ -89,12 +88,12 @@ impl Node {
         let Some(place) = Arc::get_mut(&mut fields.message) else {
             return Err(message);
         };
-        let old = mem::replace(place, message);
+        let bytes = place.replace(message);
         fields.list = list;
         fields.input = input;
         fields.due = due;
         fields.tag = tag;
-        Ok(old)
+        Ok(bytes)
     }
 
     pub fn message(&self) -> &Arc<Message>

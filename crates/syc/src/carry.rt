@@ -53,8 +53,8 @@ pub fn entry(
         return new_entry(alloc, message);
     };
     match node.renew(message, LIST, INPUT, DUE, TAG) {
-        Ok(old) => {
-            framer.give_back(old.into_raw());
+        Ok(bytes) => {
+            framer.give_back(bytes);
             Ok(node)
         }
         Err(message) => new_entry(alloc, message),
