@@ -129,11 +129,7 @@ fn make_room(bytes: &mut Vec<u8>, end: usize, wanted: usize) -> Result<(), Alloc
 }
 
 // Reads once into the room from there on.
-fn read_behind<R: Source>(
-    bytes: &mut [u8],
-    end: usize,
-    source: &mut R,
-) -> Result<usize, ReadFault>
+fn read_behind<R: Source>(bytes: &mut [u8], end: usize, source: &mut R) -> Result<usize, ReadFault>
     requires { end + 65536 ≤ length bytes.old }
     ensures front { take end bytes.new ≡ take end bytes.old }
     ensures len { length bytes.new ≡ length bytes.old }
