@@ -1,5 +1,5 @@
 // The state of one relay.
-ghost use Rattle.std.specs.Prelude.{◌≡◌, ◌<◌, [], drop, length, min, take, IfErr, IfNone, IfOk, IfSome, OnErr, OnOk};
+ghost use Rattle.std.specs.Prelude.{◌≡◌, ◌<◌, ◌∷◌, [], drop, length, min, take, IfErr, IfNone, IfOk, IfSome, OnErr, OnOk};
 
 use crate::accounts::Accounts;
 use crate::answers::{Entry, Hold, Job, Taken};
@@ -16,8 +16,9 @@ use sy_chain::{Chain, Node};
 pub struct Board {
     alloc: Global,
     hands: Vec<Option<Node>>,
-    queue: Chain,
-    batch: Chain,
+    // boxed, so that the two are swapped as two pointers
+    queue: Box<Chain>,
+    batch: Box<Chain>,
     accounts: Accounts,
 }
 
@@ -28,8 +29,8 @@ impl Model for Board {
 
     ghost view = { λ b. record {
       hands = b.hands.items;
-      queue = b.queue;
-      batch = b.batch;
+      queue = b.queue.value;
+      batch = b.batch.value;
       taken = b.accounts.taken;
       in_hands = b.accounts.in_hands;
       in_queues = b.accounts.in_queues;
@@ -38,8 +39,8 @@ impl Model for Board {
 
     ghost invariant = { λ b. IsBalanced (record {
       hands = b.hands.items;
-      queue = b.queue;
-      batch = b.batch;
+      queue = b.queue.value;
+      batch = b.batch.value;
       taken = b.accounts.taken;
       in_hands = b.accounts.in_hands;
       in_queues = b.accounts.in_queues;
@@ -49,19 +50,20 @@ impl Model for Board {
 
 // Moves a batch from the front of the queue into the empty one. A queue that fits is taken whole by a swap,
 // so that both keep their room: then no message costs memory here.
-fn move_batch(queue: &mut Chain, batch: &mut Chain) -> Result<usize, AllocError>
-    requires { batch.old ≡ [] }
-    ensures count { IfOk result (λ count. count ≡ min BATCH_SIZE (length queue.old)) }
-    ensures front { IfOk result (λ count. batch.new ≡ take count queue.old) }
-    ensures rest { IfOk result (λ count. queue.new ≡ drop count queue.old) }
-    ensures err { OnErr result ((queue.new ≡ queue.old) × (batch.new ≡ batch.old) × (BATCH_SIZE < length queue.old)) }
+fn move_batch(queue: &mut Box<Chain>, batch: &mut Box<Chain>) -> Result<usize, AllocError>
+    requires { batch.old.value ≡ [] }
+    ensures count { IfOk result (λ count. count ≡ min BATCH_SIZE (length queue.old.value)) }
+    ensures front { IfOk result (λ count. batch.new.value ≡ take count queue.old.value) }
+    ensures rest { IfOk result (λ count. queue.new.value ≡ drop count queue.old.value) }
+    ensures err { OnErr result ((queue.new.value ≡ queue.old.value) × (batch.new.value ≡ batch.old.value) × (BATCH_SIZE < length queue.old.value)) }
 {
     let waiting = queue.len();
     if waiting <= BATCH_SIZE {
         mem::swap(queue, batch);
         return Ok(waiting);
     }
-    *batch = queue.cut_front(BATCH_SIZE)?;
+    let front = queue.cut_front(BATCH_SIZE)?;
+    **batch = front;
     Ok(BATCH_SIZE)
 }
 
@@ -77,11 +79,17 @@ impl Board {
         for _ in 0..HANDS {
             hands.push(None)?;
         }
+        let Ok(queue) = Box::new(alloc, Chain::new(alloc)) else {
+            return Err(AllocError);
+        };
+        let Ok(batch) = Box::new(alloc, Chain::new(alloc)) else {
+            return Err(AllocError);
+        };
         Ok(Board {
             alloc,
             hands,
-            queue: Chain::new(alloc),
-            batch: Chain::new(alloc),
+            queue,
+            batch,
             accounts: Accounts {
                 taken: 0,
                 in_hands: 0,
@@ -191,6 +199,20 @@ impl Board {
             Some(_done) => Ok(()),
             None => Err(BoardFault::NoJob),
         }
+    }
+
+    /// The same as `settle`, and the entry that leaves is handed out.
+    pub fn settle_out(&mut self, worker: u32) -> Result<Node, BoardFault>
+        requires { worker < WORKERS }
+        ensures ok { OnOk result (Settles self.old self.new) }
+        ensures entry { IfOk result (λ node. self.old.batch ≡ node ∷ self.new.batch) }
+        ensures err { IfErr result (λ fault. SettleFails fault self.old self.new) }
+    {
+        let _ = worker;
+        let Some(done) = self.batch.pop_front() else {
+            return Err(BoardFault::NoJob);
+        };
+        Ok(done)
     }
 
     /// The totals.

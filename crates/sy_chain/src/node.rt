@@ -1,5 +1,5 @@
 // One entry, on the heap.
-ghost use Rattle.std.specs.Prelude.{◌≡◌, IfErr, IfOk};
+ghost use Rattle.std.specs.Prelude.{◌≡◌, IfErr, IfOk, OnErr, OnOk};
 ghost use Rattle.std.specs.Arc.{arc_value};
 
 use std::alloc::Global;
@@ -67,6 +67,33 @@ impl Node {
             Ok(fields) => Ok(Node { fields }),
             Err(failed) => Err(failed.value.message),
         }
+    }
+
+    /// Makes an entry of another message in the memory of this one, and hands out the bytes of the message that
+    /// it had. Where that one has another owner too, nothing changes and the new message comes back.
+    pub fn renew(
+        &mut self,
+        message: Message,
+        list: u32,
+        input: u32,
+        due: u64,
+        tag: u64,
+    ) -> Result<Vec<u8>, Message>
+        ensures ok { OnOk result (self.new ≡ record { message = message; list = list; input = input; due = due; tag = tag }) }
+        ensures old { IfOk result (λ bytes. bytes.items ≡ self.old.message.raw) }
+        ensures err { IfErr result (λ m. m ≡ message) }
+        ensures unchanged { OnErr result (self.new ≡ self.old) }
+    {
+        let fields = &mut *self.fields;
+        let Some(place) = Arc::get_mut(&mut fields.message) else {
+            return Err(message);
+        };
+        let bytes = place.replace(message);
+        fields.list = list;
+        fields.input = input;
+        fields.due = due;
+        fields.tag = tag;
+        Ok(bytes)
     }
 
     pub fn message(&self) -> &Arc<Message>

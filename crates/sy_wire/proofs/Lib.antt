@@ -8,5 +8,6 @@ pub mod Opens
 pub mod Options
 pub mod PartLaws
 pub mod Priorities
+pub mod Rooms
 pub mod Runs
 pub mod Values

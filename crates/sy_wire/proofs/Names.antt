@@ -31,6 +31,9 @@ no_space_no_name bytes behind most ending fits r apart rest h =
     let parts = one_run IsPrintUsAscii r.text n.text ending 32 behind rest r.is.each n.is.each r.ends n.ends (sym r.whole ∙ n.whole) in
     apart parts.1
 
+pub nil_to : (bytes rest : List ℕ) (most : ℕ) → bytes ≡ 45 ∷ 32 ∷ rest → EndsTo (IsName most) 32 bytes rest
+nil_to bytes rest most e = record { text = 45 ∷ []; is = inl refl; whole = e }
+
 pub version_to : (bytes a rest : List ℕ) → bytes ≡ 49 ∷ a → a ≡ 32 ∷ rest → EndsTo IsVersion 32 bytes rest
 version_to bytes a rest e f = record { text = 49 ∷ []; is = refl; whole = e ∙ ap (λ x. 49 ∷ x) f }
 

@@ -1,6 +1,10 @@
 -- What the calls of a framer find and leave.
-use Rattle.std.specs.Prelude.{◌≡◌, ◌≢◌, ℕ, Bool, true, false, List, [], ◌++◌, length}
+use Rattle.std.specs.Prelude.{◌≡◌, ◌≢◌, ℕ, Bool, true, false, List, [], ◌++◌, length, Option}
+use Rattle.std.specs.Io.KnownBytes.{Keeps}
 use Rattle.sy_wire.specs.Frames.{Held, IsSize, IsBadLength, IsOpen, IsTooLong, frame}
+use Rattle.sy_wire.specs.Streams.{ReadsPiece}
+use Rattle.sy_wire.specs.declared.framer.FillFault.{FillFault}
+use Rattle.sy_wire.specs.declared.framer.FillFault.TheVariants.{ReadFailed, NoMemory as OutOfRoom, Failed as HadFault}
 use Rattle.sy_wire.specs.declared.framer.FrameFault.{FrameFault}
 use Rattle.sy_wire.specs.declared.framer.FrameFault.TheVariants.{BadLength, TooLong, Truncated, NoMemory, Failed}
 
@@ -8,6 +12,12 @@ use Rattle.sy_wire.specs.declared.framer.FrameFault.TheVariants.{BadLength, TooL
 pub record Feeds (old : Held) (piece : List ℕ) (new : Held) : Type 0 where
   pub good : old.has_failed ≡ false
   pub after : new ≡ record old { left = old.left ++ piece }
+
+-- a piece of so many bytes was read from the source, and fed
+pub record Fills (old : Held) (count : ℕ) (new : Held) (ahead ahead' : Option (List ℕ)) : Type 0 where
+  pub piece : List ℕ
+  pub feeds : Feeds old piece new
+  pub reads : ReadsPiece ahead ahead' piece count
 
 -- the message of the frame at the front was given
 pub record GivesFrame (old : Held) (message : List ℕ) (new : Held) : Type 0 where
@@ -60,6 +70,12 @@ abbrev pub FeedFails : FrameFault → Held → Held → Type 0
 FeedFails NoMemory old new = Refuses old new
 FeedFails Failed old new = HadFailed old new
 FeedFails _ old new = ⊥
+
+-- `fill` gave this fault: nothing was read
+abbrev pub FillFails : FillFault → Held → Held → Option (List ℕ) → Option (List ℕ) → Type 0
+FillFails ReadFailed old new ahead ahead' = Refuses old new × Keeps ahead ahead'
+FillFails OutOfRoom old new ahead ahead' = Refuses old new × (ahead' ≡ ahead)
+FillFails HadFault old new ahead ahead' = HadFailed old new × (ahead' ≡ ahead)
 
 -- `end` gave this fault
 abbrev pub EndFails : FrameFault → Held → Held → Type 0

@@ -1,11 +1,15 @@
 // Octet-counted frames (RFC 6587, 3.4.1) from pieces of a stream.
-ghost use Rattle.std.specs.Prelude.{◌≡◌, ◌≢◌, ◌+◌, ◌<◌, ◌≤◌, [], ◌++◌, false, length, drop, OnOk, IfErr, MatchOption, MatchResult};
+ghost use Rattle.std.specs.Prelude.{◌≡◌, ◌≢◌, ◌+◌, ◌-◌, ◌<◌, ◌≤◌, [], ◌++◌, false, length, drop, take, slice_range, OnErr, OnOk, IfErr, IfOk, MatchOption, MatchResult};
+ghost use Rattle.std.specs.Io.KnownBytes.{Keeps};
 ghost use Rattle.sy_wire.specs.Frames.{IsOpen};
 ghost use Rattle.sy_wire.specs.Heads.{HeadIs};
-ghost use Rattle.sy_wire.specs.Steps.{EndFails, Ends, FeedFails, Feeds, FrameFails, GivesFrame, GivesNone};
+ghost use Rattle.sy_wire.specs.Steps.{EndFails, Ends, FeedFails, Feeds, FillFails, Fills, FrameFails, GivesFrame, GivesNone};
+ghost use Rattle.sy_wire.specs.Streams.{ReadsPiece, Rose, count_after};
 
-use std::alloc::Global;
+use super::stream::{ReadFault, Source};
+use std::alloc::{AllocError, Global};
 use std::marker::Model;
+use std::mem;
 
 /// The longest message that a frame may carry, in bytes.
 pub const MAX_FRAME: usize = 65536;
@@ -63,35 +67,92 @@ pub(crate) fn head_of(bytes: &[u8]) -> Head
     Head::Partial
 }
 
+/// How many bytes of a source `fill` asks for.
+pub const PIECE: usize = 65536;
+
+/// Why nothing was read into a framer, which is as it was.
+#[derive(Clone, Copy, Debug, PartialEq, Eq)]
+pub enum FillFault {
+    /// The read failed.
+    ReadFailed,
+    /// There was no room for a read, and none was made.
+    NoMemory,
+    /// The framer had failed before, and no read was made.
+    Failed,
+}
+
 /// Cuts a stream into frames. The stream is fed in pieces, and how it is cut into them doesn't show.
 #[derive(Drop)]
 pub struct Framer {
     alloc: Global,
+    // room for bytes: those from `at` to `end` came, and were not given yet
     bytes: Vec<u8>,
-    // the bytes before this one were given already
     at: usize,
+    end: usize,
     has_failed: bool,
+    // memory for the next message; its bytes mean nothing
+    spare: Vec<u8>,
 }
 
 impl Model for Framer {
-    ghost use Rattle.std.specs.Prelude.{◌≤◌, drop, length};
+    ghost use Rattle.std.specs.Prelude.{◌≤◌, length, slice_range};
     ghost use Rattle.sy_wire.specs.Frames.{Held};
 
     ghost Value = { Held };
 
-    ghost view = { λ f. record { left = drop f.at f.bytes.items; has_failed = f.has_failed } };
+    ghost view = { λ f. record { left = slice_range f.bytes.items f.at f.end; has_failed = f.has_failed } };
 
-    ghost invariant = { λ f. f.at ≤ length f.bytes.items };
+    ghost invariant = { λ f. (f.at ≤ f.end) × (f.end ≤ length f.bytes.items) };
 }
 
-// Drops the first n bytes.
-fn drop_front(bytes: &mut Vec<u8>, n: usize)
-    requires { n ≤ length bytes.old.items }
-    ensures { bytes.new.items ≡ drop n bytes.old.items }
+// Moves the bytes of that range to the front.
+fn move_to_front(bytes: &mut [u8], at: usize, end: usize)
+    requires order { at ≤ end }
+    requires within { end ≤ length bytes.old }
+    ensures front { take (end - at) bytes.new ≡ slice_range bytes.old at end }
+    ensures len { length bytes.new ≡ length bytes.old }
 {
-    let len = bytes.len();
-    bytes.as_mut_slice().copy_within(n..len, 0);
-    bytes.truncate(len - n);
+    bytes.copy_within(at..end, 0);
+}
+
+// Makes room up to there, where there is none yet.
+fn make_room(bytes: &mut Vec<u8>, end: usize, wanted: usize) -> Result<(), AllocError>
+    requires { end ≤ length bytes.old.items }
+    ensures room { OnOk result (wanted ≤ length bytes.new.items) }
+    ensures same { take end bytes.new.items ≡ take end bytes.old.items }
+    ensures within { end ≤ length bytes.new.items }
+{
+    if bytes.len() < wanted {
+        bytes.resize(wanted, 0)?;
+    }
+    Ok(())
+}
+
+// Reads once into the room from there on.
+fn read_behind<R: Source>(bytes: &mut [u8], end: usize, source: &mut R) -> Result<usize, ReadFault>
+    requires { end + 65536 ≤ length bytes.old }
+    ensures front { take end bytes.new ≡ take end bytes.old }
+    ensures len { length bytes.new ≡ length bytes.old }
+    ensures bound { IfOk result (λ count. count ≤ 65536) }
+    ensures read { IfOk result (λ count. ReadsPiece (R.remaining source.old) (R.remaining source.new) (take count (drop end bytes.new)) count) }
+    ensures kept { OnErr result (Keeps (R.remaining source.old) (R.remaining source.new)) }
+    ensures call { R.calls source.new ≡ count_after (R.calls source.old) 1 }
+    ensures ok { OnOk result (R.faults source.new ≡ R.faults source.old) }
+    ensures count { R.faults source.old ≤ R.faults source.new }
+    ensures err { OnErr result (Rose (R.faults source.old) (R.faults source.new)) }
+{
+    let (_, behind) = bytes.split_at_mut(end);
+    let (room, _) = behind.split_at_mut(PIECE);
+    source.read(room)
+}
+
+// The bytes, in this memory where they have room there.
+fn copy_into(mut room: Vec<u8>, bytes: &[u8]) -> Result<Vec<u8>, AllocError>
+    ensures { IfOk result (λ copy. copy.items ≡ bytes.now) }
+{
+    room.clear();
+    room.extend_from_slice(bytes)?;
+    Ok(room)
 }
 
 impl Framer {
@@ -103,7 +164,20 @@ impl Framer {
             alloc,
             bytes: Vec::new(alloc),
             at: 0,
+            end: 0,
             has_failed: false,
+            spare: Vec::new(alloc),
+        }
+    }
+
+    // Moves what is left to the front, if at least as many bytes go as move: so each moves once on average.
+    fn pack(&mut self)
+        ensures { self.new ≡ self.old }
+    {
+        if self.at >= self.end - self.at {
+            move_to_front(self.bytes.as_mut_slice(), self.at, self.end);
+            self.end -= self.at;
+            self.at = 0;
         }
     }
 
@@ -115,14 +189,43 @@ impl Framer {
         if self.has_failed {
             return Err(FrameFault::Failed);
         }
-        // At least as many bytes go as move, so each moves once on average.
-        if self.at >= self.bytes.len() - self.at {
-            drop_front(&mut self.bytes, self.at);
-            self.at = 0;
-        }
+        self.pack();
+        self.bytes.truncate(self.end);
         match self.bytes.extend_from_slice(piece) {
-            Ok(()) => Ok(()),
+            Ok(()) => {
+                self.end = self.bytes.len();
+                Ok(())
+            }
             Err(_) => Err(FrameFault::NoMemory),
+        }
+    }
+
+    /// Reads the next piece of the stream from its source, which is asked once, for at most `PIECE` bytes, and
+    /// answers how many came. It is none only at the end of the stream.
+    pub fn fill<R: Source>(&mut self, source: &mut R) -> Result<usize, FillFault>
+        ensures ok { IfOk result (λ count. Fills self.old count self.new (R.remaining source.old) (R.remaining source.new)) }
+        ensures bound { IfOk result (λ count. count ≤ 65536) }
+        ensures none { IfOk result (λ count. count ≡ 0 → self.new ≡ self.old) }
+        ensures err { IfErr result (λ e. FillFails e self.old self.new (R.remaining source.old) (R.remaining source.new)) }
+        ensures call { OnOk result (R.calls source.new ≡ count_after (R.calls source.old) 1) }
+        ensures calls { R.calls source.new ≤ R.calls source.old + 1 }
+        ensures same { OnOk result (R.faults source.new ≡ R.faults source.old) }
+        ensures count { R.faults source.old ≤ R.faults source.new }
+        ensures cause { IfErr result (λ e. e ≡ FillFault.ReadFailed → Rose (R.faults source.old) (R.faults source.new)) }
+    {
+        if self.has_failed {
+            return Err(FillFault::Failed);
+        }
+        self.pack();
+        let Ok(()) = make_room(&mut self.bytes, self.end, self.end + PIECE) else {
+            return Err(FillFault::NoMemory);
+        };
+        match read_behind(self.bytes.as_mut_slice(), self.end, source) {
+            Ok(count) => {
+                self.end += count;
+                Ok(count)
+            }
+            Err(ReadFault) => Err(FillFault::ReadFailed),
         }
     }
 
@@ -136,15 +239,18 @@ impl Framer {
         if self.has_failed {
             return Err(FrameFault::Failed);
         }
-        let (_, rest) = self.bytes.split_at(self.at);
+        let rest = &self.bytes[self.at..self.end];
         match head_of(rest) {
-            Head::Whole { from, to } => match Vec::from_slice(self.alloc, &rest[from..to]) {
-                Ok(message) => {
-                    self.at += to;
-                    Ok(Some(message))
+            Head::Whole { from, to } => {
+                let room = mem::replace(&mut self.spare, Vec::new(self.alloc));
+                match copy_into(room, &rest[from..to]) {
+                    Ok(message) => {
+                        self.at += to;
+                        Ok(Some(message))
+                    }
+                    Err(_) => Err(FrameFault::NoMemory),
                 }
-                Err(_) => Err(FrameFault::NoMemory),
-            },
+            }
             Head::Partial => Ok(None),
             Head::BadLength => {
                 self.has_failed = true;
@@ -157,6 +263,14 @@ impl Framer {
         }
     }
 
+    /// Takes bytes that nobody needs any more, so that the next message is made in their memory. It
+    /// shows in no answer: a message that has no room there takes memory as ever.
+    pub fn give_back(&mut self, used: Vec<u8>)
+        ensures { self.new ≡ self.old }
+    {
+        self.spare = used;
+    }
+
     /// The stream has ended: all whole frames and any other fault were answered before. It answers
     /// `Truncated` or `Failed`.
     pub fn end(&mut self) -> Result<(), FrameFault>
@@ -167,7 +281,7 @@ impl Framer {
         if self.has_failed {
             return Err(FrameFault::Failed);
         }
-        if self.at < self.bytes.len() {
+        if self.at < self.end {
             self.has_failed = true;
             return Err(FrameFault::Truncated);
         }

@@ -14,7 +14,7 @@ pub mod stream;
 mod stream_tests;
 
 pub use class::Class;
-pub use framer::{FrameFault, Framer, MAX_FRAME};
+pub use framer::{FillFault, FrameFault, Framer, MAX_FRAME, PIECE};
 pub use from_read::FromRead;
 pub use from_write::FromWrite;
 pub use message::{Message, MsgCode, MsgFault};

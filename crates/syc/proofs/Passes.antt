@@ -10,6 +10,7 @@ use Rattle.std.proofs.lemmas.List.Concat.{flat_map-append}
 use Rattle.sy_wire.specs.Frames.{Held, IsBadLength, IsOpen, IsSize, IsTooLong, frame, stream}
 use Rattle.sy_wire.specs.Messages.{IsFault, IsMessage, Said}
 use Rattle.sy_wire.specs.Steps.{GivesFrame}
+use Rattle.sy_chain.specs.Entries.{Entry}
 use Rattle.sy_wire.specs.Streams.{count_after}
 use Rattle.sy_wire.specs.declared.framer.FrameFault.TheVariants.{BadLength, TooLong, Truncated, NoMemory as OutOfMemory, Failed}
 use Rattle.sy_wire.specs.declared.message.MsgFault.{MsgFault}
@@ -202,3 +203,14 @@ turn_goes_on left ahead next bytes held rest a b c i j kept split is h =
 pub calls_next : (first i now next : ℕ) → (i ≡ 0 → now ≡ first) → (0 < i → now ≡ count_after first i) → next ≡ count_after now 1 → next ≡ count_after first (i + 1)
 calls_next first zero now next start later e = e ∙ ap (λ n. count_after n 1) (start refl)
 calls_next first (suc i) now next start later e = let h : now ≡ count_after first (suc i) = later (omega arith) in omega (arith, h, e)
+
+-- what holds of a frame's message holds of the entry that carries it
+
+pub gives_kept : (old a b : Held) (message : List ℕ) → a ≡ b → GivesFrame old message b → GivesFrame old message a
+gives_kept old a b message same g = rw same g
+
+pub appends_line : (a b : Option (List ℕ)) (entry message : Entry) → entry ≡ message → Appends a b (line entry.message.raw) → Appends a b (line message.message.raw)
+appends_line a b entry message same h = rw same at h
+
+pub fails_line : (stop : Stop) (a b : Option (List ℕ)) (entry message : Entry) → entry ≡ message → CarryFails stop a b (line entry.message.raw) → CarryFails stop a b (line message.message.raw)
+fails_line stop a b entry message same h = rw same at h

@@ -2,6 +2,7 @@
 use Rattle.std.specs.Prelude.{◌≡◌, ◌≢◌, ℕ, ◌+◌, Bool, true, false, Result, Ok, Err, List, [], ◌∷◌, ◌++◌, ◌⊎◌, length, Option, Some, None, slice_get}
 use Rattle.std.specs.Io.KnownBytes.{Appends, Keeps}
 use Rattle.sy_wire.specs.Frames.{Held, IsOpen}
+use Rattle.sy_wire.specs.Messages.{Said}
 use Rattle.sy_wire.specs.Streams.{Rose, count_after}
 use Rattle.sy_wire.specs.declared.framer.FrameFault.TheVariants.{BadLength, TooLong, Truncated, NoMemory as OutOfMemory, Failed}
 use Rattle.sy_chain.specs.Entries.{Entry}
@@ -9,6 +10,10 @@ use Rattle.sy_board.specs.States.{BoardState}
 use Rattle.syc.specs.Pass.{AreReadsUsed, BeginsWith, PartPassed, Passed}
 use Rattle.syc.specs.declared.stop.Stop.{Stop}
 use Rattle.syc.specs.declared.stop.Stop.TheVariants.{Frame, Message, NoMemory, ReadFailed, WriteFailed}
+
+-- a message's entry, as it enters a pass's board: of the one list, from the one input, its one occurrence due
+abbrev pub entry_of : Said → Entry
+entry_of message = record { message = message; list = 0; input = 0; due = 1; tag = 0 }
 
 -- no message is on the board where the next one comes
 pub record IsIdle (b : BoardState) : Type 0 where

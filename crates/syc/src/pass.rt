@@ -7,14 +7,11 @@ ghost use Rattle.syc.specs.Pass.{EndsWhole, GivesUpFailing, HasFailed, IsStatus,
 ghost use Rattle.syc.specs.Reports.{Told};
 ghost use Rattle.syc.specs.Stops.{Advances, DrainFails, FailCause, IsBetween, IsIdle, PassCause, StopIs, StopsIn, TurnIs, WriteCause};
 
-use crate::carry::carry;
+use crate::carry::{carry, entry};
 use crate::stop::{Stop, status_of, tell};
 use std::alloc::Global;
 use sy_board::Board;
-use sy_wire::{FrameFault, Framer, Message, Sink, Source};
-
-/// How many bytes a read asks for.
-const BLOCK: usize = 65536;
+use sy_wire::{FillFault, FrameFault, Framer, Message, Sink, Source};
 
 /// How many reads a pass makes at most.
 const READS: u64 = 1_000_000_000_000;
@@ -37,10 +34,14 @@ fn drain<W: Sink>(
     ensures count { W.faults writer.old ≤ W.faults writer.new }
     ensures cause { IfErr result (λ e. WriteCause e (W.faults writer.old) (W.faults writer.new)) }
 {
+    let mut used = None;
     'frames: loop {
         match framer.next_frame() {
             Ok(Some(raw)) => match Message::read(raw) {
-                Ok(message) => carry(alloc, board, writer, message)?,
+                Ok(message) => {
+                    let node = entry(alloc, framer, used, message)?;
+                    used = Some(carry(board, writer, node)?);
+                }
                 Err((_, fault)) => return Err(Stop::Message(fault)),
             },
             Ok(None) => return Ok(()),
@@ -54,13 +55,10 @@ fn drain<W: Sink>(
 fn turn<R: Source, W: Sink>(
     alloc: Global,
     reader: &mut R,
-    block: &mut [u8],
     board: &mut Board,
     framer: &mut Framer,
     writer: &mut W,
 ) -> Result<bool, Stop>
-    requires some { 0 < length block.old }
-    requires block { length block.old ≤ 65536 }
     requires between { IsBetween board.old framer.old }
     requires room { board.old.taken + length framer.old.left + 65536 < 2 ^ 64 }
     ensures between { result ≡ Ok true → IsBetween board.new framer.new }
@@ -78,33 +76,30 @@ fn turn<R: Source, W: Sink>(
     let Ok(()) = writer.flush() else {
         return Err(Stop::WriteFailed);
     };
-    let Ok(n) = reader.read(block) else {
-        return Err(Stop::ReadFailed);
+    let count = match framer.fill(reader) {
+        Ok(count) => count,
+        Err(FillFault::ReadFailed) => return Err(Stop::ReadFailed),
+        Err(FillFault::NoMemory) => return Err(Stop::NoMemory),
+        Err(FillFault::Failed) => unreachable!(),
     };
-    if n == 0 {
+    if count == 0 {
         let Ok(()) = framer.end() else {
             return Err(Stop::Frame(FrameFault::Truncated));
         };
         return Ok(false);
     }
-    let Ok(()) = framer.feed(&block[..n]) else {
-        return Err(Stop::NoMemory);
-    };
     drain(alloc, board, framer, writer)?;
     Ok(true)
 }
 
-// Passes the whole input, block by block.
+// Passes the whole input, piece by piece.
 fn turns<R: Source, W: Sink>(
     alloc: Global,
     reader: &mut R,
-    block: &mut [u8],
     board: &mut Board,
     framer: &mut Framer,
     writer: &mut W,
 ) -> Result<(), Stop>
-    requires some { 0 < length block.old }
-    requires block { length block.old ≤ 65536 }
     requires between { IsBetween board.old framer.old }
     requires new { framer.old.left ≡ [] }
     requires first { board.old.taken ≡ 0 }
@@ -117,7 +112,7 @@ fn turns<R: Source, W: Sink>(
     ensures cause { IfErr result (λ e. PassCause e (R.faults reader.old) (R.faults reader.new) (R.calls reader.old) (R.calls reader.new) (W.faults writer.old) (W.faults writer.new)) }
 {
     for _ in 0..READS {
-        if !turn(alloc, reader, block, board, framer, writer)? {
+        if !turn(alloc, reader, board, framer, writer)? {
             return Ok(());
         }
     }
@@ -150,22 +145,8 @@ fn pass_all<R: Source, W: Sink>(
             frame: 1,
         });
     };
-    let Ok(mut block) = vec![in alloc; 0u8; BLOCK] else {
-        return Err(Stopped {
-            stop: Stop::NoMemory,
-            frame: 1,
-        });
-    };
     let mut framer = Framer::new(alloc);
-    let passed = turns(
-        alloc,
-        reader,
-        block.as_mut_slice(),
-        &mut board,
-        &mut framer,
-        writer,
-    );
-    match passed {
+    match turns(alloc, reader, &mut board, &mut framer, writer) {
         Ok(()) => Ok(()),
         Err(stop) => Err(Stopped {
             stop,

@@ -67,6 +67,7 @@ fn is_open(bytes: &[u8]) -> bool
 }
 
 // The bytes behind the last element.
+#[inline(never)]
 fn elements(bytes: &[u8]) -> Option<&[u8]>
     ensures some { IfSome result (λ rest. ElementsTo bytes.now rest.now) }
     ensures none { IfNone result ((rest : List ℕ) → ElementsTo bytes.now rest → ⊥) }
@@ -79,6 +80,7 @@ fn elements(bytes: &[u8]) -> Option<&[u8]>
 }
 
 // The bytes behind the structured data.
+#[inline(always)]
 pub(super) fn behind_structured_data(bytes: &[u8]) -> Option<&[u8]>
     ensures some { IfSome result (λ rest. DataTo bytes.now rest.now) }
     ensures none { IfNone result ((rest : List ℕ) → DataTo bytes.now rest → ⊥) }

@@ -96,6 +96,7 @@ fn time_end(bytes: &[u8]) -> Option<&[u8]>
 }
 
 // The bytes behind the date and the time.
+#[inline(never)]
 fn moment(bytes: &[u8]) -> Option<&[u8]>
     ensures some { IfSome result (λ rest. Begins IsMoment bytes.now rest.now) }
     ensures none { IfNone result ((rest : List ℕ) → Begins IsMoment bytes.now rest → ⊥) }
@@ -107,6 +108,7 @@ fn moment(bytes: &[u8]) -> Option<&[u8]>
 }
 
 // The bytes behind the timestamp.
+#[inline(always)]
 pub(super) fn behind_timestamp(bytes: &[u8]) -> Option<&[u8]>
     ensures some { IfSome result (λ rest. Begins IsTimestamp bytes.now rest.now) }
     ensures none { IfNone result ((rest : List ℕ) → Begins IsTimestamp bytes.now rest → ⊥) }

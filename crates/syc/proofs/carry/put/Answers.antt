@@ -5,9 +5,7 @@ use Rattle.syc.proofs.carry.put.Goals as goal
 
 pub returns-clause-ok : goal.returns-clause-ok
 returns-clause-ok c =
-    let takes = took _ _ _ _ _ c.in-Ok-take.ensures.ok in
+    let takes = took _ _ _ _ _ c.in-Ok.ensures.ok in
     let on_hand = taken _ _ _ c.requires.idle takes in
     let enters = rw c.in-Ok-Entered.field-0-is at c.in-Ok-Entered.ensures.ok in
-    let all = ready _ _ _ _ _ (queued _ _ _ on_hand enters) c.in-Ok-grab.ensures.ok in
-    let message_is : c.in-Ok-new.node.message ≡ c.args.message = ap (λ (n : Entry). n.message) c.in-Ok-new.ensures.ok ∙ c.in-Ok.ensures.ok in
-    rw message_is at all
+    ready _ _ _ _ _ (queued _ _ _ on_hand enters) c.in-Ok-grab.ensures.ok

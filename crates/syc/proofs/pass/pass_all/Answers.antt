@@ -9,22 +9,19 @@ use Rattle.syc.proofs.pass.pass_all.Goals as goal
 pub returns-in_default-clause-err : goal.returns-in_default-clause-err
 returns-in_default-clause-err g c = λ input known. record { taken = 0; stops = (_, _, passed_nothing _ _ _ (Keeps-refl _)); number = refl }
 
-pub returns-in_default-vec-clause-err : goal.returns-in_default-vec-clause-err
-returns-in_default-vec-clause-err g c = λ input known. record { taken = 0; stops = (_, _, passed_nothing _ _ _ (Keeps-refl _)); number = refl }
-
-pub turns-passed-requires-clause-between : goal.turns-passed-requires-clause-between
-turns-passed-requires-clause-between g c = record {
+pub turns-requires-clause-between : goal.turns-requires-clause-between
+turns-requires-clause-between g c = record {
   idle = rw c.in-Ok.ensures (record { hand = refl; queue = refl; batch = refl });
   good = ap (λ (f : Held). f.has_failed) c.new-framer.ensures;
   is_open = rw c.new-framer.ensures nothing_is_open;
 }
 
-pub returns-in-Ok-passed-clause-ok : goal.returns-in-Ok-passed-clause-ok
-returns-in-Ok-passed-clause-ok g c = λ input known. let h = c.in-Ok-passed.ensures.ok input known in (h.n, h.passed)
+pub returns-in-Ok-turns-clause-ok : goal.returns-in-Ok-turns-clause-ok
+returns-in-Ok-turns-clause-ok g c = λ input known. let h = c.in-Ok-turns.ensures.ok input known in (h.n, h.passed)
 
 pub returns-clause-err : goal.returns-clause-err
 returns-clause-err g c = λ input known. record {
-  taken = c.turns-passed.new.board.taken;
+  taken = c.turns.new.board.taken;
   stops = c.in-Err.ensures.err input known;
   number = ap (λ (a : Accounts). a.taken + 1) c.accounts.ensures.totals;
 }

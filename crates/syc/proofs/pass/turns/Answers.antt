@@ -7,8 +7,6 @@ use Rattle.syc.proofs.pass.turns.Goals as goal
 pub loop-init : goal.loop-init
 loop-init g c = record {
   between = c.requires.between;
-  some = c.requires.some;
-  block = c.requires.block;
   room = let none : length c.args.framer.now.left ≡ 0 = ap length c.requires.new in omega (arith, none, c.requires.first);
   first = λ _. refl;
   calls = λ later. absurd (omega (arith, later));
@@ -35,8 +33,6 @@ loop-preserved g c =
     let more = rw c.if-not-branch.false at c.in_ok-turn.ensures in
     record {
       between = more.between refl;
-      some = omega arith;
-      block = omega arith;
       room = omega (arith, more.room refl, c.loop.invariant.room);
       first = λ none. absurd (omega (arith, none));
       calls = λ later. calls_next _ _ _ _ c.loop.invariant.first c.loop.invariant.calls (more.call refl);

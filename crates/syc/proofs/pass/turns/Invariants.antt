@@ -7,8 +7,6 @@ abbrev pub invariant-loop : goal.invariant-loop
 invariant-loop g l =
     record {
       between : IsBetween l.board l.framer;
-      some : 0 < length l.block;
-      block : length l.block ≤ 65536;
       room : l.board.taken + length l.framer.left ≤ l.counter * 65536;
       first : l.counter ≡ 0 → g.R.Source.calls l.reader ≡ g.R.Source.calls l.initial.reader;
       calls : 0 < l.counter → g.R.Source.calls l.reader ≡ count_after (g.R.Source.calls l.initial.reader) l.counter;
