@@ -151,6 +151,25 @@ fn holds_a_message_while_the_queue_is_full(rt: HostRuntime) -> Result<(), Fail> 
 }
 
 #[test]
+fn hands_the_entry_out(rt: HostRuntime) -> Result<(), Fail> {
+    let alloc = rt.alloc();
+    let message = message(alloc)?;
+    let mut board = board(alloc)?;
+    assert!(rt; matches!(board.settle_out(0), Err(BoardFault::NoJob)));
+    for tag in 0..2 {
+        assert!(rt; board.take(0, 0, node(alloc, &message, tag)?).is_ok());
+        assert_eq!(rt; enter(&mut board), Ok(Entry::Entered));
+    }
+    assert_eq!(rt; grab(&rt, &mut board), Ok(2));
+    let Ok(first) = board.settle_out(0) else {
+        return Err(Fail::new("not settled"));
+    };
+    assert_eq!(rt; first.tag(), 0);
+    assert!(rt; matches!(board.job(0), Some(Job::Run { tag: 1, .. })));
+    Ok(())
+}
+
+#[test]
 fn numbers_its_faults(rt: HostRuntime) {
     for (fault, number) in [
         (BoardFault::HandTaken, 81),

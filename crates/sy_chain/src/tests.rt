@@ -62,6 +62,46 @@ fn carries_what_it_was_given(rt: HostRuntime) -> Result<(), Fail> {
     Ok(())
 }
 
+const OTHER: &[u8] = b"<35>1 - - - - - - b";
+
+fn other(alloc: Global) -> Result<Message, Fail> {
+    let raw = match OTHER.to_vec(alloc) {
+        Ok(raw) => raw,
+        Err(_) => OTHER.to_vec(alloc)?,
+    };
+    Message::read(raw).map_err(|_| Fail::new("no message"))
+}
+
+#[test]
+fn carries_another_message(rt: HostRuntime) -> Result<(), Fail> {
+    let mut node = node(rt.alloc(), 9)?;
+    let Ok(bytes) = node.renew(other(rt.alloc())?, 4, 5, 6, 7) else {
+        return Err(Fail::new("not renewed"));
+    };
+    assert_eq!(rt; bytes.as_slice(), RAW);
+    assert_eq!(rt; node.message().raw(), OTHER);
+    assert_eq!(rt; node.list(), 4);
+    assert_eq!(rt; node.input(), 5);
+    assert_eq!(rt; node.due(), 6);
+    assert_eq!(rt; node.tag(), 7);
+    Ok(())
+}
+
+// While its message has another owner, a node keeps it.
+#[test]
+fn keeps_a_shared_message(rt: HostRuntime) -> Result<(), Fail> {
+    let mut node = node(rt.alloc(), 9)?;
+    let owner = Arc::try_clone(node.message())?;
+    let Err(back) = node.renew(other(rt.alloc())?, 4, 5, 6, 7) else {
+        return Err(Fail::new("renewed though shared"));
+    };
+    assert_eq!(rt; back.raw(), OTHER);
+    assert_eq!(rt; owner.raw(), RAW);
+    assert_eq!(rt; node.message().raw(), RAW);
+    assert_eq!(rt; node.due(), 3);
+    Ok(())
+}
+
 #[test]
 fn changes_the_first_due_set(rt: HostRuntime) -> Result<(), Fail> {
     let mut chain = chain(rt.alloc(), [1, 2].as_slice())?;

@@ -1,6 +1,7 @@
 // Frames for several cuttings of one stream, and each fault once.
-use crate::{FrameFault, Framer};
+use crate::{FillFault, FrameFault, Framer, FromRead, Source};
 use std::alloc::Global;
+use std::io::{self, ErrorKind, Read};
 use std::process::Abort;
 use std::test::Fail;
 
@@ -170,4 +171,79 @@ fn gives_two_frames_byte_by_byte(rt: HostRuntime) {
         assert_next(&rt, &mut framer, &TWO_FRAMES[at..at + 1], &mut count);
     }
     assert_eq!(rt; count, 2);
+}
+
+// Gives so many bytes at a read, and fails where there are none.
+#[derive(Drop)]
+struct Pieces<'a> {
+    rest: &'a [u8],
+    size: usize,
+}
+
+impl Read for Pieces<'_> {
+    fn read(&mut self, buf: &mut [u8]) -> io::Result<usize> {
+        let n = self.size.min(buf.len()).min(self.rest.len());
+        if n == 0 {
+            return Err(io::Error::from(ErrorKind::Other));
+        }
+        let (front, rest) = self.rest.split_at(n);
+        buf[..n].copy_from_slice(front);
+        self.rest = rest;
+        Ok(n)
+    }
+}
+
+fn fill<R: Source>(framer: &mut Framer, source: &mut R) -> Result<usize, FillFault> {
+    match framer.fill(source) {
+        Err(FillFault::NoMemory) => framer.fill(source),
+        answer => answer,
+    }
+}
+
+// Reads the stream in pieces of this size, and gives the memory of each frame back.
+fn assert_filled(rt: &impl Abort, alloc: Global, size: usize) {
+    let mut framer = Framer::new(alloc);
+    let mut source = FromRead::new(Pieces { rest: STREAM, size });
+    let mut count = 0;
+    for _ in 0..STREAM.len() {
+        let Ok(_) = fill(&mut framer, &mut source) else {
+            break;
+        };
+        for _ in 0..MESSAGES.len() {
+            let Ok(Some(frame)) = next_frame(&mut framer) else {
+                break;
+            };
+            assert!(rt; count < MESSAGES.len());
+            assert_eq!(rt; frame.as_slice(), MESSAGES[count], "in pieces of {size}");
+            framer.give_back(frame);
+            count += 1;
+        }
+    }
+    assert_eq!(rt; count, MESSAGES.len(), "in pieces of {size}");
+}
+
+#[test]
+fn reads_the_same_frames_for_every_cutting(rt: HostRuntime) {
+    for size in [1, 2, 3, 7, 47, 100] {
+        assert_filled(&rt, rt.alloc(), size);
+    }
+}
+
+#[test]
+fn stays_as_it_was_where_a_read_fails(rt: HostRuntime) {
+    let mut framer = Framer::new(rt.alloc());
+    let mut none = FromRead::new(Pieces { rest: b"", size: 1 });
+    assert_eq!(rt; feed(&mut framer, b"2 a"), Ok(()));
+    assert_eq!(rt; fill(&mut framer, &mut none), Err(FillFault::ReadFailed));
+    let mut source = FromRead::new(Pieces {
+        rest: b"b0",
+        size: 9,
+    });
+    assert_eq!(rt; fill(&mut framer, &mut source), Ok(2));
+    let Ok(Some(frame)) = next_frame(&mut framer) else {
+        panic!(rt; "no frame");
+    };
+    assert_eq!(rt; frame.as_slice(), b"ab".as_slice());
+    assert!(rt; matches!(next_frame(&mut framer), Err(FrameFault::BadLength)));
+    assert_eq!(rt; fill(&mut framer, &mut none), Err(FillFault::Failed));
 }

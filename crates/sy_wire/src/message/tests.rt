@@ -473,3 +473,20 @@ fn bytes_come_back(rt: HostRuntime) -> Result<(), Fail> {
     assert_eq!(rt; fault.offset, 10);
     Ok(())
 }
+
+// A message in the place of another.
+#[test]
+fn takes_the_place_of_another(rt: HostRuntime) -> Result<(), Fail> {
+    let Ok(mut message) = Message::read(joined(rt.alloc(), &[b"<34>1 - - - - - - a"])?) else {
+        return Err("no message")?;
+    };
+    let Ok(other) = Message::read(joined(rt.alloc(), &[b"<9>1 - web - - - - bc"])?) else {
+        return Err("no message")?;
+    };
+    let old = message.replace(other);
+    assert_eq!(rt; old.as_slice(), b"<34>1 - - - - - - a".as_slice());
+    assert_eq!(rt; message.raw(), b"<9>1 - web - - - - bc".as_slice());
+    assert_eq!(rt; message.hostname(), b"web".as_slice());
+    assert_eq!(rt; message.msg(), b"bc".as_slice());
+    Ok(())
+}
