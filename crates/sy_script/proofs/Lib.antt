@@ -13,3 +13,7 @@ pub mod Local
 pub mod LocalItems
 pub mod LocalExpr
 pub mod LocalStmt
+pub mod Balance
+pub mod Told
+pub mod ToldExpr
+pub mod ToldStmt
