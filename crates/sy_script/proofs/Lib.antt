@@ -7,7 +7,6 @@ pub mod Sound
 pub mod SoundExpr
 pub mod SoundStmt
 pub mod Takes
-pub mod Order
 pub mod Places
 pub mod Local
 pub mod LocalItems
@@ -17,3 +16,6 @@ pub mod Balance
 pub mod Told
 pub mod ToldExpr
 pub mod ToldStmt
+pub mod Pieces
+pub mod Cuts
+pub mod FaultsStand

@@ -1,5 +1,5 @@
 -- What stands where reading stops: what is open, and that a token is too deep or begins what is left out.
-use Rattle.std.proofs.Common.{◌≡◌, ◌⊎◌, inl, inr, ◌<◌, ◌≤◌, ℕ, zero, suc, Bool, true, false, cond, List, [], ◌∷◌, ◌++◌, length, Option, Some, None, Ok, Err, refl, sym, ap, ◌∙◌, subst, append_assoc, arith}
+use Rattle.std.proofs.Common.{◌≡◌, inl, inr, ◌<◌, ◌≤◌, ℕ, zero, suc, Bool, true, false, cond, List, [], ◌∷◌, ◌++◌, length, Option, Some, None, Ok, Err, refl, sym, ap, ◌∙◌, subst, append_assoc, arith}
 use Rattle.sy_script.specs.declared.token.Kind.{Kind}
 use Rattle.sy_script.specs.declared.token.Kind.TheVariants as k
 use Rattle.sy_script.specs.declared.token.Token.{Token}
@@ -7,12 +7,12 @@ use Rattle.sy_script.specs.declared.halt.Halt.{Halt}
 use Rattle.sy_script.specs.declared.halt.Halt.TheVariants as halt
 use Rattle.sy_script.specs.declared.tree.Param.{Param}
 use Rattle.sy_script.specs.declared.tree.Span.{Span}
-use Rattle.sy_script.specs.Reading.{Outcome, Parser, Open, and_then, pure, refuse, same_kind, that, first, expect, behind, is_word, is_text, word_of, text_of, word, text, param, turn, items_from, params_in, params}
+use Rattle.sy_script.specs.Reading.{Outcome, Parser, Open, and_then, pure, refuse, same_kind, first, expect, behind, is_word, is_text, word_of, text_of, word, text, param, turn, items_from, params_in, params}
 use Rattle.sy_script.specs.Brackets.{opens, is_bracket, Balanced, IsInnermost}
 use Rattle.sy_script.specs.Faults.{Deepens, BeginsLeftOut}
-use Rattle.sy_script.proofs.Sound.{bind_ok, behind_ok, first_ok, expect_ok, word_ok, text_ok, param_ok, params_ok}
+use Rattle.sy_script.proofs.Sound.{expect_ok, word_ok, param_ok}
 use Rattle.sy_script.proofs.Local.{bind_err}
-use Rattle.sy_script.proofs.Balance.{balanced_on, plain, word_plain, text_plain, params_balanced}
+use Rattle.sy_script.proofs.Balance.{balanced_on, plain, word_plain}
 
 -- what is open behind these tokens, where reading goes on
 pub data IsOpen (ts : List Token) : Open → List Token → Type 0 where
@@ -120,8 +120,8 @@ module _ (bytes : List ℕ) (ts : List Token) {A : Type 0} (close : Kind) (o : O
   items_told (suc n) found us h small is p e =
       let w = turn_cases (behind close us) found _ h e in
       bind_told bytes ts (item us) _ h w.1 (told us h is p) (λ x ok e2.
-          let m = next us x.0 x.1 p ok in
-          items_told n (found ++ x.0 ∷ []) x.1 h (omega (arith, m.2)) (open_on is m.0) m.1 e2)
+      let m = next us x.0 x.1 p ok in
+      items_told n (found ++ x.0 ∷ []) x.1 h (omega (arith, m.2)) (open_on is m.0) m.1 e2)
 
 param_next : (bytes : List ℕ) (o : Open) (us : List Token) (x : Param) (mid : List Token) → Unit {0} → param bytes o us ≡ Ok (x, mid) → Balanced us mid × Unit {0} × (length mid < length us)
 param_next bytes o us x mid u h =

@@ -1,24 +1,23 @@
 -- What stands where the reading of an expression stops.
-use Rattle.std.proofs.Common.{◌≡◌, ◌⊎◌, inl, inr, ◌<◌, ◌≤◌, ℕ, zero, suc, Bool, true, false, cond, List, [], ◌∷◌, ◌++◌, length, Option, Some, None, Ok, Err, refl, sym, ap, ◌∙◌, subst, arith}
+use Rattle.std.proofs.Common.{◌≡◌, ℕ, zero, suc, Bool, true, false, List, [], ◌∷◌, ◌++◌, length, Option, Some, None, Ok, Err, refl, ap, subst}
 use Rattle.std.specs.Prelude.{is_some}
 use Rattle.sy_script.specs.declared.token.Kind.{Kind}
 use Rattle.sy_script.specs.declared.token.Kind.TheVariants as k
 use Rattle.sy_script.specs.declared.token.Token.{Token}
 use Rattle.sy_script.specs.declared.halt.Halt.{Halt}
-use Rattle.sy_script.specs.declared.halt.Halt.TheVariants as halt
 use Rattle.sy_script.specs.declared.tree.Operator.{Operator}
 use Rattle.sy_script.specs.declared.tree.Operand.{Operand}
 use Rattle.sy_script.specs.declared.tree.ExprTree.{ExprTree}
-use Rattle.sy_script.specs.Reading.{Outcome, Parser, Open, and_then, pure, refuse, first, expect, behind, text}
+use Rattle.sy_script.specs.Reading.{Parser, Open, and_then, first, expect, behind, text}
 use Rattle.sy_script.specs.ReadingExpr.{operator_of, operand_by, operand, compared_by, comparison, prifilt, Level, unit_by, unit_at, part_behind, chain_from, chain_at, joined_by, expr_at, group_at, negated_by, negation_at, level, expr}
 use Rattle.sy_script.specs.Grammar as g
 use Rattle.sy_script.specs.Brackets.{opens, is_bracket, Balanced}
 use Rattle.sy_script.specs.Standing.{is_joint, ExprPlace, UnitPlace, JointPlace, GroupPlace}
 use Rattle.sy_script.specs.Faults.{Deepens}
-use Rattle.sy_script.proofs.Sound.{bind_ok, behind_ok, first_ok, expect_ok, text_ok, move}
+use Rattle.sy_script.proofs.Sound.{behind_ok, first_ok, expect_ok, text_ok, move}
 use Rattle.sy_script.proofs.SoundExpr.{unit_ok, expr_ok, level_ok}
-use Rattle.sy_script.proofs.Balance.{plain, operator_plain, text_plain, unit_balanced, expr_balanced}
-use Rattle.sy_script.proofs.Told.{IsOpen, open_on, open_in, open_plain, open_as, Told, told_as, bind_told, pure_told, first_told, expect_told, text_told, expect_open}
+use Rattle.sy_script.proofs.Balance.{operator_plain, text_plain, unit_balanced, expr_balanced}
+use Rattle.sy_script.proofs.Told.{IsOpen, open_on, open_in, open_plain, open_as, Told, told_as, bind_told, pure_told, first_told, expect_told, text_told}
 
 module _ (bytes : List ℕ) (ts : List Token) where
   operand_by_told : (kind : Kind) (t : Token) (us : List Token) (h : Halt) → operand_by bytes kind t us ≡ Err h → Told bytes ts h

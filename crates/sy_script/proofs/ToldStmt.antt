@@ -1,23 +1,22 @@
 -- What stands where the reading of statements and files stops.
-use Rattle.std.proofs.Common.{◌≡◌, ◌⊎◌, inl, inr, ◌<◌, ◌≤◌, ℕ, zero, suc, Bool, true, false, cond, List, [], ◌∷◌, ◌++◌, length, Option, Some, None, Result, Ok, Err, refl, sym, ap, ◌∙◌, subst, arith}
+use Rattle.std.proofs.Common.{◌≡◌, ◌<◌, ℕ, zero, suc, Bool, true, false, List, [], ◌∷◌, ◌++◌, length, Option, Some, None, Result, Ok, Err, refl, sym, ap, subst, arith}
 use Rattle.sy_script.specs.declared.token.Kind.{Kind}
 use Rattle.sy_script.specs.declared.token.Kind.TheVariants as k
 use Rattle.sy_script.specs.declared.token.Token.{Token}
 use Rattle.sy_script.specs.declared.halt.Halt.{Halt}
-use Rattle.sy_script.specs.declared.halt.Halt.TheVariants as halt
 use Rattle.sy_script.specs.declared.tree.ExprTree.{ExprTree}
 use Rattle.sy_script.specs.declared.tree.ObjectKind.{ObjectKind}
 use Rattle.sy_script.specs.declared.tree.Block.{Block}
 use Rattle.sy_script.specs.declared.tree.Stmt.{Stmt}
 use Rattle.sy_script.specs.declared.tree.Top.{Top}
-use Rattle.sy_script.specs.Reading.{Outcome, Parser, Open, and_then, pure, refuse, same_kind, first, expect, behind, word, params}
+use Rattle.sy_script.specs.Reading.{Outcome, Open, same_kind, first, expect, behind, word, params}
 use Rattle.sy_script.specs.ReadingExpr.{expr}
-use Rattle.sy_script.specs.ReadingStmt.{max_depth, refusal_by, refusal, too_deep_by, too_deep, otherwise_by, choice_at, stmt_by, stmt_at, body_at, block_by, block, stmt, body, object_kind, rules, other_top, top_by, top, tops_then, tops_from, tops}
+use Rattle.sy_script.specs.ReadingStmt.{max_depth, refusal_by, refusal, too_deep_by, otherwise_by, choice_at, stmt_by, stmt_at, body_at, block_by, block, stmt, body, object_kind, rules, other_top, top_by, top, tops_then, tops_from, tops}
 use Rattle.sy_script.specs.Grammar as g
-use Rattle.sy_script.specs.Brackets.{opens, is_bracket, Balanced}
+use Rattle.sy_script.specs.Brackets.{opens, Balanced}
 use Rattle.sy_script.specs.Standing.{TopPlace, StmtPlace, BodyPlace, BlockPlace, ExprPlace}
 use Rattle.sy_script.specs.Faults.{begins_block, is_left_out, Deepens, BeginsLeftOut}
-use Rattle.sy_script.proofs.Takes.{stmt_takes, top_takes}
+use Rattle.sy_script.proofs.Takes.{stmt_takes}
 use Rattle.sy_script.proofs.Sound.{first_ok, expect_ok, behind_ok, kind_is, params_ok, move}
 use Rattle.sy_script.proofs.SoundExpr.{whole_ok}
 use Rattle.sy_script.proofs.SoundStmt.{stmt_ok, block_ok, top_ok}
@@ -72,7 +71,7 @@ module _ (bytes : List ℕ) (ts : List Token) where
         bind_told bytes ts (block bytes left o w.1) _ h e3 (deep.told o w.1 h (BlockPlace.done place same test2 t.1) is3) (λ d ok3 e4.
         let done : g.BlockAt bytes left d.0 w.1 d.1 = block_ok bytes left o w.1 d ok3 in
         otherwise_told o x.0 d.0 (behind k.Else d.1) d.1 h refl (open_on is3 (block_balanced done))
-            (λ v after at is_else. BlockPlace.otherwise place same test2 t.1 (move (g.BlockAt bytes left) refl refl at done) is_else) e4)))
+        (λ v after at is_else. BlockPlace.otherwise place same test2 t.1 (move (g.BlockAt bytes left) refl refl at done) is_else) e4)))
 
     stmt_by_told : (o : Open) (kind : Kind) (t : Token) (us : List Token) (h : Halt) → t.kind ≡ kind → StmtPlace bytes ts left (t ∷ us) → IsOpen ts o (t ∷ us) → stmt_by bytes left (block bytes left) o kind t us ≡ Err h → Told bytes ts h
     stmt_by_told o k.Action t us h same place is e = bind_told bytes ts (params bytes o us) _ h e (params_told bytes ts o us h (open_plain t us is same refl)) (λ x ok. pure_told bytes ts _ x.1 h)
@@ -101,18 +100,22 @@ module _ (bytes : List ℕ) (ts : List Token) where
         let brace : t.kind ≡ k.LeftBrace = kind_is _ _ is_brace in
         let P : List Token → Type 0 = λ v. BlockPlace bytes ts (suc left) v in
         bind_told bytes ts (body_at bytes left (block bytes left) (Some t.span.start) after) _ h e
-            (body_told (Some t.span.start) after h (open_in t after (open_as at is) (ap opens brace)) (BodyPlace.braced (subst P at place) brace)) (λ x ok. pure_told bytes ts _ x.1 h)
+        (body_told (Some t.span.start) after h (open_in t after (open_as at is) (ap opens brace)) (BodyPlace.braced (subst P at place) brace)) (λ x ok. pure_told bytes ts _ x.1 h)
     block_by_told o false t after us h is_brace at place is e =
         bind_told bytes ts (stmt_at bytes left (block bytes left) o us) _ h e (stmt_told o us h is (StmtPlace.single place)) (λ x ok. pure_told bytes ts _ x.1 h)
 
   blocks_told : (left : ℕ) → Blocks left
   unfolding block
-  blocks_told zero = record { told = λ o us h place is e. bind_told bytes ts (first o us) _ h e (first_told bytes ts o us h is) (λ x ok e2.
-      let P : List Token → Type 0 = λ v. BlockPlace bytes ts 0 v in
-      let at : BlockPlace bytes ts 0 (x.0 ∷ x.1) = subst P (first_ok o us x ok) place in
-      told_as bytes ts {A = Block} e2 (deep_told x.0.kind x.0 (λ begins. Deepens.block at begins) (left_out_block 0 x.0 x.1 at))) }
-  blocks_told (suc left) = record { told = λ o us h place is e. bind_told bytes ts (first o us) _ h e (first_told bytes ts o us h is) (λ x ok e2.
-      block_by_told left (blocks_told left) o (same_kind x.0.kind k.LeftBrace) x.0 x.1 us h refl (first_ok o us x ok) place is e2) }
+  blocks_told zero = record {
+    told = λ o us h place is e. bind_told bytes ts (first o us) _ h e (first_told bytes ts o us h is) (λ x ok e2.
+        let P : List Token → Type 0 = λ v. BlockPlace bytes ts 0 v in
+        let at : BlockPlace bytes ts 0 (x.0 ∷ x.1) = subst P (first_ok o us x ok) place in
+        told_as bytes ts {A = Block} e2 (deep_told x.0.kind x.0 (λ begins. Deepens.block at begins) (left_out_block 0 x.0 x.1 at)));
+  }
+  blocks_told (suc left) = record {
+    told = λ o us h place is e. bind_told bytes ts (first o us) _ h e (first_told bytes ts o us h is) (λ x ok e2.
+        block_by_told left (blocks_told left) o (same_kind x.0.kind k.LeftBrace) x.0 x.1 us h refl (first_ok o us x ok) place is e2);
+  }
 
   whole_stmt_told : (us : List Token) (h : Halt) → IsOpen ts None us → TopPlace bytes ts us → stmt bytes max_depth None us ≡ Err h → Told bytes ts h
   unfolding stmt

@@ -1,5 +1,5 @@
 -- What each fault of a script is, and where it stands. Offsets count bytes from 0.
-use Rattle.std.specs.Prelude.{◌≡◌, ◌<◌, ◌⊎◌, ℕ, ◌+◌, ◌==◌, ◌||◌, Bool, true, false, List, [], ◌∷◌, ◌++◌, length, take}
+use Rattle.std.specs.Prelude.{◌≡◌, ◌<◌, ℕ, ◌+◌, ◌==◌, ◌||◌, Bool, true, false, List, [], ◌∷◌, ◌++◌, length, take}
 use Rattle.std.specs.List.{slice_range}
 use Rattle.std.specs.Char.{is_ascii_digit}
 use Rattle.sy_script.specs.declared.token.Kind.{Kind}

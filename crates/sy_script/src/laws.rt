@@ -1,15 +1,15 @@
 //! Laws of the grammar.
 
-ghost use Rattle.std.specs.Prelude.{◌≡◌, ℕ, List, length, Err};
+ghost use Rattle.std.specs.Prelude.{◌≡◌, ℕ, List, Err};
 ghost use Rattle.sy_script.specs.Answer as answer;
 ghost use Rattle.sy_script.specs.DeadEnd.{AtToken, IsDeadEnd};
 ghost use Rattle.sy_script.specs.Grammar.{IsScript};
 ghost use Rattle.sy_script.specs.ReadingStmt.{tops};
 ghost use Rattle.sy_script.specs.declared.token.Token.{Token};
 ghost use Rattle.sy_script.specs.declared.halt.Halt.{Halt};
-ghost use Rattle.sy_script.specs.Lex as spec;
 ghost use Rattle.sy_script.specs.Place.{IsPlace};
 ghost use Rattle.sy_script.specs.Spans.{InOrder};
+ghost use Rattle.sy_script.specs.Tokens.{AreTokens, Cut};
 ghost use Rattle.sy_script.specs.declared.tree.Script.{Script};
 
 /// One text, one tree.
@@ -17,9 +17,14 @@ pub fn one_tree()
     ensures { (text : List ℕ) (a b : Script) → IsScript text a → IsScript text b → a ≡ b }
 {}
 
-/// The spans of a text's tokens are in order, and within the text.
+/// A text is cut into tokens in one way.
+pub fn one_cutting()
+    ensures { (text : List ℕ) (a b : List Token) → AreTokens text a → AreTokens text b → a ≡ b }
+{}
+
+/// The spans of a text's tokens are in order, and within what was cut.
 pub fn spans_in_order()
-    ensures { (text : List ℕ) → InOrder 0 (spec.tokens text).0 (length text) }
+    ensures { (text : List ℕ) (ts : List Token) (end : ℕ) (rest : List ℕ) → Cut 0 text ts end rest → InOrder 0 ts end }
 {}
 
 /// The line is one more than the line feeds before a place, the column one more than the bytes behind the last of them.

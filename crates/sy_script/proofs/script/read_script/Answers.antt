@@ -1,6 +1,7 @@
 use Rattle.std.proofs.Common.{arith}
 use Rattle.sy_script.proofs.SoundStmt.{reading_ok}
 use Rattle.sy_script.proofs.ReadBackStmt.{script_reads}
+use Rattle.sy_script.proofs.FaultsStand.{found_stands}
 use Rattle.sy_script.proofs.script.read_script.Goals as goal
 
 pub returns-in-Ok-clause-found : goal.returns-in-Ok-clause-found
@@ -17,3 +18,6 @@ returns-in_default-clause-only c script is =
     let read = script_reads c.args.text.now script is in
     let stopped = c.in-Err.ensures c.in_default.not-NoMemory in
     absurd (cc (read, stopped))
+
+pub returns-in_default-clause-there : goal.returns-in_default-clause-there
+returns-in_default-clause-there c = found_stands c.args.text.now c.in-Err.fault c.located.result (c.in-Err.ensures c.in_default.not-NoMemory) c.in_default.not-NoMemory c.located.ensures
