@@ -19,3 +19,4 @@ pub mod ToldStmt
 pub mod Pieces
 pub mod Cuts
 pub mod FaultsStand
+pub mod Depths

@@ -12,3 +12,4 @@ pub mod Tokens
 pub mod Brackets
 pub mod Standing
 pub mod Faults
+pub mod Depth
