@@ -1,8 +1,9 @@
 -- The tokens that the machine finds are those of the pieces into which the text is cut.
-use Rattle.std.proofs.Common.{◌≡◌, ◌≢◌, inl, inr, ◌<◌, ◌≤◌, ℕ, zero, suc, ◌+◌, Bool, true, false, cond, List, [], ◌∷◌, ◌++◌, length, Option, Some, None, Ok, Err, refl, sym, ap, ◌∙◌, subst, append_assoc, append-nil, arith, length-append}
+use Rattle.std.proofs.Common.{◌≡◌, ◌≢◌, inl, inr, ◌<◌, ◌≤◌, ℕ, zero, suc, ◌+◌, Bool, true, false, cond, List, [], ◌∷◌, ◌++◌, length, take, Option, Some, None, Ok, Err, refl, sym, ap, ◌∙◌, subst, append_assoc, append-nil, arith, length-append}
 use Rattle.std.specs.Prelude.{◌==◌}
 use Rattle.std.specs.Char.{is_ascii_digit}
 use Rattle.std.proofs.lemmas.Bool.{false≢true}
+use Rattle.std.proofs.Math.Seq.{take-append_seam}
 use Rattle.std.proofs.lemmas.Bool.Decides.{eqb_tells}
 use Rattle.sy_script.specs.declared.token.Kind.{Kind}
 use Rattle.sy_script.specs.declared.token.Kind.TheVariants as k
@@ -442,3 +443,22 @@ pub cut_in_order : {at : ℕ} {bytes : List ℕ} {ts : List Token} {end : ℕ} {
 cut_in_order Cut.none low h = h
 cut_in_order (Cut.piece {at = at} {kind = None} {bytes = bytes} p c) low h = cut_in_order c low (omega arith)
 cut_in_order (Cut.piece {at = at} {kind = Some kind} {bytes = bytes} p c) low h = (h, omega (arith, some_bytes p), cut_in_order c (at + length bytes) (omega arith))
+
+-- the bytes at a place begin with one token
+pub one_token : (a b : Kind) (p q rest left : List ℕ) → PieceAt (Some a) p rest → PieceAt (Some b) q left → p ++ rest ≡ q ++ left → (a ≡ b) × (p ≡ q)
+one_token a b p q rest left x y e =
+    let text : List ℕ = p ++ rest in
+    let t : Token = record { kind = a; span = record { start = 0; end = 0 + length p } } in
+    let u : Token = record { kind = b; span = record { start = 0; end = 0 + length q } } in
+    let l : Lexing = tokens_from text s.Between (0 + length p) rest in
+    let m : Lexing = tokens_from text s.Between (0 + length q) left in
+    let one : tokens_from text s.Between 0 (p ++ rest) ≡ follow (Some t) l = piece_reads text [] 0 refl refl x in
+    let two : tokens_from text s.Between 0 (q ++ left) ≡ follow (Some u) m = piece_reads text [] 0 e refl y in
+    let all : follow (Some t) l ≡ follow (Some u) m = sym one ∙ (ap (λ bytes. tokens_from text s.Between 0 bytes) e ∙ two) in
+    let same : t ≡ u = first_token (ap (λ (v : Lexing). v.0) all) in
+    let ends_at : 0 + length p ≡ 0 + length q = ap (λ (v : Token). v.span.end) same in
+    let long : length p ≡ length q = omega (arith, ends_at) in
+    (ap (λ (v : Token). v.kind) same, sym (take-append_seam p rest) ∙ (ap (λ n. take n (p ++ rest)) long ∙ (ap (λ bytes. take (length q) bytes) e ∙ take-append_seam q left)))
+  where
+    first_token : {t u : Token} {ts us : List Token} → t ∷ ts ≡ u ∷ us → t ≡ u
+    first_token h = cc

@@ -1,22 +1,28 @@
 //! Laws of the grammar.
 
-ghost use Rattle.std.specs.Prelude.{◌≡◌, ◌≤◌, ◌↔◌, ℕ, List, Err};
+ghost use Rattle.std.specs.Prelude.{◌≡◌, ◌≤◌, ◌↔◌, ℕ, List, ◌++◌, Some, Err};
 ghost use Rattle.sy_script.specs.Answer as answer;
 ghost use Rattle.sy_script.specs.DeadEnd.{AtToken, IsDeadEnd};
 ghost use Rattle.sy_script.specs.Depth.{stmt_depth};
 ghost use Rattle.sy_script.specs.Grammar.{IsScript, StmtAt};
 ghost use Rattle.sy_script.specs.ReadingStmt.{tops};
+ghost use Rattle.sy_script.specs.declared.token.Kind.{Kind};
 ghost use Rattle.sy_script.specs.declared.token.Token.{Token};
 ghost use Rattle.sy_script.specs.declared.halt.Halt.{Halt};
 ghost use Rattle.sy_script.specs.Place.{IsPlace};
 ghost use Rattle.sy_script.specs.Spans.{InOrder};
-ghost use Rattle.sy_script.specs.Tokens.{AreTokens, Cut};
+ghost use Rattle.sy_script.specs.Tokens.{AreTokens, Cut, PieceAt};
 ghost use Rattle.sy_script.specs.declared.tree.Script.{Script};
 ghost use Rattle.sy_script.specs.declared.tree.Stmt.{Stmt};
 
 /// One text, one tree.
 pub fn one_tree()
     ensures { (text : List ℕ) (a b : Script) → IsScript text a → IsScript text b → a ≡ b }
+{}
+
+/// The bytes at a place begin with one token, so none that is longer or shorter.
+pub fn one_token()
+    ensures { (a b : Kind) (p q rest left : List ℕ) → PieceAt (Some a) p rest → PieceAt (Some b) q left → p ++ rest ≡ q ++ left → (a ≡ b) × (p ≡ q) }
 {}
 
 /// A text is cut into tokens in one way.
