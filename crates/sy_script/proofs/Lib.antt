@@ -7,9 +7,16 @@ pub mod Sound
 pub mod SoundExpr
 pub mod SoundStmt
 pub mod Takes
-pub mod Order
 pub mod Places
 pub mod Local
 pub mod LocalItems
 pub mod LocalExpr
 pub mod LocalStmt
+pub mod Balance
+pub mod Told
+pub mod ToldExpr
+pub mod ToldStmt
+pub mod Pieces
+pub mod Cuts
+pub mod FaultsStand
+pub mod Depths

@@ -15,12 +15,13 @@ use Rattle.sy_script.specs.declared.tree.Top.{Top}
 use Rattle.sy_script.specs.declared.tree.Top.TheVariants as t
 use Rattle.sy_script.specs.declared.tree.Script.{Script}
 use Rattle.sy_script.specs.declared.script.Fault.{Fault}
-use Rattle.sy_script.specs.Lex.{tokens}
+use Rattle.sy_script.specs.Lex.{Lexing}
 use Rattle.sy_script.specs.Reading.{Outcome, Parser, Open, and_then, same_kind, first, expect, behind, word, turn, items_from, params}
 use Rattle.sy_script.specs.ReadingExpr.{expr}
 use Rattle.sy_script.specs.ReadingStmt.{max_depth, otherwise_by, choice_at, stmt_by, stmt_at, body_at, block_by, block, stmt, body, object_kind, rules, other_top, top_by, top, tops_then, tops_from, tops}
 use Rattle.sy_script.specs.Answer.{ended, reading}
 use Rattle.sy_script.specs.Grammar as g
+use Rattle.sy_script.proofs.Cuts.{are_tokens}
 use Rattle.sy_script.proofs.Takes.{stmt_takes, top_takes}
 use Rattle.sy_script.proofs.ReadBack.{then_reads, expect_reads, behind_reads, behind_other, same_is, word_reads, params_reads}
 use Rattle.sy_script.proofs.ReadBackExpr.{whole_reads, then_no_joint}
@@ -228,7 +229,7 @@ tops_reads {bytes} {xs} {ts} d = tops_from_reads (length ts) [] (omega arith) d
 pub script_reads : (text : List ℕ) (script : Script) → g.IsScript text script → reading text ≡ Ok script
 unfolding reading
 script_reads text script is =
-    ap (λ end. ended (length text) end (tops text (tokens text).0)) is.complete ∙ ap (ended (length text) ending.Complete) (tops_reads is.tree)
+    ap (λ (l : Lexing). ended (length text) l.1 (tops text l.0)) (are_tokens text is.tokens is.are_tokens) ∙ ap (ended (length text) ending.Complete) (tops_reads is.tree)
 
 -- one text, one tree
 pub one_tree : (text : List ℕ) (a b : Script) → g.IsScript text a → g.IsScript text b → a ≡ b

@@ -24,6 +24,7 @@ use Rattle.sy_script.specs.Grammar as g
 use Rattle.sy_script.proofs.Sound.{bind_ok, ok_is, pure_ok, kind_is, first_ok, expect_ok, behind_ok, word_ok, params_ok, turn_ok, move}
 use Rattle.sy_script.proofs.SoundExpr.{whole_ok}
 use Rattle.sy_script.proofs.Takes.{top_takes}
+use Rattle.sy_script.proofs.Cuts.{whole_cut}
 
 -- ---- statements, where blocks are in the grammar
 
@@ -190,4 +191,4 @@ pub reading_ok : (text : List ℕ) (script : Script) → length text ≤ max_tex
 unfolding reading
 reading_ok text script small h =
     let w = ended_ok text (tokens text).1 _ script h in
-    record { small = small; complete = w.0; tree = tops_ok text (tokens text).0 script.tops w.1 }
+    record { small = small; tokens = (tokens text).0; are_tokens = whole_cut text w.0; tree = tops_ok text (tokens text).0 script.tops w.1 }

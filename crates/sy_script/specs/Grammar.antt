@@ -4,7 +4,6 @@ use Rattle.std.specs.Prelude.{◌≡◌, ◌≤◌, ℕ, suc, true, List, [], �
 use Rattle.sy_script.specs.declared.token.Kind.{Kind}
 use Rattle.sy_script.specs.declared.token.Kind.TheVariants as k
 use Rattle.sy_script.specs.declared.token.Token.{Token}
-use Rattle.sy_script.specs.declared.token.Ending.TheVariants as ending
 use Rattle.sy_script.specs.declared.tree.Param.{Param}
 use Rattle.sy_script.specs.declared.tree.Operator.{Operator}
 use Rattle.sy_script.specs.declared.tree.Operand.{Operand}
@@ -19,7 +18,7 @@ use Rattle.sy_script.specs.declared.tree.Stmt.TheVariants as s
 use Rattle.sy_script.specs.declared.tree.Top.{Top}
 use Rattle.sy_script.specs.declared.tree.Top.TheVariants as t
 use Rattle.sy_script.specs.declared.tree.Script.{Script}
-use Rattle.sy_script.specs.Lex.{tokens}
+use Rattle.sy_script.specs.Tokens.{AreTokens}
 use Rattle.sy_script.specs.Reading.{is_word, is_text, word_of, text_of, behind}
 use Rattle.sy_script.specs.ReadingExpr.{operator_of}
 use Rattle.sy_script.specs.ReadingExpr as reading
@@ -114,8 +113,9 @@ pub data TopsAt (text : List ℕ) : List Top → List Token → Type 0 where
   none : TopsAt text [] []
   more : {x : Top} {xs : List Top} {ts mid : List Token} → TopAt text x ts mid → TopsAt text xs mid → TopsAt text (x ∷ xs) ts
 
--- the text is a script, with this tree
+-- the text is a script, with this tree: it has at most 1 MiB, it is cut into tokens to its end, and the tree has those
 pub record IsScript (text : List ℕ) (script : Script) : Type 0 where
   pub small : length text ≤ max_text
-  pub complete : (tokens text).1 ≡ ending.Complete
-  pub tree : TopsAt text script.tops (tokens text).0
+  pub tokens : List Token
+  pub are_tokens : AreTokens text tokens
+  pub tree : TopsAt text script.tops tokens

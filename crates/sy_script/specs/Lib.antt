@@ -8,3 +8,8 @@ pub mod Grammar
 pub mod Spans
 pub mod Place
 pub mod DeadEnd
+pub mod Tokens
+pub mod Brackets
+pub mod Standing
+pub mod Faults
+pub mod Depth

@@ -1,25 +1,43 @@
 //! Laws of the grammar.
 
-ghost use Rattle.std.specs.Prelude.{◌≡◌, ℕ, List, length, Err};
+ghost use Rattle.std.specs.Prelude.{◌≡◌, ◌≤◌, ◌↔◌, ℕ, List, ◌++◌, Some, Err};
 ghost use Rattle.sy_script.specs.Answer as answer;
 ghost use Rattle.sy_script.specs.DeadEnd.{AtToken, IsDeadEnd};
-ghost use Rattle.sy_script.specs.Grammar.{IsScript};
+ghost use Rattle.sy_script.specs.Depth.{stmt_depth};
+ghost use Rattle.sy_script.specs.Grammar.{IsScript, StmtAt};
 ghost use Rattle.sy_script.specs.ReadingStmt.{tops};
+ghost use Rattle.sy_script.specs.declared.token.Kind.{Kind};
 ghost use Rattle.sy_script.specs.declared.token.Token.{Token};
 ghost use Rattle.sy_script.specs.declared.halt.Halt.{Halt};
-ghost use Rattle.sy_script.specs.Lex as spec;
 ghost use Rattle.sy_script.specs.Place.{IsPlace};
 ghost use Rattle.sy_script.specs.Spans.{InOrder};
+ghost use Rattle.sy_script.specs.Tokens.{AreTokens, Cut, PieceAt};
 ghost use Rattle.sy_script.specs.declared.tree.Script.{Script};
+ghost use Rattle.sy_script.specs.declared.tree.Stmt.{Stmt};
 
 /// One text, one tree.
 pub fn one_tree()
     ensures { (text : List ℕ) (a b : Script) → IsScript text a → IsScript text b → a ≡ b }
 {}
 
-/// The spans of a text's tokens are in order, and within the text.
+/// The bytes at a place begin with one token, so none that is longer or shorter.
+pub fn one_token()
+    ensures { (a b : Kind) (p q rest left : List ℕ) → PieceAt (Some a) p rest → PieceAt (Some b) q left → p ++ rest ≡ q ++ left → (a ≡ b) × (p ≡ q) }
+{}
+
+/// A text is cut into tokens in one way.
+pub fn one_cutting()
+    ensures { (text : List ℕ) (a b : List Token) → AreTokens text a → AreTokens text b → a ≡ b }
+{}
+
+/// The spans of a text's tokens are in order, and within what was cut.
 pub fn spans_in_order()
-    ensures { (text : List ℕ) → InOrder 0 (spec.tokens text).0 (length text) }
+    ensures { (text : List ℕ) (ts : List Token) (end : ℕ) (rest : List ℕ) → Cut 0 text ts end rest → InOrder 0 ts end }
+{}
+
+/// How much deeper the grammar lets a statement nest is how deep the statement's tree is: where it may stand at all, it stands wherever its depth has room, and only there.
+pub fn depths()
+    ensures { (text : List ℕ) (left n : ℕ) (x : Stmt) (ts rest : List Token) → StmtAt text left x ts rest → StmtAt text n x ts rest ↔ (stmt_depth x ≤ n) }
 {}
 
 /// The line is one more than the line feeds before a place, the column one more than the bytes behind the last of them.

@@ -3,6 +3,8 @@
 ghost use Rattle.std.specs.Prelude.{◌≡◌, ◌≤◌, ◌<◌, ◌^◌, length, IfErr, IfOk};
 ghost use Rattle.sy_script.specs.Answer as spec;
 ghost use Rattle.sy_script.specs.Answer.{Answers};
+ghost use Rattle.sy_script.specs.Depth.{depth};
+ghost use Rattle.sy_script.specs.Faults.{Stands};
 ghost use Rattle.sy_script.specs.Grammar.{IsScript};
 ghost use Rattle.sy_script.specs.declared.tree.Script.{Script};
 
@@ -133,6 +135,10 @@ pub fn read_script(alloc: Global, text: &[u8]) -> Result<Script, ScriptFault>
     ensures found { IfOk result (λ script. IsScript text.now script) }
     // A script is read, with each tree that it has, unless memory runs out.
     ensures only { (script : Script) → IsScript text.now script → spec.IsRead script result }
+    // It nests at most 32 deep.
+    ensures shallow { IfOk result (λ script. depth script ≤ 32) }
+    // A fault is there, in its line and column, and with its word.
+    ensures there { IfErr result (λ f. Stands text.now f) }
     ensures exact { Answers text.now result }
     ensures memory { IfErr result (λ f. f.code ≡ FaultCode.NoMemory → f ≡ spec.no_memory) }
 {

@@ -1,6 +1,6 @@
 //! What RainerScript has and this profile leaves out.
 
-use super::show::refused;
+use super::show::{read_as, refused};
 use std::test::Fail;
 
 #[test]
@@ -115,5 +115,78 @@ fn expressions_and_lines(rt: HostRuntime) -> Result<(), Fail> {
     );
     // A size suffix outside a string is a word of its own.
     refused(&rt, alloc, b"if $msg == 1k then stop", 23, (1, 13), b"");
+    Ok(())
+}
+
+#[test]
+fn chains_and_not(rt: HostRuntime) -> Result<(), Fail> {
+    let alloc = rt.alloc();
+    // `and` and `or` in one chain, without parentheses.
+    let text = b"if $a == 1 and $b == 2 or $c == 3 then stop";
+    refused(&rt, alloc, text, 23, (1, 24), b"");
+    let text = b"if prifilt('a') or $b == 2 and $c == 3 then stop";
+    refused(&rt, alloc, text, 23, (1, 28), b"");
+    // `not` before a bare comparison.
+    refused(&rt, alloc, b"if not $a == 1 then stop", 23, (1, 8), b"");
+    // A function of RainerScript is a word, and stands nowhere in an expression.
+    refused(
+        &rt,
+        alloc,
+        b"if strlen($msg) > 1 then stop",
+        23,
+        (1, 4),
+        b"",
+    );
+    Ok(())
+}
+
+#[test]
+fn directives(rt: HostRuntime) -> Result<(), Fail> {
+    let alloc = rt.alloc();
+    let text = b"$IncludeConfig /etc/rsyslog.d/*.conf";
+    refused(&rt, alloc, text, 26, (1, 1), b"$IncludeConfig");
+    let text = b"stop\n$template t,\"%msg%\"";
+    refused(&rt, alloc, text, 26, (2, 1), b"$template");
+    let text = b"template(name=\"t\" type=\"string\" string=\"%msg%\")";
+    refused(&rt, alloc, text, 26, (1, 1), b"template");
+    let text = b"ruleset(name=\"a\") { include(file=\"b\") }";
+    refused(&rt, alloc, text, 26, (1, 21), b"include");
+    Ok(())
+}
+
+// These are words, numbers and strings to the grammar. What reads rules out of the tree refuses them, by its tables of
+// operators, properties and parameters.
+#[test]
+fn left_to_the_rules(rt: HostRuntime) -> Result<(), Fail> {
+    let alloc = rt.alloc();
+    // Operators that aren't known: as an operator of expressions.
+    let text = b"if $msg contains_i 'a' then stop";
+    read_as(&rt, alloc, text, b"[if $msg contains_i <a> [stop]]")?;
+    let text = b"if $msg startswith_i 'a' then stop";
+    read_as(&rt, alloc, text, b"[if $msg startswith_i <a> [stop]]")?;
+    let text = b"if $msg regex '^a' then stop";
+    read_as(&rt, alloc, text, b"[if $msg regex <^a> [stop]]")?;
+    // A property that isn't known.
+    let text = b"if $fromhost-ip == '::1' then stop";
+    read_as(&rt, alloc, text, b"[if $fromhost-ip == <::1> [stop]]")?;
+    // A number as a facility: as a selector.
+    let text = b"if prifilt('4.info') then stop";
+    read_as(&rt, alloc, text, b"[if <4.info> [stop]]")?;
+    // A size suffix, a queue of type Direct and a module: as values of parameters.
+    let text = b"main_queue(queue.type=\"Direct\" queue.size=\"10k\")";
+    let tree = b"[main_queue queue.type=<Direct> queue.size=<10k>]";
+    read_as(&rt, alloc, text, tree)?;
+    let text = b"ruleset(name=\"a\" queue.type=\"Direct\"){}";
+    let tree = b"[ruleset name=<a> queue.type=<Direct> {}]";
+    read_as(&rt, alloc, text, tree)?;
+    let text = b"module(load=\"imudp\")";
+    read_as(&rt, alloc, text, b"[module load=<imudp>]")?;
+    // Parameters that aren't known: rate limits, files by template, actions that wait for another to fail.
+    let text = b"input(type=\"imtcp\" RateLimit.Interval=\"5\")";
+    let tree = b"[input type=<imtcp> RateLimit.Interval=<5>]";
+    read_as(&rt, alloc, text, tree)?;
+    let text = b"action(dynaFile=\"t\" action.execOnlyWhenPreviousIsSuspended=\"on\")";
+    let tree = b"[action dynaFile=<t> action.execOnlyWhenPreviousIsSuspended=<on>]";
+    read_as(&rt, alloc, text, tree)?;
     Ok(())
 }

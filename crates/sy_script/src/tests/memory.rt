@@ -32,3 +32,29 @@ fn runs_out_at_a_word(rt: HostRuntime) -> Result<(), Fail> {
     }
     Ok(())
 }
+
+// Every construct: each object, rulesets, calls, actions, both kinds of blocks, `else`, both chains, `not`, parentheses,
+// `prifilt`, each operator, both operands, escapes and comments.
+const WHOLE: &[u8] = b"# all of it
+module(load=\"imtcp\") global(workDirectory=\"/var\") main_queue(queue.size=\"1\") /* and */
+input(type=\"imtcp\" port=\"1\")
+ruleset(name=\"a\") {
+  if $msg == 'x' and $msg != \"y\" and not ($msgid contains 'z') then stop
+  else if $syslogseverity < 1 or $syslogseverity <= 2 or ($syslogfacility > 3) then { call b stop }
+  else action(type=\"omfile\" file=\"\\\\\\n\")
+}
+if not prifilt(\"mail.*\") then { } else call a
+if $syslogfacility >= 4 then if $app-name startswith '' then call a
+action(type=\"omfwd\")";
+
+#[test]
+fn runs_out_in_any_construct(rt: HostRuntime) -> Result<(), Fail> {
+    match read_script(rt.alloc(), WHOLE) {
+        Ok(script) => assert_eq!(rt; script.tops.len(), 8),
+        Err(fault) => {
+            assert_eq!(rt; (fault.code.number(), fault.line, fault.column), (27, 1, 1));
+            assert!(rt; fault.word.is_empty());
+        }
+    }
+    Ok(())
+}

@@ -1,0 +1,118 @@
+-- Each fault that is answered is there.
+use Rattle.std.proofs.Common.{◌≡◌, ◌≢◌, ℕ, ◌-◌, List, [], length, take, drop, Option, Some, None, Result, Ok, Err, refl, sym, ap, ◌∙◌, subst, arith}
+use Rattle.std.specs.List.{slice_range}
+use Rattle.sy_script.specs.declared.token.Token.{Token}
+use Rattle.sy_script.specs.declared.token.Ending.{Ending}
+use Rattle.sy_script.specs.declared.token.Ending.TheVariants as ending
+use Rattle.sy_script.specs.declared.halt.Halt.{Halt}
+use Rattle.sy_script.specs.declared.halt.Halt.TheVariants as halt
+use Rattle.sy_script.specs.declared.fault.FaultCode.{FaultCode}
+use Rattle.sy_script.specs.declared.fault.FaultCode.TheVariants as code
+use Rattle.sy_script.specs.declared.fault.ScriptFault.{ScriptFault}
+use Rattle.sy_script.specs.declared.script.Fault.{Fault}
+use Rattle.sy_script.specs.declared.tree.Span.{Span}
+use Rattle.sy_script.specs.declared.tree.Top.{Top}
+use Rattle.sy_script.specs.Lex.{tokens}
+use Rattle.sy_script.specs.Grammar as g
+use Rattle.sy_script.specs.ReadingStmt.{tops}
+use Rattle.sy_script.specs.Answer.{at, at_end, fault_of, ended_by, ended, reading, located, place, Locates}
+use Rattle.sy_script.specs.Tokens.{Cut, AreTokens}
+use Rattle.sy_script.specs.Faults.{IsBadByte, IsUnclosed, IsUnexpected, IsTooDeep, IsLeftOut, At, Stands}
+use Rattle.sy_script.proofs.Places.{is_place}
+use Rattle.sy_script.proofs.ReadBackStmt.{tops_reads}
+use Rattle.sy_script.proofs.LocalStmt.{dead_end}
+use Rattle.sy_script.proofs.Told.{IsOpen}
+use Rattle.sy_script.proofs.ToldStmt.{tops_told}
+use Rattle.sy_script.proofs.Cuts.{BadAt, OpenAt, Stopped, tokens_cut, whole_cut}
+
+-- the fault of an offset, in its line and column
+no_word : (text : List ℕ) (n : ℕ) → slice_range text n n ≡ []
+no_word text n = let none : n - n ≡ 0 = omega arith in ap (λ m. take m (drop n text)) none
+
+there : (text : List ℕ) (S : ℕ → Type 0) (n : ℕ) → S n → At text S (place (take n text)).0 (place (take n text)).1
+there text S n s = (n, s, is_place (take n text))
+
+module _ (text : List ℕ) where
+  -- the fault stands where it is located
+  Right : Fault → Type 0
+  Right f = f.code ≢ code.NoMemory → Stands text (located text f)
+
+  right_as : {f f' : Fault} → f ≡ f' → Right f → Right f'
+  right_as e r = subst Right e r
+
+  byte_right : (n end : ℕ) (rest : List ℕ) {ts : List Token} → Cut 0 text ts end rest → BadAt n end rest → Right (at code.Byte n)
+  unfolding Right
+  byte_right n end rest c (BadAt.begins_none h) = λ _. (there text (IsBadByte text) n (IsBadByte.begins_none c h), no_word text n)
+  byte_right n end rest c (BadAt.no_escape b more is h e) = λ _. (there text (IsBadByte text) n (IsBadByte.no_escape b more c is h e), no_word text n)
+
+  open_right : (n end : ℕ) (rest : List ℕ) {ts : List Token} → Cut 0 text ts end rest → OpenAt n end rest → Right (at code.Unclosed n)
+  unfolding Right
+  open_right n end rest c (OpenAt.string is h) = λ _. (there text (IsUnclosed text) n (IsUnclosed.string c is h), no_word text n)
+  open_right n end rest c (OpenAt.escape is h) = λ _. (there text (IsUnclosed text) n (IsUnclosed.escape c is h), no_word text n)
+  open_right n end rest c (OpenAt.comment h) = λ _. (there text (IsUnclosed text) n (IsUnclosed.comment c h), no_word text n)
+
+  no_tree : (ts : List Token) (h : Halt) → tops text ts ≡ Err h → (tree : List Top) → g.TopsAt text tree ts → ⊥
+  no_tree ts h e tree d = let no : (let r : Result (List Top) Halt = Ok tree in r) ≡ Err h = sym (tops_reads d) ∙ e in cc
+
+  end_right : (ts : List Token) (o : Option ℕ) → AreTokens text ts → ((tree : List Top) → g.TopsAt text tree ts → ⊥) → IsOpen ts o [] → Right (at_end (length text) ending.Complete o)
+  unfolding Right
+  end_right ts None c none (IsOpen.nothing b) = λ _. (there text (IsUnexpected text) (length text) (IsUnexpected.end c b none), no_word text (length text))
+  end_right ts (Some n) c none (IsOpen.bracket i) = λ _. (there text (IsUnclosed text) n (IsUnclosed.bracket c i), no_word text n)
+
+  unexpected_right : (t : Token) (span : Span) → t.span ≡ span → IsUnexpected text t.span.start → Right (at code.Unexpected span.start)
+  unfolding Right
+  unexpected_right t span e s = let S : Span → Type 0 = λ v. IsUnexpected text v.start in λ _. (there text (IsUnexpected text) span.start (subst S e s), no_word text span.start)
+
+  deep_right : (t : Token) (span : Span) → t.span ≡ span → IsTooDeep text t.span.start → Right (at code.TooDeep span.start)
+  unfolding Right
+  deep_right t span e s = let S : Span → Type 0 = λ v. IsTooDeep text v.start in λ _. (there text (IsTooDeep text) span.start (subst S e s), no_word text span.start)
+
+  left_out_right : (t : Token) (span : Span) → t.span ≡ span → IsLeftOut text t.span.start (slice_range text t.span.start t.span.end) → Right (record { code = code.LeftOut; span = span })
+  unfolding Right
+  left_out_right t span e s = let S : Span → Type 0 = λ v. IsLeftOut text v.start (slice_range text v.start v.end) in λ _. there text (λ n. IsLeftOut text n (slice_range text span.start span.end)) span.start (subst S e s)
+
+  -- how the tokens end
+  ending_right : (e : Ending) (o : Option ℕ) (ts : List Token) (end : ℕ) (rest : List ℕ) → Cut 0 text ts end rest → Stopped e end rest → (e ≡ ending.Complete → AreTokens text ts) → ((tree : List Top) → g.TopsAt text tree ts → ⊥) → IsOpen ts o [] → Right (at_end (length text) e o)
+  ending_right (ending.Byte n) o ts end rest c stopped whole none is = byte_right n end rest c stopped
+  ending_right (ending.Open n) o ts end rest c stopped whole none is = open_right n end rest c stopped
+  ending_right ending.Complete o ts end rest c stopped whole none is = end_right ts o (whole refl) none is
+
+  halt_right : (h : Halt) → tops text (tokens text).0 ≡ Err h → Right (fault_of (length text) (tokens text).1 h)
+  unfolding Right
+  halt_right halt.Memory e = λ other. absurd (other refl)
+  halt_right (halt.Unexpected span) e =
+      let d = dead_end text (tokens text).0 (halt.Unexpected span) tt e in
+      unexpected_right d.t span d.stops (IsUnexpected.token d.front d.rest d.t (tokens_cut text).cut d.is_ts d.none)
+  halt_right (halt.TooDeep span) e = let t = tops_told text (tokens text).0 (halt.TooDeep span) e in deep_right t.0 span t.1 (IsTooDeep.token (tokens_cut text).cut t.2)
+  halt_right (halt.LeftOut span) e = let t = tops_told text (tokens text).0 (halt.LeftOut span) e in left_out_right t.0 span t.1 (IsLeftOut.token (tokens_cut text).cut t.2)
+  halt_right (halt.End opened) e =
+      let w = tokens_cut text in
+      ending_right (tokens text).1 opened (tokens text).0 w.end w.rest w.cut w.stopped (whole_cut text) (no_tree (tokens text).0 (halt.End opened) e) (tops_told text (tokens text).0 (halt.End opened) e)
+
+  ended_right : (e : Ending) (tree : List Top) (ts : List Token) (end : ℕ) (rest : List ℕ) (f : Fault) → Cut 0 text ts end rest → Stopped e end rest → ended_by (length text) tree e ≡ Err f → Right f
+  ended_right ending.Complete tree ts end rest f c stopped h = absurd cc
+  ended_right (ending.Byte n) tree ts end rest f c stopped h = right_as (let e : at code.Byte n ≡ f = cc in e) (byte_right n end rest c stopped)
+  ended_right (ending.Open n) tree ts end rest f c stopped h = right_as (let e : at code.Unclosed n ≡ f = cc in e) (open_right n end rest c stopped)
+
+  reading_right : (r : Result (List Top) Halt) (f : Fault) → tops text (tokens text).0 ≡ r → ended (length text) (tokens text).1 r ≡ Err f → Right f
+  reading_right (Ok tree) f is h = let w = tokens_cut text in ended_right (tokens text).1 tree (tokens text).0 w.end w.rest f w.cut w.stopped h
+  reading_right (Err halt) f is h = right_as (let e : fault_of (length text) (tokens text).1 halt ≡ f = cc in e) (halt_right halt is)
+
+pub stands : (text : List ℕ) (f : Fault) → reading text ≡ Err f → f.code ≢ code.NoMemory → Stands text (located text f)
+unfolding reading Right
+stands text f h = reading_right text (tops text (tokens text).0) f refl h
+
+-- what the reader answers where reading finds a fault
+pub found_stands : (text : List ℕ) (f : Fault) (found : ScriptFault) → reading text ≡ Err f → f.code ≢ code.NoMemory → Locates text f found → Stands text found
+found_stands text f found h other l = by_code found.code refl where
+  as_located : found.code ≢ code.NoMemory → Stands text found
+  as_located named = subst (λ v. Stands text v) (sym (l.0 named)) (stands text f h other)
+
+  by_code : (c : FaultCode) → found.code ≡ c → Stands text found
+  by_code code.Byte is = as_located (λ e. let no : code.Byte ≡ code.NoMemory = sym is ∙ e in cc)
+  by_code code.Unclosed is = as_located (λ e. let no : code.Unclosed ≡ code.NoMemory = sym is ∙ e in cc)
+  by_code code.Unexpected is = as_located (λ e. let no : code.Unexpected ≡ code.NoMemory = sym is ∙ e in cc)
+  by_code code.TooDeep is = as_located (λ e. let no : code.TooDeep ≡ code.NoMemory = sym is ∙ e in cc)
+  by_code code.TooLarge is = as_located (λ e. let no : code.TooLarge ≡ code.NoMemory = sym is ∙ e in cc)
+  by_code code.LeftOut is = as_located (λ e. let no : code.LeftOut ≡ code.NoMemory = sym is ∙ e in cc)
+  by_code code.NoMemory is = subst (λ v. Stands text v) (sym (l.1 is other)) (refl, refl, refl)

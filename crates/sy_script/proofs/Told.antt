@@ -1,0 +1,137 @@
+-- What stands where reading stops: what is open, and that a token is too deep or begins what is left out.
+use Rattle.std.proofs.Common.{◌≡◌, inl, inr, ◌<◌, ◌≤◌, ℕ, zero, suc, Bool, true, false, cond, List, [], ◌∷◌, ◌++◌, length, Option, Some, None, Ok, Err, refl, sym, ap, ◌∙◌, subst, append_assoc, arith}
+use Rattle.sy_script.specs.declared.token.Kind.{Kind}
+use Rattle.sy_script.specs.declared.token.Kind.TheVariants as k
+use Rattle.sy_script.specs.declared.token.Token.{Token}
+use Rattle.sy_script.specs.declared.halt.Halt.{Halt}
+use Rattle.sy_script.specs.declared.halt.Halt.TheVariants as halt
+use Rattle.sy_script.specs.declared.tree.Param.{Param}
+use Rattle.sy_script.specs.declared.tree.Span.{Span}
+use Rattle.sy_script.specs.Reading.{Outcome, Parser, Open, and_then, pure, refuse, same_kind, first, expect, behind, is_word, is_text, word_of, text_of, word, text, param, turn, items_from, params_in, params}
+use Rattle.sy_script.specs.Brackets.{opens, is_bracket, Balanced, IsInnermost}
+use Rattle.sy_script.specs.Faults.{Deepens, BeginsLeftOut}
+use Rattle.sy_script.proofs.Sound.{expect_ok, word_ok, param_ok}
+use Rattle.sy_script.proofs.Local.{bind_err}
+use Rattle.sy_script.proofs.Balance.{balanced_on, plain, word_plain}
+
+-- what is open behind these tokens, where reading goes on
+pub data IsOpen (ts : List Token) : Open → List Token → Type 0 where
+  nothing : {rest : List Token} → Balanced ts rest → IsOpen ts None rest
+  bracket : {o : Token} {rest : List Token} → IsInnermost ts o rest → IsOpen ts (Some o.span.start) rest
+
+pub open_on : {ts us rest : List Token} {o : Open} → IsOpen ts o us → Balanced us rest → IsOpen ts o rest
+open_on (IsOpen.nothing b) a = IsOpen.nothing (balanced_on b a)
+open_on (IsOpen.bracket i) a = IsOpen.bracket (record { front = i.front; inside = i.inside; is_ts = i.is_ts; is_opening = i.is_opening; is_closed = balanced_on i.is_closed a })
+
+joined : (f : List Token) (c : Token) (g ts us rest : List Token) → ts ≡ f ++ c ∷ us → us ≡ g ++ rest → ts ≡ (f ++ c ∷ g) ++ rest
+joined f c g ts us rest a b = a ∙ (ap (λ r. f ++ c ∷ r) b ∙ sym (append_assoc f (c ∷ g) rest))
+
+-- the tokens in front of what is left
+pub balanced_front : {ts rest : List Token} → Balanced ts rest → (front : List Token) × (ts ≡ front ++ rest)
+balanced_front Balanced.none = ([], refl)
+balanced_front (Balanced.other {t = t} h a) = let f = balanced_front a in (t ∷ f.0, ap (λ r. t ∷ r) f.1)
+balanced_front (Balanced.parens {o = o} {c = c} {rest = rest} h a d b) = let f = balanced_front a in let g = balanced_front b in (o ∷ (f.0 ++ c ∷ g.0), ap (λ r. o ∷ r) (joined f.0 c g.0 _ _ rest f.1 g.1))
+balanced_front (Balanced.braces {o = o} {c = c} {rest = rest} h a d b) = let f = balanced_front a in let g = balanced_front b in (o ∷ (f.0 ++ c ∷ g.0), ap (λ r. o ∷ r) (joined f.0 c g.0 _ _ rest f.1 g.1))
+
+pub opened_front : {ts us : List Token} {o : Open} → IsOpen ts o us → (front : List Token) × (ts ≡ front ++ us)
+opened_front (IsOpen.nothing b) = balanced_front b
+opened_front (IsOpen.bracket {o = o} {rest = rest} i) = let f = balanced_front i.is_closed in (i.front ++ o ∷ f.0, i.is_ts ∙ (ap (λ r. i.front ++ o ∷ r) f.1 ∙ sym (append_assoc i.front (o ∷ f.0) rest)))
+
+-- behind a parenthesis or a brace
+pub open_in : {ts : List Token} {p : Open} (o : Token) (rest : List Token) → IsOpen ts p (o ∷ rest) → opens o.kind ≡ true → IsOpen ts (Some o.span.start) rest
+open_in o rest is op = let f = opened_front is in IsOpen.bracket (record { front = f.0; inside = rest; is_ts = f.1; is_opening = op; is_closed = Balanced.none })
+
+-- behind a token of a kind that opens and closes nothing
+pub open_plain : {ts : List Token} {o : Open} {kind : Kind} (t : Token) (rest : List Token) → IsOpen ts o (t ∷ rest) → t.kind ≡ kind → is_bracket kind ≡ false → IsOpen ts o rest
+open_plain {kind = kind} t rest is same none = open_on is (plain t kind same none Balanced.none)
+
+pub open_as : {ts us vs : List Token} {o : Open} → us ≡ vs → IsOpen ts o us → IsOpen ts o vs
+open_as {ts = ts} {o = o} e is = let P : List Token → Type 0 = λ v. IsOpen ts o v in subst P e is
+
+-- ---- what is said of a halt
+
+abbrev pub Told : List ℕ → List Token → Halt → Type 0
+Told text ts halt.Memory = Unit {0}
+Told text ts (halt.Unexpected span) = Unit {0}
+Told text ts (halt.TooDeep span) = (t : Token) × (t.span ≡ span) × Deepens text ts t
+Told text ts (halt.LeftOut span) = (t : Token) × (t.span ≡ span) × BeginsLeftOut text ts t
+Told text ts (halt.End opened) = IsOpen ts opened []
+
+module _ (bytes : List ℕ) (ts : List Token) where
+  pub told_as : {d h : Halt} {A : Type 0} → (let r : Outcome A = Err d in r ≡ Err h) → Told bytes ts d → Told bytes ts h
+  told_as {d} {h} e told = let same : d ≡ h = cc in subst (λ (h : Halt). Told bytes ts h) same told
+
+  pub bind_told : {A B : Type 0} (r : Outcome A) (f : A → Parser B) (h : Halt) → and_then r f ≡ Err h → (r ≡ Err h → Told bytes ts h) → ((x : A × List Token) → r ≡ Ok x → f x.0 x.1 ≡ Err h → Told bytes ts h) → Told bytes ts h
+  bind_told r f h e one two = elim (bind_err r f h e) [
+    | inl d ↦ one d
+    | inr s ↦ two s.0 s.1 s.2
+  ]
+
+  pub pure_told : {A : Type 0} (x : A) (us : List Token) (h : Halt) → pure x us ≡ Err h → Told bytes ts h
+  pure_told x us h e = absurd cc
+
+  pub if_told : {A : Type 0} (b : Bool) (x : A) (span : Span) (us : List Token) (h : Halt) → (let p : Parser A = cond b (pure x) (refuse (halt.Unexpected span)) in p us ≡ Err h) → Told bytes ts h
+  if_told true x span us h e = absurd cc
+  if_told {A} false x span us h e = told_as {A = A} e tt
+
+  pub first_told : (o : Open) (us : List Token) (h : Halt) → IsOpen ts o us → first o us ≡ Err h → Told bytes ts h
+  first_told o [] h is e = told_as {A = Token} e is
+  first_told o (t ∷ us) h is e = absurd cc
+
+  pub expect_told : (kind : Kind) (o : Open) (us : List Token) (h : Halt) → IsOpen ts o us → expect kind o us ≡ Err h → Told bytes ts h
+  unfolding expect
+  expect_told kind o us h is e = bind_told (first o us) _ h e (first_told o us h is) (λ x ok. if_told (same_kind x.0.kind kind) x.0 x.0.span x.1 h)
+
+  pub word_told : (o : Open) (us : List Token) (h : Halt) → IsOpen ts o us → word bytes o us ≡ Err h → Told bytes ts h
+  unfolding word
+  word_told o us h is e = bind_told (first o us) _ h e (first_told o us h is) (λ x ok. if_told (is_word x.0.kind) (word_of bytes x.0.span) x.0.span x.1 h)
+
+  pub text_told : (o : Open) (us : List Token) (h : Halt) → IsOpen ts o us → text bytes o us ≡ Err h → Told bytes ts h
+  unfolding text
+  text_told o us h is e = bind_told (first o us) _ h e (first_told o us h is) (λ x ok. if_told (is_text x.0.kind) (text_of bytes x.0.span) x.0.span x.1 h)
+
+  -- ---- what is open behind what was read
+
+  pub expect_open : (kind : Kind) (o : Open) (us : List Token) (x : Token × List Token) → is_bracket kind ≡ false → expect kind o us ≡ Ok x → {p : Open} → IsOpen ts p us → IsOpen ts p x.1
+  expect_open kind o us x none e is = let t = expect_ok kind o us x e in open_plain x.0 x.1 (open_as t.0 is) t.1 none
+
+  param_told : (o : Open) (us : List Token) (h : Halt) → IsOpen ts o us → param bytes o us ≡ Err h → Told bytes ts h
+  unfolding param
+  param_told o us h is e = bind_told (word bytes o us) _ h e (word_told o us h is) (λ x ok e2.
+      let w = word_ok bytes o us x ok in
+      let is2 : IsOpen ts o x.1 = open_on (open_as w.1 is) (Balanced.other (word_plain w.0.kind w.2) Balanced.none) in
+      bind_told (expect k.Assign o x.1) _ h e2 (expect_told k.Assign o x.1 h is2) (λ y ok2 e3.
+      let is3 : IsOpen ts o y.1 = expect_open k.Assign o x.1 y refl ok2 is2 in
+      bind_told (expect k.Quoted o y.1) _ h e3 (expect_told k.Quoted o y.1 h is3) (λ z ok3 e4. pure_told _ z.1 h e4)))
+
+-- ---- items up to a closing token
+
+turn_cases : {A : Type 0} (b : Option (List Token)) (found : List A) (more : Outcome (List A)) (h : Halt) → turn b found more ≡ Err h → (b ≡ None) × (more ≡ Err h)
+turn_cases (Some after) found more h e = absurd cc
+turn_cases None found more h e = (refl, e)
+
+module _ (bytes : List ℕ) (ts : List Token) {A : Type 0} (close : Kind) (o : Open) (item : Parser A) (P : List Token → Type 0)
+    (told : (us : List Token) (h : Halt) → IsOpen ts o us → P us → item us ≡ Err h → Told bytes ts h)
+    (next : (us : List Token) (x : A) (mid : List Token) → P us → item us ≡ Ok (x, mid) → Balanced us mid × P mid × (length mid < length us)) where
+  pub items_told : (n : ℕ) (found : List A) (us : List Token) (h : Halt) → length us ≤ n → IsOpen ts o us → P us → items_from close o item n found us ≡ Err h → Told bytes ts h
+  unfolding items_from
+  items_told zero found [] h small is p e = told_as bytes ts {A = List A} e is
+  items_told zero found (u ∷ us) h small is p e = absurd (omega arith)
+  items_told (suc n) found us h small is p e =
+      let w = turn_cases (behind close us) found _ h e in
+      bind_told bytes ts (item us) _ h w.1 (told us h is p) (λ x ok e2.
+      let m = next us x.0 x.1 p ok in
+      items_told n (found ++ x.0 ∷ []) x.1 h (omega (arith, m.2)) (open_on is m.0) m.1 e2)
+
+param_next : (bytes : List ℕ) (o : Open) (us : List Token) (x : Param) (mid : List Token) → Unit {0} → param bytes o us ≡ Ok (x, mid) → Balanced us mid × Unit {0} × (length mid < length us)
+param_next bytes o us x mid u h =
+    let p = param_ok bytes o us (x, mid) h in
+    let P : List Token → Type 0 = λ v. Balanced v mid in
+    (subst P (sym p.3) (Balanced.other (word_plain p.0.kind p.4) (plain p.1 k.Assign p.5 refl (plain p.2 k.Quoted p.6 refl Balanced.none))), tt, omega (arith, ap length p.3))
+
+pub params_told : (bytes : List ℕ) (ts : List Token) (o : Open) (us : List Token) (h : Halt) → IsOpen ts o us → params bytes o us ≡ Err h → Told bytes ts h
+unfolding params params_in
+params_told bytes ts o us h is e = bind_told bytes ts (expect k.LeftParen o us) _ h e (expect_told bytes ts k.LeftParen o us h is) (λ x ok e2.
+    let t = expect_ok k.LeftParen o us x ok in
+    let s : Open = Some x.0.span.start in
+    items_told bytes ts k.RightParen s (param bytes s) (λ us. Unit {0}) (λ us h is p. param_told bytes ts s us h is) (param_next bytes s) (length x.1) [] x.1 h (omega arith) (open_in x.0 x.1 (open_as t.0 is) (ap opens t.1)) tt e2)

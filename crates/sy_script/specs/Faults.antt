@@ -1,0 +1,113 @@
+-- What each fault of a script is, and where it stands. Offsets count bytes from 0.
+use Rattle.std.specs.Prelude.{◌≡◌, ◌<◌, ℕ, ◌+◌, ◌==◌, ◌||◌, Bool, true, false, List, [], ◌∷◌, ◌++◌, length, take}
+use Rattle.std.specs.List.{slice_range}
+use Rattle.std.specs.Char.{is_ascii_digit}
+use Rattle.sy_script.specs.declared.token.Kind.{Kind}
+use Rattle.sy_script.specs.declared.token.Kind.TheVariants as k
+use Rattle.sy_script.specs.declared.token.Token.{Token}
+use Rattle.sy_script.specs.declared.fault.FaultCode.{FaultCode}
+use Rattle.sy_script.specs.declared.fault.FaultCode.TheVariants as code
+use Rattle.sy_script.specs.declared.fault.ScriptFault.{ScriptFault}
+use Rattle.sy_script.specs.declared.tree.Top.{Top}
+use Rattle.sy_script.specs.Lex.{is_blank, starts_word, is_escaped}
+use Rattle.sy_script.specs.Tokens.{NoneNext, is_equals, InString, NoEnd, Cut, AreTokens}
+use Rattle.sy_script.specs.Brackets.{Balanced, IsInnermost}
+use Rattle.sy_script.specs.Grammar.{TopsAt}
+use Rattle.sy_script.specs.Standing.{StmtPlace, BlockPlace, UnitPlace, GroupPlace}
+use Rattle.sy_script.specs.Place.{IsPlace}
+use Rattle.sy_script.specs.Answer.{max_text}
+
+-- a byte is one of these
+abbrev pub is_sign : ℕ → Bool
+is_sign b = b == 34 || b == 39 || b == 35 || b == 40 || b == 41 || b == 123 || b == 125 || b == 61 || b == 60 || b == 62
+
+-- `"` or `'`
+abbrev pub is_quote : ℕ → Bool
+is_quote b = b == 34 || b == 39
+
+abbrev pub is_star : ℕ → Bool
+is_star b = b == 42
+
+-- The bytes begin neither a token nor blanks nor a comment: the first is none that any of them begins with, or it is `$` without a word, `!` without `=` or `/` without `*`.
+pub data BeginsNone : List ℕ → Type 0 where
+  byte : {b : ℕ} {rest : List ℕ} → is_blank b ≡ false → starts_word b ≡ false → is_ascii_digit b ≡ false → is_sign b ≡ false → (b == 36) ≡ false → (b == 33) ≡ false → (b == 47) ≡ false → BeginsNone (b ∷ rest)
+  dollar : {rest : List ℕ} → NoneNext starts_word rest → BeginsNone (36 ∷ rest)
+  bang : {rest : List ℕ} → NoneNext is_equals rest → BeginsNone (33 ∷ rest)
+  slash : {rest : List ℕ} → NoneNext is_star rest → BeginsNone (47 ∷ rest)
+
+-- Fault 21: a byte that begins no token, or the byte behind a `\` in a string that is none of the seven.
+pub data IsBadByte (text : List ℕ) : ℕ → Type 0 where
+  begins_none : {ts : List Token} {at : ℕ} {rest : List ℕ} → Cut 0 text ts at rest → BeginsNone rest → IsBadByte text at
+  no_escape : {ts : List Token} {at quote : ℕ} {bytes : List ℕ} (b : ℕ) (rest : List ℕ) → Cut 0 text ts at (quote ∷ bytes ++ 92 ∷ b ∷ rest) → is_quote quote ≡ true → InString quote bytes → is_escaped b ≡ false → IsBadByte text (at + length bytes + 2)
+
+-- Fault 22: the string, comment, parenthesis or brace that begins here is open at the end of the text, and is the innermost.
+pub data IsUnclosed (text : List ℕ) : ℕ → Type 0 where
+  string : {ts : List Token} {at quote : ℕ} {bytes : List ℕ} → Cut 0 text ts at (quote ∷ bytes) → is_quote quote ≡ true → InString quote bytes → IsUnclosed text at
+  -- its last byte is a `\`
+  escape : {ts : List Token} {at quote : ℕ} {bytes : List ℕ} → Cut 0 text ts at (quote ∷ bytes ++ 92 ∷ []) → is_quote quote ≡ true → InString quote bytes → IsUnclosed text at
+  comment : {ts : List Token} {at : ℕ} {bytes : List ℕ} → Cut 0 text ts at (47 ∷ 42 ∷ bytes) → NoEnd bytes → IsUnclosed text at
+  bracket : {ts : List Token} {o : Token} → AreTokens text ts → IsInnermost ts o [] → IsUnclosed text o.span.start
+
+-- Fault 23: no script begins with the tokens up to this one and with it; or, at the end of the text, nothing is open and its tokens are no script.
+pub data IsUnexpected (text : List ℕ) : ℕ → Type 0 where
+  token : {ts : List Token} {at : ℕ} {left : List ℕ} (front rest : List Token) (t : Token) → Cut 0 text ts at left → ts ≡ front ++ t ∷ rest
+      → ((tree : List Top) (more : List Token) → TopsAt text tree (front ++ t ∷ more) → ⊥) → IsUnexpected text t.span.start
+  end : {ts : List Token} → AreTokens text ts → Balanced ts [] → ((tree : List Top) → TopsAt text tree ts → ⊥) → IsUnexpected text (length text)
+
+-- what a block begins with
+abbrev pub begins_block : Kind → Bool
+begins_block k.LeftBrace = true
+begins_block k.Action = true
+begins_block k.Call = true
+begins_block k.Stop = true
+begins_block k.If = true
+begins_block _ = false
+
+-- all 32 levels are taken, and this token begins one more
+pub data Deepens (text : List ℕ) (ts : List Token) : Token → Type 0 where
+  group : {t : Token} {rest : List Token} → GroupPlace text ts 0 (t ∷ rest) → t.kind ≡ k.LeftParen → Deepens text ts t
+  negation : {t : Token} {rest : List Token} → UnitPlace text ts 0 (t ∷ rest) → t.kind ≡ k.Not → Deepens text ts t
+  block : {t : Token} {rest : List Token} → BlockPlace text ts 0 (t ∷ rest) → begins_block t.kind ≡ true → Deepens text ts t
+
+-- Fault 24: this token makes the depth 33.
+pub data IsTooDeep (text : List ℕ) : ℕ → Type 0 where
+  token : {ts : List Token} {t : Token} {at : ℕ} {rest : List ℕ} → Cut 0 text ts at rest → Deepens text ts t → IsTooDeep text t.span.start
+
+-- what a statement begins with that this profile leaves out: one of the words, or a property
+abbrev pub is_left_out : Kind → Bool
+is_left_out k.LeftOut = true
+is_left_out k.Property = true
+is_left_out _ = false
+
+pub data BeginsLeftOut (text : List ℕ) (ts : List Token) : Token → Type 0 where
+  stmt : {left : ℕ} {t : Token} {rest : List Token} → StmtPlace text ts left (t ∷ rest) → is_left_out t.kind ≡ true → BeginsLeftOut text ts t
+  block : {left : ℕ} {t : Token} {rest : List Token} → BlockPlace text ts left (t ∷ rest) → is_left_out t.kind ≡ true → BeginsLeftOut text ts t
+
+-- Fault 26: here begins a statement that this profile leaves out, with this word.
+pub data IsLeftOut (text : List ℕ) : ℕ → List ℕ → Type 0 where
+  token : {ts : List Token} {t : Token} {at : ℕ} {rest : List ℕ} → Cut 0 text ts at rest → BeginsLeftOut text ts t → IsLeftOut text t.span.start (slice_range text t.span.start t.span.end)
+
+-- ---- lines and columns
+
+-- it stands in this line and column
+abbrev pub At : List ℕ → (ℕ → Type 0) → ℕ → ℕ → Type 0
+At text Stands line column = (offset : ℕ) × Stands offset × IsPlace (take offset text) line column
+
+-- Fault 25: more than 1 MiB. Its place is that of the first byte.
+pub record IsTooLarge (text : List ℕ) (line column : ℕ) : Type 0 where
+  pub is_large : max_text < length text
+  pub line_is : line ≡ 1
+  pub column_is : column ≡ 1
+
+abbrev pub IsFault : List ℕ → FaultCode → ℕ → ℕ → List ℕ → Type 0
+IsFault text code.Byte line column word = At text (IsBadByte text) line column × (word ≡ [])
+IsFault text code.Unclosed line column word = At text (IsUnclosed text) line column × (word ≡ [])
+IsFault text code.Unexpected line column word = At text (IsUnexpected text) line column × (word ≡ [])
+IsFault text code.TooDeep line column word = At text (IsTooDeep text) line column × (word ≡ [])
+IsFault text code.TooLarge line column word = IsTooLarge text line column × (word ≡ [])
+IsFault text code.LeftOut line column word = At text (λ offset. IsLeftOut text offset word) line column
+IsFault text code.NoMemory line column word = (line ≡ 1) × (column ≡ 1) × (word ≡ [])
+
+-- the fault is there, in its line and column, and with its word
+abbrev pub Stands : List ℕ → ScriptFault → Type 0
+Stands text f = IsFault text f.code f.line f.column f.word

@@ -1,0 +1,83 @@
+-- The tokens of a text, by whole texts: a text is cut into pieces, and each piece is a token, blank or a comment.
+use Rattle.std.specs.Prelude.{◌≡◌, ◌≢◌, ℕ, ◌+◌, ◌==◌, if◌then◌else◌, Bool, true, false, List, [], ◌∷◌, ◌++◌, length, Option, Some, None}
+use Rattle.std.specs.Char.{is_ascii_digit}
+use Rattle.sy_script.specs.declared.token.Kind.{Kind}
+use Rattle.sy_script.specs.declared.token.Kind.TheVariants as k
+use Rattle.sy_script.specs.declared.token.Token.{Token}
+use Rattle.sy_script.specs.Lex.{is_blank, starts_word, is_in_word, is_escaped, word_kind}
+
+-- ---- what pieces are made of
+
+-- each byte passes the test
+abbrev pub All : (ℕ → Bool) → List ℕ → Type 0
+All test [] = Unit {0}
+All test (b ∷ bytes) = (test b ≡ true) × All test bytes
+
+-- the next byte, if there is one, doesn't pass the test
+abbrev pub NoneNext : (ℕ → Bool) → List ℕ → Type 0
+NoneNext test [] = Unit {0}
+NoneNext test (b ∷ bytes) = test b ≡ false
+
+abbrev pub is_equals : ℕ → Bool
+is_equals b = b == 61
+
+abbrev pub is_no_feed : ℕ → Bool
+is_no_feed b = if b == 10 then false else true
+
+-- What stands between the quotes of a string: escapes, and bytes that are neither the quote nor `\`.
+pub data InString (quote : ℕ) : List ℕ → Type 0 where
+  none : InString quote []
+  plain : {b : ℕ} {bytes : List ℕ} → (b == 92) ≡ false → (b == quote) ≡ false → InString quote bytes → InString quote (b ∷ bytes)
+  escape : {b : ℕ} {bytes : List ℕ} → is_escaped b ≡ true → InString quote bytes → InString quote (92 ∷ b ∷ bytes)
+
+-- no `*/` stands in the bytes
+abbrev pub NoEnd : List ℕ → Type 0
+NoEnd [] = Unit {0}
+NoEnd (b ∷ []) = Unit {0}
+NoEnd (b ∷ c ∷ bytes) = (b ≡ 42 → c ≢ 47) × NoEnd (c ∷ bytes)
+
+-- ---- one piece. `PieceAt kind piece rest` says that the bytes of the piece are a token of that kind, or blank or a comment where there is no kind,
+-- and that it is the longest such: no byte of the rest goes on with it.
+pub data PieceAt : Option Kind → List ℕ → List ℕ → Type 0 where
+  blank : {b : ℕ} {rest : List ℕ} → is_blank b ≡ true → PieceAt None (b ∷ []) rest
+  -- `#` to the end of the line
+  line_comment : {bytes rest : List ℕ} → All is_no_feed bytes → NoneNext is_no_feed rest → PieceAt None (35 ∷ bytes) rest
+  -- `/*` to the next `*/`
+  block_comment : (bytes : List ℕ) {rest : List ℕ} → NoEnd (bytes ++ 42 ∷ []) → PieceAt None (47 ∷ 42 ∷ bytes ++ 42 ∷ 47 ∷ []) rest
+  -- a letter or `_`, then letters, digits, `_`, `.` and `-`
+  word : {b : ℕ} {bytes rest : List ℕ} → starts_word b ≡ true → All is_in_word bytes → NoneNext is_in_word rest → PieceAt (Some (word_kind (b ∷ bytes))) (b ∷ bytes) rest
+  number : {b : ℕ} {bytes rest : List ℕ} → is_ascii_digit b ≡ true → All is_ascii_digit bytes → NoneNext is_ascii_digit rest → PieceAt (Some k.Number) (b ∷ bytes) rest
+  -- `$` and a word
+  property : {b : ℕ} {bytes rest : List ℕ} → starts_word b ≡ true → All is_in_word bytes → NoneNext is_in_word rest → PieceAt (Some k.Property) (36 ∷ b ∷ bytes) rest
+  quoted : {bytes rest : List ℕ} → InString 34 bytes → PieceAt (Some k.Quoted) (34 ∷ bytes ++ 34 ∷ []) rest
+  single_quoted : {bytes rest : List ℕ} → InString 39 bytes → PieceAt (Some k.SingleQuoted) (39 ∷ bytes ++ 39 ∷ []) rest
+  -- ( ) { }
+  left_paren : {rest : List ℕ} → PieceAt (Some k.LeftParen) (40 ∷ []) rest
+  right_paren : {rest : List ℕ} → PieceAt (Some k.RightParen) (41 ∷ []) rest
+  left_brace : {rest : List ℕ} → PieceAt (Some k.LeftBrace) (123 ∷ []) rest
+  right_brace : {rest : List ℕ} → PieceAt (Some k.RightBrace) (125 ∷ []) rest
+  -- = == != < <= > >=
+  assign : {rest : List ℕ} → NoneNext is_equals rest → PieceAt (Some k.Assign) (61 ∷ []) rest
+  equal : {rest : List ℕ} → PieceAt (Some k.Equal) (61 ∷ 61 ∷ []) rest
+  not_equal : {rest : List ℕ} → PieceAt (Some k.NotEqual) (33 ∷ 61 ∷ []) rest
+  less : {rest : List ℕ} → NoneNext is_equals rest → PieceAt (Some k.Less) (60 ∷ []) rest
+  at_most : {rest : List ℕ} → PieceAt (Some k.AtMost) (60 ∷ 61 ∷ []) rest
+  greater : {rest : List ℕ} → NoneNext is_equals rest → PieceAt (Some k.Greater) (62 ∷ []) rest
+  at_least : {rest : List ℕ} → PieceAt (Some k.AtLeast) (62 ∷ 61 ∷ []) rest
+
+-- ---- all pieces
+
+-- the token of a piece, if it is one
+abbrev pub with_token : Option Kind → ℕ → ℕ → List Token → List Token
+with_token None start end ts = ts
+with_token (Some kind) start end ts = record { kind = kind; span = record { start = start; end = end } } ∷ ts
+
+-- From the first place on, the bytes are cut into pieces with these tokens, and at the second place the rest is left.
+pub data Cut : ℕ → List ℕ → List Token → ℕ → List ℕ → Type 0 where
+  none : {at : ℕ} {rest : List ℕ} → Cut at rest [] at rest
+  piece : {at end : ℕ} {kind : Option Kind} {bytes more rest : List ℕ} {ts : List Token} → PieceAt kind bytes more → Cut (at + length bytes) more ts end rest
+      → Cut at (bytes ++ more) (with_token kind at (at + length bytes) ts) end rest
+
+-- the tokens of a whole text
+abbrev pub AreTokens : List ℕ → List Token → Type 0
+AreTokens text ts = Cut 0 text ts (length text) []
