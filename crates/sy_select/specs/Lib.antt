@@ -1,0 +1,3 @@
+pub mod Names
+pub mod Selectors
+pub mod Faults
