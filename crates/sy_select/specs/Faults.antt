@@ -1,7 +1,7 @@
 -- The faults of a text that is no selector. They stand at its pieces, and come in the order of the text; the first is the one that is answered.
-use Rattle.std.specs.Prelude.{◌≡◌, ℕ, Bool, true, false, not, ◌||◌, ◌&&◌, if◌then◌else◌, ◌==◌, ◌⊎◌, List, [], ◌∷◌, ◌++◌, length, Option, Some, None, Result, Ok, Err, codes}
+use Rattle.std.specs.Prelude.{◌≡◌, ℕ, Bool, true, false, not, ◌||◌, ◌&&◌, if◌then◌else◌, ◌==◌, ◌⊎◌, List, [], ◌∷◌, ◌++◌, length, Option, Some, None, codes}
 use Rattle.std.specs.Char.{is_ascii_alphanumeric}
-use Rattle.std.specs.List.{slice_split}
+use Rattle.std.specs.List.{flat_map, list_all, slice_split}
 use Rattle.std.specs.Str.{str_eq_ignore_ascii_case, bytes_eq}
 use Rattle.sy_select.specs.declared.fault.FaultCode.{FaultCode}
 use Rattle.sy_select.specs.declared.fault.FaultCode.TheVariants as code
@@ -37,8 +37,7 @@ abbrev pub behind_signs : List ℕ → List ℕ
 behind_signs text = behind_sign 61 (behind_sign 33 text)
 
 abbrev pub all_alphanumeric : List ℕ → Bool
-all_alphanumeric [] = true
-all_alphanumeric (b ∷ bytes) = is_ascii_alphanumeric b && all_alphanumeric bytes
+all_alphanumeric = list_all is_ascii_alphanumeric
 
 -- a piece made of letters and digits
 unfoldable pub is_word : List ℕ → Bool
@@ -60,14 +59,9 @@ no_name c whole piece = if is_word piece then record { code = c; word = piece } 
 abbrev pub facility_faults : List ℕ → List ℕ → List SelectFault
 facility_faults whole piece = if is_some (facility_of piece) then [] else no_name code.Facility whole piece ∷ []
 
--- the faults of each, one after another
-abbrev pub each : {A : Type 0} → (A → List SelectFault) → List A → List SelectFault
-each f [] = []
-each f (x ∷ xs) = f x ++ each f xs
-
 -- "*", or names of facilities between commas
 unfoldable pub facilities_faults : List ℕ → List ℕ → List SelectFault
-facilities_faults whole text = if bytes_eq text (codes "*") then [] else each (facility_faults whole) (pieces 44 text)
+facilities_faults whole text = if bytes_eq text (codes "*") then [] else flat_map (facility_faults whole) (pieces 44 text)
 
 -- "*", "none" and "!*" are levels; "none" behind a sign is none; else the name of a severity stands behind the signs
 unfoldable pub level_faults : List ℕ → List ℕ → List SelectFault
@@ -87,7 +81,7 @@ part_faults whole part = facilities_faults whole (cut 46 part).0 ++ behind_dot w
 
 -- all faults of a text, from left to right
 unfoldable pub faults : List ℕ → List SelectFault
-faults text = each (part_faults text) (pieces 59 text)
+faults text = flat_map (part_faults text) (pieces 59 text)
 
 -- the fault that a text is refused for: its first
 abbrev pub IsFirstFault : List ℕ → SelectFault → Type 0

@@ -1,3 +1,4 @@
 pub mod Names
 pub mod Selectors
 pub mod Faults
+pub mod Reading

@@ -1,4 +1,4 @@
-use Rattle.std.proofs.Common.{◌≡◌, Some, ◌<◌, sym, ◌∙◌}
+use Rattle.std.proofs.Common.{◌<◌, sym, ◌∙◌}
 use Rattle.sy_select.proofs.NameLaws.{facility_below, if_some}
 use Rattle.sy_select.proofs.names.facility_of.Goals as goal
 use Rattle.sy_select.specs.Names.{facility_of}
