@@ -6,3 +6,8 @@ pub mod NameLaws
 pub mod PartLaws
 pub mod SelectorLaws
 pub mod GrammarLaws
+pub mod Verdicts
+pub mod Contains
+pub mod Numbers
+pub mod Chains
+pub mod Laws
