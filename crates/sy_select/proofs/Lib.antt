@@ -6,6 +6,7 @@ pub mod NameLaws
 pub mod PartLaws
 pub mod SelectorLaws
 pub mod GrammarLaws
+pub mod Valuations
 pub mod Verdicts
 pub mod Contains
 pub mod Numbers

@@ -5,32 +5,11 @@ use Rattle.std.proofs.lemmas.List.{map-append, length-map, drop_at}
 use Rattle.sy_select.specs.declared.verdict.Verdict.{Verdict}
 use Rattle.sy_select.specs.declared.verdict.Verdict.TheVariants.{Yes, No, Either}
 use Rattle.sy_select.specs.Truth.{Formula, Valuation, first, behind, occurrences, truth, valuation, Agrees, Admits, Can, Must, IsVerdict, opposite}
+use Rattle.sy_select.proofs.Valuations.{admits_append, admits_behind, behind_append}
 use Rattle.sy_select.specs.Walk.{holds, verdict, or_of, and_of, of_known}
 
--- ---- admitted valuations, joined and cut
-
 module _ {T : Type 0} (k : T → Option Bool) where
-  pub admits_length : (ts : List T) (v : Valuation) → Admits k ts v → length v ≡ length ts
-  admits_length [] [] h = refl
-  admits_length [] (b ∷ v) h = absurd h
-  admits_length (t ∷ ts) [] h = absurd h
-  admits_length (t ∷ ts) (b ∷ v) h = ap suc (admits_length ts v h.1)
-
-  pub admits_append : (ts us : List T) (v w : Valuation) → Admits k ts v → Admits k us w → Admits k (ts ++ us) (v ++ w)
-  admits_append [] us [] w h g = g
-  admits_append [] us (b ∷ v) w h g = absurd h
-  admits_append (t ∷ ts) us [] w h g = absurd h
-  admits_append (t ∷ ts) us (b ∷ v) w h g = (h.0, admits_append ts us v w h.1 g)
-
-  pub admits_behind : (ts us : List T) (v : Valuation) → Admits k (ts ++ us) v → Admits k us (behind ts v)
-  admits_behind [] us v h = h
-  admits_behind (t ∷ ts) us [] h = absurd h
-  admits_behind (t ∷ ts) us (b ∷ v) h = admits_behind ts us v h.1
-
-  pub behind_append : (ts : List T) (v w : Valuation) → Admits k ts v → behind ts (v ++ w) ≡ w
-  behind_append ts v w h = drop_at v w (length ts) (admits_length ts v h)
-
-  -- ---- what is known of an expression, whatever stands behind it
+-- ---- what is known of an expression, whatever stands behind it
 
   -- all admitted valuations give it this truth value
   abbrev Sure : Formula T → Bool → Type 0
@@ -52,7 +31,7 @@ module _ {T : Type 0} (k : T → Option Bool) where
   cut x y ts v h = subst (λ us. Admits k us v) (append_assoc (occurrences x) (occurrences y) ts) h
 
   right : (x y : Formula T) (b : Bool) (ts : List T) (v : Valuation) → Sure y b → Admits k ((occurrences x ++ occurrences y) ++ ts) v → truth y (behind (occurrences x) v) ≡ b
-  right x y b ts v sure h = sure ts (behind (occurrences x) v) (admits_behind (occurrences x) (occurrences y ++ ts) v (cut x y ts v h))
+  right x y b ts v sure h = sure ts (behind (occurrences x) v) (admits_behind k (occurrences x) (occurrences y ++ ts) v (cut x y ts v h))
 
   joined : (x y : Formula T) (p q : Bool) (f : Bool → Bool → Bool) (a : Able x p) (b : Able y q) (w : Valuation)
       → f (truth x ((a.values ++ b.values) ++ w)) (truth y (behind (occurrences x) ((a.values ++ b.values) ++ w))) ≡ f p q
@@ -60,20 +39,20 @@ module _ {T : Type 0} (k : T → Option Bool) where
       let split : (a.values ++ b.values) ++ w ≡ a.values ++ (b.values ++ w) = append_assoc a.values b.values w in
       let front : truth x ((a.values ++ b.values) ++ w) ≡ p = ap (truth x) split ∙ a.is (b.values ++ w) in
       let back : truth y (behind (occurrences x) ((a.values ++ b.values) ++ w)) ≡ q =
-      ap (λ v. truth y (behind (occurrences x) v)) split ∙ ap (truth y) (behind_append (occurrences x) a.values (b.values ++ w) a.admitted) ∙ b.is w in
+      ap (λ v. truth y (behind (occurrences x) v)) split ∙ ap (truth y) (behind_append k (occurrences x) a.values (b.values ++ w) a.admitted) ∙ b.is w in
       ap (λ r. f r (truth y (behind (occurrences x) ((a.values ++ b.values) ++ w)))) front ∙ ap (f p) back
 
   able_or : (x y : Formula T) (p q : Bool) → Able x p → Able y q → Able (Formula.Or x y) (p || q)
   able_or x y p q a b = record {
     values = a.values ++ b.values;
-    admitted = admits_append (occurrences x) (occurrences y) a.values b.values a.admitted b.admitted;
+    admitted = admits_append k (occurrences x) (occurrences y) a.values b.values a.admitted b.admitted;
     is = λ w. joined x y p q (λ r s. r || s) a b w;
   }
 
   able_and : (x y : Formula T) (p q : Bool) → Able x p → Able y q → Able (Formula.And x y) (p && q)
   able_and x y p q a b = record {
     values = a.values ++ b.values;
-    admitted = admits_append (occurrences x) (occurrences y) a.values b.values a.admitted b.admitted;
+    admitted = admits_append k (occurrences x) (occurrences y) a.values b.values a.admitted b.admitted;
     is = λ w. joined x y p q (λ r s. r && s) a b w;
   }
 

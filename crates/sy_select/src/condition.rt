@@ -109,7 +109,7 @@ fn relates(number: u8, relation: Relation, other: u8) -> bool
 }
 
 /// Whether a class meets a test that it decides.
-pub fn of_class(test: &ClassTest, class: Class) -> bool
+pub(crate) fn of_class(test: &ClassTest, class: Class) -> bool
     ensures { result ≡ spec.of_class test.now class.facility class.severity }
 {
     match test {
@@ -124,7 +124,7 @@ pub fn of_class(test: &ClassTest, class: Class) -> bool
 }
 
 /// Whether a message meets a test.
-pub fn says(test: &Test, message: &Message) -> bool
+pub(crate) fn says(test: &Test, message: &Message) -> bool
     ensures { result ≡ spec.says message.now test.now }
 {
     match test {

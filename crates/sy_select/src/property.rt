@@ -59,7 +59,7 @@ fn lookup(mut table: &[(&[u8], Property)], name: &[u8]) -> Option<Property>
 
 /// The property of a name, with its `$`. Names are exact.
 #[tactic(auto, unfolding(crate::specs::Properties::property_of))]
-pub fn property_of(name: &[u8]) -> Option<Property>
+pub(crate) fn property_of(name: &[u8]) -> Option<Property>
     ensures { result ≡ spec.property_of name.now }
 {
     lookup(&PROPERTIES, name)
