@@ -6,3 +6,4 @@ pub mod NameLaws
 pub mod PartLaws
 pub mod SelectorLaws
 pub mod GrammarLaws
+pub mod OneReading

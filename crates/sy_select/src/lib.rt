@@ -2,6 +2,7 @@
 #![tactic(auto)]
 
 pub mod fault;
+pub mod laws;
 mod level;
 pub mod names;
 mod part;
@@ -12,3 +13,6 @@ mod severities;
 pub use fault::{FaultCode, SelectFault};
 pub use names::{facility_of, facility_text, severity_of, severity_text};
 pub use selector::Selector;
+
+#[cfg(test)]
+mod tests;
