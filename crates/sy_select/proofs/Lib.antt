@@ -11,4 +11,5 @@ pub mod Verdicts
 pub mod Contains
 pub mod Numbers
 pub mod Chains
-pub mod Laws
+pub mod ExprLaws
+pub mod OneReading

@@ -25,7 +25,7 @@ pub parts_start : (text sets : List ℕ) → ((f s : ℕ) → f < 24 → s < 8 �
 unfolding pairs_of
 parts_start text sets none = record { parts = []; right = refl; goes_on = λ others h. h; same = none }
 
-one_more : (parts : List Part) (part : Part) → pairs_of (parts ++ part ∷ []) ≡ apply (pairs_of parts) part
+pub one_more : (parts : List Part) (part : Part) → pairs_of (parts ++ part ∷ []) ≡ apply (pairs_of parts) part
 unfolding pairs_of
 one_more parts part = fold-append apply no_pairs parts (part ∷ [])
 

@@ -1,7 +1,7 @@
 -- Valuations of several expressions, joined and cut. Crates above use it for expressions that share one valuation.
-use Rattle.std.proofs.Common.{◌≡◌, ◌≤◌, ◌+◌, ℕ, suc, Bool, ◌||◌, ◌&&◌, not, List, [], ◌∷◌, ◌++◌, Option, length, drop, take, refl, sym, ap, subst, ◌∙◌, arith}
+use Rattle.std.proofs.Common.{◌≡◌, ◌≤◌, suc, Bool, ◌||◌, ◌&&◌, not, List, [], ◌∷◌, ◌++◌, Option, length, drop, take, refl, sym, ap, ◌∙◌, arith}
 use Rattle.std.proofs.lemmas.List.{drop_at, drop-append-le, length-append, length-drop, length-map, take-append-drop}
-use Rattle.sy_select.specs.Truth.{Formula, Valuation, first, behind, occurrences, truth, valuation, Admits, Can, Must}
+use Rattle.sy_select.specs.Truth.{Formula, Valuation, behind, occurrences, truth, valuation, Admits, Can, Must}
 
 module _ {T : Type 0} where
   -- an expression looks at no values behind those of its test occurrences

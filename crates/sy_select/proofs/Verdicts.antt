@@ -1,5 +1,5 @@
 -- The walk by three values finds exactly what the admitted valuations give, and the walk by what each test says is the truth under that valuation.
-use Rattle.std.proofs.Common.{◌≡◌, suc, Bool, true, false, ◌||◌, ◌&&◌, not, List, [], ◌∷◌, ◌++◌, Option, Some, None, length, refl, sym, ap, subst, ◌∙◌, append_assoc, append-nil}
+use Rattle.std.proofs.Common.{◌≡◌, Bool, true, false, ◌||◌, ◌&&◌, not, List, [], ◌∷◌, ◌++◌, Option, Some, None, length, refl, sym, ap, subst, ◌∙◌, append_assoc, append-nil}
 use Rattle.std.proofs.Math.Bool.{or-true, and-false}
 use Rattle.std.proofs.lemmas.List.{map-append, length-map, drop_at}
 use Rattle.sy_select.specs.declared.verdict.Verdict.{Verdict}
@@ -9,7 +9,7 @@ use Rattle.sy_select.proofs.Valuations.{admits_append, admits_behind, behind_app
 use Rattle.sy_select.specs.Walk.{holds, verdict, or_of, and_of, of_known}
 
 module _ {T : Type 0} (k : T → Option Bool) where
--- ---- what is known of an expression, whatever stands behind it
+  -- ---- what is known of an expression, whatever stands behind it
 
   -- all admitted valuations give it this truth value
   abbrev Sure : Formula T → Bool → Type 0

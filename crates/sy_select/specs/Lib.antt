@@ -8,3 +8,4 @@ pub mod Properties
 pub mod Trees
 pub mod Nodes
 pub mod Walk
+pub mod Laws

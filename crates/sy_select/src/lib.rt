@@ -4,6 +4,7 @@
 pub mod condition;
 pub mod expr;
 pub mod fault;
+pub mod laws;
 mod level;
 pub mod names;
 mod node;
@@ -20,3 +21,6 @@ pub use fault::{FaultCode, SelectFault};
 pub use names::{facility_of, facility_text, severity_of, severity_text};
 pub use selector::Selector;
 pub use verdict::Verdict;
+
+#[cfg(test)]
+mod tests;

@@ -1,6 +1,7 @@
 //! Selectors: sets of pairs of a facility and a severity, as texts like `*.info;mail.none`.
 
 ghost use Rattle.std.specs.Prelude.{◌≡◌, ◌<◌, ℕ, List, [], IfOk, IfErr, IsOk, map};
+ghost use Rattle.std.specs.Option.{option_copied};
 ghost use Rattle.sy_select.specs.Faults as spec;
 ghost use Rattle.sy_select.specs.Reading.{Refuses};
 ghost use Rattle.sy_select.specs.Selectors.{Part, IsSelector, IsSetOf, holds};
@@ -29,6 +30,14 @@ impl Model for Selector {
     ghost view = { λ a. map (λ s. s.0) a.sets };
 }
 
+// The first part of a text, and the text of the others where there are any.
+fn first_part(text: &[u8]) -> (&[u8], Option<&[u8]>)
+    ensures front { result.0.now ≡ (spec.cut 59 text.now).0 }
+    ensures behind { option_copied result.1 ≡ (spec.cut 59 text.now).1 }
+{
+    cut(text, b';')
+}
+
 // The severity sets of the facilities that the parts of a text leave.
 fn sets_of(text: &[u8]) -> Result<[Severities; 24], Refusal<'_>>
     ensures ok { IfOk result (λ sets. IsSetOf text.now (map (λ s. s.0) sets)) }
@@ -38,7 +47,7 @@ fn sets_of(text: &[u8]) -> Result<[Severities; 24], Refusal<'_>>
     let mut sets = [Severities::empty(); 24];
     let mut rest = text;
     'parts: loop {
-        let (front, behind) = cut(rest, b';');
+        let (front, behind) = first_part(rest);
         let part = read_part(text, front)?;
         part.apply(&mut sets);
         match behind {

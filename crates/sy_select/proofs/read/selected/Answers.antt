@@ -1,6 +1,6 @@
 use Rattle.std.proofs.lemmas.Result.{err_from_is_err_and}
 use Rattle.sy_select.proofs.GrammarLaws.{no_faults}
-use Rattle.sy_select.proofs.Laws.{refused_selector}
+use Rattle.sy_select.proofs.ExprLaws.{refused_selector}
 use Rattle.sy_select.proofs.read.selected.Goals as goal
 
 pub returns-in_err-selector-clause-err : goal.returns-in_err-selector-clause-err

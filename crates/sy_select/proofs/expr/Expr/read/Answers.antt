@@ -1,6 +1,6 @@
 use Rattle.std.proofs.lemmas.Result.{err_from_is_err_and}
 use Rattle.sy_select.specs.Trees.{tree_faults, written}
-use Rattle.sy_select.proofs.Laws.{for_memory, no_fault}
+use Rattle.sy_select.proofs.ExprLaws.{for_memory, no_fault}
 use Rattle.sy_select.proofs.expr.Expr.read.Goals as goal
 
 pub returns-in_err-node-clause-only : goal.returns-in_err-node-clause-only

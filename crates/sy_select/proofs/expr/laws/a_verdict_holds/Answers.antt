@@ -1,5 +1,5 @@
 use Rattle.std.proofs.Common.{true, false}
-use Rattle.sy_select.proofs.Laws.{holds_for_all}
+use Rattle.sy_select.proofs.ExprLaws.{holds_for_all}
 use Rattle.sy_select.proofs.expr.laws.a_verdict_holds.Goals as goal
 
 pub returns : goal.returns

@@ -1,4 +1,4 @@
-use Rattle.sy_select.proofs.Laws.{as_numbers}
+use Rattle.sy_select.proofs.ExprLaws.{as_numbers}
 use Rattle.sy_select.proofs.expr.laws.numbers_compare_as_numbers.Goals as goal
 
 pub returns : goal.returns

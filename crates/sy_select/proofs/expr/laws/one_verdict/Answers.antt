@@ -1,5 +1,5 @@
 use Rattle.sy_select.specs.Properties.{known}
-use Rattle.sy_select.proofs.Laws.{same_verdict}
+use Rattle.sy_select.proofs.ExprLaws.{same_verdict}
 use Rattle.sy_select.proofs.expr.laws.one_verdict.Goals as goal
 
 pub returns : goal.returns

@@ -1,5 +1,5 @@
 use Rattle.sy_select.specs.Properties.{known}
-use Rattle.sy_select.proofs.Laws.{opposite_of_not}
+use Rattle.sy_select.proofs.ExprLaws.{opposite_of_not}
 use Rattle.sy_select.proofs.expr.laws.the_opposite_of_not.Goals as goal
 
 pub returns : goal.returns
