@@ -1,0 +1,15 @@
+pub mod ApplyLaws
+pub mod Bits
+pub mod Cutting
+pub mod LevelLaws
+pub mod NameLaws
+pub mod PartLaws
+pub mod SelectorLaws
+pub mod GrammarLaws
+pub mod Valuations
+pub mod Verdicts
+pub mod Contains
+pub mod Numbers
+pub mod Chains
+pub mod ExprLaws
+pub mod OneReading

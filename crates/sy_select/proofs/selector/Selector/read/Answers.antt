@@ -1,0 +1,5 @@
+use Rattle.sy_select.proofs.GrammarLaws.{refused_is_none}
+use Rattle.sy_select.proofs.selector.Selector.read.Goals as goal
+
+pub returns-in-Err-clause-only : goal.returns-in-Err-clause-only
+returns-in-Err-clause-only c = λ parts h. absurd (refused_is_none c.args.text.now _ _ c.in-Err.ensures.err.1 parts h)

@@ -1,0 +1,101 @@
+-- The faults of a text that is no selector. They stand at its pieces, and come in the order of the text; the first is the one that is answered.
+use Rattle.std.specs.Prelude.{◌≡◌, ℕ, Bool, true, false, not, ◌||◌, ◌&&◌, if◌then◌else◌, ◌==◌, ◌⊎◌, List, [], ◌∷◌, ◌++◌, length, Option, Some, None, codes}
+use Rattle.std.specs.Char.{is_ascii_alphanumeric}
+use Rattle.std.specs.List.{flat_map, list_all, slice_split}
+use Rattle.std.specs.Str.{str_eq_ignore_ascii_case, bytes_eq}
+use Rattle.sy_select.specs.declared.fault.FaultCode.{FaultCode}
+use Rattle.sy_select.specs.declared.fault.FaultCode.TheVariants as code
+use Rattle.sy_select.specs.declared.fault.SelectFault.{SelectFault}
+use Rattle.sy_select.specs.Names.{facility_of, severity_of}
+
+abbrev pub number : FaultCode → ℕ
+number code.Facility = 31
+number code.Severity = 32
+number code.Shape = 33
+number code.Operator = 34
+number code.NoMemory = 35
+number code.Unknown = 42
+
+-- ---- pieces
+
+-- what stands before the first such byte, and behind it where there is one
+unfoldable pub cut : ℕ → List ℕ → List ℕ × Option (List ℕ)
+cut mark [] = ([], None)
+cut mark (b ∷ bytes) = if b == mark then ([], Some bytes) else (b ∷ (cut mark bytes).0, (cut mark bytes).1)
+
+-- the pieces between such bytes
+abbrev pub pieces : ℕ → List ℕ → List (List ℕ)
+pieces mark text = slice_split (λ b. b == mark) text
+
+-- the text without such a byte at its head
+abbrev pub behind_sign : ℕ → List ℕ → List ℕ
+behind_sign sign [] = []
+behind_sign sign (b ∷ bytes) = if b == sign then bytes else b ∷ bytes
+
+-- a level without its signs, of which there may be one `!` and then one `=`
+abbrev pub behind_signs : List ℕ → List ℕ
+behind_signs text = behind_sign 61 (behind_sign 33 text)
+
+abbrev pub all_alphanumeric : List ℕ → Bool
+all_alphanumeric = list_all is_ascii_alphanumeric
+
+-- a piece made of letters and digits
+unfoldable pub is_word : List ℕ → Bool
+is_word text = not (length text == 0) && all_alphanumeric text
+
+abbrev pub is_some : Option ℕ → Bool
+is_some None = false
+is_some (Some n) = true
+
+-- ---- faults. The first argument is always the whole selector.
+
+abbrev pub shape : List ℕ → SelectFault
+shape whole = record { code = code.Shape; word = whole }
+
+-- a piece that should be a name, and is none: it is the word where it is made of letters and digits
+abbrev pub no_name : FaultCode → List ℕ → List ℕ → SelectFault
+no_name c whole piece = if is_word piece then record { code = c; word = piece } else shape whole
+
+abbrev pub facility_faults : List ℕ → List ℕ → List SelectFault
+facility_faults whole piece = if is_some (facility_of piece) then [] else no_name code.Facility whole piece ∷ []
+
+-- "*", or names of facilities between commas
+unfoldable pub facilities_faults : List ℕ → List ℕ → List SelectFault
+facilities_faults whole text = if bytes_eq text (codes "*") then [] else flat_map (facility_faults whole) (pieces 44 text)
+
+-- "*", "none" and "!*" are levels; "none" behind a sign is none; else the name of a severity stands behind the signs
+unfoldable pub level_faults : List ℕ → List ℕ → List SelectFault
+level_faults whole text =
+    if bytes_eq text (codes "*") || bytes_eq text (codes "!*") || str_eq_ignore_ascii_case (codes "none") text then []
+    else if str_eq_ignore_ascii_case (codes "none") (behind_signs text) then shape whole ∷ []
+    else if is_some (severity_of (behind_signs text)) then []
+    else no_name code.Severity whole (behind_signs text) ∷ []
+
+-- the level behind the dot, or the fault that there is none
+abbrev pub behind_dot : List ℕ → Option (List ℕ) → List SelectFault
+behind_dot whole None = shape whole ∷ []
+behind_dot whole (Some level) = level_faults whole level
+
+unfoldable pub part_faults : List ℕ → List ℕ → List SelectFault
+part_faults whole part = facilities_faults whole (cut 46 part).0 ++ behind_dot whole (cut 46 part).1
+
+-- all faults of a text, from left to right
+unfoldable pub faults : List ℕ → List SelectFault
+faults text = flat_map (part_faults text) (pieces 59 text)
+
+-- the fault that a text is refused for: its first
+abbrev pub IsFirstFault : List ℕ → SelectFault → Type 0
+IsFirstFault text fault = (later : List SelectFault) × (faults text ≡ fault ∷ later)
+
+abbrev pub no_memory : SelectFault
+no_memory = record { code = code.NoMemory; word = [] }
+
+-- what is answered for a fault: the fault, or that there is no memory for its word
+abbrev pub IsAnswered : SelectFault → SelectFault → Type 0
+IsAnswered fault answer = (answer ≡ fault) ⊎ (answer ≡ no_memory)
+
+-- the text is refused for its first fault
+pub record IsRefused (text : List ℕ) (answer : SelectFault) : Type 0 where
+  pub fault : SelectFault
+  pub is_first : IsFirstFault text fault
+  pub answered : IsAnswered fault answer

@@ -1,0 +1,11 @@
+pub mod Names
+pub mod Selectors
+pub mod Faults
+pub mod Reading
+pub mod Truth
+pub mod Codes
+pub mod Properties
+pub mod Trees
+pub mod Nodes
+pub mod Walk
+pub mod Laws
