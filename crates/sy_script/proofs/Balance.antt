@@ -115,7 +115,7 @@ mutual
   body_balanced (g.BodyAt.close {c = c} {rest = rest} h) = (c, rest, Balanced.none, h, refl)
   body_balanced (g.BodyAt.stmt a b) = let m = body_balanced b in (m.0, m.1, balanced_on (stmt_balanced a) m.2, m.3, m.4)
 
-pub top_balanced : {text : List ℕ} {x : Top} {ts rest : List Token} → g.TopAt text x ts rest → Balanced ts rest
+pub top_balanced : {text : List ℕ} {left : ℕ} {x : Top} {ts rest : List Token} → g.TopAt text left x ts rest → Balanced ts rest
 top_balanced (g.TopAt.object {w = w} a b) = Balanced.other (object_plain w.kind _ a) (params_balanced b)
 top_balanced (g.TopAt.rules {w = w} a b c d) = let m = body_balanced d in plain w k.Ruleset a refl (balanced_on (params_balanced b) (Balanced.braces c m.2 m.3 (to_rest m.4 Balanced.none)))
 top_balanced (g.TopAt.stmt a) = stmt_balanced a

@@ -20,3 +20,5 @@ pub mod Pieces
 pub mod Cuts
 pub mod FaultsStand
 pub mod Depths
+pub mod Reaches
+pub mod Deeper

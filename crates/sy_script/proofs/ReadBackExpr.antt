@@ -111,7 +111,7 @@ any_expr bytes l o j ts us rest x xs h is more =
     (ap (λ b. joined_by bytes l o x (is_some b) (is_some (behind k.And (j ∷ us))) (j ∷ us)) (behind_reads k.Or j us is)
     ∙ then_reads (chain_at bytes l o k.Or x (j ∷ us)) _ xs rest _ more refl)
 
-and_not_or : (j : Token) (us : List Token) → j.kind ≡ k.And → behind k.Or (j ∷ us) ≡ None
+pub and_not_or : (j : Token) (us : List Token) → j.kind ≡ k.And → behind k.Or (j ∷ us) ≡ None
 unfolding same_kind
 and_not_or j us is = behind_other k.Or k.And j us is refl
 
@@ -160,7 +160,7 @@ mutual
   group_opens {bytes} (g.GroupAt.group {left = left} {o = p} {c = c} {x = x} {ts = ts} {rest = rest} is inner is_c) =
       record { t = p; us = ts; is_ts = refl; is_paren = is; reads = grouped bytes left p c ts rest x (expr_reads (Some p.span.start) (paren_no_joint c rest is_c) inner) is_c }
 
-  unit_reads : {bytes : List ℕ} {left : ℕ} {x : ExprTree} {ts rest : List Token} (o : Open) → g.UnitAt bytes left x ts rest → unit_at bytes (level bytes left) o ts ≡ Ok (x, rest)
+  pub unit_reads : {bytes : List ℕ} {left : ℕ} {x : ExprTree} {ts rest : List Token} (o : Open) → g.UnitAt bytes left x ts rest → unit_at bytes (level bytes left) o ts ≡ Ok (x, rest)
   unit_reads {bytes} o (g.UnitAt.grouped {left = left} {x = x} {ts = ts} {rest = rest} d) = opens_unit bytes left o x ts rest (group_opens d)
   unit_reads {bytes} o (g.UnitAt.not_grouped {left = left} {n = n} {x = x} {ts = ts} {rest = rest} is d) =
       not_unit bytes left o n ts rest (e.Not x) is (opens_negated bytes left o x ts rest (group_opens d))

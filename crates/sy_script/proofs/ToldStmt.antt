@@ -127,7 +127,7 @@ module _ (bytes : List ℕ) (ts : List Token) where
 
   -- ---- the top of a file
 
-  rules_told : (w : Token) (us : List Token) (h : Halt) → w.kind ≡ k.Ruleset → TopPlace bytes ts (w ∷ us) → IsOpen ts None us → rules bytes w us ≡ Err h → Told bytes ts h
+  rules_told : (w : Token) (us : List Token) (h : Halt) → w.kind ≡ k.Ruleset → TopPlace bytes ts (w ∷ us) → IsOpen ts None us → rules bytes max_depth w us ≡ Err h → Told bytes ts h
   unfolding rules
   rules_told w us h same place is e = bind_told bytes ts (params bytes None us) _ h e (params_told bytes ts None us h is) (λ x ok e2.
       let ps : g.ParamsAt bytes x.0 us x.1 = params_ok bytes None us x ok in
@@ -138,19 +138,19 @@ module _ (bytes : List ℕ) (ts : List Token) where
       let s : Open = Some o.0.span.start in
       bind_told bytes ts (body bytes max_depth s o.1) _ h e3 (whole_body_told s o.1 h (open_in o.0 o.1 (open_as b.0 is2) (ap opens b.1)) (BodyPlace.rules place same ps2 b.1)) (λ y ok3. pure_told bytes ts _ y.1 h)))
 
-  other_top_told : (is_rules : Bool) (w : Token) (after us : List Token) (h : Halt) → same_kind w.kind k.Ruleset ≡ is_rules → us ≡ w ∷ after → TopPlace bytes ts us → IsOpen ts None us → other_top bytes is_rules w after us ≡ Err h → Told bytes ts h
+  other_top_told : (is_rules : Bool) (w : Token) (after us : List Token) (h : Halt) → same_kind w.kind k.Ruleset ≡ is_rules → us ≡ w ∷ after → TopPlace bytes ts us → IsOpen ts None us → other_top bytes max_depth is_rules w after us ≡ Err h → Told bytes ts h
   other_top_told true w after us h is_rules at place is e =
       let same : w.kind ≡ k.Ruleset = kind_is _ _ is_rules in
       let P : List Token → Type 0 = λ v. TopPlace bytes ts v in
-      bind_told bytes ts (rules bytes w after) _ h e (rules_told w after h same (subst P at place) (open_plain w after (open_as at is) same refl)) (λ x ok. pure_told bytes ts _ x.1 h)
+      bind_told bytes ts (rules bytes max_depth w after) _ h e (rules_told w after h same (subst P at place) (open_plain w after (open_as at is) same refl)) (λ x ok. pure_told bytes ts _ x.1 h)
   other_top_told false w after us h is_rules at place is e = bind_told bytes ts (stmt bytes max_depth None us) _ h e (whole_stmt_told us h is place) (λ x ok. pure_told bytes ts _ x.1 h)
 
-  top_by_told : (kind : Option ObjectKind) (w : Token) (after us : List Token) (h : Halt) → object_kind w.kind ≡ kind → us ≡ w ∷ after → TopPlace bytes ts us → IsOpen ts None us → top_by bytes kind w after us ≡ Err h → Told bytes ts h
+  top_by_told : (kind : Option ObjectKind) (w : Token) (after us : List Token) (h : Halt) → object_kind w.kind ≡ kind → us ≡ w ∷ after → TopPlace bytes ts us → IsOpen ts None us → top_by bytes max_depth kind w after us ≡ Err h → Told bytes ts h
   top_by_told (Some kind) w after us h same at place is e =
       bind_told bytes ts (params bytes None after) _ h e (params_told bytes ts None after h (open_on (open_as at is) (Balanced.other (object_plain w.kind kind same) Balanced.none))) (λ x ok. pure_told bytes ts _ x.1 h)
   top_by_told None w after us h same at place is e = other_top_told (same_kind w.kind k.Ruleset) w after us h refl at place is e
 
-  top_told : (us : List Token) (h : Halt) → TopPlace bytes ts us → IsOpen ts None us → top bytes us ≡ Err h → Told bytes ts h
+  top_told : (us : List Token) (h : Halt) → TopPlace bytes ts us → IsOpen ts None us → top bytes max_depth us ≡ Err h → Told bytes ts h
   unfolding top
   top_told us h place is e = bind_told bytes ts (first None us) _ h e (first_told bytes ts None us h is) (λ x ok. top_by_told (object_kind x.0.kind) x.0 x.1 us h refl (first_ok None us x ok) place is)
 
@@ -158,14 +158,14 @@ module _ (bytes : List ℕ) (ts : List Token) where
   tops_cases (Ok x) more h e one two = two x refl e
   tops_cases (Err d) more h e one two = one (let same : d ≡ h = cc in ap Err same)
 
-  tops_from_told : (n : ℕ) (found : List Top) (us : List Token) (h : Halt) → TopPlace bytes ts us → IsOpen ts None us → tops_from bytes n found us ≡ Err h → Told bytes ts h
+  tops_from_told : (n : ℕ) (found : List Top) (us : List Token) (h : Halt) → TopPlace bytes ts us → IsOpen ts None us → tops_from bytes max_depth n found us ≡ Err h → Told bytes ts h
   unfolding tops_from
   tops_from_told zero found us h place is e = absurd cc
   tops_from_told (suc n) found [] h place is e = absurd cc
-  tops_from_told (suc n) found (w ∷ us) h place is e = tops_cases (top bytes (w ∷ us)) _ h e (top_told (w ∷ us) h place is) (λ x ok.
+  tops_from_told (suc n) found (w ∷ us) h place is e = tops_cases (top bytes max_depth (w ∷ us)) _ h e (top_told (w ∷ us) h place is) (λ x ok.
       let d = top_ok bytes (w ∷ us) x ok in
       tops_from_told n (found ++ x.0 ∷ []) x.1 h (TopPlace.next place d) (open_on is (top_balanced d)))
 
-pub tops_told : (bytes : List ℕ) (ts : List Token) (h : Halt) → tops bytes ts ≡ Err h → Told bytes ts h
+pub tops_told : (bytes : List ℕ) (ts : List Token) (h : Halt) → tops bytes max_depth ts ≡ Err h → Told bytes ts h
 unfolding tops
 tops_told bytes ts h e = tops_from_told bytes ts (length ts) [] ts h TopPlace.start (IsOpen.nothing Balanced.none) e

@@ -12,7 +12,7 @@ use Rattle.sy_script.specs.declared.script.Fault.{Fault}
 use Rattle.sy_script.specs.declared.tree.Top.{Top}
 use Rattle.sy_script.specs.declared.tree.Script.{Script}
 use Rattle.sy_script.specs.Lex.{tokens}
-use Rattle.sy_script.specs.ReadingStmt.{tops}
+use Rattle.sy_script.specs.ReadingStmt.{max_depth, tops}
 
 abbrev pub number : FaultCode → ℕ
 number code.Byte = 21
@@ -67,7 +67,7 @@ ended len end (Err halt) = Err (fault_of len end halt)
 
 -- the tree or the fault
 unfoldable pub reading : List ℕ → Result Script Fault
-reading text = ended (length text) (tokens text).1 (tops text (tokens text).0)
+reading text = ended (length text) (tokens text).1 (tops text max_depth (tokens text).0)
 
 abbrev pub located : List ℕ → Fault → ScriptFault
 located text f =

@@ -12,7 +12,7 @@ use Rattle.sy_script.specs.declared.tree.Top.{Top}
 use Rattle.sy_script.specs.Lex.{is_blank, starts_word, is_escaped}
 use Rattle.sy_script.specs.Tokens.{NoneNext, is_equals, InString, NoEnd, Cut, AreTokens}
 use Rattle.sy_script.specs.Brackets.{Balanced, IsInnermost}
-use Rattle.sy_script.specs.Grammar.{TopsAt}
+use Rattle.sy_script.specs.Grammar.{TopsAt, Begins}
 use Rattle.sy_script.specs.Standing.{StmtPlace, BlockPlace, UnitPlace, GroupPlace}
 use Rattle.sy_script.specs.Place.{IsPlace}
 use Rattle.sy_script.specs.Answer.{max_text}
@@ -48,12 +48,6 @@ pub data IsUnclosed (text : List ℕ) : ℕ → Type 0 where
   comment : {ts : List Token} {at : ℕ} {bytes : List ℕ} → Cut 0 text ts at (47 ∷ 42 ∷ bytes) → NoEnd bytes → IsUnclosed text at
   bracket : {ts : List Token} {o : Token} → AreTokens text ts → IsInnermost ts o [] → IsUnclosed text o.span.start
 
--- Fault 23: no script begins with the tokens up to this one and with it; or, at the end of the text, nothing is open and its tokens are no script.
-pub data IsUnexpected (text : List ℕ) : ℕ → Type 0 where
-  token : {ts : List Token} {at : ℕ} {left : List ℕ} (front rest : List Token) (t : Token) → Cut 0 text ts at left → ts ≡ front ++ t ∷ rest
-      → ((tree : List Top) (more : List Token) → TopsAt text tree (front ++ t ∷ more) → ⊥) → IsUnexpected text t.span.start
-  end : {ts : List Token} → AreTokens text ts → Balanced ts [] → ((tree : List Top) → TopsAt text tree ts → ⊥) → IsUnexpected text (length text)
-
 -- what a block begins with
 abbrev pub begins_block : Kind → Bool
 begins_block k.LeftBrace = true
@@ -86,6 +80,12 @@ pub data BeginsLeftOut (text : List ℕ) (ts : List Token) : Token → Type 0 wh
 -- Fault 26: here begins a statement that this profile leaves out, with this word.
 pub data IsLeftOut (text : List ℕ) : ℕ → List ℕ → Type 0 where
   token : {ts : List Token} {t : Token} {at : ℕ} {rest : List ℕ} → Cut 0 text ts at rest → BeginsLeftOut text ts t → IsLeftOut text t.span.start (slice_range text t.span.start t.span.end)
+
+-- Fault 23: no token is too deep or begins what is left out, and with this one the tokens begin no script, however deep; or, at the end of the text, nothing is open and its tokens are no script, however deep.
+pub data IsUnexpected (text : List ℕ) : ℕ → Type 0 where
+  token : {ts : List Token} {at : ℕ} {left : List ℕ} (front rest : List Token) (t : Token) → Cut 0 text ts at left → ts ≡ front ++ t ∷ rest → ((u : Token) → Deepens text ts u → ⊥) → ((u : Token) → BeginsLeftOut text ts u → ⊥)
+      → (Begins text (front ++ t ∷ []) → ⊥) → IsUnexpected text t.span.start
+  end : {ts : List Token} → AreTokens text ts → Balanced ts [] → ((left : ℕ) (tree : List Top) → TopsAt text left tree ts → ⊥) → IsUnexpected text (length text)
 
 -- ---- lines and columns
 

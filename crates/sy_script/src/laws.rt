@@ -5,7 +5,7 @@ ghost use Rattle.sy_script.specs.Answer as answer;
 ghost use Rattle.sy_script.specs.DeadEnd.{AtToken, IsDeadEnd};
 ghost use Rattle.sy_script.specs.Depth.{stmt_depth};
 ghost use Rattle.sy_script.specs.Grammar.{IsScript, StmtAt};
-ghost use Rattle.sy_script.specs.ReadingStmt.{tops};
+ghost use Rattle.sy_script.specs.ReadingStmt.{max_depth, tops};
 ghost use Rattle.sy_script.specs.declared.token.Kind.{Kind};
 ghost use Rattle.sy_script.specs.declared.token.Token.{Token};
 ghost use Rattle.sy_script.specs.declared.halt.Halt.{Halt};
@@ -47,5 +47,5 @@ pub fn places()
 
 /// A token that reading stops at may not stand there: no script begins with the tokens up to it.
 pub fn dead_ends()
-    ensures { (text : List ℕ) (ts : List Token) (h : Halt) → AtToken h → tops text ts ≡ Err h → IsDeadEnd text ts h }
+    ensures { (text : List ℕ) (ts : List Token) (h : Halt) → AtToken h → tops text max_depth ts ≡ Err h → IsDeadEnd text ts h }
 {}
