@@ -22,3 +22,6 @@ pub mod FaultsStand
 pub mod Depths
 pub mod Reaches
 pub mod Deeper
+pub mod Moves
+pub mod Holes
+pub mod OnePlace

@@ -81,11 +81,17 @@ pub data BeginsLeftOut (text : List ℕ) (ts : List Token) : Token → Type 0 wh
 pub data IsLeftOut (text : List ℕ) : ℕ → List ℕ → Type 0 where
   token : {ts : List Token} {t : Token} {at : ℕ} {rest : List ℕ} → Cut 0 text ts at rest → BeginsLeftOut text ts t → IsLeftOut text t.span.start (slice_range text t.span.start t.span.end)
 
--- Fault 23: no token is too deep or begins what is left out, and with this one the tokens begin no script, however deep; or, at the end of the text, nothing is open and its tokens are no script, however deep.
+-- none of the tokens makes the depth 33, and none begins what this profile leaves out
+pub record NoneRefused (text : List ℕ) (ts : List Token) : Type 0 where
+  pub none_deepens : (t : Token) → Deepens text ts t → ⊥
+  pub none_left_out : (t : Token) → BeginsLeftOut text ts t → ⊥
+
+-- Fault 23: another token in a wrong place. The tokens before it are the beginning of a script, and with it they are the beginning of none, however deep.
+-- At the end of the text: nothing is open, and the tokens are the beginning of a script, but no script, however deep.
 pub data IsUnexpected (text : List ℕ) : ℕ → Type 0 where
-  token : {ts : List Token} {at : ℕ} {left : List ℕ} (front rest : List Token) (t : Token) → Cut 0 text ts at left → ts ≡ front ++ t ∷ rest → ((u : Token) → Deepens text ts u → ⊥) → ((u : Token) → BeginsLeftOut text ts u → ⊥)
-      → (Begins text (front ++ t ∷ []) → ⊥) → IsUnexpected text t.span.start
-  end : {ts : List Token} → AreTokens text ts → Balanced ts [] → ((left : ℕ) (tree : List Top) → TopsAt text left tree ts → ⊥) → IsUnexpected text (length text)
+  token : {ts : List Token} {at : ℕ} {left : List ℕ} (front rest : List Token) (t : Token) → Cut 0 text ts at left → ts ≡ front ++ t ∷ rest → NoneRefused text ts
+      → Begins text front → (Begins text (front ++ t ∷ []) → ⊥) → IsUnexpected text t.span.start
+  end : {ts : List Token} → AreTokens text ts → NoneRefused text ts → Balanced ts [] → Begins text ts → ((left : ℕ) (tree : List Top) → TopsAt text left tree ts → ⊥) → IsUnexpected text (length text)
 
 -- ---- lines and columns
 
