@@ -25,3 +25,5 @@ pub mod Deeper
 pub mod Moves
 pub mod Holes
 pub mod OnePlace
+pub mod Even
+pub mod NoFault

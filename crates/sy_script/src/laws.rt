@@ -4,7 +4,10 @@ ghost use Rattle.std.specs.Prelude.{◌≡◌, ◌≤◌, ◌↔◌, ℕ, List, 
 ghost use Rattle.sy_script.specs.Answer as answer;
 ghost use Rattle.sy_script.specs.DeadEnd.{AtToken, IsDeadEnd};
 ghost use Rattle.sy_script.specs.Depth.{stmt_depth};
+ghost use Rattle.sy_script.specs.Faults.{Stands};
 ghost use Rattle.sy_script.specs.Grammar.{IsScript, StmtAt};
+ghost use Rattle.sy_script.specs.declared.fault.FaultCode.TheVariants as code;
+ghost use Rattle.sy_script.specs.declared.fault.ScriptFault.{ScriptFault};
 ghost use Rattle.sy_script.specs.ReadingStmt.{max_depth, tops};
 ghost use Rattle.sy_script.specs.declared.token.Kind.{Kind};
 ghost use Rattle.sy_script.specs.declared.token.Token.{Token};
@@ -18,6 +21,11 @@ ghost use Rattle.sy_script.specs.declared.tree.Stmt.{Stmt};
 /// One text, one tree.
 pub fn one_tree()
     ensures { (text : List ℕ) (a b : Script) → IsScript text a → IsScript text b → a ≡ b }
+{}
+
+/// A script has no fault.
+pub fn no_fault()
+    ensures { (text : List ℕ) (script : Script) (f : ScriptFault) → IsScript text script → Stands text f → f.code ≡ code.NoMemory }
 {}
 
 /// The bytes at a place begin with one token, so none that is longer or shorter.
