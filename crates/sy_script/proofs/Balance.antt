@@ -11,9 +11,7 @@ use Rattle.sy_script.specs.declared.tree.ObjectKind.{ObjectKind}
 use Rattle.sy_script.specs.declared.tree.Block.{Block}
 use Rattle.sy_script.specs.declared.tree.Stmt.{Stmt}
 use Rattle.sy_script.specs.declared.tree.Top.{Top}
-use Rattle.sy_script.specs.Reading.{is_word, is_text}
-use Rattle.sy_script.specs.ReadingExpr.{operator_of}
-use Rattle.sy_script.specs.ReadingStmt.{object_kind}
+use Rattle.sy_script.specs.Terms.{is_text, is_word, object_kind, operator_of}
 use Rattle.sy_script.specs.Grammar as g
 use Rattle.sy_script.specs.Brackets.{is_bracket, Balanced}
 

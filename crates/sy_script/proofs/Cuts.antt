@@ -14,7 +14,8 @@ use Rattle.sy_script.specs.declared.lex.State.TheVariants as s
 use Rattle.sy_script.specs.declared.lex.Quote.{Quote}
 use Rattle.sy_script.specs.declared.lex.Quote.TheVariants as quote
 use Rattle.sy_script.specs.declared.lex.Move.TheVariants as move
-use Rattle.sy_script.specs.Lex.{Lexing, is_blank, starts_word, is_in_word, is_escaped, begin, with_front, follow, tokens_from, tokens}
+use Rattle.sy_script.specs.Terms.{is_blank, is_escaped, is_in_word, starts_word}
+use Rattle.sy_script.specs.Lex.{Lexing, begin, with_front, follow, tokens_from, tokens}
 use Rattle.sy_script.specs.Tokens.{All, NoneNext, is_equals, is_no_feed, InString, NoEnd, PieceAt, with_token, Cut, AreTokens}
 use Rattle.sy_script.specs.Spans.{InOrder}
 use Rattle.sy_script.specs.Faults.{is_sign, is_quote, is_star, BeginsNone}
@@ -486,6 +487,9 @@ open_reads text at _ _ (OpenAt.comment {bytes = bytes} h) =
     begins text (s.Slash at) at 47 (42 ∷ bytes) refl ∙ (goes text (s.Slash at) (s.BlockComment at) (at + 1) 42 bytes refl ∙ comment_open text false at (at + 1 + 1) bytes h)
 
 -- the tokens of a front of a text, and those behind it
+pub cut_in : (text : List ℕ) {ts : List Token} {end : ℕ} {rest : List ℕ} → Cut 0 text ts end rest → (more : List Token) × ((tokens text).0 ≡ ts ++ more)
+cut_in text {end = end} {rest = rest} c = ((tokens_from text s.Between end rest).0, ap (λ (l : Lexing). l.0) (cut_reads text [] refl refl c))
+
 pub cut_front : (text : List ℕ) {ts us : List Token} {end : ℕ} {rest : List ℕ} → Cut 0 text ts end rest → AreTokens text us → (more : List Token) × (us ≡ ts ++ more)
 cut_front text {ts = ts} {us = us} {end = end} {rest = rest} c a =
     ((tokens_from text s.Between end rest).0, ap (λ (l : Lexing). l.0) (sym (are_tokens text us a) ∙ cut_reads text [] refl refl c))

@@ -20,7 +20,7 @@ use Rattle.sy_script.specs.declared.tree.Stmt.{Stmt}
 use Rattle.sy_script.specs.declared.tree.Stmt.TheVariants as s
 use Rattle.sy_script.specs.declared.tree.Top.{Top}
 use Rattle.sy_script.specs.declared.tree.Script.{Script}
-use Rattle.sy_script.specs.ReadingStmt.{max_depth}
+use Rattle.sy_script.specs.Terms.{max_depth}
 use Rattle.sy_script.specs.Grammar as g
 use Rattle.sy_script.specs.Depth.{greater, most, expr_step, expr_depth, block_step, stmt_step, block_depth, stmt_depth, top_depth, depth}
 

@@ -12,9 +12,10 @@ use Rattle.sy_script.specs.declared.fault.ScriptFault.{ScriptFault}
 use Rattle.sy_script.specs.declared.script.Fault.{Fault}
 use Rattle.sy_script.specs.declared.tree.Span.{Span}
 use Rattle.sy_script.specs.declared.tree.Top.{Top}
+use Rattle.sy_script.specs.Terms.{max_depth}
 use Rattle.sy_script.specs.Lex.{tokens}
 use Rattle.sy_script.specs.Grammar as g
-use Rattle.sy_script.specs.ReadingStmt.{max_depth, tops}
+use Rattle.sy_script.specs.ReadingStmt.{tops}
 use Rattle.sy_script.specs.Answer.{at, at_end, fault_of, ended_by, ended, reading, located, place, Locates}
 use Rattle.sy_script.specs.Tokens.{Cut, AreTokens}
 use Rattle.sy_script.specs.Faults.{IsBadByte, IsUnclosed, IsUnexpected, IsTooDeep, IsLeftOut, NoneRefused, At, Stands}
@@ -64,7 +65,7 @@ module _ (text : List ℕ) where
         | inr is ↦ (let no : (let r : Result (List Top) Halt = Err h in r) ≡ Ok tree = sym e ∙ (is ∙ read) in cc)
       ]
 
-  no_beginning : (front : List Token) (t : Token) (span : Span) → ((more : List Token) → tops text max_depth (front ++ t ∷ more) ≡ Err (halt.Unexpected span)) → g.Begins text (front ++ t ∷ []) → ⊥
+  pub no_beginning : (front : List Token) (t : Token) (span : Span) → ((more : List Token) → tops text max_depth (front ++ t ∷ more) ≡ Err (halt.Unexpected span)) → g.Begins text (front ++ t ∷ []) → ⊥
   no_beginning front t span again b =
       let P : List Token → Type 0 = λ v. g.TopsAt text b.0 b.1 v in
       no_tree (front ++ t ∷ b.2) (halt.Unexpected span) (λ deep same. cc) (again b.2) b.0 b.1 (subst P (append_assoc front (t ∷ []) b.2) b.3)

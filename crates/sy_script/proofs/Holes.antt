@@ -9,7 +9,7 @@ use Rattle.sy_script.specs.declared.tree.Block.{Block}
 use Rattle.sy_script.specs.declared.tree.Stmt.{Stmt}
 use Rattle.sy_script.specs.declared.tree.Top.{Top}
 use Rattle.sy_script.specs.declared.tree.Top.TheVariants as t
-use Rattle.sy_script.specs.ReadingStmt.{max_depth}
+use Rattle.sy_script.specs.Terms.{max_depth}
 use Rattle.sy_script.specs.Grammar as g
 use Rattle.sy_script.specs.Standing.{is_joint, TopPlace, StmtPlace, BodyPlace, BlockPlace, ExprPlace, UnitPlace, JointPlace, GroupPlace}
 use Rattle.sy_script.proofs.Depths.{expr_up, unit_up, more_up, stmt_up, block_up, body_up, top_up, tops_up}
@@ -19,7 +19,7 @@ use Rattle.sy_script.proofs.Moves.{params_moves, group_moves, unit_moves, expr_m
 abbrev pub tok : Kind → Token
 tok kind = record { kind = kind; span = record { start = 0; end = 0 } }
 
-begins_front : (bytes : List ℕ) (f h : List Token) → g.Begins bytes (f ++ h) → g.Begins bytes f
+pub begins_front : (bytes : List ℕ) (f h : List Token) → g.Begins bytes (f ++ h) → g.Begins bytes f
 begins_front bytes f h b = let P : List Token → Type 0 = λ v. g.TopsAt bytes b.0 b.1 v in (b.0, b.1, h ++ b.2, subst P (append_assoc f h b.2) b.3)
 
 -- the tokens up to these are the beginning of a script

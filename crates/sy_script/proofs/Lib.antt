@@ -27,3 +27,4 @@ pub mod Holes
 pub mod OnePlace
 pub mod Even
 pub mod NoFault
+pub mod OneFault

@@ -10,7 +10,7 @@ use Rattle.sy_script.specs.declared.tree.ObjectKind.{ObjectKind}
 use Rattle.sy_script.specs.declared.tree.Block.{Block}
 use Rattle.sy_script.specs.declared.tree.Stmt.{Stmt}
 use Rattle.sy_script.specs.declared.tree.Top.{Top}
-use Rattle.sy_script.specs.ReadingStmt.{object_kind}
+use Rattle.sy_script.specs.Terms.{object_kind}
 use Rattle.sy_script.specs.Grammar as g
 use Rattle.sy_script.specs.Grammar.{NoElse}
 

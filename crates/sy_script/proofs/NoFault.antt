@@ -8,7 +8,8 @@ use Rattle.sy_script.specs.declared.fault.FaultCode.TheVariants as code
 use Rattle.sy_script.specs.declared.fault.ScriptFault.{ScriptFault}
 use Rattle.sy_script.specs.declared.tree.Top.{Top}
 use Rattle.sy_script.specs.declared.tree.Script.{Script}
-use Rattle.sy_script.specs.ReadingStmt.{max_depth, tops}
+use Rattle.sy_script.specs.Terms.{max_depth}
+use Rattle.sy_script.specs.ReadingStmt.{tops}
 use Rattle.sy_script.specs.Grammar as g
 use Rattle.sy_script.specs.Brackets.{Balanced}
 use Rattle.sy_script.specs.Tokens.{Cut}

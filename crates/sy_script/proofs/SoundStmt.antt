@@ -15,11 +15,12 @@ use Rattle.sy_script.specs.declared.tree.Ruleset.{Ruleset}
 use Rattle.sy_script.specs.declared.tree.Top.{Top}
 use Rattle.sy_script.specs.declared.tree.Top.TheVariants as t
 use Rattle.sy_script.specs.declared.tree.Script.{Script}
+use Rattle.sy_script.specs.Terms.{max_depth, max_text, object_kind}
 use Rattle.sy_script.specs.Lex.{tokens}
 use Rattle.sy_script.specs.Reading.{Outcome, Parser, Open, and_then, refuse, same_kind, first, expect, behind, word, items_from, params}
 use Rattle.sy_script.specs.ReadingExpr.{expr}
-use Rattle.sy_script.specs.ReadingStmt.{max_depth, otherwise_by, choice_at, stmt_by, stmt_at, body_at, block_by, block, stmt, body, object_kind, rules, other_top, top_by, top, tops_then, tops_from, tops}
-use Rattle.sy_script.specs.Answer.{max_text, ended, reading}
+use Rattle.sy_script.specs.ReadingStmt.{otherwise_by, choice_at, stmt_by, stmt_at, body_at, block_by, block, stmt, body, rules, other_top, top_by, top, tops_then, tops_from, tops}
+use Rattle.sy_script.specs.Answer.{ended, reading}
 use Rattle.sy_script.specs.Grammar as g
 use Rattle.sy_script.proofs.Sound.{bind_ok, ok_is, pure_ok, kind_is, first_ok, expect_ok, behind_ok, word_ok, params_ok, turn_ok, move}
 use Rattle.sy_script.proofs.SoundExpr.{whole_ok}
@@ -175,7 +176,7 @@ tops_from_ok bytes (suc n) found (w ∷ ts) y small h =
     let rest = tops_from_ok bytes n (found ++ s.0.0 ∷ []) s.0.1 y (omega (arith, top_takes one)) s.2 in
     (s.0.0 ∷ rest.0, rest.1 ∙ append_assoc found (s.0.0 ∷ []) rest.0, g.TopsAt.more one rest.2)
 
-tops_ok : (bytes : List ℕ) (ts : List Token) (y : List Top) → tops bytes max_depth ts ≡ Ok y → g.TopsAt bytes max_depth y ts
+pub tops_ok : (bytes : List ℕ) (ts : List Token) (y : List Top) → tops bytes max_depth ts ≡ Ok y → g.TopsAt bytes max_depth y ts
 unfolding tops
 tops_ok bytes ts y h =
     let w = tops_from_ok bytes (length ts) [] ts y (omega arith) h in

@@ -7,7 +7,8 @@ use Rattle.sy_script.specs.declared.halt.Halt.{Halt}
 use Rattle.sy_script.specs.declared.halt.Halt.TheVariants as halt
 use Rattle.sy_script.specs.declared.tree.Param.{Param}
 use Rattle.sy_script.specs.declared.tree.Span.{Span}
-use Rattle.sy_script.specs.Reading.{Outcome, Parser, Open, and_then, pure, refuse, same_kind, first, expect, behind, is_word, is_text, word_of, text_of, word, text, param, turn, items_from, params_in, params}
+use Rattle.sy_script.specs.Terms.{is_text, is_word, text_of, word_of}
+use Rattle.sy_script.specs.Reading.{Outcome, Parser, Open, and_then, pure, refuse, same_kind, first, expect, behind, word, text, param, turn, items_from, params_in, params}
 use Rattle.sy_script.specs.Grammar as g
 use Rattle.sy_script.specs.Brackets.{opens, is_bracket, Balanced, IsInnermost}
 use Rattle.sy_script.specs.Faults.{Deepens, BeginsLeftOut}
@@ -60,7 +61,7 @@ pub record Stray (text : List ℕ) (ts : List Token) (span : Span) : Type 0 wher
   pub up_to : Fits text ts (t ∷ rest)
 
 abbrev pub Told : List ℕ → List Token → Halt → Type 0
-Told text ts halt.Memory = Unit {0}
+Told text ts halt.Memory = ⊥
 Told text ts (halt.Unexpected span) = Stray text ts span
 Told text ts (halt.TooDeep span) = (t : Token) × (t.span ≡ span) × Deepens text ts t
 Told text ts (halt.LeftOut span) = (t : Token) × (t.span ≡ span) × BeginsLeftOut text ts t

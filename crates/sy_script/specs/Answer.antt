@@ -11,8 +11,9 @@ use Rattle.sy_script.specs.declared.fault.ScriptFault.{ScriptFault}
 use Rattle.sy_script.specs.declared.script.Fault.{Fault}
 use Rattle.sy_script.specs.declared.tree.Top.{Top}
 use Rattle.sy_script.specs.declared.tree.Script.{Script}
+use Rattle.sy_script.specs.Terms.{max_depth, max_text}
 use Rattle.sy_script.specs.Lex.{tokens}
-use Rattle.sy_script.specs.ReadingStmt.{max_depth, tops}
+use Rattle.sy_script.specs.ReadingStmt.{tops}
 
 abbrev pub number : FaultCode → ℕ
 number code.Byte = 21
@@ -22,10 +23,6 @@ number code.TooDeep = 24
 number code.TooLarge = 25
 number code.LeftOut = 26
 number code.NoMemory = 27
-
--- 1 MiB
-abbrev pub max_text : ℕ
-max_text = 1048576
 
 -- ---- lines and columns, both from 1: each LF ends a line, and each other byte takes a column
 

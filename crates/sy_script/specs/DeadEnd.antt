@@ -4,7 +4,7 @@ use Rattle.sy_script.specs.declared.token.Token.{Token}
 use Rattle.sy_script.specs.declared.halt.Halt.{Halt}
 use Rattle.sy_script.specs.declared.halt.Halt.TheVariants as halt
 use Rattle.sy_script.specs.declared.tree.Top.{Top}
-use Rattle.sy_script.specs.ReadingStmt.{max_depth}
+use Rattle.sy_script.specs.Terms.{max_depth}
 use Rattle.sy_script.specs.Grammar.{TopsAt}
 
 -- the token at which reading stops

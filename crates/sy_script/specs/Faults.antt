@@ -9,13 +9,12 @@ use Rattle.sy_script.specs.declared.fault.FaultCode.{FaultCode}
 use Rattle.sy_script.specs.declared.fault.FaultCode.TheVariants as code
 use Rattle.sy_script.specs.declared.fault.ScriptFault.{ScriptFault}
 use Rattle.sy_script.specs.declared.tree.Top.{Top}
-use Rattle.sy_script.specs.Lex.{is_blank, starts_word, is_escaped}
+use Rattle.sy_script.specs.Terms.{is_blank, is_escaped, max_text, starts_word}
 use Rattle.sy_script.specs.Tokens.{NoneNext, is_equals, InString, NoEnd, Cut, AreTokens}
 use Rattle.sy_script.specs.Brackets.{Balanced, IsInnermost}
 use Rattle.sy_script.specs.Grammar.{TopsAt, Begins}
 use Rattle.sy_script.specs.Standing.{StmtPlace, BlockPlace, UnitPlace, GroupPlace}
 use Rattle.sy_script.specs.Place.{IsPlace}
-use Rattle.sy_script.specs.Answer.{max_text}
 
 -- a byte is one of these
 abbrev pub is_sign : ℕ → Bool
@@ -92,6 +91,16 @@ pub data IsUnexpected (text : List ℕ) : ℕ → Type 0 where
   token : {ts : List Token} {at : ℕ} {left : List ℕ} (front rest : List Token) (t : Token) → Cut 0 text ts at left → ts ≡ front ++ t ∷ rest → NoneRefused text ts
       → Begins text front → (Begins text (front ++ t ∷ []) → ⊥) → IsUnexpected text t.span.start
   end : {ts : List Token} → AreTokens text ts → NoneRefused text ts → Balanced ts [] → Begins text ts → ((left : ℕ) (tree : List Top) → TopsAt text left tree ts → ⊥) → IsUnexpected text (length text)
+
+-- a fault of a token in a wrong place, or of the end where nothing is open: 23, 24 or 26
+abbrev pub Misplaced : List ℕ → FaultCode → ℕ → Type 0
+Misplaced text code.Byte offset = ⊥
+Misplaced text code.Unclosed offset = ⊥
+Misplaced text code.Unexpected offset = IsUnexpected text offset
+Misplaced text code.TooDeep offset = IsTooDeep text offset
+Misplaced text code.TooLarge offset = ⊥
+Misplaced text code.LeftOut offset = (word : List ℕ) × IsLeftOut text offset word
+Misplaced text code.NoMemory offset = ⊥
 
 -- ---- lines and columns
 

@@ -18,12 +18,8 @@ use Rattle.sy_script.specs.declared.tree.Stmt.TheVariants as s
 use Rattle.sy_script.specs.declared.tree.Top.{Top}
 use Rattle.sy_script.specs.declared.tree.Top.TheVariants as t
 use Rattle.sy_script.specs.declared.tree.Script.{Script}
+use Rattle.sy_script.specs.Terms.{comparison_of, is_text, is_word, max_depth, max_text, object_kind, operator_of, text_of, word_of}
 use Rattle.sy_script.specs.Tokens.{AreTokens}
-use Rattle.sy_script.specs.Reading.{is_word, is_text, word_of, text_of}
-use Rattle.sy_script.specs.ReadingExpr.{operator_of}
-use Rattle.sy_script.specs.ReadingExpr as reading
-use Rattle.sy_script.specs.ReadingStmt.{object_kind, max_depth}
-use Rattle.sy_script.specs.Answer.{max_text}
 
 -- ---- "(" *(word "=" string) ")"
 
@@ -61,7 +57,7 @@ mutual
     selected : {left : ℕ} {x : ExprTree} {ts rest : List Token} → PrifiltAt text x ts rest → UnitAt text left x ts rest
     not_selected : {left : ℕ} {n : Token} {x : ExprTree} {ts rest : List Token} → n.kind ≡ k.Not → PrifiltAt text x ts rest → UnitAt text (suc left) (e.Not x) (n ∷ ts) rest
     compared : {left : ℕ} {p o : Token} {operator : Operator} {operand : Operand} {ts rest : List Token} → p.kind ≡ k.Property → operator_of o.kind ≡ Some operator → OperandAt text operand ts rest
-        → UnitAt text left (reading.compared text p o operator operand) (p ∷ o ∷ ts) rest
+        → UnitAt text left (comparison_of text p o operator operand) (p ∷ o ∷ ts) rest
 
   -- *("or" unit), or *("and" unit)
   pub data MoreAt (text : List ℕ) : ℕ → Kind → List ExprTree → List Token → List Token → Type 0 where

@@ -15,12 +15,9 @@ use Rattle.sy_script.specs.declared.tree.Stmt.{Stmt}
 use Rattle.sy_script.specs.declared.tree.Stmt.TheVariants as s
 use Rattle.sy_script.specs.declared.tree.Top.{Top}
 use Rattle.sy_script.specs.declared.tree.Top.TheVariants as t
+use Rattle.sy_script.specs.Terms.{object_kind}
 use Rattle.sy_script.specs.Reading.{Outcome, Parser, Open, and_then, ◌>>=◌, ◌>>◌, pure, refuse, first, expect, behind, same_kind, items, word, params}
 use Rattle.sy_script.specs.ReadingExpr.{expr}
-
--- how deep blocks, parentheses and `not` nest together
-abbrev pub max_depth : ℕ
-max_depth = 32
 
 -- why a token begins no statement
 abbrev pub refusal_by : Kind → Token → Halt
@@ -89,13 +86,6 @@ unfoldable pub body : List ℕ → ℕ → Open → Parser (List Stmt)
 body bytes left opened = body_at bytes left (block bytes left) opened
 
 -- ---- the top of a file
-
-abbrev pub object_kind : Kind → Option ObjectKind
-object_kind k.Module = Some object.Module
-object_kind k.Global = Some object.Global
-object_kind k.MainQueue = Some object.MainQueue
-object_kind k.Input = Some object.Input
-object_kind _ = None
 
 unfoldable pub rules : List ℕ → ℕ → Token → Parser Ruleset
 rules bytes left token = do

@@ -4,11 +4,13 @@ ghost use Rattle.std.specs.Prelude.{◌≡◌, ◌≤◌, ◌↔◌, ℕ, List, 
 ghost use Rattle.sy_script.specs.Answer as answer;
 ghost use Rattle.sy_script.specs.DeadEnd.{AtToken, IsDeadEnd};
 ghost use Rattle.sy_script.specs.Depth.{stmt_depth};
-ghost use Rattle.sy_script.specs.Faults.{Stands};
+ghost use Rattle.sy_script.specs.Faults.{Misplaced, Stands};
 ghost use Rattle.sy_script.specs.Grammar.{IsScript, StmtAt};
+ghost use Rattle.sy_script.specs.declared.fault.FaultCode.{FaultCode};
 ghost use Rattle.sy_script.specs.declared.fault.FaultCode.TheVariants as code;
 ghost use Rattle.sy_script.specs.declared.fault.ScriptFault.{ScriptFault};
-ghost use Rattle.sy_script.specs.ReadingStmt.{max_depth, tops};
+ghost use Rattle.sy_script.specs.ReadingStmt.{tops};
+ghost use Rattle.sy_script.specs.Terms.{max_depth};
 ghost use Rattle.sy_script.specs.declared.token.Kind.{Kind};
 ghost use Rattle.sy_script.specs.declared.token.Token.{Token};
 ghost use Rattle.sy_script.specs.declared.halt.Halt.{Halt};
@@ -26,6 +28,11 @@ pub fn one_tree()
 /// A script has no fault.
 pub fn no_fault()
     ensures { (text : List ℕ) (script : Script) (f : ScriptFault) → IsScript text script → Stands text f → f.code ≡ code.NoMemory }
+{}
+
+/// Of the faults 23, 24 and 26 at most one stands in a text, and at one place.
+pub fn one_misplaced()
+    ensures { (text : List ℕ) (a b : FaultCode) (n m : ℕ) → Misplaced text a n → Misplaced text b m → (a ≡ b) × (n ≡ m) }
 {}
 
 /// The bytes at a place begin with one token, so none that is longer or shorter.
