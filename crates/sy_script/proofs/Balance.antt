@@ -11,9 +11,7 @@ use Rattle.sy_script.specs.declared.tree.ObjectKind.{ObjectKind}
 use Rattle.sy_script.specs.declared.tree.Block.{Block}
 use Rattle.sy_script.specs.declared.tree.Stmt.{Stmt}
 use Rattle.sy_script.specs.declared.tree.Top.{Top}
-use Rattle.sy_script.specs.Reading.{is_word, is_text}
-use Rattle.sy_script.specs.ReadingExpr.{operator_of}
-use Rattle.sy_script.specs.ReadingStmt.{object_kind}
+use Rattle.sy_script.specs.Terms.{is_text, is_word, object_kind, operator_of}
 use Rattle.sy_script.specs.Grammar as g
 use Rattle.sy_script.specs.Brackets.{is_bracket, Balanced}
 
@@ -115,7 +113,7 @@ mutual
   body_balanced (g.BodyAt.close {c = c} {rest = rest} h) = (c, rest, Balanced.none, h, refl)
   body_balanced (g.BodyAt.stmt a b) = let m = body_balanced b in (m.0, m.1, balanced_on (stmt_balanced a) m.2, m.3, m.4)
 
-pub top_balanced : {text : List ℕ} {x : Top} {ts rest : List Token} → g.TopAt text x ts rest → Balanced ts rest
+pub top_balanced : {text : List ℕ} {left : ℕ} {x : Top} {ts rest : List Token} → g.TopAt text left x ts rest → Balanced ts rest
 top_balanced (g.TopAt.object {w = w} a b) = Balanced.other (object_plain w.kind _ a) (params_balanced b)
 top_balanced (g.TopAt.rules {w = w} a b c d) = let m = body_balanced d in plain w k.Ruleset a refl (balanced_on (params_balanced b) (Balanced.braces c m.2 m.3 (to_rest m.4 Balanced.none)))
 top_balanced (g.TopAt.stmt a) = stmt_balanced a

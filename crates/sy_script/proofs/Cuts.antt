@@ -14,7 +14,8 @@ use Rattle.sy_script.specs.declared.lex.State.TheVariants as s
 use Rattle.sy_script.specs.declared.lex.Quote.{Quote}
 use Rattle.sy_script.specs.declared.lex.Quote.TheVariants as quote
 use Rattle.sy_script.specs.declared.lex.Move.TheVariants as move
-use Rattle.sy_script.specs.Lex.{Lexing, is_blank, starts_word, is_in_word, is_escaped, begin, with_front, follow, tokens_from, tokens}
+use Rattle.sy_script.specs.Terms.{is_blank, is_escaped, is_in_word, starts_word}
+use Rattle.sy_script.specs.Lex.{Lexing, begin, with_front, follow, tokens_from, tokens}
 use Rattle.sy_script.specs.Tokens.{All, NoneNext, is_equals, is_no_feed, InString, NoEnd, PieceAt, with_token, Cut, AreTokens}
 use Rattle.sy_script.specs.Spans.{InOrder}
 use Rattle.sy_script.specs.Faults.{is_sign, is_quote, is_star, BeginsNone}
@@ -462,3 +463,42 @@ one_token a b p q rest left x y e =
   where
     first_token : {t u : Token} {ts us : List Token} → t ∷ ts ≡ u ∷ us → t ≡ u
     first_token h = cc
+
+-- where a text ends otherwise, it isn't cut to its end
+
+bad_reads : (text : List ℕ) (at n : ℕ) (rest : List ℕ) → BadAt n at rest → tokens_from text s.Between at rest ≡ ([], ending.Byte n)
+bad_reads text at n rest (BadAt.begins_none h) = none_reads text at rest h
+bad_reads text at _ _ (BadAt.no_escape {q = q} {bytes = bytes} b rest is h e) =
+    let w = quote_of text q is in
+    let P : ℕ → Type 0 = λ v. is_quote v ≡ true → InString v bytes → tokens_from text s.Between at (v ∷ bytes ++ 92 ∷ b ∷ rest) ≡ ([], ending.Byte (at + length bytes + 2)) in
+    subst P w.1 (λ is h. escape_bad text w.0 at h b rest e) is h
+
+open_reads : (text : List ℕ) (at n : ℕ) (rest : List ℕ) → OpenAt n at rest → tokens_from text s.Between at rest ≡ ([], ending.Open n)
+unfolding begin
+open_reads text at _ _ (OpenAt.string {q = q} {bytes = bytes} is h) =
+    let w = quote_of text q is in
+    let P : ℕ → Type 0 = λ v. is_quote v ≡ true → InString v bytes → tokens_from text s.Between at (v ∷ bytes) ≡ ([], ending.Open at) in
+    subst P w.1 (λ is h. string_open text w.0 at h) is h
+open_reads text at _ _ (OpenAt.escape {q = q} {bytes = bytes} is h) =
+    let w = quote_of text q is in
+    let P : ℕ → Type 0 = λ v. is_quote v ≡ true → InString v bytes → tokens_from text s.Between at (v ∷ bytes ++ 92 ∷ []) ≡ ([], ending.Open at) in
+    subst P w.1 (λ is h. escape_open text w.0 at h) is h
+open_reads text at _ _ (OpenAt.comment {bytes = bytes} h) =
+    begins text (s.Slash at) at 47 (42 ∷ bytes) refl ∙ (goes text (s.Slash at) (s.BlockComment at) (at + 1) 42 bytes refl ∙ comment_open text false at (at + 1 + 1) bytes h)
+
+-- the tokens of a front of a text, and those behind it
+pub cut_in : (text : List ℕ) {ts : List Token} {end : ℕ} {rest : List ℕ} → Cut 0 text ts end rest → (more : List Token) × ((tokens text).0 ≡ ts ++ more)
+cut_in text {end = end} {rest = rest} c = ((tokens_from text s.Between end rest).0, ap (λ (l : Lexing). l.0) (cut_reads text [] refl refl c))
+
+pub cut_front : (text : List ℕ) {ts us : List Token} {end : ℕ} {rest : List ℕ} → Cut 0 text ts end rest → AreTokens text us → (more : List Token) × (us ≡ ts ++ more)
+cut_front text {ts = ts} {us = us} {end = end} {rest = rest} c a =
+    ((tokens_from text s.Between end rest).0, ap (λ (l : Lexing). l.0) (sym (are_tokens text us a) ∙ cut_reads text [] refl refl c))
+
+not_ended : (text : List ℕ) (e : Ending) {ts us : List Token} {end : ℕ} {rest : List ℕ} → Cut 0 text ts end rest → AreTokens text us → tokens_from text s.Between end rest ≡ ([], e) → ending.Complete ≡ e
+not_ended text e c a is = ap (λ (l : Lexing). l.1) (sym (are_tokens text _ a) ∙ cut_reads text [] refl refl c) ∙ ap (λ (l : Lexing). l.1) is
+
+pub no_bad : (text : List ℕ) (n : ℕ) {ts us : List Token} {end : ℕ} {rest : List ℕ} → Cut 0 text ts end rest → AreTokens text us → BadAt n end rest → ⊥
+no_bad text n {end = end} {rest = rest} c a h = let no : ending.Complete ≡ ending.Byte n = not_ended text (ending.Byte n) c a (bad_reads text end n rest h) in cc
+
+pub no_open : (text : List ℕ) (n : ℕ) {ts us : List Token} {end : ℕ} {rest : List ℕ} → Cut 0 text ts end rest → AreTokens text us → OpenAt n end rest → ⊥
+no_open text n {end = end} {rest = rest} c a h = let no : ending.Complete ≡ ending.Open n = not_ended text (ending.Open n) c a (open_reads text end n rest h) in cc

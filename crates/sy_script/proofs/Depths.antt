@@ -20,7 +20,7 @@ use Rattle.sy_script.specs.declared.tree.Stmt.{Stmt}
 use Rattle.sy_script.specs.declared.tree.Stmt.TheVariants as s
 use Rattle.sy_script.specs.declared.tree.Top.{Top}
 use Rattle.sy_script.specs.declared.tree.Script.{Script}
-use Rattle.sy_script.specs.ReadingStmt.{max_depth}
+use Rattle.sy_script.specs.Terms.{max_depth}
 use Rattle.sy_script.specs.Grammar as g
 use Rattle.sy_script.specs.Depth.{greater, most, expr_step, expr_depth, block_step, stmt_step, block_depth, stmt_depth, top_depth, depth}
 
@@ -119,14 +119,14 @@ mutual
   body_within (g.BodyAt.close a) = omega arith
   body_within {left = left} (g.BodyAt.stmt {x = x} {xs = xs} a b) = both (stmt_depth x) (most (map stmt_depth xs)) left (stmt_within a) (body_within b)
 
-top_within : {text : List ℕ} {x : Top} {ts rest : List Token} → g.TopAt text x ts rest → top_depth x ≤ max_depth
+pub top_within : {text : List ℕ} {left : ℕ} {x : Top} {ts rest : List Token} → g.TopAt text left x ts rest → top_depth x ≤ left
 top_within (g.TopAt.object a b) = omega arith
 top_within (g.TopAt.rules a b c d) = body_within d
 top_within (g.TopAt.stmt a) = stmt_within a
 
-tops_within : {text : List ℕ} {xs : List Top} {ts : List Token} → g.TopsAt text xs ts → most (map top_depth xs) ≤ max_depth
+pub tops_within : {text : List ℕ} {left : ℕ} {xs : List Top} {ts : List Token} → g.TopsAt text left xs ts → most (map top_depth xs) ≤ left
 tops_within g.TopsAt.none = omega arith
-tops_within (g.TopsAt.more {x = x} {xs = xs} a b) = both (top_depth x) (most (map top_depth xs)) max_depth (top_within a) (tops_within b)
+tops_within {left = left} (g.TopsAt.more {x = x} {xs = xs} a b) = both (top_depth x) (most (map top_depth xs)) left (top_within a) (tops_within b)
 
 pub script_within : (text : List ℕ) (script : Script) → g.IsScript text script → depth script ≤ max_depth
 script_within text script is = tops_within is.tree
@@ -184,3 +184,38 @@ mutual
   body_fits : {text : List ℕ} {left : ℕ} {xs : List Stmt} {ts rest : List Token} (n : ℕ) → g.BodyAt text left xs ts rest → most (map stmt_depth xs) ≤ n → g.BodyAt text n xs ts rest
   body_fits n (g.BodyAt.close a) h = g.BodyAt.close a
   body_fits n (g.BodyAt.stmt {x = x} {xs = xs} a b) h = g.BodyAt.stmt (stmt_fits n a (left_of (stmt_depth x) (most (map stmt_depth xs)) n h)) (body_fits n b (right_of (stmt_depth x) (most (map stmt_depth xs)) n h))
+
+pub top_fits : {text : List ℕ} {left : ℕ} {x : Top} {ts rest : List Token} (n : ℕ) → g.TopAt text left x ts rest → top_depth x ≤ n → g.TopAt text n x ts rest
+top_fits n (g.TopAt.object a b) h = g.TopAt.object a b
+top_fits n (g.TopAt.rules a b c d) h = g.TopAt.rules a b c (body_fits n d h)
+top_fits n (g.TopAt.stmt a) h = g.TopAt.stmt (stmt_fits n a h)
+
+pub tops_fits : {text : List ℕ} {left : ℕ} {xs : List Top} {ts : List Token} (n : ℕ) → g.TopsAt text left xs ts → most (map top_depth xs) ≤ n → g.TopsAt text n xs ts
+tops_fits n g.TopsAt.none h = g.TopsAt.none
+tops_fits n (g.TopsAt.more {x = x} {xs = xs} a b) h = g.TopsAt.more (top_fits n a (left_of (top_depth x) (most (map top_depth xs)) n h)) (tops_fits n b (right_of (top_depth x) (most (map top_depth xs)) n h))
+
+-- ---- what may stand somewhere may stand where more may nest
+
+pub expr_up : {text : List ℕ} {left : ℕ} {x : ExprTree} {ts rest : List Token} (n : ℕ) → left ≤ n → g.ExprAt text left x ts rest → g.ExprAt text n x ts rest
+expr_up n h d = expr_fits n d (omega (arith, expr_within d))
+
+pub unit_up : {text : List ℕ} {left : ℕ} {x : ExprTree} {ts rest : List Token} (n : ℕ) → left ≤ n → g.UnitAt text left x ts rest → g.UnitAt text n x ts rest
+unit_up n h d = unit_fits n d (omega (arith, unit_within d))
+
+pub more_up : {text : List ℕ} {left : ℕ} {joint : Kind} {xs : List ExprTree} {ts rest : List Token} (n : ℕ) → left ≤ n → g.MoreAt text left joint xs ts rest → g.MoreAt text n joint xs ts rest
+more_up {xs = xs} n h d = more_fits n d (omega (arith, more_within d))
+
+pub stmt_up : {text : List ℕ} {left : ℕ} {x : Stmt} {ts rest : List Token} (n : ℕ) → left ≤ n → g.StmtAt text left x ts rest → g.StmtAt text n x ts rest
+stmt_up n h d = stmt_fits n d (omega (arith, stmt_within d))
+
+pub block_up : {text : List ℕ} {left : ℕ} {x : Block} {ts rest : List Token} (n : ℕ) → left ≤ n → g.BlockAt text left x ts rest → g.BlockAt text n x ts rest
+block_up n h d = block_fits n d (omega (arith, block_within d))
+
+pub body_up : {text : List ℕ} {left : ℕ} {xs : List Stmt} {ts rest : List Token} (n : ℕ) → left ≤ n → g.BodyAt text left xs ts rest → g.BodyAt text n xs ts rest
+body_up n h d = body_fits n d (omega (arith, body_within d))
+
+pub top_up : {text : List ℕ} {left : ℕ} {x : Top} {ts rest : List Token} (n : ℕ) → left ≤ n → g.TopAt text left x ts rest → g.TopAt text n x ts rest
+top_up n h d = top_fits n d (omega (arith, top_within d))
+
+pub tops_up : {text : List ℕ} {left : ℕ} {xs : List Top} {ts : List Token} (n : ℕ) → left ≤ n → g.TopsAt text left xs ts → g.TopsAt text n xs ts
+tops_up n h d = tops_fits n d (omega (arith, tops_within d))

@@ -20,3 +20,11 @@ pub mod Pieces
 pub mod Cuts
 pub mod FaultsStand
 pub mod Depths
+pub mod Reaches
+pub mod Deeper
+pub mod Moves
+pub mod Holes
+pub mod OnePlace
+pub mod Even
+pub mod NoFault
+pub mod OneFault

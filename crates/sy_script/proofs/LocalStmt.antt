@@ -10,8 +10,9 @@ use Rattle.sy_script.specs.declared.tree.ObjectKind.{ObjectKind}
 use Rattle.sy_script.specs.declared.tree.Block.{Block}
 use Rattle.sy_script.specs.declared.tree.Stmt.{Stmt}
 use Rattle.sy_script.specs.declared.tree.Top.{Top}
+use Rattle.sy_script.specs.Terms.{max_depth, object_kind}
 use Rattle.sy_script.specs.Reading.{Outcome, Parser, Open, and_then, refuse, same_kind, behind, first, params}
-use Rattle.sy_script.specs.ReadingStmt.{max_depth, refusal_by, refusal, too_deep_by, too_deep, otherwise_by, choice_at, stmt_by, stmt_at, body_at, block_by, block, stmt, body, object_kind, rules, other_top, top_by, top, tops_then, tops_from, tops}
+use Rattle.sy_script.specs.ReadingStmt.{refusal_by, refusal, too_deep_by, too_deep, otherwise_by, choice_at, stmt_by, stmt_at, body_at, block_by, block, stmt, body, rules, other_top, top_by, top, tops_then, tops_from, tops}
 use Rattle.sy_script.specs.Grammar as g
 use Rattle.sy_script.specs.DeadEnd.{StopsAt, AtToken, IsDeadEnd}
 use Rattle.sy_script.proofs.Takes.{stmt_takes, top_takes}
@@ -148,14 +149,14 @@ body_local : (bytes : List ℕ) (left : ℕ) (o : Open) → Local (body bytes le
 unfolding body
 body_local bytes left o = body_at_local bytes left (block_local bytes left) o
 
-rules_local : (bytes : List ℕ) (w : Token) → Local (rules bytes w)
+rules_local : (bytes : List ℕ) (w : Token) → Local (rules bytes max_depth w)
 unfolding rules
 rules_local bytes w = local_bind _ _ (params_local bytes None) (λ found. local_bind _ _ (expect_local k.LeftBrace None) (λ v. local_bind _ _ (body_local bytes max_depth (Some v.span.start)) (λ xs. local_pure _)))
 
 -- ---- the top of a file
 
 other : List ℕ → Parser Top
-other bytes = λ ts. and_then (first None ts) (λ t after. other_top bytes (same_kind t.kind k.Ruleset) t after ts)
+other bytes = λ ts. and_then (first None ts) (λ t after. other_top bytes max_depth (same_kind t.kind k.Ruleset) t after ts)
 
 blank : Token
 blank = record { kind = k.Name; span = record { start = 0; end = 0 } }
@@ -163,9 +164,9 @@ blank = record { kind = k.Name; span = record { start = 0; end = 0 } }
 other_local : (bytes : List ℕ) → Local (other bytes)
 unfolding other
 other_local bytes =
-    local_choose None (λ t. same_kind t.kind k.Ruleset) (λ t after. other_top bytes true t after []) (λ ts. other_top bytes false blank [] ts)
-    (λ t. local_bind (rules bytes t) _ (rules_local bytes t) (λ x. local_pure _)) (local_bind (stmt bytes max_depth None) _ (stmt_local bytes max_depth None) (λ x. local_pure _))
-    (other bytes) refl (λ t us is. ap (λ b. other_top bytes b t us (t ∷ us)) is) (λ t us is. ap (λ b. other_top bytes b t us (t ∷ us)) is)
+    local_choose None (λ t. same_kind t.kind k.Ruleset) (λ t after. other_top bytes max_depth true t after []) (λ ts. other_top bytes max_depth false blank [] ts)
+    (λ t. local_bind (rules bytes max_depth t) _ (rules_local bytes t) (λ x. local_pure _)) (local_bind (stmt bytes max_depth None) _ (stmt_local bytes max_depth None) (λ x. local_pure _))
+    (other bytes) refl (λ t us is. ap (λ b. other_top bytes max_depth b t us (t ∷ us)) is) (λ t us is. ap (λ b. other_top bytes max_depth b t us (t ∷ us)) is)
 
 is_object : Option ObjectKind → Bool
 is_object None = false
@@ -178,7 +179,7 @@ local_memory = record {
 }
 
 object_at : List ℕ → Option ObjectKind → Token → Parser Top
-object_at bytes (Some kind) t = λ after. top_by bytes (Some kind) t after []
+object_at bytes (Some kind) t = λ after. top_by bytes max_depth (Some kind) t after []
 object_at bytes None t = refuse halt.Memory
 
 object_local : (bytes : List ℕ) (kind : Option ObjectKind) (t : Token) → Local (object_at bytes kind t)
@@ -186,37 +187,37 @@ unfolding object_at
 object_local bytes (Some kind) t = local_bind (params bytes None) _ (params_local bytes None) (λ ps. local_pure _)
 object_local bytes None t = local_memory
 
-top_object : (bytes : List ℕ) (kind : Option ObjectKind) (t : Token) (us : List Token) → is_object kind ≡ true → top_by bytes kind t us (t ∷ us) ≡ object_at bytes kind t us
+top_object : (bytes : List ℕ) (kind : Option ObjectKind) (t : Token) (us : List Token) → is_object kind ≡ true → top_by bytes max_depth kind t us (t ∷ us) ≡ object_at bytes kind t us
 unfolding is_object object_at
 top_object bytes (Some kind) t us is = refl
 top_object bytes None t us is = absurd cc
 
-top_other : (bytes : List ℕ) (kind : Option ObjectKind) (t : Token) (us : List Token) → is_object kind ≡ false → top_by bytes kind t us (t ∷ us) ≡ other bytes (t ∷ us)
+top_other : (bytes : List ℕ) (kind : Option ObjectKind) (t : Token) (us : List Token) → is_object kind ≡ false → top_by bytes max_depth kind t us (t ∷ us) ≡ other bytes (t ∷ us)
 unfolding is_object other
 top_other bytes (Some kind) t us is = absurd cc
 top_other bytes None t us is = refl
 
-top_local : (bytes : List ℕ) → Local (top bytes)
+top_local : (bytes : List ℕ) → Local (top bytes max_depth)
 unfolding top
 top_local bytes =
     local_choose None (λ t. is_object (object_kind t.kind)) (λ t. object_at bytes (object_kind t.kind) t) (other bytes) (λ t. object_local bytes (object_kind t.kind) t) (other_local bytes)
-    (top bytes) refl (λ t us is. top_object bytes (object_kind t.kind) t us is) (λ t us is. top_other bytes (object_kind t.kind) t us is)
+    (top bytes max_depth) refl (λ t us is. top_object bytes (object_kind t.kind) t us is) (λ t us is. top_other bytes (object_kind t.kind) t us is)
 
-top_less : (bytes : List ℕ) (us : List Token) (x : Top) (mid : List Token) → top bytes us ≡ Ok (x, mid) → length mid < length us
+top_less : (bytes : List ℕ) (us : List Token) (x : Top) (mid : List Token) → top bytes max_depth us ≡ Ok (x, mid) → length mid < length us
 top_less bytes us x mid h = top_takes (top_ok bytes us (x, mid) h)
 
-tops_err : (bytes : List ℕ) (m : ℕ) (found : List Top) (vs : List Token) (h : Halt) → 0 < length vs → length vs ≤ m → top bytes vs ≡ Err h → tops_from bytes m found vs ≡ Err h
+pub tops_err : (bytes : List ℕ) (m : ℕ) (found : List Top) (vs : List Token) (h : Halt) → 0 < length vs → length vs ≤ m → top bytes max_depth vs ≡ Err h → tops_from bytes max_depth m found vs ≡ Err h
 unfolding tops_from
 tops_err bytes m found [] h some small e = absurd (omega arith)
 tops_err bytes zero found (v ∷ vs) h some small e = absurd (omega arith)
-tops_err bytes (suc m) found (v ∷ vs) h some small e = ap (λ r. tops_then r (λ x. tops_from bytes m (found ++ x ∷ []))) e
+tops_err bytes (suc m) found (v ∷ vs) h some small e = ap (λ r. tops_then r (λ x. tops_from bytes max_depth m (found ++ x ∷ []))) e
 
-tops_step : (bytes : List ℕ) (m : ℕ) (found : List Top) (vs : List Token) (x : Top) (mid : List Token) (r : Result (List Top) Halt) → top bytes vs ≡ Ok (x, mid) → length mid < length vs → length vs ≤ m →
-    ((m' : ℕ) → length mid ≤ m' → tops_from bytes m' (found ++ x ∷ []) mid ≡ r) → tops_from bytes m found vs ≡ r
+pub tops_step : (bytes : List ℕ) (m : ℕ) (found : List Top) (vs : List Token) (x : Top) (mid : List Token) (r : Result (List Top) Halt) → top bytes max_depth vs ≡ Ok (x, mid) → length mid < length vs → length vs ≤ m →
+    ((m' : ℕ) → length mid ≤ m' → tops_from bytes max_depth m' (found ++ x ∷ []) mid ≡ r) → tops_from bytes max_depth m found vs ≡ r
 unfolding tops_from
 tops_step bytes m found [] x mid r e less small more = absurd (omega arith)
 tops_step bytes zero found (v ∷ vs) x mid r e less small more = absurd (omega arith)
-tops_step bytes (suc m) found (v ∷ vs) x mid r e less small more = ap (λ r. tops_then r (λ x. tops_from bytes m (found ++ x ∷ []))) e ∙ more m (omega arith)
+tops_step bytes (suc m) found (v ∷ vs) x mid r e less small more = ap (λ r. tops_then r (λ x. tops_from bytes max_depth m (found ++ x ∷ []))) e ∙ more m (omega arith)
 
 tops_cases : (r : Outcome Top) (more : Top → List Token → Result (List Top) Halt) (h : Halt) → tops_then r more ≡ Err h → (r ≡ Err h) ⊎ ((x : Top × List Token) × (r ≡ Ok x) × (more x.0 x.1 ≡ Err h))
 tops_cases (Ok x) more h e = inr (x, refl, e)
@@ -228,13 +229,13 @@ record Stop (bytes : List ℕ) (found : List Top) (ts : List Token) (h : Halt) :
   rest : List Token
   is_ts : ts ≡ front ++ t ∷ rest
   spot : StopsAt h t
-  again : (more : List Token) (m : ℕ) → length (front ++ t ∷ more) ≤ m → tops_from bytes m found (front ++ t ∷ more) ≡ Err h
+  again : (more : List Token) (m : ℕ) → length (front ++ t ∷ more) ≤ m → tops_from bytes max_depth m found (front ++ t ∷ more) ≡ Err h
 
-tops_stop : (bytes : List ℕ) (n : ℕ) (found : List Top) (ts : List Token) (h : Halt) → AtToken h → tops_from bytes n found ts ≡ Err h → Stop bytes found ts h
+tops_stop : (bytes : List ℕ) (n : ℕ) (found : List Top) (ts : List Token) (h : Halt) → AtToken h → tops_from bytes max_depth n found ts ≡ Err h → Stop bytes found ts h
 unfolding tops_from
 tops_stop bytes zero found ts h hard e = absurd cc
 tops_stop bytes (suc n) found [] h hard e = absurd cc
-tops_stop bytes (suc n) found (w ∷ ws) h hard e = elim (tops_cases (top bytes (w ∷ ws)) _ h e) [
+tops_stop bytes (suc n) found (w ∷ ws) h hard e = elim (tops_cases (top bytes max_depth (w ∷ ws)) _ h e) [
   | inl d ↦
       let a = (top_local bytes).stops (w ∷ ws) h hard d in
       record {
@@ -257,17 +258,32 @@ tops_stop bytes (suc n) found (w ∷ ws) h hard e = elim (tops_cases (top bytes 
         again = λ more m small.
             let us : List Token = a.front ++ (b.front ++ b.t ∷ more) in
             let head : Alike s.0.1 (b.front ++ b.t ∷ more) = alike_to s.0.1 b.front (b.t ∷ b.rest) (b.t ∷ more) b.is_ts refl in
-            let one : top bytes us ≡ Ok (s.0.0, b.front ++ b.t ∷ more) = a.again (b.front ++ b.t ∷ more) head in
-            ap (λ ts. tops_from bytes m found ts) (append_assoc a.front b.front (b.t ∷ more))
+            let one : top bytes max_depth us ≡ Ok (s.0.0, b.front ++ b.t ∷ more) = a.again (b.front ++ b.t ∷ more) head in
+            ap (λ ts. tops_from bytes max_depth m found ts) (append_assoc a.front b.front (b.t ∷ more))
             ∙ tops_step bytes m found us s.0.0 (b.front ++ b.t ∷ more) _ one (top_less bytes us s.0.0 (b.front ++ b.t ∷ more) one) (omega (arith, ap length (append_assoc a.front b.front (b.t ∷ more)), small)) (λ m' small'. b.again more m' small');
       }
 ]
 
-no_tree : (bytes : List ℕ) (ts : List Token) (h : Halt) (tree : List Top) → tops_from bytes (length ts) [] ts ≡ Err h → g.TopsAt bytes tree ts → ⊥
-unfolding tops
-no_tree bytes ts h tree e d = let read : tops_from bytes (length ts) [] ts ≡ Ok tree = tops_reads d in let no : (let r : Result (List Top) Halt = Ok tree in r) ≡ Err h = sym read ∙ e in cc
+-- where reading stops, it stops whatever follows
+pub record TopStop (bytes : List ℕ) (ts : List Token) (h : Halt) : Type 0 where
+  pub front : List Token
+  pub t : Token
+  pub rest : List Token
+  pub is_ts : ts ≡ front ++ t ∷ rest
+  pub spot : StopsAt h t
+  pub again : (more : List Token) → tops bytes max_depth (front ++ t ∷ more) ≡ Err h
 
-pub dead_end : (bytes : List ℕ) (ts : List Token) (h : Halt) → AtToken h → tops bytes ts ≡ Err h → IsDeadEnd bytes ts h
+pub top_stop : (bytes : List ℕ) (ts : List Token) (h : Halt) → AtToken h → tops bytes max_depth ts ≡ Err h → TopStop bytes ts h
+unfolding tops
+top_stop bytes ts h hard e =
+    let a = tops_stop bytes (length ts) [] ts h hard e in
+    record { front = a.front; t = a.t; rest = a.rest; is_ts = a.is_ts; spot = a.spot; again = λ more. a.again more (length (a.front ++ a.t ∷ more)) (omega arith) }
+
+no_tree : (bytes : List ℕ) (ts : List Token) (h : Halt) (tree : List Top) → tops_from bytes max_depth (length ts) [] ts ≡ Err h → g.TopsAt bytes max_depth tree ts → ⊥
+unfolding tops
+no_tree bytes ts h tree e d = let read : tops_from bytes max_depth (length ts) [] ts ≡ Ok tree = tops_reads d in let no : (let r : Result (List Top) Halt = Ok tree in r) ≡ Err h = sym read ∙ e in cc
+
+pub dead_end : (bytes : List ℕ) (ts : List Token) (h : Halt) → AtToken h → tops bytes max_depth ts ≡ Err h → IsDeadEnd bytes ts h
 unfolding tops
 dead_end bytes ts h hard e =
     let a = tops_stop bytes (length ts) [] ts h hard e in

@@ -1,5 +1,5 @@
 -- What is in the grammar is read.
-use Rattle.std.proofs.Common.{◌≡◌, ◌≤◌, ℕ, zero, suc, true, false, cond, List, [], ◌∷◌, ◌++◌, length, Some, None, Ok, refl, sym, ap, ◌∙◌, append_assoc, append-nil, arith}
+use Rattle.std.proofs.Common.{◌≡◌, ◌≢◌, ◌≤◌, ℕ, zero, suc, true, false, cond, List, [], ◌∷◌, ◌++◌, length, Option, Some, None, Ok, refl, sym, ap, ◌∙◌, append_assoc, append-nil, arith}
 use denote.Enum.Bare.{true_same, false_same}
 use Rattle.std.proofs.lemmas.Bool.{false≢true}
 use Rattle.sy_script.specs.contracts.token.Kind.{the_type}
@@ -7,7 +7,8 @@ use Rattle.sy_script.specs.declared.token.Kind.{Kind}
 use Rattle.sy_script.specs.declared.token.Kind.TheVariants as k
 use Rattle.sy_script.specs.declared.token.Token.{Token}
 use Rattle.sy_script.specs.declared.tree.Param.{Param}
-use Rattle.sy_script.specs.Reading.{Outcome, Parser, Open, and_then, same_kind, that, expect, behind, is_word, is_text, word_of, text_of, word, text, param, turn, items_from, params_in, params}
+use Rattle.sy_script.specs.Terms.{is_text, is_word, text_of, word_of}
+use Rattle.sy_script.specs.Reading.{Outcome, Parser, Open, and_then, same_kind, that, expect, behind, word, text, param, turn, items_from, params_in, params}
 use Rattle.sy_script.specs.Grammar as g
 
 -- ---- steps
@@ -30,6 +31,20 @@ behind_reads kind t ts h = ap (λ b. cond b (Some ts) None) (same_is t.kind kind
 pub behind_other : (kind a : Kind) (t : Token) (ts : List Token) → t.kind ≡ a → same_kind a kind ≡ false → behind kind (t ∷ ts) ≡ None
 unfolding behind
 behind_other kind a t ts h other = ap (λ b. cond b (Some ts) None) (ap (λ a. same_kind a kind) h ∙ other)
+
+-- no `else` comes next, for the reader as for the grammar
+pub no_else : (ts : List Token) → behind k.Else ts ≡ None → g.NoElse ts
+no_else [] h = tt
+no_else (t ∷ ts) h = λ is. let no : (let r : Option (List Token) = Some ts in r) ≡ None = sym (behind_reads k.Else t ts is) ∙ h in cc
+
+pub other_kind : (a b : Kind) → a ≢ b → same_kind a b ≡ false
+unfolding same_kind
+other_kind a b h = false_same the_type tt a b h
+
+pub else_behind : (ts : List Token) → g.NoElse ts → behind k.Else ts ≡ None
+unfolding behind
+else_behind [] h = refl
+else_behind (t ∷ ts) h = ap (λ b. cond b (Some ts) None) (other_kind t.kind k.Else h)
 
 -- no word is a parenthesis
 pub word_other : (a : Kind) → is_word a ≡ true → same_kind a k.RightParen ≡ false

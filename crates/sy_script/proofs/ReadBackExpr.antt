@@ -9,8 +9,9 @@ use Rattle.sy_script.specs.declared.tree.Operand.{Operand}
 use Rattle.sy_script.specs.declared.tree.Operand.TheVariants as value
 use Rattle.sy_script.specs.declared.tree.ExprTree.{ExprTree}
 use Rattle.sy_script.specs.declared.tree.ExprTree.TheVariants as e
-use Rattle.sy_script.specs.Reading.{Parser, Open, same_kind, expect, behind, is_text, text_of, text}
-use Rattle.sy_script.specs.ReadingExpr.{operator_of, operand_by, operand, compared, compared_by, comparison, prifilt, Level, unit_by, unit_at, part_behind, chain_from, chain_at, joined_by, expr_at, negated_by, negation_at, level, expr}
+use Rattle.sy_script.specs.Terms.{comparison_of, is_text, operator_of, text_of}
+use Rattle.sy_script.specs.Reading.{Parser, Open, same_kind, expect, behind, text}
+use Rattle.sy_script.specs.ReadingExpr.{operand_by, operand, compared_by, comparison, prifilt, Level, unit_by, unit_at, part_behind, chain_from, chain_at, joined_by, expr_at, negated_by, negation_at, level, expr}
 use Rattle.sy_script.specs.Grammar as g
 use Rattle.sy_script.proofs.Takes.{unit_takes}
 use Rattle.sy_script.proofs.ReadBack.{then_reads, expect_reads, behind_reads, behind_other, text_reads}
@@ -28,7 +29,7 @@ operand_reads {bytes} o (g.OperandAt.number {n = n} {rest = rest} h) = ap (λ ki
 operand_reads {bytes} o (g.OperandAt.string {v = v} {rest = rest} h) = text_operand bytes v.kind v rest h
 
 comparison_reads : {bytes : List ℕ} (p sign : Token) (o : Open) (operator : Operator) {x : Operand} {ts rest : List Token} → operator_of sign.kind ≡ Some operator → g.OperandAt bytes x ts rest →
-    comparison bytes p o (sign ∷ ts) ≡ Ok (compared bytes p sign operator x, rest)
+    comparison bytes p o (sign ∷ ts) ≡ Ok (comparison_of bytes p sign operator x, rest)
 unfolding comparison
 comparison_reads {bytes} p sign o operator {x} {ts} {rest} h d =
     ap (λ operator. compared_by bytes p o sign operator ts) h ∙ then_reads (operand bytes o ts) _ x rest _ (operand_reads o d) refl
@@ -111,7 +112,7 @@ any_expr bytes l o j ts us rest x xs h is more =
     (ap (λ b. joined_by bytes l o x (is_some b) (is_some (behind k.And (j ∷ us))) (j ∷ us)) (behind_reads k.Or j us is)
     ∙ then_reads (chain_at bytes l o k.Or x (j ∷ us)) _ xs rest _ more refl)
 
-and_not_or : (j : Token) (us : List Token) → j.kind ≡ k.And → behind k.Or (j ∷ us) ≡ None
+pub and_not_or : (j : Token) (us : List Token) → j.kind ≡ k.And → behind k.Or (j ∷ us) ≡ None
 unfolding same_kind
 and_not_or j us is = behind_other k.Or k.And j us is refl
 
@@ -160,14 +161,14 @@ mutual
   group_opens {bytes} (g.GroupAt.group {left = left} {o = p} {c = c} {x = x} {ts = ts} {rest = rest} is inner is_c) =
       record { t = p; us = ts; is_ts = refl; is_paren = is; reads = grouped bytes left p c ts rest x (expr_reads (Some p.span.start) (paren_no_joint c rest is_c) inner) is_c }
 
-  unit_reads : {bytes : List ℕ} {left : ℕ} {x : ExprTree} {ts rest : List Token} (o : Open) → g.UnitAt bytes left x ts rest → unit_at bytes (level bytes left) o ts ≡ Ok (x, rest)
+  pub unit_reads : {bytes : List ℕ} {left : ℕ} {x : ExprTree} {ts rest : List Token} (o : Open) → g.UnitAt bytes left x ts rest → unit_at bytes (level bytes left) o ts ≡ Ok (x, rest)
   unit_reads {bytes} o (g.UnitAt.grouped {left = left} {x = x} {ts = ts} {rest = rest} d) = opens_unit bytes left o x ts rest (group_opens d)
   unit_reads {bytes} o (g.UnitAt.not_grouped {left = left} {n = n} {x = x} {ts = ts} {rest = rest} is d) =
       not_unit bytes left o n ts rest (e.Not x) is (opens_negated bytes left o x ts rest (group_opens d))
   unit_reads {bytes} o (g.UnitAt.selected {left = left} d) = prifilt_unit (level bytes left) o d
   unit_reads {bytes} o (g.UnitAt.not_selected {left = left} {n = n} {x = x} {ts = ts} {rest = rest} is d) = not_unit bytes left o n ts rest (e.Not x) is (prifilt_negated (level bytes left) o d)
   unit_reads {bytes} o (g.UnitAt.compared {left = left} {p = p} {o = sign} {operator = operator} {operand = x} {ts = ts} {rest = rest} is_p is_o d) =
-      compared_unit bytes (level bytes left) o p (sign ∷ ts) rest (compared bytes p sign operator x) is_p (comparison_reads p sign o operator is_o d)
+      compared_unit bytes (level bytes left) o p (sign ∷ ts) rest (comparison_of bytes p sign operator x) is_p (comparison_reads p sign o operator is_o d)
 
   more_reads : {bytes : List ℕ} {left : ℕ} {joint : Kind} {xs : List ExprTree} {ts rest : List Token} (o : Open) (n : ℕ) (found : List ExprTree) → length ts ≤ n → behind joint rest ≡ None → g.MoreAt bytes left joint xs ts rest →
       chain_from joint (unit_at bytes (level bytes left) o) n found ts ≡ Ok (found ++ xs, rest)

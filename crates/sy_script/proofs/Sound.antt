@@ -9,7 +9,8 @@ use Rattle.sy_script.specs.declared.halt.Halt.{Halt}
 use Rattle.sy_script.specs.declared.tree.Word.{Word}
 use Rattle.sy_script.specs.declared.tree.Text.{Text}
 use Rattle.sy_script.specs.declared.tree.Param.{Param}
-use Rattle.sy_script.specs.Reading.{Outcome, Parser, Open, and_then, pure, refuse, same_kind, first, expect, behind, is_word, is_text, word_of, text_of, word, text, param, turn, items_from, params_in, params}
+use Rattle.sy_script.specs.Terms.{is_text, is_word, text_of, word_of}
+use Rattle.sy_script.specs.Reading.{Outcome, Parser, Open, and_then, pure, refuse, same_kind, first, expect, behind, word, text, param, turn, items_from, params_in, params}
 use Rattle.sy_script.specs.Grammar as g
 
 -- what stands at these tokens, under other names

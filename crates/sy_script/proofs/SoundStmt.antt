@@ -15,14 +15,16 @@ use Rattle.sy_script.specs.declared.tree.Ruleset.{Ruleset}
 use Rattle.sy_script.specs.declared.tree.Top.{Top}
 use Rattle.sy_script.specs.declared.tree.Top.TheVariants as t
 use Rattle.sy_script.specs.declared.tree.Script.{Script}
+use Rattle.sy_script.specs.Terms.{max_depth, max_text, object_kind}
 use Rattle.sy_script.specs.Lex.{tokens}
 use Rattle.sy_script.specs.Reading.{Outcome, Parser, Open, and_then, refuse, same_kind, first, expect, behind, word, items_from, params}
 use Rattle.sy_script.specs.ReadingExpr.{expr}
-use Rattle.sy_script.specs.ReadingStmt.{max_depth, otherwise_by, choice_at, stmt_by, stmt_at, body_at, block_by, block, stmt, body, object_kind, rules, other_top, top_by, top, tops_then, tops_from, tops}
-use Rattle.sy_script.specs.Answer.{max_text, ended, reading}
+use Rattle.sy_script.specs.ReadingStmt.{otherwise_by, choice_at, stmt_by, stmt_at, body_at, block_by, block, stmt, body, rules, other_top, top_by, top, tops_then, tops_from, tops}
+use Rattle.sy_script.specs.Answer.{ended, reading}
 use Rattle.sy_script.specs.Grammar as g
 use Rattle.sy_script.proofs.Sound.{bind_ok, ok_is, pure_ok, kind_is, first_ok, expect_ok, behind_ok, word_ok, params_ok, turn_ok, move}
 use Rattle.sy_script.proofs.SoundExpr.{whole_ok}
+use Rattle.sy_script.proofs.ReadBack.{no_else}
 use Rattle.sy_script.proofs.Takes.{top_takes}
 use Rattle.sy_script.proofs.Cuts.{whole_cut}
 
@@ -37,7 +39,7 @@ module _ (bytes : List ℕ) (left : ℕ) (inner : Open → Parser Block) (deep :
       otherwise_by inner o x done next mid ≡ Ok y → g.StmtAt bytes left y.0 (i ∷ ts) y.1
   otherwise_ok o x done i w ts us None mid y is test is_w block is_next h =
       let p = pure_ok _ mid y h in
-      move (g.StmtAt bytes left) p.0 refl p.1 (g.StmtAt.one_way is test is_w block is_next)
+      move (g.StmtAt bytes left) p.0 refl p.1 (g.StmtAt.one_way is test is_w block (no_else mid is_next))
   otherwise_ok o x done i w ts us (Some after) mid y is test is_w block is_next h =
       let s = bind_ok (inner o after) _ y h in
       let p = pure_ok _ s.0.1 y s.2 in
@@ -125,7 +127,7 @@ whole_body_ok bytes left o ts y h = body_ok bytes left (block bytes left) (block
 
 -- ---- the top of a file
 
-rules_ok : (bytes : List ℕ) (w : Token) (ts : List Token) (y : Ruleset × List Token) → w.kind ≡ k.Ruleset → rules bytes w ts ≡ Ok y → g.TopAt bytes (t.Ruleset y.0) (w ∷ ts) y.1
+rules_ok : (bytes : List ℕ) (w : Token) (ts : List Token) (y : Ruleset × List Token) → w.kind ≡ k.Ruleset → rules bytes max_depth w ts ≡ Ok y → g.TopAt bytes max_depth (t.Ruleset y.0) (w ∷ ts) y.1
 unfolding rules
 rules_ok bytes w ts y is h =
     let s = bind_ok (params bytes None ts) _ y h in
@@ -134,26 +136,26 @@ rules_ok bytes w ts y is h =
     let s3 = bind_ok (body bytes max_depth (Some s2.0.0.span.start) s2.0.1) _ y s2.2 in
     let p = pure_ok _ s3.0.1 y s3.2 in
     let found : g.ParamsAt bytes s.0.0 ts (s2.0.0 ∷ s2.0.1) = move (g.ParamsAt bytes) refl refl brace.0 (params_ok bytes None ts s.0 s.1) in
-    move (g.TopAt bytes) (ap t.Ruleset p.0) refl p.1 (g.TopAt.rules is found brace.1 (whole_body_ok bytes max_depth (Some s2.0.0.span.start) s2.0.1 s3.0 s3.1))
+    move (g.TopAt bytes max_depth) (ap t.Ruleset p.0) refl p.1 (g.TopAt.rules is found brace.1 (whole_body_ok bytes max_depth (Some s2.0.0.span.start) s2.0.1 s3.0 s3.1))
 
-other_top_ok : (bytes : List ℕ) (is_rules : Bool) (w : Token) (after ts : List Token) (y : Top × List Token) → same_kind w.kind k.Ruleset ≡ is_rules → ts ≡ w ∷ after → other_top bytes is_rules w after ts ≡ Ok y → g.TopAt bytes y.0 ts y.1
+other_top_ok : (bytes : List ℕ) (is_rules : Bool) (w : Token) (after ts : List Token) (y : Top × List Token) → same_kind w.kind k.Ruleset ≡ is_rules → ts ≡ w ∷ after → other_top bytes max_depth is_rules w after ts ≡ Ok y → g.TopAt bytes max_depth y.0 ts y.1
 other_top_ok bytes true w after ts y is at h =
-    let s = bind_ok (rules bytes w after) _ y h in
+    let s = bind_ok (rules bytes max_depth w after) _ y h in
     let p = pure_ok _ s.0.1 y s.2 in
-    move (g.TopAt bytes) p.0 (sym at) p.1 (rules_ok bytes w after s.0 (kind_is _ _ is) s.1)
+    move (g.TopAt bytes max_depth) p.0 (sym at) p.1 (rules_ok bytes w after s.0 (kind_is _ _ is) s.1)
 other_top_ok bytes false w after ts y is at h =
     let s = bind_ok (stmt bytes max_depth None ts) _ y h in
     let p = pure_ok _ s.0.1 y s.2 in
-    move (g.TopAt bytes) p.0 refl p.1 (g.TopAt.stmt (whole_stmt_ok bytes max_depth None ts s.0 s.1))
+    move (g.TopAt bytes max_depth) p.0 refl p.1 (g.TopAt.stmt (whole_stmt_ok bytes max_depth None ts s.0 s.1))
 
-top_by_ok : (bytes : List ℕ) (kind : Option ObjectKind) (w : Token) (after ts : List Token) (y : Top × List Token) → object_kind w.kind ≡ kind → ts ≡ w ∷ after → top_by bytes kind w after ts ≡ Ok y → g.TopAt bytes y.0 ts y.1
+top_by_ok : (bytes : List ℕ) (kind : Option ObjectKind) (w : Token) (after ts : List Token) (y : Top × List Token) → object_kind w.kind ≡ kind → ts ≡ w ∷ after → top_by bytes max_depth kind w after ts ≡ Ok y → g.TopAt bytes max_depth y.0 ts y.1
 top_by_ok bytes (Some kind) w after ts y is at h =
     let s = bind_ok (params bytes None after) _ y h in
     let p = pure_ok _ s.0.1 y s.2 in
-    move (g.TopAt bytes) p.0 (sym at) p.1 (g.TopAt.object is (params_ok bytes None after s.0 s.1))
+    move (g.TopAt bytes max_depth) p.0 (sym at) p.1 (g.TopAt.object is (params_ok bytes None after s.0 s.1))
 top_by_ok bytes None w after ts y is at h = other_top_ok bytes (same_kind w.kind k.Ruleset) w after ts y refl at h
 
-pub top_ok : (bytes : List ℕ) (ts : List Token) (y : Top × List Token) → top bytes ts ≡ Ok y → g.TopAt bytes y.0 ts y.1
+pub top_ok : (bytes : List ℕ) (ts : List Token) (y : Top × List Token) → top bytes max_depth ts ≡ Ok y → g.TopAt bytes max_depth y.0 ts y.1
 unfolding top
 top_ok bytes ts y h =
     let s = bind_ok (first None ts) _ y h in
@@ -163,22 +165,22 @@ tops_then_ok : (r : Outcome Top) (more : Top → List Token → Result (List Top
 tops_then_ok (Ok x) more y h = (x, refl, h)
 tops_then_ok (Err e) more y h = absurd cc
 
-tops_from_ok : (bytes : List ℕ) (n : ℕ) (found : List Top) (ts : List Token) (y : List Top) → length ts ≤ n → tops_from bytes n found ts ≡ Ok y → Grown found (λ xs. g.TopsAt bytes xs ts) y
+tops_from_ok : (bytes : List ℕ) (n : ℕ) (found : List Top) (ts : List Token) (y : List Top) → length ts ≤ n → tops_from bytes max_depth n found ts ≡ Ok y → Grown found (λ xs. g.TopsAt bytes max_depth xs ts) y
 unfolding tops_from
 tops_from_ok bytes zero found [] y small h = ([], sym (ok_is h) ∙ sym (append-nil found), g.TopsAt.none)
 tops_from_ok bytes zero found (w ∷ ts) y small h = absurd (omega arith)
 tops_from_ok bytes (suc n) found [] y small h = ([], sym (ok_is h) ∙ sym (append-nil found), g.TopsAt.none)
 tops_from_ok bytes (suc n) found (w ∷ ts) y small h =
-    let s = tops_then_ok (top bytes (w ∷ ts)) _ y h in
+    let s = tops_then_ok (top bytes max_depth (w ∷ ts)) _ y h in
     let one = top_ok bytes (w ∷ ts) s.0 s.1 in
     let rest = tops_from_ok bytes n (found ++ s.0.0 ∷ []) s.0.1 y (omega (arith, top_takes one)) s.2 in
     (s.0.0 ∷ rest.0, rest.1 ∙ append_assoc found (s.0.0 ∷ []) rest.0, g.TopsAt.more one rest.2)
 
-tops_ok : (bytes : List ℕ) (ts : List Token) (y : List Top) → tops bytes ts ≡ Ok y → g.TopsAt bytes y ts
+pub tops_ok : (bytes : List ℕ) (ts : List Token) (y : List Top) → tops bytes max_depth ts ≡ Ok y → g.TopsAt bytes max_depth y ts
 unfolding tops
 tops_ok bytes ts y h =
     let w = tops_from_ok bytes (length ts) [] ts y (omega arith) h in
-    let P : List Top → Type 0 = λ v. g.TopsAt bytes v ts in
+    let P : List Top → Type 0 = λ v. g.TopsAt bytes max_depth v ts in
     subst P (sym w.1) w.2
 
 ended_ok : (text : List ℕ) (end : Ending) (r : Result (List Top) Halt) (script : Script) → ended (length text) end r ≡ Ok script → (end ≡ ending.Complete) × (r ≡ Ok script.tops)

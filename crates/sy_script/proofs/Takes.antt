@@ -60,7 +60,7 @@ mutual
   body_takes (g.BodyAt.close a) = omega arith
   body_takes (g.BodyAt.stmt a b) = omega (arith, stmt_takes a, body_takes b)
 
-pub top_takes : {text : List ℕ} {x : Top} {ts rest : List Token} → g.TopAt text x ts rest → length rest < length ts
+pub top_takes : {text : List ℕ} {left : ℕ} {x : Top} {ts rest : List Token} → g.TopAt text left x ts rest → length rest < length ts
 top_takes (g.TopAt.object a b) = omega (arith, params_takes b)
 top_takes (g.TopAt.rules a b c d) = omega (arith, params_takes b, body_takes d)
 top_takes (g.TopAt.stmt a) = stmt_takes a

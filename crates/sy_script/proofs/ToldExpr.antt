@@ -8,8 +8,9 @@ use Rattle.sy_script.specs.declared.halt.Halt.{Halt}
 use Rattle.sy_script.specs.declared.tree.Operator.{Operator}
 use Rattle.sy_script.specs.declared.tree.Operand.{Operand}
 use Rattle.sy_script.specs.declared.tree.ExprTree.{ExprTree}
+use Rattle.sy_script.specs.Terms.{operator_of}
 use Rattle.sy_script.specs.Reading.{Parser, Open, and_then, first, expect, behind, text}
-use Rattle.sy_script.specs.ReadingExpr.{operator_of, operand_by, operand, compared_by, comparison, prifilt, Level, unit_by, unit_at, part_behind, chain_from, chain_at, joined_by, expr_at, group_at, negated_by, negation_at, level, expr}
+use Rattle.sy_script.specs.ReadingExpr.{operand_by, operand, compared_by, comparison, prifilt, Level, unit_by, unit_at, part_behind, chain_from, chain_at, joined_by, expr_at, group_at, negated_by, negation_at, level, expr}
 use Rattle.sy_script.specs.Grammar as g
 use Rattle.sy_script.specs.Brackets.{opens, is_bracket, Balanced}
 use Rattle.sy_script.specs.Standing.{is_joint, ExprPlace, UnitPlace, JointPlace, GroupPlace}
@@ -17,37 +18,55 @@ use Rattle.sy_script.specs.Faults.{Deepens}
 use Rattle.sy_script.proofs.Sound.{behind_ok, first_ok, expect_ok, text_ok, move}
 use Rattle.sy_script.proofs.SoundExpr.{unit_ok, expr_ok, level_ok}
 use Rattle.sy_script.proofs.Balance.{operator_plain, text_plain, unit_balanced, expr_balanced}
-use Rattle.sy_script.proofs.Told.{IsOpen, open_on, open_in, open_plain, open_as, Told, told_as, bind_told, pure_told, first_told, expect_told, text_told}
+use Rattle.sy_script.proofs.Moves.{expr_moves}
+use Rattle.sy_script.proofs.Holes.{tok, Fits, Hole, fits, over, AUnit, AGroup, APrifilt, a_unit, a_prifilt, unit_hole, group_hole}
+use Rattle.sy_script.proofs.Told.{IsOpen, open_on, open_in, open_plain, open_as, Told, told_as, bind_told, pure_told, fits_as, hole_as, stray, first_told, expect_told, text_told}
 
 module _ (bytes : List ℕ) (ts : List Token) where
-  operand_by_told : (kind : Kind) (t : Token) (us : List Token) (h : Halt) → operand_by bytes kind t us ≡ Err h → Told bytes ts h
-  operand_by_told k.Number t us h e = absurd cc
-  operand_by_told k.Quoted t us h e = absurd cc
-  operand_by_told k.SingleQuoted t us h e = absurd cc
-  operand_by_told _ t us h e = told_as bytes ts {A = Operand} e tt
+  operand_by_told : (kind : Kind) (t : Token) (us : List Token) (h : Halt) → Fits bytes ts (t ∷ us) → operand_by bytes kind t us ≡ Err h → Told bytes ts h
+  operand_by_told k.Number t us h f e = absurd cc
+  operand_by_told k.Quoted t us h f e = absurd cc
+  operand_by_told k.SingleQuoted t us h f e = absurd cc
+  operand_by_told _ t us h f e = told_as bytes ts {A = Operand} e (stray bytes ts t us f)
 
-  operand_told : (o : Open) (us : List Token) (h : Halt) → IsOpen ts o us → operand bytes o us ≡ Err h → Told bytes ts h
+  operand_told : (o : Open) (us : List Token) (h : Halt) → IsOpen ts o us → Fits bytes ts us → operand bytes o us ≡ Err h → Told bytes ts h
   unfolding operand
-  operand_told o us h is e = bind_told bytes ts (first o us) _ h e (first_told bytes ts o us h is) (λ x ok. operand_by_told x.0.kind x.0 x.1 h)
+  operand_told o us h is f e = bind_told bytes ts (first o us) _ h e (first_told bytes ts o us h is f) (λ x ok. operand_by_told x.0.kind x.0 x.1 h (fits_as bytes ts (first_ok o us x ok) f))
 
-  compared_told : (p : Token) (o : Open) (sign : Token) (operator : Option Operator) (us : List Token) (h : Halt) → operator_of sign.kind ≡ operator → IsOpen ts o (sign ∷ us) → compared_by bytes p o sign operator us ≡ Err h → Told bytes ts h
-  compared_told p o sign None us h is_o is e = told_as bytes ts {A = ExprTree} e tt
-  compared_told p o sign (Some operator) us h is_o is e = bind_told bytes ts (operand bytes o us) _ h e (operand_told o us h (open_on is (Balanced.other (operator_plain sign.kind operator is_o) Balanced.none))) (λ x ok. pure_told bytes ts _ x.1 h)
+  -- behind a property, and behind the operator
+  signed : (p : Token) (us : List Token) → p.kind ≡ k.Property → Hole bytes ts (AUnit bytes) (p ∷ us) → Fits bytes ts us
+  signed p us is_p hole =
+      let P : List Token → Type 0 = λ v. AUnit bytes (p ∷ v) in
+      fits P (over (AUnit bytes) P hole (p ∷ []) refl (λ w q. q)) (tok k.Equal ∷ tok k.Number ∷ []) (0, _, g.UnitAt.compared is_p refl (g.OperandAt.number refl))
 
-  comparison_told : (p : Token) (o : Open) (us : List Token) (h : Halt) → IsOpen ts o us → comparison bytes p o us ≡ Err h → Told bytes ts h
+  against : (p sign : Token) (operator : Operator) (us : List Token) → p.kind ≡ k.Property → operator_of sign.kind ≡ Some operator → Hole bytes ts (AUnit bytes) (p ∷ sign ∷ us) → Fits bytes ts us
+  against p sign operator us is_p is_o hole =
+      let P : List Token → Type 0 = λ v. AUnit bytes (p ∷ sign ∷ v) in
+      fits P (over (AUnit bytes) P hole (p ∷ sign ∷ []) refl (λ w q. q)) (tok k.Number ∷ []) (0, _, g.UnitAt.compared is_p is_o (g.OperandAt.number refl))
+
+  compared_told : (p : Token) (o : Open) (sign : Token) (operator : Option Operator) (us : List Token) (h : Halt) → p.kind ≡ k.Property → operator_of sign.kind ≡ operator → IsOpen ts o (sign ∷ us) → Hole bytes ts (AUnit bytes) (p ∷ sign ∷ us) → compared_by bytes p o sign operator us ≡ Err h → Told bytes ts h
+  compared_told p o sign None us h is_p is_o is hole e = told_as bytes ts {A = ExprTree} e (stray bytes ts sign us (signed p (sign ∷ us) is_p hole))
+  compared_told p o sign (Some operator) us h is_p is_o is hole e = bind_told bytes ts (operand bytes o us) _ h e (operand_told o us h (open_on is (Balanced.other (operator_plain sign.kind operator is_o) Balanced.none)) (against p sign operator us is_p is_o hole)) (λ x ok. pure_told bytes ts _ x.1 h)
+
+  comparison_told : (p : Token) (o : Open) (us : List Token) (h : Halt) → p.kind ≡ k.Property → IsOpen ts o us → Hole bytes ts (AUnit bytes) (p ∷ us) → comparison bytes p o us ≡ Err h → Told bytes ts h
   unfolding comparison
-  comparison_told p o us h is e = bind_told bytes ts (first o us) _ h e (first_told bytes ts o us h is) (λ x ok. compared_told p o x.0 (operator_of x.0.kind) x.1 h refl (open_as (first_ok o us x ok) is))
+  comparison_told p o us h is_p is hole e = bind_told bytes ts (first o us) _ h e (first_told bytes ts o us h is (signed p us is_p hole)) (λ x ok.
+      compared_told p o x.0 (operator_of x.0.kind) x.1 h is_p refl (open_as (first_ok o us x ok) is) (hole_as bytes ts (AUnit bytes) (ap (λ r. p ∷ r) (first_ok o us x ok)) hole))
 
-  prifilt_told : (o : Open) (us : List Token) (h : Halt) → IsOpen ts o us → prifilt bytes o us ≡ Err h → Told bytes ts h
+  prifilt_told : (w : Token) (o : Open) (us : List Token) (h : Halt) → w.kind ≡ k.Prifilt → IsOpen ts o us → Hole bytes ts (λ v. APrifilt bytes (w ∷ v)) us → prifilt bytes o us ≡ Err h → Told bytes ts h
   unfolding prifilt
-  prifilt_told o us h is e = bind_told bytes ts (expect k.LeftParen o us) _ h e (expect_told bytes ts k.LeftParen o us h is) (λ x ok e2.
+  prifilt_told w o us h is_w is hole e = bind_told bytes ts (expect k.LeftParen o us) _ h e (expect_told bytes ts k.LeftParen o us h is (fits (λ v. APrifilt bytes (w ∷ v)) hole (tok k.LeftParen ∷ tok k.Quoted ∷ tok k.RightParen ∷ []) (_, g.PrifiltAt.prifilt is_w refl refl refl))) (λ x ok e2.
       let p = expect_ok k.LeftParen o us x ok in
+      let P : List Token → Type 0 = λ v. APrifilt bytes (w ∷ x.0 ∷ v) in
+      let hole2 : Hole bytes ts P x.1 = over (λ v. APrifilt bytes (w ∷ v)) P hole (x.0 ∷ []) p.0 (λ v q. q) in
       let s : Open = Some x.0.span.start in
       let is2 : IsOpen ts s x.1 = open_in x.0 x.1 (open_as p.0 is) (ap opens p.1) in
-      bind_told bytes ts (text bytes s x.1) _ h e2 (text_told bytes ts s x.1 h is2) (λ y ok2 e3.
+      bind_told bytes ts (text bytes s x.1) _ h e2 (text_told bytes ts s x.1 h is2 (fits P hole2 (tok k.Quoted ∷ tok k.RightParen ∷ []) (_, g.PrifiltAt.prifilt is_w p.1 refl refl))) (λ y ok2 e3.
       let v = text_ok bytes s x.1 y ok2 in
+      let Q : List Token → Type 0 = λ r. APrifilt bytes (w ∷ x.0 ∷ v.0 ∷ r) in
+      let hole3 : Hole bytes ts Q y.1 = over P Q hole2 (v.0 ∷ []) v.1 (λ r q. q) in
       let is3 : IsOpen ts s y.1 = open_on (open_as v.1 is2) (Balanced.other (text_plain v.0.kind v.2) Balanced.none) in
-      bind_told bytes ts (expect k.RightParen s y.1) _ h e3 (expect_told bytes ts k.RightParen s y.1 h is3) (λ z ok3. pure_told bytes ts _ z.1 h)))
+      bind_told bytes ts (expect k.RightParen s y.1) _ h e3 (expect_told bytes ts k.RightParen s y.1 h is3 (fits Q hole3 (tok k.RightParen ∷ []) (_, g.PrifiltAt.prifilt is_w p.1 v.2 refl))) (λ z ok3. pure_told bytes ts _ z.1 h)))
 
   record Deep (left : ℕ) (l : Level) : Type 0 where
     groups : (o : Open) (t : Token) (us : List Token) (h : Halt) → t.kind ≡ k.LeftParen → GroupPlace bytes ts left (t ∷ us) → IsOpen ts o (t ∷ us) → l.group t us ≡ Err h → Told bytes ts h
@@ -66,18 +85,22 @@ module _ (bytes : List ℕ) (ts : List Token) where
   joint_plain _ h = refl
 
   module _ (left : ℕ) (deep : Deep left (level bytes left)) where
+    unit_fits : {us : List Token} → UnitPlace bytes ts left us → Fits bytes ts us
+    unit_fits place = fits (AUnit bytes) (unit_hole bytes ts place) _ (a_unit bytes)
+
     unit_by_told : (o : Open) (kind : Kind) (t : Token) (us : List Token) (h : Halt) → t.kind ≡ kind → UnitPlace bytes ts left (t ∷ us) → IsOpen ts o (t ∷ us) → unit_by bytes (level bytes left) o kind t us ≡ Err h → Told bytes ts h
     unit_by_told o k.LeftParen t us h same place is e = deep.groups o t us h same (GroupPlace.unit place) is e
     unit_by_told o k.Not t us h same place is e = deep.negations o t us h same place is e
-    unit_by_told o k.Prifilt t us h same place is e = prifilt_told o us h (open_plain t us is same refl) e
-    unit_by_told o k.Property t us h same place is e = comparison_told t o us h (open_plain t us is same refl) e
-    unit_by_told o _ t us h same place is e = told_as bytes ts {A = ExprTree} e tt
+    unit_by_told o k.Prifilt t us h same place is e =
+        prifilt_told t o us h same (open_plain t us is same refl) (over (AUnit bytes) (λ v. APrifilt bytes (t ∷ v)) (unit_hole bytes ts place) (t ∷ []) refl (λ w q. (0, q.0, g.UnitAt.selected q.1))) e
+    unit_by_told o k.Property t us h same place is e = comparison_told t o us h same (open_plain t us is same refl) (unit_hole bytes ts place) e
+    unit_by_told o _ t us h same place is e = told_as bytes ts {A = ExprTree} e (stray bytes ts t us (unit_fits place))
 
     unit_place : {us vs : List Token} → us ≡ vs → UnitPlace bytes ts left us → UnitPlace bytes ts left vs
     unit_place e p = let P : List Token → Type 0 = λ v. UnitPlace bytes ts left v in subst P e p
 
     unit_told : (o : Open) (us : List Token) (h : Halt) → UnitPlace bytes ts left us → IsOpen ts o us → unit_at bytes (level bytes left) o us ≡ Err h → Told bytes ts h
-    unit_told o us h place is e = bind_told bytes ts (first o us) _ h e (first_told bytes ts o us h is) (λ x ok.
+    unit_told o us h place is e = bind_told bytes ts (first o us) _ h e (first_told bytes ts o us h is (unit_fits place)) (λ x ok.
         let same = first_ok o us x ok in unit_by_told o x.0.kind x.0 x.1 h refl (unit_place same place) (open_as same is))
 
     unit_read : (o : Open) (us : List Token) (x : ExprTree × List Token) → unit_at bytes (level bytes left) o us ≡ Ok x → g.UnitAt bytes left x.0 us x.1
@@ -113,22 +136,36 @@ module _ (bytes : List ℕ) (ts : List Token) where
     expr_read : (o : Open) (us : List Token) (x : ExprTree × List Token) → expr_at bytes (level bytes left) o us ≡ Ok x → g.ExprAt bytes left x.0 us x.1
     expr_read o us x ok = expr_ok bytes left (level bytes left) (level_ok bytes left) o us x ok
 
+    -- behind the expression of a parenthesis
+    enclosed : (t : Token) (us mid : List Token) (x : ExprTree) → t.kind ≡ k.LeftParen → GroupPlace bytes ts (suc left) (t ∷ us) → g.ExprAt bytes left x us mid → Fits bytes ts mid
+    enclosed t us mid x same place d =
+        let m = expr_moves d in
+        let P : List Token → Type 0 = λ v. AGroup bytes (t ∷ (m.0 ++ v)) in
+        fits P (over (AGroup bytes) P (group_hole bytes ts place) (t ∷ m.0) (ap (λ r. t ∷ r) m.1) (λ v q. q)) (tok k.RightParen ∷ []) (suc left, _, g.GroupAt.group same (m.2 (tok k.RightParen ∷ []) (λ a b. cc)) refl)
+
     group_told : (o : Open) (t : Token) (us : List Token) (h : Halt) → t.kind ≡ k.LeftParen → GroupPlace bytes ts (suc left) (t ∷ us) → IsOpen ts o (t ∷ us) → group_at bytes (level bytes left) t us ≡ Err h → Told bytes ts h
     group_told o t us h same place is e =
         let s : Open = Some t.span.start in
         let is2 : IsOpen ts s us = open_in t us is (ap opens same) in
         bind_told bytes ts (expr_at bytes (level bytes left) s us) _ h e (expr_told s us h (ExprPlace.group place same) is2) (λ x ok e2.
-        bind_told bytes ts (expect k.RightParen s x.1) _ h e2 (expect_told bytes ts k.RightParen s x.1 h (open_on is2 (expr_balanced (expr_read s us x ok)))) (λ y ok2. pure_told bytes ts _ y.1 h))
+        bind_told bytes ts (expect k.RightParen s x.1) _ h e2 (expect_told bytes ts k.RightParen s x.1 h (open_on is2 (expr_balanced (expr_read s us x ok))) (enclosed t us x.1 x.0 same place (expr_read s us x ok))) (λ y ok2. pure_told bytes ts _ y.1 h))
+
+    -- behind `not`
+    negated : (n : Token) (us : List Token) → n.kind ≡ k.Not → UnitPlace bytes ts (suc left) (n ∷ us) → Fits bytes ts us
+    negated n us is_not place =
+        let P : List Token → Type 0 = λ v. AUnit bytes (n ∷ v) in
+        fits P (over (AUnit bytes) P (unit_hole bytes ts place) (n ∷ []) refl (λ w q. q)) _ (let p = a_prifilt bytes in (1, _, g.UnitAt.not_selected is_not p.1))
 
     negated_told : (o : Open) (kind : Kind) (t n : Token) (us : List Token) (h : Halt) → t.kind ≡ kind → n.kind ≡ k.Not → UnitPlace bytes ts (suc left) (n ∷ t ∷ us) → IsOpen ts o (t ∷ us) → negated_by bytes (level bytes left) o kind t us ≡ Err h → Told bytes ts h
     negated_told o k.LeftParen t n us h same is_not place is e = deep.groups o t us h same (GroupPlace.negated place is_not) is e
-    negated_told o k.Prifilt t n us h same is_not place is e = prifilt_told o us h (open_plain t us is same refl) e
-    negated_told o _ t n us h same is_not place is e = told_as bytes ts {A = ExprTree} e tt
+    negated_told o k.Prifilt t n us h same is_not place is e =
+        prifilt_told t o us h same (open_plain t us is same refl) (over (AUnit bytes) (λ v. APrifilt bytes (t ∷ v)) (unit_hole bytes ts place) (n ∷ t ∷ []) refl (λ w q. (1, _, g.UnitAt.not_selected is_not q.1))) e
+    negated_told o _ t n us h same is_not place is e = told_as bytes ts {A = ExprTree} e (stray bytes ts t us (negated n (t ∷ us) is_not place))
 
     negation_told : (o : Open) (n : Token) (us : List Token) (h : Halt) → n.kind ≡ k.Not → UnitPlace bytes ts (suc left) (n ∷ us) → IsOpen ts o (n ∷ us) → negation_at bytes (level bytes left) o us ≡ Err h → Told bytes ts h
     negation_told o n us h is_not place is e =
         let is2 : IsOpen ts o us = open_plain n us is is_not refl in
-        bind_told bytes ts (first o us) _ h e (first_told bytes ts o us h is2) (λ x ok e2.
+        bind_told bytes ts (first o us) _ h e (first_told bytes ts o us h is2 (negated n us is_not place)) (λ x ok e2.
         let same = first_ok o us x ok in
         let at : UnitPlace bytes ts (suc left) (n ∷ x.0 ∷ x.1) = (let P : List Token → Type 0 = λ v. UnitPlace bytes ts (suc left) (n ∷ v) in subst P same place) in
         bind_told bytes ts (negated_by bytes (level bytes left) o x.0.kind x.0 x.1) _ h e2 (negated_told o x.0.kind x.0 n x.1 h refl is_not at (open_as same is2)) (λ y ok2. pure_told bytes ts _ y.1 h))

@@ -1,17 +1,19 @@
 -- What stands where the reading of statements and files stops.
-use Rattle.std.proofs.Common.{◌≡◌, ◌<◌, ℕ, zero, suc, Bool, true, false, List, [], ◌∷◌, ◌++◌, length, Option, Some, None, Result, Ok, Err, refl, sym, ap, subst, arith}
+use Rattle.std.proofs.Common.{◌≡◌, ◌<◌, ◌≤◌, ℕ, zero, suc, Bool, true, false, List, [], ◌∷◌, ◌++◌, length, Option, Some, None, Result, Ok, Err, refl, sym, ap, subst, arith}
 use Rattle.sy_script.specs.declared.token.Kind.{Kind}
 use Rattle.sy_script.specs.declared.token.Kind.TheVariants as k
 use Rattle.sy_script.specs.declared.token.Token.{Token}
 use Rattle.sy_script.specs.declared.halt.Halt.{Halt}
+use Rattle.sy_script.specs.declared.tree.Param.{Param}
 use Rattle.sy_script.specs.declared.tree.ExprTree.{ExprTree}
 use Rattle.sy_script.specs.declared.tree.ObjectKind.{ObjectKind}
 use Rattle.sy_script.specs.declared.tree.Block.{Block}
 use Rattle.sy_script.specs.declared.tree.Stmt.{Stmt}
 use Rattle.sy_script.specs.declared.tree.Top.{Top}
+use Rattle.sy_script.specs.Terms.{max_depth, object_kind}
 use Rattle.sy_script.specs.Reading.{Outcome, Open, same_kind, first, expect, behind, word, params}
 use Rattle.sy_script.specs.ReadingExpr.{expr}
-use Rattle.sy_script.specs.ReadingStmt.{max_depth, refusal_by, refusal, too_deep_by, otherwise_by, choice_at, stmt_by, stmt_at, body_at, block_by, block, stmt, body, object_kind, rules, other_top, top_by, top, tops_then, tops_from, tops}
+use Rattle.sy_script.specs.ReadingStmt.{refusal_by, refusal, too_deep_by, otherwise_by, choice_at, stmt_by, stmt_at, body_at, block_by, block, stmt, body, rules, other_top, top_by, top, tops_then, tops_from, tops}
 use Rattle.sy_script.specs.Grammar as g
 use Rattle.sy_script.specs.Brackets.{opens, Balanced}
 use Rattle.sy_script.specs.Standing.{TopPlace, StmtPlace, BodyPlace, BlockPlace, ExprPlace}
@@ -21,20 +23,23 @@ use Rattle.sy_script.proofs.Sound.{first_ok, expect_ok, behind_ok, kind_is, para
 use Rattle.sy_script.proofs.SoundExpr.{whole_ok}
 use Rattle.sy_script.proofs.SoundStmt.{stmt_ok, block_ok, top_ok}
 use Rattle.sy_script.proofs.Balance.{object_plain, params_balanced, expr_balanced, stmt_balanced, block_balanced, top_balanced}
-use Rattle.sy_script.proofs.Told.{IsOpen, open_on, open_in, open_plain, open_as, Told, told_as, bind_told, pure_told, first_told, expect_told, word_told, expect_open, items_told, params_told}
+use Rattle.sy_script.proofs.Depths.{expr_up}
+use Rattle.sy_script.proofs.Moves.{params_moves, expr_moves, with_tail}
+use Rattle.sy_script.proofs.Holes.{tok, then_stop, Fits, Hole, fits, over, pad, Tops, AStmt, ABlock, ABody, Params, a_stmt, a_block, a_body, top_hole, stmt_hole, body_hole, block_hole}
+use Rattle.sy_script.proofs.Told.{IsOpen, open_on, open_in, open_plain, open_as, Stray, stray, Told, told_as, bind_told, pure_told, first_told, expect_told, word_told, expect_open, items_told, params_told}
 use Rattle.sy_script.proofs.ToldExpr.{whole_expr_told}
 
 module _ (bytes : List ℕ) (ts : List Token) where
-  refusal_told : (kind : Kind) (t : Token) → (k.LeftOut ≡ t.kind → BeginsLeftOut bytes ts t) → (k.Property ≡ t.kind → BeginsLeftOut bytes ts t) → kind ≡ t.kind → Told bytes ts (refusal_by kind t)
-  refusal_told k.LeftOut t a b same = (t, refl, a same)
-  refusal_told k.Property t a b same = (t, refl, b same)
-  refusal_told _ t a b same = tt
+  refusal_told : (kind : Kind) (t : Token) → Stray bytes ts t.span → (k.LeftOut ≡ t.kind → BeginsLeftOut bytes ts t) → (k.Property ≡ t.kind → BeginsLeftOut bytes ts t) → kind ≡ t.kind → Told bytes ts (refusal_by kind t)
+  refusal_told k.LeftOut t s a b same = (t, refl, a same)
+  refusal_told k.Property t s a b same = (t, refl, b same)
+  refusal_told _ t s a b same = s
 
   left_out_stmt : (left : ℕ) (t : Token) (us : List Token) → StmtPlace bytes ts left (t ∷ us) → Told bytes ts (refusal t)
-  left_out_stmt left t us place = refusal_told t.kind t (λ same. BeginsLeftOut.stmt place (ap is_left_out (sym same))) (λ same. BeginsLeftOut.stmt place (ap is_left_out (sym same))) refl
+  left_out_stmt left t us place = refusal_told t.kind t (stray bytes ts t us (fits (AStmt bytes) (stmt_hole bytes ts place) _ (a_stmt bytes))) (λ same. BeginsLeftOut.stmt place (ap is_left_out (sym same))) (λ same. BeginsLeftOut.stmt place (ap is_left_out (sym same))) refl
 
   left_out_block : (left : ℕ) (t : Token) (us : List Token) → BlockPlace bytes ts left (t ∷ us) → Told bytes ts (refusal t)
-  left_out_block left t us place = refusal_told t.kind t (λ same. BeginsLeftOut.block place (ap is_left_out (sym same))) (λ same. BeginsLeftOut.block place (ap is_left_out (sym same))) refl
+  left_out_block left t us place = refusal_told t.kind t (stray bytes ts t us (fits (ABlock bytes) (block_hole bytes ts place) _ (a_block bytes))) (λ same. BeginsLeftOut.block place (ap is_left_out (sym same))) (λ same. BeginsLeftOut.block place (ap is_left_out (sym same))) refl
 
   deep_told : (kind : Kind) (t : Token) → (begins_block kind ≡ true → Deepens bytes ts t) → Told bytes ts (refusal t) → Told bytes ts (too_deep_by kind t)
   deep_told k.LeftBrace t deep other = (t, refl, deep refl)
@@ -58,13 +63,21 @@ module _ (bytes : List ℕ) (ts : List Token) where
         let c = behind_ok k.Else us after is_next in
         bind_told bytes ts (block bytes left o after) _ h e (deep.told o after h (place c.0 after c.1 c.2) (open_plain c.0 after (open_as c.1 is) c.2 refl)) (λ y ok. pure_told bytes ts _ y.1 h)
 
+    -- behind `if` and its expression
+    tested : (i : Token) (us mid : List Token) (x : ExprTree) → i.kind ≡ k.If → StmtPlace bytes ts left (i ∷ us) → g.ExprAt bytes left x us mid → Fits bytes ts mid
+    tested i us mid x same place d =
+        let m = expr_moves d in
+        let P : List Token → Type 0 = λ v. AStmt bytes (i ∷ (m.0 ++ v)) in
+        fits P (over (AStmt bytes) P (stmt_hole bytes ts place) (i ∷ m.0) (ap (λ r. i ∷ r) m.1) (λ v q. q)) then_stop
+        (suc left, _, g.StmtAt.one_way same (expr_up (suc left) (omega arith) (m.2 then_stop (λ a b. cc))) refl (g.BlockAt.single (g.StmtAt.stop refl)) tt)
+
     choice_told : (o : Open) (i : Token) (us : List Token) (h : Halt) → i.kind ≡ k.If → StmtPlace bytes ts left (i ∷ us) → IsOpen ts o (i ∷ us) → choice_at bytes left (block bytes left) o us ≡ Err h → Told bytes ts h
     choice_told o i us h same place is e =
         let is1 : IsOpen ts o us = open_plain i us is same refl in
         bind_told bytes ts (expr bytes left o us) _ h e (whole_expr_told bytes ts left o us h (ExprPlace.test place same) is1) (λ x ok e2.
         let test : g.ExprAt bytes left x.0 us x.1 = whole_ok bytes left o us x ok in
         let is2 : IsOpen ts o x.1 = open_on is1 (expr_balanced test) in
-        bind_told bytes ts (expect k.Then o x.1) _ h e2 (expect_told bytes ts k.Then o x.1 h is2) (λ w ok2 e3.
+        bind_told bytes ts (expect k.Then o x.1) _ h e2 (expect_told bytes ts k.Then o x.1 h is2 (tested i us x.1 x.0 same place test)) (λ w ok2 e3.
         let t = expect_ok k.Then o x.1 w ok2 in
         let test2 : g.ExprAt bytes left x.0 us (w.0 ∷ w.1) = move (g.ExprAt bytes left) refl refl t.0 test in
         let is3 : IsOpen ts o w.1 = expect_open bytes ts k.Then o x.1 w refl ok2 is2 in
@@ -73,15 +86,21 @@ module _ (bytes : List ℕ) (ts : List Token) where
         otherwise_told o x.0 d.0 (behind k.Else d.1) d.1 h refl (open_on is3 (block_balanced done))
         (λ v after at is_else. BlockPlace.otherwise place same test2 t.1 (move (g.BlockAt bytes left) refl refl at done) is_else) e4)))
 
+    -- behind `call`
+    called : (t : Token) (us : List Token) → t.kind ≡ k.Call → StmtPlace bytes ts left (t ∷ us) → Fits bytes ts us
+    called t us same place =
+        let P : List Token → Type 0 = λ v. AStmt bytes (t ∷ v) in
+        fits P (over (AStmt bytes) P (stmt_hole bytes ts place) (t ∷ []) refl (λ w q. q)) (tok k.Name ∷ []) (0, _, g.StmtAt.call same refl)
+
     stmt_by_told : (o : Open) (kind : Kind) (t : Token) (us : List Token) (h : Halt) → t.kind ≡ kind → StmtPlace bytes ts left (t ∷ us) → IsOpen ts o (t ∷ us) → stmt_by bytes left (block bytes left) o kind t us ≡ Err h → Told bytes ts h
-    stmt_by_told o k.Action t us h same place is e = bind_told bytes ts (params bytes o us) _ h e (params_told bytes ts o us h (open_plain t us is same refl)) (λ x ok. pure_told bytes ts _ x.1 h)
-    stmt_by_told o k.Call t us h same place is e = bind_told bytes ts (word bytes o us) _ h e (word_told bytes ts o us h (open_plain t us is same refl)) (λ x ok. pure_told bytes ts _ x.1 h)
+    stmt_by_told o k.Action t us h same place is e = bind_told bytes ts (params bytes o us) _ h e (params_told bytes ts o us h (open_plain t us is same refl) (over (AStmt bytes) (Params bytes) (stmt_hole bytes ts place) (t ∷ []) refl (λ w q. (0, _, g.StmtAt.action same q.1)))) (λ x ok. pure_told bytes ts _ x.1 h)
+    stmt_by_told o k.Call t us h same place is e = bind_told bytes ts (word bytes o us) _ h e (word_told bytes ts o us h (open_plain t us is same refl) (called t us same place)) (λ x ok. pure_told bytes ts _ x.1 h)
     stmt_by_told o k.Stop t us h same place is e = pure_told bytes ts _ us h e
     stmt_by_told o k.If t us h same place is e = choice_told o t us h same place is e
     stmt_by_told o _ t us h same place is e = told_as bytes ts {A = Stmt} e (left_out_stmt left t us place)
 
     stmt_told : (o : Open) (us : List Token) (h : Halt) → IsOpen ts o us → StmtPlace bytes ts left us → stmt_at bytes left (block bytes left) o us ≡ Err h → Told bytes ts h
-    stmt_told o us h is place e = bind_told bytes ts (first o us) _ h e (first_told bytes ts o us h is) (λ x ok.
+    stmt_told o us h is place e = bind_told bytes ts (first o us) _ h e (first_told bytes ts o us h is (fits (AStmt bytes) (stmt_hole bytes ts place) _ (a_stmt bytes))) (λ x ok.
         let same = first_ok o us x ok in stmt_by_told o x.0.kind x.0 x.1 h refl (stmt_place same place) (open_as same is))
 
     stmt_read : (o : Open) (us : List Token) (x : Stmt × List Token) → stmt_at bytes left (block bytes left) o us ≡ Ok x → g.StmtAt bytes left x.0 us x.1
@@ -92,7 +111,7 @@ module _ (bytes : List ℕ) (ts : List Token) where
 
     body_told : (o : Open) (us : List Token) (h : Halt) → IsOpen ts o us → BodyPlace bytes ts left us → body_at bytes left (block bytes left) o us ≡ Err h → Told bytes ts h
     body_told o us h is place e =
-        items_told bytes ts k.RightBrace o (stmt_at bytes left (block bytes left) o) (BodyPlace bytes ts left) (λ us h is p. stmt_told o us h is (StmtPlace.in_body p)) (body_next o) (length us) [] us h (omega arith) is place e
+        items_told bytes ts k.RightBrace o (stmt_at bytes left (block bytes left) o) (BodyPlace bytes ts left) (λ us h is p. stmt_told o us h is (StmtPlace.in_body p)) (body_next o) (λ us p. fits (ABody bytes) (body_hole bytes ts p) _ (a_body bytes)) (length us) [] us h (omega arith) is place e
 
     block_by_told : (o : Open) (is_brace : Bool) (t : Token) (after us : List Token) (h : Halt) → same_kind t.kind k.LeftBrace ≡ is_brace → us ≡ t ∷ after → BlockPlace bytes ts (suc left) us → IsOpen ts o us →
         block_by bytes left (block bytes left) o is_brace t after us ≡ Err h → Told bytes ts h
@@ -107,13 +126,13 @@ module _ (bytes : List ℕ) (ts : List Token) where
   blocks_told : (left : ℕ) → Blocks left
   unfolding block
   blocks_told zero = record {
-    told = λ o us h place is e. bind_told bytes ts (first o us) _ h e (first_told bytes ts o us h is) (λ x ok e2.
+    told = λ o us h place is e. bind_told bytes ts (first o us) _ h e (first_told bytes ts o us h is (fits (ABlock bytes) (block_hole bytes ts place) _ (a_block bytes))) (λ x ok e2.
         let P : List Token → Type 0 = λ v. BlockPlace bytes ts 0 v in
         let at : BlockPlace bytes ts 0 (x.0 ∷ x.1) = subst P (first_ok o us x ok) place in
         told_as bytes ts {A = Block} e2 (deep_told x.0.kind x.0 (λ begins. Deepens.block at begins) (left_out_block 0 x.0 x.1 at)));
   }
   blocks_told (suc left) = record {
-    told = λ o us h place is e. bind_told bytes ts (first o us) _ h e (first_told bytes ts o us h is) (λ x ok e2.
+    told = λ o us h place is e. bind_told bytes ts (first o us) _ h e (first_told bytes ts o us h is (fits (ABlock bytes) (block_hole bytes ts place) _ (a_block bytes))) (λ x ok e2.
         block_by_told left (blocks_told left) o (same_kind x.0.kind k.LeftBrace) x.0 x.1 us h refl (first_ok o us x ok) place is e2);
   }
 
@@ -127,45 +146,65 @@ module _ (bytes : List ℕ) (ts : List Token) where
 
   -- ---- the top of a file
 
-  rules_told : (w : Token) (us : List Token) (h : Halt) → w.kind ≡ k.Ruleset → TopPlace bytes ts (w ∷ us) → IsOpen ts None us → rules bytes w us ≡ Err h → Told bytes ts h
+  -- the braces of a ruleset
+  braces : List Token
+  braces = tok k.LeftBrace ∷ tok k.RightBrace ∷ []
+
+  rules_hole : (w : Token) (us : List Token) → w.kind ≡ k.Ruleset → TopPlace bytes ts (w ∷ us) → Hole bytes ts (Params bytes) us
+  unfolding braces
+  rules_hole w us same place =
+      let P : List Token → Type 0 = λ v. Tops bytes (w ∷ v) in
+      pad P (Params bytes) (over (Tops bytes) P (top_hole bytes ts place) (w ∷ []) refl (λ v q. q)) braces (λ v q.
+      (0, _, g.TopsAt.more (g.TopAt.rules same (with_tail (g.ParamsAt bytes q.0) v (params_moves q.1) braces (λ e. cc)) refl (g.BodyAt.close refl)) g.TopsAt.none))
+
+  -- behind a ruleset's parameters
+  headed : (w : Token) (us mid : List Token) (ps : List Param) → w.kind ≡ k.Ruleset → TopPlace bytes ts (w ∷ us) → g.ParamsAt bytes ps us mid → Fits bytes ts mid
+  unfolding braces
+  headed w us mid ps same place d =
+      let m = params_moves d in
+      let P : List Token → Type 0 = λ v. Tops bytes (w ∷ (m.0 ++ v)) in
+      fits P (over (Tops bytes) P (top_hole bytes ts place) (w ∷ m.0) (ap (λ r. w ∷ r) m.1) (λ v q. q)) braces
+      (0, _, g.TopsAt.more (g.TopAt.rules same (m.2 braces (λ a b. cc)) refl (g.BodyAt.close refl)) g.TopsAt.none)
+
+  rules_told : (w : Token) (us : List Token) (h : Halt) → w.kind ≡ k.Ruleset → TopPlace bytes ts (w ∷ us) → IsOpen ts None us → rules bytes max_depth w us ≡ Err h → Told bytes ts h
   unfolding rules
-  rules_told w us h same place is e = bind_told bytes ts (params bytes None us) _ h e (params_told bytes ts None us h is) (λ x ok e2.
+  rules_told w us h same place is e = bind_told bytes ts (params bytes None us) _ h e (params_told bytes ts None us h is (rules_hole w us same place)) (λ x ok e2.
       let ps : g.ParamsAt bytes x.0 us x.1 = params_ok bytes None us x ok in
       let is2 : IsOpen ts None x.1 = open_on is (params_balanced ps) in
-      bind_told bytes ts (expect k.LeftBrace None x.1) _ h e2 (expect_told bytes ts k.LeftBrace None x.1 h is2) (λ o ok2 e3.
+      bind_told bytes ts (expect k.LeftBrace None x.1) _ h e2 (expect_told bytes ts k.LeftBrace None x.1 h is2 (headed w us x.1 x.0 same place ps)) (λ o ok2 e3.
       let b = expect_ok k.LeftBrace None x.1 o ok2 in
       let ps2 : g.ParamsAt bytes x.0 us (o.0 ∷ o.1) = move (g.ParamsAt bytes) refl refl b.0 ps in
       let s : Open = Some o.0.span.start in
       bind_told bytes ts (body bytes max_depth s o.1) _ h e3 (whole_body_told s o.1 h (open_in o.0 o.1 (open_as b.0 is2) (ap opens b.1)) (BodyPlace.rules place same ps2 b.1)) (λ y ok3. pure_told bytes ts _ y.1 h)))
 
-  other_top_told : (is_rules : Bool) (w : Token) (after us : List Token) (h : Halt) → same_kind w.kind k.Ruleset ≡ is_rules → us ≡ w ∷ after → TopPlace bytes ts us → IsOpen ts None us → other_top bytes is_rules w after us ≡ Err h → Told bytes ts h
+  other_top_told : (is_rules : Bool) (w : Token) (after us : List Token) (h : Halt) → same_kind w.kind k.Ruleset ≡ is_rules → us ≡ w ∷ after → TopPlace bytes ts us → IsOpen ts None us → other_top bytes max_depth is_rules w after us ≡ Err h → Told bytes ts h
   other_top_told true w after us h is_rules at place is e =
       let same : w.kind ≡ k.Ruleset = kind_is _ _ is_rules in
       let P : List Token → Type 0 = λ v. TopPlace bytes ts v in
-      bind_told bytes ts (rules bytes w after) _ h e (rules_told w after h same (subst P at place) (open_plain w after (open_as at is) same refl)) (λ x ok. pure_told bytes ts _ x.1 h)
+      bind_told bytes ts (rules bytes max_depth w after) _ h e (rules_told w after h same (subst P at place) (open_plain w after (open_as at is) same refl)) (λ x ok. pure_told bytes ts _ x.1 h)
   other_top_told false w after us h is_rules at place is e = bind_told bytes ts (stmt bytes max_depth None us) _ h e (whole_stmt_told us h is place) (λ x ok. pure_told bytes ts _ x.1 h)
 
-  top_by_told : (kind : Option ObjectKind) (w : Token) (after us : List Token) (h : Halt) → object_kind w.kind ≡ kind → us ≡ w ∷ after → TopPlace bytes ts us → IsOpen ts None us → top_by bytes kind w after us ≡ Err h → Told bytes ts h
+  top_by_told : (kind : Option ObjectKind) (w : Token) (after us : List Token) (h : Halt) → object_kind w.kind ≡ kind → us ≡ w ∷ after → TopPlace bytes ts us → IsOpen ts None us → top_by bytes max_depth kind w after us ≡ Err h → Told bytes ts h
   top_by_told (Some kind) w after us h same at place is e =
-      bind_told bytes ts (params bytes None after) _ h e (params_told bytes ts None after h (open_on (open_as at is) (Balanced.other (object_plain w.kind kind same) Balanced.none))) (λ x ok. pure_told bytes ts _ x.1 h)
+      bind_told bytes ts (params bytes None after) _ h e (params_told bytes ts None after h (open_on (open_as at is) (Balanced.other (object_plain w.kind kind same) Balanced.none)) (over (Tops bytes) (Params bytes) (top_hole bytes ts place) (w ∷ []) at (λ v q. (0, _, g.TopsAt.more (g.TopAt.object same q.1) g.TopsAt.none)))) (λ x ok. pure_told bytes ts _ x.1 h)
   top_by_told None w after us h same at place is e = other_top_told (same_kind w.kind k.Ruleset) w after us h refl at place is e
 
-  top_told : (us : List Token) (h : Halt) → TopPlace bytes ts us → IsOpen ts None us → top bytes us ≡ Err h → Told bytes ts h
+  top_told : (us : List Token) (h : Halt) → TopPlace bytes ts us → IsOpen ts None us → top bytes max_depth us ≡ Err h → Told bytes ts h
   unfolding top
-  top_told us h place is e = bind_told bytes ts (first None us) _ h e (first_told bytes ts None us h is) (λ x ok. top_by_told (object_kind x.0.kind) x.0 x.1 us h refl (first_ok None us x ok) place is)
+  top_told us h place is e = bind_told bytes ts (first None us) _ h e (first_told bytes ts None us h is (fits (Tops bytes) (top_hole bytes ts place) [] (0, [], g.TopsAt.none))) (λ x ok. top_by_told (object_kind x.0.kind) x.0 x.1 us h refl (first_ok None us x ok) place is)
 
   tops_cases : (r : Outcome Top) (more : Top → List Token → Result (List Top) Halt) (h : Halt) → tops_then r more ≡ Err h → (r ≡ Err h → Told bytes ts h) → ((x : Top × List Token) → r ≡ Ok x → more x.0 x.1 ≡ Err h → Told bytes ts h) → Told bytes ts h
   tops_cases (Ok x) more h e one two = two x refl e
   tops_cases (Err d) more h e one two = one (let same : d ≡ h = cc in ap Err same)
 
-  tops_from_told : (n : ℕ) (found : List Top) (us : List Token) (h : Halt) → TopPlace bytes ts us → IsOpen ts None us → tops_from bytes n found us ≡ Err h → Told bytes ts h
+  tops_from_told : (n : ℕ) (found : List Top) (us : List Token) (h : Halt) → TopPlace bytes ts us → IsOpen ts None us → tops_from bytes max_depth n found us ≡ Err h → Told bytes ts h
   unfolding tops_from
   tops_from_told zero found us h place is e = absurd cc
   tops_from_told (suc n) found [] h place is e = absurd cc
-  tops_from_told (suc n) found (w ∷ us) h place is e = tops_cases (top bytes (w ∷ us)) _ h e (top_told (w ∷ us) h place is) (λ x ok.
+  tops_from_told (suc n) found (w ∷ us) h place is e = tops_cases (top bytes max_depth (w ∷ us)) _ h e (top_told (w ∷ us) h place is) (λ x ok.
       let d = top_ok bytes (w ∷ us) x ok in
       tops_from_told n (found ++ x.0 ∷ []) x.1 h (TopPlace.next place d) (open_on is (top_balanced d)))
 
-pub tops_told : (bytes : List ℕ) (ts : List Token) (h : Halt) → tops bytes ts ≡ Err h → Told bytes ts h
+pub tops_told : (bytes : List ℕ) (ts : List Token) (h : Halt) → tops bytes max_depth ts ≡ Err h → Told bytes ts h
 unfolding tops
 tops_told bytes ts h e = tops_from_told bytes ts (length ts) [] ts h TopPlace.start (IsOpen.nothing Balanced.none) e

@@ -11,6 +11,7 @@ use Rattle.sy_script.specs.declared.fault.ScriptFault.{ScriptFault}
 use Rattle.sy_script.specs.declared.script.Fault.{Fault}
 use Rattle.sy_script.specs.declared.tree.Top.{Top}
 use Rattle.sy_script.specs.declared.tree.Script.{Script}
+use Rattle.sy_script.specs.Terms.{max_depth, max_text}
 use Rattle.sy_script.specs.Lex.{tokens}
 use Rattle.sy_script.specs.ReadingStmt.{tops}
 
@@ -22,10 +23,6 @@ number code.TooDeep = 24
 number code.TooLarge = 25
 number code.LeftOut = 26
 number code.NoMemory = 27
-
--- 1 MiB
-abbrev pub max_text : ℕ
-max_text = 1048576
 
 -- ---- lines and columns, both from 1: each LF ends a line, and each other byte takes a column
 
@@ -67,7 +64,7 @@ ended len end (Err halt) = Err (fault_of len end halt)
 
 -- the tree or the fault
 unfoldable pub reading : List ℕ → Result Script Fault
-reading text = ended (length text) (tokens text).1 (tops text (tokens text).0)
+reading text = ended (length text) (tokens text).1 (tops text max_depth (tokens text).0)
 
 abbrev pub located : List ℕ → Fault → ScriptFault
 located text f =

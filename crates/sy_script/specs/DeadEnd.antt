@@ -4,6 +4,7 @@ use Rattle.sy_script.specs.declared.token.Token.{Token}
 use Rattle.sy_script.specs.declared.halt.Halt.{Halt}
 use Rattle.sy_script.specs.declared.halt.Halt.TheVariants as halt
 use Rattle.sy_script.specs.declared.tree.Top.{Top}
+use Rattle.sy_script.specs.Terms.{max_depth}
 use Rattle.sy_script.specs.Grammar.{TopsAt}
 
 -- the token at which reading stops
@@ -29,4 +30,4 @@ pub record IsDeadEnd (text : List ℕ) (ts : List Token) (h : Halt) : Type 0 whe
   pub rest : List Token
   pub is_ts : ts ≡ front ++ t ∷ rest
   pub stops : StopsAt h t
-  pub none : (tree : List Top) (more : List Token) → TopsAt text tree (front ++ t ∷ more) → ⊥
+  pub none : (tree : List Top) (more : List Token) → TopsAt text max_depth tree (front ++ t ∷ more) → ⊥

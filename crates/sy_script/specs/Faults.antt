@@ -9,13 +9,12 @@ use Rattle.sy_script.specs.declared.fault.FaultCode.{FaultCode}
 use Rattle.sy_script.specs.declared.fault.FaultCode.TheVariants as code
 use Rattle.sy_script.specs.declared.fault.ScriptFault.{ScriptFault}
 use Rattle.sy_script.specs.declared.tree.Top.{Top}
-use Rattle.sy_script.specs.Lex.{is_blank, starts_word, is_escaped}
+use Rattle.sy_script.specs.Terms.{is_blank, is_escaped, max_text, starts_word}
 use Rattle.sy_script.specs.Tokens.{NoneNext, is_equals, InString, NoEnd, Cut, AreTokens}
 use Rattle.sy_script.specs.Brackets.{Balanced, IsInnermost}
-use Rattle.sy_script.specs.Grammar.{TopsAt}
+use Rattle.sy_script.specs.Grammar.{TopsAt, Begins}
 use Rattle.sy_script.specs.Standing.{StmtPlace, BlockPlace, UnitPlace, GroupPlace}
 use Rattle.sy_script.specs.Place.{IsPlace}
-use Rattle.sy_script.specs.Answer.{max_text}
 
 -- a byte is one of these
 abbrev pub is_sign : ℕ → Bool
@@ -47,12 +46,6 @@ pub data IsUnclosed (text : List ℕ) : ℕ → Type 0 where
   escape : {ts : List Token} {at quote : ℕ} {bytes : List ℕ} → Cut 0 text ts at (quote ∷ bytes ++ 92 ∷ []) → is_quote quote ≡ true → InString quote bytes → IsUnclosed text at
   comment : {ts : List Token} {at : ℕ} {bytes : List ℕ} → Cut 0 text ts at (47 ∷ 42 ∷ bytes) → NoEnd bytes → IsUnclosed text at
   bracket : {ts : List Token} {o : Token} → AreTokens text ts → IsInnermost ts o [] → IsUnclosed text o.span.start
-
--- Fault 23: no script begins with the tokens up to this one and with it; or, at the end of the text, nothing is open and its tokens are no script.
-pub data IsUnexpected (text : List ℕ) : ℕ → Type 0 where
-  token : {ts : List Token} {at : ℕ} {left : List ℕ} (front rest : List Token) (t : Token) → Cut 0 text ts at left → ts ≡ front ++ t ∷ rest
-      → ((tree : List Top) (more : List Token) → TopsAt text tree (front ++ t ∷ more) → ⊥) → IsUnexpected text t.span.start
-  end : {ts : List Token} → AreTokens text ts → Balanced ts [] → ((tree : List Top) → TopsAt text tree ts → ⊥) → IsUnexpected text (length text)
 
 -- what a block begins with
 abbrev pub begins_block : Kind → Bool
@@ -86,6 +79,28 @@ pub data BeginsLeftOut (text : List ℕ) (ts : List Token) : Token → Type 0 wh
 -- Fault 26: here begins a statement that this profile leaves out, with this word.
 pub data IsLeftOut (text : List ℕ) : ℕ → List ℕ → Type 0 where
   token : {ts : List Token} {t : Token} {at : ℕ} {rest : List ℕ} → Cut 0 text ts at rest → BeginsLeftOut text ts t → IsLeftOut text t.span.start (slice_range text t.span.start t.span.end)
+
+-- none of the tokens makes the depth 33, and none begins what this profile leaves out
+pub record NoneRefused (text : List ℕ) (ts : List Token) : Type 0 where
+  pub none_deepens : (t : Token) → Deepens text ts t → ⊥
+  pub none_left_out : (t : Token) → BeginsLeftOut text ts t → ⊥
+
+-- Fault 23: another token in a wrong place. The tokens before it are the beginning of a script, and with it they are the beginning of none, however deep.
+-- At the end of the text: nothing is open, and the tokens are the beginning of a script, but no script, however deep.
+pub data IsUnexpected (text : List ℕ) : ℕ → Type 0 where
+  token : {ts : List Token} {at : ℕ} {left : List ℕ} (front rest : List Token) (t : Token) → Cut 0 text ts at left → ts ≡ front ++ t ∷ rest → NoneRefused text ts
+      → Begins text front → (Begins text (front ++ t ∷ []) → ⊥) → IsUnexpected text t.span.start
+  end : {ts : List Token} → AreTokens text ts → NoneRefused text ts → Balanced ts [] → Begins text ts → ((left : ℕ) (tree : List Top) → TopsAt text left tree ts → ⊥) → IsUnexpected text (length text)
+
+-- a fault of a token in a wrong place, or of the end where nothing is open: 23, 24 or 26
+abbrev pub Misplaced : List ℕ → FaultCode → ℕ → Type 0
+Misplaced text code.Byte offset = ⊥
+Misplaced text code.Unclosed offset = ⊥
+Misplaced text code.Unexpected offset = IsUnexpected text offset
+Misplaced text code.TooDeep offset = IsTooDeep text offset
+Misplaced text code.TooLarge offset = ⊥
+Misplaced text code.LeftOut offset = (word : List ℕ) × IsLeftOut text offset word
+Misplaced text code.NoMemory offset = ⊥
 
 -- ---- lines and columns
 

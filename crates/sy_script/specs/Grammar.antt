@@ -1,6 +1,6 @@
 -- The grammar of scripts: which tokens a tree has. `XAt .. x ts rest` says that the tokens ts are those of x, and then rest.
 -- One rule of the grammar is one constructor; words in double quotes in the comments are tokens. A tree keeps its spans.
-use Rattle.std.specs.Prelude.{◌≡◌, ◌≤◌, ℕ, suc, true, List, [], ◌∷◌, length, Some, None}
+use Rattle.std.specs.Prelude.{◌≡◌, ◌≢◌, ◌≤◌, ℕ, suc, true, List, [], ◌∷◌, ◌++◌, length, Some, None}
 use Rattle.sy_script.specs.declared.token.Kind.{Kind}
 use Rattle.sy_script.specs.declared.token.Kind.TheVariants as k
 use Rattle.sy_script.specs.declared.token.Token.{Token}
@@ -18,12 +18,8 @@ use Rattle.sy_script.specs.declared.tree.Stmt.TheVariants as s
 use Rattle.sy_script.specs.declared.tree.Top.{Top}
 use Rattle.sy_script.specs.declared.tree.Top.TheVariants as t
 use Rattle.sy_script.specs.declared.tree.Script.{Script}
+use Rattle.sy_script.specs.Terms.{comparison_of, is_text, is_word, max_depth, max_text, object_kind, operator_of, text_of, word_of}
 use Rattle.sy_script.specs.Tokens.{AreTokens}
-use Rattle.sy_script.specs.Reading.{is_word, is_text, word_of, text_of, behind}
-use Rattle.sy_script.specs.ReadingExpr.{operator_of}
-use Rattle.sy_script.specs.ReadingExpr as reading
-use Rattle.sy_script.specs.ReadingStmt.{object_kind, max_depth}
-use Rattle.sy_script.specs.Answer.{max_text}
 
 -- ---- "(" *(word "=" string) ")"
 
@@ -61,7 +57,7 @@ mutual
     selected : {left : ℕ} {x : ExprTree} {ts rest : List Token} → PrifiltAt text x ts rest → UnitAt text left x ts rest
     not_selected : {left : ℕ} {n : Token} {x : ExprTree} {ts rest : List Token} → n.kind ≡ k.Not → PrifiltAt text x ts rest → UnitAt text (suc left) (e.Not x) (n ∷ ts) rest
     compared : {left : ℕ} {p o : Token} {operator : Operator} {operand : Operand} {ts rest : List Token} → p.kind ≡ k.Property → operator_of o.kind ≡ Some operator → OperandAt text operand ts rest
-        → UnitAt text left (reading.compared text p o operator operand) (p ∷ o ∷ ts) rest
+        → UnitAt text left (comparison_of text p o operator operand) (p ∷ o ∷ ts) rest
 
   -- *("or" unit), or *("and" unit)
   pub data MoreAt (text : List ℕ) : ℕ → Kind → List ExprTree → List Token → List Token → Type 0 where
@@ -77,6 +73,11 @@ mutual
 
 -- ---- statements. Each block takes one from how much deeper they may nest.
 
+-- no `else` comes next
+abbrev pub NoElse : List Token → Type 0
+NoElse [] = Unit {0}
+NoElse (t ∷ ts) = t.kind ≢ k.Else
+
 mutual
   -- "action" params | "call" word | "stop" | "if" expr "then" block ["else" block]
   pub data StmtAt (text : List ℕ) : ℕ → Stmt → List Token → List Token → Type 0 where
@@ -85,7 +86,7 @@ mutual
     stop : {left : ℕ} {w : Token} {rest : List Token} → w.kind ≡ k.Stop → StmtAt text left (s.Stop w.span) (w ∷ rest) rest
     -- An `else` belongs to the nearest `if`: behind one without it, none stands.
     one_way : {left : ℕ} {i w : Token} {x : ExprTree} {done : Block} {ts us rest : List Token} → i.kind ≡ k.If → ExprAt text left x ts (w ∷ us) → w.kind ≡ k.Then → BlockAt text left done us rest
-        → behind k.Else rest ≡ None → StmtAt text left (s.If x done None) (i ∷ ts) rest
+        → NoElse rest → StmtAt text left (s.If x done None) (i ∷ ts) rest
     two_ways : {left : ℕ} {i w o : Token} {x : ExprTree} {done other : Block} {ts us vs rest : List Token} → i.kind ≡ k.If → ExprAt text left x ts (w ∷ us) → w.kind ≡ k.Then → BlockAt text left done us (o ∷ vs)
         → o.kind ≡ k.Else → BlockAt text left other vs rest → StmtAt text left (s.If x done (Some other)) (i ∷ ts) rest
 
@@ -99,23 +100,27 @@ mutual
     close : {left : ℕ} {c : Token} {rest : List Token} → c.kind ≡ k.RightBrace → BodyAt text left [] (c ∷ rest) rest
     stmt : {left : ℕ} {x : Stmt} {xs : List Stmt} {ts mid rest : List Token} → StmtAt text left x ts mid → BodyAt text left xs mid rest → BodyAt text left (x ∷ xs) ts rest
 
--- ---- the top of a file
+-- ---- the top of a file. The number says how deep it may nest.
 
 -- ("module" | "global" | "main_queue" | "input") params | "ruleset" params "{" *stmt "}" | stmt
-pub data TopAt (text : List ℕ) : Top → List Token → List Token → Type 0 where
+pub data TopAt (text : List ℕ) (left : ℕ) : Top → List Token → List Token → Type 0 where
   object : {w : Token} {kind : ObjectKind} {ps : List Param} {ts rest : List Token} → object_kind w.kind ≡ Some kind → ParamsAt text ps ts rest
-      → TopAt text (t.Object (record { kind = kind; span = w.span; params = ps })) (w ∷ ts) rest
-  rules : {w o : Token} {ps : List Param} {xs : List Stmt} {ts us rest : List Token} → w.kind ≡ k.Ruleset → ParamsAt text ps ts (o ∷ us) → o.kind ≡ k.LeftBrace → BodyAt text max_depth xs us rest
-      → TopAt text (t.Ruleset (record { span = w.span; params = ps; body = xs })) (w ∷ ts) rest
-  stmt : {x : Stmt} {ts rest : List Token} → StmtAt text max_depth x ts rest → TopAt text (t.Stmt x) ts rest
+      → TopAt text left (t.Object (record { kind = kind; span = w.span; params = ps })) (w ∷ ts) rest
+  rules : {w o : Token} {ps : List Param} {xs : List Stmt} {ts us rest : List Token} → w.kind ≡ k.Ruleset → ParamsAt text ps ts (o ∷ us) → o.kind ≡ k.LeftBrace → BodyAt text left xs us rest
+      → TopAt text left (t.Ruleset (record { span = w.span; params = ps; body = xs })) (w ∷ ts) rest
+  stmt : {x : Stmt} {ts rest : List Token} → StmtAt text left x ts rest → TopAt text left (t.Stmt x) ts rest
 
-pub data TopsAt (text : List ℕ) : List Top → List Token → Type 0 where
-  none : TopsAt text [] []
-  more : {x : Top} {xs : List Top} {ts mid : List Token} → TopAt text x ts mid → TopsAt text xs mid → TopsAt text (x ∷ xs) ts
+pub data TopsAt (text : List ℕ) (left : ℕ) : List Top → List Token → Type 0 where
+  none : TopsAt text left [] []
+  more : {x : Top} {xs : List Top} {ts mid : List Token} → TopAt text left x ts mid → TopsAt text left xs mid → TopsAt text left (x ∷ xs) ts
+
+-- the tokens are the beginning of a script, however deep it nests
+abbrev pub Begins : List ℕ → List Token → Type 0
+Begins text ts = (left : ℕ) × (tree : List Top) × (more : List Token) × TopsAt text left tree (ts ++ more)
 
 -- the text is a script, with this tree: it has at most 1 MiB, it is cut into tokens to its end, and the tree has those
 pub record IsScript (text : List ℕ) (script : Script) : Type 0 where
   pub small : length text ≤ max_text
   pub tokens : List Token
   pub are_tokens : AreTokens text tokens
-  pub tree : TopsAt text script.tops tokens
+  pub tree : TopsAt text max_depth script.tops tokens

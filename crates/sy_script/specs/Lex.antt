@@ -15,45 +15,7 @@ use Rattle.sy_script.specs.declared.lex.Quote.TheVariants as quote
 use Rattle.sy_script.specs.declared.lex.Move.{Move}
 use Rattle.sy_script.specs.declared.lex.Move.TheVariants as move
 use Rattle.sy_script.specs.declared.lex.Step.{Step}
-
--- ---- bytes
-
--- space, tab, CR and LF
-abbrev pub is_blank : ℕ → Bool
-is_blank b = b == 32 || b == 9 || b == 13 || b == 10
-
--- a letter or `_`
-abbrev pub starts_word : ℕ → Bool
-starts_word b = is_ascii_alphabetic b || b == 95
-
--- a letter, a digit, `_`, `.` or `-`
-abbrev pub is_in_word : ℕ → Bool
-is_in_word b = starts_word b || is_ascii_digit b || b == 46 || b == 45
-
--- what may stand behind a `\` in a string: `"`, `'`, `\`, `$`, `n`, `r`, `t`
-abbrev pub is_escaped : ℕ → Bool
-is_escaped b = b == 34 || b == 39 || b == 92 || b == 36 || b == 110 || b == 114 || b == 116
-
--- ---- words
-
-abbrev pub lookup : List (List ℕ × Kind) → List ℕ → Kind
-lookup [] word = k.Name
-lookup (row ∷ rows) word = if str_eq_ignore_ascii_case row.0 word then row.1 else lookup rows word
-
--- the words that the grammar knows
-abbrev pub keywords : List (List ℕ × Kind)
-keywords =
-    (codes "module", k.Module) ∷ (codes "global", k.Global) ∷ (codes "main_queue", k.MainQueue) ∷ (codes "input", k.Input)
-    ∷ (codes "ruleset", k.Ruleset) ∷ (codes "action", k.Action) ∷ (codes "call", k.Call) ∷ (codes "stop", k.Stop)
-    ∷ (codes "if", k.If) ∷ (codes "then", k.Then) ∷ (codes "else", k.Else)
-    ∷ (codes "or", k.Or) ∷ (codes "and", k.And) ∷ (codes "not", k.Not) ∷ (codes "prifilt", k.Prifilt)
-    ∷ (codes "include", k.LeftOut) ∷ (codes "set", k.LeftOut) ∷ (codes "unset", k.LeftOut) ∷ (codes "reset", k.LeftOut)
-    ∷ (codes "foreach", k.LeftOut) ∷ (codes "call_indirect", k.LeftOut) ∷ (codes "continue", k.LeftOut)
-    ∷ (codes "template", k.LeftOut) ∷ (codes "lookup_table", k.LeftOut) ∷ []
-
--- The kind of a word, without regard to the case of its ASCII letters.
-unfoldable pub word_kind : List ℕ → Kind
-word_kind = lookup keywords
+use Rattle.sy_script.specs.Terms.{is_blank, is_escaped, is_in_word, starts_word, word_kind}
 
 -- ---- one byte
 

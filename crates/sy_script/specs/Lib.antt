@@ -1,4 +1,5 @@
 pub mod formers
+pub mod Terms
 pub mod Lex
 pub mod Reading
 pub mod ReadingExpr

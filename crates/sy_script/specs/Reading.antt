@@ -13,6 +13,7 @@ use Rattle.sy_script.specs.declared.tree.Span.{Span}
 use Rattle.sy_script.specs.declared.tree.Word.{Word}
 use Rattle.sy_script.specs.declared.tree.Text.{Text}
 use Rattle.sy_script.specs.declared.tree.Param.{Param}
+use Rattle.sy_script.specs.Terms.{is_text, is_word, text_of, word_of}
 
 -- ---- what a function that reads ensures
 
@@ -57,32 +58,6 @@ refuse e = λ ts. Err e
 unfoldable pub same_kind : Kind → Kind → Bool
 same_kind = sameb the_type
 
--- a word of the grammar is a word too
-abbrev pub is_word : Kind → Bool
-is_word k.Module = true
-is_word k.Global = true
-is_word k.MainQueue = true
-is_word k.Input = true
-is_word k.Ruleset = true
-is_word k.Action = true
-is_word k.Call = true
-is_word k.Stop = true
-is_word k.If = true
-is_word k.Then = true
-is_word k.Else = true
-is_word k.Or = true
-is_word k.And = true
-is_word k.Not = true
-is_word k.Prifilt = true
-is_word k.LeftOut = true
-is_word k.Name = true
-is_word _ = false
-
-abbrev pub is_text : Kind → Bool
-is_text k.Quoted = true
-is_text k.SingleQuoted = true
-is_text _ = false
-
 abbrev pub first : Open → Parser Token
 first opened [] = Err (halt.End opened)
 first opened (t ∷ ts) = Ok (t, ts)
@@ -103,25 +78,6 @@ view_rest None = None
 view_rest (Some r) = Some r.now
 
 -- ---- words and strings
-
-abbrev pub word_of : List ℕ → Span → Word
-word_of text span = record { text = slice_range text span.start span.end; span = span }
-
--- what a byte behind a `\` stands for
-abbrev pub escaped : ℕ → ℕ
-escaped b = if b == 110 then 10 else (if b == 114 then 13 else (if b == 116 then 9 else b))
-
-abbrev pub resolved : List ℕ → List ℕ
-resolved [] = []
-resolved (b ∷ []) = b ∷ []
-resolved (b ∷ c ∷ bytes) = if b == 92 then escaped c ∷ resolved bytes else b ∷ resolved (c ∷ bytes)
-
--- the bytes between the quotes
-abbrev pub unquoted : List ℕ → Span → List ℕ
-unquoted text span = drop 1 (slice_range text span.start (span.end - 1))
-
-abbrev pub text_of : List ℕ → Span → Text
-text_of text span = record { bytes = resolved (unquoted text span); span = span }
 
 unfoldable pub word : List ℕ → Open → Parser Word
 word text opened = do

@@ -10,19 +10,8 @@ use Rattle.sy_script.specs.declared.tree.Operand.{Operand}
 use Rattle.sy_script.specs.declared.tree.Operand.TheVariants as value
 use Rattle.sy_script.specs.declared.tree.ExprTree.{ExprTree}
 use Rattle.sy_script.specs.declared.tree.ExprTree.TheVariants as e
-use Rattle.sy_script.specs.Reading.{Outcome, Parser, Open, and_then, ◌>>=◌, ◌>>◌, pure, refuse, first, expect, behind, is_word, word_of, text_of, text}
-
-abbrev pub named_if : Bool → Option Operator
-named_if is_named = if is_named then Some op.Named else None
-
-abbrev pub operator_of : Kind → Option Operator
-operator_of k.Equal = Some op.Equal
-operator_of k.NotEqual = Some op.NotEqual
-operator_of k.Less = Some op.Less
-operator_of k.AtMost = Some op.AtMost
-operator_of k.Greater = Some op.Greater
-operator_of k.AtLeast = Some op.AtLeast
-operator_of other = named_if (is_word other)
+use Rattle.sy_script.specs.Terms.{comparison_of, is_word, operator_of, text_of, word_of}
+use Rattle.sy_script.specs.Reading.{Outcome, Parser, Open, and_then, ◌>>=◌, ◌>>◌, pure, refuse, first, expect, behind, text}
 
 -- a token that is a number or a string
 abbrev pub operand_by : List ℕ → Kind → Token → Parser Operand
@@ -34,13 +23,9 @@ operand_by bytes _ t = refuse (halt.Unexpected t.span)
 unfoldable pub operand : List ℕ → Open → Parser Operand
 operand bytes opened = first opened >>= (λ t. operand_by bytes t.kind t)
 
-abbrev pub compared : List ℕ → Token → Token → Operator → Operand → ExprTree
-compared bytes property sign operator against =
-    e.Compare (record { property = word_of bytes property.span; operator = operator; spelling = word_of bytes sign.span; operand = against })
-
 abbrev pub compared_by : List ℕ → Token → Open → Token → Option Operator → Parser ExprTree
 compared_by bytes property opened sign None = refuse (halt.Unexpected sign.span)
-compared_by bytes property opened sign (Some operator) = operand bytes opened >>= (λ against. pure (compared bytes property sign operator against))
+compared_by bytes property opened sign (Some operator) = operand bytes opened >>= (λ against. pure (comparison_of bytes property sign operator against))
 
 -- behind a property
 unfoldable pub comparison : List ℕ → Token → Open → Parser ExprTree

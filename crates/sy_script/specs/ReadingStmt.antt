@@ -15,12 +15,9 @@ use Rattle.sy_script.specs.declared.tree.Stmt.{Stmt}
 use Rattle.sy_script.specs.declared.tree.Stmt.TheVariants as s
 use Rattle.sy_script.specs.declared.tree.Top.{Top}
 use Rattle.sy_script.specs.declared.tree.Top.TheVariants as t
+use Rattle.sy_script.specs.Terms.{object_kind}
 use Rattle.sy_script.specs.Reading.{Outcome, Parser, Open, and_then, ◌>>=◌, ◌>>◌, pure, refuse, first, expect, behind, same_kind, items, word, params}
 use Rattle.sy_script.specs.ReadingExpr.{expr}
-
--- how deep blocks, parentheses and `not` nest together
-abbrev pub max_depth : ℕ
-max_depth = 32
 
 -- why a token begins no statement
 abbrev pub refusal_by : Kind → Token → Halt
@@ -90,40 +87,33 @@ body bytes left opened = body_at bytes left (block bytes left) opened
 
 -- ---- the top of a file
 
-abbrev pub object_kind : Kind → Option ObjectKind
-object_kind k.Module = Some object.Module
-object_kind k.Global = Some object.Global
-object_kind k.MainQueue = Some object.MainQueue
-object_kind k.Input = Some object.Input
-object_kind _ = None
-
-unfoldable pub rules : List ℕ → Token → Parser Ruleset
-rules bytes token = do
+unfoldable pub rules : List ℕ → ℕ → Token → Parser Ruleset
+rules bytes left token = do
   found ← params bytes None
   brace ← expect k.LeftBrace None
-  stmts ← body bytes max_depth (Some brace.span.start)
+  stmts ← body bytes left (Some brace.span.start)
   pure (record { span = token.span; params = found; body = stmts })
 
-abbrev pub other_top : List ℕ → Bool → Token → List Token → List Token → Outcome Top
-other_top bytes true token after ts = and_then (rules bytes token after) (λ found. pure (t.Ruleset found))
-other_top bytes false token after ts = and_then (stmt bytes max_depth None ts) (λ found. pure (t.Stmt found))
+abbrev pub other_top : List ℕ → ℕ → Bool → Token → List Token → List Token → Outcome Top
+other_top bytes left true token after ts = and_then (rules bytes left token after) (λ found. pure (t.Ruleset found))
+other_top bytes left false token after ts = and_then (stmt bytes left None ts) (λ found. pure (t.Stmt found))
 
-abbrev pub top_by : List ℕ → Option ObjectKind → Token → List Token → List Token → Outcome Top
-top_by bytes (Some kind) token after ts = and_then (params bytes None after) (λ found. pure (t.Object (record { kind = kind; span = token.span; params = found })))
-top_by bytes None token after ts = other_top bytes (same_kind token.kind k.Ruleset) token after ts
+abbrev pub top_by : List ℕ → ℕ → Option ObjectKind → Token → List Token → List Token → Outcome Top
+top_by bytes left (Some kind) token after ts = and_then (params bytes None after) (λ found. pure (t.Object (record { kind = kind; span = token.span; params = found })))
+top_by bytes left None token after ts = other_top bytes left (same_kind token.kind k.Ruleset) token after ts
 
-unfoldable pub top : List ℕ → Parser Top
-top bytes = λ ts. and_then (first None ts) (λ token after. top_by bytes (object_kind token.kind) token after ts)
+unfoldable pub top : List ℕ → ℕ → Parser Top
+top bytes left = λ ts. and_then (first None ts) (λ token after. top_by bytes left (object_kind token.kind) token after ts)
 
 -- All that stands there. The number bounds the turns, and each turn takes a token.
 abbrev pub tops_then : Outcome Top → (Top → List Token → Result (List Top) Halt) → Result (List Top) Halt
 tops_then (Ok p) more = more p.0 p.1
 tops_then (Err e) more = Err e
 
-unfoldable pub tops_from : List ℕ → ℕ → List Top → List Token → Result (List Top) Halt
-tops_from bytes zero found ts = Ok found
-tops_from bytes (suc n) found [] = Ok found
-tops_from bytes (suc n) found (x ∷ ts) = tops_then (top bytes (x ∷ ts)) (λ one after. tops_from bytes n (found ++ one ∷ []) after)
+unfoldable pub tops_from : List ℕ → ℕ → ℕ → List Top → List Token → Result (List Top) Halt
+tops_from bytes left zero found ts = Ok found
+tops_from bytes left (suc n) found [] = Ok found
+tops_from bytes left (suc n) found (x ∷ ts) = tops_then (top bytes left (x ∷ ts)) (λ one after. tops_from bytes left n (found ++ one ∷ []) after)
 
-unfoldable pub tops : List ℕ → List Token → Result (List Top) Halt
-tops bytes ts = tops_from bytes (length ts) [] ts
+unfoldable pub tops : List ℕ → ℕ → List Token → Result (List Top) Halt
+tops bytes left ts = tops_from bytes left (length ts) [] ts

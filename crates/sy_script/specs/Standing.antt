@@ -9,13 +9,13 @@ use Rattle.sy_script.specs.declared.tree.ExprTree.{ExprTree}
 use Rattle.sy_script.specs.declared.tree.Block.{Block}
 use Rattle.sy_script.specs.declared.tree.Stmt.{Stmt}
 use Rattle.sy_script.specs.declared.tree.Top.{Top}
-use Rattle.sy_script.specs.ReadingStmt.{max_depth}
+use Rattle.sy_script.specs.Terms.{max_depth}
 use Rattle.sy_script.specs.Grammar.{ParamsAt, ExprAt, UnitAt, StmtAt, BlockAt, TopAt}
 
 -- behind whole objects, rulesets and statements
 pub data TopPlace (text : List ℕ) (ts : List Token) : List Token → Type 0 where
   start : TopPlace text ts ts
-  next : {x : Top} {us rest : List Token} → TopPlace text ts us → TopAt text x us rest → TopPlace text ts rest
+  next : {x : Top} {us rest : List Token} → TopPlace text ts us → TopAt text max_depth x us rest → TopPlace text ts rest
 
 mutual
   pub data StmtPlace (text : List ℕ) (ts : List Token) : ℕ → List Token → Type 0 where

@@ -4,7 +4,7 @@ use Rattle.std.specs.Char.{is_ascii_digit}
 use Rattle.sy_script.specs.declared.token.Kind.{Kind}
 use Rattle.sy_script.specs.declared.token.Kind.TheVariants as k
 use Rattle.sy_script.specs.declared.token.Token.{Token}
-use Rattle.sy_script.specs.Lex.{is_blank, starts_word, is_in_word, is_escaped, word_kind}
+use Rattle.sy_script.specs.Terms.{is_blank, is_escaped, is_in_word, starts_word, word_kind}
 
 -- ---- what pieces are made of
 

@@ -3,6 +3,7 @@
 ghost use Rattle.std.specs.Prelude.{◌≡◌};
 ghost use Rattle.sy_script.specs.Reading.{Gives};
 ghost use Rattle.sy_script.specs.ReadingExpr as spec;
+ghost use Rattle.sy_script.specs.Terms as terms;
 
 use crate::boxed::Boxed;
 use crate::halt::Halt;
@@ -19,7 +20,7 @@ pub struct Place {
 }
 
 fn operator_of(kind: Kind) -> Option<Operator>
-    ensures { result ≡ spec.operator_of kind }
+    ensures { result ≡ terms.operator_of kind }
 {
     match kind {
         Kind::Equal => Some(Operator::Equal),

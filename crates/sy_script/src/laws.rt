@@ -4,8 +4,13 @@ ghost use Rattle.std.specs.Prelude.{◌≡◌, ◌≤◌, ◌↔◌, ℕ, List, 
 ghost use Rattle.sy_script.specs.Answer as answer;
 ghost use Rattle.sy_script.specs.DeadEnd.{AtToken, IsDeadEnd};
 ghost use Rattle.sy_script.specs.Depth.{stmt_depth};
+ghost use Rattle.sy_script.specs.Faults.{Misplaced, Stands};
 ghost use Rattle.sy_script.specs.Grammar.{IsScript, StmtAt};
+ghost use Rattle.sy_script.specs.declared.fault.FaultCode.{FaultCode};
+ghost use Rattle.sy_script.specs.declared.fault.FaultCode.TheVariants as code;
+ghost use Rattle.sy_script.specs.declared.fault.ScriptFault.{ScriptFault};
 ghost use Rattle.sy_script.specs.ReadingStmt.{tops};
+ghost use Rattle.sy_script.specs.Terms.{max_depth};
 ghost use Rattle.sy_script.specs.declared.token.Kind.{Kind};
 ghost use Rattle.sy_script.specs.declared.token.Token.{Token};
 ghost use Rattle.sy_script.specs.declared.halt.Halt.{Halt};
@@ -18,6 +23,16 @@ ghost use Rattle.sy_script.specs.declared.tree.Stmt.{Stmt};
 /// One text, one tree.
 pub fn one_tree()
     ensures { (text : List ℕ) (a b : Script) → IsScript text a → IsScript text b → a ≡ b }
+{}
+
+/// A script has no fault.
+pub fn no_fault()
+    ensures { (text : List ℕ) (script : Script) (f : ScriptFault) → IsScript text script → Stands text f → f.code ≡ code.NoMemory }
+{}
+
+/// Of the faults 23, 24 and 26 at most one stands in a text, and at one place.
+pub fn one_misplaced()
+    ensures { (text : List ℕ) (a b : FaultCode) (n m : ℕ) → Misplaced text a n → Misplaced text b m → (a ≡ b) × (n ≡ m) }
 {}
 
 /// The bytes at a place begin with one token, so none that is longer or shorter.
@@ -47,5 +62,5 @@ pub fn places()
 
 /// A token that reading stops at may not stand there: no script begins with the tokens up to it.
 pub fn dead_ends()
-    ensures { (text : List ℕ) (ts : List Token) (h : Halt) → AtToken h → tops text ts ≡ Err h → IsDeadEnd text ts h }
+    ensures { (text : List ℕ) (ts : List Token) (h : Halt) → AtToken h → tops text max_depth ts ≡ Err h → IsDeadEnd text ts h }
 {}

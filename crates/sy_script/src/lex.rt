@@ -4,6 +4,7 @@ ghost use Rattle.std.specs.Prelude.{◌≡◌, map, IfOk, length};
 ghost use Rattle.std.specs.List.{slice_range};
 ghost use Rattle.std.specs.Str.{str_eq_ignore_ascii_case};
 ghost use Rattle.sy_script.specs.Lex as spec;
+ghost use Rattle.sy_script.specs.Terms as terms;
 
 use crate::token::{Ending, KEYWORDS, Kind, Token};
 use crate::tree::Span;
@@ -70,25 +71,25 @@ pub struct Lexed {
 }
 
 fn starts_word(b: u8) -> bool
-    ensures { result ≡ spec.starts_word b }
+    ensures { result ≡ terms.starts_word b }
 {
     b.is_ascii_alphabetic() || b == b'_'
 }
 
 fn is_in_word(b: u8) -> bool
-    ensures { result ≡ spec.is_in_word b }
+    ensures { result ≡ terms.is_in_word b }
 {
     starts_word(b) || b.is_ascii_digit() || b == b'.' || b == b'-'
 }
 
 fn is_escaped(b: u8) -> bool
-    ensures { result ≡ spec.is_escaped b }
+    ensures { result ≡ terms.is_escaped b }
 {
     b == b'"' || b == b'\'' || b == b'\\' || b == b'$' || b == b'n' || b == b'r' || b == b't'
 }
 
 fn lookup(mut table: &[(&[u8], Kind)], word: &[u8]) -> Kind
-    ensures { result ≡ spec.lookup (map (λ k. (k.0.now, k.1)) table.entry.now) word.now }
+    ensures { result ≡ terms.lookup (map (λ k. (k.0.now, k.1)) table.entry.now) word.now }
 {
     while let [entry, rest @ ..] = table {
         if same_word(entry.0, word) {
@@ -105,9 +106,9 @@ fn same_word(a: &[u8], b: &[u8]) -> bool
     a.eq_ignore_ascii_case(b)
 }
 
-#[tactic(auto, unfolding(crate::specs::Lex::word_kind))]
+#[tactic(auto, unfolding(crate::specs::Terms::word_kind))]
 fn word_kind(word: &[u8]) -> Kind
-    ensures { result ≡ spec.word_kind word.now }
+    ensures { result ≡ terms.word_kind word.now }
 {
     lookup(&KEYWORDS, word)
 }

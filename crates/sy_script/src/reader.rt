@@ -2,6 +2,7 @@
 
 ghost use Rattle.std.specs.Prelude.{◌≡◌, IfOk};
 ghost use Rattle.sy_script.specs.Reading as spec;
+ghost use Rattle.sy_script.specs.Terms as terms;
 ghost use Rattle.sy_script.specs.Reading.{Gives};
 
 use crate::halt::Halt;
@@ -29,7 +30,7 @@ pub fn same_kind(a: Kind, b: Kind) -> bool
 }
 
 pub fn is_word(kind: Kind) -> bool
-    ensures { result ≡ spec.is_word kind }
+    ensures { result ≡ terms.is_word kind }
 {
     match kind {
         Kind::Module
@@ -54,7 +55,7 @@ pub fn is_word(kind: Kind) -> bool
 }
 
 pub fn is_text(kind: Kind) -> bool
-    ensures { result ≡ spec.is_text kind }
+    ensures { result ≡ terms.is_text kind }
 {
     match kind {
         Kind::Quoted | Kind::SingleQuoted => true,
@@ -97,7 +98,7 @@ pub fn behind(kind: Kind, rest: &[Token]) -> Option<&[Token]>
 }
 
 fn escaped(b: u8) -> u8
-    ensures { result ≡ spec.escaped b }
+    ensures { result ≡ terms.escaped b }
 {
     match b {
         b'n' => b'\n',
@@ -109,7 +110,7 @@ fn escaped(b: u8) -> u8
 
 // The bytes between the quotes.
 fn unquoted(text: &[u8], span: Span) -> &[u8]
-    ensures { result.now ≡ spec.unquoted text.now span }
+    ensures { result.now ≡ terms.unquoted text.now span }
 {
     match part(text, span.start, span.end.saturating_sub(1)) {
         [] => &[],
@@ -119,7 +120,7 @@ fn unquoted(text: &[u8], span: Span) -> &[u8]
 
 // The bytes between the quotes, with the escapes resolved.
 fn resolved(alloc: Global, inner: &[u8]) -> Result<Items<u8>, AllocError>
-    ensures { IfOk result (λ bytes. bytes ≡ spec.resolved inner.now) }
+    ensures { IfOk result (λ bytes. bytes ≡ terms.resolved inner.now) }
 {
     let mut bytes = Items::new(alloc);
     let mut rest = inner;
@@ -141,7 +142,7 @@ fn resolved(alloc: Global, inner: &[u8]) -> Result<Items<u8>, AllocError>
 impl<'s> Reader<'s> {
     /// The text of a token.
     pub fn spelled(&self, span: Span) -> Result<Word, AllocError>
-        ensures { IfOk result (λ w. w ≡ spec.word_of self.now.text.now span) }
+        ensures { IfOk result (λ w. w ≡ terms.word_of self.now.text.now span) }
     {
         let text = Items::from_slice(self.alloc, part(self.text, span.start, span.end))?;
         Ok(Word { text, span })
@@ -149,7 +150,7 @@ impl<'s> Reader<'s> {
 
     /// The string that a token is.
     pub fn string_at(&self, span: Span) -> Result<Text, AllocError>
-        ensures { IfOk result (λ t. t ≡ spec.text_of self.now.text.now span) }
+        ensures { IfOk result (λ t. t ≡ terms.text_of self.now.text.now span) }
     {
         let bytes = resolved(self.alloc, unquoted(self.text, span))?;
         Ok(Text { bytes, span })

@@ -3,6 +3,7 @@
 ghost use Rattle.std.specs.Prelude.{◌≡◌};
 ghost use Rattle.sy_script.specs.Reading.{Gives};
 ghost use Rattle.sy_script.specs.ReadingStmt as spec;
+ghost use Rattle.sy_script.specs.Terms as terms;
 
 use crate::boxed::Boxed;
 use crate::expr::Place;
@@ -38,7 +39,7 @@ fn too_deep(token: Token) -> Halt
 }
 
 fn object_kind(kind: Kind) -> Option<ObjectKind>
-    ensures { result ≡ spec.object_kind kind }
+    ensures { result ≡ terms.object_kind kind }
 {
     match kind {
         Kind::Module => Some(ObjectKind::Module),
@@ -133,7 +134,7 @@ impl<'s> Reader<'s> {
     // What stands behind `ruleset`.
     #[tactic(auto, unfolding(crate::specs::ReadingStmt::rules))]
     fn ruleset<'t>(&self, word: Token, rest: &'t [Token]) -> Found<'t, Ruleset>
-        ensures { Gives (λ x. (x.0, x.1.now)) result (spec.rules self.now.text.now word rest.now) }
+        ensures { Gives (λ x. (x.0, x.1.now)) result (spec.rules self.now.text.now terms.max_depth word rest.now) }
     {
         let (params, rest) = self.params(None, rest)?;
         let (brace, rest) = expect(Kind::LeftBrace, None, rest)?;
@@ -148,7 +149,7 @@ impl<'s> Reader<'s> {
 
     #[tactic(auto, unfolding(crate::specs::ReadingStmt::top))]
     fn top<'t>(&self, tokens: &'t [Token]) -> Found<'t, Top>
-        ensures { Gives (λ x. (x.0, x.1.now)) result (spec.top self.now.text.now tokens.now) }
+        ensures { Gives (λ x. (x.0, x.1.now)) result (spec.top self.now.text.now terms.max_depth tokens.now) }
     {
         let (token, after) = first(None, tokens)?;
         if let Some(kind) = object_kind(token.kind) {
@@ -170,7 +171,7 @@ impl<'s> Reader<'s> {
 
     /// What stands at the top of a file. Each turn takes a token, so there are no more turns than tokens.
     pub fn tops(&self, tokens: &[Token]) -> Result<Items<Top>, Halt>
-        ensures { Gives (λ x. x) result (spec.tops self.now.text.now tokens.now) }
+        ensures { Gives (λ x. x) result (spec.tops self.now.text.now terms.max_depth tokens.now) }
     {
         let mut found = Items::new(self.alloc);
         let mut rest = tokens;

@@ -1,6 +1,6 @@
 use Rattle.std.proofs.Common.{◌≡◌, length, map}
-use Rattle.sy_script.specs.Lex.{lookup}
 use Rattle.sy_script.proofs.lex.lookup.Given as goal
+use Rattle.sy_script.specs.Terms.{lookup}
 
 abbrev pub invariant-loop-table : goal.invariant-loop-table
 invariant-loop-table l = lookup (map (λ k. (k.0.now, k.1)) l.table) l.word ≡ lookup (map (λ k. (k.0.now, k.1)) l.initial.table) l.word
