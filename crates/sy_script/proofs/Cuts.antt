@@ -502,3 +502,10 @@ no_bad text n {end = end} {rest = rest} c a h = let no : ending.Complete ≡ end
 
 pub no_open : (text : List ℕ) (n : ℕ) {ts us : List Token} {end : ℕ} {rest : List ℕ} → Cut 0 text ts end rest → AreTokens text us → OpenAt n end rest → ⊥
 no_open text n {end = end} {rest = rest} c a h = let no : ending.Complete ≡ ending.Open n = not_ended text (ending.Open n) c a (open_reads text end n rest h) in cc
+
+-- how a text ends as tokens
+pub bad_end : (text : List ℕ) (n : ℕ) {ts : List Token} {end : ℕ} {rest : List ℕ} → Cut 0 text ts end rest → BadAt n end rest → (tokens text).1 ≡ ending.Byte n
+bad_end text n {end = end} {rest = rest} c h = ap (λ (l : Lexing). l.1) (cut_reads text [] refl refl c) ∙ ap (λ (l : Lexing). l.1) (bad_reads text end n rest h)
+
+pub open_end : (text : List ℕ) (n : ℕ) {ts : List Token} {end : ℕ} {rest : List ℕ} → Cut 0 text ts end rest → OpenAt n end rest → (tokens text).1 ≡ ending.Open n
+open_end text n {end = end} {rest = rest} c h = ap (λ (l : Lexing). l.1) (cut_reads text [] refl refl c) ∙ ap (λ (l : Lexing). l.1) (open_reads text end n rest h)

@@ -28,3 +28,4 @@ pub mod OnePlace
 pub mod Even
 pub mod NoFault
 pub mod OneFault
+pub mod OneEnding

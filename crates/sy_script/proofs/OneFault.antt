@@ -1,17 +1,24 @@
 -- At most one of the faults 23, 24 and 26 stands in a text, and at one place.
-use Rattle.std.proofs.Common.{◌≡◌, ◌⊎◌, inl, inr, ℕ, List, [], ◌∷◌, ◌++◌, length, Result, Ok, Err, refl, sym, ap, ◌∙◌, subst, append_assoc, append-nil, arith}
+use Rattle.std.proofs.Common.{◌≡◌, ◌⊎◌, inl, inr, ◌≤◌, ℕ, false, cond, nat_lt, Option, Some, None, take, List, [], ◌∷◌, ◌++◌, length, Result, Ok, Err, refl, sym, ap, ◌∙◌, subst, append_assoc, append-nil, arith}
+use Rattle.std.proofs.lemmas.Bool.Decides.{nat_tests}
 use Rattle.sy_script.specs.declared.token.Token.{Token}
+use Rattle.sy_script.specs.declared.token.Ending.{Ending}
+use Rattle.sy_script.specs.declared.fault.ScriptFault.{ScriptFault}
+use Rattle.sy_script.specs.declared.script.Fault.{Fault}
 use Rattle.sy_script.specs.declared.halt.Halt.{Halt}
 use Rattle.sy_script.specs.declared.halt.Halt.TheVariants as halt
 use Rattle.sy_script.specs.declared.fault.FaultCode.{FaultCode}
 use Rattle.sy_script.specs.declared.fault.FaultCode.TheVariants as code
 use Rattle.sy_script.specs.declared.tree.Span.{Span}
 use Rattle.sy_script.specs.declared.tree.Top.{Top}
-use Rattle.sy_script.specs.Terms.{max_depth}
+use Rattle.sy_script.specs.Terms.{max_depth, max_text}
 use Rattle.sy_script.specs.Lex.{Lexing, tokens}
 use Rattle.sy_script.specs.ReadingStmt.{tops}
 use Rattle.sy_script.specs.Grammar as g
 use Rattle.sy_script.specs.Tokens.{Cut, AreTokens}
+use Rattle.sy_script.specs.Answer.{fault_of, ended, reading, located, too_large, answered, answer}
+use Rattle.sy_script.specs.Brackets.{Balanced}
+use Rattle.sy_script.specs.Place.{IsPlace}
 use Rattle.sy_script.specs.DeadEnd.{AtToken}
 use Rattle.sy_script.specs.Faults.{IsUnexpected, IsTooDeep, IsLeftOut, NoneRefused, Misplaced}
 use Rattle.sy_script.proofs.SoundStmt.{tops_ok}
@@ -20,11 +27,14 @@ use Rattle.sy_script.proofs.Cuts.{cut_in, are_tokens, cut_in_order}
 use Rattle.sy_script.proofs.OnePlace.{one_place}
 use Rattle.sy_script.proofs.Holes.{begins_front}
 use Rattle.sy_script.proofs.Reaches.{deepens_reads, left_out_reads}
+use Rattle.sy_script.proofs.Even.{none_open}
+use Rattle.sy_script.proofs.Places.{is_place}
+use Rattle.sy_script.proofs.Told.{IsOpen}
 use Rattle.sy_script.proofs.ToldStmt.{tops_told}
 use Rattle.sy_script.proofs.FaultsStand.{no_beginning}
 
 -- two places in one list are one, or one is behind the other
-three : (f r h s : List Token) (t u : Token) → f ++ t ∷ r ≡ h ++ u ∷ s → (t ≡ u) ⊎ (((more : List Token) × (h ≡ (f ++ t ∷ []) ++ more)) ⊎ ((more : List Token) × (f ≡ (h ++ u ∷ []) ++ more)))
+pub three : (f r h s : List Token) (t u : Token) → f ++ t ∷ r ≡ h ++ u ∷ s → (t ≡ u) ⊎ (((more : List Token) × (h ≡ (f ++ t ∷ []) ++ more)) ⊎ ((more : List Token) × (f ≡ (h ++ u ∷ []) ++ more)))
 three [] r [] s t u e = inl cc
 three [] r (y ∷ h) s t u e = inr (inl (h, ap (λ v. v ∷ h) (let same : y ≡ t = cc in same)))
 three (x ∷ f) r [] s t u e = inr (inr (f, ap (λ v. v ∷ f) (let same : x ≡ u = cc in same)))
@@ -35,14 +45,6 @@ three (x ∷ f) r (y ∷ h) s t u e = elim (three f r h s t u (let same : f ++ t
     | inr m ↦ inr (inr (m.0, ap (λ v. v ∷ f) (let same : x ≡ y = cc in same) ∙ ap (λ l. y ∷ l) m.1))
   ]
 ]
-
--- the fault of a halt
-fault_at : ℕ → Halt → FaultCode × ℕ
-fault_at end halt.Memory = (code.NoMemory, 0)
-fault_at end (halt.Unexpected span) = (code.Unexpected, span.start)
-fault_at end (halt.TooDeep span) = (code.TooDeep, span.start)
-fault_at end (halt.LeftOut span) = (code.LeftOut, span.start)
-fault_at end (halt.End opened) = (code.Unexpected, end)
 
 module _ (text : List ℕ) where
   begins_as : {f h : List Token} → f ≡ h → g.Begins text f → g.Begins text h
@@ -105,28 +107,34 @@ module _ (text : List ℕ) where
           let same : t ≡ w.t = one_first ts front rest w.front w.rest t w.t is_ts w.is_ts begins none w.begins w.none in
           e ∙ ap (λ (v : Span). Err (halt.Unexpected v)) (sym w.spot ∙ ap (λ (v : Token). v.span) (sym same))
 
-    module _ (refused : NoneRefused text ts) (begins : g.Begins text ts) (none : (left : ℕ) (tree : List Top) → g.TopsAt text left tree ts → ⊥) where
-      by_end : (r : Result (List Top) Halt) → tops text max_depth ts ≡ r → (o : Halt) × (tops text max_depth ts ≡ Err o) × (fault_at (length text) o ≡ (code.Unexpected, length text))
-      unfolding fault_at
+    module _ (refused : NoneRefused text ts) (closed : Balanced ts []) (begins : g.Begins text ts) (none : (left : ℕ) (tree : List Top) → g.TopsAt text left tree ts → ⊥) where
+      end_none : (o : Option ℕ) → IsOpen ts o [] → tops text max_depth ts ≡ Err (halt.End o) → tops text max_depth ts ≡ Err (halt.End None)
+      end_none None is e = e
+      end_none (Some n) (IsOpen.bracket {o = o} i) e = absurd (none_open ts o closed i)
+
+      by_end : (r : Result (List Top) Halt) → tops text max_depth ts ≡ r → tops text max_depth ts ≡ Err (halt.End None)
       by_end (Ok tree) e = absurd (none max_depth tree (tops_ok text ts tree e))
       by_end (Err halt.Memory) e = absurd (tops_told text ts halt.Memory e)
-      by_end (Err (halt.End opened)) e = (halt.End opened, e, refl)
+      by_end (Err (halt.End opened)) e = end_none opened (tops_told text ts (halt.End opened) e).0 e
       by_end (Err (halt.TooDeep span)) e = let d = tops_told text ts (halt.TooDeep span) e in absurd (refused.none_deepens d.0 d.2)
       by_end (Err (halt.LeftOut span)) e = let d = tops_told text ts (halt.LeftOut span) e in absurd (refused.none_left_out d.0 d.2)
       by_end (Err (halt.Unexpected span)) e =
           let w = here span e in
           absurd (w.none (begins_front text (w.front ++ w.t ∷ []) w.rest (begins_as (w.is_ts ∙ sym (append_assoc w.front (w.t ∷ []) w.rest)) begins)))
 
+  -- the fault of a halt
+  fault_at : Ending → Halt → FaultCode × ℕ
+  fault_at e h = let f : Fault = fault_of (length text) e h in (f.code, f.span.start)
+
   Read : FaultCode → ℕ → Type 0
-  Read c n = (h : Halt) × (tops text max_depth (tokens text).0 ≡ Err h) × (fault_at (length text) h ≡ (c, n))
+  Read c n = (h : Halt) × (tops text max_depth (tokens text).0 ≡ Err h) × (fault_at (tokens text).1 h ≡ (c, n))
 
   unexpected_read : (n : ℕ) → IsUnexpected text n → Read code.Unexpected n
   unfolding Read fault_at
   unexpected_read n (IsUnexpected.token {ts = ts} front rest t c is_ts refused begins none) =
       (halt.Unexpected t.span, in_all (halt.Unexpected t.span) tt c (by_read ts c front rest t is_ts refused begins none (tops text max_depth ts) refl), refl)
   unexpected_read n (IsUnexpected.end {ts = ts} are refused closed begins none) =
-      let w = by_end ts are refused begins none (tops text max_depth ts) refl in
-      (w.0, ap (λ (l : Lexing). tops text max_depth l.0) (are_tokens text ts are) ∙ w.1, w.2)
+      (halt.End None, ap (λ (l : Lexing). tops text max_depth l.0) (are_tokens text ts are) ∙ by_end ts are refused closed begins none (tops text max_depth ts) refl, ap (λ (l : Lexing). fault_at l.1 (halt.End None)) (are_tokens text ts are))
 
   read : (c : FaultCode) (n : ℕ) → Misplaced text c n → Read c n
   unfolding Read fault_at
@@ -138,11 +146,26 @@ module _ (text : List ℕ) where
   read code.LeftOut n (word, IsLeftOut.token {ts = ts} {t = t} c d) = (halt.LeftOut t.span, in_all (halt.LeftOut t.span) tt c (left_out_reads text ts t d), refl)
   read code.NoMemory n s = absurd s
 
+-- where one stands, it is answered
+pub misplaced_read : (text : List ℕ) (c : FaultCode) (n : ℕ) → Misplaced text c n → (f : Fault) × (reading text ≡ Err f) × (f.code ≡ c) × (f.span.start ≡ n)
+unfolding Read fault_at reading
+misplaced_read text c n s =
+    let v = read text c n s in
+    (fault_of (length text) (tokens text).1 v.0, ap (ended (length text) (tokens text).1) v.1, ap (λ (p : FaultCode × ℕ). p.0) v.2, ap (λ (p : FaultCode × ℕ). p.1) v.2)
+
+pub misplaced_first : (text : List ℕ) (c : FaultCode) (n : ℕ) → length text ≤ max_text → Misplaced text c n → (f : ScriptFault) × (answer text ≡ Err f) × (f.code ≡ c) × IsPlace (take n text) f.line f.column
+unfolding answer
+misplaced_first text c n small s =
+    let v = misplaced_read text c n s in
+    let fits : nat_lt max_text (length text) ≡ false = grind (arith, nat_tests) in
+    let P : ℕ → Type 0 = λ m. IsPlace (take m text) (located text v.0).line (located text v.0).column in
+    (located text v.0, ap (λ b. cond b (Err too_large) (answered text (reading text))) fits ∙ ap (answered text) v.1, v.2, subst P v.3 (is_place (take v.0.span.start text)))
+
 pub one_misplaced : (text : List ℕ) (c d : FaultCode) (n m : ℕ) → Misplaced text c n → Misplaced text d m → (c ≡ d) × (n ≡ m)
 unfolding Read
 one_misplaced text c d n m a b =
     let v = read text c n a in
     let w = read text d m b in
     let one : v.0 ≡ w.0 = (let e : (let r : Result (List Top) Halt = Err v.0 in r) ≡ Err w.0 = sym v.1 ∙ w.1 in cc) in
-    let same : (c, n) ≡ (d, m) = sym v.2 ∙ (ap (fault_at (length text)) one ∙ w.2) in
+    let same : (c, n) ≡ (d, m) = sym v.2 ∙ (ap (fault_at text (tokens text).1) one ∙ w.2) in
     (ap (λ (p : FaultCode × ℕ). p.0) same, ap (λ (p : FaultCode × ℕ). p.1) same)

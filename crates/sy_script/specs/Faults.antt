@@ -92,6 +92,16 @@ pub data IsUnexpected (text : List ℕ) : ℕ → Type 0 where
       → Begins text front → (Begins text (front ++ t ∷ []) → ⊥) → IsUnexpected text t.span.start
   end : {ts : List Token} → AreTokens text ts → NoneRefused text ts → Balanced ts [] → Begins text ts → ((left : ℕ) (tree : List Top) → TopsAt text left tree ts → ⊥) → IsUnexpected text (length text)
 
+-- a fault of how the text ends as tokens, or of what is open at its end: 21 or 22
+abbrev pub Unended : List ℕ → FaultCode → ℕ → Type 0
+Unended text code.Byte offset = IsBadByte text offset
+Unended text code.Unclosed offset = IsUnclosed text offset
+Unended text code.Unexpected offset = ⊥
+Unended text code.TooDeep offset = ⊥
+Unended text code.TooLarge offset = ⊥
+Unended text code.LeftOut offset = ⊥
+Unended text code.NoMemory offset = ⊥
+
 -- a fault of a token in a wrong place, or of the end where nothing is open: 23, 24 or 26
 abbrev pub Misplaced : List ℕ → FaultCode → ℕ → Type 0
 Misplaced text code.Byte offset = ⊥

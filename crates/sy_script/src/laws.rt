@@ -1,16 +1,16 @@
 //! Laws of the grammar.
 
-ghost use Rattle.std.specs.Prelude.{◌≡◌, ◌≤◌, ◌↔◌, ℕ, List, ◌++◌, Some, Err};
+ghost use Rattle.std.specs.Prelude.{◌≡◌, ◌≤◌, ◌↔◌, ℕ, List, ◌++◌, length, take, Some, Err};
 ghost use Rattle.sy_script.specs.Answer as answer;
 ghost use Rattle.sy_script.specs.DeadEnd.{AtToken, IsDeadEnd};
 ghost use Rattle.sy_script.specs.Depth.{stmt_depth};
-ghost use Rattle.sy_script.specs.Faults.{Misplaced, Stands};
+ghost use Rattle.sy_script.specs.Faults.{Misplaced, Stands, Unended};
 ghost use Rattle.sy_script.specs.Grammar.{IsScript, StmtAt};
 ghost use Rattle.sy_script.specs.declared.fault.FaultCode.{FaultCode};
 ghost use Rattle.sy_script.specs.declared.fault.FaultCode.TheVariants as code;
 ghost use Rattle.sy_script.specs.declared.fault.ScriptFault.{ScriptFault};
 ghost use Rattle.sy_script.specs.ReadingStmt.{tops};
-ghost use Rattle.sy_script.specs.Terms.{max_depth};
+ghost use Rattle.sy_script.specs.Terms.{max_depth, max_text};
 ghost use Rattle.sy_script.specs.declared.token.Kind.{Kind};
 ghost use Rattle.sy_script.specs.declared.token.Token.{Token};
 ghost use Rattle.sy_script.specs.declared.halt.Halt.{Halt};
@@ -33,6 +33,16 @@ pub fn no_fault()
 /// Of the faults 23, 24 and 26 at most one stands in a text, and at one place.
 pub fn one_misplaced()
     ensures { (text : List ℕ) (a b : FaultCode) (n m : ℕ) → Misplaced text a n → Misplaced text b m → (a ≡ b) × (n ≡ m) }
+{}
+
+/// Of the faults 21 and 22 at most one stands in a text, and at one place.
+pub fn one_unended()
+    ensures { (text : List ℕ) (a b : FaultCode) (n m : ℕ) → Unended text a n → Unended text b m → (a ≡ b) × (n ≡ m) }
+{}
+
+/// Where one of 23, 24 and 26 stands, it is the answer, and neither 21 nor 22 is.
+pub fn misplaced_first()
+    ensures { (text : List ℕ) (a : FaultCode) (n : ℕ) → length text ≤ max_text → Misplaced text a n → (f : ScriptFault) × (answer.answer text ≡ Err f) × (f.code ≡ a) × IsPlace (take n text) f.line f.column }
 {}
 
 /// The bytes at a place begin with one token, so none that is longer or shorter.
