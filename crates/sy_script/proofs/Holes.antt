@@ -1,5 +1,5 @@
 -- Where a rule of the grammar may begin, the tokens up to there are the beginning of a script: whatever the rule reads goes on with it.
-use Rattle.std.proofs.Common.{◌≡◌, ℕ, suc, ◌+◌, ◌≤◌, true, List, [], ◌∷◌, ◌++◌, Some, None, refl, sym, ap, ◌∙◌, subst, append_assoc, append-nil, arith}
+use Rattle.std.proofs.Common.{◌≡◌, ℕ, suc, ◌+◌, true, List, [], ◌∷◌, ◌++◌, refl, sym, ap, ◌∙◌, subst, append_assoc, append-nil, arith}
 use Rattle.sy_script.specs.declared.token.Kind.{Kind}
 use Rattle.sy_script.specs.declared.token.Kind.TheVariants as k
 use Rattle.sy_script.specs.declared.token.Token.{Token}
@@ -13,7 +13,7 @@ use Rattle.sy_script.specs.Terms.{max_depth}
 use Rattle.sy_script.specs.Grammar as g
 use Rattle.sy_script.specs.Standing.{is_joint, TopPlace, StmtPlace, BodyPlace, BlockPlace, ExprPlace, UnitPlace, JointPlace, GroupPlace}
 use Rattle.sy_script.proofs.Depths.{expr_up, unit_up, more_up, stmt_up, block_up, body_up, top_up, tops_up}
-use Rattle.sy_script.proofs.Moves.{params_moves, group_moves, unit_moves, expr_moves, stmt_moves, block_moves, body_moves, top_moves, with_tail, body_no_else, tops_no_else}
+use Rattle.sy_script.proofs.Moves.{params_moves, unit_moves, expr_moves, stmt_moves, block_moves, top_moves, with_tail, body_no_else, tops_no_else}
 
 -- a token of this kind
 abbrev pub tok : Kind → Token

@@ -1,5 +1,5 @@
 -- A script has no fault.
-use Rattle.std.proofs.Common.{◌≡◌, ◌<◌, ℕ, List, [], ◌∷◌, ◌++◌, length, Result, Ok, Err, refl, sym, ap, ◌∙◌, subst, append_assoc, arith}
+use Rattle.std.proofs.Common.{◌≡◌, ℕ, List, [], ◌∷◌, ◌++◌, Result, Ok, Err, refl, sym, ap, ◌∙◌, subst, append_assoc, arith}
 use Rattle.sy_script.specs.declared.token.Token.{Token}
 use Rattle.sy_script.specs.declared.halt.Halt.{Halt}
 use Rattle.sy_script.specs.declared.halt.Halt.TheVariants as halt

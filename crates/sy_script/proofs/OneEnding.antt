@@ -1,7 +1,6 @@
 -- At most one of the faults 21 and 22 stands in a text, and at one place.
 use Rattle.std.proofs.Common.{◌≡◌, ◌⊎◌, inl, inr, ℕ, List, [], ◌∷◌, ◌++◌, refl, sym, ap, ◌∙◌, subst, append_assoc}
 use Rattle.sy_script.specs.declared.token.Token.{Token}
-use Rattle.sy_script.specs.declared.token.Ending.{Ending}
 use Rattle.sy_script.specs.declared.token.Ending.TheVariants as ending
 use Rattle.sy_script.specs.declared.fault.FaultCode.{FaultCode}
 use Rattle.sy_script.specs.declared.fault.FaultCode.TheVariants as code

@@ -15,7 +15,7 @@ use Rattle.sy_script.specs.Terms.{max_depth, max_text}
 use Rattle.sy_script.specs.Lex.{Lexing, tokens}
 use Rattle.sy_script.specs.ReadingStmt.{tops}
 use Rattle.sy_script.specs.Grammar as g
-use Rattle.sy_script.specs.Tokens.{Cut, AreTokens}
+use Rattle.sy_script.specs.Tokens.{Cut}
 use Rattle.sy_script.specs.Answer.{fault_of, ended, reading, located, too_large, answered, answer}
 use Rattle.sy_script.specs.Brackets.{Balanced}
 use Rattle.sy_script.specs.Place.{IsPlace}

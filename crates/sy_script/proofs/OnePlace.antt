@@ -1,5 +1,5 @@
 -- A token has one place among those of a text.
-use Rattle.std.proofs.Common.{◌≡◌, ℕ, ◌≤◌, ◌<◌, List, [], ◌∷◌, ◌++◌, refl, sym, ap, ◌∙◌, subst, arith}
+use Rattle.std.proofs.Common.{◌≡◌, ℕ, ◌≤◌, List, [], ◌∷◌, ◌++◌, refl, sym, ap, ◌∙◌, subst, arith}
 use Rattle.sy_script.specs.declared.token.Token.{Token}
 use Rattle.sy_script.specs.declared.tree.Span.{Span}
 use Rattle.sy_script.specs.Spans.{InOrder}

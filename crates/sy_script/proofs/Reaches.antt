@@ -1,5 +1,5 @@
 -- Where a rule of the grammar may begin, reading comes there: if it stops there, it stops so altogether.
-use Rattle.std.proofs.Common.{◌≡◌, ◌<◌, ◌≤◌, ℕ, zero, suc, Bool, true, false, List, [], ◌∷◌, ◌++◌, length, Option, Some, None, Result, Ok, Err, refl, sym, ap, ◌∙◌, arith}
+use Rattle.std.proofs.Common.{◌≡◌, ◌<◌, ◌≤◌, ℕ, zero, suc, true, false, List, [], ◌∷◌, ◌++◌, length, Some, None, Ok, Err, refl, ap, ◌∙◌, arith}
 use Rattle.std.specs.Prelude.{is_some}
 use Rattle.sy_script.specs.declared.token.Kind.{Kind}
 use Rattle.sy_script.specs.declared.token.Kind.TheVariants as k
@@ -12,9 +12,9 @@ use Rattle.sy_script.specs.declared.tree.Block.{Block}
 use Rattle.sy_script.specs.declared.tree.Stmt.{Stmt}
 use Rattle.sy_script.specs.declared.tree.Top.{Top}
 use Rattle.sy_script.specs.Terms.{max_depth, object_kind}
-use Rattle.sy_script.specs.Reading.{Outcome, Parser, Open, and_then, pure, same_kind, first, expect, behind, turn, items_from, params}
+use Rattle.sy_script.specs.Reading.{Outcome, Parser, Open, and_then, same_kind, expect, behind, turn, items_from, params}
 use Rattle.sy_script.specs.ReadingExpr.{unit_by, unit_at, part_behind, chain_from, chain_at, joined_by, expr_at, negated_by, level, expr}
-use Rattle.sy_script.specs.ReadingStmt.{refusal_by, refusal, too_deep_by, otherwise_by, choice_at, stmt_by, stmt_at, block_by, block, stmt, body, rules, other_top, top_by, top, tops_from, tops}
+use Rattle.sy_script.specs.ReadingStmt.{refusal_by, too_deep_by, otherwise_by, stmt_at, block_by, block, stmt, body, rules, other_top, top_by, top, tops_from, tops}
 use Rattle.sy_script.specs.Grammar as g
 use Rattle.sy_script.specs.Standing.{is_joint, TopPlace, StmtPlace, BodyPlace, BlockPlace, ExprPlace, UnitPlace, JointPlace, GroupPlace}
 use Rattle.sy_script.specs.Faults.{begins_block, is_left_out, Deepens, BeginsLeftOut}

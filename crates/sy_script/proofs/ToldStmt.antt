@@ -1,5 +1,5 @@
 -- What stands where the reading of statements and files stops.
-use Rattle.std.proofs.Common.{◌≡◌, ◌<◌, ◌≤◌, ℕ, zero, suc, Bool, true, false, List, [], ◌∷◌, ◌++◌, length, Option, Some, None, Result, Ok, Err, refl, sym, ap, subst, arith}
+use Rattle.std.proofs.Common.{◌≡◌, ◌<◌, ℕ, zero, suc, Bool, true, false, List, [], ◌∷◌, ◌++◌, length, Option, Some, None, Result, Ok, Err, refl, sym, ap, subst, arith}
 use Rattle.sy_script.specs.declared.token.Kind.{Kind}
 use Rattle.sy_script.specs.declared.token.Kind.TheVariants as k
 use Rattle.sy_script.specs.declared.token.Token.{Token}

@@ -1,16 +1,15 @@
 -- What reading an expression gives. The first number says how much deeper the text may nest.
-use Rattle.std.specs.Prelude.{ℕ, zero, suc, Bool, true, false, if◌then◌else◌, is_some, List, [], ◌∷◌, ◌++◌, length, Option, Some, None, Ok}
+use Rattle.std.specs.Prelude.{ℕ, zero, suc, Bool, true, false, is_some, List, [], ◌∷◌, ◌++◌, length, Option, Some, None, Ok}
 use Rattle.sy_script.specs.declared.token.Kind.{Kind}
 use Rattle.sy_script.specs.declared.token.Kind.TheVariants as k
 use Rattle.sy_script.specs.declared.token.Token.{Token}
 use Rattle.sy_script.specs.declared.halt.Halt.TheVariants as halt
 use Rattle.sy_script.specs.declared.tree.Operator.{Operator}
-use Rattle.sy_script.specs.declared.tree.Operator.TheVariants as op
 use Rattle.sy_script.specs.declared.tree.Operand.{Operand}
 use Rattle.sy_script.specs.declared.tree.Operand.TheVariants as value
 use Rattle.sy_script.specs.declared.tree.ExprTree.{ExprTree}
 use Rattle.sy_script.specs.declared.tree.ExprTree.TheVariants as e
-use Rattle.sy_script.specs.Terms.{comparison_of, is_word, operator_of, text_of, word_of}
+use Rattle.sy_script.specs.Terms.{comparison_of, operator_of, text_of, word_of}
 use Rattle.sy_script.specs.Reading.{Outcome, Parser, Open, and_then, ◌>>=◌, ◌>>◌, pure, refuse, first, expect, behind, text}
 
 -- a token that is a number or a string
