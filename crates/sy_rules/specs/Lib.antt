@@ -1,0 +1,4 @@
+pub mod Faults
+pub mod Table
+pub mod Views
+pub mod Parameters

@@ -1,0 +1,11 @@
+//! What a script says a relay does: the parameters of its objects, and the plan that they make.
+#![tactic(auto)]
+
+mod check;
+pub mod fault;
+pub mod kind;
+mod table;
+mod values;
+
+pub use fault::{FaultCode, PlanFault};
+pub use kind::Kind;
