@@ -2,3 +2,4 @@ pub mod Faults
 pub mod Table
 pub mod Views
 pub mod Parameters
+pub mod Objects

@@ -1,5 +1,5 @@
 -- The code's rows as rows of the table, and what it finds wrong as faults.
-use Rattle.std.specs.Prelude.{ℕ, List, map, Option, Some, None}
+use Rattle.std.specs.Prelude.{map, Option, Some, None}
 use denote.Ref.{Bor}
 use Rattle.sy_rules.specs.declared.table.Row.{Row}
 use Rattle.sy_rules.specs.declared.table.Shape.{Shape}

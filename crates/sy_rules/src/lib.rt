@@ -4,8 +4,13 @@
 mod check;
 pub mod fault;
 pub mod kind;
+pub mod objects;
+pub mod parameters;
 mod table;
 mod values;
 
 pub use fault::{FaultCode, PlanFault};
 pub use kind::Kind;
+
+#[cfg(test)]
+mod tests;

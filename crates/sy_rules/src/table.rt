@@ -28,7 +28,7 @@ pub enum Absent {
     Word(&'static [u8]),
     Amount(u64),
     /// So many hundredths of the queue's size, rounded down.
-    Hundredths(u64),
+    Hundredths(u8),
 }
 
 /// A parameter, by the name that the manual gives it.

@@ -1,5 +1,5 @@
-use Rattle.std.proofs.Common.{◌≡◌, ◌++◌, refl}
-use Rattle.sy_rules.specs.Table.{own_rows, device_rows, queue_head_rows, queue_rest_rows}
+use Rattle.std.proofs.Common.{◌++◌, refl}
+use Rattle.sy_rules.specs.Table.{device_rows, queue_head_rows, queue_rest_rows}
 use Rattle.sy_rules.proofs.Lookups.{missing-append}
 use Rattle.sy_rules.proofs.check.missing_of_device.Goals as goal
 

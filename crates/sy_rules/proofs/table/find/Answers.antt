@@ -1,4 +1,4 @@
-use Rattle.std.proofs.Common.{◌≡◌, ◌++◌, refl}
+use Rattle.std.proofs.Common.{◌++◌, refl}
 use Rattle.sy_rules.specs.Table.{own_rows, device_rows, queue_head_rows, queue_rest_rows}
 use Rattle.sy_rules.proofs.Lookups.{lookup-append}
 use Rattle.sy_rules.proofs.table.find.Goals as goal
