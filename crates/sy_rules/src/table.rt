@@ -42,6 +42,9 @@ pub struct Row {
 /// The greatest number of seconds, milliseconds and retries.
 const MOST: u64 = 2_147_483_647;
 
+/// A port of TCP.
+const PORT: Shape = Shape::Number(1, 65_535);
+
 static MODULE: [Row; 1] = [Row {
     name: b"load",
     shape: Shape::OneOf(&[b"imtcp", b"builtin:omfile", b"builtin:omfwd"]),
@@ -62,7 +65,7 @@ static INPUT: [Row; 5] = [
     },
     Row {
         name: b"port",
-        shape: Shape::Number(1, 65_535),
+        shape: PORT,
         absent: Absent::Required,
     },
     Row {
@@ -125,7 +128,7 @@ static OMFWD: [Row; 4] = [
     },
     Row {
         name: b"port",
-        shape: Shape::Number(1, 65_535),
+        shape: PORT,
         absent: Absent::Amount(514),
     },
     Row {
@@ -154,7 +157,7 @@ static EITHER: [Row; 5] = [
     },
     Row {
         name: b"port",
-        shape: Shape::Number(1, 65_535),
+        shape: PORT,
         absent: Absent::Nothing,
     },
     Row {
