@@ -3,8 +3,10 @@
 
 mod check;
 pub mod fault;
+mod item_check;
 pub mod kind;
 pub mod objects;
+mod outline;
 pub mod parameters;
 mod table;
 mod values;

@@ -252,8 +252,9 @@ fn read_action_of(
     })
 }
 
+/// The kind of an action, by the module that its type names.
 #[tactic(auto, unfolding(crate::specs::Objects::kind_of_action))]
-fn kind_of_action(params: &[Param]) -> Kind
+pub fn kind_of_action(params: &[Param]) -> Kind
     ensures value { result ≡ spec.kind_of_action params.now }
     ensures action { spec.is_action result ≡ true }
 {

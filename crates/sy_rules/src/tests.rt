@@ -2,5 +2,6 @@
 
 mod faults;
 mod objects;
+mod outline;
 mod ranges;
 mod read;
