@@ -8,8 +8,9 @@ use std::process::Abort;
 use std::test::Fail;
 
 fn main_queue(rt: &impl Abort, alloc: Global, text: &[u8], wanted: QueueParameters) {
-    match read(alloc, text) {
-        Ok(Said::MainQueue(queue)) => assert_eq!(rt; queue, wanted),
+    let said = read(alloc, text);
+    match &said {
+        Ok(Said::MainQueue(queue)) => assert_eq!(rt; *queue, wanted),
         _ => assert!(rt; false),
     }
 }
@@ -74,17 +75,19 @@ fn main_queues(rt: HostRuntime) -> Result<(), Fail> {
 #[test]
 fn inputs(rt: HostRuntime) -> Result<(), Fail> {
     let alloc = rt.alloc();
-    match read(alloc, b"input(type=\"imtcp\" port=\"06514\")") {
+    let said = read(alloc, b"input(type=\"imtcp\" port=\"06514\")");
+    match &said {
         Ok(Said::Input(input)) => {
             assert_eq!(rt; (input.port, input.flow), (6514, FlowControl::On));
             assert!(rt; input.ruleset_name.is_none());
         }
         _ => assert!(rt; false),
     }
-    match read(
+    let said = read(
         alloc,
         b"input(Type=\"imtcp\" PORT=\"1\" flowcontrol=\"off\" ruleset=\"Out\" name=\"n\")",
-    ) {
+    );
+    match &said {
         Ok(Said::Input(input)) => {
             assert_eq!(rt; (input.port, input.flow), (1, FlowControl::Off));
             match &input.ruleset_name {
@@ -94,10 +97,11 @@ fn inputs(rt: HostRuntime) -> Result<(), Fail> {
         }
         _ => assert!(rt; false),
     }
-    match read(
+    let said = read(
         alloc,
         b"input(type=\"imtcp\" port=\"65535\" flowControl=\"full\")",
-    ) {
+    );
+    match &said {
         Ok(Said::Input(input)) => assert_eq!(rt;
             (input.port, input.flow),
             (65_535, FlowControl::Full)
@@ -111,17 +115,19 @@ fn inputs(rt: HostRuntime) -> Result<(), Fail> {
 fn rulesets(rt: HostRuntime) -> Result<(), Fail> {
     let alloc = rt.alloc();
     // without its type there is no queue
-    match read(alloc, b"ruleset(name=\"cut\" queue.size=\"5\") { stop }") {
+    let said = read(alloc, b"ruleset(name=\"cut\" queue.size=\"5\") { stop }");
+    match &said {
         Ok(Said::Ruleset(ruleset)) => {
             assert_eq!(rt; ruleset.name.as_slice(), b"cut".as_slice());
             assert!(rt; ruleset.queue.is_none());
         }
         _ => assert!(rt; false),
     }
-    match read(
+    let said = read(
         alloc,
         b"ruleset(name=\"cut\" queue.type=\"LinkedList\") { stop }",
-    ) {
+    );
+    match &said {
         Ok(Said::Ruleset(ruleset)) => assert_eq!(rt; ruleset.queue, Some(usual())),
         _ => assert!(rt; false),
     }
@@ -131,7 +137,8 @@ fn rulesets(rt: HostRuntime) -> Result<(), Fail> {
 #[test]
 fn archives(rt: HostRuntime) -> Result<(), Fail> {
     let alloc = rt.alloc();
-    match read(alloc, b"action(type=\"omfile\" file=\"a.log\")") {
+    let said = read(alloc, b"action(type=\"omfile\" file=\"a.log\")");
+    match &said {
         Ok(Said::Action(action)) => {
             assert!(rt; action.name.is_none());
             assert!(rt; action.queue.is_none());
@@ -144,7 +151,8 @@ fn archives(rt: HostRuntime) -> Result<(), Fail> {
         _ => assert!(rt; false),
     }
     let direct = b"action(type=\"omfile\" file=\"a.log\" queue.type=\"Direct\" queue.size=\"5\")";
-    match read(alloc, direct) {
+    let said = read(alloc, direct);
+    match &said {
         Ok(Said::Action(action)) => assert!(rt; action.queue.is_none()),
         _ => assert!(rt; false),
     }
@@ -157,7 +165,8 @@ fn forwards(rt: HostRuntime) -> Result<(), Fail> {
     let text =
         b"action(name=\"up\" type=\"omfwd\" target=\"hub\" protocol=\"tcp\" TCP_Framing=\"octet-counted\"
         action.resumeRetryCount=\"-1\" action.resumeInterval=\"0\" queue.type=\"LinkedList\")";
-    match read(alloc, text) {
+    let said = read(alloc, text);
+    match &said {
         Ok(Said::Action(action)) => {
             match &action.name {
                 Some(name) => assert_eq!(rt; name.as_slice(), b"up".as_slice()),
