@@ -1,0 +1,9 @@
+pub mod Faults
+pub mod Table
+pub mod Views
+pub mod Parameters
+pub mod Objects
+pub mod Outline
+pub mod ItemViews
+pub mod ItemFaults
+pub mod Plans

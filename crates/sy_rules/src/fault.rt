@@ -1,0 +1,101 @@
+//! What may be wrong with a script that is read, and is no plan.
+
+ghost use Rattle.std.specs.Prelude.{◌≡◌, ◌⊎◌};
+ghost use Rattle.sy_rules.specs.Faults as spec;
+
+use std::alloc::Global;
+use sy_script::Items;
+
+/// The faults of a plan. Their numbers are those of `number`.
+#[derive(Clone, Copy, Debug, PartialEq, Eq)]
+pub enum FaultCode {
+    /// A name in a selector that is no facility's.
+    Facility,
+    /// A name in a selector that is no severity's.
+    Severity,
+    /// A selector that is wrong in another way.
+    Shape,
+    /// An operator that the property, or what it is compared with, doesn't have.
+    Operator,
+    /// A parameter that must be given, and isn't.
+    Missing,
+    /// A parameter, a name or the main queue given twice.
+    Duplicate,
+    /// A parameter, a ruleset or a property that isn't known.
+    Unknown,
+    /// A value that has not the shape of its parameter.
+    BadValue,
+    /// A number out of its range, or too many objects or workers.
+    Range,
+    /// Calls made at once more than 16 deep.
+    CallDepth,
+    /// A list of more than 64 occurrences or 65,536 statements.
+    TooManyStatements,
+    /// Two inputs of one port.
+    SamePort,
+    /// An input whose module isn't loaded.
+    NotLoaded,
+    /// Memory ran out.
+    NoMemory,
+}
+
+impl FaultCode {
+    /// The number of the fault: 31 to 34 of selectors and expressions, 40 for `Missing` to 49 for `NoMemory`.
+    pub fn number(self) -> u8
+        ensures { result ≡ spec.number self }
+    {
+        match self {
+            FaultCode::Facility => 31,
+            FaultCode::Severity => 32,
+            FaultCode::Shape => 33,
+            FaultCode::Operator => 34,
+            FaultCode::Missing => 40,
+            FaultCode::Duplicate => 41,
+            FaultCode::Unknown => 42,
+            FaultCode::BadValue => 43,
+            FaultCode::Range => 44,
+            FaultCode::CallDepth => 45,
+            FaultCode::TooManyStatements => 46,
+            FaultCode::SamePort => 47,
+            FaultCode::NotLoaded => 48,
+            FaultCode::NoMemory => 49,
+        }
+    }
+}
+
+/// A fault and its word. The word is, of
+///
+/// - `Facility`, `Severity`, `Shape`, `Operator`: the name, the whole selector, the operator;
+/// - `Missing`, `BadValue`, `Range`, and a parameter that is unknown or given twice: the parameter's name, as the script spells it
+///   (a missing one as the manual spells it);
+/// - any other `Duplicate` or `Unknown`: the name that is given twice, or isn't known;
+/// - `Range` of too many objects or workers: the object's word, or `queue.workerThreads`;
+/// - `CallDepth`, `TooManyStatements`: the ruleset's name;
+/// - `SamePort`: the port; `NotLoaded`: `imtcp`; `NoMemory`: nothing.
+#[derive(Debug, Drop)]
+pub struct PlanFault {
+    pub code: FaultCode,
+    pub word: Items<u8>,
+}
+
+impl PlanFault {
+    /// The fault where memory runs out.
+    pub fn no_memory(alloc: Global) -> PlanFault
+        ensures { result ≡ spec.no_memory }
+    {
+        PlanFault {
+            code: FaultCode::NoMemory,
+            word: Items::new(alloc),
+        }
+    }
+
+    /// A fault with a copy of its word, or the one of memory where the copy finds none.
+    pub fn new(alloc: Global, code: FaultCode, word: &[u8]) -> PlanFault
+        ensures { (result ≡ spec.no_memory) ⊎ (result ≡ spec.fault code word.now) }
+    {
+        match Items::from_slice(alloc, word) {
+            Ok(word) => PlanFault { code, word },
+            Err(_) => PlanFault::no_memory(alloc),
+        }
+    }
+}

@@ -1,0 +1,281 @@
+//! Reads the objects of a script.
+//!
+//! Each reader answers the first fault of the object's parameters from left to right, and behind the last parameter what is missing.
+
+ghost use Rattle.std.specs.Prelude.{◌≡◌, ◌≤◌, [], IfOk, IfErr, OnOk, true};
+ghost use Rattle.std.specs.Option.{option_copied};
+ghost use Rattle.sy_rules.specs.Faults as fault;
+ghost use Rattle.sy_rules.specs.Objects as spec;
+ghost use Rattle.sy_rules.specs.Parameters.{faults, given};
+
+use crate::check::check;
+use crate::fault::PlanFault;
+use crate::kind::Kind;
+use crate::parameters::{
+    FlowControl, QueueParameters, has_queue, is_word, number_of, queue_parameters, word_of,
+};
+use crate::values::given;
+use std::alloc::Global;
+use sy_script::Items;
+use sy_script::tree::Param;
+
+/// A module that a script loads.
+#[derive(Clone, Copy, Debug, PartialEq, Eq)]
+pub enum Module {
+    Imtcp,
+    Omfile,
+    Omfwd,
+}
+
+/// What an `input` object says.
+#[derive(Debug, Drop)]
+pub struct InputParameters {
+    /// 1 to 65,535
+    pub port: u16,
+    pub flow: FlowControl,
+    /// The ruleset that it is bound to, where it names one.
+    pub ruleset_name: Option<Items<u8>>,
+}
+
+/// What the parameters of a `ruleset` say.
+#[derive(Debug, Drop)]
+pub struct RulesetParameters {
+    pub name: Items<u8>,
+    pub queue: Option<QueueParameters>,
+}
+
+/// Where an action brings messages.
+#[derive(Debug, Drop)]
+pub enum Device {
+    /// Into this file (`omfile`).
+    Archive(Items<u8>),
+    /// To this target and port (`omfwd`).
+    Forward(Items<u8>, u16),
+}
+
+/// What an `action` says.
+#[derive(Debug, Drop)]
+pub struct ActionParameters {
+    pub name: Option<Items<u8>>,
+    pub device: Device,
+    /// How often a failed message is tried again (`action.resumeRetryCount`); none where without end.
+    pub retry: Option<u32>,
+    /// How long to wait after a failure (`action.resumeInterval`), in seconds.
+    pub resume_interval: u32,
+    pub queue: Option<QueueParameters>,
+}
+
+fn copied(alloc: Global, text: &[u8]) -> Result<Items<u8>, PlanFault>
+    ensures ok { IfOk result (λ items. items ≡ text.now) }
+    ensures err { IfErr result (λ f. f ≡ fault.no_memory) }
+{
+    match Items::from_slice(alloc, text) {
+        Ok(items) => Ok(items),
+        Err(_) => Err(PlanFault::no_memory(alloc)),
+    }
+}
+
+fn copied_if(alloc: Global, text: Option<&[u8]>) -> Result<Option<Items<u8>>, PlanFault>
+    ensures ok { IfOk result (λ items. items ≡ option_copied text.entry) }
+    ensures err { IfErr result (λ f. f ≡ fault.no_memory) }
+{
+    match text {
+        Some(text) => Ok(Some(copied(alloc, text)?)),
+        None => Ok(None),
+    }
+}
+
+// The text of a parameter that must be given.
+fn text(alloc: Global, params: &[Param], name: &[u8]) -> Result<Items<u8>, PlanFault>
+    ensures ok { IfOk result (λ items. items ≡ spec.text (given name.now params.now)) }
+    ensures err { IfErr result (λ f. f ≡ fault.no_memory) }
+{
+    match given(name, params) {
+        Some(text) => copied(alloc, text),
+        None => Ok(Items::new(alloc)),
+    }
+}
+
+/// Reads a `module` object.
+pub fn read_module(alloc: Global, params: &[Param]) -> Result<Module, PlanFault>
+    ensures clean { OnOk result (faults Kind.Module params.now ≡ []) }
+    ensures value { IfOk result (λ m. m ≡ spec.module_of params.now) }
+    ensures err { IfErr result (λ f. fault.IsAnswered (faults Kind.Module params.now) f) }
+{
+    check(alloc, Kind::Module, params)?;
+    let word = given(b"load", params);
+    Ok(if is_word(b"imtcp", word) {
+        Module::Imtcp
+    } else if is_word(b"builtin:omfwd", word) {
+        Module::Omfwd
+    } else {
+        Module::Omfile
+    })
+}
+
+/// Reads a `global` object, whose parameters have no effect.
+pub fn read_global(alloc: Global, params: &[Param]) -> Result<(), PlanFault>
+    ensures clean { OnOk result (faults Kind.Global params.now ≡ []) }
+    ensures err { IfErr result (λ f. fault.IsAnswered (faults Kind.Global params.now) f) }
+{
+    check(alloc, Kind::Global, params)
+}
+
+/// Reads a `main_queue` object.
+pub fn read_main_queue(alloc: Global, params: &[Param]) -> Result<QueueParameters, PlanFault>
+    ensures clean { OnOk result (faults Kind.MainQueue params.now ≡ []) }
+    ensures value { IfOk result (λ q. q ≡ spec.queue_parameters Kind.MainQueue params.now) }
+    ensures in_range { IfOk result (λ q. spec.AreInRange q) }
+    ensures err { IfErr result (λ f. fault.IsAnswered (faults Kind.MainQueue params.now) f) }
+{
+    check(alloc, Kind::MainQueue, params)?;
+    Ok(queue_parameters(Kind::MainQueue, params))
+}
+
+fn flow_named(word: Option<&[u8]>) -> FlowControl
+    ensures { result ≡ spec.flow_named (option_copied word.entry) }
+{
+    if is_word(b"full", word) {
+        FlowControl::Full
+    } else if is_word(b"off", word) {
+        FlowControl::Off
+    } else {
+        FlowControl::On
+    }
+}
+
+/// Reads an `input` object.
+#[tactic(auto, unfolding(crate::specs::Objects::input_of))]
+pub fn read_input(alloc: Global, params: &[Param]) -> Result<InputParameters, PlanFault>
+    ensures clean { OnOk result (faults Kind.Input params.now ≡ []) }
+    ensures value { IfOk result (λ i. i ≡ spec.input_of params.now) }
+    ensures port { IfOk result (λ i. 1 ≤ i.port) }
+    ensures err { IfErr result (λ f. fault.IsAnswered (faults Kind.Input params.now) f) }
+{
+    check(alloc, Kind::Input, params)?;
+    let port = number_of(Kind::Input, params, 0, b"port") as u16;
+    let flow = flow_named(word_of(Kind::Input, params, b"flowControl"));
+    let ruleset_name = copied_if(alloc, given(b"ruleset", params))?;
+    Ok(InputParameters {
+        port,
+        flow,
+        ruleset_name,
+    })
+}
+
+fn queue_of(kind: Kind, params: &[Param]) -> Option<QueueParameters>
+    requires takes { spec.takes_queue kind ≡ true }
+    requires clean { faults kind params.now ≡ [] }
+    ensures value { result ≡ spec.queue_of kind params.now }
+    ensures in_range { spec.IsQueueInRange result }
+{
+    if has_queue(kind, params) {
+        Some(queue_parameters(kind, params))
+    } else {
+        None
+    }
+}
+
+/// Reads the parameters of a ruleset.
+#[tactic(auto, unfolding(crate::specs::Objects::ruleset_of))]
+pub fn read_ruleset(alloc: Global, params: &[Param]) -> Result<RulesetParameters, PlanFault>
+    ensures clean { OnOk result (faults Kind.Ruleset params.now ≡ []) }
+    ensures value { IfOk result (λ r. r ≡ spec.ruleset_of params.now) }
+    ensures in_range { IfOk result (λ r. spec.IsQueueInRange r.queue) }
+    ensures err { IfErr result (λ f. fault.IsAnswered (faults Kind.Ruleset params.now) f) }
+{
+    check(alloc, Kind::Ruleset, params)?;
+    let queue = queue_of(Kind::Ruleset, params);
+    let name = text(alloc, params, b"name")?;
+    Ok(RulesetParameters { name, queue })
+}
+
+fn retry_of(kind: Kind, params: &[Param]) -> Option<u32>
+    requires action { spec.is_action kind ≡ true }
+    requires clean { faults kind params.now ≡ [] }
+    ensures { result ≡ spec.retry_of kind params.now }
+{
+    if is_word(b"-1", given(b"action.resumeRetryCount", params)) {
+        None
+    } else {
+        let count = number_of(kind, params, 0, b"action.resumeRetryCount") as u32;
+        Some(count)
+    }
+}
+
+#[tactic(auto, unfolding(crate::specs::Objects::device_of))]
+fn device_of(alloc: Global, kind: Kind, params: &[Param]) -> Result<Device, PlanFault>
+    requires { faults kind params.now ≡ [] }
+    ensures value { IfOk result (λ d. d ≡ spec.device_of kind params.now) }
+    ensures port { IfOk result (λ d. spec.HasPort d) }
+    ensures err { IfErr result (λ f. f ≡ fault.no_memory) }
+{
+    match kind {
+        Kind::Forward => {
+            let port = number_of(Kind::Forward, params, 0, b"port") as u16;
+            let target = text(alloc, params, b"target")?;
+            Ok(Device::Forward(target, port))
+        }
+        _ => {
+            let file = text(alloc, params, b"file")?;
+            Ok(Device::Archive(file))
+        }
+    }
+}
+
+// Reads an action whose type is known, or refuses it.
+#[tactic(auto, unfolding(crate::specs::Objects::action_of))]
+fn read_action_of(
+    alloc: Global,
+    kind: Kind,
+    params: &[Param],
+) -> Result<ActionParameters, PlanFault>
+    requires { spec.is_action kind ≡ true }
+    ensures clean { OnOk result (faults kind params.now ≡ []) }
+    ensures value { IfOk result (λ a. a ≡ spec.action_of kind params.now) }
+    ensures port { IfOk result (λ a. spec.HasPort a.device) }
+    ensures in_range { IfOk result (λ a. spec.IsQueueInRange a.queue) }
+    ensures err { IfErr result (λ f. fault.IsAnswered (faults kind params.now) f) }
+{
+    check(alloc, kind, params)?;
+    let queue = queue_of(kind, params);
+    let retry = retry_of(kind, params);
+    let resume_interval = number_of(kind, params, 0, b"action.resumeInterval") as u32;
+    let device = device_of(alloc, kind, params)?;
+    let name = copied_if(alloc, given(b"name", params))?;
+    Ok(ActionParameters {
+        name,
+        device,
+        retry,
+        resume_interval,
+        queue,
+    })
+}
+
+/// The kind of an action, by the module that its type names.
+#[tactic(auto, unfolding(crate::specs::Objects::kind_of_action))]
+pub fn kind_of_action(params: &[Param]) -> Kind
+    ensures value { result ≡ spec.kind_of_action params.now }
+    ensures action { spec.is_action result ≡ true }
+{
+    let word = given(b"type", params);
+    if is_word(b"omfile", word) {
+        Kind::Archive
+    } else if is_word(b"omfwd", word) {
+        Kind::Forward
+    } else {
+        Kind::Action
+    }
+}
+
+/// Reads an `action`. Its type says which other parameters it takes; where that is no known one, any parameter of either is known.
+pub fn read_action(alloc: Global, params: &[Param]) -> Result<ActionParameters, PlanFault>
+    ensures clean { OnOk result (faults (spec.kind_of_action params.now) params.now ≡ []) }
+    ensures value { IfOk result (λ a. a ≡ spec.action_of (spec.kind_of_action params.now) params.now) }
+    ensures port { IfOk result (λ a. spec.HasPort a.device) }
+    ensures in_range { IfOk result (λ a. spec.IsQueueInRange a.queue) }
+    ensures err { IfErr result (λ f. fault.IsAnswered (faults (spec.kind_of_action params.now) params.now) f) }
+{
+    let kind = kind_of_action(params);
+    read_action_of(alloc, kind, params)
+}

@@ -1,0 +1,7 @@
+//! The parameters of objects, read from scripts.
+
+mod faults;
+mod objects;
+mod outline;
+mod ranges;
+mod read;

@@ -1,0 +1,89 @@
+//! The first object of a script, read.
+
+use crate::fault::{FaultCode, PlanFault};
+use crate::objects::{
+    ActionParameters, InputParameters, RulesetParameters, read_action, read_input, read_main_queue,
+    read_module, read_ruleset,
+};
+use crate::parameters::QueueParameters;
+use std::alloc::Global;
+use std::process::Abort;
+use sy_script::read_script;
+use sy_script::tree::{ObjectKind, Script, Stmt, Top};
+
+/// What an object says.
+#[derive(Drop)]
+pub enum Said {
+    Nothing,
+    MainQueue(QueueParameters),
+    Input(InputParameters),
+    Ruleset(RulesetParameters),
+    Action(ActionParameters),
+}
+
+fn read_top(alloc: Global, script: &Script) -> Result<Said, PlanFault> {
+    match script.tops.get(0) {
+        Some(Top::Object(object)) => {
+            let params = object.params.as_slice();
+            match object.kind {
+                ObjectKind::Module => {
+                    read_module(alloc, params)?;
+                    Ok(Said::Nothing)
+                }
+                ObjectKind::Global => {
+                    crate::objects::read_global(alloc, params)?;
+                    Ok(Said::Nothing)
+                }
+                ObjectKind::MainQueue => Ok(Said::MainQueue(read_main_queue(alloc, params)?)),
+                ObjectKind::Input => Ok(Said::Input(read_input(alloc, params)?)),
+            }
+        }
+        Some(Top::Ruleset(ruleset)) => {
+            Ok(Said::Ruleset(read_ruleset(alloc, ruleset.params.as_slice())?))
+        }
+        Some(Top::Stmt(Stmt::Action(_, params))) => {
+            Ok(Said::Action(read_action(alloc, params.as_slice())?))
+        }
+        _ => Ok(Said::Nothing),
+    }
+}
+
+/// What the first object of a script says, or its fault.
+pub fn read(alloc: Global, text: &[u8]) -> Result<Said, PlanFault> {
+    match read_script(alloc, text) {
+        Ok(script) => read_top(alloc, &script),
+        Err(_) => Err(PlanFault::no_memory(alloc)),
+    }
+}
+
+/// The first object is refused with this fault and this word.
+pub fn refused(rt: &impl Abort, alloc: Global, text: &[u8], number: u8, word: &[u8]) {
+    match read(alloc, text) {
+        Ok(_) => assert_eq!(rt; (0, word), (number, word)),
+        Err(fault) => {
+            assert_eq!(rt;
+                (fault.code.number(), fault.word.as_slice()),
+                (number, word)
+            );
+        }
+    }
+}
+
+/// The first object is read.
+pub fn accepted(rt: &impl Abort, alloc: Global, text: &[u8]) {
+    match read(alloc, text) {
+        Ok(_) => (),
+        Err(fault) => assert_eq!(rt; (fault.code.number(), fault.word.as_slice()), (0, text)),
+    }
+}
+
+/// The object is read, or refused for memory alone.
+pub fn for_memory_alone(rt: &impl Abort, alloc: Global, text: &[u8]) {
+    match read(alloc, text) {
+        Ok(_) => (),
+        Err(fault) => {
+            assert_eq!(rt; fault.code, FaultCode::NoMemory);
+            assert!(rt; fault.word.is_empty());
+        }
+    }
+}
