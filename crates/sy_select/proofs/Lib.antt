@@ -13,3 +13,4 @@ pub mod Numbers
 pub mod Chains
 pub mod ExprLaws
 pub mod OneReading
+pub mod OneExpr
