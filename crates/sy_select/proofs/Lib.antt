@@ -14,3 +14,5 @@ pub mod Chains
 pub mod ExprLaws
 pub mod OneReading
 pub mod OneExpr
+pub mod Found
+pub mod FoundExpr

@@ -20,6 +20,11 @@ pub fn selectors_have_no_fault()
     ensures { (text : List ℕ) (parts : List Part) → IsSelector text parts → faults text ≡ [] }
 {}
 
+/// A text without faults is a selector.
+pub fn no_fault_is_a_selector()
+    ensures { (text : List ℕ) → faults text ≡ [] → (parts : List Part) × IsSelector text parts }
+{}
+
 /// With `;*.none` behind it, a selector is one of no pairs.
 pub fn none_at_the_end()
     ensures { (text : List ℕ) (parts : List Part) → IsSelector text parts → Stays (text ++ codes ";*.none") false }

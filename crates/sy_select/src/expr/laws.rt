@@ -51,3 +51,8 @@ pub fn an_expression_has_no_fault()
 pub fn one_expression()
     ensures { (tree : ExprTree) (x y : Formula Test) → IsExpr tree x → IsExpr tree y → x ≡ y }
 {}
+
+/// A tree without faults is an expression.
+pub fn no_fault_is_an_expression()
+    ensures { (tree : ExprTree) → tree_faults tree ≡ [] → (x : Formula Test) × IsExpr tree x }
+{}
