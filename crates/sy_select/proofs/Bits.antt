@@ -1,7 +1,8 @@
 -- Severity sets bit by bit.
 use Rattle.std.proofs.Common.{◌≡◌, ℕ, zero, suc, ◌+◌, ◌-◌, ◌*◌, ◌^◌, ◌<◌, min, max, Bool, true, false, not, if◌then◌else◌, ◌==◌, nat_lt, inl, inr, refl, sym, arith, eq-eqb, bit_and, bit_or}
 use Rattle.std.specs.Int.{bit_at, w8}
-use Rattle.std.proofs.lemmas.Nat.{pow_pos}
+use Rattle.std.specs.Int.Bits.{and_lt}
+use Rattle.std.proofs.lemmas.Nat.{or_lt, pow_pos}
 use Rattle.std.proofs.lemmas.Bool.{cases_eq, cases_lt, le-ltb, lt-ltb, ne_eqb}
 use Rattle.std.proofs.lemmas.Nat.Bits.{and_pow, bit_at-lt, bit_at-pow_other, bit_at-pow_same, bit_at_and, bit_at_not, bit_at_ones, bit_at_ones_above, bit_at_or}
 use Rattle.bitflags.specs.Sets.{without}
@@ -60,3 +61,11 @@ ones_up_to mask n s e =
 
 pub all_ones : (mask s : ℕ) → mask ≡ 255 → s < 8 → has_bit mask s ≡ true
 all_ones mask s e within = rw (e, bit_at_ones 8 s within) refl
+
+-- ---- bytes stay bytes
+
+pub more_is_small : (old mask new : ℕ) → old < 2 ^ 8 → mask < 2 ^ 8 → new ≡ bit_or old mask → new < 2 ^ 8
+more_is_small old mask new p q e = rw e (or_lt 8 old mask p q)
+
+pub less_is_small : (old mask new : ℕ) → old < 2 ^ 8 → new ≡ without 8 old mask → new < 2 ^ 8
+less_is_small old mask new p e = rw e (and_lt 8 old (2 ^ 8 - 1 - mask) p (omega arith))

@@ -42,13 +42,13 @@ level_away whole text takes mask (inr e) t m = record {
   same = λ s within. all_ones mask s m within;
 }
 
-abbrev named_level : ℕ → Bool → Bool → Level
+abbrev pub named_level : ℕ → Bool → Bool → Level
 named_level severity false false = add (up_to severity)
 named_level severity false true = add (only severity)
 named_level severity true false = take_away (up_to severity)
 named_level severity true true = take_away (only severity)
 
-is_level : (text unsigned name : List ℕ) (severity : ℕ) (takes alone : Bool) → severity_of name ≡ Some severity → text ≡ (if takes then 33 ∷ unsigned else unsigned) → unsigned ≡ (if alone then 61 ∷ name else name) → IsLevel text (named_level severity takes alone)
+pub is_level : (text unsigned name : List ℕ) (severity : ℕ) (takes alone : Bool) → severity_of name ≡ Some severity → text ≡ (if takes then 33 ∷ unsigned else unsigned) → unsigned ≡ (if alone then 61 ∷ name else name) → IsLevel text (named_level severity takes alone)
 is_level text unsigned name severity false false e p q = rw (p, q) (named e)
 is_level text unsigned name severity false true e p q = rw (p, q) (equal e)
 is_level text unsigned name severity true false e p q = rw (p, q) (not_named e)

@@ -13,3 +13,6 @@ pub mod Numbers
 pub mod Chains
 pub mod ExprLaws
 pub mod OneReading
+pub mod OneExpr
+pub mod Found
+pub mod FoundExpr

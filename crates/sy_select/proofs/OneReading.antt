@@ -10,7 +10,7 @@ use Rattle.sy_select.proofs.GrammarLaws.{lacks_in_part, lacks_other, name_has_no
 use Rattle.sy_select.proofs.NameLaws.{facility_alphanumeric, none_alphanumeric, severity_alphanumeric}
 use Rattle.sy_select.proofs.SelectorLaws.{one_more}
 
-same_some : {A : Type 0} (a b : A) → Some a ≡ Some b → a ≡ b
+pub same_some : {A : Type 0} (a b : A) → Some a ≡ Some b → a ≡ b
 same_some a b e = cc
 
 -- ---- facilities

@@ -1,5 +1,5 @@
 -- Selectors part by part.
-use Rattle.std.proofs.Common.{◌≡◌, ℕ, ◌<◌, Bool, true, false, not, ◌&&◌, if◌then◌else◌, List, [], ◌∷◌, ◌++◌, Some, None, refl, sym, ◌∙◌, append_assoc, zero, suc, get_or}
+use Rattle.std.proofs.Common.{◌≡◌, ℕ, ◌<◌, ◌^◌, Bool, true, false, not, ◌&&◌, if◌then◌else◌, List, [], ◌∷◌, ◌++◌, Some, None, refl, sym, ◌∙◌, append_assoc, zero, suc, get_or, length, slice_index, arith}
 use Rattle.std.proofs.Math.ListN.{replicate}
 use Rattle.std.proofs.lemmas.Nat.Bits.{bit_at-zero}
 use Rattle.std.specs.List.{flat_map}
@@ -10,20 +10,27 @@ use Rattle.sy_select.specs.Reading.{at, has_bit, ReadsPart, Refuses}
 use Rattle.sy_select.specs.Selectors.{apply, holds, IsSelector, IsSetOf, last, more, no_pairs, Part, pairs_of, SamePairs}
 use Rattle.sy_select.proofs.Cutting.{first_piece, pieces_last, pieces_more}
 
+abbrev pub AreSmall : List ℕ → Type 0
+AreSmall sets = (f : ℕ) → f < 24 → slice_index sets f < 2 ^ 8
+
 -- What stands before the rest are parts, and these their pairs.
 pub record PartsSoFar (text rest sets : List ℕ) : Type 0 where
   pub parts : List Part
   pub right : flat_map (part_faults text) (pieces 59 rest) ≡ flat_map (part_faults text) (pieces 59 text)
   pub goes_on : (others : List Part) → IsSelector rest others → IsSelector text (parts ++ others)
+  pub size : length sets ≡ 24
+  pub small : AreSmall sets
   pub same : SamePairs sets (pairs_of parts)
 
 -- the sets after a part, by what the code says of it
-abbrev pub Applies : List Bool → Bool → ℕ → List ℕ → List ℕ → Type 0
-Applies table takes mask old new = (f s : ℕ) → f < 24 → s < 8 → holds new f s ≡ (if at table f && has_bit mask s then not takes else holds old f s)
+pub record Applies (table : List Bool) (takes : Bool) (mask : ℕ) (old new : List ℕ) : Type 0 where
+  pub size : length new ≡ 24
+  pub small : (f : ℕ) → f < 24 → slice_index old f < 2 ^ 8 → slice_index new f < 2 ^ 8
+  pub pairs : (f s : ℕ) → f < 24 → s < 8 → holds new f s ≡ (if at table f && has_bit mask s then not takes else holds old f s)
 
-pub parts_start : (text sets : List ℕ) → ((f s : ℕ) → f < 24 → s < 8 → holds sets f s ≡ false) → PartsSoFar text text sets
+pub parts_start : (text sets : List ℕ) → length sets ≡ 24 → AreSmall sets → ((f s : ℕ) → f < 24 → s < 8 → holds sets f s ≡ false) → PartsSoFar text text sets
 unfolding pairs_of
-parts_start text sets none = record { parts = []; right = refl; goes_on = λ others h. h; same = none }
+parts_start text sets size small none = record { parts = []; right = refl; goes_on = λ others h. h; size = size; small = small; same = none }
 
 pub one_more : (parts : List Part) (part : Part) → pairs_of (parts ++ part ∷ []) ≡ apply (pairs_of parts) part
 unfolding pairs_of
@@ -31,7 +38,7 @@ one_more parts part = fold-append apply no_pairs parts (part ∷ [])
 
 pairs_more : (whole text : List ℕ) (table : List Bool) (takes : Bool) (mask : ℕ) (parts : List Part) (old new : List ℕ) (r : ReadsPart whole text table takes mask) → SamePairs old (pairs_of parts) → Applies table takes mask old new → SamePairs new (pairs_of (parts ++ r.part ∷ []))
 pairs_more whole text table takes mask parts old new r same applies f s p q =
-    rw (one_more parts r.part, applies f s p q, r.facilities f p, r.severities s q, r.takes_is, same f s p q) refl
+    rw (one_more parts r.part, applies.pairs f s p q, r.facilities f p, r.severities s q, r.takes_is, same f s p q) refl
 
 pub parts_more : (text rest front behind : List ℕ) (table : List Bool) (takes : Bool) (mask : ℕ) (old new : List ℕ) → PartsSoFar text rest old → ReadsPart text front table takes mask
     → front ≡ (cut 59 rest).0 → Some behind ≡ (cut 59 rest).1 → Applies table takes mask old new → PartsSoFar text behind new
@@ -45,6 +52,8 @@ parts_more text rest front behind table takes mask old new so_far r f b applies 
           let step : flat_map (part_faults text) (pieces 59 rest) ≡ flat_map (part_faults text) (pieces 59 behind) = rw (split, r.right) refl in
           sym step ∙ so_far.right;
       goes_on = λ others h. rw append_assoc (so_far.goes_on (r.part ∷ others) (rw whole (more front r.is h)));
+      size = applies.size;
+      small = λ f within. applies.small f within (so_far.small f within);
       same = pairs_more text front table takes mask so_far.parts old new r so_far.same applies;
     }
 
@@ -59,6 +68,8 @@ parts_done text rest front table takes mask old new so_far r f b applies =
       record {
         parts = so_far.parts ++ r.part ∷ [];
         is_selector = so_far.goes_on (r.part ∷ []) (rw whole (last r.is));
+        size = applies.size;
+        small = λ f within. applies.small f within (so_far.small f within);
         same = pairs_more text front table takes mask so_far.parts old new r so_far.same applies;
       },
       sym so_far.right ∙ step,
@@ -87,5 +98,8 @@ at_zero (suc n ∷ xs) f e = cc
 pub none_held : (sets : List ℕ) → all_zero sets ≡ true → (f s : ℕ) → f < 24 → s < 8 → holds sets f s ≡ false
 none_held sets e f s p q = rw (at_zero sets f e, bit_at-zero s) refl
 
+all_small : (sets : List ℕ) → all_zero sets ≡ true → AreSmall sets
+all_small sets e f within = rw (at_zero sets f e) (omega arith)
+
 pub parts_start_empty : (text : List ℕ) (n : ℕ) → n ≡ 0 → PartsSoFar text text (replicate 24 n)
-parts_start_empty text n e = parts_start text (replicate 24 n) (none_held (replicate 24 n) (rw e refl))
+parts_start_empty text n e = rw e (parts_start text (replicate 24 0) refl (all_small (replicate 24 0) refl) (none_held (replicate 24 0) refl))

@@ -2,7 +2,7 @@
 --   selector = part *(";" part)
 --   part     = ("*" | facility *("," facility)) "." level
 --   level    = "*" | "none" | ["!"] ["="] severity | "!*"
-use Rattle.std.specs.Prelude.{◌≡◌, ℕ, Bool, true, false, not, ◌||◌, ◌&&◌, if◌then◌else◌, ◌==◌, nat_lt, ◌+◌, ◌<◌, List, slice_index, [], ◌∷◌, ◌++◌, Some, codes}
+use Rattle.std.specs.Prelude.{◌≡◌, ℕ, Bool, true, false, not, ◌||◌, ◌&&◌, if◌then◌else◌, ◌==◌, nat_lt, ◌+◌, ◌<◌, ◌^◌, List, length, slice_index, [], ◌∷◌, ◌++◌, Some, codes}
 use Rattle.std.specs.Int.{bit_at}
 use Rattle.std.specs.List.{fold}
 use Rattle.std.specs.Str.{str_eq_ignore_ascii_case}
@@ -110,8 +110,10 @@ holds sets f s = bit_at (slice_index sets f) s == 1
 abbrev pub SamePairs : List ℕ → Pairs → Type 0
 SamePairs sets pairs = (f s : ℕ) → f < 24 → s < 8 → holds sets f s ≡ pairs f s
 
--- the text is a selector, and these are the pairs of its parts
+-- the text is a selector, and these are the sets of the 24 facilities, each of the 8 severities, with the pairs of its parts
 pub record IsSetOf (text sets : List ℕ) : Type 0 where
   pub parts : List Part
   pub is_selector : IsSelector text parts
+  pub size : length sets ≡ 24
+  pub small : (f : ℕ) → f < 24 → slice_index sets f < 2 ^ 8
   pub same : SamePairs sets (pairs_of parts)

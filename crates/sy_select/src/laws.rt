@@ -3,16 +3,26 @@
 ghost use Rattle.std.specs.Prelude.{◌≡◌, [], ◌++◌, ℕ, List, false, true, codes};
 ghost use Rattle.sy_select.specs.Faults.{faults};
 ghost use Rattle.sy_select.specs.Laws.{Stays};
-ghost use Rattle.sy_select.specs.Selectors.{Part, IsSelector};
+ghost use Rattle.sy_select.specs.Selectors.{Part, IsSelector, IsSetOf};
 
 /// A text has at most one list of parts.
 pub fn one_list_of_parts()
     ensures { (text : List ℕ) (a b : List Part) → IsSelector text a → IsSelector text b → a ≡ b }
 {}
 
+/// A text has at most one set, as the numbers of its 24 severity sets.
+pub fn one_set()
+    ensures { (text a b : List ℕ) → IsSetOf text a → IsSetOf text b → a ≡ b }
+{}
+
 /// A selector has no fault.
 pub fn selectors_have_no_fault()
     ensures { (text : List ℕ) (parts : List Part) → IsSelector text parts → faults text ≡ [] }
+{}
+
+/// A text without faults is a selector.
+pub fn no_fault_is_a_selector()
+    ensures { (text : List ℕ) → faults text ≡ [] → (parts : List Part) × IsSelector text parts }
 {}
 
 /// With `;*.none` behind it, a selector is one of no pairs.

@@ -1,6 +1,6 @@
 //! Reads a part of a selector, and applies it.
 
-ghost use Rattle.std.specs.Prelude.{◌≡◌, ◌<◌, ◌&&◌, ℕ, not, if◌then◌else◌, IfOk, IfErr, map};
+ghost use Rattle.std.specs.Prelude.{◌≡◌, ◌<◌, ◌^◌, ◌&&◌, ℕ, not, if◌then◌else◌, IfOk, IfErr, length, map, slice_index};
 ghost use Rattle.std.specs.List.{flat_map};
 ghost use Rattle.sy_select.specs.Faults as spec;
 ghost use Rattle.sy_select.specs.Reading.{Refuses, Lists, ReadsFacilities, ReadsPart, at, has_bit};
@@ -69,7 +69,9 @@ pub fn read_part<'a>(whole: &'a [u8], text: &'a [u8]) -> Result<Part, Refusal<'a
 impl Part {
     /// Adds the part's pairs to the severity sets of the facilities, or takes them away.
     pub fn apply(&self, sets: &mut [Severities; 24])
-        ensures { (f s : ℕ) → f < 24 → s < 8 → holds (map (λ x. x.0) sets.new) f s ≡ (if at self.now.facilities f && has_bit self.now.level.severities.0 s then not self.now.level.takes else holds (map (λ x. x.0) sets.old) f s) }
+        ensures size { length (map (λ x. x.0) sets.new) ≡ 24 }
+        ensures small { (f : ℕ) → f < 24 → slice_index (map (λ x. x.0) sets.old) f < 2 ^ 8 → slice_index (map (λ x. x.0) sets.new) f < 2 ^ 8 }
+        ensures pairs { (f s : ℕ) → f < 24 → s < 8 → holds (map (λ x. x.0) sets.new) f s ≡ (if at self.now.facilities f && has_bit self.now.level.severities.0 s then not self.now.level.takes else holds (map (λ x. x.0) sets.old) f s) }
     {
         for facility in 0..24 {
             if self.facilities[facility] {

@@ -101,7 +101,8 @@ pub struct Level {
 impl Level {
     /// Adds the severities to a set, or takes them away.
     pub fn apply(self, set: &mut Severities)
-        ensures { (s : ℕ) → s < 8 → (bit_at set.new.0 s == 1) ≡ (if bit_at self.severities.0 s == 1 then not self.takes else bit_at set.old.0 s == 1) }
+        ensures small { set.old.0 < 2 ^ 8 → set.new.0 < 2 ^ 8 }
+        ensures pairs { (s : ℕ) → s < 8 → (bit_at set.new.0 s == 1) ≡ (if bit_at self.severities.0 s == 1 then not self.takes else bit_at set.old.0 s == 1) }
     {
         if self.takes {
             set.remove(self.severities);

@@ -46,3 +46,13 @@ pub fn texts_by_their_parts()
 pub fn an_expression_has_no_fault()
     ensures { (tree : ExprTree) (x : Formula Test) → IsExpr tree x → tree_faults tree ≡ [] }
 {}
+
+/// A tree is at most one expression.
+pub fn one_expression()
+    ensures { (tree : ExprTree) (x y : Formula Test) → IsExpr tree x → IsExpr tree y → x ≡ y }
+{}
+
+/// A tree without faults is an expression.
+pub fn no_fault_is_an_expression()
+    ensures { (tree : ExprTree) → tree_faults tree ≡ [] → (x : Formula Test) × IsExpr tree x }
+{}

@@ -3,7 +3,9 @@
 
 ghost use Rattle.std.specs.Prelude.{◌<◌};
 
+mod bytes;
 mod chains;
+mod class_texts;
 mod faults;
 mod memory;
 mod numbers;

@@ -15,10 +15,10 @@ pub parts-smaller : goal.parts-smaller
 parts-smaller c = shorter_behind 59 c.parts.rest.now c.in-Some.parts.now (rw c.in-Some.is at c.first_part.ensures.behind)
 
 pub parts-preserved : goal.parts-preserved
-parts-preserved c = parts_more c.args.text.now c.parts.rest.now c.first_part.result.0.now c.in-Some.parts.now _ _ _ _ _ c.parts.invariant c.in_ok-part.ensures.ok c.first_part.ensures.front (rw c.in-Some.is at c.first_part.ensures.behind) c.apply.ensures
+parts-preserved c = parts_more c.args.text.now c.parts.rest.now c.first_part.result.0.now c.in-Some.parts.now _ _ _ _ _ c.parts.invariant c.in_ok-part.ensures.ok c.first_part.ensures.front (rw c.in-Some.is at c.first_part.ensures.behind) (record { size = c.apply.ensures.size; small = c.apply.ensures.small; pairs = c.apply.ensures.pairs })
 
 pub returns-in-None-clause-ok : goal.returns-in-None-clause-ok
-returns-in-None-clause-ok c = (parts_done c.args.text.now c.parts.rest.now c.first_part.result.0.now _ _ _ _ _ c.parts.invariant c.in_ok-part.ensures.ok c.first_part.ensures.front (rw c.in-None.is at c.first_part.ensures.behind) c.apply.ensures).0
+returns-in-None-clause-ok c = (parts_done c.args.text.now c.parts.rest.now c.first_part.result.0.now _ _ _ _ _ c.parts.invariant c.in_ok-part.ensures.ok c.first_part.ensures.front (rw c.in-None.is at c.first_part.ensures.behind) (record { size = c.apply.ensures.size; small = c.apply.ensures.small; pairs = c.apply.ensures.pairs })).0
 
 pub returns-in-None-clause-right : goal.returns-in-None-clause-right
-returns-in-None-clause-right c = (parts_done c.args.text.now c.parts.rest.now c.first_part.result.0.now _ _ _ _ _ c.parts.invariant c.in_ok-part.ensures.ok c.first_part.ensures.front (rw c.in-None.is at c.first_part.ensures.behind) c.apply.ensures).1
+returns-in-None-clause-right c = (parts_done c.args.text.now c.parts.rest.now c.first_part.result.0.now _ _ _ _ _ c.parts.invariant c.in_ok-part.ensures.ok c.first_part.ensures.front (rw c.in-None.is at c.first_part.ensures.behind) (record { size = c.apply.ensures.size; small = c.apply.ensures.small; pairs = c.apply.ensures.pairs })).1
