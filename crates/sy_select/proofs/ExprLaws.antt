@@ -18,10 +18,10 @@ use Rattle.sy_select.specs.declared.property.Property.{Property}
 use Rattle.sy_select.specs.declared.verdict.Verdict.{Verdict}
 use Rattle.sy_select.specs.declared.verdict.Verdict.TheVariants.{Yes, No, Either}
 use Rattle.sy_script.specs.declared.tree.Comparison.{Comparison}
-use Rattle.sy_select.specs.Faults.{IsRefused, faults, no_memory}
+use Rattle.sy_select.specs.Faults.{IsFirst, IsRefusal, faults, no_memory}
 use Rattle.sy_select.specs.declared.fault.SelectFault.{SelectFault}
 use Rattle.sy_select.specs.Properties.{contains, kept, known, part_number, property_of, relates, says, test_by}
-use Rattle.sy_select.specs.Trees.{Written, all_faults, property_faults, test_faults, IsRefusal, IsTest, Means, Selects}
+use Rattle.sy_select.specs.Trees.{Written, all_faults, property_faults, test_faults, IsTest, Means, Selects}
 use Rattle.sy_select.specs.Truth.{Formula, Valuation, Agrees, Admits, Can, Must, IsVerdict, occurrences, opposite, truth, valuation}
 use Rattle.sy_select.proofs.GrammarLaws.{no_faults}
 use Rattle.sy_select.proofs.Contains.{begins, begun, contains_at, found}
@@ -142,9 +142,11 @@ pub for_memory : (found : List SelectFault) (fault : SelectFault) → found ≡ 
 for_memory found fault none (inl memory) = memory
 for_memory found fault none (inr first) = let e = first.1 in absurd cc
 
-pub refused_selector : (text : List ℕ) (fault : SelectFault) → IsRefused text fault → IsRefusal (faults text) fault
-refused_selector text fault r =
-    elim r.answered [
-      | inl same ↦ let first = r.is_first in inr (first.0, first.1 ∙ ap (λ f. f ∷ first.0) (sym same))
-      | inr memory ↦ inl memory
-    ]
+-- the first of one fault and of none behind it
+same_first : (a b : SelectFault) (later : List SelectFault) → a ∷ [] ≡ b ∷ later → a ≡ b
+same_first a b later e = cc
+
+-- the answer for the first fault is one for all of them
+pub refused_for : (found : List SelectFault) (fault answer : SelectFault) → IsFirst found fault → IsRefusal (fault ∷ []) answer → IsRefusal found answer
+refused_for found fault answer first (inl memory) = inl memory
+refused_for found fault answer first (inr one) = inr (first.0, first.1 ∙ ap (λ f. f ∷ first.0) (same_first fault answer one.0 one.1))

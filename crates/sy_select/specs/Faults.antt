@@ -83,19 +83,13 @@ part_faults whole part = facilities_faults whole (cut 46 part).0 ++ behind_dot w
 unfoldable pub faults : List ℕ → List SelectFault
 faults text = flat_map (part_faults text) (pieces 59 text)
 
--- the fault that a text is refused for: its first
-abbrev pub IsFirstFault : List ℕ → SelectFault → Type 0
-IsFirstFault text fault = (later : List SelectFault) × (faults text ≡ fault ∷ later)
-
 abbrev pub no_memory : SelectFault
 no_memory = record { code = code.NoMemory; word = [] }
 
--- what is answered for a fault: the fault, or that there is no memory for its word
-abbrev pub IsAnswered : SelectFault → SelectFault → Type 0
-IsAnswered fault answer = (answer ≡ fault) ⊎ (answer ≡ no_memory)
+-- these faults begin with this one
+abbrev pub IsFirst : List SelectFault → SelectFault → Type 0
+IsFirst found fault = (later : List SelectFault) × (found ≡ fault ∷ later)
 
--- the text is refused for its first fault
-pub record IsRefused (text : List ℕ) (answer : SelectFault) : Type 0 where
-  pub fault : SelectFault
-  pub is_first : IsFirstFault text fault
-  pub answered : IsAnswered fault answer
+-- what is answered for these faults: the first, or that there is no memory
+abbrev pub IsRefusal : List SelectFault → SelectFault → Type 0
+IsRefusal found answer = (answer ≡ no_memory) ⊎ IsFirst found answer

@@ -1,5 +1,5 @@
 -- The expression that a tree of a script is, and the faults of one that is none, in the order of the text.
-use Rattle.std.specs.Prelude.{◌≡◌, ◌⊎◌, ℕ, List, [], ◌∷◌, ◌++◌, Option, Some, None}
+use Rattle.std.specs.Prelude.{◌≡◌, ℕ, List, [], ◌∷◌, ◌++◌, Option, Some, None}
 use Rattle.sy_script.specs.declared.tree.Comparison.{Comparison}
 use Rattle.sy_script.specs.declared.tree.ExprTree.{ExprTree}
 use Rattle.sy_script.specs.declared.tree.ExprTree.TheOpen.{ExprTree-F}
@@ -10,7 +10,7 @@ use Rattle.sy_select.specs.declared.condition.Test.TheVariants as test
 use Rattle.sy_select.specs.declared.fault.FaultCode.TheVariants as code
 use Rattle.sy_select.specs.declared.fault.SelectFault.{SelectFault}
 use Rattle.sy_select.specs.declared.property.Property.{Property}
-use Rattle.sy_select.specs.Faults.{faults, no_memory}
+use Rattle.sy_select.specs.Faults.{faults}
 use Rattle.sy_select.specs.Selectors.{IsSetOf}
 use Rattle.sy_select.specs.Properties.{property_of, test_of, comparison_test}
 use Rattle.sy_select.specs.Truth.{Formula, any, all}
@@ -61,14 +61,6 @@ all_faults Formula.Always = []
 
 abbrev pub tree_faults : ExprTree → List SelectFault
 tree_faults x = all_faults (written x)
-
--- these faults begin with this one
-abbrev pub IsFirst : List SelectFault → SelectFault → Type 0
-IsFirst found fault = (later : List SelectFault) × (found ≡ fault ∷ later)
-
--- what is answered in place of an expression: its first fault, or that there is no memory
-abbrev pub IsRefusal : List SelectFault → SelectFault → Type 0
-IsRefusal found answer = (answer ≡ no_memory) ⊎ IsFirst found answer
 
 -- ---- what is read
 

@@ -41,8 +41,8 @@ impl Model for Expr {
 impl Expr {
     ghost use Rattle.std.specs.Prelude.{◌≡◌, [], IfOk, IfErr};
     ghost use Rattle.sy_select.specs.declared.condition.Test.{Test};
-    ghost use Rattle.sy_select.specs.Faults.{no_memory};
-    ghost use Rattle.sy_select.specs.Trees.{IsExpr, IsRefusal, tree_faults};
+    ghost use Rattle.sy_select.specs.Faults.{IsRefusal, no_memory};
+    ghost use Rattle.sy_select.specs.Trees.{IsExpr, tree_faults};
     ghost use Rattle.sy_select.specs.Truth.{Formula};
 
     /// Reads the expression of a script's tree. It goes as deep as the tree nests.

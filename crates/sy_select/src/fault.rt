@@ -1,6 +1,6 @@
 //! What may be wrong with a selector or an expression.
 
-ghost use Rattle.std.specs.Prelude.{◌≡◌};
+ghost use Rattle.std.specs.Prelude.{◌≡◌, [], ◌∷◌};
 ghost use Rattle.sy_select.specs.Faults as spec;
 
 use std::alloc::Global;
@@ -59,7 +59,7 @@ impl SelectFault {
 
     /// A fault with a copy of its word, or the one of memory where the copy finds none.
     pub fn new(alloc: Global, code: FaultCode, word: &[u8]) -> SelectFault
-        ensures { spec.IsAnswered (record { code = code; word = word.now }) result }
+        ensures { spec.IsRefusal (record { code = code; word = word.now } ∷ []) result }
     {
         match Items::from_slice(alloc, word) {
             Ok(word) => SelectFault { code, word },

@@ -2,7 +2,7 @@
 ghost use Rattle.std.specs.Prelude.{◌≡◌, [], map, IfOk, IfErr};
 ghost use Rattle.sy_select.specs.Nodes.{formula};
 ghost use Rattle.sy_select.specs.Properties as spec;
-ghost use Rattle.sy_select.specs.Faults.{faults, no_memory};
+ghost use Rattle.sy_select.specs.Faults.{IsRefusal, faults, no_memory};
 ghost use Rattle.sy_select.specs.Truth.{any};
 ghost use Rattle.sy_select.specs.Trees as trees;
 
@@ -105,7 +105,7 @@ fn test_of(
 fn comparison(alloc: Global, comparison: &Comparison) -> Result<Test, SelectFault>
     ensures ok { IfOk result (λ test. spec.comparison_test comparison.now ≡ Some test) }
     ensures right { IfOk result (λ test. trees.comparison_faults comparison.now ≡ []) }
-    ensures err { IfErr result (λ fault. trees.IsRefusal (trees.comparison_faults comparison.now) fault) }
+    ensures err { IfErr result (λ fault. IsRefusal (trees.comparison_faults comparison.now) fault) }
 {
     let name = comparison.property.text.as_slice();
     let Some(property) = property_of(name) else {
@@ -123,7 +123,7 @@ fn comparison(alloc: Global, comparison: &Comparison) -> Result<Test, SelectFaul
 fn selected(alloc: Global, text: &[u8]) -> Result<Test, SelectFault>
     ensures ok { IfOk result (λ test. trees.Selects text.now test) }
     ensures right { IfOk result (λ test. faults text.now ≡ []) }
-    ensures err { IfErr result (λ fault. trees.IsRefusal (faults text.now) fault) }
+    ensures err { IfErr result (λ fault. IsRefusal (faults text.now) fault) }
 {
     let selector = Selector::read(alloc, text)?;
     Ok(Test::Class(ClassTest::Selected(selector)))
@@ -144,7 +144,7 @@ fn boxed(alloc: Global, node: Node) -> Result<Boxed<Node>, SelectFault>
 fn nodes(alloc: Global, parts: &[ExprTree]) -> Result<Items<Node>, SelectFault>
     ensures ok { IfOk result (λ nodes. trees.Means (any (map trees.written parts.now)) (any (map formula nodes))) }
     ensures right { IfOk result (λ nodes. trees.all_faults (any (map trees.written parts.now)) ≡ []) }
-    ensures err { IfErr result (λ fault. trees.IsRefusal (trees.all_faults (any (map trees.written parts.now))) fault) }
+    ensures err { IfErr result (λ fault. IsRefusal (trees.all_faults (any (map trees.written parts.now))) fault) }
 {
     let mut nodes = Items::new(alloc);
     for part in parts {
@@ -161,7 +161,7 @@ fn nodes(alloc: Global, parts: &[ExprTree]) -> Result<Items<Node>, SelectFault>
 pub fn node(alloc: Global, tree: &ExprTree) -> Result<Node, SelectFault>
     ensures ok { IfOk result (λ node. trees.Means (trees.written tree.now) (formula node)) }
     ensures right { IfOk result (λ node. trees.all_faults (trees.written tree.now) ≡ []) }
-    ensures err { IfErr result (λ fault. trees.IsRefusal (trees.all_faults (trees.written tree.now)) fault) }
+    ensures err { IfErr result (λ fault. IsRefusal (trees.all_faults (trees.written tree.now)) fault) }
 {
     match tree {
         ExprTree::Or(parts) => {

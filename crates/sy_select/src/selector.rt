@@ -65,7 +65,7 @@ impl Selector {
         // Each selector is read.
         ensures only { (parts : List Part) → IsSelector text.now parts → IsOk result }
         // Any other text is refused for the first of its faults, or for want of the memory that the fault's word takes.
-        ensures refused { IfErr result (λ fault. spec.IsRefused text.now fault) }
+        ensures refused { IfErr result (λ fault. spec.IsRefusal (spec.faults text.now) fault) }
     {
         match sets_of(text) {
             Ok(sets) => Ok(Selector { sets }),
