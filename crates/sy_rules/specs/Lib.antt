@@ -7,3 +7,10 @@ pub mod Outline
 pub mod ItemViews
 pub mod ItemFaults
 pub mod Plans
+pub mod Texts
+pub mod Steps
+pub mod Work
+pub mod Lines
+pub mod ScriptFaults
+pub mod PlanValue
+pub mod Tables

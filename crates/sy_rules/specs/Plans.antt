@@ -1,5 +1,5 @@
 -- The parts of a plan, by the items of the text: which object gives which input, queue, worker, action and list, and their numbers.
-use Rattle.std.specs.Prelude.{ℕ, ◌+◌, if◌then◌else◌, List, [], ◌∷◌, ◌++◌, length, Option, Some, None, replicate, codes}
+use Rattle.std.specs.Prelude.{ℕ, ◌+◌, Bool, true, false, if◌then◌else◌, List, [], ◌∷◌, ◌++◌, length, map, Option, Some, None, is_some, replicate, codes}
 use Rattle.std.specs.Fmt.{decimal}
 use Rattle.std.specs.List.{filter_map}
 use Rattle.std.specs.Str.{bytes_eq}
@@ -98,3 +98,48 @@ place_of name (n ∷ names) = if bytes_eq name n then Some 0 else one_more (plac
 
 abbrev pub default_ruleset : List ℕ
 default_ruleset = codes "RSYSLOG_DefaultRuleset"
+
+-- the list of the ruleset that this name means: the default one, or one of the file (in a plan there is one)
+abbrev pub list_at_place : Option ℕ → ℕ
+list_at_place None = 0
+list_at_place (Some place) = place + 1
+
+abbrev pub ruleset_names : List Item → List (List ℕ)
+ruleset_names items = map (λ r. r.name) (rulesets_of items)
+
+abbrev pub list_of_input : List Item → Option (List ℕ) → ℕ
+list_of_input items None = 0
+list_of_input items (Some name) = list_at_place (place_of name (ruleset_names items))
+
+-- ---- the queue of each list, where it has one of its own
+
+abbrev pub is_ruleset : Item → Bool
+is_ruleset (Item.Ruleset params) = true
+is_ruleset _ = false
+
+-- the queue that an item gives, where queues with smaller numbers than this stand before it
+abbrev pub queue_here : ℕ → Item → Option ℕ
+queue_here number x = if is_some (queue_at x) then Some number else None
+
+abbrev pub queue_behind : ℕ → Item → ℕ
+queue_behind number x = if is_some (queue_at x) then number + 1 else number
+
+-- one for each ruleset
+abbrev pub ruleset_queues : ℕ → List Item → List (Option ℕ)
+ruleset_queues number [] = []
+ruleset_queues number (x ∷ later) =
+    if is_ruleset x then queue_here number x ∷ ruleset_queues (queue_behind number x) later else ruleset_queues (queue_behind number x) later
+
+abbrev pub is_queued_action : Item → Bool
+is_queued_action (Item.Action params) = is_some (queue_at (Item.Action params))
+is_queued_action _ = false
+
+-- one for each action that has a queue
+abbrev pub action_queues : ℕ → List Item → List (Option ℕ)
+action_queues number [] = []
+action_queues number (x ∷ later) =
+    if is_queued_action x then Some number ∷ action_queues (queue_behind number x) later else action_queues (queue_behind number x) later
+
+-- those of all lists; the default ruleset has none of its own
+abbrev pub list_queues : List Item → List (Option ℕ)
+list_queues items = None ∷ (ruleset_queues 1 items ++ action_queues 1 items)

@@ -6,13 +6,18 @@ pub mod fault;
 mod item_check;
 pub mod kind;
 pub mod objects;
+pub mod occurrence;
 mod outline;
 pub mod parameters;
+pub mod parts;
+mod step;
 mod table;
 mod values;
 
 pub use fault::{FaultCode, PlanFault};
 pub use kind::Kind;
+pub use occurrence::Occurrence;
+pub use parts::{Action, Input};
 
 #[cfg(test)]
 mod tests;

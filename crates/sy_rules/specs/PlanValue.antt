@@ -1,0 +1,94 @@
+-- A plan as a value, and the plan of a script.
+use Rattle.std.specs.Prelude.{◌≡◌, ℕ, ◌+◌, List, [], ◌∷◌, map, Option, Some, None, slice_get}
+use Rattle.std.specs.List.{filter_map}
+use Rattle.sy_script.specs.declared.tree.ExprTree.{ExprTree}
+use Rattle.sy_script.specs.declared.tree.Script.{Script}
+use Rattle.sy_select.specs.declared.condition.Test.{Test}
+use Rattle.sy_select.specs.Trees.{IsExpr}
+use Rattle.sy_select.specs.Truth.{Formula}
+use Rattle.sy_rules.specs.declared.objects.ActionParameters.{ActionParameters}
+use Rattle.sy_rules.specs.declared.objects.InputParameters.{InputParameters}
+use Rattle.sy_rules.specs.declared.parameters.QueueParameters.{QueueParameters}
+use Rattle.sy_rules.specs.declared.parts.Input.{Input}
+use Rattle.sy_rules.specs.declared.parts.Action.{Action}
+use Rattle.sy_rules.specs.Lines.{File, Lines, lists_of, steps_of}
+use Rattle.sy_rules.specs.Outline.{Item, items}
+use Rattle.sy_rules.specs.Plans.{inputs_of, rulesets_of, actions_of, action_name, list_of_input, list_queues, queues_of, workers_of}
+use Rattle.sy_rules.specs.Steps.{Steps}
+use Rattle.sy_rules.specs.Texts.{parts}
+
+-- what a list is
+pub record Listed : Type 0 where
+  -- its expanded text
+  pub steps : Steps
+  -- the queue that leads to it, where it has one of its own
+  pub queue : Option ℕ
+
+pub record Plan : Type 0 where
+  pub inputs : List Input
+  pub queues : List QueueParameters
+  -- the queue of each worker
+  pub workers : List ℕ
+  pub actions : List Action
+  pub lists : List Listed
+
+-- ---- the parts
+
+abbrev pub queue_or_main : Option (Option ℕ) → ℕ
+queue_or_main (Some (Some queue)) = queue
+queue_or_main _ = 0
+
+-- an input puts into the queue of its list, or else into queue 0
+abbrev pub input_part : List Item → InputParameters → Input
+input_part all i = record {
+  port = i.port;
+  flow = i.flow;
+  list = list_of_input all i.ruleset_name;
+  queue = queue_or_main (slice_get (list_queues all) (list_of_input all i.ruleset_name));
+}
+
+abbrev pub action_part : ℕ → ActionParameters → Action
+action_part number a = record {
+  name = action_name number a.name;
+  device = a.device;
+  retry = a.retry;
+  resume_interval = a.resume_interval;
+}
+
+abbrev pub action_parts : ℕ → List ActionParameters → List Action
+action_parts number [] = []
+action_parts number (a ∷ later) = action_part number a ∷ action_parts (number + 1) later
+
+-- ---- the tests
+
+abbrev pub test_of_item : Item → Option ExprTree
+test_of_item (Item.Test tree) = Some tree
+test_of_item _ = None
+
+abbrev pub AreExprs : List ExprTree → List (Formula Test) → Type 0
+AreExprs [] [] = Unit {0}
+AreExprs [] (x ∷ xs) = ⊥
+AreExprs (t ∷ trees) [] = ⊥
+AreExprs (t ∷ trees) (x ∷ xs) = IsExpr t x × AreExprs trees xs
+
+-- ---- the plan of a script
+
+abbrev pub file_of : List Item → List (Formula Test) → File
+file_of all tests = record { rulesets = rulesets_of all; actions = actions_of all; tests = tests }
+
+abbrev pub lines_of : Script → List (Formula Test) → List Lines
+lines_of script tests = lists_of (file_of (items script) tests) (parts script.tops)
+
+-- lists from this number on, which have these queues
+abbrev pub listed_from : List Lines → ℕ → List (Option ℕ) → List Listed
+listed_from lines number [] = []
+listed_from lines number (queue ∷ later) = record { steps = steps_of lines number; queue = queue } ∷ listed_from lines (number + 1) later
+
+pub record IsPlan (script : Script) (plan : Plan) : Type 0 where
+  pub tests : List (Formula Test)
+  pub are_tests : AreExprs (filter_map test_of_item (items script)) tests
+  pub inputs : plan.inputs ≡ map (input_part (items script)) (inputs_of (items script))
+  pub queues : plan.queues ≡ queues_of (items script)
+  pub workers : plan.workers ≡ workers_of (items script)
+  pub actions : plan.actions ≡ action_parts 0 (actions_of (items script))
+  pub lists : plan.lists ≡ listed_from (lines_of script tests) 0 (list_queues (items script))

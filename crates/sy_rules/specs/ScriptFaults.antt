@@ -1,0 +1,163 @@
+-- What is wrong with a script that is read and is no plan: each fault by itself, in the order of the text.
+use Rattle.std.specs.Prelude.{ℕ, ◌+◌, ◌==◌, Bool, true, false, not, ◌||◌, nat_le, nat_lt, List, [], ◌∷◌, ◌++◌, length, Option, Some, None, map, sum, codes}
+use Rattle.std.specs.Fmt.{decimal}
+use Rattle.std.specs.List.{list_any}
+use Rattle.std.specs.Str.{bytes_eq}
+use Rattle.sy_script.specs.declared.tree.ObjectKind.TheVariants as object
+use Rattle.sy_script.specs.declared.tree.Script.{Script}
+use Rattle.sy_select.specs.declared.fault.FaultCode.{FaultCode as SelectCode}
+use Rattle.sy_select.specs.declared.fault.FaultCode.TheVariants as select
+use Rattle.sy_select.specs.declared.fault.SelectFault.{SelectFault}
+use Rattle.sy_select.specs.Trees.{tree_faults}
+use Rattle.sy_rules.specs.declared.fault.FaultCode.{FaultCode}
+use Rattle.sy_rules.specs.declared.fault.FaultCode.TheVariants as code
+use Rattle.sy_rules.specs.declared.fault.PlanFault.{PlanFault}
+use Rattle.sy_rules.specs.declared.objects.InputParameters.{InputParameters}
+use Rattle.sy_rules.specs.declared.objects.Module.{Module}
+use Rattle.sy_rules.specs.declared.objects.Module.TheVariants as modules
+use Rattle.sy_rules.specs.Faults.{fault, when}
+use Rattle.sy_rules.specs.Objects.{module_of, input_of, ruleset_of, kind_of_action, action_of}
+use Rattle.sy_rules.specs.ItemFaults.{object_faults}
+use Rattle.sy_rules.specs.Outline.{Item, items}
+use Rattle.sy_rules.specs.Plans.{inputs_of, rulesets_of, actions_of, action_name, action_names, queues_of, default_ruleset}
+use Rattle.sy_rules.specs.Texts.{parts}
+use Rattle.sy_rules.specs.Steps as steps
+use Rattle.sy_rules.specs.Lines.{File, Lines, lists_of, is_deeper, steps_of, statements_of, CALL_DEPTH}
+
+-- ---- limits of a relay
+
+abbrev pub INPUTS : ℕ
+INPUTS = 64
+
+abbrev pub RULESETS : ℕ
+RULESETS = 256
+
+abbrev pub ACTIONS : ℕ
+ACTIONS = 256
+
+abbrev pub WORKERS : ℕ
+WORKERS = 256
+
+abbrev pub OCCURRENCES : ℕ
+OCCURRENCES = 64
+
+abbrev pub STATEMENTS : ℕ
+STATEMENTS = 65536
+
+-- ---- faults among the items
+
+abbrev pub is_main_queue : Item → Bool
+is_main_queue (Item.Object object.MainQueue params) = true
+is_main_queue _ = false
+
+-- a second main queue
+abbrev pub second_main_queue : List Item → List PlanFault
+second_main_queue before = when (list_any is_main_queue before) (fault code.Duplicate (codes "main_queue"))
+
+abbrev pub is_imtcp : Module → Bool
+is_imtcp modules.Imtcp = true
+is_imtcp _ = false
+
+abbrev pub loads_imtcp : Item → Bool
+loads_imtcp (Item.Object object.Module params) = is_imtcp (module_of params)
+loads_imtcp _ = false
+
+-- an input whose module is loaded nowhere in the file
+abbrev pub not_loaded : List Item → List PlanFault
+not_loaded all = when (not (list_any loads_imtcp all)) (fault code.NotLoaded (codes "imtcp"))
+
+abbrev pub too_many : ℕ → ℕ → List ℕ → List PlanFault
+too_many most before word = when (nat_le most before) (fault code.Range word)
+
+abbrev pub ruleset_names_of : List Item → List (List ℕ)
+ruleset_names_of all = map (λ r. r.name) (rulesets_of all)
+
+abbrev pub is_among : List ℕ → List (List ℕ) → Bool
+is_among name names = list_any (bytes_eq name) names
+
+-- an input may name the default ruleset, or one of the file
+abbrev pub unknown_ruleset : List Item → Option (List ℕ) → List PlanFault
+unknown_ruleset all None = []
+unknown_ruleset all (Some name) = when (not (is_among name (default_ruleset ∷ ruleset_names_of all))) (fault code.Unknown name)
+
+abbrev pub has_port : ℕ → InputParameters → Bool
+has_port port i = i.port == port
+
+-- the word is the port's number
+abbrev pub same_port : List Item → ℕ → List PlanFault
+same_port before port = when (list_any (has_port port) (inputs_of before)) (fault code.SamePort (decimal port))
+
+abbrev pub input_faults : List Item → List Item → InputParameters → List PlanFault
+input_faults all before i =
+    too_many INPUTS (length (inputs_of before)) (codes "input")
+    ++ (not_loaded all ++ (unknown_ruleset all i.ruleset_name ++ same_port before i.port))
+
+-- the name of an earlier ruleset, or of the default one
+abbrev pub ruleset_faults : List Item → List ℕ → List PlanFault
+ruleset_faults before name =
+    too_many RULESETS (length (rulesets_of before)) (codes "ruleset")
+    ++ when (is_among name (default_ruleset ∷ ruleset_names_of before)) (fault code.Duplicate name)
+
+abbrev pub action_faults : List Item → Option (List ℕ) → List PlanFault
+action_faults before name =
+    too_many ACTIONS (length (actions_of before)) (codes "action")
+    ++ when (is_among (action_name (length (actions_of before)) name) (action_names before)) (fault code.Duplicate (action_name (length (actions_of before)) name))
+
+-- a call of a ruleset that isn't there, or of the default one
+abbrev pub call_faults : List Item → List ℕ → List PlanFault
+call_faults all name = when (not (is_among name (ruleset_names_of all))) (fault code.Unknown name)
+
+-- the faults of expressions have the same names here
+abbrev pub code_of : SelectCode → FaultCode
+code_of select.Facility = code.Facility
+code_of select.Severity = code.Severity
+code_of select.Shape = code.Shape
+code_of select.Operator = code.Operator
+code_of select.Unknown = code.Unknown
+code_of select.NoMemory = code.NoMemory
+
+abbrev pub as_plan_fault : SelectFault → PlanFault
+as_plan_fault f = fault (code_of f.code) f.word
+
+-- what is wrong with an item among the others: all the items of the file, and those before it
+abbrev pub faults_among : List Item → List Item → Item → List PlanFault
+faults_among all before (Item.Object object.MainQueue params) = second_main_queue before
+faults_among all before (Item.Object object.Input params) = input_faults all before (input_of params)
+faults_among all before (Item.Object object.Module params) = []
+faults_among all before (Item.Object object.Global params) = []
+faults_among all before (Item.Ruleset params) = ruleset_faults before (ruleset_of params).name
+faults_among all before (Item.Action params) = action_faults before (action_of (kind_of_action params) params).name
+faults_among all before (Item.Call name) = call_faults all name
+faults_among all before (Item.Test test) = map as_plan_fault (tree_faults test)
+
+-- those of the items behind others: each item's own, then those among the others
+abbrev pub faults_behind : List Item → List Item → List Item → List PlanFault
+faults_behind all before [] = []
+faults_behind all before (x ∷ later) = object_faults x ++ (faults_among all before x ++ faults_behind all (before ++ x ∷ []) later)
+
+-- ---- faults of the whole
+
+abbrev pub too_many_workers : List Item → List PlanFault
+too_many_workers all = when (nat_lt WORKERS (sum (map (λ q. q.workers) (queues_of all)))) (fault code.Range (codes "queue.workerThreads"))
+
+-- a list with calls that lie too deep in one another, or above its limits
+abbrev pub list_faults : List Lines → List ℕ → ℕ → List PlanFault
+list_faults lists name l =
+    when (is_deeper lists CALL_DEPTH l) (fault code.CallDepth name)
+    ++ when (nat_lt STATEMENTS (statements_of lists l) || nat_lt OCCURRENCES (steps.count (steps_of lists l))) (fault code.TooManyStatements name)
+
+-- those of the lists from this one on, which have these names
+abbrev pub faults_of_lists : List Lines → ℕ → List (List ℕ) → List PlanFault
+faults_of_lists lists l [] = []
+faults_of_lists lists l (name ∷ names) = list_faults lists name l ++ faults_of_lists lists (l + 1) names
+
+-- what the file says without its tests, on which none of these faults depends
+abbrev pub untested : List Item → File
+untested all = record { rulesets = rulesets_of all; actions = actions_of all; tests = [] }
+
+-- All faults of a script: those of its items in the order of the text, then too many workers, then those of its lists in their order.
+abbrev pub faults_of : Script → List PlanFault
+faults_of script =
+    faults_behind (items script) [] (items script)
+    ++ (too_many_workers (items script)
+    ++ faults_of_lists (lists_of (untested (items script)) (parts script.tops)) 0 (default_ruleset ∷ ruleset_names_of (items script)))

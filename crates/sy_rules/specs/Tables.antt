@@ -1,0 +1,36 @@
+-- The lines that a table of steps stands for, and the numbers that its occurrences have there.
+use Rattle.std.specs.Prelude.{◌≡◌, ℕ, zero, suc, ◌+◌, List, [], ◌∷◌, length, take, drop, slice_get, unwrap_or}
+use Rattle.sy_select.specs.declared.condition.Test.{Test}
+use Rattle.sy_select.specs.Truth.{Formula}
+use Rattle.sy_rules.specs.declared.step.Step.{Step}
+use Rattle.sy_rules.specs.declared.step.Step.TheVariants as step
+use Rattle.sy_rules.specs.Lines.{Lines}
+
+abbrev pub test_of : List (Formula Test) → ℕ → Formula Test
+test_of tests number = unwrap_or (slice_get tests number) Formula.Never
+
+-- the lines of a table of at most so many steps
+abbrev pub lines_within : List (Formula Test) → ℕ → List Step → Lines
+lines_within tests zero steps = Lines.End
+lines_within tests (suc most) [] = Lines.End
+lines_within tests (suc most) (step.Run action number ∷ rest) = Lines.Run action (lines_within tests most rest)
+lines_within tests (suc most) (step.Post list number ∷ rest) = Lines.Post list (lines_within tests most rest)
+lines_within tests (suc most) (step.Call list number ∷ rest) = Lines.Call list (lines_within tests most rest)
+lines_within tests (suc most) (step.Stop ∷ rest) = Lines.Stop (lines_within tests most rest)
+lines_within tests (suc most) (step.If test done otherwise ∷ rest) =
+    Lines.If (test_of tests test)
+      (lines_within tests most (take done rest))
+      (lines_within tests most (take otherwise (drop done rest)))
+      (lines_within tests most (drop otherwise (drop done rest)))
+
+abbrev pub lines_of_table : List (Formula Test) → List Step → Lines
+lines_of_table tests steps = lines_within tests (length steps) steps
+
+-- The occurrences of a table are numbered from this number on in the order of the text, those of a called list in its place.
+abbrev pub AreNumbered : (ℕ → ℕ) → ℕ → List Step → Type 0
+AreNumbered count number [] = Unit {0}
+AreNumbered count number (step.Run action n ∷ rest) = (n ≡ number) × AreNumbered count (number + 1) rest
+AreNumbered count number (step.Post list n ∷ rest) = (n ≡ number) × AreNumbered count (number + 1) rest
+AreNumbered count number (step.Call list n ∷ rest) = (n ≡ number) × AreNumbered count (number + count list) rest
+AreNumbered count number (step.Stop ∷ rest) = AreNumbered count number rest
+AreNumbered count number (step.If test done otherwise ∷ rest) = AreNumbered count number rest

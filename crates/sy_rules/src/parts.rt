@@ -1,0 +1,29 @@
+//! The parts of a plan.
+
+use crate::objects::Device;
+use crate::parameters::FlowControl;
+use sy_script::Items;
+
+/// An input of a relay.
+#[derive(Clone, Copy, Debug, PartialEq, Eq)]
+pub struct Input {
+    /// 1 to 65,535; inputs are named by it
+    pub port: u16,
+    pub flow: FlowControl,
+    /// the list that its messages execute
+    pub list: u32,
+    /// the queue that they are put into
+    pub queue: u32,
+}
+
+/// An action of a relay.
+#[derive(Debug, Drop)]
+pub struct Action {
+    /// as given, or `action-N` by its number
+    pub name: Items<u8>,
+    pub device: Device,
+    /// How often a failed message is tried again; none where without end.
+    pub retry: Option<u32>,
+    /// how long to wait after a failure, in seconds
+    pub resume_interval: u32,
+}
