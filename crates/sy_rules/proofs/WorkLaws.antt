@@ -1,0 +1,126 @@
+-- What a text executes: its own occurrences, and what stands behind it.
+use Rattle.std.proofs.Common.{◌≡◌, ◌⊎◌, inl, inr, ◌<◌, ◌≤◌, ◌+◌, ◌||◌, ◌==◌, if◌then◌else◌, ℕ, suc, Bool, true, false, List, ◌++◌, length, refl, sym, ap, ◌∙◌, arith, drop}
+use Rattle.std.proofs.lemmas.Bool.{eqb-true, true≢false}
+use Rattle.std.proofs.lemmas.List.{length-append, append_assoc, drop-drop}
+use Rattle.std.proofs.lemmas.List.Folds.{list_any-append}
+use Rattle.sy_wire.specs.Messages.{Said}
+use Rattle.sy_select.specs.declared.condition.Test.{Test}
+use Rattle.sy_select.specs.Truth as truth
+use Rattle.sy_select.specs.Truth.{Valuation, behind, valuation}
+use Rattle.sy_select.proofs.ExprLaws.{admitted}
+use Rattle.sy_rules.specs.Steps.{Steps, Walk, ◌⧺◌, ◌then◌, count, occurrences, tests, walk, executed, is_in, one}
+use Rattle.sy_rules.specs.Work.{May, Must, work, valuation_of}
+
+-- ---- what a walk executes
+
+-- these numbers
+abbrev pub Within : ℕ → ℕ → Walk → Type 0
+Within from upto w = (k : ℕ) → is_in k w.executed ≡ true → (from ≤ k) × (k < upto)
+
+either : (a b : Bool) → (a || b) ≡ true → (a ≡ true) ⊎ (b ≡ true)
+either true b h = inl refl
+either false b h = inr h
+
+in_either : (k : ℕ) (xs ys : List ℕ) → is_in k (xs ++ ys) ≡ true → (is_in k xs ≡ true) ⊎ (is_in k ys ≡ true)
+in_either k xs ys h = either (is_in k xs) (is_in k ys) (sym (list_any-append (λ n. n == k) xs ys) ∙ h)
+
+in_then : (k : ℕ) (xs : List ℕ) (goes_on : Bool) (b : Walk) → is_in k ((record { executed = xs; goes_on = goes_on }) then b).executed ≡ true → (is_in k xs ≡ true) ⊎ (is_in k b.executed ≡ true)
+in_then k xs true b h = in_either k xs b.executed h
+in_then k xs false b h = inl h
+
+within_then : (f u v : ℕ) (a b : Walk) → Within f u a → Within u v b → f ≤ u → u ≤ v → Within f v (a then b)
+within_then f u v a b ha hb fu uv k h =
+    elim (in_then k a.executed a.goes_on b h) [
+        inl left ↦ (let p = ha k left in (p.0, omega arith))
+      | inr right ↦ (let p = hb k right in (omega arith, p.1)) ]
+
+within_more : (f g u v : ℕ) (a : Walk) → Within g u a → f ≤ g → u ≤ v → Within f v a
+within_more f g u v a h fg uv k is = let p = h k is in (omega arith, omega arith)
+
+within_one : (n : ℕ) → Within n (n + 1) (one n)
+within_one n k h =
+    elim (either (n == k) false h) [
+        inl same ↦ (let e : n ≡ k = eqb-true n k same in (omega arith, omega arith))
+      | inr apart ↦ absurd (true≢false (sym apart)) ]
+
+within_choice : (f u : ℕ) (b : Bool) (x y : Walk) → Within f u x → Within f u y → Within f u (if b then x else y)
+within_choice f u true x y hx hy = hx
+within_choice f u false x y hx hy = hy
+
+none : (f u : ℕ) (k : ℕ) → false ≡ true → (f ≤ k) × (k < u)
+none f u k h = absurd (true≢false (sym h))
+
+pub within : (s : Steps) (n : ℕ) (v : Valuation) → Within n (n + count s) (walk s n v)
+within Steps.End n v = none n (n + 0)
+within (Steps.Run a rest) n v = within_then n (n + 1) (n + suc (count rest)) (one n) (walk rest (n + 1) v) (within_one n) (within_more (n + 1) (n + 1) (n + 1 + count rest) (n + suc (count rest)) (walk rest (n + 1) v) (within rest (n + 1) v) (omega arith) (omega arith)) (omega arith) (omega arith)
+within (Steps.Post l rest) n v = within_then n (n + 1) (n + suc (count rest)) (one n) (walk rest (n + 1) v) (within_one n) (within_more (n + 1) (n + 1) (n + 1 + count rest) (n + suc (count rest)) (walk rest (n + 1) v) (within rest (n + 1) v) (omega arith) (omega arith)) (omega arith) (omega arith)
+within (Steps.Stop rest) n v = none n (n + count rest)
+within (Steps.If x done otherwise rest) n v =
+    let b = truth.truth x v in
+    let first = walk done n (behind (truth.occurrences x) v) in
+    let second = walk otherwise (n + count done) (behind (truth.occurrences x ++ tests done) v) in
+    let next = walk rest (n + count done + count otherwise) (behind (truth.occurrences x ++ (tests done ++ tests otherwise)) v) in
+    let l = length-append (occurrences done) (occurrences otherwise ++ occurrences rest) in
+    let m = length-append (occurrences otherwise) (occurrences rest) in
+    let e : count (Steps.If x done otherwise rest) ≡ count done + (count otherwise + count rest) = l ∙ ap (λ j. count done + j) m in
+    let choice : Within n (n + count done + count otherwise) (if b then first else second)
+          = within_choice n (n + count done + count otherwise) b first second
+              (within_more n n (n + count done) (n + count done + count otherwise) first (within done n (behind (truth.occurrences x) v)) (omega arith) (omega arith))
+              (within_more n (n + count done) (n + count done + count otherwise) (n + count done + count otherwise) second (within otherwise (n + count done) (behind (truth.occurrences x ++ tests done) v)) (omega arith) (omega arith)) in
+    within_then n (n + count done + count otherwise) (n + count (Steps.If x done otherwise rest)) (if b then first else second) next choice
+      (within_more (n + count done + count otherwise) (n + count done + count otherwise) (n + count done + count otherwise + count rest) (n + count (Steps.If x done otherwise rest)) next
+        (within rest (n + count done + count otherwise) (behind (truth.occurrences x ++ (tests done ++ tests otherwise)) v)) (omega arith) (omega arith))
+      (omega arith) (omega arith)
+
+pub of_the_list : (s : Steps) (v : Valuation) (k : ℕ) → is_in k (executed s v) ≡ true → k < count s
+of_the_list s v k h = let p = within s 0 v k h in omega arith
+
+-- ---- a class and its messages
+
+pub must_work : (s : Steps) (m : Said) (k : ℕ) → Must s m.facility m.severity k → is_in k (work s m) ≡ true
+must_work s m k must = must (valuation_of s m) (admitted m (tests s))
+
+pub work_may : (s : Steps) (m : Said) (k : ℕ) → is_in k (work s m) ≡ true → May s m.facility m.severity k
+work_may s m k h = record { values = valuation_of s m; admitted = admitted m (tests s); executes = h }
+
+pub may_of_the_list : (s : Steps) (facility severity k : ℕ) → May s facility severity k → k < count s
+may_of_the_list s f sev k may = of_the_list s may.values k may.executes
+
+-- ---- a text behind another
+
+by_both : (goes_on : Bool) (xs ys : List ℕ) (c : Walk) → (record { executed = xs ++ ys; goes_on = goes_on }) then c ≡ (record { executed = xs; goes_on = true }) then ((record { executed = ys; goes_on = goes_on }) then c)
+by_both true xs ys c = ap (λ zs. record { executed = zs; goes_on = c.goes_on }) (append_assoc xs ys c.executed)
+by_both false xs ys c = refl
+
+by_first : (goes_on : Bool) (xs : List ℕ) (b c : Walk) → ((record { executed = xs; goes_on = goes_on }) then b) then c ≡ (record { executed = xs; goes_on = goes_on }) then (b then c)
+by_first true xs b c = by_both b.goes_on xs b.executed c
+by_first false xs b c = refl
+
+pub more_then : (a b c : Walk) → (a then b) then c ≡ a then (b then c)
+more_then a b c = by_first a.goes_on a.executed b c
+
+pub behind_behind : (xs ys : List Test) (v : Valuation) → behind ys (behind xs v) ≡ behind (xs ++ ys) v
+behind_behind xs ys v = drop-drop (length ys) (length xs) v ∙ ap (λ k. drop k v) (sym (length-append xs ys))
+
+step : (a b : Walk) (s t : Steps) (n m k : ℕ) (v w u : Valuation) → b ≡ walk s n v then walk t m w → m ≡ k → w ≡ u → a then b ≡ (a then walk s n v) then walk t k u
+step a b s t n m k v w u e f g = ap (λ r. a then r) e ∙ sym (more_then a (walk s n v) (walk t m w)) ∙ ap (λ j. (a then walk s n v) then walk t j w) f ∙ ap (λ x. (a then walk s n v) then walk t k x) g
+
+pub follows : (s t : Steps) (n : ℕ) (v : Valuation) → walk (s ⧺ t) n v ≡ walk s n v then walk t (n + count s) (behind (tests s) v)
+follows Steps.End t n v = ap (λ k. walk t k v) {x = n} {y = n + 0} (omega arith)
+follows (Steps.Run a rest) t n v = step (one n) (walk (rest ⧺ t) (n + 1) v) rest t (n + 1) (n + 1 + count rest) (n + suc (count rest)) v (behind (tests rest) v) (behind (tests rest) v) (follows rest t (n + 1) v) (omega arith) refl
+follows (Steps.Post l rest) t n v = step (one n) (walk (rest ⧺ t) (n + 1) v) rest t (n + 1) (n + 1 + count rest) (n + suc (count rest)) v (behind (tests rest) v) (behind (tests rest) v) (follows rest t (n + 1) v) (omega arith) refl
+follows (Steps.Stop rest) t n v = refl
+follows (Steps.If x done otherwise rest) t n v =
+    let next = n + count done + count otherwise in
+    let seen = truth.occurrences x ++ (tests done ++ tests otherwise) in
+    let chosen = (if truth.truth x v then walk done n (behind (truth.occurrences x) v) else walk otherwise (n + count done) (behind (truth.occurrences x ++ tests done) v)) in
+    let l = length-append (occurrences done) (occurrences otherwise ++ occurrences rest) in
+    let m = length-append (occurrences otherwise) (occurrences rest) in
+    let e : count (Steps.If x done otherwise rest) ≡ count done + (count otherwise + count rest) = l ∙ ap (λ j. count done + j) m in
+    let numbers : next + count rest ≡ n + count (Steps.If x done otherwise rest) = omega arith in
+    let joined : seen ++ tests rest ≡ truth.occurrences x ++ (tests done ++ (tests otherwise ++ tests rest))
+          = append_assoc (truth.occurrences x) (tests done ++ tests otherwise) (tests rest) ∙ ap (λ ts. truth.occurrences x ++ ts) (append_assoc (tests done) (tests otherwise) (tests rest)) in
+    let values : behind (tests rest) (behind seen v) ≡ behind (truth.occurrences x ++ (tests done ++ (tests otherwise ++ tests rest))) v
+          = behind_behind seen (tests rest) v ∙ ap (λ ts. behind ts v) joined in
+    step chosen (walk (rest ⧺ t) next (behind seen v)) rest t next (next + count rest) (n + count (Steps.If x done otherwise rest)) (behind seen v) (behind (tests rest) (behind seen v)) (behind (truth.occurrences x ++ (tests done ++ (tests otherwise ++ tests rest))) v)
+      (follows rest t next (behind seen v)) numbers values

@@ -1,0 +1,5 @@
+use Rattle.sy_rules.proofs.WorkLaws.{follows}
+use Rattle.sy_rules.proofs.laws.texts_follow.Goals as goal
+
+pub returns : goal.returns
+returns c = follows
