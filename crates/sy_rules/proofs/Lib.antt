@@ -3,3 +3,4 @@ pub mod Fits
 pub mod Ranges
 pub mod WorkLaws
 pub mod CallLaws
+pub mod OnePlan

@@ -2,6 +2,8 @@
 ghost use Rattle.std.specs.Prelude.{◌≡◌, ◌+◌, ◌<◌, ℕ, true, false, List};
 ghost use Rattle.sy_wire.specs.Messages.{Said};
 ghost use Rattle.sy_select.specs.Truth.{Valuation, behind};
+ghost use Rattle.sy_script.specs.declared.tree.Script.{Script};
+ghost use Rattle.sy_rules.specs.PlanValue.{IsPlan, Plan};
 ghost use Rattle.sy_rules.specs.Lines.{Lines, expand, expanded, is_deeper, list_at};
 ghost use Rattle.sy_rules.specs.Steps.{Steps, ◌then◌, ◌⧺◌, count, is_in, tests, walk};
 ghost use Rattle.sy_rules.specs.Work.{May, Must, work};
@@ -31,4 +33,9 @@ pub fn texts_follow()
 /// expanded text of the called list.
 pub fn calls_are_replaced()
     ensures { (lists : List Lines) (depth l : ℕ) → is_deeper lists depth l ≡ false → expanded lists depth l ≡ expand (expanded lists depth) (list_at lists l) }
+{}
+
+/// A script has one plan at most.
+pub fn one_plan()
+    ensures { (script : Script) (p q : Plan) → IsPlan script p → IsPlan script q → p ≡ q }
 {}

@@ -1,0 +1,5 @@
+use Rattle.sy_rules.proofs.OnePlan.{one_plan}
+use Rattle.sy_rules.proofs.laws.one_plan.Goals as goal
+
+pub returns : goal.returns
+returns c = one_plan
