@@ -1,9 +1,11 @@
 -- What calls become.
-use Rattle.std.proofs.Common.{◌≡◌, ◌||◌, ℕ, zero, suc, Bool, true, false, List, ◌++◌, refl, sym, ap, ◌∙◌}
+use Rattle.std.proofs.Common.{◌≡◌, inl, inr, ◌||◌, ◌==◌, ◌+◌, ℕ, zero, suc, Bool, true, false, List, [], ◌∷◌, ◌++◌, length, refl, sym, ap, ◌∙◌, arith}
 use Rattle.std.specs.List.{list_any}
-use Rattle.std.proofs.lemmas.Bool.{true≢false}
+use Rattle.std.proofs.lemmas.Bool.{eqb-true, true≢false}
 use Rattle.std.proofs.lemmas.List.Folds.{list_any-append}
-use Rattle.sy_rules.specs.Steps.{Steps, ◌⧺◌}
+use Rattle.sy_rules.specs.Laws.{IsChain}
+use Rattle.sy_rules.specs.Steps.{Steps, ◌⧺◌, is_in}
+use Rattle.sy_rules.proofs.WorkLaws.{either, here, there, there_by}
 use Rattle.sy_rules.specs.Lines.{Lines, calls, expand, expanded, is_deeper, list_at}
 
 -- ---- a test that none of a list meets
@@ -39,3 +41,35 @@ same_text p f g same (Lines.If x done otherwise rest) h =
 pub replaced : (lists : List Lines) (depth l : ℕ) → is_deeper lists depth l ≡ false → expanded lists depth l ≡ expand (expanded lists depth) (list_at lists l)
 replaced lists zero l h = same_text (λ callee. true) (λ callee. Steps.End) (expanded lists zero) (λ callee t. absurd (true≢false t)) (list_at lists l) h
 replaced lists (suc depth) l h = same_text (is_deeper lists depth) (expanded lists depth) (expanded lists (suc depth)) (λ callee no. replaced lists depth callee no) (list_at lists l) h
+
+-- ---- calls that lie too deep are a chain of calls, and the other way round
+
+found : (p : ℕ → Bool) (xs : List ℕ) → list_any p xs ≡ true → (x : ℕ) × (is_in x xs ≡ true) × (p x ≡ true)
+found p [] h = absurd (true≢false (sym h))
+found p (x ∷ xs) h = elim (either (p x) (list_any p xs) h) [
+    inl met ↦ (x, here x xs, met)
+  | inr later ↦ (let f = found p xs later in (f.0, there f.0 x xs f.1, f.2)) ]
+
+any_of : (p : ℕ → Bool) (xs : List ℕ) (x : ℕ) → is_in x xs ≡ true → p x ≡ true → list_any p xs ≡ true
+any_of p [] x i h = absurd (true≢false (sym i))
+any_of p (y ∷ ys) x i h = elim (either (y == x) (is_in x ys) i) [
+    inl same ↦ ap (λ b. b || list_any p ys) (ap p (eqb-true y x same) ∙ h)
+  | inr later ↦ there_by (p y) (list_any p ys) (any_of p ys x later h) ]
+
+abbrev Chain : List Lines → ℕ → ℕ → Type 0
+Chain lists n l = (callees : List ℕ) × (length callees ≡ n) × IsChain lists l callees
+
+one_more : (n : ℕ) → suc (n + 1) ≡ suc n + 1
+one_more n = omega arith
+
+pub chain_of : (lists : List Lines) (depth l : ℕ) → is_deeper lists depth l ≡ true → Chain lists (depth + 1) l
+chain_of lists zero l h = let f = found (λ callee. true) (calls (list_at lists l)) h in (f.0 ∷ [], refl, (f.1, tt))
+chain_of lists (suc depth) l h =
+    let f = found (is_deeper lists depth) (calls (list_at lists l)) h in
+    let c = chain_of lists depth f.0 f.2 in
+    (f.0 ∷ c.0, ap suc c.1 ∙ one_more depth, (f.1, c.2))
+
+pub deep_by : (lists : List Lines) (depth l : ℕ) (callees : List ℕ) → length callees ≡ depth + 1 → IsChain lists l callees → is_deeper lists depth l ≡ true
+deep_by lists depth l [] long chain = absurd (omega arith)
+deep_by lists zero l (c ∷ cs) long chain = any_of (λ callee. true) (calls (list_at lists l)) c chain.0 refl
+deep_by lists (suc depth) l (c ∷ cs) long chain = any_of (is_deeper lists depth) (calls (list_at lists l)) c chain.0 (deep_by lists depth c cs (omega arith) chain.1)

@@ -1,13 +1,16 @@
 -- What a text executes: its own occurrences, and what stands behind it.
-use Rattle.std.proofs.Common.{◌≡◌, ◌⊎◌, inl, inr, ◌<◌, ◌≤◌, ◌+◌, ◌||◌, ◌==◌, if◌then◌else◌, ℕ, suc, Bool, true, false, List, ◌++◌, length, refl, sym, ap, ◌∙◌, arith, drop}
-use Rattle.std.proofs.lemmas.Bool.{eqb-true, true≢false}
+use Rattle.std.proofs.Common.{◌≡◌, ◌⊎◌, inl, inr, ◌<◌, ◌≤◌, ◌+◌, ◌||◌, ◌==◌, if◌then◌else◌, ℕ, suc, Bool, true, false, List, [], ◌∷◌, ◌++◌, length, drop, refl, sym, ap, ◌∙◌, arith}
+use Rattle.std.proofs.lemmas.Bool.{eq-eqb, eqb-true, true≢false}
 use Rattle.std.proofs.lemmas.List.{length-append, append_assoc, drop-drop}
 use Rattle.std.proofs.lemmas.List.Folds.{list_any-append}
 use Rattle.sy_wire.specs.Messages.{Said}
 use Rattle.sy_select.specs.declared.condition.Test.{Test}
+use Rattle.sy_select.specs.Properties.{known}
 use Rattle.sy_select.specs.Truth as truth
 use Rattle.sy_select.specs.Truth.{Valuation, behind, valuation}
-use Rattle.sy_select.proofs.ExprLaws.{admitted}
+use Rattle.sy_select.proofs.ExprLaws.{admitted, some_valuation}
+use Rattle.sy_rules.specs.declared.occurrence.Occurrence.TheVariants as occurrence
+use Rattle.sy_rules.specs.Laws.{IsRising}
 use Rattle.sy_rules.specs.Steps.{Steps, Walk, ◌⧺◌, ◌then◌, count, occurrences, tests, walk, executed, is_in, one}
 use Rattle.sy_rules.specs.Work.{May, Must, work, valuation_of}
 
@@ -17,7 +20,7 @@ use Rattle.sy_rules.specs.Work.{May, Must, work, valuation_of}
 abbrev pub Within : ℕ → ℕ → Walk → Type 0
 Within from upto w = (k : ℕ) → is_in k w.executed ≡ true → (from ≤ k) × (k < upto)
 
-either : (a b : Bool) → (a || b) ≡ true → (a ≡ true) ⊎ (b ≡ true)
+pub either : (a b : Bool) → (a || b) ≡ true → (a ≡ true) ⊎ (b ≡ true)
 either true b h = inl refl
 either false b h = inr h
 
@@ -124,3 +127,93 @@ follows (Steps.If x done otherwise rest) t n v =
           = behind_behind seen (tests rest) v ∙ ap (λ ts. behind ts v) joined in
     step chosen (walk (rest ⧺ t) next (behind seen v)) rest t next (next + count rest) (n + count (Steps.If x done otherwise rest)) (behind seen v) (behind (tests rest) (behind seen v)) (behind (truth.occurrences x ++ (tests done ++ (tests otherwise ++ tests rest))) v)
       (follows rest t next (behind seen v)) numbers values
+
+-- where a text stops, nothing behind it is executed
+stops : (xs : List ℕ) (goes_on : Bool) (b : Walk) → goes_on ≡ false → (record { executed = xs; goes_on = goes_on }) then b ≡ record { executed = xs; goes_on = goes_on }
+stops xs true b h = absurd (true≢false h)
+stops xs false b h = refl
+
+pub stopped_there : (s t : Steps) (n : ℕ) (v : Valuation) → (walk s n v).goes_on ≡ false → walk (s ⧺ t) n v ≡ walk s n v
+stopped_there s t n v h = follows s t n v ∙ stops (walk s n v).executed (walk s n v).goes_on (walk t (n + count s) (behind (tests s) v)) h
+
+-- ---- what stands in a text and in one behind it
+
+pub joined_occurrences : (s t : Steps) → occurrences (s ⧺ t) ≡ occurrences s ++ occurrences t
+joined_occurrences Steps.End t = refl
+joined_occurrences (Steps.Run a rest) t = ap (λ os. occurrence.Run a ∷ os) (joined_occurrences rest t)
+joined_occurrences (Steps.Post l rest) t = ap (λ os. occurrence.Post l ∷ os) (joined_occurrences rest t)
+joined_occurrences (Steps.Stop rest) t = joined_occurrences rest t
+joined_occurrences (Steps.If x done otherwise rest) t =
+    ap (λ os. occurrences done ++ (occurrences otherwise ++ os)) (joined_occurrences rest t)
+    ∙ ap (λ os. occurrences done ++ os) (sym (append_assoc (occurrences otherwise) (occurrences rest) (occurrences t)))
+    ∙ sym (append_assoc (occurrences done) (occurrences otherwise ++ occurrences rest) (occurrences t))
+
+pub joined_tests : (s t : Steps) → tests (s ⧺ t) ≡ tests s ++ tests t
+joined_tests Steps.End t = refl
+joined_tests (Steps.Run a rest) t = joined_tests rest t
+joined_tests (Steps.Post l rest) t = joined_tests rest t
+joined_tests (Steps.Stop rest) t = joined_tests rest t
+joined_tests (Steps.If x done otherwise rest) t =
+    ap (λ ts. truth.occurrences x ++ (tests done ++ (tests otherwise ++ ts))) (joined_tests rest t)
+    ∙ ap (λ ts. truth.occurrences x ++ (tests done ++ ts)) (sym (append_assoc (tests otherwise) (tests rest) (tests t)))
+    ∙ ap (λ ts. truth.occurrences x ++ ts) (sym (append_assoc (tests done) (tests otherwise ++ tests rest) (tests t)))
+    ∙ sym (append_assoc (truth.occurrences x) (tests done ++ (tests otherwise ++ tests rest)) (tests t))
+
+-- ---- in rising order
+
+pub here : (n : ℕ) (ns : List ℕ) → is_in n (n ∷ ns) ≡ true
+here n ns = ap (λ b. b || is_in n ns) (eq-eqb n n refl)
+
+pub there_by : (a b : Bool) → b ≡ true → (a || b) ≡ true
+there_by true b h = refl
+there_by false b h = h
+
+pub there : (k n : ℕ) (ns : List ℕ) → is_in k ns ≡ true → is_in k (n ∷ ns) ≡ true
+there k n ns h = there_by (n == k) (is_in k ns) h
+
+above : (n : ℕ) (xs ys : List ℕ) (u : ℕ) → n < u → ((k : ℕ) → is_in k xs ≡ true → n < k) → ((k : ℕ) → is_in k ys ≡ true → u ≤ k) → (k : ℕ) → is_in k (xs ++ ys) ≡ true → n < k
+above n xs ys u nu a b k h =
+    elim (in_either k xs ys h) [
+        inl left ↦ a k left
+      | inr right ↦ (let l = b k right in omega arith) ]
+
+rising_joined : (xs ys : List ℕ) (u : ℕ) → IsRising xs → IsRising ys → ((k : ℕ) → is_in k xs ≡ true → k < u) → ((k : ℕ) → is_in k ys ≡ true → u ≤ k) → IsRising (xs ++ ys)
+rising_joined [] ys u rx ry a b = ry
+rising_joined (x ∷ xs) ys u rx ry a b =
+    (above x xs ys u (a x (here x xs)) rx.0 b, rising_joined xs ys u rx.1 ry (λ k h. a k (there k x xs h)) b)
+
+rising_then : (xs : List ℕ) (goes_on : Bool) (b : Walk) (u : ℕ) → IsRising xs → IsRising b.executed → ((k : ℕ) → is_in k xs ≡ true → k < u) → ((k : ℕ) → is_in k b.executed ≡ true → u ≤ k) → IsRising ((record { executed = xs; goes_on = goes_on }) then b).executed
+rising_then xs true b u rx rb hx hb = rising_joined xs b.executed u rx rb hx hb
+rising_then xs false b u rx rb hx hb = rx
+
+rising_choice : (b : Bool) (x y : Walk) → IsRising x.executed → IsRising y.executed → IsRising (if b then x else y).executed
+rising_choice true x y hx hy = hx
+rising_choice false x y hx hy = hy
+
+alone : (n : ℕ) → IsRising (n ∷ [])
+alone n = (λ k h. absurd (true≢false (sym h)), tt)
+
+pub rising : (s : Steps) (n : ℕ) (v : Valuation) → IsRising (walk s n v).executed
+rising Steps.End n v = tt
+rising (Steps.Run a rest) n v = rising_then (n ∷ []) true (walk rest (n + 1) v) (n + 1) (alone n) (rising rest (n + 1) v) (λ k h. (within_one n k h).1) (λ k h. (within rest (n + 1) v k h).0)
+rising (Steps.Post l rest) n v = rising_then (n ∷ []) true (walk rest (n + 1) v) (n + 1) (alone n) (rising rest (n + 1) v) (λ k h. (within_one n k h).1) (λ k h. (within rest (n + 1) v k h).0)
+rising (Steps.Stop rest) n v = tt
+rising (Steps.If x done otherwise rest) n v =
+    let b = truth.truth x v in
+    let first = walk done n (behind (truth.occurrences x) v) in
+    let second = walk otherwise (n + count done) (behind (truth.occurrences x ++ tests done) v) in
+    let u = n + count done + count otherwise in
+    let next = walk rest u (behind (truth.occurrences x ++ (tests done ++ tests otherwise)) v) in
+    let choice : Within n u (if b then first else second)
+          = within_choice n u b first second
+              (within_more n n (n + count done) u first (within done n (behind (truth.occurrences x) v)) (omega arith) (omega arith))
+              (within_more n (n + count done) u u second (within otherwise (n + count done) (behind (truth.occurrences x ++ tests done) v)) (omega arith) (omega arith)) in
+    rising_then (if b then first else second).executed (if b then first else second).goes_on next u
+      (rising_choice b first second (rising done n (behind (truth.occurrences x) v)) (rising otherwise (n + count done) (behind (truth.occurrences x ++ tests done) v)))
+      (rising rest u (behind (truth.occurrences x ++ (tests done ++ tests otherwise)) v))
+      (λ k h. (choice k h).1)
+      (λ k h. (within rest u (behind (truth.occurrences x ++ (tests done ++ tests otherwise)) v) k h).0)
+
+-- what every admitted valuation executes some admitted one executes, since there is one
+pub must_may : (s : Steps) (facility severity k : ℕ) → Must s facility severity k → May s facility severity k
+must_may s f sev k must = let some = some_valuation (known f sev) (tests s) in record { values = some.0; admitted = some.1; executes = must some.0 some.1 }

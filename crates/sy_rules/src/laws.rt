@@ -1,16 +1,22 @@
 //! Laws of lists and of what they execute. Each function does nothing; its contract is the law.
-ghost use Rattle.std.specs.Prelude.{◌≡◌, ◌+◌, ◌<◌, ℕ, true, false, List};
+ghost use Rattle.std.specs.Prelude.{◌≡◌, ◌+◌, ◌++◌, ◌<◌, ℕ, true, false, List, length};
 ghost use Rattle.sy_wire.specs.Messages.{Said};
 ghost use Rattle.sy_select.specs.Truth.{Valuation, behind};
 ghost use Rattle.sy_script.specs.declared.tree.Script.{Script};
 ghost use Rattle.sy_rules.specs.PlanValue.{IsPlan, Plan};
 ghost use Rattle.sy_rules.specs.Lines.{Lines, expand, expanded, is_deeper, list_at};
-ghost use Rattle.sy_rules.specs.Steps.{Steps, ◌then◌, ◌⧺◌, count, is_in, tests, walk};
+ghost use Rattle.sy_rules.specs.Laws.{IsChain, IsRising};
+ghost use Rattle.sy_rules.specs.Steps.{Steps, ◌then◌, ◌⧺◌, count, executed, is_in, occurrences, tests, walk};
 ghost use Rattle.sy_rules.specs.Work.{May, Must, work};
 
 /// What every valuation that a class admits executes, each message of the class executes.
 pub fn must_is_work()
     ensures { (s : Steps) (m : Said) (k : ℕ) → Must s m.facility m.severity k → is_in k (work s m) ≡ true }
+{}
+
+/// It is executed under some admitted valuation, since there is one.
+pub fn must_is_may()
+    ensures { (s : Steps) (facility severity k : ℕ) → Must s facility severity k → May s facility severity k }
 {}
 
 /// What a message executes, some valuation that its class admits executes.
@@ -33,6 +39,28 @@ pub fn texts_follow()
 /// expanded text of the called list.
 pub fn calls_are_replaced()
     ensures { (lists : List Lines) (depth l : ℕ) → is_deeper lists depth l ≡ false → expanded lists depth l ≡ expand (expanded lists depth) (list_at lists l) }
+{}
+
+/// Where a text stops, nothing behind it is executed: so a stop in a list that is called at once ends the whole list.
+pub fn a_stop_ends_all()
+    ensures { (s t : Steps) (n : ℕ) (v : Valuation) → (walk s n v).goes_on ≡ false → walk (s ⧺ t) n v ≡ walk s n v }
+{}
+
+/// The occurrences of two texts are those of the first and then those of the second, and so are their tests.
+pub fn texts_join()
+    ensures occurrences { (s t : Steps) → occurrences (s ⧺ t) ≡ occurrences s ++ occurrences t }
+    ensures tests { (s t : Steps) → tests (s ⧺ t) ≡ tests s ++ tests t }
+{}
+
+/// What a valuation executes comes in rising order, each occurrence once.
+pub fn executed_in_order()
+    ensures { (s : Steps) (v : Valuation) → IsRising (executed s v) }
+{}
+
+/// Calls lie in one another more than so deep exactly where there is a chain of one more call.
+pub fn calls_too_deep_are_a_chain()
+    ensures chain { (lists : List Lines) (depth l : ℕ) → is_deeper lists depth l ≡ true → (callees : List ℕ) × (length callees ≡ depth + 1) × IsChain lists l callees }
+    ensures deep { (lists : List Lines) (depth l : ℕ) (callees : List ℕ) → length callees ≡ depth + 1 → IsChain lists l callees → is_deeper lists depth l ≡ true }
 {}
 
 /// A script has one plan at most.
