@@ -14,3 +14,4 @@ pub mod Lines
 pub mod ScriptFaults
 pub mod PlanValue
 pub mod Tables
+pub mod TextTables

@@ -1,6 +1,7 @@
 //! What a script says a relay does: the parameters of its objects, and the plan that they make.
 #![tactic(auto)]
 
+mod build;
 mod check;
 pub mod fault;
 mod item_check;
