@@ -36,9 +36,11 @@ room ts (suc m) (suc n) (step.Stop ∷ xs) h i = ap Lines.Stop (room ts m n xs (
 room ts (suc m) (suc n) (step.If t d o ∷ xs) h i =
     let hm : length xs ≤ m = omega arith in
     let hn : length xs ≤ n = omega arith in
-    rw (room ts m n (take d xs) (no_more_taken d xs m hm) (no_more_taken d xs n hn),
-        room ts m n (take o (drop d xs)) (no_more_taken o (drop d xs) m (no_more_left d xs m hm)) (no_more_taken o (drop d xs) n (no_more_left d xs n hn)),
-        room ts m n (drop o (drop d xs)) (no_more_left o (drop d xs) m (no_more_left d xs m hm)) (no_more_left o (drop d xs) n (no_more_left d xs n hn))) refl
+    rw (
+      room ts m n (take d xs) (no_more_taken d xs m hm) (no_more_taken d xs n hn),
+      room ts m n (take o (drop d xs)) (no_more_taken o (drop d xs) m (no_more_left d xs m hm)) (no_more_taken o (drop d xs) n (no_more_left d xs n hn)),
+      room ts m n (drop o (drop d xs)) (no_more_left o (drop d xs) m (no_more_left d xs m hm)) (no_more_left o (drop d xs) n (no_more_left d xs n hn)),
+    ) refl
 
 -- the lines of a table, with room for it
 within_table : (ts : List (Formula Test)) (m : ℕ) (xs : List Step) → length xs ≤ m → lines_within ts m xs ≡ lines_of_table ts xs
@@ -129,7 +131,7 @@ table_lines file (Text.Action params rest) a t ys zero h = absurd (omega arith)
 table_lines file (Text.Action params rest) a t ys (suc m) h =
     let steps = steps_of_actions file.rulesets file.actions in
     either_lines file.tests (has_queue (slice_get file.actions a)) (list_of_action file a) a m (action_step steps a) (table_of file.rulesets steps (a + 1) t rest ++ ys)
-      (lines file (a + 1) t rest) (lines_of_table file.tests ys) (action_step_is file a) (table_lines file rest (a + 1) t ys m (omega arith))
+    (lines file (a + 1) t rest) (lines_of_table file.tests ys) (action_step_is file a) (table_lines file rest (a + 1) t ys m (omega arith))
 table_lines file (Text.Call name rest) a t ys m h =
     let steps = steps_of_actions file.rulesets file.actions in
     call_lines file (place_of name (names file.rulesets)) m (table_of file.rulesets steps a t rest) ys (lines file a t rest) (lines_of_table file.tests ys) h (λ k i. table_lines file rest a t ys k i)
@@ -145,10 +147,10 @@ table_lines file (Text.If x done otherwise rest) a t ys (suc m) h =
     let t2 = t + 1 + length (tests done) + length (tests otherwise) in
     let fits = sizes t (table_of rs steps a (t + 1) done) (table_of rs steps a1 t1 otherwise) (table_of rs steps a2 t2 rest) ys m h in
     if_lines file.tests t m (table_of rs steps a (t + 1) done) (table_of rs steps a1 t1 otherwise) (table_of rs steps a2 t2 rest) ys
-      (lines file a (t + 1) done) (lines file a1 t1 otherwise) (lines file a2 t2 rest ⧻ lines_of_table file.tests ys)
-      (alone file.tests m (table_of rs steps a (t + 1) done) (lines file a (t + 1) done) (table_lines file done a (t + 1) [] m fits.0))
-      (alone file.tests m (table_of rs steps a1 t1 otherwise) (lines file a1 t1 otherwise) (table_lines file otherwise a1 t1 [] m fits.1))
-      (table_lines file rest a2 t2 ys m fits.2)
+    (lines file a (t + 1) done) (lines file a1 t1 otherwise) (lines file a2 t2 rest ⧻ lines_of_table file.tests ys)
+    (alone file.tests m (table_of rs steps a (t + 1) done) (lines file a (t + 1) done) (table_lines file done a (t + 1) [] m fits.0))
+    (alone file.tests m (table_of rs steps a1 t1 otherwise) (lines file a1 t1 otherwise) (table_lines file otherwise a1 t1 [] m fits.1))
+    (table_lines file rest a2 t2 ys m fits.2)
 
 -- ---- all lists
 

@@ -100,7 +100,7 @@ if_put rulesets steps x done otherwise before between middle after old opened fi
     let one : first ≡ (old ++ step.If before.tests 0 0 ∷ []) ++ td = put_alone rulesets steps done between middle opened first d ∙ rw (is, ba, bt) refl in
     let two : second ≡ first ++ to = put_alone rulesets steps otherwise middle after first second o ∙ rw (a1, t1) refl in
     let head : step.If before.tests (length first - (length old + 1)) (length second - length first) ≡ step.If before.tests (length td) (length to) =
-        rw (length_behind_if old td first (step.If before.tests 0 0) one, length_behind first to second two) refl in
+    rw (length_behind_if old td first (step.If before.tests 0 0) one, length_behind first to second two) refl in
     record {
       table = λ rest. rw (e, head, two, one, a2, t2) (seam old td to (table_of rulesets steps (before.actions + length (actions (done Text.End)) + length (actions (otherwise Text.End))) (before.tests + 1 + length (tests (done Text.End)) + length (tests (otherwise Text.End))) rest) (step.If before.tests 0 0) (step.If before.tests (length td) (length to)));
       actions = λ rest. omega (arith, a2, length-append (actions (done Text.End)) (actions (otherwise Text.End) ++ actions rest), length-append (actions (otherwise Text.End)) (actions rest));

@@ -15,3 +15,4 @@ pub mod ScriptFaults
 pub mod PlanValue
 pub mod Tables
 pub mod TextTables
+pub mod Expressions

@@ -48,9 +48,9 @@ table_of rulesets steps a t (Text.Call name rest) = in_front (call_step rulesets
 table_of rulesets steps a t (Text.Stop rest) = step.Stop ∷ table_of rulesets steps a t rest
 table_of rulesets steps a t (Text.If test done otherwise rest) =
     if_steps t
-      (table_of rulesets steps a (t + 1) done)
-      (table_of rulesets steps (a + length (actions done)) (t + 1 + length (tests done)) otherwise)
-      (table_of rulesets steps (a + length (actions done) + length (actions otherwise)) (t + 1 + length (tests done) + length (tests otherwise)) rest)
+    (table_of rulesets steps a (t + 1) done)
+    (table_of rulesets steps (a + length (actions done)) (t + 1 + length (tests done)) otherwise)
+    (table_of rulesets steps (a + length (actions done) + length (actions otherwise)) (t + 1 + length (tests done) + length (tests otherwise)) rest)
 
 -- what `else` says, in front of a text
 abbrev pub front_of_otherwise : Option Block → Front

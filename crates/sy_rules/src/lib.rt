@@ -3,6 +3,7 @@
 
 mod build;
 mod check;
+mod expressions;
 pub mod fault;
 mod item_check;
 pub mod kind;

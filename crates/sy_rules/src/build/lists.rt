@@ -19,12 +19,7 @@ pub struct Lists {
     pub inside: Vec<Vec<Step>>,
 }
 
-fn put_top(
-    alloc: Global,
-    scope: &Scope<'_>,
-    lists: &mut Lists,
-    top: &Top,
-) -> Result<(), AllocError>
+fn put_top(alloc: Global, scope: &Scope<'_>, lists: &mut Lists, top: &Top) -> Result<(), AllocError>
     ensures { OnOk result (spec.IsPartPut scope.now.rulesets.now scope.now.actions.now (part_of top.now) lists.old lists.new) }
 {
     match top {
@@ -65,7 +60,9 @@ pub fn put_tops(
         put_top(alloc, scope, &mut lists, top)?;
     }
     let Lists {
-        outside, inside, ..
+        outside,
+        inside,
+        ..
     } = lists;
     Ok((outside, inside))
 }
@@ -88,11 +85,7 @@ pub fn put_singles(
     Ok(())
 }
 
-fn put_single(
-    alloc: Global,
-    tables: &mut Vec<Vec<Step>>,
-    number: u32,
-) -> Result<(), AllocError>
+fn put_single(alloc: Global, tables: &mut Vec<Vec<Step>>, number: u32) -> Result<(), AllocError>
     ensures { OnOk result (map (λ t. t.items) tables.new.items ≡ map (λ t. t.items) tables.old.items ++ (Step.Run number 0 ∷ []) ∷ []) }
 {
     let mut table = Vec::new(alloc);

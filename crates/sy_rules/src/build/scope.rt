@@ -60,10 +60,7 @@ fn has_queue(rulesets: &[RulesetParameters], place: usize) -> bool
 }
 
 /// The step of a call: a ruleset with a queue is posted to, any other is called at once.
-pub fn call_step(
-    rulesets: &[RulesetParameters],
-    name: &[u8],
-) -> Result<Option<Step>, AllocError>
+pub fn call_step(rulesets: &[RulesetParameters], name: &[u8]) -> Result<Option<Step>, AllocError>
     ensures { IfOk result (λ step. step ≡ spec.call_step rulesets.now (plans.place_of name.now (spec.names rulesets.now))) }
 {
     match place_of(rulesets, name) {

@@ -35,11 +35,7 @@ fn put_action(
     Ok(())
 }
 
-fn put_call(
-    scope: &Scope<'_>,
-    table: &mut Vec<Step>,
-    name: &[u8],
-) -> Result<(), AllocError>
+fn put_call(scope: &Scope<'_>, table: &mut Vec<Step>, name: &[u8]) -> Result<(), AllocError>
     ensures { OnOk result (table.new.items ≡ table.old.items ++ spec.in_front (spec.call_step scope.now.rulesets.now (place_of name.now (spec.names scope.now.rulesets.now))) []) }
 {
     match call_step(scope.rulesets, name)? {

@@ -8,8 +8,8 @@ use Rattle.sy_rules.proofs.build.build.Goals as goal
 pub returns : goal.returns
 returns c =
     IfOk-weaker c.tables.result _ _
-      (λ tables is tests.
-        map_twice (λ t. t.items) (lines_of_table tests) tables.items
-        ∙ (ap (map (lines_of_table tests)) is
-        ∙ tables_are_lists (record { rulesets = c.args.rulesets.now; actions = c.args.actions.now; tests = tests }) (parts c.args.script.now.tops)))
-      c.tables.ensures
+    (λ tables is tests.
+    map_twice (λ t. t.items) (lines_of_table tests) tables.items
+    ∙ (ap (map (lines_of_table tests)) is
+    ∙ tables_are_lists (record { rulesets = c.args.rulesets.now; actions = c.args.actions.now; tests = tests }) (parts c.args.script.now.tops)))
+    c.tables.ensures

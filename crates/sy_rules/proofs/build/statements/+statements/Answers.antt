@@ -22,7 +22,7 @@ pub put_stmt-returns-in-Action : goal.put_stmt-returns-in-Action
 put_stmt-returns-in-Action t c =
     let e = ap front_of_stmt c.in-Action.is ∙ action_is _ _ in
     all_three c.put_action.result (λ table actions tests. same_front _ _ _ _ _ _ _ _ e (action_put _ _ _ _ _ _ _ table actions tests))
-      c.put_action.ensures.table c.put_action.ensures.actions c.put_action.ensures.tests
+    c.put_action.ensures.table c.put_action.ensures.actions c.put_action.ensures.tests
 
 pub put_stmt-returns-in-Call : goal.put_stmt-returns-in-Call
 put_stmt-returns-in-Call t c =
@@ -49,8 +49,8 @@ put_stmt-returns-in_ok-put_otherwise-in-If t c =
     let middle : c.len-middle.result ≡ length first = omega (arith, c.len-middle.ensures) in
     let sizes = set_by second opened.opened.at (length old) opened.opened.test c.args.counts.now.tests c.len-middle.result (length first) (length second) opened.ensures.at opened.ensures.test middle in
     on_ok_weaker c.close_if.result
-      (λ table. same_front rulesets steps _ _ c.args.counts.now c.put_otherwise.new.counts old c.close_if.new.table.items e
-        (if_put rulesets steps h.field-0 (front_of_block h.done) (front_of_otherwise h.otherwise) c.args.counts.now c.open_if.new.counts c.put_block.new.counts c.put_otherwise.new.counts
-          old c.open_if.new.table.items first second c.close_if.new.table.items
-          opened.ensures.actions opened.ensures.tests opened.ensures.table c.in_ok-put_block-in-If.ensures c.in_ok-put_otherwise-in-If.ensures (table ∙ sizes)))
-      c.close_if.ensures
+    (λ table. same_front rulesets steps _ _ c.args.counts.now c.put_otherwise.new.counts old c.close_if.new.table.items e
+    (if_put rulesets steps h.field-0 (front_of_block h.done) (front_of_otherwise h.otherwise) c.args.counts.now c.open_if.new.counts c.put_block.new.counts c.put_otherwise.new.counts
+    old c.open_if.new.table.items first second c.close_if.new.table.items
+    opened.ensures.actions opened.ensures.tests opened.ensures.table c.in_ok-put_block-in-If.ensures c.in_ok-put_otherwise-in-If.ensures (table ∙ sizes)))
+    c.close_if.ensures
