@@ -5,3 +5,4 @@ pub mod Puts
 pub mod Places
 pub mod Fronts
 pub mod Encoding
+pub mod TestLaws

@@ -19,9 +19,9 @@ lines_within tests (suc most) (step.Call list number ∷ rest) = Lines.Call list
 lines_within tests (suc most) (step.Stop ∷ rest) = Lines.Stop (lines_within tests most rest)
 lines_within tests (suc most) (step.If test done otherwise ∷ rest) =
     Lines.If (test_of tests test)
-    (lines_within tests most (take done rest))
-    (lines_within tests most (take otherwise (drop done rest)))
-    (lines_within tests most (drop otherwise (drop done rest)))
+      (lines_within tests most (take done rest))
+      (lines_within tests most (take otherwise (drop done rest)))
+      (lines_within tests most (drop otherwise (drop done rest)))
 
 abbrev pub lines_of_table : List (Formula Test) → List Step → Lines
 lines_of_table tests steps = lines_within tests (length steps) steps
