@@ -4,3 +4,8 @@ pub mod Ranges
 pub mod WorkLaws
 pub mod CallLaws
 pub mod OnePlan
+pub mod Puts
+pub mod Places
+pub mod Fronts
+pub mod Encoding
+pub mod TestLaws

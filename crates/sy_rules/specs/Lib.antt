@@ -15,3 +15,5 @@ pub mod ScriptFaults
 pub mod PlanValue
 pub mod Tables
 pub mod Laws
+pub mod TextTables
+pub mod Expressions

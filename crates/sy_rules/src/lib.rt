@@ -1,7 +1,9 @@
 //! What a script says a relay does: the parameters of its objects, and the plan that they make.
 #![tactic(auto)]
 
+mod build;
 mod check;
+mod expressions;
 pub mod fault;
 mod item_check;
 pub mod kind;
