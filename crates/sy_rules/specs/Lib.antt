@@ -12,5 +12,6 @@ pub mod Steps
 pub mod Work
 pub mod Lines
 pub mod ScriptFaults
+pub mod Seen
 pub mod PlanValue
 pub mod Tables

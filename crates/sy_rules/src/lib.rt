@@ -1,15 +1,19 @@
 //! What a script says a relay does: the parameters of its objects, and the plan that they make.
 #![tactic(auto)]
 
+mod among;
 mod check;
 pub mod fault;
 mod item_check;
+mod item_values;
 pub mod kind;
+mod names;
 pub mod objects;
 pub mod occurrence;
 mod outline;
 pub mod parameters;
 pub mod parts;
+mod script_check;
 mod step;
 mod table;
 mod values;
