@@ -9,3 +9,5 @@ pub mod Places
 pub mod Fronts
 pub mod Encoding
 pub mod TestLaws
+pub mod NameSets
+pub mod ScriptLaws

@@ -2,17 +2,21 @@
 #![tactic(auto)]
 
 mod build;
+mod among;
 mod check;
 mod expressions;
 pub mod fault;
 mod item_check;
+mod item_values;
 pub mod kind;
 pub mod laws;
+mod names;
 pub mod objects;
 pub mod occurrence;
 mod outline;
 pub mod parameters;
 pub mod parts;
+mod script_check;
 mod step;
 mod table;
 mod values;
