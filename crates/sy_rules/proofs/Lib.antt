@@ -1,3 +1,5 @@
 pub mod Lookups
 pub mod Fits
 pub mod Ranges
+pub mod Defaults
+pub mod ListNames

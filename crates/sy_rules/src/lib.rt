@@ -1,8 +1,10 @@
 //! What a script says a relay does: the parameters of its objects, and the plan that they make.
 #![tactic(auto)]
 
+mod action_names;
 mod check;
 pub mod fault;
+mod gather;
 mod item_check;
 pub mod kind;
 pub mod objects;
