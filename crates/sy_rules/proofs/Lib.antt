@@ -3,3 +3,4 @@ pub mod Fits
 pub mod Ranges
 pub mod Defaults
 pub mod ListNames
+pub mod Listed

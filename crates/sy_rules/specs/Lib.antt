@@ -14,3 +14,7 @@ pub mod Lines
 pub mod ScriptFaults
 pub mod PlanValue
 pub mod Tables
+pub mod PlanCodes
+pub mod Whole
+pub mod PassPlan
+pub mod PlanInside

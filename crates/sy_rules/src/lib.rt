@@ -12,6 +12,7 @@ pub mod occurrence;
 mod outline;
 pub mod parameters;
 pub mod parts;
+pub mod plan;
 mod step;
 mod table;
 mod values;
@@ -20,6 +21,7 @@ pub use fault::{FaultCode, PlanFault};
 pub use kind::Kind;
 pub use occurrence::Occurrence;
 pub use parts::{Action, Input};
+pub use plan::Plan;
 
 #[cfg(test)]
 mod tests;
