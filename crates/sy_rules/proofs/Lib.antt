@@ -4,3 +4,6 @@ pub mod Ranges
 pub mod Defaults
 pub mod ListNames
 pub mod Listed
+pub mod CleanItems
+pub mod WholeItems
+pub mod TextItems

@@ -50,10 +50,6 @@ abbrev pub is_main_queue : Item → Bool
 is_main_queue (Item.Object object.MainQueue params) = true
 is_main_queue _ = false
 
--- a second main queue
-abbrev pub second_main_queue : List Item → List PlanFault
-second_main_queue before = when (list_any is_main_queue before) (fault code.Duplicate (codes "main_queue"))
-
 abbrev pub is_imtcp : Module → Bool
 is_imtcp modules.Imtcp = true
 is_imtcp _ = false
@@ -62,50 +58,53 @@ abbrev pub loads_imtcp : Item → Bool
 loads_imtcp (Item.Object object.Module params) = is_imtcp (module_of params)
 loads_imtcp _ = false
 
--- an input whose module is loaded nowhere in the file
-abbrev pub not_loaded : List Item → List PlanFault
-not_loaded all = when (not (list_any loads_imtcp all)) (fault code.NotLoaded (codes "imtcp"))
-
+-- so many of a kind stand before one more
 abbrev pub too_many : ℕ → ℕ → List ℕ → List PlanFault
 too_many most before word = when (nat_le most before) (fault code.Range word)
 
 abbrev pub ruleset_names_of : List Item → List (List ℕ)
 ruleset_names_of all = map (λ r. r.name) (rulesets_of all)
 
+abbrev pub ports_of : List Item → List ℕ
+ports_of all = map (λ i. i.port) (inputs_of all)
+
 abbrev pub is_among : List ℕ → List (List ℕ) → Bool
 is_among name names = list_any (bytes_eq name) names
 
--- an input may name the default ruleset, or one of the file
-abbrev pub unknown_ruleset : List Item → Option (List ℕ) → List PlanFault
-unknown_ruleset all None = []
-unknown_ruleset all (Some name) = when (not (is_among name (default_ruleset ∷ ruleset_names_of all))) (fault code.Unknown name)
+-- what is there already is there twice
+abbrev pub second_main_queue : Bool → List PlanFault
+second_main_queue there = when there (fault code.Duplicate (codes "main_queue"))
 
-abbrev pub has_port : ℕ → InputParameters → Bool
-has_port port i = i.port == port
+-- an input whose module is loaded nowhere in the file
+abbrev pub not_loaded : Bool → List PlanFault
+not_loaded loaded = when (not loaded) (fault code.NotLoaded (codes "imtcp"))
 
--- the word is the port's number
-abbrev pub same_port : List Item → ℕ → List PlanFault
-same_port before port = when (list_any (has_port port) (inputs_of before)) (fault code.SamePort (decimal port))
+-- an input may name the default ruleset, or one of the file, which has these names
+abbrev pub unknown_ruleset : List (List ℕ) → Option (List ℕ) → List PlanFault
+unknown_ruleset names None = []
+unknown_ruleset names (Some name) = when (not (is_among name (default_ruleset ∷ names))) (fault code.Unknown name)
 
-abbrev pub input_faults : List Item → List Item → InputParameters → List PlanFault
-input_faults all before i =
-    too_many INPUTS (length (inputs_of before)) (codes "input")
-    ++ (not_loaded all ++ (unknown_ruleset all i.ruleset_name ++ same_port before i.port))
+-- a port of an input before; the word is its number
+abbrev pub same_port : List ℕ → ℕ → List PlanFault
+same_port ports port = when (list_any (λ p. p == port) ports) (fault code.SamePort (decimal port))
 
--- the name of an earlier ruleset, or of the default one
-abbrev pub ruleset_faults : List Item → List ℕ → List PlanFault
+-- an input behind those of these ports
+abbrev pub input_faults : Bool → List (List ℕ) → List ℕ → InputParameters → List PlanFault
+input_faults loaded names ports i =
+    too_many INPUTS (length ports) (codes "input") ++ (not_loaded loaded ++ (unknown_ruleset names i.ruleset_name ++ same_port ports i.port))
+
+-- A ruleset behind those of these names: it may have none of them, nor that of the default one.
+abbrev pub ruleset_faults : List (List ℕ) → List ℕ → List PlanFault
 ruleset_faults before name =
-    too_many RULESETS (length (rulesets_of before)) (codes "ruleset")
-    ++ when (is_among name (default_ruleset ∷ ruleset_names_of before)) (fault code.Duplicate name)
+    too_many RULESETS (length before) (codes "ruleset") ++ when (is_among name (default_ruleset ∷ before)) (fault code.Duplicate name)
 
-abbrev pub action_faults : List Item → Option (List ℕ) → List PlanFault
-action_faults before name =
-    too_many ACTIONS (length (actions_of before)) (codes "action")
-    ++ when (is_among (action_name (length (actions_of before)) name) (action_names before)) (fault code.Duplicate (action_name (length (actions_of before)) name))
+-- an action behind those of these names, which has this one
+abbrev pub action_faults : List (List ℕ) → List ℕ → List PlanFault
+action_faults before name = too_many ACTIONS (length before) (codes "action") ++ when (is_among name before) (fault code.Duplicate name)
 
 -- a call of a ruleset that isn't there, or of the default one
-abbrev pub call_faults : List Item → List ℕ → List PlanFault
-call_faults all name = when (not (is_among name (ruleset_names_of all))) (fault code.Unknown name)
+abbrev pub call_faults : List (List ℕ) → List ℕ → List PlanFault
+call_faults names name = when (not (is_among name names)) (fault code.Unknown name)
 
 -- the faults of expressions have the same names here
 abbrev pub code_of : SelectCode → FaultCode
@@ -121,13 +120,13 @@ as_plan_fault f = fault (code_of f.code) f.word
 
 -- what is wrong with an item among the others: all the items of the file, and those before it
 abbrev pub faults_among : List Item → List Item → Item → List PlanFault
-faults_among all before (Item.Object object.MainQueue params) = second_main_queue before
-faults_among all before (Item.Object object.Input params) = input_faults all before (input_of params)
+faults_among all before (Item.Object object.MainQueue params) = second_main_queue (list_any is_main_queue before)
+faults_among all before (Item.Object object.Input params) = input_faults (list_any loads_imtcp all) (ruleset_names_of all) (ports_of before) (input_of params)
 faults_among all before (Item.Object object.Module params) = []
 faults_among all before (Item.Object object.Global params) = []
-faults_among all before (Item.Ruleset params) = ruleset_faults before (ruleset_of params).name
-faults_among all before (Item.Action params) = action_faults before (action_of (kind_of_action params) params).name
-faults_among all before (Item.Call name) = call_faults all name
+faults_among all before (Item.Ruleset params) = ruleset_faults (ruleset_names_of before) (ruleset_of params).name
+faults_among all before (Item.Action params) = action_faults (action_names before) (action_name (length (actions_of before)) (action_of (kind_of_action params) params).name)
+faults_among all before (Item.Call name) = call_faults (ruleset_names_of all) name
 faults_among all before (Item.Test test) = map as_plan_fault (tree_faults test)
 
 -- those of the items behind others: each item's own, then those among the others
