@@ -7,3 +7,4 @@ pub mod Listed
 pub mod CleanItems
 pub mod WholeItems
 pub mod TextItems
+pub mod Leads
