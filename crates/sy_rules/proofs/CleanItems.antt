@@ -12,7 +12,7 @@ use Rattle.sy_rules.specs.ItemFaults.{AreClean, object_faults}
 use Rattle.sy_rules.specs.Outline.{Item}
 use Rattle.sy_rules.specs.Objects.{input_of, ruleset_of, action_of, kind_of_action}
 use Rattle.sy_rules.specs.Plans.{input_at, ruleset_at, action_at, queue_at, inputs_of, rulesets_of, actions_of, queues_of, names_from, action_names, action_name, default_ruleset}
-use Rattle.sy_rules.specs.ScriptFaults.{faults_among, faults_behind, too_many, too_many_workers, not_loaded, unknown_ruleset, same_port, ports_of, ruleset_names_of, loads_imtcp, is_among, INPUTS, RULESETS, ACTIONS, WORKERS}
+use Rattle.sy_rules.specs.ScriptFaults.{faults_among, faults_behind, too_many, too_many_workers, not_loaded, unknown_ruleset, same_port, ports_of, ruleset_names_of, loads_imtcp, is_among, INPUTS, RULESETS, ACTIONS}
 use Rattle.sy_rules.proofs.Fits.{no_front, no_back}
 
 -- ---- each by itself

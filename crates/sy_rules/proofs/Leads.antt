@@ -1,12 +1,11 @@
 -- What the lists of a file execute is there: a run's action, and a post's list.
-use Rattle.std.proofs.Common.{◌≡◌, ℕ, zero, suc, ◌+◌, ◌≤◌, ◌<◌, Bool, true, false, if◌then◌else◌, List, [], ◌∷◌, ◌++◌, length, map, slice_get, unwrap_or, Option, Some, None, is_some, refl, ap, arith}
+use Rattle.std.proofs.Common.{◌≡◌, ℕ, zero, suc, ◌+◌, ◌≤◌, ◌<◌, Bool, true, false, if◌then◌else◌, List, [], ◌∷◌, ◌++◌, length, slice_get, Option, Some, None, is_some, refl, arith}
 use Rattle.std.proofs.lemmas.List.{length-append}
 use Rattle.std.specs.List.{AllByRecursion}
 use Rattle.sy_rules.specs.declared.objects.ActionParameters.{ActionParameters}
-use Rattle.sy_rules.specs.declared.objects.RulesetParameters.{RulesetParameters}
 use Rattle.sy_rules.specs.declared.occurrence.Occurrence.{Occurrence}
 use Rattle.sy_rules.specs.declared.occurrence.Occurrence.TheVariants as occurrence
-use Rattle.sy_rules.specs.Lines.{File, Lines, ◌⧻◌, list_of_action, has_queue, line_of_action, is_queued_ruleset, call_at, line_of_call, ruleset_names, lines, outside, inside, singles, lists_of, expand, list_at, expanded, steps_of, CALL_DEPTH, text_of}
+use Rattle.sy_rules.specs.Lines.{File, Lines, ◌⧻◌, list_of_action, has_queue, line_of_action, is_queued_ruleset, call_at, ruleset_names, lines, outside, inside, singles, lists_of, expand, list_at, expanded, steps_of, CALL_DEPTH}
 use Rattle.sy_rules.specs.Plans.{place_of}
 use Rattle.sy_rules.specs.Steps.{Steps, ◌⧺◌, occurrences}
 use Rattle.sy_rules.specs.Texts as text

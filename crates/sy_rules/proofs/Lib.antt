@@ -8,3 +8,4 @@ pub mod CleanItems
 pub mod WholeItems
 pub mod TextItems
 pub mod Leads
+pub mod WholePlans

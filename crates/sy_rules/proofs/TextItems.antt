@@ -1,5 +1,5 @@
 -- A text has as many actions as its items.
-use Rattle.std.proofs.Common.{◌≡◌, ℕ, ◌+◌, List, [], ◌∷◌, ◌++◌, length, map, filter_map, Option, Some, None, refl, sym, ap, ◌∙◌, subst, arith}
+use Rattle.std.proofs.Common.{◌≡◌, ℕ, ◌+◌, List, [], ◌∷◌, ◌++◌, length, map, Some, None, refl, subst, arith}
 use Rattle.std.proofs.lemmas.List.{length-append}
 use Rattle.sy_script.specs.declared.tree.Block.{Block, roll-Block, map-Block}
 use Rattle.sy_script.specs.declared.tree.Block.TheOpen.{Block-F, Stmt-F}

@@ -18,8 +18,8 @@ use Rattle.sy_rules.specs.declared.parts.Input.{Input}
 use Rattle.sy_rules.specs.Lines.{queued}
 use Rattle.sy_rules.specs.Outline.{Item}
 use Rattle.sy_rules.specs.Parameters.{given, faults}
-use Rattle.sy_rules.specs.Plans.{input_at, ruleset_at, action_at, queue_at, inputs_of, rulesets_of, actions_of, queues_of, main_queue_of, main_queue_at, first_params, workers_from, one_more, place_of, list_at_place, list_of_input, ruleset_names, is_ruleset, is_queued_action, queue_here, queue_behind, ruleset_queues, action_queues, list_queues}
-use Rattle.sy_rules.specs.PlanValue.{input_part, action_part, action_parts, queue_or_main}
+use Rattle.sy_rules.specs.Plans.{input_at, action_at, queue_at, inputs_of, rulesets_of, actions_of, queues_of, main_queue_at, first_params, workers_from, one_more, place_of, list_at_place, list_of_input, ruleset_names, is_ruleset, is_queued_action, queue_here, queue_behind, ruleset_queues, action_queues, list_queues}
+use Rattle.sy_rules.specs.PlanValue.{input_part, action_parts, queue_or_main}
 use Rattle.sy_rules.proofs.Defaults.{main_queue_is_clean}
 use Rattle.sy_rules.proofs.Ranges.{queue_in_range, action_takes_queue, input_port, forward_port}
 
