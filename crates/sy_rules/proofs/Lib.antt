@@ -9,3 +9,5 @@ pub mod WholeItems
 pub mod TextItems
 pub mod Leads
 pub mod WholePlans
+pub mod NameSets
+pub mod ScriptLaws

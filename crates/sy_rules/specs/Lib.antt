@@ -12,6 +12,7 @@ pub mod Steps
 pub mod Work
 pub mod Lines
 pub mod ScriptFaults
+pub mod Seen
 pub mod PlanValue
 pub mod Tables
 pub mod PlanCodes

@@ -1,6 +1,6 @@
-//! What is wrong with the objects of a script by themselves.
+//! What is wrong with the items of a script by themselves.
 
-ghost use Rattle.std.specs.Prelude.{◌≡◌, [], map, OnOk, IfErr};
+ghost use Rattle.std.specs.Prelude.{◌≡◌, [], OnOk, IfErr};
 ghost use Rattle.sy_rules.specs.Faults.{IsAnswered};
 ghost use Rattle.sy_rules.specs.ItemFaults as spec;
 ghost use Rattle.sy_rules.specs.ItemViews.{item};
@@ -24,7 +24,8 @@ fn kind_of_object(object: ObjectKind) -> Kind
     }
 }
 
-fn check_item(alloc: Global, next: &Item<'_>) -> Result<(), PlanFault>
+/// Refuses an item for the first fault of its parameters.
+pub fn check_item(alloc: Global, next: &Item<'_>) -> Result<(), PlanFault>
     ensures ok { OnOk result (spec.object_faults (item next.now) ≡ []) }
     ensures err { IfErr result (λ f. IsAnswered (spec.object_faults (item next.now)) f) }
 {
@@ -34,17 +35,4 @@ fn check_item(alloc: Global, next: &Item<'_>) -> Result<(), PlanFault>
         Item::Action(params) => check(alloc, kind_of_action(params), params),
         Item::Call(_) | Item::Test(_) => Ok(()),
     }
-}
-
-/// Refuses a script for the first fault of an object's parameters, in the order of the text.
-pub fn check_items(alloc: Global, items: &[Item<'_>]) -> Result<(), PlanFault>
-    ensures ok { OnOk result (spec.faults_of_objects (map item items.now) ≡ []) }
-    ensures err { IfErr result (λ f. IsAnswered (spec.faults_of_objects (map item items.now)) f) }
-{
-    let mut rest = items;
-    while let [next, after @ ..] = rest {
-        check_item(alloc, next)?;
-        rest = after;
-    }
-    Ok(())
 }

@@ -2,17 +2,21 @@
 #![tactic(auto)]
 
 mod action_names;
+mod among;
 mod check;
 pub mod fault;
 mod gather;
 mod item_check;
+mod item_values;
 pub mod kind;
+mod names;
 pub mod objects;
 pub mod occurrence;
 mod outline;
 pub mod parameters;
 pub mod parts;
 pub mod plan;
+mod script_check;
 mod step;
 mod table;
 mod values;

@@ -44,7 +44,8 @@ fn is_minus_one(value: &[u8]) -> bool
     value == b"-1".as_slice()
 }
 
-fn is_one_of(value: &[u8], mut words: &[&[u8]]) -> bool
+/// Whether a value is one of the words.
+pub fn is_one_of(value: &[u8], mut words: &[&[u8]]) -> bool
     ensures { result ≡ list_any (bytes_eq value.now) (map (λ w. w.now) words.entry.now) }
 {
     while let [word, rest @ ..] = words {
