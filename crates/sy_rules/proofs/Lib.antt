@@ -11,3 +11,8 @@ pub mod Leads
 pub mod WholePlans
 pub mod NameSets
 pub mod ScriptLaws
+pub mod Puts
+pub mod Places
+pub mod Fronts
+pub mod Encoding
+pub mod TestLaws

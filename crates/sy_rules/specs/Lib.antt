@@ -19,3 +19,5 @@ pub mod PlanCodes
 pub mod Whole
 pub mod PassPlan
 pub mod PlanInside
+pub mod TextTables
+pub mod Expressions

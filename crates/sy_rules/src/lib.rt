@@ -3,7 +3,9 @@
 
 mod action_names;
 mod among;
+mod build;
 mod check;
+mod expressions;
 pub mod fault;
 mod gather;
 mod item_check;
