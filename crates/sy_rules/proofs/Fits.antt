@@ -17,11 +17,11 @@ pub record IsFit (shape : Shape) (value : List ℕ) : Type 0 where
 
 -- ---- nothing is wrong
 
-no_front : {A : Type 0} (xs ys : List A) → xs ++ ys ≡ [] → xs ≡ []
+pub no_front : {A : Type 0} (xs ys : List A) → xs ++ ys ≡ [] → xs ≡ []
 no_front [] ys e = refl
 no_front (x ∷ xs) ys e = cc
 
-no_back : {A : Type 0} (xs ys : List A) → xs ++ ys ≡ [] → ys ≡ []
+pub no_back : {A : Type 0} (xs ys : List A) → xs ++ ys ≡ [] → ys ≡ []
 no_back [] ys e = e
 no_back (x ∷ xs) ys e = cc
 

@@ -1,5 +1,5 @@
 -- What is wrong with the objects of a script by themselves, in the order of the text.
-use Rattle.std.specs.Prelude.{List, [], ◌∷◌, ◌++◌}
+use Rattle.std.specs.Prelude.{◌≡◌, List, [], ◌∷◌, ◌++◌}
 use Rattle.sy_script.specs.declared.tree.ObjectKind.{ObjectKind}
 use Rattle.sy_script.specs.declared.tree.ObjectKind.TheVariants as object
 use Rattle.sy_rules.specs.declared.fault.PlanFault.{PlanFault}
@@ -26,3 +26,8 @@ object_faults (Item.Test test) = []
 abbrev pub faults_of_objects : List Item → List PlanFault
 faults_of_objects [] = []
 faults_of_objects (x ∷ items) = object_faults x ++ faults_of_objects items
+
+-- nothing is wrong with any object by itself
+abbrev pub AreClean : List Item → Type 0
+AreClean [] = Unit {0}
+AreClean (x ∷ items) = (object_faults x ≡ []) × AreClean items

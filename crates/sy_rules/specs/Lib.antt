@@ -16,5 +16,9 @@ pub mod Seen
 pub mod PlanValue
 pub mod Tables
 pub mod Laws
+pub mod PlanCodes
+pub mod Whole
+pub mod PassPlan
+pub mod PlanInside
 pub mod TextTables
 pub mod Expressions

@@ -1,11 +1,13 @@
 //! What a script says a relay does: the parameters of its objects, and the plan that they make.
 #![tactic(auto)]
 
-mod build;
+mod action_names;
 mod among;
+mod build;
 mod check;
 mod expressions;
 pub mod fault;
+mod gather;
 mod item_check;
 mod item_values;
 pub mod kind;
@@ -16,6 +18,7 @@ pub mod occurrence;
 mod outline;
 pub mod parameters;
 pub mod parts;
+pub mod plan;
 mod script_check;
 mod step;
 mod table;
@@ -25,6 +28,7 @@ pub use fault::{FaultCode, PlanFault};
 pub use kind::Kind;
 pub use occurrence::Occurrence;
 pub use parts::{Action, Input};
+pub use plan::Plan;
 
 #[cfg(test)]
 mod tests;

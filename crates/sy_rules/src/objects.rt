@@ -163,7 +163,8 @@ pub fn read_input(alloc: Global, params: &[Param]) -> Result<InputParameters, Pl
     })
 }
 
-fn queue_of(kind: Kind, params: &[Param]) -> Option<QueueParameters>
+/// The queue of a ruleset or an action with which nothing is wrong, where it has one.
+pub fn queue_of(kind: Kind, params: &[Param]) -> Option<QueueParameters>
     requires takes { spec.takes_queue kind ≡ true }
     requires clean { faults kind params.now ≡ [] }
     ensures value { result ≡ spec.queue_of kind params.now }

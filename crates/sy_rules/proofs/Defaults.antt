@@ -1,0 +1,19 @@
+-- Objects without parameters.
+use Rattle.std.proofs.Common.{◌≡◌, [], Some, codes, refl}
+use Rattle.sy_rules.specs.declared.kind.Kind.TheVariants as kind
+use Rattle.sy_rules.specs.Objects.{number_of, retry_of}
+use Rattle.sy_rules.specs.Parameters.{faults}
+use Rattle.sy_rules.specs.Table.{own_rows, device_rows, queue_head_rows, queue_rest_rows}
+
+-- nothing is wrong with a main queue
+pub main_queue_is_clean : faults kind.MainQueue [] ≡ []
+unfolding faults own_rows device_rows queue_head_rows queue_rest_rows
+main_queue_is_clean = refl
+
+pub archive_retry : retry_of kind.Archive [] ≡ Some 0
+unfolding number_of own_rows device_rows queue_head_rows queue_rest_rows
+archive_retry = refl
+
+pub archive_interval : number_of kind.Archive [] 0 (codes "action.resumeInterval") ≡ 30
+unfolding number_of own_rows device_rows queue_head_rows queue_rest_rows
+archive_interval = refl

@@ -1,0 +1,187 @@
+-- The plan of a script without faults keeps what every plan keeps.
+use Rattle.std.proofs.Common.{◌≡◌, ℕ, zero, suc, ◌+◌, ◌≤◌, ◌<◌, Bool, true, false, if◌then◌else◌, List, [], ◌∷◌, ◌++◌, length, map, take, slice_get, Option, Some, None, is_some, refl, ap, ◌∙◌, arith}
+use Rattle.std.proofs.lemmas.List.{length-append, length-map}
+use Rattle.std.proofs.lemmas.List.Elements.{All-from_recursion}
+use Rattle.std.specs.List.{All, AllByRecursion}
+use Rattle.sy_script.specs.declared.tree.ObjectKind.TheVariants as object
+use Rattle.sy_script.specs.declared.tree.Script.{Script}
+use Rattle.sy_select.specs.declared.condition.Test.{Test}
+use Rattle.sy_select.specs.Truth.{Formula}
+use Rattle.sy_rules.specs.declared.objects.ActionParameters.{ActionParameters}
+use Rattle.sy_rules.specs.declared.parameters.QueueParameters.{QueueParameters}
+use Rattle.sy_rules.specs.Lines.{Lines, has_queue, is_queued_ruleset, list_of_action, queued, steps_of}
+use Rattle.sy_rules.specs.Objects.{AreInRange, HasPort}
+use Rattle.sy_rules.specs.Outline.{Item, items}
+use Rattle.sy_rules.specs.Plans.{queue_at, actions_of, rulesets_of, inputs_of, queues_of, workers_of, is_queued_action, queue_behind, ruleset_queues, action_queues, list_queues}
+use Rattle.sy_rules.specs.PlanValue.{Plan, action_parts, file_of, input_part, lines_of, listed_from}
+use Rattle.sy_rules.specs.ScriptFaults.{faults_behind, too_many_workers}
+use Rattle.sy_rules.specs.Steps.{Steps, count, occurrences}
+use Rattle.sy_rules.specs.Texts.{parts}
+use Rattle.sy_rules.specs.Whole as whole
+use Rattle.sy_rules.specs.Whole.{IsWhole, Leads, queue_in}
+use Rattle.sy_rules.proofs.CleanItems.{are_clean, few_inputs, few_rulesets, few_actions, few_workers, queues_of_both}
+use Rattle.sy_rules.proofs.Leads.{steps_all}
+use Rattle.sy_rules.proofs.Listed.{length-listed_from}
+use Rattle.sy_rules.proofs.TextItems.{as_many_actions}
+use Rattle.sy_rules.proofs.WholeItems.{Exists, IsBound, inputs_are_bound, list_queues_exist, length-action_parts, length-list_queues, length-ruleset_queues, length-workers_from, queued_at_most, queues_in_range, targets_have_ports, workers_exist}
+
+-- ---- lists that have a queue of their own
+
+abbrev own : Option (Option ℕ) → Option ℕ
+own None = None
+own (Some queue) = queue
+
+abbrev Has : List (Option ℕ) → ℕ → Type 0
+Has queues k = is_some (own (slice_get queues k)) ≡ true
+
+has_in_front : (xs ys : List (Option ℕ)) (k : ℕ) → Has xs k → Has (xs ++ ys) k
+has_in_front [] ys k h = cc
+has_in_front (x ∷ xs) ys zero h = h
+has_in_front (x ∷ xs) ys (suc k) h = has_in_front xs ys k h
+
+has_behind : (xs ys : List (Option ℕ)) (k m : ℕ) → m ≡ length xs + k → Has ys k → Has (xs ++ ys) m
+has_behind [] ys k m e h =
+    let same : m ≡ k = omega (arith, e) in
+    rw same h
+has_behind (x ∷ xs) ys k zero e h = absurd (omega (arith, e))
+has_behind (x ∷ xs) ys k (suc m) e h = has_behind xs ys k m (omega (arith, e)) h
+
+own_listed : (lines : List Lines) (number : ℕ) (queues : List (Option ℕ)) (k : ℕ) → queue_in (slice_get (listed_from lines number queues) k) ≡ own (slice_get queues k)
+own_listed lines number [] k = refl
+own_listed lines number (q ∷ qs) zero = refl
+own_listed lines number (q ∷ qs) (suc k) = own_listed lines (number + 1) qs k
+
+-- of a ruleset that has one
+
+here : (o : Option QueueParameters) (number : ℕ) → is_some o ≡ true → is_some (if is_some o then Some number else None) ≡ true
+here None number h = h
+here (Some q) number h = refl
+
+ruleset_has : (number : ℕ) (items : List Item) (place : ℕ) → is_queued_ruleset (slice_get (rulesets_of items) place) ≡ true → Has (ruleset_queues number items) place
+ruleset_has number [] place h = cc
+ruleset_has number (Item.Ruleset ps ∷ items) zero h = here (queue_at (Item.Ruleset ps)) number h
+ruleset_has number (Item.Ruleset ps ∷ items) (suc place) h = ruleset_has (queue_behind number (Item.Ruleset ps)) items place h
+ruleset_has number (Item.Action ps ∷ items) place h = ruleset_has (queue_behind number (Item.Action ps)) items place h
+ruleset_has number (Item.Object object.Input ps ∷ items) place h = ruleset_has number items place h
+ruleset_has number (Item.Object object.MainQueue ps ∷ items) place h = ruleset_has number items place h
+ruleset_has number (Item.Object object.Module ps ∷ items) place h = ruleset_has number items place h
+ruleset_has number (Item.Object object.Global ps ∷ items) place h = ruleset_has number items place h
+ruleset_has number (Item.Call name ∷ items) place h = ruleset_has number items place h
+ruleset_has number (Item.Test test ∷ items) place h = ruleset_has number items place h
+
+pub call_leads : (all : List Item) (place : ℕ) → is_queued_ruleset (slice_get (rulesets_of all) place) ≡ true → Has (list_queues all) (place + 1)
+call_leads all place h =
+    has_behind (None ∷ []) (ruleset_queues 1 all ++ action_queues 1 all) place (place + 1) (omega arith)
+      (has_in_front (ruleset_queues 1 all) (action_queues 1 all) place (ruleset_has 1 all place h))
+
+-- of an action that has one
+
+has_all : (number : ℕ) (items : List Item) (k : ℕ) → k < length (action_queues number items) → Has (action_queues number items) k
+has_all number [] k le = absurd (omega (arith, le))
+has_all number (x ∷ items) k le = by_case (is_queued_action x) (action_queues (queue_behind number x) items) k (has_all (queue_behind number x) items) le
+  where
+  by_case : (b : Bool) (rest : List (Option ℕ)) (k : ℕ) → ((j : ℕ) → j < length rest → Has rest j) → k < length (if b then Some number ∷ rest else rest) → Has (if b then Some number ∷ rest else rest) k
+  by_case true rest zero h le = refl
+  by_case true rest (suc k) h le = h k (omega (arith, le))
+  by_case false rest k h le = h k le
+
+queued_before : (actions : List ActionParameters) (a : ℕ) → has_queue (slice_get actions a) ≡ true → queued (take a actions) < queued actions
+queued_before [] a h = cc
+queued_before (x ∷ later) zero h = first (is_some x.queue) h
+  where
+  first : (b : Bool) → b ≡ true → 0 < (if b then queued later + 1 else queued later)
+  first true e = omega arith
+  first false e = cc
+queued_before (x ∷ later) (suc a) h = next (is_some x.queue) (queued_before later a h)
+  where
+  next : (b : Bool) → queued (take a later) < queued later → (if b then queued (take a later) + 1 else queued (take a later)) < (if b then queued later + 1 else queued later)
+  next true le = omega (arith, le)
+  next false le = le
+
+pub action_leads : (all : List Item) (tests : List (Formula Test)) (a : ℕ) → has_queue (slice_get (actions_of all) a) ≡ true → Has (list_queues all) (list_of_action (file_of all tests) a)
+action_leads all tests a h =
+    let rulesets = length-ruleset_queues 1 all in
+    let lists = length-list_queues all in
+    let k = queued (take a (actions_of all)) in
+    let few = queued_before (actions_of all) a h in
+    has_behind (None ∷ ruleset_queues 1 all) (action_queues 1 all) k (list_of_action (file_of all tests) a) (omega (arith, rulesets))
+      (has_all 1 all k (omega (arith, length-append (ruleset_queues 1 all) (action_queues 1 all), few, lists, rulesets)))
+
+-- ---- the lists of a plan
+
+steps_listed : (Q : Steps → Type 0) (lines : List Lines) → ((l : ℕ) → Q (steps_of lines l)) → (number : ℕ) (queues : List (Option ℕ)) → AllByRecursion (λ l. Q l.steps) (listed_from lines number queues)
+steps_listed Q lines known number [] = tt
+steps_listed Q lines known number (q ∷ qs) = (known number, steps_listed Q lines known (number + 1) qs)
+
+queues_listed : (Q : Option ℕ → Type 0) (lines : List Lines) (number : ℕ) (queues : List (Option ℕ)) → AllByRecursion Q queues → AllByRecursion (λ l. Q l.queue) (listed_from lines number queues)
+queues_listed Q lines number [] p = tt
+queues_listed Q lines number (q ∷ qs) p = (p.0, queues_listed Q lines (number + 1) qs p.1)
+
+each : {X : Type 0} (P Q : X → Type 0) → ((x : X) → P x → Q x) → (xs : List X) → AllByRecursion P xs → AllByRecursion Q xs
+each P Q f [] p = tt
+each P Q f (x ∷ xs) p = (f x p.0, each P Q f xs p.1)
+
+-- ---- the plan of a script
+
+-- the plan of these items, where its lists have these lines
+abbrev pub plan_from : List Item → List Lines → Plan
+plan_from all lines = record {
+  inputs = map (input_part all) (inputs_of all);
+  queues = queues_of all;
+  workers = workers_of all;
+  actions = action_parts 0 (actions_of all);
+  lists = listed_from lines 0 (list_queues all);
+}
+
+module _ (script : Script) (tests : List (Formula Test))
+    (clean : faults_behind (items script) [] (items script) ≡ [])
+    (workers : too_many_workers (items script) ≡ [])
+    (few : (l : ℕ) → count (steps_of (lines_of script tests) l) ≤ 64) where
+  abbrev all : List Item
+  all = items script
+
+  abbrev plan : Plan
+  plan = plan_from all (lines_of script tests)
+
+  lists_are_as_many : length plan.lists ≡ length (list_queues all)
+  lists_are_as_many = length-listed_from (lines_of script tests) 0 (list_queues all)
+
+  runs : (a : ℕ) → a < length (actions_of all) → a < length plan.actions
+  runs a le = omega (arith, le, length-action_parts 0 (actions_of all))
+
+  posts : (l : ℕ) → Has (list_queues all) l → is_some (whole.queue_at plan l) ≡ true
+  posts l h = ap is_some (own_listed (lines_of script tests) 0 (list_queues all) l) ∙ h
+
+  steps_lead : (l : ℕ) → AllByRecursion (Leads plan) (occurrences (steps_of (lines_of script tests) l))
+  steps_lead =
+      steps_all (Leads plan) (file_of all tests) runs
+        (λ a le h. posts (list_of_action (file_of all tests) a) (action_leads all tests a h))
+        (λ place h. posts (place + 1) (call_leads all place h))
+        (parts script.tops) (as_many_actions script.tops)
+
+  pub is_whole : IsWhole plan
+  is_whole =
+      let kept = are_clean all clean in
+      let bound = inputs_are_bound all kept in
+      let rulesets = few_rulesets all clean in
+      let actions = few_actions all clean in
+      let inner = queues_of_both all in
+      record {
+        inputs_most = omega (arith, few_inputs all clean, length-map (inputs_of all) (input_part all));
+        input_ports = All-from_recursion (λ i. 1 ≤ i.port) plan.inputs (each (IsBound all) (λ i. 1 ≤ i.port) (λ i p. p.0) plan.inputs bound);
+        input_lists = All-from_recursion (λ i. i.list < length plan.lists) plan.inputs (each (IsBound all) (λ i. i.list < length plan.lists) (λ i p. omega (arith, p.1, lists_are_as_many)) plan.inputs bound);
+        input_queues = All-from_recursion (λ i. i.queue < length plan.queues) plan.inputs (each (IsBound all) (λ i. i.queue < length plan.queues) (λ i p. p.2) plan.inputs bound);
+        queues_least = omega arith;
+        queues_most = omega (arith, inner, rulesets, actions);
+        queue_ranges = All-from_recursion AreInRange plan.queues (queues_in_range all kept);
+        workers_most = omega (arith, few_workers all workers, length-workers_from 0 (queues_of all));
+        worker_queues = All-from_recursion (λ queue. queue < length plan.queues) plan.workers (workers_exist (length plan.queues) 0 (queues_of all) (omega arith));
+        actions_most = omega (arith, actions, length-action_parts 0 (actions_of all));
+        target_ports = All-from_recursion (λ a. HasPort a.device) plan.actions (targets_have_ports all kept);
+        lists_least = omega (arith, lists_are_as_many);
+        lists_most = omega (arith, lists_are_as_many, length-list_queues all, rulesets, actions, queued_at_most (actions_of all));
+        list_queues = All-from_recursion (λ l. Exists (length plan.queues) l.queue) plan.lists (queues_listed (Exists (length plan.queues)) (lines_of script tests) 0 (list_queues all) (list_queues_exist all));
+        occurrences_most = All-from_recursion (λ l. count l.steps ≤ 64) plan.lists (steps_listed (λ s. count s ≤ 64) (lines_of script tests) few 0 (list_queues all));
+        occurrences_lead = All-from_recursion (λ l. All (Leads plan) (occurrences l.steps)) plan.lists
+          (steps_listed (λ s. All (Leads plan) (occurrences s)) (lines_of script tests) (λ l. All-from_recursion (Leads plan) (occurrences (steps_of (lines_of script tests) l)) (steps_lead l)) 0 (list_queues all));
+      }

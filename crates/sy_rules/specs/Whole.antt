@@ -1,0 +1,50 @@
+-- What every plan keeps: each number that it gives exists, and the limits of a relay.
+use Rattle.std.specs.Prelude.{◌≡◌, ℕ, ◌≤◌, ◌<◌, true, Option, Some, None, is_some, length, slice_get, All, IfSome}
+use Rattle.sy_rules.specs.declared.occurrence.Occurrence.{Occurrence}
+use Rattle.sy_rules.specs.declared.occurrence.Occurrence.TheVariants as occurrence
+use Rattle.sy_rules.specs.Objects.{AreInRange, HasPort}
+use Rattle.sy_rules.specs.PlanValue.{Plan, Listed}
+use Rattle.sy_rules.specs.Steps.{Steps, occurrences, count}
+
+-- ---- the lists of a plan by their numbers
+
+abbrev pub steps_in : Option Listed → Steps
+steps_in None = Steps.End
+steps_in (Some l) = l.steps
+
+abbrev pub queue_in : Option Listed → Option ℕ
+queue_in None = None
+queue_in (Some l) = l.queue
+
+-- the expanded text of a list
+abbrev pub steps_at : Plan → ℕ → Steps
+steps_at plan list = steps_in (slice_get plan.lists list)
+
+-- the queue that leads to a list, where it has one of its own
+abbrev pub queue_at : Plan → ℕ → Option ℕ
+queue_at plan list = queue_in (slice_get plan.lists list)
+
+-- ---- what is kept
+
+-- a run's action is there, and a post's list has a queue
+abbrev pub Leads : Plan → Occurrence → Type 0
+Leads plan (occurrence.Run action) = action < length plan.actions
+Leads plan (occurrence.Post list) = is_some (queue_at plan list) ≡ true
+
+pub record IsWhole (plan : Plan) : Type 0 where
+  pub inputs_most : length plan.inputs ≤ 64
+  pub input_ports : All (λ i. 1 ≤ i.port) plan.inputs
+  pub input_lists : All (λ i. i.list < length plan.lists) plan.inputs
+  pub input_queues : All (λ i. i.queue < length plan.queues) plan.inputs
+  pub queues_least : 1 ≤ length plan.queues
+  pub queues_most : length plan.queues ≤ 513
+  pub queue_ranges : All AreInRange plan.queues
+  pub workers_most : length plan.workers ≤ 256
+  pub worker_queues : All (λ queue. queue < length plan.queues) plan.workers
+  pub actions_most : length plan.actions ≤ 256
+  pub target_ports : All (λ a. HasPort a.device) plan.actions
+  pub lists_least : 1 ≤ length plan.lists
+  pub lists_most : length plan.lists ≤ 513
+  pub list_queues : All (λ l. IfSome l.queue (λ queue. queue < length plan.queues)) plan.lists
+  pub occurrences_most : All (λ l. count l.steps ≤ 64) plan.lists
+  pub occurrences_lead : All (λ l. All (Leads plan) (occurrences l.steps)) plan.lists
