@@ -14,3 +14,5 @@ pub mod Lines
 pub mod ScriptFaults
 pub mod PlanValue
 pub mod Tables
+pub mod TableWalk
+pub mod TableSizes

@@ -13,6 +13,7 @@ pub mod parts;
 mod step;
 mod table;
 mod values;
+mod walk;
 
 pub use fault::{FaultCode, PlanFault};
 pub use kind::Kind;
