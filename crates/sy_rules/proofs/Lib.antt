@@ -19,3 +19,8 @@ pub mod Places
 pub mod Fronts
 pub mod Encoding
 pub mod TestLaws
+pub mod TableLaws
+pub mod SizeLaws
+pub mod Walks
+pub mod Sets
+pub mod TableRuns

@@ -22,3 +22,5 @@ pub mod PassPlan
 pub mod PlanInside
 pub mod TextTables
 pub mod Expressions
+pub mod TableWalk
+pub mod TableSizes

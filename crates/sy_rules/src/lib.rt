@@ -23,6 +23,7 @@ mod script_check;
 mod step;
 mod table;
 mod values;
+mod walk;
 
 pub use fault::{FaultCode, PlanFault};
 pub use kind::Kind;
