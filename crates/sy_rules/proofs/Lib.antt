@@ -6,3 +6,5 @@ pub mod Places
 pub mod Fronts
 pub mod Encoding
 pub mod TestLaws
+pub mod AllLines
+pub mod KnownLists

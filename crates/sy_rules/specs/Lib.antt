@@ -16,3 +16,4 @@ pub mod PlanValue
 pub mod Tables
 pub mod TextTables
 pub mod Expressions
+pub mod KnownNumbers

@@ -7,6 +7,7 @@ mod expressions;
 pub mod fault;
 mod item_check;
 pub mod kind;
+mod known;
 pub mod objects;
 pub mod occurrence;
 mod outline;
