@@ -24,3 +24,5 @@ pub mod SizeLaws
 pub mod Walks
 pub mod Sets
 pub mod TableRuns
+pub mod AllLines
+pub mod KnownLists

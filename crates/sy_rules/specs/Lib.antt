@@ -24,3 +24,4 @@ pub mod TextTables
 pub mod Expressions
 pub mod TableWalk
 pub mod TableSizes
+pub mod KnownNumbers

@@ -13,6 +13,7 @@ mod item_values;
 pub mod kind;
 pub mod laws;
 mod names;
+mod known;
 pub mod objects;
 pub mod occurrence;
 mod outline;
