@@ -6,3 +6,4 @@ pub mod SizeLaws
 pub mod Walks
 pub mod Sets
 pub mod TableRuns
+pub mod SizeSums

@@ -10,6 +10,7 @@ pub mod occurrence;
 mod outline;
 pub mod parameters;
 pub mod parts;
+mod sizes;
 mod step;
 mod table;
 mod values;
