@@ -7,3 +7,4 @@ pub mod Walks
 pub mod Sets
 pub mod TableRuns
 pub mod SizeSums
+pub mod Numbering

@@ -16,3 +16,4 @@ pub mod PlanValue
 pub mod Tables
 pub mod TableWalk
 pub mod TableSizes
+pub mod Numbers

@@ -5,6 +5,7 @@ mod check;
 pub mod fault;
 mod item_check;
 pub mod kind;
+mod number;
 pub mod objects;
 pub mod occurrence;
 mod outline;
