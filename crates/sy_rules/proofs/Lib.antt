@@ -8,3 +8,5 @@ pub mod Sets
 pub mod TableRuns
 pub mod SizeSums
 pub mod Numbering
+pub mod LineLaws
+pub mod PlanTables

@@ -1,5 +1,5 @@
 -- A numbered table is numbered, and its lines are those of the table.
-use Rattle.std.proofs.Common.{◌≡◌, ℕ, zero, suc, ◌+◌, ◌≤◌, ◌<◌, List, [], ◌∷◌, ◌++◌, length, take, drop, refl, sym, ap, ◌∙◌, arith, append_assoc, append-nil}
+use Rattle.std.proofs.Common.{◌≡◌, ℕ, zero, suc, ◌+◌, ◌≤◌, List, [], ◌∷◌, ◌++◌, length, take, drop, refl, sym, ap, ◌∙◌, arith, append_assoc, map}
 use Rattle.sy_select.specs.declared.condition.Test.{Test}
 use Rattle.sy_select.specs.Truth.{Formula}
 use Rattle.sy_rules.specs.declared.occurrence.Occurrence.{Occurrence}
@@ -7,7 +7,7 @@ use Rattle.sy_rules.specs.declared.occurrence.Occurrence.TheVariants as occurren
 use Rattle.sy_rules.specs.declared.step.Step.{Step}
 use Rattle.sy_rules.specs.declared.step.Step.TheVariants as step
 use Rattle.sy_rules.specs.Lines.{Lines, expand, expanded, list_at, steps_of, CALL_DEPTH}
-use Rattle.sy_rules.specs.Numbers.{numbered, numbered_step, count_of_step, listed}
+use Rattle.sy_rules.specs.Numbers.{numbered, numbered_step, count_of_step, listed, AreFew}
 use Rattle.sy_rules.specs.Steps.{Steps, occurrences}
 use Rattle.sy_rules.specs.Tables.{test_of, lines_within, lines_of_table, lines_of_tables, table_at, AreNumbered}
 use Rattle.sy_rules.specs.TableSizes.{occurrences_in, listed_in}
@@ -31,11 +31,6 @@ numbers count number (step.Post l n ∷ rest) = (refl, numbers count (number + 1
 numbers count number (step.Call l n ∷ rest) = (refl, numbers count (number + count l) rest)
 numbers count number (step.Stop ∷ rest) = renumbered count (number + 0) number (numbered count (number + 0) rest) (omega arith) (numbers count (number + 0) rest)
 numbers count number (step.If t d o ∷ rest) = renumbered count (number + 0) number (numbered count (number + 0) rest) (omega arith) (numbers count (number + 0) rest)
-
--- where no steps are left
-pub all_numbered : (count : ℕ → ℕ) (number : ℕ) (table rest steps : List Step) → length rest < 1 → table ++ numbered count number rest ≡ numbered count 0 steps → table ≡ numbered count 0 steps
-all_numbered count number table [] steps h e = sym (append-nil table) ∙ e
-all_numbered count number table (s ∷ rest) steps h e = absurd (omega arith)
 
 -- tables that differ in numbers alone
 data Alike : List Step → List Step → Type 0 where
@@ -97,6 +92,22 @@ pub numbered_lines : (tests : List (Formula Test)) (count : ℕ → ℕ) (number
 numbered_lines tests count number steps =
     let same = alike count number steps in
     ap (λ n. lines_within tests n (numbered count number steps)) (alike_length same) ∙ alike_lines tests (length steps) same
+
+-- ---- all tables
+
+pub all_numbers : (count : ℕ → ℕ) (tables : List (List Step)) (l : ℕ) → AreNumbered count 0 (table_at (map (numbered count 0) tables) l)
+all_numbers count [] l = tt
+all_numbers count (t ∷ tables) zero = numbers count 0 t
+all_numbers count (t ∷ tables) (suc l) = all_numbers count tables l
+
+pub all_lines : (tests : List (Formula Test)) (count : ℕ → ℕ) (tables : List (List Step)) → lines_of_tables tests (map (numbered count 0) tables) ≡ lines_of_tables tests tables
+all_lines tests count [] = refl
+all_lines tests count (t ∷ tables) =
+    ap (λ x. x ∷ lines_of_tables tests (map (numbered count 0) tables)) (numbered_lines tests count 0 t) ∙ ap (λ xs. lines_of_table tests t ∷ xs) (all_lines tests count tables)
+
+pub are_few : (count : ℕ → ℕ) (tables : List (List Step)) → ((l : ℕ) → occurrences_in count (table_at tables l) ≤ 64) → AreFew count tables
+are_few count [] h = tt
+are_few count (t ∷ tables) h = (h 0, are_few count tables (λ l. h (suc l)))
 
 -- ---- the occurrences of lists
 

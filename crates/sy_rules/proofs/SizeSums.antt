@@ -108,7 +108,7 @@ same_statements f g (step.Call l n ∷ rest) h = let r = same_statements f g res
 same_statements f g (step.Stop ∷ rest) h = let r = same_statements f g rest h in omega arith
 same_statements f g (step.If t d o ∷ rest) h = let r = same_statements f g rest h in omega arith
 
-same_occurrences : (f g : ℕ → ℕ) (steps : List Step) → ((l : ℕ) → f l ≡ up_to OCCURRENCES (g l)) → up_to OCCURRENCES (occurrences_in f steps) ≡ up_to OCCURRENCES (occurrences_in g steps)
+pub same_occurrences : (f g : ℕ → ℕ) (steps : List Step) → ((l : ℕ) → f l ≡ up_to OCCURRENCES (g l)) → up_to OCCURRENCES (occurrences_in f steps) ≡ up_to OCCURRENCES (occurrences_in g steps)
 same_occurrences f g [] h = refl
 same_occurrences f g (step.Run a n ∷ rest) h = let r = same_occurrences f g rest h in omega arith
 same_occurrences f g (step.Post l n ∷ rest) h = let r = same_occurrences f g rest h in omega arith

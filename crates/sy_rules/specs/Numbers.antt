@@ -1,11 +1,11 @@
 -- The numbering of a table's occurrences, as the code makes it, for its private functions.
-use Rattle.std.specs.Prelude.{ℕ, zero, suc, ◌+◌, List, [], ◌∷◌}
+use Rattle.std.specs.Prelude.{ℕ, zero, suc, ◌+◌, ◌≤◌, List, [], ◌∷◌}
 use Rattle.sy_rules.specs.declared.occurrence.Occurrence.{Occurrence}
 use Rattle.sy_rules.specs.declared.sizes.Size.{Size}
 use Rattle.sy_rules.specs.declared.step.Step.{Step}
 use Rattle.sy_rules.specs.declared.step.Step.TheVariants as step
 use Rattle.sy_rules.specs.Tables.{table_at}
-use Rattle.sy_rules.specs.TableSizes.{empty, size_at, listed_in}
+use Rattle.sy_rules.specs.TableSizes.{empty, size_at, occurrences_in, listed_in}
 
 -- how many occurrences a list has by its size
 abbrev pub count_in : List Size → ℕ → ℕ
@@ -29,6 +29,11 @@ count_of_step count (step.If test done otherwise) = 0
 abbrev pub numbered : (ℕ → ℕ) → ℕ → List Step → List Step
 numbered count number [] = []
 numbered count number (s ∷ rest) = numbered_step number s ∷ numbered count (number + count_of_step count s) rest
+
+-- tables whose occurrences are numbered no further than 64
+abbrev pub AreFew : (ℕ → ℕ) → List (List Step) → Type 0
+AreFew count [] = Unit {0}
+AreFew count (table ∷ tables) = (occurrences_in count table ≤ 64) × AreFew count tables
 
 -- the occurrences of a list, where lists may lie in one another at most so deep, this one too
 abbrev pub listed : List (List Step) → ℕ → ℕ → List Occurrence

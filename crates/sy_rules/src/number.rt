@@ -1,12 +1,12 @@
 //! The numbers of the occurrences of lists.
 
-ghost use Rattle.std.specs.Prelude.{◌≡◌, ◌≤◌, ◌++◌, List, map, IfOk, OnOk};
+ghost use Rattle.std.specs.Prelude.{◌≡◌, ℕ, ◌≤◌, ◌++◌, List, map, IfOk, OnOk};
 ghost use Rattle.sy_select.specs.declared.condition.Test.{Test};
 ghost use Rattle.sy_select.specs.Truth.{Formula};
 ghost use Rattle.sy_rules.specs.Lines.{steps_of};
 ghost use Rattle.sy_rules.specs.Numbers as spec;
 ghost use Rattle.sy_rules.specs.Steps as steps;
-ghost use Rattle.sy_rules.specs.Tables.{AreNumbered, lines_of_table, lines_of_tables};
+ghost use Rattle.sy_rules.specs.Tables.{AreNumbered, lines_of_tables, table_at};
 ghost use Rattle.sy_rules.specs.TableSizes.{listed_in, occurrences_in};
 
 use crate::occurrence::Occurrence;
@@ -47,11 +47,10 @@ fn count_of_step(step: Step, sizes: &[Size]) -> u32
     }
 }
 
-/// A table whose occurrences are numbered from 0, where lists have these sizes.
-pub fn numbered(alloc: Global, steps: &[Step], sizes: &[Size]) -> Result<Items<Step>, AllocError>
+// A table whose occurrences are numbered from 0, where lists have these sizes.
+fn numbered(alloc: Global, steps: &[Step], sizes: &[Size]) -> Result<Items<Step>, AllocError>
     requires { occurrences_in (spec.count_in sizes.now) steps.now ≤ 64 }
-    ensures numbered { IfOk result (λ table. AreNumbered (spec.count_in sizes.now) 0 table) }
-    ensures same { IfOk result (λ table. (tests : List (Formula Test)) → lines_of_table tests table ≡ lines_of_table tests steps.now) }
+    ensures { IfOk result (λ table. table ≡ spec.numbered (spec.count_in sizes.now) 0 steps.now) }
 {
     let mut table = Items::new(alloc);
     let mut number = 0;
@@ -62,6 +61,37 @@ pub fn numbered(alloc: Global, steps: &[Step], sizes: &[Size]) -> Result<Items<S
         rest = after;
     }
     Ok(table)
+}
+
+// All tables by themselves.
+fn all_numbered(
+    alloc: Global,
+    tables: &[Vec<Step>],
+    sizes: &[Size],
+) -> Result<Vec<Items<Step>>, AllocError>
+    requires { spec.AreFew (spec.count_in sizes.now) (map (λ table. table.items) tables.now) }
+    ensures { IfOk result (λ all. all.items ≡ map (spec.numbered (spec.count_in sizes.now) 0) (map (λ table. table.items) tables.now)) }
+{
+    let mut all = Vec::new(alloc);
+    let mut rest = tables;
+    while let [table, after @ ..] = rest {
+        all.push(numbered(alloc, table.as_slice(), sizes)?)?;
+        rest = after;
+    }
+    Ok(all)
+}
+
+/// The tables of lists that have these sizes, each with its occurrences numbered from 0. It takes time linear in the tables.
+pub fn number_lists(
+    alloc: Global,
+    tables: &[Vec<Step>],
+    sizes: &[Size],
+) -> Result<Vec<Items<Step>>, AllocError>
+    requires { spec.AreFew (spec.count_in sizes.now) (map (λ table. table.items) tables.now) }
+    ensures numbered { IfOk result (λ numbered. (list : ℕ) → AreNumbered (spec.count_in sizes.now) 0 (table_at numbered.items list)) }
+    ensures same { IfOk result (λ numbered. (tests : List (Formula Test)) → lines_of_tables tests numbered.items ≡ lines_of_tables tests (map (λ table. table.items) tables.now)) }
+{
+    all_numbered(alloc, tables, sizes)
 }
 
 // Puts the occurrences of a list behind others, where lists may lie in one another at most so deep.
