@@ -26,3 +26,7 @@ pub mod Sets
 pub mod TableRuns
 pub mod AllLines
 pub mod KnownLists
+pub mod SizeSums
+pub mod Numbering
+pub mod LineLaws
+pub mod PlanTables

@@ -1,12 +1,12 @@
 -- The sizes of a table are those of its lines, and of two tables one behind the other those of both.
-use Rattle.std.proofs.Common.{◌≡◌, ℕ, zero, suc, ◌+◌, ◌≤◌, List, [], ◌∷◌, ◌++◌, length, take, drop, refl, sym, ap, ◌∙◌, arith, add_assoc, append_assoc}
+use Rattle.std.proofs.Common.{◌≡◌, ℕ, zero, suc, ◌+◌, ◌≤◌, List, [], ◌∷◌, ◌++◌, length, take, drop, refl, sym, ap, ◌∙◌, arith, append_assoc}
 use Rattle.std.proofs.lemmas.List.{length-append, length-drop, length-take, take-append-drop}
 use Rattle.sy_select.specs.declared.condition.Test.{Test}
 use Rattle.sy_select.specs.Truth.{Formula}
 use Rattle.sy_rules.specs.declared.occurrence.Occurrence.TheVariants as occurrence
 use Rattle.sy_rules.specs.declared.step.Step.{Step}
 use Rattle.sy_rules.specs.declared.step.Step.TheVariants as step
-use Rattle.sy_rules.specs.Lines.{Lines, calls, statements, expand}
+use Rattle.sy_rules.specs.Lines.{calls, statements, expand}
 use Rattle.sy_rules.specs.Steps.{Steps, ◌⧺◌, occurrences, count}
 use Rattle.sy_rules.specs.Tables.{test_of, lines_within, AreNumbered}
 use Rattle.sy_rules.specs.TableSizes.{called, occurrences_in, statements_in}

@@ -1,14 +1,12 @@
 -- The walk over tables: it needs no more fuel than its steps, and each step by itself.
-use Rattle.std.proofs.Common.{◌≡◌, ℕ, zero, suc, ◌+◌, ◌-◌, ◌*◌, ◌≤◌, ◌<◌, ◌≢◌, zero-le, Bool, true, false, if◌then◌else◌, List, [], ◌∷◌, length, sum_by, slice_get, take, drop, unwrap_or, min, Some, None, refl, sym, ap, ◌∙◌, arith}
+use Rattle.std.proofs.Common.{◌≡◌, ℕ, zero, suc, ◌+◌, ◌-◌, ◌*◌, ◌≤◌, ◌<◌, ◌≢◌, zero-le, Bool, true, false, if◌then◌else◌, List, [], ◌∷◌, length, sum_by, take, drop, refl, ap, ◌∙◌, arith}
 use Rattle.std.proofs.Math.Nat.{suc-mul}
 use Rattle.std.proofs.lemmas.List.{length-take, length-drop}
 use Rattle.std.proofs.lemmas.List.Sums.{sum_by-cons}
-use Rattle.sy_select.specs.declared.condition.Test.{Test}
-use Rattle.sy_select.specs.Truth.{Formula}
 use Rattle.sy_rules.specs.declared.step.Step.{Step}
 use Rattle.sy_rules.specs.declared.step.Step.TheVariants as step
 use Rattle.sy_rules.specs.declared.walk.Reached.{Reached}
-use Rattle.sy_rules.specs.TableWalk.{run, run_list, run_steps, behind, goes_on, stops, place, add}
+use Rattle.sy_rules.specs.TableWalk.{run, run_list, run_steps, behind, place, add}
 use Rattle.sy_rules.specs.Tables.{table_at}
 
 module _ (met : ℕ → Bool) (called : ℕ → ℕ → ℕ → Reached) where

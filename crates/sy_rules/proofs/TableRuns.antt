@@ -1,5 +1,5 @@
 -- The walk over tables that are numbered is the walk of the expanded text.
-use Rattle.std.proofs.Common.{◌≡◌, ℕ, zero, suc, ◌+◌, ◌^◌, ◌≤◌, ◌<◌, Bool, true, false, ◌||◌, if◌then◌else◌, List, [], ◌∷◌, ◌++◌, length, map, take, drop, slice_get, unwrap_or, Option, Some, None, option_map, inl, inr, refl, sym, ap, subst, ◌∙◌, arith, bit_or, add-zero}
+use Rattle.std.proofs.Common.{◌≡◌, ℕ, zero, suc, ◌+◌, ◌^◌, ◌≤◌, ◌<◌, Bool, true, false, ◌||◌, if◌then◌else◌, List, [], ◌∷◌, ◌++◌, length, take, drop, slice_get, unwrap_or, Option, Some, None, option_map, inl, inr, refl, sym, ap, subst, ◌∙◌, arith, bit_or, add-zero}
 use Rattle.std.specs.List.{list_any}
 use Rattle.std.proofs.lemmas.Bool.{cases_eq}
 use Rattle.std.proofs.lemmas.List.Folds.{list_any-append}
@@ -13,14 +13,14 @@ use Rattle.sy_rules.specs.declared.step.Step.{Step}
 use Rattle.sy_rules.specs.declared.step.Step.TheVariants as step
 use Rattle.sy_rules.specs.declared.walk.Reached.{Reached}
 use Rattle.sy_rules.specs.Lines.{Lines, list_at, calls, expand, expanded, is_deeper, steps_of, CALL_DEPTH}
-use Rattle.sy_rules.specs.Steps.{Steps, ◌⧺◌, Walk, ◌then◌, one, count}
+use Rattle.sy_rules.specs.Steps.{Steps, ◌⧺◌, Walk, ◌then◌, count}
 use Rattle.sy_rules.specs.Tables.{test_of, lines_within, lines_of_table, lines_of_tables, table_at, count_of, AreNumbered, AreTables}
 use Rattle.sy_rules.specs.TableSizes.{called, occurrences_in}
-use Rattle.sy_rules.specs.TableWalk.{run, run_list, run_steps, behind, place, add}
+use Rattle.sy_rules.specs.TableWalk.{run, run_list, place, add}
 use Rattle.sy_rules.specs.Work.{work, IsSetOf}
-use Rattle.sy_rules.proofs.Sets.{with_all, outcome, outcome_then, place_is, add_is, set_of}
+use Rattle.sy_rules.proofs.Sets.{outcome, outcome_then, place_is, add_is, set_of}
 use Rattle.sy_rules.proofs.SizeLaws.{cut, cut_called, cut_occurrences, short_done, short_otherwise, short_rest, numbered_front, numbered_behind, calls_are, count_is}
-use Rattle.sy_rules.proofs.TableLaws.{same_behind, same_if}
+use Rattle.sy_rules.proofs.TableLaws.{same_behind}
 use Rattle.sy_rules.proofs.Walks.{plain, plain-⧺, work_is}
 
 -- ---- calls that don't lie too deep

@@ -1,5 +1,5 @@
 -- The walk of a text under the valuation of a message: a plain recursion on the text, by which tests hold.
-use Rattle.std.proofs.Common.{◌≡◌, ℕ, suc, ◌+◌, Bool, true, false, if◌then◌else◌, List, [], ◌∷◌, ◌++◌, length, map, refl, sym, ap, ◌∙◌, arith, add_assoc, append_assoc, append-nil}
+use Rattle.std.proofs.Common.{◌≡◌, ℕ, suc, ◌+◌, Bool, true, false, if◌then◌else◌, List, [], ◌++◌, length, refl, sym, ap, ◌∙◌, arith, append_assoc, append-nil}
 use Rattle.std.proofs.lemmas.List.{map-append, length-map, drop_at}
 use Rattle.sy_wire.specs.Messages.{Said}
 use Rattle.sy_select.specs.declared.condition.Test.{Test}

@@ -25,3 +25,4 @@ pub mod Expressions
 pub mod TableWalk
 pub mod TableSizes
 pub mod KnownNumbers
+pub mod Numbers

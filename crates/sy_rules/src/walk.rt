@@ -54,7 +54,7 @@ fn expr_at(tests: &[Expr], number: u32) -> Option<&Expr>
     tests.get(number as usize)
 }
 
-fn table_at(tables: &[Items<Step>], list: u32) -> &[Step]
+pub fn table_at(tables: &[Items<Step>], list: u32) -> &[Step]
     ensures { result.now ≡ table_at tables.now list }
 {
     match tables.get(list as usize) {

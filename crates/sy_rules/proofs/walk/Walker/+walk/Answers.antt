@@ -1,7 +1,6 @@
-use Rattle.std.proofs.Common.{◌≡◌, ◌≤◌, ◌<◌, List, length, sum_by, take, drop, rules, if◌then◌else◌, Bool, refl, sym, ap, ◌∙◌, arith}
+use Rattle.std.proofs.Common.{◌≡◌, ◌≤◌, length, sum_by, take, drop, rules, if◌then◌else◌, refl}
 use Rattle.sy_select.specs.Properties.{says}
-use Rattle.sy_rules.specs.declared.step.Step.{Step}
-use Rattle.sy_rules.specs.TableWalk.{meets, run_steps}
+use Rattle.sy_rules.specs.TableWalk.{meets}
 use Rattle.sy_rules.proofs.TableLaws.{run_if, table_length, falls_by_depth}
 use Rattle.sy_rules.proofs.walk.Walker.+walk.Goals as goal
 use Rattle.sy_rules.proofs.walk.Walker.+walk.Goals.{step-then-meets, step-else-meets}

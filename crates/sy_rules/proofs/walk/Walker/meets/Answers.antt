@@ -1,4 +1,4 @@
-use Rattle.std.proofs.Common.{◌≡◌, sym, ◌∙◌, ap, unwrap_or, Option}
+use Rattle.std.proofs.Common.{sym, ◌∙◌, ap, unwrap_or, Option}
 use Rattle.sy_select.specs.declared.condition.Test.{Test}
 use Rattle.sy_select.specs.Properties.{says}
 use Rattle.sy_select.specs.Truth.{Formula}
