@@ -21,3 +21,4 @@ pub mod PassPlan
 pub mod PlanInside
 pub mod TextTables
 pub mod Expressions
+pub mod Loading

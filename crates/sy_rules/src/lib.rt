@@ -11,6 +11,7 @@ mod gather;
 mod item_check;
 mod item_values;
 pub mod kind;
+mod load;
 mod names;
 pub mod objects;
 pub mod occurrence;
