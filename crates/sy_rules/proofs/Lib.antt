@@ -16,3 +16,5 @@ pub mod Places
 pub mod Fronts
 pub mod Encoding
 pub mod TestLaws
+pub mod RulesetItems
+pub mod ListFits

@@ -1,5 +1,5 @@
 -- The parts of a file have as many actions as its items.
-use Rattle.std.proofs.Common.{◌≡◌, ℕ, suc, ◌+◌, List, [], ◌∷◌, ◌++◌, length, refl, sym, ap, ◌∙◌, arith}
+use Rattle.std.proofs.Common.{◌≡◌, ℕ, suc, ◌+◌, List, [], ◌∷◌, length, refl, ap, ◌∙◌, arith}
 use Rattle.std.proofs.lemmas.List.{length-append}
 use Rattle.sy_script.specs.declared.tree.ObjectKind.TheVariants as object
 use Rattle.sy_script.specs.declared.tree.Top.{Top}

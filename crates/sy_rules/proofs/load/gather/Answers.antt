@@ -1,4 +1,4 @@
-use Rattle.std.proofs.Common.{◌≡◌, ◌+◌, ◌≤◌, length, map, ap, arith}
+use Rattle.std.proofs.Common.{length, map, ap, arith}
 use Rattle.sy_rules.specs.ItemViews.{item}
 use Rattle.sy_rules.proofs.CleanItems.{are_clean, few_rulesets, few_actions, queues_of_both}
 use Rattle.sy_rules.proofs.load.gather.Goals as goal
