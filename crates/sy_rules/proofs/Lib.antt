@@ -30,3 +30,5 @@ pub mod SizeSums
 pub mod Numbering
 pub mod LineLaws
 pub mod PlanTables
+pub mod RulesetItems
+pub mod ListFits

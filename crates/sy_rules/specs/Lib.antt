@@ -26,3 +26,4 @@ pub mod TableWalk
 pub mod TableSizes
 pub mod KnownNumbers
 pub mod Numbers
+pub mod Loading

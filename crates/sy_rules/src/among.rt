@@ -10,6 +10,7 @@ ghost use Rattle.sy_rules.specs.Plans.{action_name as the_name};
 ghost use Rattle.sy_rules.specs.ScriptFaults as spec;
 ghost use Rattle.sy_select.specs.Trees.{tree_faults};
 
+use crate::action_names::name_by_number;
 use crate::fault::{FaultCode, PlanFault};
 use crate::item_values::{port_of, ruleset_of_input};
 use crate::kind::Kind;
@@ -151,11 +152,7 @@ pub fn action_name(
 {
     match given {
         Some(name) => Items::from_slice(alloc, name),
-        None => {
-            let mut name = Vec::from_slice(alloc, b"action-")?;
-            name.extend_from_slice(number.to_string(alloc)?.as_bytes())?;
-            Items::from_slice(alloc, name.as_slice())
-        }
+        None => name_by_number(alloc, number),
     }
 }
 

@@ -12,6 +12,7 @@ mod item_check;
 mod item_values;
 pub mod kind;
 pub mod laws;
+mod load;
 mod names;
 mod known;
 mod number;
