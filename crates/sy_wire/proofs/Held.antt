@@ -1,10 +1,10 @@
 -- Bytes that are held back before a sink.
-use Rattle.std.proofs.Common.{◌≡◌, ℕ, zero, suc, ◌+◌, ◌-◌, ◌<◌, ◌≤◌, Bool, false, true, List, [], ◌∷◌, ◌++◌, length, take, drop, length-drop, refl, sym, ap, ◌∙◌, arith}
+use Rattle.std.proofs.Common.{◌≡◌, ℕ, zero, suc, ◌+◌, ◌<◌, ◌≤◌, Bool, false, true, List, [], ◌∷◌, ◌++◌, length, take, drop, refl, sym, ap, ◌∙◌, arith}
 use Rattle.std.specs.Prelude.{Option, Some, None}
 use Rattle.std.specs.Io.KnownBytes.{Appends, Keeps}
-use Rattle.std.proofs.KnownBytes.{Appends-kept, Appends-trans}
+use Rattle.std.proofs.KnownBytes.{Appends-trans}
 use Rattle.std.proofs.Math.Seq.{take-add}
-use Rattle.std.proofs.lemmas.List.{append_assoc, append-nil, take-append-drop, take_rest}
+use Rattle.std.proofs.lemmas.List.{append_assoc, take-append-drop}
 use Rattle.sy_wire.specs.Streams.{with_held, with_held_flushed}
 
 pub appends_more : (a b c : Option (List ℕ)) (bytes rest : List ℕ) (at n : ℕ) → Appends a b (take at bytes) → rest ≡ drop at bytes → Appends b c (take n rest) → Appends a c (take (at + n) bytes)

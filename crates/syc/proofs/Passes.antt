@@ -1,25 +1,23 @@
 -- How passes follow one another.
-use Rattle.std.proofs.Common.{◌≡◌, ◌≢◌, ℕ, zero, suc, ◌+◌, ◌-◌, ◌^◌, min, ◌<◌, ◌≤◌, ◌⊎◌, inl, inr, List, [], ◌∷◌, ◌++◌, length, take, drop, refl, sym, ap, ◌∙◌, arith, length-append}
+use Rattle.std.proofs.Common.{◌≡◌, ℕ, zero, suc, ◌+◌, ◌<◌, ◌≤◌, inl, inr, List, [], ◌∷◌, ◌++◌, length, refl, sym, ap, ◌∙◌, arith, length-append}
 use Rattle.std.specs.Prelude.{Bool, Option, Some, None, false, true}
-use Rattle.std.specs.List.{AllByRecursion, flat_map}
+use Rattle.std.specs.List.{AllByRecursion}
 use Rattle.std.specs.Io.KnownBytes.{Appends, Consumes, IsAtEnd, Keeps}
 use Rattle.std.specs.Fmt.{decimal}
 use Rattle.std.proofs.KnownBytes.{Appends-nil, Appends-trans, Appends-kept}
 use Rattle.std.proofs.lemmas.List.{append_assoc, append-nil}
 use Rattle.std.proofs.lemmas.List.Concat.{flat_map-append}
-use Rattle.sy_wire.specs.Frames.{Held, IsBadLength, IsOpen, IsSize, IsTooLong, frame, stream}
+use Rattle.sy_wire.specs.Frames.{Held, frame, stream}
 use Rattle.sy_wire.specs.Messages.{IsFault, IsMessage, Said}
 use Rattle.sy_wire.specs.Steps.{GivesFrame, GivesInto}
-use Rattle.sy_chain.specs.Entries.{Entry}
 use Rattle.sy_wire.specs.Streams.{count_after}
 use Rattle.sy_wire.specs.declared.framer.FrameFault.TheVariants.{BadLength, TooLong, Truncated, NoMemory as OutOfMemory, Failed}
 use Rattle.sy_wire.specs.declared.message.MsgFault.{MsgFault}
 use Rattle.syc.specs.Pass.{BeginsWith, CarriesFault, IsFramed, IsPart, PartPassed, Passed, line, lines}
-use Rattle.syc.specs.Stops.{Advances, DrainFails, EntryFails, PassedSome, StopIs, StopsAt, Torn}
+use Rattle.syc.specs.Stops.{Advances, DrainFails, EntryFails, StopIs, StopsAt, Torn}
 use Rattle.syc.specs.declared.stop.Stop.{Stop}
 use Rattle.syc.specs.declared.stop.Stop.TheVariants.{Frame, Message, NoMemory, ReadFailed, WriteFailed}
 use Rattle.sy_wire.proofs.CuttingLaws.{bad_more, long_more}
-use Rattle.syc.proofs.Lines.{appends_kept_front}
 
 all_append : (xs ys : List (List ℕ)) → AllByRecursion IsFramed xs → AllByRecursion IsFramed ys → AllByRecursion IsFramed (xs ++ ys)
 all_append [] ys p q = q

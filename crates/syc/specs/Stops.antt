@@ -1,10 +1,10 @@
 -- How far a pass has come between its calls, and what they leave when it stops.
-use Rattle.std.specs.Prelude.{◌≡◌, ◌≢◌, ℕ, ◌+◌, Bool, true, false, Result, Ok, Err, List, [], ◌∷◌, ◌++◌, ◌⊎◌, length, Option, Some, None, slice_get}
+use Rattle.std.specs.Prelude.{◌≡◌, ℕ, ◌+◌, Bool, true, false, Result, Ok, Err, List, [], ◌∷◌, ◌++◌, ◌⊎◌, Option, Some, None, slice_get}
 use Rattle.std.specs.Io.KnownBytes.{Appends, Keeps}
 use Rattle.sy_wire.specs.Frames.{Held, IsOpen}
 use Rattle.sy_wire.specs.Messages.{IsFault, IsMessage, Said}
-use Rattle.sy_wire.specs.Streams.{Rose, count_after}
-use Rattle.sy_wire.specs.declared.framer.FrameFault.TheVariants.{BadLength, TooLong, Truncated, NoMemory as OutOfMemory, Failed}
+use Rattle.sy_wire.specs.Streams.{Rose}
+use Rattle.sy_wire.specs.declared.framer.FrameFault.TheVariants.{BadLength, TooLong}
 use Rattle.sy_chain.specs.Entries.{Entry}
 use Rattle.sy_board.specs.States.{BoardState}
 use Rattle.syc.specs.Pass.{AreReadsUsed, BeginsWith, PartPassed, Passed}

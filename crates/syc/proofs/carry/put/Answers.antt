@@ -1,5 +1,3 @@
-use Rattle.std.proofs.Common.{rules, ◌≡◌, ◌∙◌, sym, ap, refl}
-use Rattle.sy_chain.specs.Entries.{Entry}
 use Rattle.syc.proofs.Ready.{took, taken, queued, ready}
 use Rattle.syc.proofs.carry.put.Goals as goal
 

@@ -1,4 +1,4 @@
-use Rattle.std.proofs.Common.{rules, arith, ◌≡◌, ◌∙◌, ◌<◌, ◌++◌, length, length-append, sym, ap, refl}
+use Rattle.std.proofs.Common.{arith}
 use Rattle.std.proofs.lemmas.Result.{err_from_is_err_and}
 use Rattle.syc.proofs.Passes.{carry_tears, entry_fails, gives_frame, left_shrinks, pass_frame}
 use Rattle.syc.proofs.pass.drain.Goals as goal
