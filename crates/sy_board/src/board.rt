@@ -161,6 +161,18 @@ impl Board {
         ensures ok { IfOk result (λ grabbed. Grabs self.old grabbed.0 grabbed.1 self.new) }
         ensures err { IfErr result (λ fault. GrabFails fault self.old self.new) }
     {
+        match self.grab_all(worker) {
+            Ok(count) => Ok((count, Chain::new(self.alloc))),
+            Err(fault) => Err(fault),
+        }
+    }
+
+    /// The same as `grab` where, as here, nothing is discardable: it answers how many entries left the queue alone.
+    pub fn grab_all(&mut self, worker: u32) -> Result<usize, BoardFault>
+        requires { worker < WORKERS }
+        ensures ok { IfOk result (λ count. Grabs self.old count [] self.new) }
+        ensures err { IfErr result (λ fault. GrabFails fault self.old self.new) }
+    {
         let _ = worker;
         if !self.batch.is_empty() {
             return Err(BoardFault::SlotBusy);
@@ -170,7 +182,7 @@ impl Board {
         };
         self.accounts.in_queues -= count as u64;
         self.accounts.grabbed += count as u64;
-        Ok((count, Chain::new(self.alloc)))
+        Ok(count)
     }
 
     /// The first occurrence due for a worker: the archive's action, run on the first message of its batch.

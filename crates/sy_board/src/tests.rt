@@ -104,6 +104,7 @@ fn carries_a_message(rt: HostRuntime) -> Result<(), Fail> {
     assert_eq!(rt; grab(&rt, &mut board), Ok(1));
     assert_eq!(rt; *board.accounts(), accounts(1, 0, 0, 1));
     assert_eq!(rt; grab(&rt, &mut board), Err(BoardFault::SlotBusy));
+    assert_eq!(rt; board.grab_all(0), Err(BoardFault::SlotBusy));
     let Some(
         Job::Run {
             action,
@@ -121,6 +122,7 @@ fn carries_a_message(rt: HostRuntime) -> Result<(), Fail> {
     assert_eq!(rt; board.settle(0), Ok(()));
     assert!(rt; board.job(0).is_none());
     assert_eq!(rt; grab(&rt, &mut board), Ok(0));
+    assert_eq!(rt; board.grab_all(0), Ok(0));
     assert_eq!(rt; *board.accounts(), accounts(1, 0, 0, 1));
     Ok(())
 }

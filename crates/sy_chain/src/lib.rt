@@ -9,7 +9,7 @@ pub mod chain;
 pub mod node;
 
 pub use chain::Chain;
-pub use node::Node;
+pub use node::{Node, RenewFault};
 
 #[cfg(test)]
 mod tests;

@@ -1,11 +1,13 @@
 // One entry, on the heap.
 ghost use Rattle.std.specs.Prelude.{◌≡◌, IfErr, IfOk, OnErr, OnOk};
 ghost use Rattle.std.specs.Arc.{arc_value};
+ghost use Rattle.sy_chain.specs.Entries.{RenewFails};
+ghost use Rattle.sy_wire.specs.Messages.{IsMessage};
 
 use std::alloc::Global;
 use std::marker::Model;
 use std::sync::Arc;
-use sy_wire::Message;
+use sy_wire::{Message, MsgFault};
 
 // What one node carries.
 #[derive(Drop)]
@@ -15,6 +17,15 @@ struct Fields {
     input: u32,
     due: u64,
     tag: u64,
+}
+
+/// Why a node stays as it is.
+#[derive(Clone, Copy, Debug, PartialEq, Eq)]
+pub enum RenewFault {
+    /// Its message has another owner too.
+    Shared,
+    /// The text is no message.
+    Message(MsgFault),
 }
 
 /// An entry: a message with what is still due for it.
@@ -69,31 +80,34 @@ impl Node {
         }
     }
 
-    /// Makes an entry of another message in the memory of this one, and hands out the bytes of the message that
-    /// it had. Where that one has another owner too, nothing changes and the new message comes back.
+    /// Makes an entry of the message of another text in the memory of this one, and hands out the bytes of the
+    /// message that it had in the place of the text. At a fault nothing has changed.
     pub fn renew(
         &mut self,
-        message: Message,
+        raw: &mut Vec<u8>,
         list: u32,
         input: u32,
         due: u64,
         tag: u64,
-    ) -> Result<Vec<u8>, Message>
-        ensures ok { OnOk result (self.new ≡ record { message = message; list = list; input = input; due = due; tag = tag }) }
-        ensures old { IfOk result (λ bytes. bytes.items ≡ self.old.message.raw) }
-        ensures err { IfErr result (λ m. m ≡ message) }
-        ensures unchanged { OnErr result (self.new ≡ self.old) }
+    ) -> Result<(), RenewFault>
+        ensures found { OnOk result (IsMessage self.new.message × (self.new.message.raw ≡ raw.old.items)) }
+        ensures ok { OnOk result (self.new ≡ record { message = self.new.message; list = list; input = input; due = due; tag = tag }) }
+        ensures old { OnOk result (raw.new.items ≡ self.old.message.raw) }
+        ensures fault { IfErr result (λ e. RenewFails e raw.old.items) }
+        ensures unchanged { OnErr result ((self.new ≡ self.old) × (raw.new ≡ raw.old)) }
     {
         let fields = &mut *self.fields;
-        let Some(place) = Arc::get_mut(&mut fields.message) else {
-            return Err(message);
+        let Some(message) = Arc::get_mut(&mut fields.message) else {
+            return Err(RenewFault::Shared);
         };
-        let bytes = place.replace(message);
+        if let Err(fault) = message.renew(raw) {
+            return Err(RenewFault::Message(fault));
+        }
         fields.list = list;
         fields.input = input;
         fields.due = due;
         fields.tag = tag;
-        Ok(bytes)
+        Ok(())
     }
 
     pub fn message(&self) -> &Arc<Message>

@@ -1,6 +1,6 @@
 // Chains of nodes. Each call that is refused for memory is made again with what came back, so that these
 // tests pass whichever allocation fails.
-use crate::{Chain, Node};
+use crate::{Chain, Node, RenewFault};
 use std::alloc::Global;
 use std::process::Abort;
 use std::sync::Arc;
@@ -9,12 +9,16 @@ use sy_wire::Message;
 
 const RAW: &[u8] = b"<34>1 - - - - - -";
 
-fn message(alloc: Global) -> Result<Arc<Message>, Fail> {
-    let raw = match RAW.to_vec(alloc) {
+fn text(alloc: Global, bytes: &[u8]) -> Result<Vec<u8>, Fail> {
+    let raw = match bytes.to_vec(alloc) {
         Ok(raw) => raw,
-        Err(_) => RAW.to_vec(alloc)?,
+        Err(_) => bytes.to_vec(alloc)?,
     };
-    let Ok(message) = Message::read(raw) else {
+    Ok(raw)
+}
+
+fn message(alloc: Global) -> Result<Arc<Message>, Fail> {
+    let Ok(message) = Message::read(text(alloc, RAW)?) else {
         return Err(Fail::new("no message"));
     };
     match Arc::new(alloc, message) {
@@ -64,21 +68,12 @@ fn carries_what_it_was_given(rt: HostRuntime) -> Result<(), Fail> {
 
 const OTHER: &[u8] = b"<35>1 - - - - - - b";
 
-fn other(alloc: Global) -> Result<Message, Fail> {
-    let raw = match OTHER.to_vec(alloc) {
-        Ok(raw) => raw,
-        Err(_) => OTHER.to_vec(alloc)?,
-    };
-    Message::read(raw).map_err(|_| Fail::new("no message"))
-}
-
 #[test]
 fn carries_another_message(rt: HostRuntime) -> Result<(), Fail> {
     let mut node = node(rt.alloc(), 9)?;
-    let Ok(bytes) = node.renew(other(rt.alloc())?, 4, 5, 6, 7) else {
-        return Err(Fail::new("not renewed"));
-    };
-    assert_eq!(rt; bytes.as_slice(), RAW);
+    let mut raw = text(rt.alloc(), OTHER)?;
+    assert_eq!(rt; node.renew(&mut raw, 4, 5, 6, 7), Ok(()));
+    assert_eq!(rt; raw.as_slice(), RAW);
     assert_eq!(rt; node.message().raw(), OTHER);
     assert_eq!(rt; node.list(), 4);
     assert_eq!(rt; node.input(), 5);
@@ -92,11 +87,26 @@ fn carries_another_message(rt: HostRuntime) -> Result<(), Fail> {
 fn keeps_a_shared_message(rt: HostRuntime) -> Result<(), Fail> {
     let mut node = node(rt.alloc(), 9)?;
     let owner = Arc::try_clone(node.message())?;
-    let Err(back) = node.renew(other(rt.alloc())?, 4, 5, 6, 7) else {
-        return Err(Fail::new("renewed though shared"));
-    };
-    assert_eq!(rt; back.raw(), OTHER);
+    let mut raw = text(rt.alloc(), OTHER)?;
+    assert_eq!(rt; node.renew(&mut raw, 4, 5, 6, 7), Err(RenewFault::Shared));
+    assert_eq!(rt; raw.as_slice(), OTHER);
     assert_eq!(rt; owner.raw(), RAW);
+    assert_eq!(rt; node.message().raw(), RAW);
+    assert_eq!(rt; node.due(), 3);
+    Ok(())
+}
+
+// A text that is no message changes nothing.
+#[test]
+fn keeps_its_message_at_a_fault(rt: HostRuntime) -> Result<(), Fail> {
+    let mut node = node(rt.alloc(), 9)?;
+    let mut raw = text(rt.alloc(), b"<35>2")?;
+    let Err(RenewFault::Message(fault)) = node.renew(&mut raw, 4, 5, 6, 7) else {
+        return Err(Fail::new("renewed by no message"));
+    };
+    assert_eq!(rt; fault.code as u8, 2);
+    assert_eq!(rt; fault.offset, 4);
+    assert_eq!(rt; raw.as_slice(), b"<35>2".as_slice());
     assert_eq!(rt; node.message().raw(), RAW);
     assert_eq!(rt; node.due(), 3);
     Ok(())

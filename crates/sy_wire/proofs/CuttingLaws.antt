@@ -1,13 +1,12 @@
 -- The frames of a stream don't depend on how it is cut into pieces.
-use Rattle.std.proofs.Common.{◌≡◌, ◌≢◌, ℕ, ◌+◌, ◌<◌, ◌≤◌, ◌⊎◌, inl, inr, List, [], ◌∷◌, ◌++◌, length, refl, sym, ap, ◌∙◌, arith, length-append}
-use Rattle.std.specs.List.{AllByRecursion, concat, flat_map}
+use Rattle.std.proofs.Common.{◌≡◌, ℕ, ◌<◌, ◌⊎◌, inl, inr, List, [], ◌∷◌, ◌++◌, length, refl, sym, ap, ◌∙◌, arith}
+use Rattle.std.specs.List.{AllByRecursion, concat}
 use Rattle.std.specs.Fmt.{decimal}
 use Rattle.std.proofs.lemmas.Fmt.{decimal_injective, first_decimal, decimal_nonempty}
 use Rattle.std.proofs.lemmas.List.{append_assoc, append-nil}
 use Rattle.std.proofs.lemmas.List.Concat.{flat_map-append}
 use Rattle.sy_wire.specs.Frames.{Held, IsBadLength, IsSize, IsTooLong, NoFrame, frame, stream}
-use Rattle.sy_wire.specs.Steps.{Feeds, GivesFrame}
-use Rattle.sy_wire.specs.Cuttings.{BytesAreFrames, CuttingIsFree, FaultStays, OneFront, Runs, SameFault, SameFrames, Stands, starts, feeds, gives}
+use Rattle.sy_wire.specs.Cuttings.{CuttingIsFree, FaultStays, OneFront, Runs, Stands, starts, feeds, gives}
 use Rattle.sy_wire.proofs.Opens.{digits_decimal, first_of, first_of_decimal, front_digits, one_front, space_is_none, value_le}
 
 -- lists of one length at the front of equal lists are equal

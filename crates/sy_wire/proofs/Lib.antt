@@ -1,6 +1,7 @@
 pub mod CuttingLaws
 pub mod Digits
 pub mod Elements
+pub mod Held
 pub mod Moments
 pub mod Names
 pub mod OneReading

@@ -32,6 +32,11 @@ pub record GivesNone (old new : Held) : Type 0 where
   pub is_open : IsOpen old.left
   pub same : new ≡ old
 
+-- what `next_into` found, and left in the buffer
+abbrev pub GivesInto : Bool → Held → List ℕ → Held → Type 0
+GivesInto true old message new = GivesFrame old message new
+GivesInto false old message new = GivesNone old new × (message ≡ [])
+
 -- the stream ended behind its last frame
 pub record Ends (old new : Held) : Type 0 where
   pub good : old.has_failed ≡ false

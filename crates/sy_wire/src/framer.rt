@@ -3,13 +3,12 @@ ghost use Rattle.std.specs.Prelude.{◌≡◌, ◌≢◌, ◌+◌, ◌-◌, ◌<
 ghost use Rattle.std.specs.Io.KnownBytes.{Keeps};
 ghost use Rattle.sy_wire.specs.Frames.{IsOpen};
 ghost use Rattle.sy_wire.specs.Heads.{HeadIs};
-ghost use Rattle.sy_wire.specs.Steps.{EndFails, Ends, FeedFails, Feeds, FillFails, Fills, FrameFails, GivesFrame, GivesNone};
+ghost use Rattle.sy_wire.specs.Steps.{EndFails, Ends, FeedFails, Feeds, FillFails, Fills, FrameFails, GivesFrame, GivesInto, GivesNone};
 ghost use Rattle.sy_wire.specs.Streams.{ReadsPiece, Rose, count_after};
 
 use super::stream::{ReadFault, Source};
 use std::alloc::{AllocError, Global};
 use std::marker::Model;
-use std::mem;
 
 /// The longest message that a frame may carry, in bytes.
 pub const MAX_FRAME: usize = 65536;
@@ -90,8 +89,6 @@ pub struct Framer {
     at: usize,
     end: usize,
     has_failed: bool,
-    // memory for the next message; its bytes mean nothing
-    spare: Vec<u8>,
 }
 
 impl Model for Framer {
@@ -106,7 +103,7 @@ impl Model for Framer {
 }
 
 // Moves the bytes of that range to the front.
-fn move_to_front(bytes: &mut [u8], at: usize, end: usize)
+pub(crate) fn move_to_front(bytes: &mut [u8], at: usize, end: usize)
     requires order { at ≤ end }
     requires within { end ≤ length bytes.old }
     ensures front { take (end - at) bytes.new ≡ slice_range bytes.old at end }
@@ -146,15 +143,6 @@ fn read_behind<R: Source>(bytes: &mut [u8], end: usize, source: &mut R) -> Resul
     source.read(room)
 }
 
-// The bytes, in this memory where they have room there.
-fn copy_into(mut room: Vec<u8>, bytes: &[u8]) -> Result<Vec<u8>, AllocError>
-    ensures { IfOk result (λ copy. copy.items ≡ bytes.now) }
-{
-    room.clear();
-    room.extend_from_slice(bytes)?;
-    Ok(room)
-}
-
 impl Framer {
     /// A framer to which nothing was fed. It takes no memory yet.
     pub fn new(alloc: Global) -> Framer
@@ -166,7 +154,6 @@ impl Framer {
             at: 0,
             end: 0,
             has_failed: false,
-            spare: Vec::new(alloc),
         }
     }
 
@@ -236,22 +223,35 @@ impl Framer {
             (λ o. MatchOption o (GivesNone self.old self.new) (λ m. GivesFrame self.old m.items self.new))
             (λ e. FrameFails e self.old self.new) }
     {
+        let mut message = Vec::new(self.alloc);
+        match self.next_into(&mut message) {
+            Ok(true) => Ok(Some(message)),
+            Ok(false) => Ok(None),
+            Err(fault) => Err(fault),
+        }
+    }
+
+    /// The same as `next_frame`, with the message's bytes in place of those that the buffer had, and in its memory
+    /// where they have room there. It answers whether there was a frame: the buffer is empty where there was none.
+    pub fn next_into(&mut self, message: &mut Vec<u8>) -> Result<bool, FrameFault>
+        ensures ok { IfOk result (λ found. GivesInto found self.old message.new.items self.new) }
+        ensures err { IfErr result (λ e. FrameFails e self.old self.new) }
+        ensures empty { OnErr result (message.new.items ≡ []) }
+    {
+        message.clear();
         if self.has_failed {
             return Err(FrameFault::Failed);
         }
         let rest = &self.bytes[self.at..self.end];
         match head_of(rest) {
-            Head::Whole { from, to } => {
-                let room = mem::replace(&mut self.spare, Vec::new(self.alloc));
-                match copy_into(room, &rest[from..to]) {
-                    Ok(message) => {
-                        self.at += to;
-                        Ok(Some(message))
-                    }
-                    Err(_) => Err(FrameFault::NoMemory),
+            Head::Whole { from, to } => match message.extend_from_slice(&rest[from..to]) {
+                Ok(()) => {
+                    self.at += to;
+                    Ok(true)
                 }
-            }
-            Head::Partial => Ok(None),
+                Err(_) => Err(FrameFault::NoMemory),
+            },
+            Head::Partial => Ok(false),
             Head::BadLength => {
                 self.has_failed = true;
                 Err(FrameFault::BadLength)
@@ -261,14 +261,6 @@ impl Framer {
                 Err(FrameFault::TooLong)
             }
         }
-    }
-
-    /// Takes bytes that nobody needs any more, so that the next message is made in their memory. It
-    /// shows in no answer: a message that has no room there takes memory as ever.
-    pub fn give_back(&mut self, used: Vec<u8>)
-        ensures { self.new ≡ self.old }
-    {
-        self.spare = used;
     }
 
     /// The stream has ended: all whole frames and any other fault were answered before. It answers

@@ -200,24 +200,32 @@ fn fill<R: Source>(framer: &mut Framer, source: &mut R) -> Result<usize, FillFau
     }
 }
 
-// Reads the stream in pieces of this size, and gives the memory of each frame back.
+fn next_into(framer: &mut Framer, message: &mut Vec<u8>) -> Result<bool, FrameFault> {
+    match framer.next_into(message) {
+        Err(FrameFault::NoMemory) => framer.next_into(message),
+        answer => answer,
+    }
+}
+
+// Reads the stream in pieces of this size, and each frame into the memory of the one before.
 fn assert_filled(rt: &impl Abort, alloc: Global, size: usize) {
     let mut framer = Framer::new(alloc);
     let mut source = FromRead::new(Pieces { rest: STREAM, size });
     let mut count = 0;
+    let mut frame = Vec::new(alloc);
     for _ in 0..STREAM.len() {
         let Ok(_) = fill(&mut framer, &mut source) else {
             break;
         };
-        for _ in 0..MESSAGES.len() {
-            let Ok(Some(frame)) = next_frame(&mut framer) else {
+        for _ in 0..=MESSAGES.len() {
+            let Ok(true) = next_into(&mut framer, &mut frame) else {
                 break;
             };
             assert!(rt; count < MESSAGES.len());
             assert_eq!(rt; frame.as_slice(), MESSAGES[count], "in pieces of {size}");
-            framer.give_back(frame);
             count += 1;
         }
+        assert!(rt; frame.is_empty());
     }
     assert_eq!(rt; count, MESSAGES.len(), "in pieces of {size}");
 }

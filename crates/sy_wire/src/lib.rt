@@ -1,6 +1,7 @@
 // Syslog messages, the frames that carry them, and where their bytes come from and go.
 #![tactic(auto)]
 
+pub mod buffered;
 pub mod class;
 pub mod framer;
 #[cfg(test)]
@@ -13,6 +14,7 @@ pub mod stream;
 #[cfg(test)]
 mod stream_tests;
 
+pub use buffered::Buffered;
 pub use class::Class;
 pub use framer::{FillFault, FrameFault, Framer, MAX_FRAME, PIECE};
 pub use from_read::FromRead;

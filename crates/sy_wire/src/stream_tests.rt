@@ -1,6 +1,7 @@
 // The adapters over readers and writers of std.
-use crate::{FromRead, FromWrite, ReadFault, Sink, Source, WriteFault};
+use crate::{Buffered, FromRead, FromWrite, ReadFault, Sink, Source, WriteFault};
 use std::io::{self, ErrorKind, Read, Write};
+use std::test::Fail;
 
 // Gives one byte at a read, and fails where there is none left.
 #[derive(Drop)]
@@ -65,4 +66,34 @@ fn takes_a_write_of_nothing_for_a_fault(rt: HostRuntime) {
     assert_eq!(rt; sink.write(b"c"), Err(WriteFault));
     assert_eq!(rt; sink.flush(), Err(WriteFault));
     assert_eq!(rt; sink.into_inner().left, 0);
+}
+
+// What has room is held back, and goes on in front of what has none, or at a flush.
+#[test]
+fn holds_bytes_back(rt: HostRuntime) -> Result<(), Fail> {
+    let Ok(mut sink) = Buffered::with_capacity(rt.alloc(), 4, FromWrite::new(Room { left: 3 }))
+    else {
+        return Err(Fail::new("no memory"));
+    };
+    assert_eq!(rt; sink.flush(), Ok(()));
+    assert_eq!(rt; sink.write(b"abc"), Ok(3));
+    assert_eq!(rt; sink.write(b"de"), Ok(2));
+    assert_eq!(rt; sink.flush(), Err(WriteFault));
+    assert_eq!(rt; sink.write(b"f"), Ok(1));
+    assert_eq!(rt; sink.write(b"gh"), Err(WriteFault));
+    Ok(())
+}
+
+// What is longer than the room goes past it.
+#[test]
+fn writes_past_the_room(rt: HostRuntime) -> Result<(), Fail> {
+    let Ok(mut sink) = Buffered::with_capacity(rt.alloc(), 2, FromWrite::new(Room { left: 2 }))
+    else {
+        return Err(Fail::new("no memory"));
+    };
+    assert_eq!(rt; sink.write(b"a"), Ok(1));
+    assert_eq!(rt; sink.write(b"bcd"), Ok(1));
+    assert_eq!(rt; sink.write(b"cd"), Ok(2));
+    assert_eq!(rt; sink.flush(), Err(WriteFault));
+    Ok(())
 }

@@ -1,25 +1,23 @@
 -- How passes follow one another.
-use Rattle.std.proofs.Common.{◌≡◌, ◌≢◌, ℕ, zero, suc, ◌+◌, ◌-◌, ◌^◌, min, ◌<◌, ◌≤◌, ◌⊎◌, inl, inr, List, [], ◌∷◌, ◌++◌, length, take, drop, refl, sym, ap, ◌∙◌, arith, length-append}
-use Rattle.std.specs.Prelude.{Option, Some, None}
-use Rattle.std.specs.List.{AllByRecursion, flat_map}
+use Rattle.std.proofs.Common.{◌≡◌, ℕ, zero, suc, ◌+◌, ◌<◌, ◌≤◌, inl, inr, List, [], ◌∷◌, ◌++◌, length, refl, sym, ap, ◌∙◌, arith, length-append}
+use Rattle.std.specs.Prelude.{Bool, Option, Some, None, false, true}
+use Rattle.std.specs.List.{AllByRecursion}
 use Rattle.std.specs.Io.KnownBytes.{Appends, Consumes, IsAtEnd, Keeps}
 use Rattle.std.specs.Fmt.{decimal}
 use Rattle.std.proofs.KnownBytes.{Appends-nil, Appends-trans, Appends-kept}
 use Rattle.std.proofs.lemmas.List.{append_assoc, append-nil}
 use Rattle.std.proofs.lemmas.List.Concat.{flat_map-append}
-use Rattle.sy_wire.specs.Frames.{Held, IsBadLength, IsOpen, IsSize, IsTooLong, frame, stream}
+use Rattle.sy_wire.specs.Frames.{Held, frame, stream}
 use Rattle.sy_wire.specs.Messages.{IsFault, IsMessage, Said}
-use Rattle.sy_wire.specs.Steps.{GivesFrame}
-use Rattle.sy_chain.specs.Entries.{Entry}
+use Rattle.sy_wire.specs.Steps.{GivesFrame, GivesInto}
 use Rattle.sy_wire.specs.Streams.{count_after}
 use Rattle.sy_wire.specs.declared.framer.FrameFault.TheVariants.{BadLength, TooLong, Truncated, NoMemory as OutOfMemory, Failed}
 use Rattle.sy_wire.specs.declared.message.MsgFault.{MsgFault}
 use Rattle.syc.specs.Pass.{BeginsWith, CarriesFault, IsFramed, IsPart, PartPassed, Passed, line, lines}
-use Rattle.syc.specs.Stops.{Advances, CarryFails, DrainFails, PassedSome, StopIs, StopsAt, Torn}
+use Rattle.syc.specs.Stops.{Advances, DrainFails, EntryFails, StopIs, StopsAt, Torn}
 use Rattle.syc.specs.declared.stop.Stop.{Stop}
 use Rattle.syc.specs.declared.stop.Stop.TheVariants.{Frame, Message, NoMemory, ReadFailed, WriteFailed}
 use Rattle.sy_wire.proofs.CuttingLaws.{bad_more, long_more}
-use Rattle.syc.proofs.Lines.{appends_kept_front}
 
 all_append : (xs ys : List (List ℕ)) → AllByRecursion IsFramed xs → AllByRecursion IsFramed ys → AllByRecursion IsFramed (xs ++ ys)
 all_append [] ys p q = q
@@ -79,6 +77,10 @@ advances_nothing bytes a b at kept = record { n = 0; passed = passed_nothing byt
 pub advances_trans : (bytes mid rest : List ℕ) (a b c : Option (List ℕ)) (i j k : ℕ) → Advances bytes a b mid i j → Advances mid b c rest j k → Advances bytes a c rest i k
 advances_trans bytes mid rest a b c i j k p q = record { n = p.n + q.n; passed = passed_trans bytes mid rest p.n q.n a b c p.passed q.passed; taken = omega (arith, p.taken, q.taken) }
 
+pub gives_frame : (found : Bool) (old new : Held) (raw : List ℕ) → found ≡ true → GivesInto found old raw new → GivesFrame old raw new
+gives_frame true old new raw is h = h
+gives_frame false old new raw is h = cc
+
 -- a frame leaves less than there was
 pub left_shrinks : (old new : Held) (raw : List ℕ) → GivesFrame old raw new → length new.left + 1 ≤ length old.left
 left_shrinks old new raw given =
@@ -96,22 +98,28 @@ module _ (start raw : List ℕ) (old new : Held) (m : Said) (a b c : Option (Lis
       let one : Passed old.left b c new.left 1 = rw given.taken (passed_one raw new.left b c framed wrote_raw) in
       record { n = p.n + 1; passed = passed_trans start old.left new.left p.n 1 a b c p.passed one; taken = omega (arith, p.taken, more) }
 
-  pub carry_fails : (e : Stop) (k : ℕ) → CarryFails e b c (line m.raw) → DrainFails e start a c i k
-  carry_fails (Frame f) k h = absurd h
-  carry_fails (Message f) k h = absurd h
-  carry_fails NoMemory k h = (old.left, p.n, passed_kept start old.left p.n a b c p.passed h)
-  carry_fails ReadFailed k h = absurd h
-  carry_fails WriteFailed k h =
+  pub carry_keeps : (k : ℕ) → Keeps b c → DrainFails NoMemory start a c i k
+  carry_keeps k h = (old.left, p.n, passed_kept start old.left p.n a b c p.passed h)
+
+  pub carry_tears : (k : ℕ) → Torn b c (line m.raw) → DrainFails WriteFailed start a c i k
+  carry_tears k h =
       let torn : Torn b c (line raw) = rw (← text) h in
       part_torn start raw new.left p.n a b c (rw (← given.taken) p.passed) framed torn
 
-pub no_message : (start raw : List ℕ) (old new : Held) (fault : MsgFault) (a b : Option (List ℕ)) (i j : ℕ) → Advances start a b old.left i j → GivesFrame old raw new → IsFault raw fault.code fault.offset
+no_message : (start raw : List ℕ) (old new : Held) (fault : MsgFault) (a b : Option (List ℕ)) (i j : ℕ) → Advances start a b old.left i j → GivesFrame old raw new → IsFault raw fault.code fault.offset
     → StopsAt (Message fault) start a b i j
 no_message start raw old new fault a b i j p given is = record {
   rest = old.left;
   advances = p;
   fault = record { raw = raw; more = new.left; size = given.size; front = given.taken; fault_is = is };
 }
+
+pub entry_fails : (e : Stop) (start raw : List ℕ) (old new : Held) (a b : Option (List ℕ)) (i j : ℕ) → Advances start a b old.left i j → GivesFrame old raw new → EntryFails e raw → DrainFails e start a b i j
+entry_fails (Frame f) start raw old new a b i j p given h = absurd h
+entry_fails (Message fault) start raw old new a b i j p given h = no_message start raw old new fault a b i j p given h
+entry_fails NoMemory start raw old new a b i j p given h = (old.left, p.n, p.passed)
+entry_fails ReadFailed start raw old new a b i j p given h = absurd h
+entry_fails WriteFailed start raw old new a b i j p given h = absurd h
 
 -- what is still to come after a read
 pub after_read : (ahead : List ℕ) (new : Option (List ℕ)) (bytes : List ℕ) → Consumes (Some ahead) new bytes → (next : List ℕ) × (new ≡ Some next) × (ahead ≡ bytes ++ next)
@@ -203,14 +211,3 @@ turn_goes_on left ahead next bytes held rest a b c i j kept split is h =
 pub calls_next : (first i now next : ℕ) → (i ≡ 0 → now ≡ first) → (0 < i → now ≡ count_after first i) → next ≡ count_after now 1 → next ≡ count_after first (i + 1)
 calls_next first zero now next start later e = e ∙ ap (λ n. count_after n 1) (start refl)
 calls_next first (suc i) now next start later e = let h : now ≡ count_after first (suc i) = later (omega arith) in omega (arith, h, e)
-
--- what holds of a frame's message holds of the entry that carries it
-
-pub gives_kept : (old a b : Held) (message : List ℕ) → a ≡ b → GivesFrame old message b → GivesFrame old message a
-gives_kept old a b message same g = rw same g
-
-pub appends_line : (a b : Option (List ℕ)) (entry message : Entry) → entry ≡ message → Appends a b (line entry.message.raw) → Appends a b (line message.message.raw)
-appends_line a b entry message same h = rw same at h
-
-pub fails_line : (stop : Stop) (a b : Option (List ℕ)) (entry message : Entry) → entry ≡ message → CarryFails stop a b (line entry.message.raw) → CarryFails stop a b (line message.message.raw)
-fails_line stop a b entry message same h = rw same at h

@@ -1,6 +1,6 @@
 -- A message on its way over the board.
-use Rattle.std.proofs.Common.{◌≡◌, ℕ, zero, suc, ◌+◌, ◌<◌, List, [], ◌∷◌, ◌++◌, length, take, drop, min, refl, sym, ap, ◌∙◌, arith}
-use Rattle.std.specs.Prelude.{Option, Some, None, slice_get, slice_set}
+use Rattle.std.proofs.Common.{◌≡◌, ℕ, List, [], ◌∷◌, ◌++◌, length, take, drop, refl, sym, ap, ◌∙◌, arith}
+use Rattle.std.specs.Prelude.{Some, None, slice_get, slice_set}
 use Rattle.sy_chain.specs.Entries.{Entry}
 use Rattle.sy_board.specs.States.{BoardState}
 use Rattle.sy_board.specs.Steps.{Enters, Grabs, Settles, TakeIs, Takes}

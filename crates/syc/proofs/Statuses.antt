@@ -1,12 +1,10 @@
 -- What each exit status says.
-use Rattle.std.proofs.Common.{◌≡◌, ◌≢◌, ℕ, ◌+◌, ◌<◌, ◌≤◌, ◌⊎◌, inl, inr, List, [], ◌++◌, refl, ap, subst, sym, ◌∙◌, arith}
+use Rattle.std.proofs.Common.{◌≡◌, ℕ, ◌+◌, ◌≤◌, inl, inr, List, ◌++◌, refl, subst, arith}
 use Rattle.std.specs.Prelude.{Option}
 use Rattle.std.specs.Io.KnownBytes.{Keeps}
 use Rattle.std.proofs.KnownBytes.{Appends-kept, Keeps-refl}
-use Rattle.sy_wire.specs.declared.framer.FrameFault.{FrameFault}
-use Rattle.sy_wire.specs.declared.framer.FrameFault.TheVariants.{BadLength, TooLong, Truncated, NoMemory as OutOfMemory, Failed}
 use Rattle.sy_wire.specs.Streams.{Rose}
-use Rattle.syc.specs.Pass.{EndsAtFault, EndsFailing, EndsForMemory, GivesUpFailing, HasFailed, PartPassed, PassIs, Passed, lines}
+use Rattle.syc.specs.Pass.{GivesUpFailing, HasFailed, PartPassed, PassIs, lines}
 use Rattle.syc.specs.Reports.{report, status_shown}
 use Rattle.syc.specs.Stops.{PassCause, StopIs, StopsAt, StopsIn}
 use Rattle.syc.specs.declared.stop.Stop.{Stop}

@@ -1,19 +1,33 @@
 -- How far a pass has come between its calls, and what they leave when it stops.
-use Rattle.std.specs.Prelude.{◌≡◌, ◌≢◌, ℕ, ◌+◌, Bool, true, false, Result, Ok, Err, List, [], ◌∷◌, ◌++◌, ◌⊎◌, length, Option, Some, None, slice_get}
+use Rattle.std.specs.Prelude.{◌≡◌, ℕ, ◌+◌, Bool, true, false, Result, Ok, Err, List, [], ◌∷◌, ◌++◌, ◌⊎◌, Option, Some, None, slice_get}
 use Rattle.std.specs.Io.KnownBytes.{Appends, Keeps}
 use Rattle.sy_wire.specs.Frames.{Held, IsOpen}
-use Rattle.sy_wire.specs.Messages.{Said}
-use Rattle.sy_wire.specs.Streams.{Rose, count_after}
-use Rattle.sy_wire.specs.declared.framer.FrameFault.TheVariants.{BadLength, TooLong, Truncated, NoMemory as OutOfMemory, Failed}
+use Rattle.sy_wire.specs.Messages.{IsFault, IsMessage, Said}
+use Rattle.sy_wire.specs.Streams.{Rose}
+use Rattle.sy_wire.specs.declared.framer.FrameFault.TheVariants.{BadLength, TooLong}
 use Rattle.sy_chain.specs.Entries.{Entry}
 use Rattle.sy_board.specs.States.{BoardState}
 use Rattle.syc.specs.Pass.{AreReadsUsed, BeginsWith, PartPassed, Passed}
+use Rattle.syc.specs.declared.carry.CarryFault.{CarryFault}
+use Rattle.syc.specs.declared.carry.CarryFault.TheVariants.{NoMemory as OutOfRoom, WriteFailed as IsTorn}
 use Rattle.syc.specs.declared.stop.Stop.{Stop}
 use Rattle.syc.specs.declared.stop.Stop.TheVariants.{Frame, Message, NoMemory, ReadFailed, WriteFailed}
 
 -- a message's entry, as it enters a pass's board: of the one list, from the one input, its one occurrence due
 abbrev pub entry_of : Said → Entry
 entry_of message = record { message = message; list = 0; input = 0; due = 1; tag = 0 }
+
+-- the entry of the message with this text
+pub record Carries (node : Entry) (raw : List ℕ) : Type 0 where
+  pub is_message : IsMessage node.message
+  pub text : node.message.raw ≡ raw
+  pub entry : node ≡ entry_of node.message
+
+-- why there is no entry of a text: memory ran out, or the text has this fault
+abbrev pub EntryFails : Stop → List ℕ → Type 0
+EntryFails (Message fault) raw = IsFault raw fault.code fault.offset
+EntryFails NoMemory raw = Unit {0}
+EntryFails _ raw = ⊥
 
 -- no message is on the board where the next one comes
 pub record IsIdle (b : BoardState) : Type 0 where
@@ -37,10 +51,9 @@ pub record Torn (old new : Option (List ℕ)) (bytes : List ℕ) : Type 0 where
   pub front : bytes ≡ part ++ tail
 
 -- a message's line was not, or not wholly, written
-abbrev pub CarryFails : Stop → Option (List ℕ) → Option (List ℕ) → List ℕ → Type 0
-CarryFails NoMemory old new bytes = Keeps old new
-CarryFails WriteFailed old new bytes = Torn old new bytes
-CarryFails _ old new bytes = ⊥
+abbrev pub CarryFails : CarryFault → Option (List ℕ) → Option (List ℕ) → List ℕ → Type 0
+CarryFails OutOfRoom old new bytes = Keeps old new
+CarryFails IsTorn old new bytes = Torn old new bytes
 
 -- the messages at the front of the bytes were passed, and the board took each of them
 pub record Advances (bytes : List ℕ) (old new : Option (List ℕ)) (rest : List ℕ) (before after : ℕ) : Type 0 where

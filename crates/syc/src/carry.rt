@@ -3,16 +3,18 @@ ghost use Rattle.std.specs.Prelude.{◌≡◌, ◌+◌, ◌<◌, ◌≤◌, ◌^
 ghost use Rattle.std.specs.Io.KnownBytes.{Appends};
 ghost use Rattle.sy_board.specs.States.{IsOfList};
 ghost use Rattle.syc.specs.Pass.{line};
-ghost use Rattle.syc.specs.Stops.{CarryFails, IsIdle, IsReady, WriteCause, entry_of};
+ghost use Rattle.syc.specs.Stops.{Carries, CarryFails, EntryFails, IsIdle, IsReady};
+ghost use Rattle.sy_wire.specs.Streams.{Rose};
 
 use crate::output::write_line;
 use crate::stop::Stop;
-use std::alloc::Global;
+use std::alloc::{AllocError, Global};
+use std::mem;
 use std::sync::Arc;
 use sy_board::limits::{DUE, LIST};
 use sy_board::{Board, BoardFault, Entry, Job};
-use sy_chain::Node;
-use sy_wire::{Framer, Message, Sink};
+use sy_chain::{Node, RenewFault};
+use sy_wire::{Message, Sink};
 
 // The only input, hand and worker that a pass uses, and the tag that it doesn't look at.
 const INPUT: u32 = 0;
@@ -23,11 +25,26 @@ const WORKER: u32 = 0;
 
 const TAG: u64 = 0;
 
-// An entry of the message, in new memory.
-fn new_entry(alloc: Global, message: Message) -> Result<Node, Stop>
-    ensures ok { IfOk result (λ node. node ≡ entry_of message) }
-    ensures err { IfErr result (λ e. e ≡ Stop.NoMemory) }
+/// Why a message's line was not, or not wholly, written.
+#[derive(Clone, Copy)]
+pub enum CarryFault {
+    /// Memory ran out before the line.
+    NoMemory,
+    /// A write failed in the line.
+    WriteFailed,
+}
+
+// An entry of the message of that text, in new memory. It takes the text away.
+#[inline(never)]
+fn new_entry(alloc: Global, raw: &mut Vec<u8>) -> Result<Node, Stop>
+    ensures ok { IfOk result (λ node. Carries node raw.old.items) }
+    ensures err { IfErr result (λ e. EntryFails e raw.old.items) }
 {
+    let text = mem::replace(raw, Vec::new(alloc));
+    let message = match Message::read(text) {
+        Ok(message) => message,
+        Err((_, fault)) => return Err(Stop::Message(fault)),
+    };
     let Ok(message) = Arc::new(alloc, message) else {
         return Err(Stop::NoMemory);
     };
@@ -37,39 +54,30 @@ fn new_entry(alloc: Global, message: Message) -> Result<Node, Stop>
     Ok(node)
 }
 
-/// An entry of the message. It is made in the memory of one that has left the board, if there is one, and the
-/// framer gets the memory of the bytes that were there.
-pub fn entry(
-    alloc: Global,
-    framer: &mut Framer,
-    used: Option<Node>,
-    message: Message,
-) -> Result<Node, Stop>
-    ensures ok { IfOk result (λ node. node ≡ entry_of message) }
-    ensures held { framer.new ≡ framer.old }
-    ensures err { IfErr result (λ e. e ≡ Stop.NoMemory) }
+/// An entry of the message of that text. It is made in the memory of one that has left the board, if there is one,
+/// and then the bytes that were there are in place of the text, so that their memory can be used again.
+pub fn entry(alloc: Global, used: Option<Node>, raw: &mut Vec<u8>) -> Result<Node, Stop>
+    ensures ok { IfOk result (λ node. Carries node raw.old.items) }
+    ensures err { IfErr result (λ e. EntryFails e raw.old.items) }
 {
     let Some(mut node) = used else {
-        return new_entry(alloc, message);
+        return new_entry(alloc, raw);
     };
-    match node.renew(message, LIST, INPUT, DUE, TAG) {
-        Ok(bytes) => {
-            framer.give_back(bytes);
-            Ok(node)
-        }
-        Err(message) => new_entry(alloc, message),
+    match node.renew(raw, LIST, INPUT, DUE, TAG) {
+        Ok(()) => Ok(node),
+        Err(RenewFault::Message(fault)) => Err(Stop::Message(fault)),
+        Err(RenewFault::Shared) => new_entry(alloc, raw),
     }
 }
 
 // Brings an entry through its hand and the queue to the worker.
-fn put(board: &mut Board, node: Node) -> Result<(), Stop>
+fn put(board: &mut Board, node: Node) -> Result<(), AllocError>
     requires idle { IsIdle board.old }
     requires room { board.old.taken + 1 < 2 ^ 64 }
     requires node { IsOfList 0 node }
     ensures ok { OnOk result (IsReady board.new node.message.raw) }
     ensures taken { OnOk result (board.new.taken ≡ board.old.taken + 1) }
     ensures bound { board.new.taken ≤ board.old.taken + 1 }
-    ensures err { IfErr result (λ e. e ≡ Stop.NoMemory) }
 {
     let Ok(_in_hand) = board.take(INPUT, HAND, node) else {
         unreachable!()
@@ -77,17 +85,17 @@ fn put(board: &mut Board, node: Node) -> Result<(), Stop>
     match board.enter(INPUT, HAND) {
         Ok(Entry::Entered) => {}
         Ok(Entry::Held(_)) => unreachable!(),
-        Err(BoardFault::NoMemory) => return Err(Stop::NoMemory),
+        Err(BoardFault::NoMemory) => return Err(AllocError),
         Err(_) => unreachable!(),
     }
-    let Ok((_count, _lost)) = board.grab(WORKER) else {
+    let Ok(_count) = board.grab_all(WORKER) else {
         unreachable!()
     };
     Ok(())
 }
 
 /// Takes a message over the board to its line, and hands out the entry that carried it.
-pub fn carry<W: Sink>(board: &mut Board, writer: &mut W, node: Node) -> Result<Node, Stop>
+pub fn carry<W: Sink>(board: &mut Board, writer: &mut W, node: Node) -> Result<Node, CarryFault>
     requires idle { IsIdle board.old }
     requires room { board.old.taken + 1 < 2 ^ 64 }
     requires node { IsOfList 0 node }
@@ -96,16 +104,18 @@ pub fn carry<W: Sink>(board: &mut Board, writer: &mut W, node: Node) -> Result<N
     ensures taken { OnOk result (board.new.taken ≡ board.old.taken + 1) }
     ensures bound { board.new.taken ≤ board.old.taken + 1 }
     ensures err { IfErr result (λ e. CarryFails e (W.contents writer.old) (W.contents writer.new) (line node.message.raw)) }
-    ensures held { result ≡ Err Stop.WriteFailed → IsReady board.new node.message.raw }
+    ensures held { result ≡ Err CarryFault.WriteFailed → IsReady board.new node.message.raw }
     ensures count { W.faults writer.old ≤ W.faults writer.new }
-    ensures cause { IfErr result (λ e. WriteCause e (W.faults writer.old) (W.faults writer.new)) }
+    ensures cause { result ≡ Err CarryFault.WriteFailed → Rose (W.faults writer.old) (W.faults writer.new) }
 {
-    put(board, node)?;
+    let Ok(()) = put(board, node) else {
+        return Err(CarryFault::NoMemory);
+    };
     let Some(Job::Run { message, .. }) = board.job(WORKER) else {
         unreachable!()
     };
     let Ok(()) = write_line(writer, message.raw()) else {
-        return Err(Stop::WriteFailed);
+        return Err(CarryFault::WriteFailed);
     };
     let Ok(node) = board.settle_out(WORKER) else {
         unreachable!()

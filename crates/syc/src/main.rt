@@ -16,7 +16,7 @@ use run::run;
 use std::env;
 use std::io::BufWriter;
 use std::process::ExitCode;
-use sy_wire::{FromRead, FromWrite};
+use sy_wire::{Buffered, FromRead, FromWrite};
 
 /// How many bytes of lines are held back until the next read.
 const OUTPUT_BUFFER: usize = 65536;
@@ -41,10 +41,10 @@ fn start(rt: &HostRuntime) -> u8 {
     let Ok(words) = args.skip(1).collect::<Vec<String>>(alloc) else {
         return stop::out_of_memory(&mut errors);
     };
-    let Ok(writer) = BufWriter::with_capacity(alloc, OUTPUT_BUFFER, rt.stdout()) else {
+    let stdout = FromWrite::new(rt.stdout());
+    let Ok(mut writer) = Buffered::with_capacity(alloc, OUTPUT_BUFFER, stdout) else {
         return stop::out_of_memory(&mut errors);
     };
-    let mut writer = FromWrite::new(writer);
     let mut reader = FromRead::new(rt.stdin());
     run(
         alloc,

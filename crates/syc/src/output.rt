@@ -9,6 +9,7 @@ ghost use Rattle.syc.specs.Stops.{Torn};
 use sy_wire::{Sink, WriteFault};
 
 /// Writes all the bytes, or a front of them.
+#[inline(always)]
 pub fn write_all<W: Sink>(writer: &mut W, bytes: &[u8]) -> Result<(), WriteFault>
     ensures ok { OnOk result (Appends (W.contents writer.old) (W.contents writer.new) bytes.now) }
     ensures torn { OnErr result (Torn (W.contents writer.old) (W.contents writer.new) bytes.now) }

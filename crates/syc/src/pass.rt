@@ -7,11 +7,11 @@ ghost use Rattle.syc.specs.Pass.{EndsWhole, GivesUpFailing, HasFailed, IsStatus,
 ghost use Rattle.syc.specs.Reports.{Told};
 ghost use Rattle.syc.specs.Stops.{Advances, DrainFails, FailCause, IsBetween, IsIdle, PassCause, StopIs, StopsIn, TurnIs, WriteCause};
 
-use crate::carry::{carry, entry};
+use crate::carry::{CarryFault, carry, entry};
 use crate::stop::{Stop, status_of, tell};
 use std::alloc::Global;
 use sy_board::Board;
-use sy_wire::{FillFault, FrameFault, Framer, Message, Sink, Source};
+use sy_wire::{FillFault, FrameFault, Framer, Sink, Source};
 
 /// How many reads a pass makes at most.
 const READS: u64 = 1_000_000_000_000;
@@ -35,16 +35,18 @@ fn drain<W: Sink>(
     ensures cause { IfErr result (λ e. WriteCause e (W.faults writer.old) (W.faults writer.new)) }
 {
     let mut used = None;
+    let mut raw = Vec::new(alloc);
     'frames: loop {
-        match framer.next_frame() {
-            Ok(Some(raw)) => match Message::read(raw) {
-                Ok(message) => {
-                    let node = entry(alloc, framer, used, message)?;
-                    used = Some(carry(board, writer, node)?);
+        match framer.next_into(&mut raw) {
+            Ok(true) => {
+                let node = entry(alloc, used, &mut raw)?;
+                match carry(board, writer, node) {
+                    Ok(node) => used = Some(node),
+                    Err(CarryFault::NoMemory) => return Err(Stop::NoMemory),
+                    Err(CarryFault::WriteFailed) => return Err(Stop::WriteFailed),
                 }
-                Err((_, fault)) => return Err(Stop::Message(fault)),
-            },
-            Ok(None) => return Ok(()),
+            }
+            Ok(false) => return Ok(()),
             Err(FrameFault::NoMemory) => return Err(Stop::NoMemory),
             Err(fault) => return Err(Stop::Frame(fault)),
         }

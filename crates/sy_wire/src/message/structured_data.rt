@@ -1,5 +1,5 @@
 // Reading structured data.
-ghost use Rattle.std.specs.Prelude.{◌≡◌, ◌∷◌, ◌↔◌, List, ℕ, IfNone, IfSome, IsTrue};
+ghost use Rattle.std.specs.Prelude.{◌≡◌, ◌≤◌, ◌∷◌, ◌↔◌, List, ℕ, drop, length, IfNone, IfSome, IsTrue};
 ghost use Rattle.sy_wire.specs.Characters.{Begins, EndsTo};
 ghost use Rattle.sy_wire.specs.StructuredData.{AreParams, DataTo, ElementsTo, IsParamValue, IsSdElement, IsSdParam};
 
@@ -67,7 +67,6 @@ fn is_open(bytes: &[u8]) -> bool
 }
 
 // The bytes behind the last element.
-#[inline(never)]
 fn elements(bytes: &[u8]) -> Option<&[u8]>
     ensures some { IfSome result (λ rest. ElementsTo bytes.now rest.now) }
     ensures none { IfNone result ((rest : List ℕ) → ElementsTo bytes.now rest → ⊥) }
@@ -79,6 +78,17 @@ fn elements(bytes: &[u8]) -> Option<&[u8]>
     Some(left)
 }
 
+// How many bytes the elements are. The answer is in registers, as a slice isn't.
+#[inline(never)]
+fn elements_len(bytes: &[u8]) -> Option<usize>
+    ensures within { IfSome result (λ n. n ≤ length bytes.now) }
+    ensures some { IfSome result (λ n. ElementsTo bytes.now (drop n bytes.now)) }
+    ensures none { IfNone result ((rest : List ℕ) → ElementsTo bytes.now rest → ⊥) }
+{
+    let rest = elements(bytes)?;
+    Some(bytes.len() - rest.len())
+}
+
 // The bytes behind the structured data.
 #[inline(always)]
 pub(super) fn behind_structured_data(bytes: &[u8]) -> Option<&[u8]>
@@ -87,6 +97,9 @@ pub(super) fn behind_structured_data(bytes: &[u8]) -> Option<&[u8]>
 {
     match after(bytes, b'-') {
         Some(rest) => Some(rest),
-        None => elements(bytes),
+        None => {
+            let (_, rest) = bytes.split_at(elements_len(bytes)?);
+            Some(rest)
+        }
     }
 }

@@ -1,7 +1,7 @@
 // Each rule of the grammar by texts that are read and texts that are not.
 // The offsets are counted by hand: `<34>1 - - - - - ` has its version at 4, its timestamp at 6, its fields
 // at 8, 10, 12 and 14, its structured data at 16, and what is behind a `-` there at 17.
-use super::{Message, MsgCode};
+use super::{Message, MsgCode, MsgFault};
 use std::alloc::{AllocError, Global};
 use std::test::Fail;
 
@@ -480,13 +480,21 @@ fn takes_the_place_of_another(rt: HostRuntime) -> Result<(), Fail> {
     let Ok(mut message) = Message::read(joined(rt.alloc(), &[b"<34>1 - - - - - - a"])?) else {
         return Err("no message")?;
     };
-    let Ok(other) = Message::read(joined(rt.alloc(), &[b"<9>1 - web - - - - bc"])?) else {
-        return Err("no message")?;
-    };
-    let old = message.replace(other);
-    assert_eq!(rt; old.as_slice(), b"<34>1 - - - - - - a".as_slice());
+    let mut raw = joined(rt.alloc(), &[b"<9>1 - web - - - - bc"])?;
+    assert_eq!(rt; message.renew(&mut raw), Ok(()));
+    assert_eq!(rt; raw.as_slice(), b"<34>1 - - - - - - a".as_slice());
     assert_eq!(rt; message.raw(), b"<9>1 - web - - - - bc".as_slice());
     assert_eq!(rt; message.hostname(), b"web".as_slice());
     assert_eq!(rt; message.msg(), b"bc".as_slice());
+    let mut none = joined(rt.alloc(), &[b"<9>1 - w\0b - - - - bc"])?;
+    assert_eq!(rt;
+        message.renew(&mut none),
+        Err(MsgFault {
+            code: MsgCode::Hostname,
+            offset: 7
+        })
+    );
+    assert_eq!(rt; none.as_slice(), b"<9>1 - w\0b - - - - bc".as_slice());
+    assert_eq!(rt; message.hostname(), b"web".as_slice());
     Ok(())
 }

@@ -1,5 +1,5 @@
 // Reading a timestamp.
-ghost use Rattle.std.specs.Prelude.{◌≡◌, ◌+◌, ◌/◌, ◌%◌, ◌<◌, ◌≤◌, ◌∷◌, ◌++◌, ◌↔◌, List, ℕ, IfNone, IfSome, IsTrue};
+ghost use Rattle.std.specs.Prelude.{◌≡◌, ◌+◌, ◌/◌, ◌%◌, ◌<◌, ◌≤◌, ◌∷◌, ◌++◌, ◌↔◌, List, ℕ, drop, length, IfNone, IfSome, IsTrue};
 ghost use Rattle.sy_wire.specs.Characters.{Begins};
 ghost use Rattle.sy_wire.specs.Timestamps.{IsDate, IsFullDate, IsHourMinute, IsLeapYear, IsMoment, IsTimeEnd, IsTimeOffset, IsTimestamp, two_digits};
 
@@ -96,7 +96,6 @@ fn time_end(bytes: &[u8]) -> Option<&[u8]>
 }
 
 // The bytes behind the date and the time.
-#[inline(never)]
 fn moment(bytes: &[u8]) -> Option<&[u8]>
     ensures some { IfSome result (λ rest. Begins IsMoment bytes.now rest.now) }
     ensures none { IfNone result ((rest : List ℕ) → Begins IsMoment bytes.now rest → ⊥) }
@@ -107,6 +106,17 @@ fn moment(bytes: &[u8]) -> Option<&[u8]>
     time_end(rest)
 }
 
+// How many bytes the date and the time are. The answer is in registers, as a slice isn't.
+#[inline(never)]
+fn moment_len(bytes: &[u8]) -> Option<usize>
+    ensures within { IfSome result (λ n. n ≤ length bytes.now) }
+    ensures some { IfSome result (λ n. Begins IsMoment bytes.now (drop n bytes.now)) }
+    ensures none { IfNone result ((rest : List ℕ) → Begins IsMoment bytes.now rest → ⊥) }
+{
+    let rest = moment(bytes)?;
+    Some(bytes.len() - rest.len())
+}
+
 // The bytes behind the timestamp.
 #[inline(always)]
 pub(super) fn behind_timestamp(bytes: &[u8]) -> Option<&[u8]>
@@ -115,6 +125,9 @@ pub(super) fn behind_timestamp(bytes: &[u8]) -> Option<&[u8]>
 {
     match after(bytes, b'-') {
         Some(rest) => Some(rest),
-        None => moment(bytes),
+        None => {
+            let (_, rest) = bytes.split_at(moment_len(bytes)?);
+            Some(rest)
+        }
     }
 }

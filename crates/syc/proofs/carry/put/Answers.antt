@@ -1,5 +1,3 @@
-use Rattle.std.proofs.Common.{rules, ◌≡◌, ◌∙◌, sym, ap, refl}
-use Rattle.sy_chain.specs.Entries.{Entry}
 use Rattle.syc.proofs.Ready.{took, taken, queued, ready}
 use Rattle.syc.proofs.carry.put.Goals as goal
 
@@ -8,4 +6,4 @@ returns-clause-ok c =
     let takes = took _ _ _ _ _ c.in-Ok.ensures.ok in
     let on_hand = taken _ _ _ c.requires.idle takes in
     let enters = rw c.in-Ok-Entered.field-0-is at c.in-Ok-Entered.ensures.ok in
-    ready _ _ _ _ _ (queued _ _ _ on_hand enters) c.in-Ok-grab.ensures.ok
+    ready _ _ _ _ _ (queued _ _ _ on_hand enters) c.in-Ok-grab_all.ensures.ok

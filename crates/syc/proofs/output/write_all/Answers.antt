@@ -1,4 +1,4 @@
-use Rattle.std.proofs.Common.{arith, length-drop, rules}
+use Rattle.std.proofs.Common.{arith}
 use Rattle.syc.proofs.Lines.{appends_more}
 use Rattle.syc.proofs.output.write_all.Goals as goal
 

@@ -1,27 +1,31 @@
-use Rattle.std.proofs.Common.{rules, arith, ◌≡◌, ◌∙◌, ◌<◌, ◌++◌, length, length-append, sym, ap, refl}
+use Rattle.std.proofs.Common.{arith}
 use Rattle.std.proofs.lemmas.Result.{err_from_is_err_and}
-use Rattle.syc.proofs.Passes.{appends_line, carry_fails, fails_line, gives_kept, left_shrinks, pass_frame}
+use Rattle.syc.proofs.Passes.{carry_tears, entry_fails, gives_frame, left_shrinks, pass_frame}
 use Rattle.syc.proofs.pass.drain.Goals as goal
 
 pub frames-preserved : goal.frames-preserved
 frames-preserved g c =
-    let made = c.in_ok-node-in-Ok.ensures in
-    let gives = gives_kept _ _ _ _ made.held (rw c.in-Ok-Some.field-0-is at c.in-Ok-Some.ensures.answer) in
-    let found = c.in-Ok.ensures.found in
+    let made = c.in_ok-node-in-Ok-true.ensures.ok in
+    let gives = gives_frame _ _ _ _ c.in-Ok-true.field-0-test c.in-Ok-true.ensures.ok in
     let less = left_shrinks _ _ _ gives in
-    let one = c.in_ok-carry-in-Ok.ensures.taken in
+    let one = c.in-Ok.ensures.taken in
     record {
-      idle = c.in_ok-carry-in-Ok.ensures.idle;
+      idle = c.in-Ok.ensures.idle;
       good = gives.stays_good;
       room = omega (arith, less, one, c.frames.invariant.room);
       small = c.frames.invariant.small;
-      advances = pass_frame _ _ _ _ _ _ _ _ _ _ c.frames.invariant.advances gives found.0 found.1 _ one (appends_line _ _ _ _ made.ok c.in_ok-carry-in-Ok.ensures.ok);
-      count = omega (arith, c.frames.invariant.count, c.in_ok-carry-in-Ok.ensures.count);
+      advances = pass_frame _ _ _ _ _ _ _ _ _ _ c.frames.invariant.advances gives made.is_message made.text _ one c.in-Ok.ensures.ok;
+      count = omega (arith, c.frames.invariant.count, c.in-Ok.ensures.count);
     }
 
-pub returns-in_err-carry-in-Ok-clause-err : goal.returns-in_err-carry-in-Ok-clause-err
-returns-in_err-carry-in-Ok-clause-err g c =
-    let gives = rw c.in-Ok-Some.field-0-is at c.in-Ok-Some.ensures.answer in
-    let found = c.in-Ok.ensures.found in
-    let p = err_from_is_err_and c.from_residual-in_err-carry-in-Ok.result c.from_residual-in_err-carry-in-Ok.ensures.1 in
-    rw (p.1, p.2) (carry_fails _ _ _ _ _ _ _ _ _ _ c.frames.invariant.advances gives found.0 found.1 _ _ (fails_line _ _ _ _ _ c.in_ok-node-in-Ok.ensures.ok c.in_err-carry-in-Ok.ensures.err))
+pub returns-in-Err-WriteFailed-clause-err : goal.returns-in-Err-WriteFailed-clause-err
+returns-in-Err-WriteFailed-clause-err g c =
+    let made = c.in_ok-node-in-Ok-true.ensures.ok in
+    let gives = gives_frame _ _ _ _ c.in-Ok-true.field-0-test c.in-Ok-true.ensures.ok in
+    carry_tears _ _ _ _ _ _ _ _ _ _ c.frames.invariant.advances gives made.is_message made.text 0 (rw c.in-Err-WriteFailed.field-0-is at c.in-Err-WriteFailed.ensures.err)
+
+pub returns-in_err-node-in-Ok-true-clause-err : goal.returns-in_err-node-in-Ok-true-clause-err
+returns-in_err-node-in-Ok-true-clause-err g c =
+    let gives = gives_frame _ _ _ _ c.in-Ok-true.field-0-test c.in-Ok-true.ensures.ok in
+    let p = err_from_is_err_and c.from_residual.result c.from_residual.ensures.1 in
+    rw (p.1, p.2) (entry_fails _ _ _ _ _ _ _ _ _ c.frames.invariant.advances gives c.in_err-node-in-Ok-true.ensures.err)

@@ -1,4 +1,4 @@
-use Rattle.std.proofs.Common.{◌≡◌, ◌∙◌, List, ℕ, inl, inr, refl, ap, sym}
+use Rattle.std.proofs.Common.{◌∙◌, inl, inr, ap, sym}
 use Rattle.syc.specs.Reports.{Told, status_shown}
 use Rattle.syc.proofs.Statuses.{flush_failed, gives_up, stopped}
 use Rattle.syc.proofs.pass.give_up.Goals as goal

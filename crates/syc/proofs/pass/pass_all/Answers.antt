@@ -1,4 +1,4 @@
-use Rattle.std.proofs.Common.{rules, ◌≡◌, ◌+◌, ◌∙◌, sym, ap, refl}
+use Rattle.std.proofs.Common.{◌+◌, ap, refl}
 use Rattle.sy_board.specs.declared.accounts.Accounts.{Accounts}
 use Rattle.std.proofs.KnownBytes.{Keeps-refl}
 use Rattle.sy_wire.specs.Frames.{Held}

@@ -1,7 +1,6 @@
-use Rattle.std.proofs.Common.{rules, ◌≡◌, ◌∙◌, ◌++◌, ℕ, List, [], Some, sym, ap, refl, length, take}
+use Rattle.std.proofs.Common.{ap}
 use Rattle.std.proofs.lemmas.Result.{err_from_is_err_and}
-use Rattle.std.specs.Io.KnownBytes.{Consumes, IsAtEnd}
-use Rattle.syc.proofs.Passes.{after_read, at_end, part_of_passed, passed_nothing, turn_stops, turn_goes_on}
+use Rattle.syc.proofs.Passes.{after_read, part_of_passed, passed_nothing, turn_stops}
 use Rattle.syc.proofs.pass.turn.Goals as goal
 
 pub returns-in_default-clause-turned : goal.returns-in_default-clause-turned

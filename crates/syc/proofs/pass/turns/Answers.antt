@@ -1,4 +1,4 @@
-use Rattle.std.proofs.Common.{rules, ◌≡◌, ◌∙◌, ◌++◌, ◌<◌, ℕ, List, [], Some, Ok, sym, ap, refl, length, arith}
+use Rattle.std.proofs.Common.{◌≡◌, ap, refl, length, arith}
 use Rattle.std.proofs.lemmas.Result.{err_from_is_err_and}
 use Rattle.std.proofs.KnownBytes.{Keeps-refl}
 use Rattle.syc.proofs.Passes.{advances_nothing, advances_trans, calls_next, stop_after}
