@@ -14,6 +14,7 @@ pub mod parts;
 mod sizes;
 mod step;
 mod table;
+mod tables;
 mod values;
 mod walk;
 
