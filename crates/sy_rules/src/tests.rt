@@ -5,3 +5,4 @@ mod objects;
 mod outline;
 mod ranges;
 mod read;
+mod tables;
