@@ -8,3 +8,4 @@ mod outline;
 mod ranges;
 mod read;
 mod script;
+mod tables;
