@@ -3,3 +3,4 @@ pub mod Fits
 pub mod Ranges
 pub mod NameSets
 pub mod ScriptLaws
+pub mod ScriptLimits
