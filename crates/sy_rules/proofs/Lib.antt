@@ -32,3 +32,4 @@ pub mod LineLaws
 pub mod PlanTables
 pub mod RulesetItems
 pub mod ListFits
+pub mod ScriptLimits
