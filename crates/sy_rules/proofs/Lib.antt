@@ -18,3 +18,12 @@ pub mod Encoding
 pub mod TestLaws
 pub mod RulesetItems
 pub mod ListFits
+pub mod TableLaws
+pub mod SizeLaws
+pub mod Walks
+pub mod Sets
+pub mod TableRuns
+pub mod SizeSums
+pub mod Numbering
+pub mod LineLaws
+pub mod PlanTables

@@ -22,3 +22,6 @@ pub mod PlanInside
 pub mod TextTables
 pub mod Expressions
 pub mod Loading
+pub mod TableWalk
+pub mod TableSizes
+pub mod Numbers

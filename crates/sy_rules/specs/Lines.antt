@@ -85,9 +85,9 @@ lines file a t (Text.Call name rest) = line_of_call file name (lines file a t re
 lines file a t (Text.Stop rest) = Lines.Stop (lines file a t rest)
 lines file a t (Text.If test done otherwise rest) =
     Lines.If (test_at file t)
-      (lines file a (t + 1) done)
-      (lines file (a + length (text.actions done)) (t + 1 + length (text.tests done)) otherwise)
-      (lines file (a + length (text.actions done) + length (text.actions otherwise)) (t + 1 + length (text.tests done) + length (text.tests otherwise)) rest)
+    (lines file a (t + 1) done)
+    (lines file (a + length (text.actions done)) (t + 1 + length (text.tests done)) otherwise)
+    (lines file (a + length (text.actions done) + length (text.actions otherwise)) (t + 1 + length (text.tests done) + length (text.tests otherwise)) rest)
 
 -- ---- the lists of a file
 

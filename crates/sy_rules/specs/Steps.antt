@@ -77,8 +77,8 @@ walk (Steps.Post l rest) number v = one number then walk rest (number + 1) v
 walk (Steps.Stop rest) number v = stopped
 walk (Steps.If x done otherwise rest) number v =
     (if truth.truth x v
-     then walk done number (truth.behind (truth.occurrences x) v)
-     else walk otherwise (number + count done) (truth.behind (truth.occurrences x ++ tests done) v))
+    then walk done number (truth.behind (truth.occurrences x) v)
+    else walk otherwise (number + count done) (truth.behind (truth.occurrences x ++ tests done) v))
     then walk rest (number + count done + count otherwise) (truth.behind (truth.occurrences x ++ (tests done ++ tests otherwise)) v)
 
 -- the occurrences that a list executes under a valuation, in order

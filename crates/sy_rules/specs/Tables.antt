@@ -1,10 +1,11 @@
 -- The lines that a table of steps stands for, and the numbers that its occurrences have there.
-use Rattle.std.specs.Prelude.{◌≡◌, ℕ, zero, suc, ◌+◌, List, [], ◌∷◌, length, take, drop, slice_get, unwrap_or}
+use Rattle.std.specs.Prelude.{◌≡◌, ℕ, zero, suc, ◌+◌, ◌≤◌, false, map, List, [], ◌∷◌, length, take, drop, slice_get, unwrap_or}
 use Rattle.sy_select.specs.declared.condition.Test.{Test}
 use Rattle.sy_select.specs.Truth.{Formula}
 use Rattle.sy_rules.specs.declared.step.Step.{Step}
 use Rattle.sy_rules.specs.declared.step.Step.TheVariants as step
-use Rattle.sy_rules.specs.Lines.{Lines}
+use Rattle.sy_rules.specs.Lines.{Lines, is_deeper, steps_of, CALL_DEPTH}
+use Rattle.sy_rules.specs.Steps.{count}
 
 abbrev pub test_of : List (Formula Test) → ℕ → Formula Test
 test_of tests number = unwrap_or (slice_get tests number) Formula.Never
@@ -19,9 +20,9 @@ lines_within tests (suc most) (step.Call list number ∷ rest) = Lines.Call list
 lines_within tests (suc most) (step.Stop ∷ rest) = Lines.Stop (lines_within tests most rest)
 lines_within tests (suc most) (step.If test done otherwise ∷ rest) =
     Lines.If (test_of tests test)
-      (lines_within tests most (take done rest))
-      (lines_within tests most (take otherwise (drop done rest)))
-      (lines_within tests most (drop otherwise (drop done rest)))
+    (lines_within tests most (take done rest))
+    (lines_within tests most (take otherwise (drop done rest)))
+    (lines_within tests most (drop otherwise (drop done rest)))
 
 abbrev pub lines_of_table : List (Formula Test) → List Step → Lines
 lines_of_table tests steps = lines_within tests (length steps) steps
@@ -34,3 +35,21 @@ AreNumbered count number (step.Post list n ∷ rest) = (n ≡ number) × AreNumb
 AreNumbered count number (step.Call list n ∷ rest) = (n ≡ number) × AreNumbered count (number + count list) rest
 AreNumbered count number (step.Stop ∷ rest) = AreNumbered count number rest
 AreNumbered count number (step.If test done otherwise ∷ rest) = AreNumbered count number rest
+
+-- ---- the tables of a plan
+
+abbrev pub lines_of_tables : List (Formula Test) → List (List Step) → List Lines
+lines_of_tables tests tables = map (lines_of_table tests) tables
+
+abbrev pub table_at : List (List Step) → ℕ → List Step
+table_at tables list = unwrap_or (slice_get tables list) []
+
+-- how many occurrences a list has
+abbrev pub count_of : List Lines → ℕ → ℕ
+count_of lists list = count (steps_of lists list)
+
+-- The tables of lists whose calls lie in one another no deeper than they may, which have no more occurrences than they may, and whose occurrences are numbered.
+pub record AreTables (tests : List (Formula Test)) (tables : List (List Step)) : Type 0 where
+  pub not_deeper : (list : ℕ) → is_deeper (lines_of_tables tests tables) CALL_DEPTH list ≡ false
+  pub few : (list : ℕ) → count_of (lines_of_tables tests tables) list ≤ 64
+  pub numbered : (list : ℕ) → AreNumbered (count_of (lines_of_tables tests tables)) 0 (table_at tables list)

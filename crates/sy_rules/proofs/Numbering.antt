@@ -1,0 +1,156 @@
+-- A numbered table is numbered, and its lines are those of the table.
+use Rattle.std.proofs.Common.{◌≡◌, ℕ, zero, suc, ◌+◌, ◌≤◌, List, [], ◌∷◌, ◌++◌, length, take, drop, refl, sym, ap, ◌∙◌, arith, append_assoc, map}
+use Rattle.sy_select.specs.declared.condition.Test.{Test}
+use Rattle.sy_select.specs.Truth.{Formula}
+use Rattle.sy_rules.specs.declared.occurrence.Occurrence.{Occurrence}
+use Rattle.sy_rules.specs.declared.occurrence.Occurrence.TheVariants as occurrence
+use Rattle.sy_rules.specs.declared.step.Step.{Step}
+use Rattle.sy_rules.specs.declared.step.Step.TheVariants as step
+use Rattle.sy_rules.specs.Lines.{Lines, expand, expanded, list_at, steps_of, CALL_DEPTH}
+use Rattle.sy_rules.specs.Numbers.{numbered, numbered_step, count_of_step, listed, AreFew}
+use Rattle.sy_rules.specs.Steps.{Steps, occurrences}
+use Rattle.sy_rules.specs.Tables.{test_of, lines_within, lines_of_table, lines_of_tables, table_at, AreNumbered}
+use Rattle.sy_rules.specs.TableSizes.{occurrences_in, listed_in}
+use Rattle.sy_rules.proofs.SizeLaws.{cut, short_done, short_otherwise, short_rest, occurrences-⧺}
+use Rattle.sy_rules.proofs.TableRuns.{list_is}
+
+pub count_more : (count : ℕ → ℕ) (s : Step) (rest : List Step) → occurrences_in count (s ∷ rest) ≡ count_of_step count s + occurrences_in count rest
+count_more count (step.Run a n) rest = refl
+count_more count (step.Post l n) rest = refl
+count_more count (step.Call l n) rest = refl
+count_more count step.Stop rest = omega arith
+count_more count (step.If t d o) rest = omega arith
+
+renumbered : (count : ℕ → ℕ) (n m : ℕ) (steps : List Step) → n ≡ m → AreNumbered count n steps → AreNumbered count m steps
+renumbered count n m steps e h = rw e at h
+
+pub numbers : (count : ℕ → ℕ) (number : ℕ) (steps : List Step) → AreNumbered count number (numbered count number steps)
+numbers count number [] = tt
+numbers count number (step.Run a n ∷ rest) = (refl, numbers count (number + 1) rest)
+numbers count number (step.Post l n ∷ rest) = (refl, numbers count (number + 1) rest)
+numbers count number (step.Call l n ∷ rest) = (refl, numbers count (number + count l) rest)
+numbers count number (step.Stop ∷ rest) = renumbered count (number + 0) number (numbered count (number + 0) rest) (omega arith) (numbers count (number + 0) rest)
+numbers count number (step.If t d o ∷ rest) = renumbered count (number + 0) number (numbered count (number + 0) rest) (omega arith) (numbers count (number + 0) rest)
+
+-- tables that differ in numbers alone
+data Alike : List Step → List Step → Type 0 where
+  end : Alike [] []
+  run : {a n m : ℕ} {xs ys : List Step} → Alike xs ys → Alike (step.Run a n ∷ xs) (step.Run a m ∷ ys)
+  post : {l n m : ℕ} {xs ys : List Step} → Alike xs ys → Alike (step.Post l n ∷ xs) (step.Post l m ∷ ys)
+  call : {l n m : ℕ} {xs ys : List Step} → Alike xs ys → Alike (step.Call l n ∷ xs) (step.Call l m ∷ ys)
+  stop : {xs ys : List Step} → Alike xs ys → Alike (step.Stop ∷ xs) (step.Stop ∷ ys)
+  test : {t d o : ℕ} {xs ys : List Step} → Alike xs ys → Alike (step.If t d o ∷ xs) (step.If t d o ∷ ys)
+
+alike : (count : ℕ → ℕ) (number : ℕ) (steps : List Step) → Alike (numbered count number steps) steps
+alike count number [] = end
+alike count number (step.Run a n ∷ rest) = run (alike count (number + 1) rest)
+alike count number (step.Post l n ∷ rest) = post (alike count (number + 1) rest)
+alike count number (step.Call l n ∷ rest) = call (alike count (number + count l) rest)
+alike count number (step.Stop ∷ rest) = stop (alike count (number + 0) rest)
+alike count number (step.If t d o ∷ rest) = test (alike count (number + 0) rest)
+
+alike_length : {xs ys : List Step} → Alike xs ys → length xs ≡ length ys
+alike_length end = refl
+alike_length (run h) = ap suc (alike_length h)
+alike_length (post h) = ap suc (alike_length h)
+alike_length (call h) = ap suc (alike_length h)
+alike_length (stop h) = ap suc (alike_length h)
+alike_length (test h) = ap suc (alike_length h)
+
+alike_take : (n : ℕ) {xs ys : List Step} → Alike xs ys → Alike (take n xs) (take n ys)
+alike_take zero h = end
+alike_take (suc n) end = end
+alike_take (suc n) (run h) = run (alike_take n h)
+alike_take (suc n) (post h) = post (alike_take n h)
+alike_take (suc n) (call h) = call (alike_take n h)
+alike_take (suc n) (stop h) = stop (alike_take n h)
+alike_take (suc n) (test h) = test (alike_take n h)
+
+alike_drop : (n : ℕ) {xs ys : List Step} → Alike xs ys → Alike (drop n xs) (drop n ys)
+alike_drop zero h = h
+alike_drop (suc n) end = end
+alike_drop (suc n) (run h) = alike_drop n h
+alike_drop (suc n) (post h) = alike_drop n h
+alike_drop (suc n) (call h) = alike_drop n h
+alike_drop (suc n) (stop h) = alike_drop n h
+alike_drop (suc n) (test h) = alike_drop n h
+
+alike_lines : (tests : List (Formula Test)) (most : ℕ) {xs ys : List Step} → Alike xs ys → lines_within tests most xs ≡ lines_within tests most ys
+alike_lines tests zero h = refl
+alike_lines tests (suc most) end = refl
+alike_lines tests (suc most) (run {a = a} h) = ap (Lines.Run a) (alike_lines tests most h)
+alike_lines tests (suc most) (post {l = l} h) = ap (Lines.Post l) (alike_lines tests most h)
+alike_lines tests (suc most) (call {l = l} h) = ap (Lines.Call l) (alike_lines tests most h)
+alike_lines tests (suc most) (stop h) = ap Lines.Stop (alike_lines tests most h)
+alike_lines tests (suc most) (test {t = t} {d = d} {o = o} h) =
+    let done = alike_lines tests most (alike_take d h) in
+    let otherwise = alike_lines tests most (alike_take o (alike_drop d h)) in
+    let after = alike_lines tests most (alike_drop o (alike_drop d h)) in
+    rw (done, otherwise, after) refl
+
+pub numbered_lines : (tests : List (Formula Test)) (count : ℕ → ℕ) (number : ℕ) (steps : List Step) → lines_of_table tests (numbered count number steps) ≡ lines_of_table tests steps
+numbered_lines tests count number steps =
+    let same = alike count number steps in
+    ap (λ n. lines_within tests n (numbered count number steps)) (alike_length same) ∙ alike_lines tests (length steps) same
+
+-- ---- all tables
+
+pub all_numbers : (count : ℕ → ℕ) (tables : List (List Step)) (l : ℕ) → AreNumbered count 0 (table_at (map (numbered count 0) tables) l)
+all_numbers count [] l = tt
+all_numbers count (t ∷ tables) zero = numbers count 0 t
+all_numbers count (t ∷ tables) (suc l) = all_numbers count tables l
+
+pub all_lines : (tests : List (Formula Test)) (count : ℕ → ℕ) (tables : List (List Step)) → lines_of_tables tests (map (numbered count 0) tables) ≡ lines_of_tables tests tables
+all_lines tests count [] = refl
+all_lines tests count (t ∷ tables) =
+    ap (λ x. x ∷ lines_of_tables tests (map (numbered count 0) tables)) (numbered_lines tests count 0 t) ∙ ap (λ xs. lines_of_table tests t ∷ xs) (all_lines tests count tables)
+
+pub are_few : (count : ℕ → ℕ) (tables : List (List Step)) → ((l : ℕ) → occurrences_in count (table_at tables l) ≤ 64) → AreFew count tables
+are_few count [] h = tt
+are_few count (t ∷ tables) h = (h 0, are_few count tables (λ l. h (suc l)))
+
+-- ---- the occurrences of lists
+
+listed-append : (inner : ℕ → List Occurrence) (xs ys : List Step) → listed_in inner (xs ++ ys) ≡ listed_in inner xs ++ listed_in inner ys
+listed-append inner [] ys = refl
+listed-append inner (step.Run a n ∷ xs) ys = ap (λ r. occurrence.Run a ∷ r) (listed-append inner xs ys)
+listed-append inner (step.Post l n ∷ xs) ys = ap (λ r. occurrence.Post l ∷ r) (listed-append inner xs ys)
+listed-append inner (step.Call l n ∷ xs) ys = ap (λ r. inner l ++ r) (listed-append inner xs ys) ∙ sym (append_assoc (inner l) (listed_in inner xs) (listed_in inner ys))
+listed-append inner (step.Stop ∷ xs) ys = listed-append inner xs ys
+listed-append inner (step.If t d o ∷ xs) ys = listed-append inner xs ys
+
+cut_listed : (inner : ℕ → List Occurrence) (d o : ℕ) (rest : List Step)
+    → listed_in inner rest ≡ listed_in inner (take d rest) ++ (listed_in inner (take o (drop d rest)) ++ listed_in inner (drop o (drop d rest)))
+cut_listed inner d o rest =
+    ap (listed_in inner) (cut d o rest) ∙ listed-append inner (take d rest) (take o (drop d rest) ++ drop o (drop d rest))
+    ∙ ap (λ r. listed_in inner (take d rest) ++ r) (listed-append inner (take o (drop d rest)) (drop o (drop d rest)))
+
+module _ (tests : List (Formula Test)) (become : ℕ → Steps) (inner : ℕ → List Occurrence) (known : (l : ℕ) → occurrences (become l) ≡ inner l) where
+  occurrences_are : (most : ℕ) (steps : List Step) → length steps ≤ most → occurrences (expand become (lines_within tests most steps)) ≡ listed_in inner steps
+  occurrences_are zero [] h = refl
+  occurrences_are zero (s ∷ steps) h = absurd (omega arith)
+  occurrences_are (suc most) [] h = refl
+  occurrences_are (suc most) (step.Run a n ∷ rest) h = ap (λ r. occurrence.Run a ∷ r) (occurrences_are most rest (omega arith))
+  occurrences_are (suc most) (step.Post l n ∷ rest) h = ap (λ r. occurrence.Post l ∷ r) (occurrences_are most rest (omega arith))
+  occurrences_are (suc most) (step.Call l n ∷ rest) h =
+      occurrences-⧺ (become l) (expand become (lines_within tests most rest))
+      ∙ ap (λ r. r ++ occurrences (expand become (lines_within tests most rest))) (known l)
+      ∙ ap (λ r. inner l ++ r) (occurrences_are most rest (omega arith))
+  occurrences_are (suc most) (step.Stop ∷ rest) h = occurrences_are most rest (omega arith)
+  occurrences_are (suc most) (step.If t d o ∷ rest) h =
+      let done = occurrences_are most (take d rest) (short_done d o rest most (omega arith)) in
+      let otherwise = occurrences_are most (take o (drop d rest)) (short_otherwise d o rest most (omega arith)) in
+      let after = occurrences_are most (drop o (drop d rest)) (short_rest d o rest most (omega arith)) in
+      rw (done, otherwise, after) (sym (cut_listed inner d o rest))
+
+listed_deep : (tests : List (Formula Test)) (tables : List (List Step)) (depth l : ℕ) → occurrences (expanded (lines_of_tables tests tables) depth l) ≡ listed tables (suc depth) l
+listed_deep tests tables zero l =
+    ap (λ x. occurrences (expand (λ callee. Steps.End) x)) (list_is tests tables l)
+    ∙ occurrences_are tests (λ callee. Steps.End) (listed tables zero) (λ callee. refl) (length (table_at tables l)) (table_at tables l) (omega arith)
+listed_deep tests tables (suc depth) l =
+    let lists = lines_of_tables tests tables in
+    ap (λ x. occurrences (expand (expanded lists depth) x)) (list_is tests tables l)
+    ∙ occurrences_are tests (expanded lists depth) (listed tables (suc depth)) (listed_deep tests tables depth) (length (table_at tables l)) (table_at tables l) (omega arith)
+
+pub listed_is : (tests : List (Formula Test)) (tables : List (List Step)) (l : ℕ) → occurrences (steps_of (lines_of_tables tests tables) l) ≡ listed tables (suc CALL_DEPTH) l
+listed_is tests tables l = listed_deep tests tables CALL_DEPTH l

@@ -1,0 +1,124 @@
+-- That tables are those of a plan, from what was checked of their sizes and how they were numbered.
+use Rattle.std.proofs.Common.{◌≡◌, ℕ, zero, suc, ◌+◌, ◌≤◌, ◌<◌, Bool, true, false, ◌||◌, nat_lt, List, [], ◌∷◌, ◌++◌, length, map, inl, inr, refl, sym, ap, subst, ◌∙◌, arith}
+use Rattle.std.specs.List.{list_any}
+use Rattle.std.proofs.lemmas.Bool.{cases_lt, le-ltb, lt-ltb, ltb-false}
+use Rattle.sy_select.specs.declared.condition.Test.{Test}
+use Rattle.sy_select.specs.Truth.{Formula}
+use Rattle.sy_rules.specs.declared.fault.PlanFault.{PlanFault}
+use Rattle.sy_rules.specs.declared.sizes.Size.{Size}
+use Rattle.sy_rules.specs.declared.step.Step.{Step}
+use Rattle.sy_rules.specs.declared.step.Step.TheVariants as step
+use Rattle.sy_rules.specs.Faults.{fault, when}
+use Rattle.sy_rules.specs.Lines.{Lines, list_at, expand, expanded, is_deeper, steps_of, statements_of, CALL_DEPTH}
+use Rattle.sy_rules.specs.Numbers.{count_in, AreFew}
+use Rattle.sy_rules.specs.ScriptFaults.{STATEMENTS, OCCURRENCES, list_faults, faults_of_lists}
+use Rattle.sy_rules.specs.Steps.{Steps, count}
+use Rattle.sy_rules.specs.Tables.{lines_of_table, lines_of_tables, table_at, count_of, AreNumbered, AreTables}
+use Rattle.sy_rules.specs.TableSizes.{AreSizes, occurrences_in, up_to}
+use Rattle.sy_rules.proofs.Numbering.{are_few}
+use Rattle.sy_rules.proofs.SizeLaws.{count_is}
+use Rattle.sy_rules.proofs.SizeSums.{same_occurrences}
+use Rattle.sy_rules.proofs.TableRuns.{list_is, more_deep}
+
+-- a list that is not too deep and has not too many occurrences
+pub record Fits (lists : List Lines) (l : ℕ) : Type 0 where
+  pub not_deeper : is_deeper lists CALL_DEPTH l ≡ false
+  pub few : count_of lists l ≤ 64
+
+front_none : (xs ys : List PlanFault) → xs ++ ys ≡ [] → xs ≡ []
+front_none [] ys h = refl
+front_none (x ∷ xs) ys h = cc
+
+behind_none : (xs ys : List PlanFault) → xs ++ ys ≡ [] → ys ≡ []
+behind_none [] ys h = h
+behind_none (x ∷ xs) ys h = cc
+
+not_there : (b : Bool) (f : PlanFault) → when b f ≡ [] → b ≡ false
+not_there true f h = cc
+not_there false f h = refl
+
+or_right : (a b : Bool) → (a || b) ≡ false → b ≡ false
+or_right true b h = cc
+or_right false b h = h
+
+no_fault_fits : (lists : List Lines) (name : List ℕ) (l : ℕ) → list_faults lists name l ≡ [] → Fits lists l
+no_fault_fits lists name l none =
+    let many = nat_lt STATEMENTS (statements_of lists l) || nat_lt OCCURRENCES (count_of lists l) in
+    record {
+      not_deeper = not_there _ _ (front_none _ _ none);
+      few = ltb-false OCCURRENCES (count_of lists l) (or_right _ _ (not_there many _ (behind_none _ _ none)));
+    }
+
+-- lists without a fault fit
+pub named_fit : (lists : List Lines) (l : ℕ) (names : List (List ℕ)) (k : ℕ) → faults_of_lists lists l names ≡ [] → k < length names → Fits lists (l + k)
+named_fit lists l [] k none within = absurd (omega arith)
+named_fit lists l (name ∷ names) zero none within = let e : l ≡ l + 0 = omega arith in subst (Fits lists) e (no_fault_fits lists name l (front_none _ _ none))
+named_fit lists l (name ∷ names) (suc k) none within =
+    let e : l + 1 + k ≡ l + suc k = omega arith in subst (Fits lists) e (named_fit lists (l + 1) names k (behind_none _ _ none) (omega arith))
+
+-- a list that runs one action and no more
+pub single_fits : (lists : List Lines) (l a : ℕ) → list_at lists l ≡ Lines.Run a Lines.End → Fits lists l
+single_fits lists l a is = record { not_deeper = rw is refl; few = rw is (omega arith) }
+
+-- a number behind the last list
+pub none_fits : (lists : List Lines) (l : ℕ) → list_at lists l ≡ Lines.End → Fits lists l
+none_fits lists l is = record { not_deeper = rw is refl; few = rw is (omega arith) }
+
+-- where the lists with names have no fault, and the others fit, all fit
+pub all_fit : (lists : List Lines) (names : List (List ℕ)) → faults_of_lists lists 0 names ≡ [] → ((l : ℕ) → length names ≤ l → Fits lists l) → (l : ℕ) → Fits lists l
+all_fit lists names none others l =
+    elim (cases_lt l (length names)) [
+      | inl named ↦ let e : 0 + l ≡ l = omega arith in subst (Fits lists) e (named_fit lists 0 names l none named)
+      | inr other ↦ others l other
+    ]
+
+-- ---- counts by sizes
+
+same_in : (f g : ℕ → ℕ) → ((l : ℕ) → f l ≡ g l) → (steps : List Step) → occurrences_in f steps ≡ occurrences_in g steps
+same_in f g h [] = refl
+same_in f g h (step.Run a n ∷ rest) = ap (λ m. 1 + m) (same_in f g h rest)
+same_in f g h (step.Post l n ∷ rest) = ap (λ m. 1 + m) (same_in f g h rest)
+same_in f g h (step.Call l n ∷ rest) = ap (λ m. m + occurrences_in f rest) (h l) ∙ ap (λ m. g l + m) (same_in f g h rest)
+same_in f g h (step.Stop ∷ rest) = same_in f g h rest
+same_in f g h (step.If t d o ∷ rest) = same_in f g h rest
+
+same_numbers : (f g : ℕ → ℕ) → ((l : ℕ) → f l ≡ g l) → (number : ℕ) (steps : List Step) → AreNumbered f number steps → AreNumbered g number steps
+same_numbers f g h number [] are = tt
+same_numbers f g h number (step.Run a n ∷ rest) are = (are.0, same_numbers f g h (number + 1) rest are.1)
+same_numbers f g h number (step.Post l n ∷ rest) are = (are.0, same_numbers f g h (number + 1) rest are.1)
+same_numbers f g h number (step.Call l n ∷ rest) are =
+    (are.0, subst (λ m. AreNumbered g (number + m) rest) (h l) (same_numbers f g h (number + f l) rest are.1))
+same_numbers f g h number (step.Stop ∷ rest) are = same_numbers f g h number rest are
+same_numbers f g h number (step.If t d o ∷ rest) are = same_numbers f g h number rest are
+
+module _ (tests : List (Formula Test)) (tables : List (List Step)) (sizes : List Size) (are : AreSizes tables CALL_DEPTH sizes) (fit : (l : ℕ) → Fits (lines_of_tables tests tables) l) where
+  pub counts : (l : ℕ) → count_in sizes l ≡ count_of (lines_of_tables tests tables) l
+  counts l = ap (λ (s : Size). s.occurrences) (are tests l) ∙ exact (count_of (lines_of_tables tests tables) l) (fit l).few
+    where
+      exact : (n : ℕ) → n ≤ 64 → up_to OCCURRENCES n ≡ n
+      exact n h = omega arith
+
+  -- so the numbers of a table go no further than 64
+  pub few_numbers : (l : ℕ) → occurrences_in (count_in sizes) (table_at tables l) ≤ 64
+  few_numbers l =
+      let lists = lines_of_tables tests tables in
+      let table = table_at tables l in
+      let counted = count_is tests (expanded lists CALL_DEPTH) (length table) table (omega arith) in
+      let same = same_in (count_in sizes) (count_of lists) counts table in
+      let deep : count (expanded lists (suc CALL_DEPTH) l) ≡ count_of lists l = ap count (more_deep lists (suc CALL_DEPTH) CALL_DEPTH l (omega arith) (fit l).not_deeper).0 in
+      let lines : count (expanded lists (suc CALL_DEPTH) l) ≡ count (expand (expanded lists CALL_DEPTH) (lines_of_table tests table)) = ap (λ x. count (expand (expanded lists CALL_DEPTH) x)) (list_is tests tables l) in
+      at_most _ _ (same ∙ sym counted ∙ sym lines ∙ deep) (fit l).few
+    where
+      at_most : (n m : ℕ) → n ≡ m → m ≤ 64 → n ≤ 64
+      at_most n m e h = omega arith
+
+  pub are_few_numbers : AreFew (count_in sizes) tables
+  are_few_numbers = are_few (count_in sizes) tables few_numbers
+
+  pub are_tables : (numbered : List (List Step)) → lines_of_tables tests numbered ≡ lines_of_tables tests tables → ((l : ℕ) → AreNumbered (count_in sizes) 0 (table_at numbered l)) → AreTables tests numbered
+  are_tables numbered same numbers = record {
+    not_deeper = λ l. subst (λ (lists : List Lines). is_deeper lists CALL_DEPTH l ≡ false) (sym same) (fit l).not_deeper;
+    few = λ l. subst (λ (lists : List Lines). count_of lists l ≤ 64) (sym same) (fit l).few;
+    numbered = λ l. subst (λ (lists : List Lines). AreNumbered (count_of lists) 0 (table_at numbered l)) (sym same)
+        (same_numbers (count_in sizes) (count_of (lines_of_tables tests tables)) counts 0 (table_at numbered l) (numbers l));
+  }

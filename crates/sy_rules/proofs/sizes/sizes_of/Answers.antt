@@ -1,0 +1,20 @@
+use Rattle.std.proofs.Common.{◌≡◌, ℕ, List, map, ap, ◌∙◌, subst, arith, add-one}
+use Rattle.sy_rules.specs.declared.sizes.Size.{Size}
+use Rattle.sy_rules.specs.TableSizes.{AreSizes, size_of, size_at, empty}
+use Rattle.sy_rules.proofs.SizeSums.{first_round, next_round}
+use Rattle.sy_rules.proofs.sizes.sizes_of.Goals as goal
+
+pub loop-depth-init : goal.loop-depth-init
+loop-depth-init c = first_round (map (λ table. table.items) c.args.tables.now) c.in_ok-sizes.sizes.items c.in_ok-sizes.ensures
+
+pub loop-depth-preserved : goal.loop-depth-preserved
+loop-depth-preserved c =
+    let tables = map (λ table. table.items) c.args.tables.now in
+    let made = c.in_ok-sizes-2.ensures ∙ ap (λ (s : List Size). map (size_of (size_at s empty)) tables) c.as_slice.ensures.value in
+    rw add-one (next_round tables c.loop-depth._depth c.loop-depth.sizes.items c.in_ok-sizes-2.sizes.items c.loop-depth.invariant made)
+
+pub returns : goal.returns
+returns c =
+    let tables = map (λ table. table.items) c.args.tables.now in
+    let all : c.loop-depth._depth ≡ 16 = omega arith in
+    subst (λ (n : ℕ). AreSizes tables n c.loop-depth.sizes.items) all c.loop-depth.invariant
