@@ -4,7 +4,7 @@ ghost use Rattle.sy_rules.specs.Faults.{no_memory};
 ghost use Rattle.sy_rules.specs.PassPlan as pass;
 ghost use Rattle.sy_rules.specs.Steps as steps;
 ghost use Rattle.sy_rules.specs.Whole.{IsWhole, queue_at, steps_at};
-ghost use Rattle.sy_rules.specs.Work.{work};
+ghost use Rattle.sy_rules.specs.Work.{IsSetOf, work};
 ghost use Rattle.sy_wire.specs.Messages.{Said};
 
 use crate::action_names::name_by_number;
@@ -15,10 +15,12 @@ use crate::occurrence::Occurrence;
 use crate::parameters::{FlowControl, QueueParameters, queue_parameters};
 use crate::parts::{Action, Input};
 use crate::step::Step;
+use crate::walk::due;
 use std::alloc::{AllocError, Global};
 use std::marker::Model;
 use sy_script::Items;
 use sy_select::Expr;
+use sy_wire::Message;
 
 /// What a relay does: its inputs, queues, workers and actions, and for each list what it executes.
 ///
@@ -170,6 +172,15 @@ impl Plan {
         ensures { result ≡ queue_at self.now list }
     {
         self.list_queues[list as usize]
+    }
+
+    /// Which occurrences of a list a message executes: bit k stands for occurrence k. It takes no memory, and visits only the statements that
+    /// the message reaches.
+    pub fn due(&self, list: u32, message: &Message) -> u64
+        requires exists { list < length self.now.lists }
+        ensures { IsSetOf (work (steps_at self.now list) message.now) result }
+    {
+        due(&self.tables, &self.tests, list, message)
     }
 
     /// Each number that a plan gives exists, and a plan keeps the limits of a relay.
