@@ -6,10 +6,10 @@ use Rattle.sy_rules.specs.declared.occurrence.Occurrence.{Occurrence}
 use Rattle.sy_rules.specs.declared.occurrence.Occurrence.TheVariants as occurrence
 use Rattle.sy_rules.specs.declared.step.Step.{Step}
 use Rattle.sy_rules.specs.declared.step.Step.TheVariants as step
-use Rattle.sy_rules.specs.Lines.{Lines, expand, expanded, list_at, steps_of, CALL_DEPTH}
-use Rattle.sy_rules.specs.Numbers.{numbered, numbered_step, count_of_step, listed, AreFew}
+use Rattle.sy_rules.specs.Lines.{Lines, expand, expanded, steps_of, CALL_DEPTH}
+use Rattle.sy_rules.specs.Numbers.{numbered, count_of_step, listed, AreFew}
 use Rattle.sy_rules.specs.Steps.{Steps, occurrences}
-use Rattle.sy_rules.specs.Tables.{test_of, lines_within, lines_of_table, lines_of_tables, table_at, AreNumbered}
+use Rattle.sy_rules.specs.Tables.{lines_within, lines_of_table, lines_of_tables, table_at, AreNumbered}
 use Rattle.sy_rules.specs.TableSizes.{occurrences_in, listed_in}
 use Rattle.sy_rules.proofs.SizeLaws.{cut, short_done, short_otherwise, short_rest, occurrences-⧺}
 use Rattle.sy_rules.proofs.TableRuns.{list_is}

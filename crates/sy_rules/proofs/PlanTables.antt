@@ -1,23 +1,21 @@
 -- That tables are those of a plan, from what was checked of their sizes and how they were numbered.
-use Rattle.std.proofs.Common.{◌≡◌, ℕ, zero, suc, ◌+◌, ◌≤◌, ◌<◌, Bool, true, false, ◌||◌, nat_lt, List, [], ◌∷◌, ◌++◌, length, map, inl, inr, refl, sym, ap, subst, ◌∙◌, arith}
-use Rattle.std.specs.List.{list_any}
-use Rattle.std.proofs.lemmas.Bool.{cases_lt, le-ltb, lt-ltb, ltb-false}
+use Rattle.std.proofs.Common.{◌≡◌, ℕ, zero, suc, ◌+◌, ◌≤◌, ◌<◌, Bool, true, false, ◌||◌, ◌⊎◌, nat_lt, List, [], ◌∷◌, ◌++◌, length, drop, inl, inr, refl, sym, ap, subst, ◌∙◌, arith}
+use Rattle.std.proofs.lemmas.Bool.{cases_lt, ltb-false}
 use Rattle.sy_select.specs.declared.condition.Test.{Test}
 use Rattle.sy_select.specs.Truth.{Formula}
 use Rattle.sy_rules.specs.declared.fault.PlanFault.{PlanFault}
 use Rattle.sy_rules.specs.declared.sizes.Size.{Size}
 use Rattle.sy_rules.specs.declared.step.Step.{Step}
 use Rattle.sy_rules.specs.declared.step.Step.TheVariants as step
-use Rattle.sy_rules.specs.Faults.{fault, when}
-use Rattle.sy_rules.specs.Lines.{Lines, list_at, expand, expanded, is_deeper, steps_of, statements_of, CALL_DEPTH}
-use Rattle.sy_rules.specs.Numbers.{count_in, AreFew}
+use Rattle.sy_rules.specs.Faults.{when}
+use Rattle.sy_rules.specs.Lines.{Lines, list_at, expand, expanded, is_deeper, statements_of, CALL_DEPTH}
+use Rattle.sy_rules.specs.Numbers.{count_in, AreFew, IsSingle, AreSingles}
 use Rattle.sy_rules.specs.ScriptFaults.{STATEMENTS, OCCURRENCES, list_faults, faults_of_lists}
-use Rattle.sy_rules.specs.Steps.{Steps, count}
+use Rattle.sy_rules.specs.Steps.{count}
 use Rattle.sy_rules.specs.Tables.{lines_of_table, lines_of_tables, table_at, count_of, AreNumbered, AreTables}
 use Rattle.sy_rules.specs.TableSizes.{AreSizes, occurrences_in, up_to}
 use Rattle.sy_rules.proofs.Numbering.{are_few}
 use Rattle.sy_rules.proofs.SizeLaws.{count_is}
-use Rattle.sy_rules.proofs.SizeSums.{same_occurrences}
 use Rattle.sy_rules.proofs.TableRuns.{list_is, more_deep}
 
 -- a list that is not too deep and has not too many occurrences
@@ -63,6 +61,34 @@ single_fits lists l a is = record { not_deeper = rw is refl; few = rw is (omega 
 -- a number behind the last list
 pub none_fits : (lists : List Lines) (l : ℕ) → list_at lists l ≡ Lines.End → Fits lists l
 none_fits lists l is = record { not_deeper = rw is refl; few = rw is (omega arith) }
+
+single_table : (tests : List (Formula Test)) (lists : List Lines) (l : ℕ) (table : List Step) → list_at lists l ≡ lines_of_table tests table → IsSingle table → Fits lists l
+single_table tests lists l (step.Run a n ∷ []) is single = single_fits lists l a is
+single_table tests lists l [] is single = absurd single
+single_table tests lists l (step.Run a n ∷ s ∷ rest) is single = absurd single
+single_table tests lists l (step.Post a n ∷ rest) is single = absurd single
+single_table tests lists l (step.Call a n ∷ rest) is single = absurd single
+single_table tests lists l (step.Stop ∷ rest) is single = absurd single
+single_table tests lists l (step.If t d o ∷ rest) is single = absurd single
+
+single_at : (tables : List (List Step)) (l : ℕ) → AreSingles tables → IsSingle (table_at tables l) ⊎ (table_at tables l ≡ [])
+single_at [] l are = inr refl
+single_at (t ∷ tables) zero are = inl are.0
+single_at (t ∷ tables) (suc l) are = single_at tables l are.1
+
+single_behind : (tables : List (List Step)) (n l : ℕ) → n ≤ l → AreSingles (drop n tables) → IsSingle (table_at tables l) ⊎ (table_at tables l ≡ [])
+single_behind tables zero l h are = single_at tables l are
+single_behind [] (suc n) l h are = inr refl
+single_behind (t ∷ tables) (suc n) zero h are = absurd (omega arith)
+single_behind (t ∷ tables) (suc n) (suc l) h are = single_behind tables n l (omega arith) are
+
+-- lists of single actions behind the others fit
+pub singles_fit : (tests : List (Formula Test)) (tables : List (List Step)) (n : ℕ) → AreSingles (drop n tables) → (l : ℕ) → n ≤ l → Fits (lines_of_tables tests tables) l
+singles_fit tests tables n are l h =
+    elim (single_behind tables n l h are) [
+      | inl single ↦ single_table tests (lines_of_tables tests tables) l (table_at tables l) (list_is tests tables l) single
+      | inr none ↦ none_fits (lines_of_tables tests tables) l (list_is tests tables l ∙ ap (lines_of_table tests) none)
+    ]
 
 -- where the lists with names have no fault, and the others fit, all fit
 pub all_fit : (lists : List Lines) (names : List (List ℕ)) → faults_of_lists lists 0 names ≡ [] → ((l : ℕ) → length names ≤ l → Fits lists l) → (l : ℕ) → Fits lists l
@@ -122,3 +148,8 @@ module _ (tests : List (Formula Test)) (tables : List (List Step)) (sizes : List
     numbered = λ l. subst (λ (lists : List Lines). AreNumbered (count_of lists) 0 (table_at numbered l)) (sym same)
         (same_numbers (count_in sizes) (count_of (lines_of_tables tests tables)) counts 0 (table_at numbered l) (numbers l));
   }
+
+-- the lists of a plan: those with names have no fault, and those behind them run one action each
+pub plan_fits : (tests : List (Formula Test)) (tables : List (List Step)) (names : List (List ℕ)) → faults_of_lists (lines_of_tables tests tables) 0 names ≡ [] → AreSingles (drop (length names) tables)
+    → (l : ℕ) → Fits (lines_of_tables tests tables) l
+plan_fits tests tables names none singles = all_fit (lines_of_tables tests tables) names none (singles_fit tests tables (length names) singles)

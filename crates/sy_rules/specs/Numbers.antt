@@ -39,3 +39,12 @@ AreFew count (table ∷ tables) = (occurrences_in count table ≤ 64) × AreFew 
 abbrev pub listed : List (List Step) → ℕ → ℕ → List Occurrence
 listed tables zero list = []
 listed tables (suc depth) list = listed_in (listed tables depth) (table_at tables list)
+
+-- tables that run one action each and no more
+abbrev pub IsSingle : List Step → Type 0
+IsSingle (step.Run action number ∷ []) = Unit {0}
+IsSingle _ = ⊥
+
+abbrev pub AreSingles : List (List Step) → Type 0
+AreSingles [] = Unit {0}
+AreSingles (table ∷ tables) = IsSingle table × AreSingles tables

@@ -24,6 +24,7 @@ mod script_check;
 mod sizes;
 mod step;
 mod table;
+mod tables;
 mod values;
 mod walk;
 

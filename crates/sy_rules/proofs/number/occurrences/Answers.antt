@@ -1,4 +1,4 @@
-use Rattle.std.proofs.Common.{◌≡◌, ◌++◌, List, sym, ◌∙◌, ap}
+use Rattle.std.proofs.Common.{◌++◌, List, sym, ◌∙◌, ap}
 use Rattle.sy_rules.specs.declared.occurrence.Occurrence.{Occurrence}
 use Rattle.sy_rules.specs.Numbers.{listed}
 use Rattle.sy_rules.proofs.Numbering.{listed_is}
