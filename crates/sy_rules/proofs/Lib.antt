@@ -17,7 +17,6 @@ pub mod Fronts
 pub mod Encoding
 pub mod TestLaws
 pub mod RulesetItems
-pub mod ListFits
 pub mod TableLaws
 pub mod SizeLaws
 pub mod Walks
@@ -27,3 +26,5 @@ pub mod SizeSums
 pub mod Numbering
 pub mod LineLaws
 pub mod PlanTables
+pub mod SingleTables
+pub mod Loads

@@ -1,19 +1,18 @@
 //! Loads the plan of a script, part by part.
 
-ghost use Rattle.std.specs.Prelude.{◌≡◌, ◌≤◌, ◌∷◌, [], filter_map, length, map, IfOk, IfErr, List, OnOk};
+ghost use Rattle.std.specs.Prelude.{◌≡◌, ◌≤◌, ◌+◌, ◌∷◌, [], drop, filter_map, length, map, IfOk, IfErr, List, OnOk};
 ghost use Rattle.sy_select.specs.Truth.{Formula};
 ghost use Rattle.sy_select.specs.declared.condition.Test.{Test};
 ghost use Rattle.sy_rules.specs.Faults.{IsAnswered, no_memory};
 ghost use Rattle.sy_rules.specs.ItemViews.{item};
-ghost use Rattle.sy_rules.specs.Lines.{lists_of};
-ghost use Rattle.sy_rules.specs.Loading.{IsGathered};
+ghost use Rattle.sy_rules.specs.Loading.{AreLists, IsGathered, faults_of_its_lists};
+ghost use Rattle.sy_rules.specs.Numbers.{AreSingles};
 ghost use Rattle.sy_rules.specs.Outline.{items};
 ghost use Rattle.sy_rules.specs.Plans.{default_ruleset};
 ghost use Rattle.sy_rules.specs.PlanValue.{AreExprs, lines_of, listed_from, test_of_item};
-ghost use Rattle.sy_rules.specs.ScriptFaults.{faults_behind, faults_of_lists, ruleset_names_of, untested};
+ghost use Rattle.sy_rules.specs.ScriptFaults.{faults_behind};
 ghost use Rattle.sy_rules.specs.Steps as steps;
-ghost use Rattle.sy_rules.specs.Tables.{AreTables, lines_of_tables};
-ghost use Rattle.sy_rules.specs.Texts.{parts};
+ghost use Rattle.sy_rules.specs.Tables.{lines_of_tables};
 
 use crate::build::build;
 use crate::expressions::read_tests;
@@ -25,8 +24,8 @@ use crate::occurrence::Occurrence;
 use crate::outline::Item;
 use crate::parameters::QueueParameters;
 use crate::parts::Input;
-use crate::sizes::check_lists;
 use crate::step::Step;
+use crate::tables::plan_tables;
 use std::alloc::{AllocError, Global};
 use sy_script::Items;
 use sy_script::tree::Script;
@@ -124,4 +123,47 @@ fn occurrences_of_lists(
         rest = after;
     }
     Ok(found)
+}
+
+// The tables of a script's lists, whose occurrences aren't numbered yet.
+fn tables(
+    alloc: Global,
+    script: &Script,
+    gathered: &Gathered,
+) -> Result<Vec<Vec<Step>>, AllocError>
+    requires gathered { IsGathered (items script.now) gathered.now }
+    ensures lines { IfOk result (λ found. (tests : List (Formula Test)) → lines_of_tables tests (map (λ t. t.items) found.items) ≡ lines_of script.now tests) }
+    ensures singles { IfOk result (λ found. AreSingles (drop (length gathered.now.rulesets.items + 1) (map (λ t. t.items) found.items))) }
+{
+    let found = build(
+        alloc,
+        script,
+        gathered.rulesets.as_slice(),
+        gathered.actions.as_slice(),
+    )?;
+    Ok(found)
+}
+
+/// The lists of a script without other faults.
+pub fn expand_lists(alloc: Global, script: &Script, gathered: &Gathered) -> Result<Lists, PlanFault>
+    requires gathered { IsGathered (items script.now) gathered.now }
+    requires few { length gathered.now.list_queues.items ≤ 513 }
+    ensures found { IfOk result (λ lists. AreLists script.now gathered.now.tests.items gathered.now.list_queues.items lists) }
+    ensures ok { OnOk result (faults_of_its_lists script.now ≡ []) }
+    ensures err { IfErr result (λ f. IsAnswered (faults_of_its_lists script.now) f) }
+{
+    let Ok(tables) = tables(alloc, script, gathered) else {
+        return Err(PlanFault::no_memory(alloc));
+    };
+    let Ok(names) = names_of_lists(alloc, gathered.rulesets.as_slice()) else {
+        return Err(PlanFault::no_memory(alloc));
+    };
+    let tables = plan_tables(alloc, tables.as_slice(), names.as_slice())?;
+    match occurrences_of_lists(alloc, tables.as_slice(), gathered.list_queues.as_slice()) {
+        Ok(occurrences) => Ok(Lists {
+            tables,
+            occurrences,
+        }),
+        Err(_) => Err(PlanFault::no_memory(alloc)),
+    }
 }
