@@ -28,3 +28,4 @@ pub mod LineLaws
 pub mod PlanTables
 pub mod SingleTables
 pub mod Loads
+pub mod Kept

@@ -1,5 +1,5 @@
 -- Steps of loading a plan, over plain variables.
-use Rattle.std.proofs.Common.{◌≡◌, ℕ, ◌∷◌, List, [], ◌++◌, refl, sym, ap, ◌∙◌, subst, map}
+use Rattle.std.proofs.Common.{◌≡◌, ℕ, ◌∷◌, inl, inr, List, [], ◌++◌, sym, ap, ◌∙◌, subst}
 use Rattle.sy_select.specs.declared.condition.Test.{Test}
 use Rattle.sy_select.specs.Truth.{Formula}
 use Rattle.sy_wire.specs.Messages.{Said}
@@ -32,3 +32,10 @@ same_answer faults faults2 f e h = subst (λ fs. IsAnswered fs f) e h
 
 pub none_of_both : (faults faults2 : List PlanFault) → faults ≡ faults2 → faults ≡ [] → faults2 ≡ []
 none_of_both faults faults2 e h = sym e ∙ h
+
+-- the first fault is the same where more stand behind
+pub answered_front : (xs ys zs : List PlanFault) (f : PlanFault) → IsAnswered (xs ++ ys) f → IsAnswered (xs ++ (ys ++ zs)) f
+answered_front [] [] zs f (inl e) = inl e
+answered_front [] [] zs f (inr e) = cc
+answered_front [] (y ∷ ys) zs f h = h
+answered_front (x ∷ xs) ys zs f h = h

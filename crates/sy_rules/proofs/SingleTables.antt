@@ -1,5 +1,5 @@
 -- The tables of actions with a queue, by the lines that they stand for: each runs its action alone.
-use Rattle.std.proofs.Common.{◌≡◌, ℕ, suc, ◌+◌, Bool, true, false, if◌then◌else◌, List, [], ◌∷◌, ◌++◌, length, map, drop, is_some, refl, sym, ap, subst, ◌∙◌, arith}
+use Rattle.std.proofs.Common.{◌≡◌, ℕ, ◌+◌, Bool, true, false, if◌then◌else◌, List, [], ◌∷◌, ◌++◌, length, drop, is_some, sym, ap, subst, ◌∙◌, arith}
 use Rattle.std.proofs.lemmas.List.{drop-map}
 use Rattle.std.proofs.Math.Seq.{drop-append_seam}
 use Rattle.std.specs.List.{AllByRecursion}
@@ -9,7 +9,7 @@ use Rattle.sy_select.specs.Truth.{Formula}
 use Rattle.sy_rules.specs.declared.objects.ActionParameters.{ActionParameters}
 use Rattle.sy_rules.specs.declared.step.Step.{Step}
 use Rattle.sy_rules.specs.declared.step.Step.TheVariants as step
-use Rattle.sy_rules.specs.Lines.{File, Lines, inside, outside, singles, lists_of}
+use Rattle.sy_rules.specs.Lines.{Lines, inside, outside, singles}
 use Rattle.sy_rules.specs.Numbers.{AreSingles}
 use Rattle.sy_rules.specs.Outline.{items}
 use Rattle.sy_rules.specs.Plans.{rulesets_of}

@@ -1,4 +1,4 @@
-use Rattle.std.proofs.Common.{◌≡◌, ◌∷◌, [], map, ap, ◌∙◌}
+use Rattle.std.proofs.Common.{◌∷◌, [], map, ap, ◌∙◌}
 use Rattle.std.proofs.lemmas.Result.{err_from_is_err_and}
 use Rattle.sy_rules.specs.Plans.{default_ruleset}
 use Rattle.sy_rules.specs.Loading.{faults_of_its_lists}

@@ -1,4 +1,4 @@
-use Rattle.std.proofs.Common.{◌≡◌, ◌+◌, [], length, map, ap, ◌∙◌, arith}
+use Rattle.std.proofs.Common.{◌+◌, [], length, map, ap, ◌∙◌, arith}
 use Rattle.std.proofs.lemmas.Simd.{map-map}
 use Rattle.sy_rules.specs.Tables.{lines_of_table}
 use Rattle.sy_rules.specs.Texts.{parts}

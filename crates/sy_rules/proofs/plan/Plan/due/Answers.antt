@@ -1,4 +1,4 @@
-use Rattle.std.proofs.Common.{◌≡◌, ◌<◌, length, sym, ◌∙◌, ap, arith}
+use Rattle.std.proofs.Common.{◌<◌, length, sym, ◌∙◌, ap, arith}
 use Rattle.sy_rules.specs.Lines.{steps_of}
 use Rattle.sy_rules.specs.Tables.{lines_of_tables}
 use Rattle.sy_rules.specs.Whole.{steps_at}
