@@ -19,6 +19,7 @@ pub mod Places
 pub mod Fronts
 pub mod Encoding
 pub mod TestLaws
+pub mod RulesetItems
 pub mod TableLaws
 pub mod SizeLaws
 pub mod Walks
@@ -33,3 +34,6 @@ pub mod PlanTables
 pub mod RulesetItems
 pub mod ListFits
 pub mod ScriptLimits
+pub mod SingleTables
+pub mod Loads
+pub mod Kept

@@ -1,8 +1,8 @@
 -- Lists by their numbers.
 use Rattle.std.proofs.Common.{◌≡◌, ℕ, zero, suc, ◌+◌, ◌<◌, List, [], ◌∷◌, Option, length, slice_index_or, slice_get, refl, ap, arith}
-use Rattle.sy_rules.specs.Lines.{Lines}
+use Rattle.sy_rules.specs.Lines.{Lines, steps_of}
 use Rattle.sy_rules.specs.PlanValue.{listed_from}
-use Rattle.sy_rules.specs.Whole.{queue_in}
+use Rattle.sy_rules.specs.Whole.{queue_in, steps_in}
 
 pub length-listed_from : (lines : List Lines) (number : ℕ) (queues : List (Option ℕ)) → length (listed_from lines number queues) ≡ length queues
 length-listed_from lines number [] = refl
@@ -13,3 +13,11 @@ pub queue_listed : (lines : List Lines) (number : ℕ) (queues : List (Option �
 queue_listed lines number [] k d h = absurd (omega arith)
 queue_listed lines number (q ∷ qs) zero d h = refl
 queue_listed lines number (q ∷ qs) (suc k) d h = queue_listed lines (number + 1) qs k d (omega arith)
+
+-- the text of a list is the one of its number
+pub steps_listed_at : (lines : List Lines) (number : ℕ) (queues : List (Option ℕ)) (k l : ℕ) → k < length queues → l ≡ number + k → steps_in (slice_get (listed_from lines number queues) k) ≡ steps_of lines l
+steps_listed_at lines number [] k l h e = absurd (omega (arith, h))
+steps_listed_at lines number (q ∷ qs) zero l h e =
+    let same : l ≡ number = omega (arith, e) in
+    rw same refl
+steps_listed_at lines number (q ∷ qs) (suc k) l h e = steps_listed_at lines (number + 1) qs k l (omega (arith, h)) (omega (arith, e))

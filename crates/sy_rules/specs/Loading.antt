@@ -1,9 +1,19 @@
 -- What is gathered of a script on the way to its plan.
-use Rattle.std.specs.Prelude.{◌≡◌, List, map, filter_map}
+use Rattle.std.specs.Prelude.{◌≡◌, ℕ, List, ◌∷◌, Option, map, filter_map}
+use Rattle.sy_script.specs.declared.tree.Script.{Script}
+use Rattle.sy_select.specs.declared.condition.Test.{Test}
+use Rattle.sy_select.specs.Truth.{Formula}
+use Rattle.sy_rules.specs.declared.fault.PlanFault.{PlanFault}
 use Rattle.sy_rules.specs.declared.load.Gathered.{Gathered}
-use Rattle.sy_rules.specs.Outline.{Item}
-use Rattle.sy_rules.specs.Plans.{actions_of, inputs_of, list_queues, queues_of, rulesets_of, workers_of}
-use Rattle.sy_rules.specs.PlanValue.{AreExprs, input_part, test_of_item}
+use Rattle.sy_rules.specs.declared.load.Lists.{Lists}
+use Rattle.sy_rules.specs.Lines.{lists_of}
+use Rattle.sy_rules.specs.Outline.{Item, items}
+use Rattle.sy_rules.specs.Plans.{actions_of, default_ruleset, inputs_of, list_queues, queues_of, rulesets_of, workers_of}
+use Rattle.sy_rules.specs.PlanValue.{AreExprs, input_part, lines_of, listed_from, test_of_item}
+use Rattle.sy_rules.specs.ScriptFaults.{faults_of_lists, ruleset_names_of, untested}
+use Rattle.sy_rules.specs.Steps.{occurrences}
+use Rattle.sy_rules.specs.Tables.{AreTables, lines_of_tables}
+use Rattle.sy_rules.specs.Texts.{parts}
 
 -- of these items
 pub record IsGathered (all : List Item) (g : Gathered) : Type 0 where
@@ -14,3 +24,15 @@ pub record IsGathered (all : List Item) (g : Gathered) : Type 0 where
   pub workers : g.workers.items ≡ workers_of all
   pub list_queues : g.list_queues.items ≡ list_queues all
   pub tests : AreExprs (filter_map test_of_item all) g.tests.items
+
+-- ---- lists
+
+-- what is wrong with the lists of a script
+abbrev pub faults_of_its_lists : Script → List PlanFault
+faults_of_its_lists script = faults_of_lists (lists_of (untested (items script)) (parts script.tops)) 0 (default_ruleset ∷ ruleset_names_of (items script))
+
+-- the lists of a script that has these tests, and whose lists have these queues
+pub record AreLists (script : Script) (tests : List (Formula Test)) (queues : List (Option ℕ)) (l : Lists) : Type 0 where
+  pub lines : lines_of_tables tests l.tables.items ≡ lines_of script tests
+  pub tables : AreTables tests l.tables.items
+  pub occurrences : l.occurrences.items ≡ map (λ k. occurrences k.steps) (listed_from (lines_of script tests) 0 queues)

@@ -1,21 +1,38 @@
 //! Loads the plan of a script, part by part.
 
-ghost use Rattle.std.specs.Prelude.{◌≡◌, [], filter_map, map, IfOk, IfErr};
-ghost use Rattle.sy_rules.specs.Faults.{no_memory};
+ghost use Rattle.std.specs.Prelude.{◌≡◌, ◌≤◌, ◌+◌, ◌∷◌, [], drop, filter_map, length, map, IfOk, IfErr, List, OnOk};
+ghost use Rattle.sy_select.specs.Truth.{Formula};
+ghost use Rattle.sy_select.specs.declared.condition.Test.{Test};
+ghost use Rattle.sy_rules.specs.Faults.{IsAnswered, no_memory};
 ghost use Rattle.sy_rules.specs.ItemViews.{item};
-ghost use Rattle.sy_rules.specs.Loading.{IsGathered};
-ghost use Rattle.sy_rules.specs.PlanValue.{AreExprs, test_of_item};
+ghost use Rattle.sy_rules.specs.Loading.{AreLists, IsGathered, faults_of_its_lists};
+ghost use Rattle.sy_rules.specs.Numbers.{AreSingles};
+ghost use Rattle.sy_rules.specs.Outline.{items};
+ghost use Rattle.sy_rules.specs.Plans.{default_ruleset};
+ghost use Rattle.sy_rules.specs.PlanValue.{AreExprs, lines_of, listed_from, test_of_item};
 ghost use Rattle.sy_rules.specs.ScriptFaults.{faults_behind};
+ghost use Rattle.sy_rules.specs.Steps as steps;
+ghost use Rattle.sy_rules.specs.Tables.{lines_of_tables};
 
+use crate::build::build;
 use crate::expressions::read_tests;
 use crate::fault::PlanFault;
 use crate::gather::{actions, inputs, list_queues, queues, rulesets, workers};
+use crate::number::{occurrences};
 use crate::objects::{ActionParameters, RulesetParameters};
+use crate::occurrence::Occurrence;
 use crate::outline::Item;
 use crate::parameters::QueueParameters;
 use crate::parts::Input;
-use std::alloc::Global;
+use crate::step::Step;
+use crate::tables::plan_tables;
+use std::alloc::{AllocError, Global};
+use sy_script::Items;
+use sy_script::tree::Script;
 use sy_select::Expr;
+
+/// The name of the ruleset of the statements outside every other.
+const DEFAULT_RULESET: &[u8] = b"RSYSLOG_DefaultRuleset";
 
 /// What the items of a script give to its plan.
 #[derive(Drop)]
@@ -62,4 +79,91 @@ pub fn gather(alloc: Global, items: &[Item<'_>]) -> Result<Gathered, PlanFault>
         list_queues,
         tests,
     })
+}
+
+/// The lists of a plan.
+#[derive(Drop)]
+pub struct Lists {
+    pub tables: Vec<Items<Step>>,
+    pub occurrences: Vec<Items<Occurrence>>,
+}
+
+// The names of the lists that have one.
+fn names_of_lists(
+    alloc: Global,
+    rulesets: &[RulesetParameters],
+) -> Result<Vec<&[u8]>, AllocError>
+    ensures { IfOk result (λ names. map (λ name. name.now) names.items ≡ default_ruleset ∷ map (λ r. r.name) rulesets.now) }
+{
+    let mut names = Vec::new(alloc);
+    names.push(DEFAULT_RULESET)?;
+    let mut rest = rulesets;
+    while let [ruleset, after @ ..] = rest {
+        names.push(ruleset.name.as_slice())?;
+        rest = after;
+    }
+    Ok(names)
+}
+
+// What each list executes, where so many have or don't have a queue.
+fn occurrences_of_lists(
+    alloc: Global,
+    tables: &[Items<Step>],
+    queues: &[Option<u32>],
+) -> Result<Vec<Items<Occurrence>>, AllocError>
+    requires few { length queues.now ≤ 513 }
+    ensures { IfOk result (λ found. (tests : List (Formula Test)) → found.items ≡ map (λ l. steps.occurrences l.steps) (listed_from (lines_of_tables tests tables.now) 0 queues.now)) }
+{
+    let mut found = Vec::new(alloc);
+    let mut list = 0;
+    let mut rest = queues;
+    while let [_, after @ ..] = rest {
+        found.push(occurrences(alloc, tables, list)?)?;
+        list += 1;
+        rest = after;
+    }
+    Ok(found)
+}
+
+// The tables of a script's lists, whose occurrences aren't numbered yet.
+fn tables(
+    alloc: Global,
+    script: &Script,
+    gathered: &Gathered,
+) -> Result<Vec<Vec<Step>>, AllocError>
+    requires gathered { IsGathered (items script.now) gathered.now }
+    ensures lines { IfOk result (λ found. (tests : List (Formula Test)) → lines_of_tables tests (map (λ t. t.items) found.items) ≡ lines_of script.now tests) }
+    ensures singles { IfOk result (λ found. AreSingles (drop (length gathered.now.rulesets.items + 1) (map (λ t. t.items) found.items))) }
+{
+    let found = build(
+        alloc,
+        script,
+        gathered.rulesets.as_slice(),
+        gathered.actions.as_slice(),
+    )?;
+    Ok(found)
+}
+
+/// The lists of a script without other faults.
+pub fn expand_lists(alloc: Global, script: &Script, gathered: &Gathered) -> Result<Lists, PlanFault>
+    requires gathered { IsGathered (items script.now) gathered.now }
+    requires few { length gathered.now.list_queues.items ≤ 513 }
+    ensures found { IfOk result (λ lists. AreLists script.now gathered.now.tests.items gathered.now.list_queues.items lists) }
+    ensures ok { OnOk result (faults_of_its_lists script.now ≡ []) }
+    ensures err { IfErr result (λ f. IsAnswered (faults_of_its_lists script.now) f) }
+{
+    let Ok(tables) = tables(alloc, script, gathered) else {
+        return Err(PlanFault::no_memory(alloc));
+    };
+    let Ok(names) = names_of_lists(alloc, gathered.rulesets.as_slice()) else {
+        return Err(PlanFault::no_memory(alloc));
+    };
+    let tables = plan_tables(alloc, tables.as_slice(), names.as_slice())?;
+    match occurrences_of_lists(alloc, tables.as_slice(), gathered.list_queues.as_slice()) {
+        Ok(occurrences) => Ok(Lists {
+            tables,
+            occurrences,
+        }),
+        Err(_) => Err(PlanFault::no_memory(alloc)),
+    }
 }

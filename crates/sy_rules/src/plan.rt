@@ -1,24 +1,36 @@
 //! What a relay does.
-ghost use Rattle.std.specs.Prelude.{◌≡◌, ◌<◌, ◌∷◌, [], length, IfOk, IfErr};
-ghost use Rattle.sy_rules.specs.Faults.{no_memory};
+ghost use Rattle.std.specs.Prelude.{◌≡◌, ◌<◌, ◌∷◌, [], length, map, IfOk, IfErr, OnOk};
+ghost use Rattle.sy_rules.specs.Faults.{IsAnswered, no_memory};
+ghost use Rattle.sy_rules.specs.ItemViews.{item};
+ghost use Rattle.sy_rules.specs.Loading.{faults_of_its_lists};
+ghost use Rattle.sy_rules.specs.Outline.{items};
 ghost use Rattle.sy_rules.specs.PassPlan as pass;
+ghost use Rattle.sy_rules.specs.PlanValue.{IsPlan};
+ghost use Rattle.sy_rules.specs.ScriptFaults.{faults_behind, faults_of, too_many_workers};
 ghost use Rattle.sy_rules.specs.Steps as steps;
 ghost use Rattle.sy_rules.specs.Whole.{IsWhole, queue_at, steps_at};
-ghost use Rattle.sy_rules.specs.Work.{work};
+ghost use Rattle.sy_rules.specs.Work.{IsSetOf, work};
 ghost use Rattle.sy_wire.specs.Messages.{Said};
 
 use crate::action_names::name_by_number;
 use crate::fault::PlanFault;
+use crate::gather::action_parts;
 use crate::kind::Kind;
+use crate::load::{expand_lists, gather};
 use crate::objects::Device;
 use crate::occurrence::Occurrence;
+use crate::outline::{Item, outline};
 use crate::parameters::{FlowControl, QueueParameters, queue_parameters};
 use crate::parts::{Action, Input};
+use crate::script_check::check_script;
 use crate::step::Step;
+use crate::walk::due;
 use std::alloc::{AllocError, Global};
 use std::marker::Model;
 use sy_script::Items;
+use sy_script::tree::Script;
 use sy_select::Expr;
+use sy_wire::Message;
 
 /// What a relay does: its inputs, queues, workers and actions, and for each list what it executes.
 ///
@@ -106,7 +118,56 @@ fn pass(alloc: Global) -> Result<Plan, AllocError>
     })
 }
 
+// The plan of a script that has these items, with which nothing is wrong but for its lists.
+fn assemble(alloc: Global, script: &Script, found: &[Item<'_>]) -> Result<Plan, PlanFault>
+    requires items { map item found.now ≡ items script.now }
+    requires clean { faults_behind (items script.now) [] (items script.now) ≡ [] }
+    requires workers { too_many_workers (items script.now) ≡ [] }
+    ensures plan { IfOk result (λ plan. IsPlan script.now plan) }
+    ensures ok { OnOk result (faults_of_its_lists script.now ≡ []) }
+    ensures err { IfErr result (λ f. IsAnswered (faults_of_its_lists script.now) f) }
+{
+    let gathered = gather(alloc, found)?;
+    let lists = expand_lists(alloc, script, &gathered)?;
+    let actions = action_parts(alloc, gathered.actions)?;
+    Ok(Plan {
+        inputs: gathered.inputs,
+        queues: gathered.queues,
+        workers: gathered.workers,
+        actions,
+        tests: gathered.tests,
+        tables: lists.tables,
+        occurrences: lists.occurrences,
+        list_queues: gathered.list_queues,
+    })
+}
+
+// The plan of a script that has these items.
+fn load_items(alloc: Global, script: &Script, found: &[Item<'_>]) -> Result<Plan, PlanFault>
+    requires items { map item found.now ≡ items script.now }
+    ensures plan { IfOk result (λ plan. IsPlan script.now plan) }
+    ensures ok { OnOk result (faults_of script.now ≡ []) }
+    ensures err { IfErr result (λ f. IsAnswered (faults_of script.now) f) }
+{
+    check_script(alloc, found)?;
+    assemble(alloc, script, found)
+}
+
 impl Plan {
+    /// The plan of a script. Refuses it for its first fault: those of its items in the order of the text, then too many workers, then those of
+    /// its lists in the order of their numbers. Without a fault only memory may be missing. It goes as deep as the script nests, and takes
+    /// time and memory linear in the expanded texts of its lists.
+    pub fn load(alloc: Global, script: &Script) -> Result<Plan, PlanFault>
+        ensures plan { IfOk result (λ plan. IsPlan script.now plan) }
+        ensures ok { OnOk result (faults_of script.now ≡ []) }
+        ensures err { IfErr result (λ f. IsAnswered (faults_of script.now) f) }
+    {
+        match outline(alloc, script) {
+            Ok(found) => load_items(alloc, script, found.as_slice()),
+            Err(_) => Err(PlanFault::no_memory(alloc)),
+        }
+    }
+
     /// The plan that takes messages in and writes them all: one input that does not wait, of port 1; the main queue by its defaults, with
     /// its one worker; one archive, whose file has no name; and the list that runs it. Its only refusal is for want of memory.
     pub fn pass(alloc: Global) -> Result<Plan, PlanFault>
@@ -170,6 +231,15 @@ impl Plan {
         ensures { result ≡ queue_at self.now list }
     {
         self.list_queues[list as usize]
+    }
+
+    /// Which occurrences of a list a message executes: bit k stands for occurrence k. It takes no memory, and visits only the statements that
+    /// the message reaches.
+    pub fn due(&self, list: u32, message: &Message) -> u64
+        requires exists { list < length self.now.lists }
+        ensures { IsSetOf (work (steps_at self.now list) message.now) result }
+    {
+        due(&self.tables, &self.tests, list, message)
     }
 
     /// Each number that a plan gives exists, and a plan keeps the limits of a relay.

@@ -1,5 +1,5 @@
-use Rattle.std.proofs.Common.{◌<◌, length, map, sym, ◌∙◌, ap, arith}
-use Rattle.sy_rules.specs.Tables.{lines_of_table}
+use Rattle.std.proofs.Common.{◌<◌, length, sym, ◌∙◌, ap, arith}
+use Rattle.sy_rules.specs.Tables.{lines_of_tables}
 use Rattle.sy_rules.specs.Whole.{queue_at}
 use Rattle.sy_rules.proofs.Listed.{length-listed_from, queue_listed}
 use Rattle.sy_rules.proofs.plan.Plan.list_queue.Goals as goal
@@ -7,14 +7,14 @@ use Rattle.sy_rules.proofs.plan.Plan.list_queue.Goals as goal
 pub index-requires : goal.index-requires
 index-requires c =
     let p = c.self.inside in
-    let same = length-listed_from (map (lines_of_table p.tests.items) p.tables.items) 0 p.list_queues.items in
+    let same = length-listed_from (lines_of_tables p.tests.items p.tables.items) 0 p.list_queues.items in
     let whole = ap (λ v. length v.lists) c.self.view_is in
     omega (arith, same, whole, c.requires.exists)
 
 pub returns : goal.returns
 returns c =
     let p = c.self.inside in
-    let lines = map (lines_of_table p.tests.items) p.tables.items in
+    let lines = lines_of_tables p.tests.items p.tables.items in
     let same = length-listed_from lines 0 p.list_queues.items in
     let whole = ap (λ v. length v.lists) c.self.view_is in
     let there : c.args.list < length p.list_queues.items = omega (arith, same, whole, c.requires.exists) in

@@ -1,0 +1,38 @@
+use Rattle.std.proofs.Common.{length, ap, ◌∙◌, subst, arith}
+use Rattle.sy_rules.specs.Loading.{IsGathered}
+use Rattle.sy_rules.specs.Outline.{items}
+use Rattle.sy_rules.specs.PlanValue.{action_parts}
+use Rattle.sy_rules.specs.Plans.{actions_of}
+use Rattle.sy_rules.proofs.CleanItems.{few_rulesets, few_actions}
+use Rattle.sy_rules.proofs.Kept.{kept, listed_same}
+use Rattle.sy_rules.proofs.WholeItems.{length-list_queues, queued_at_most}
+use Rattle.sy_rules.proofs.plan.assemble.Goals as goal
+
+pub expand_lists-requires-clause-few : goal.expand_lists-requires-clause-few
+expand_lists-requires-clause-few c =
+    let all = items c.args.script.now in
+    let g = subst (λ x. IsGathered x c.in_ok-gathered.gathered) c.requires.items c.in_ok-gathered.ensures.ok in
+    omega (arith, ap length g.list_queues, length-list_queues all, few_rulesets all c.requires.clean, few_actions all c.requires.clean, queued_at_most (actions_of all))
+
+pub action_parts-requires : goal.action_parts-requires
+action_parts-requires c =
+    let all = items c.args.script.now in
+    let g = subst (λ x. IsGathered x c.in_ok-gathered.gathered) c.requires.items c.in_ok-gathered.ensures.ok in
+    record { few = omega (arith, ap length g.actions, few_actions all c.requires.clean) }
+
+pub invariant_of-result : goal.invariant_of-result
+invariant_of-result c =
+    let g = subst (λ x. IsGathered x c.in_ok-gathered.gathered) c.requires.items c.in_ok-gathered.ensures.ok in
+    let found = c.in_ok-lists.ensures.found in
+    kept c.args.script.now _
+      (record {
+        inputs = g.inputs;
+        queues = g.queues;
+        workers = g.workers;
+        actions = c.in_ok-actions.ensures.ok ∙ ap (action_parts 0) g.actions;
+        own_queues = g.list_queues;
+        tests = g.tests;
+        lines = found.lines;
+        tables = found.tables;
+        occurrences = found.occurrences ∙ listed_same c.args.script.now c.in_ok-gathered.gathered.tests.items _ _ g.list_queues;
+      }) c.requires.clean c.requires.workers
