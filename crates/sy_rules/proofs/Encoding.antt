@@ -5,10 +5,9 @@ use Rattle.std.proofs.Math.Seq.{take-append_seam, drop-append_seam}
 use Rattle.sy_select.specs.declared.condition.Test.{Test}
 use Rattle.sy_select.specs.Truth.{Formula}
 use Rattle.sy_rules.specs.declared.objects.ActionParameters.{ActionParameters}
-use Rattle.sy_rules.specs.declared.objects.RulesetParameters.{RulesetParameters}
 use Rattle.sy_rules.specs.declared.step.Step.{Step}
 use Rattle.sy_rules.specs.declared.step.Step.TheVariants as step
-use Rattle.sy_rules.specs.Lines.{Lines, ◌⧻◌, File, queued, list_of_action, has_queue, line_of_action, is_queued_ruleset, call_at, line_of_call, lines, outside, inside, singles, lists_of, test_at}
+use Rattle.sy_rules.specs.Lines.{Lines, ◌⧻◌, File, queued, list_of_action, has_queue, is_queued_ruleset, call_at, lines, outside, inside, singles, lists_of}
 use Rattle.sy_rules.specs.Plans.{place_of}
 use Rattle.sy_rules.specs.Tables.{lines_within, lines_of_table, test_of}
 use Rattle.sy_rules.specs.Texts.{Text, Part, actions, tests}

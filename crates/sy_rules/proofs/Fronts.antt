@@ -1,16 +1,14 @@
 -- What each statement and block is in front of what follows.
-use Rattle.std.proofs.Common.{◌≡◌, List, map, Option, Some, None, sym, ap, ◌∙◌}
+use Rattle.std.proofs.Common.{◌≡◌, List, Option, Some, None, sym, ap, ◌∙◌}
 use Rattle.sy_script.specs.declared.tree.Span.{Span}
 use Rattle.sy_script.specs.declared.tree.Word.{Word}
 use Rattle.sy_script.specs.declared.tree.Param.{Param}
 use Rattle.sy_script.specs.declared.tree.ExprTree.{ExprTree}
 use Rattle.sy_script.specs.declared.tree.Block.{Block}
-use Rattle.sy_script.specs.declared.tree.Block.TheVariants as b
-use Rattle.sy_script.specs.declared.tree.Block.TheOpen.{Block-F, Stmt-F}
-use Rattle.sy_script.specs.declared.tree.Block.TheFolds.{fold-roll-Block, fold-roll-Stmt}
-use Rattle.sy_script.specs.declared.tree.Stmt.{Stmt}
+use Rattle.sy_script.specs.declared.tree.Block.TheOpen.{Stmt-F}
+use Rattle.sy_script.specs.declared.tree.Block.TheFolds.{fold-roll-Stmt}
 use Rattle.sy_script.specs.declared.tree.Stmt.TheVariants as s
-use Rattle.sy_rules.specs.Texts.{Text, Front, together, block_step, stmt_step, front_of_block, front_of_stmt}
+use Rattle.sy_rules.specs.Texts.{Text, Front, block_step, stmt_step, front_of_block, front_of_stmt}
 use Rattle.sy_rules.specs.TextTables.{front_of_otherwise}
 
 pub action_is : (w : Span) (ps : List Param) → front_of_stmt (s.Action w ps) ≡ Text.Action ps

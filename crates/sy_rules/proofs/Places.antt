@@ -1,5 +1,5 @@
 -- Where a name is found in the rest of a list.
-use Rattle.std.proofs.Common.{◌≡◌, ℕ, zero, suc, ◌+◌, Bool, true, false, cond, List, [], ◌∷◌, Option, Some, None, map, drop, drop-cons, get_or, add-one, length, ◌<◌, refl, sym, ap, ◌∙◌, arith}
+use Rattle.std.proofs.Common.{◌≡◌, ℕ, suc, ◌+◌, Bool, true, false, cond, List, Option, Some, None, drop, drop-cons, get_or, add-one, length, ◌<◌, refl, ap, ◌∙◌, arith}
 use Rattle.std.specs.Str.{bytes_eq}
 use Rattle.sy_rules.specs.declared.objects.RulesetParameters.{RulesetParameters}
 use Rattle.sy_rules.specs.Plans.{place_of, one_more}

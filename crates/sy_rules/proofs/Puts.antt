@@ -1,5 +1,5 @@
 -- What is put into a table, and what is left to put.
-use Rattle.std.proofs.Common.{◌≡◌, ℕ, ◌+◌, ◌-◌, List, [], ◌∷◌, ◌++◌, length, Option, Some, None, Bool, cond, map, refl, sym, ap, ◌∙◌, append_assoc, append-nil, length-append, set, subst, ◌≤◌, Result, Ok, Err, OnOk, arith}
+use Rattle.std.proofs.Common.{◌≡◌, ℕ, ◌+◌, ◌-◌, List, [], ◌∷◌, ◌++◌, length, Option, Some, None, refl, sym, ap, ◌∙◌, append_assoc, append-nil, length-append, set, subst, ◌≤◌, Result, Ok, Err, OnOk, arith}
 use Rattle.std.proofs.Math.Seq.{set-append_seam}
 use Rattle.sy_script.specs.declared.tree.ExprTree.{ExprTree}
 use Rattle.sy_script.specs.declared.tree.Param.{Param}
@@ -9,7 +9,7 @@ use Rattle.sy_rules.specs.declared.step.Step.{Step}
 use Rattle.sy_rules.specs.declared.step.Step.TheVariants as step
 use Rattle.sy_rules.specs.Plans.{place_of}
 use Rattle.sy_rules.specs.Texts.{Text, Front, actions, tests}
-use Rattle.sy_rules.specs.TextTables.{action_step, in_front, call_step, names, if_steps, table_of, IsPut}
+use Rattle.sy_rules.specs.TextTables.{action_step, in_front, call_step, names, table_of, IsPut}
 
 -- what was put is the beginning of the whole, and this is what is left of it
 pub record IsLeft (rulesets : List RulesetParameters) (steps : List Step) (whole left : Front) (before after : Counts) (old new : List Step) : Type 0 where

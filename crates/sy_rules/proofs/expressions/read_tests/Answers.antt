@@ -1,4 +1,4 @@
-use Rattle.std.proofs.Common.{◌≡◌, ◌++◌, List, [], append-nil, drop, map, subst, sym, ap}
+use Rattle.std.proofs.Common.{◌≡◌, List, [], append-nil, drop, map, subst}
 use Rattle.std.proofs.Math.ListN.{drop_of_length-le}
 use Rattle.sy_select.specs.Truth.{Formula}
 use Rattle.sy_select.specs.declared.condition.Test.{Test}

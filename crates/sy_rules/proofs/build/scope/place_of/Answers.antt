@@ -1,4 +1,4 @@
-use Rattle.std.proofs.Common.{◌≡◌, ◌∙◌, sym, ap}
+use Rattle.std.proofs.Common.{◌∙◌, sym, ap}
 use Rattle.std.specs.Str.{bytes_eq}
 use Rattle.sy_rules.proofs.Places.{here, not_here}
 use Rattle.sy_rules.proofs.build.scope.place_of.Goals as goal

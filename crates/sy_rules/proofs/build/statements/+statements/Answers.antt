@@ -1,8 +1,8 @@
-use Rattle.std.proofs.Common.{◌≡◌, ◌+◌, ◌++◌, ◌∷◌, [], List, length, length-append, sym, ap, ◌∙◌, ◌<◌, ◌≤◌, arith}
+use Rattle.std.proofs.Common.{◌≡◌, length, length-append, ap, ◌∙◌, arith}
 use Rattle.std.proofs.lemmas.Result.{on_ok_weaker}
 use Rattle.sy_rules.specs.Plans.{place_of}
 use Rattle.sy_rules.specs.TextTables.{call_step, names, front_of_otherwise}
-use Rattle.sy_rules.specs.Texts.{Text, front_of_stmt, front_of_block}
+use Rattle.sy_rules.specs.Texts.{front_of_stmt, front_of_block}
 use Rattle.sy_rules.proofs.Fronts.{action_is, call_is, stop_is, if_is}
 use Rattle.sy_rules.proofs.Puts.{action_put, call_put, stop_put, if_put, same_front, longer, set_by, all_three}
 use Rattle.sy_rules.proofs.build.statements.+statements.Goals as goal
