@@ -1,21 +1,18 @@
 -- The numbers in the lists of a plan exist.
-use Rattle.std.proofs.Common.{◌≡◌, ◌≤◌, ◌<◌, ℕ, zero, suc, ◌+◌, Bool, true, false, cond, List, [], ◌∷◌, ◌++◌, Option, Some, None, is_some, length, take, slice_get, refl, sym, ap, ◌∙◌, add-one, arith}
-use Rattle.std.specs.List.{AllByRecursion}
+use Rattle.std.proofs.Common.{◌≡◌, ◌<◌, ℕ, zero, suc, ◌+◌, Bool, true, false, cond, List, [], ◌∷◌, ◌++◌, Option, Some, None, is_some, length, length-append, take, slice_get, refl, ap, ◌∙◌, add-one, arith}
 use Rattle.sy_script.specs.declared.tree.Script.{Script}
 use Rattle.sy_select.specs.declared.condition.Test.{Test}
 use Rattle.sy_select.specs.Truth.{Formula}
 use Rattle.sy_rules.specs.declared.objects.ActionParameters.{ActionParameters}
-use Rattle.sy_rules.specs.declared.objects.RulesetParameters.{RulesetParameters}
-use Rattle.sy_rules.specs.declared.occurrence.Occurrence.TheVariants as occurrence
 use Rattle.sy_rules.specs.KnownNumbers.{HasQueue, IsKnown, AreKnown}
-use Rattle.sy_rules.specs.Lines.{Lines, File, queued, list_of_action, has_queue, line_of_action, is_queued_ruleset, call_at, line_of_call, ruleset_names, lists_of}
-use Rattle.sy_rules.specs.Objects.{ruleset_of, action_of, kind_of_action}
+use Rattle.sy_rules.specs.Lines.{Lines, File, queued, list_of_action, has_queue, is_queued_ruleset, call_at, ruleset_names, inside, singles, lists_of}
+use Rattle.sy_rules.specs.Objects.{action_of, kind_of_action}
 use Rattle.sy_rules.specs.Outline.{Item, items}
 use Rattle.sy_rules.specs.Plans.{actions_of, rulesets_of, ruleset_queues, action_queues, list_queues, queue_behind, place_of}
-use Rattle.sy_rules.specs.PlanValue.{file_of}
-use Rattle.sy_rules.specs.Texts.{parts}
+use Rattle.sy_rules.specs.PlanValue.{file_of, lines_of}
+use Rattle.sy_rules.specs.Texts.{Part, parts, actions, tests}
 use Rattle.sy_rules.proofs.AllLines.{AllLines, AllLead, all_lists, all_expanded}
-use Rattle.sy_rules.proofs.TestLaws.{params_of, actions_of_parts, actions_are_those_of_items}
+use Rattle.sy_rules.proofs.TestLaws.{params_of, actions_of_parts, actions_are_those_of_items, rulesets_in, rulesets_of_tops}
 
 -- ---- places in lists one behind another
 
@@ -128,3 +125,48 @@ pub numbers_known : (script : Script) (tests : List (Formula Test)) → AreKnown
 numbers_known script tests list =
     let all = items script in
     all_expanded (IsKnown all) (lists_of (file_of all tests) (parts script.tops)) (all_lists (IsKnown all) (file_of all tests) (all_lead all tests) (parts script.tops) (omega (arith, actions_counted script))) 16 list
+
+-- ---- how many lists there are
+
+inside_counted : (file : File) (ps : List Part) (a t : ℕ) → length (inside file a t ps) ≡ rulesets_in ps
+inside_counted file [] a t = refl
+inside_counted file (Part.Inside x ∷ later) a t = ap suc (inside_counted file later (a + length (actions x)) (t + length (tests x)))
+inside_counted file (Part.Outside x ∷ later) a t = inside_counted file later (a + length (actions x)) (t + length (tests x))
+
+one_single : (b : Bool) (n number : ℕ) (lists : List Lines) → length lists ≡ n → length (cond b (Lines.Run number Lines.End ∷ lists) lists) ≡ cond b (n + 1) n
+one_single true n number lists h = omega (arith, h)
+one_single false n number lists h = h
+
+singles_counted : (later : List ActionParameters) (number : ℕ) → length (singles number later) ≡ queued later
+singles_counted [] number = refl
+singles_counted (a ∷ later) number = one_single (is_some a.queue) (queued later) number (singles (number + 1) later) (singles_counted later (number + 1))
+
+one_queue : (b : Bool) (n k : ℕ) (rest : Queues) → length rest ≡ n → length (cond b (Some k ∷ rest) rest) ≡ cond b (n + 1) n
+one_queue true n k rest h = omega (arith, h)
+one_queue false n k rest h = h
+
+queues_counted : (xs : List Item) (k : ℕ) → length (action_queues k xs) ≡ queued (actions_of xs)
+queues_counted [] k = refl
+queues_counted (Item.Object kind ps ∷ later) k = queues_counted later (queue_behind k (Item.Object kind ps))
+queues_counted (Item.Ruleset ps ∷ later) k = queues_counted later (queue_behind k (Item.Ruleset ps))
+queues_counted (Item.Action ps ∷ later) k =
+    one_queue (is_some (action_of (kind_of_action ps) ps).queue) (queued (actions_of later)) k (action_queues (queue_behind k (Item.Action ps)) later) (queues_counted later (queue_behind k (Item.Action ps)))
+queues_counted (Item.Call name ∷ later) k = queues_counted later (queue_behind k (Item.Call name))
+queues_counted (Item.Test test ∷ later) k = queues_counted later (queue_behind k (Item.Test test))
+
+-- Each list has its place among the queues of lists.
+pub lists_counted : (script : Script) (tests : List (Formula Test)) → length (lines_of script tests) ≡ length (list_queues (items script))
+lists_counted script tests =
+    let all = items script in
+    let file = file_of all tests in
+    let ps = parts script.tops in
+    omega (
+      arith,
+      length-append (inside file 0 0 ps) (singles 0 (actions_of all)),
+      length-append (ruleset_queues 1 all) (action_queues 1 all),
+      inside_counted file ps 0 0,
+      rulesets_of_tops script.tops,
+      rulesets_counted all 1,
+      singles_counted (actions_of all) 0,
+      queues_counted all 1,
+    )

@@ -150,3 +150,15 @@ fn of_calls_by_name(rt: HostRuntime) -> Result<(), Fail> {
     );
     Ok(())
 }
+
+// Under each allocation that fails in turn, all tables are there, or none.
+#[test]
+fn runs_out(rt: HostRuntime) -> Result<(), Fail> {
+    let alloc = rt.alloc();
+    if let Ok(script) = read_script(alloc, SCATTERED) {
+        if let Ok(tables) = tables(alloc, &script) {
+            assert_eq!(rt; tables.len(), 5);
+        }
+    }
+    Ok(())
+}

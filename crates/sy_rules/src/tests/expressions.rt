@@ -6,7 +6,7 @@ use std::alloc::{AllocError, Global};
 use std::process::Abort;
 use std::test::Fail;
 use sy_script::read_script;
-use sy_select::{Expr, SelectFault, Verdict, eval_class};
+use sy_select::{Expr, FaultCode, SelectFault, Verdict, eval_class};
 use sy_wire::Class;
 
 fn read(alloc: Global, text: &[u8]) -> Result<Result<Vec<Expr>, SelectFault>, AllocError> {
@@ -76,5 +76,17 @@ fn refused_for_the_first_fault(rt: HostRuntime) -> Result<(), Fail> {
         31,
         b"mial",
     );
+    Ok(())
+}
+
+// Under each allocation that fails in turn, tests are read, or refused for memory alone.
+#[test]
+fn runs_out(rt: HostRuntime) -> Result<(), Fail> {
+    let text =
+        b"if $msg contains \"a\" then if prifilt(\"mail.*\") or $msg == \"b\" then stop else stop";
+    if let Ok(Err(fault)) = read(rt.alloc(), text) {
+        assert_eq!(rt; fault.code, FaultCode::NoMemory);
+        assert!(rt; fault.word.is_empty());
+    }
     Ok(())
 }
