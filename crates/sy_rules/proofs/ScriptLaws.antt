@@ -122,7 +122,7 @@ same_faults all before w s (Item.Ruleset params) k h = ap (λ ns. ruleset_faults
 same_faults all before w s (Item.Action params) k h =
     ap (λ ns. action_faults ns (action_name (length ns) (action_of (kind_of_action params) params).name)) h.actions
     ∙ ap (λ n. action_faults (action_names before) (action_name n (action_of (kind_of_action params) params).name)) (length-names 0 (actions_of before))
-same_faults all before w s (Item.Call name) k h = ap (λ b. when (not b) (fault code.Unknown name)) (k.names name)
+same_faults all before w s (Item.Call name) k h = ap (λ b. when (bytes_eq name default_ruleset || not b) (fault code.Unknown name)) (k.names name)
 same_faults all before w s (Item.Test test) k h = refl
 
 -- ---- nothing is wrong with the objects

@@ -181,8 +181,8 @@ same_faults : (lists : List Lines) (name : List ℕ) (l : ℕ) → size_faults (
 same_faults lists name l =
     let statements = over STATEMENTS (statements_of lists l) in
     let occurrences = over OCCURRENCES (count (steps_of lists l)) in
-    ap (λ b. when (is_deeper lists CALL_DEPTH l) (fault code.CallDepth name) ++ when (b || nat_lt OCCURRENCES (up_to OCCURRENCES (count (steps_of lists l)))) (fault code.TooManyStatements name)) statements
-    ∙ ap (λ b. when (is_deeper lists CALL_DEPTH l) (fault code.CallDepth name) ++ when (nat_lt STATEMENTS (statements_of lists l) || b) (fault code.TooManyStatements name)) occurrences
+    ap (λ b. when (is_deeper lists CALL_DEPTH l) (fault code.CallDepth name) ++ when (b || nat_lt OCCURRENCES (up_to OCCURRENCES (count (steps_of lists l)))) (fault code.TooManyDeeds name)) statements
+    ∙ ap (λ b. when (is_deeper lists CALL_DEPTH l) (fault code.CallDepth name) ++ when (nat_lt STATEMENTS (statements_of lists l) || b) (fault code.TooManyDeeds name)) occurrences
 
 pub faults_are : (tables : List (List Step)) (sizes : List Size) → AreSizes tables CALL_DEPTH sizes → (tests : List (Formula Test)) (l : ℕ) (names : List (List ℕ))
     → faults_by sizes l names ≡ faults_of_lists (lines_of_tables tests tables) l names

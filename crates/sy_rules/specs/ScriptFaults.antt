@@ -104,7 +104,7 @@ action_faults before name = too_many ACTIONS (length before) (codes "action") ++
 
 -- a call of a ruleset that isn't there, or of the default one
 abbrev pub call_faults : List (List ℕ) → List ℕ → List PlanFault
-call_faults names name = when (not (is_among name names)) (fault code.Unknown name)
+call_faults names name = when (bytes_eq name default_ruleset || not (is_among name names)) (fault code.Unknown name)
 
 -- the faults of expressions have the same names here
 abbrev pub code_of : SelectCode → FaultCode
@@ -143,7 +143,7 @@ too_many_workers all = when (nat_lt WORKERS (sum (map (λ q. q.workers) (queues_
 abbrev pub list_faults : List Lines → List ℕ → ℕ → List PlanFault
 list_faults lists name l =
     when (is_deeper lists CALL_DEPTH l) (fault code.CallDepth name)
-    ++ when (nat_lt STATEMENTS (statements_of lists l) || nat_lt OCCURRENCES (steps.count (steps_of lists l))) (fault code.TooManyStatements name)
+    ++ when (nat_lt STATEMENTS (statements_of lists l) || nat_lt OCCURRENCES (steps.count (steps_of lists l))) (fault code.TooManyDeeds name)
 
 -- those of the lists from this one on, which have these names
 abbrev pub faults_of_lists : List Lines → ℕ → List (List ℕ) → List PlanFault

@@ -113,7 +113,7 @@ AreSizes tables depth sizes = (tests : List (Formula Test)) (list : ℕ) → siz
 abbrev pub size_faults : Size → List ℕ → List PlanFault
 size_faults size name =
     when size.deeper (fault code.CallDepth name)
-    ++ when (nat_lt STATEMENTS size.statements || nat_lt OCCURRENCES size.occurrences) (fault code.TooManyStatements name)
+    ++ when (nat_lt STATEMENTS size.statements || nat_lt OCCURRENCES size.occurrences) (fault code.TooManyDeeds name)
 
 abbrev pub faults_by : List Size → ℕ → List (List ℕ) → List PlanFault
 faults_by sizes list [] = []

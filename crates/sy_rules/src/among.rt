@@ -177,12 +177,13 @@ pub fn check_action(alloc: Global, before: &[Items<u8>], name: &[u8]) -> Result<
     refuse_if(alloc, there, FaultCode::Duplicate, name)
 }
 
-/// Refuses a call of a ruleset that isn't among these names.
+/// Refuses a call of a ruleset that isn't among these names, or of the default one.
 pub fn check_call(alloc: Global, names: &Names<'_>, name: &[u8]) -> Result<(), PlanFault>
     ensures ok { OnOk result (spec.call_faults names.now name.now ≡ []) }
     ensures err { IfErr result (λ f. IsAnswered (spec.call_faults names.now name.now) f) }
 {
-    refuse_if(alloc, !names.has(name), FaultCode::Unknown, name)
+    let unknown = name == DEFAULT_RULESET || !names.has(name);
+    refuse_if(alloc, unknown, FaultCode::Unknown, name)
 }
 
 fn code_of(code: SelectCode) -> FaultCode

@@ -30,7 +30,7 @@ pub enum FaultCode {
     /// Calls made at once more than 16 deep.
     CallDepth,
     /// A list of more than 64 occurrences or 65,536 statements.
-    TooManyStatements,
+    TooManyDeeds,
     /// Two inputs of one port.
     SamePort,
     /// An input whose module isn't loaded.
@@ -55,7 +55,7 @@ impl FaultCode {
             FaultCode::BadValue => 43,
             FaultCode::Range => 44,
             FaultCode::CallDepth => 45,
-            FaultCode::TooManyStatements => 46,
+            FaultCode::TooManyDeeds => 46,
             FaultCode::SamePort => 47,
             FaultCode::NotLoaded => 48,
             FaultCode::NoMemory => 49,
@@ -70,7 +70,7 @@ impl FaultCode {
 ///   (a missing one as the manual spells it);
 /// - any other `Duplicate` or `Unknown`: the name that is given twice, or isn't known;
 /// - `Range` of too many objects or workers: the object's word, or `queue.workerThreads`;
-/// - `CallDepth`, `TooManyStatements`: the ruleset's name;
+/// - `CallDepth`, `TooManyDeeds`: the ruleset's name;
 /// - `SamePort`: the port; `NotLoaded`: `imtcp`; `NoMemory`: nothing.
 #[derive(Debug, Drop)]
 pub struct PlanFault {

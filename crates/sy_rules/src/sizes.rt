@@ -156,7 +156,7 @@ fn check_size(alloc: Global, size: Size, name: &[u8]) -> Result<(), PlanFault>
         return Err(PlanFault::new(alloc, FaultCode::CallDepth, name));
     }
     if size.statements > STATEMENTS || size.occurrences > OCCURRENCES {
-        return Err(PlanFault::new(alloc, FaultCode::TooManyStatements, name));
+        return Err(PlanFault::new(alloc, FaultCode::TooManyDeeds, name));
     }
     Ok(())
 }

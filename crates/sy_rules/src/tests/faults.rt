@@ -16,7 +16,7 @@ fn numbers(rt: HostRuntime) -> Result<(), Fail> {
     assert_eq!(rt; FaultCode::BadValue.number(), 43);
     assert_eq!(rt; FaultCode::Range.number(), 44);
     assert_eq!(rt; FaultCode::CallDepth.number(), 45);
-    assert_eq!(rt; FaultCode::TooManyStatements.number(), 46);
+    assert_eq!(rt; FaultCode::TooManyDeeds.number(), 46);
     assert_eq!(rt; FaultCode::SamePort.number(), 47);
     assert_eq!(rt; FaultCode::NotLoaded.number(), 48);
     assert_eq!(rt; FaultCode::NoMemory.number(), 49);
