@@ -78,39 +78,39 @@ known_body (x ∷ xs) = both_agree (front_of_stmt x.0) (together (map front_of_s
 block_agrees : (y : Block-F KnownBlock Known) → BlockAgrees (roll-Block (map-Block KnownBlock Known Block Stmt (λ e. e.0) (λ e. e.0) y))
 block_agrees (Block-F.Single x) =
     agrees_as _ (front_of_stmt x.0) _ (items_of_stmt x.0)
-      (fold-roll-Block Front Front text.block_step text.stmt_step (Block-F.Single x.0))
-      (fold-roll-Block (List Item) (List Item) outline.block_step outline.stmt_step (Block-F.Single x.0)) x.1
+    (fold-roll-Block Front Front text.block_step text.stmt_step (Block-F.Single x.0))
+    (fold-roll-Block (List Item) (List Item) outline.block_step outline.stmt_step (Block-F.Single x.0)) x.1
 block_agrees (Block-F.Braced xs) =
     agrees_as _ (together (map front_of_stmt (map (λ e. e.0) xs))) _ (joined (map items_of_stmt (map (λ e. e.0) xs)))
-      (fold-roll-Block Front Front text.block_step text.stmt_step (Block-F.Braced (map (λ e. e.0) xs)))
-      (fold-roll-Block (List Item) (List Item) outline.block_step outline.stmt_step (Block-F.Braced (map (λ e. e.0) xs))) (known_body xs)
+    (fold-roll-Block Front Front text.block_step text.stmt_step (Block-F.Braced (map (λ e. e.0) xs)))
+    (fold-roll-Block (List Item) (List Item) outline.block_step outline.stmt_step (Block-F.Braced (map (λ e. e.0) xs))) (known_body xs)
 
 stmt_agrees : (y : Stmt-F KnownBlock Known) → StmtAgrees (roll-Stmt (map-Stmt KnownBlock Known Block Stmt (λ e. e.0) (λ e. e.0) y))
 stmt_agrees (Stmt-F.Action span ps) =
     agrees_as _ (Text.Action ps) _ (Item.Action ps ∷ [])
-      (fold-roll-Stmt Front Front text.block_step text.stmt_step (Stmt-F.Action span ps))
-      (fold-roll-Stmt (List Item) (List Item) outline.block_step outline.stmt_step (Stmt-F.Action span ps))
-      (record { tests = λ rest. refl; actions = λ rest. refl })
+    (fold-roll-Stmt Front Front text.block_step text.stmt_step (Stmt-F.Action span ps))
+    (fold-roll-Stmt (List Item) (List Item) outline.block_step outline.stmt_step (Stmt-F.Action span ps))
+    (record { tests = λ rest. refl; actions = λ rest. refl })
 stmt_agrees (Stmt-F.Call name) =
     agrees_as _ (Text.Call name.text) _ (Item.Call name.text ∷ [])
-      (fold-roll-Stmt Front Front text.block_step text.stmt_step (Stmt-F.Call name))
-      (fold-roll-Stmt (List Item) (List Item) outline.block_step outline.stmt_step (Stmt-F.Call name))
-      (record { tests = λ rest. refl; actions = λ rest. refl })
+    (fold-roll-Stmt Front Front text.block_step text.stmt_step (Stmt-F.Call name))
+    (fold-roll-Stmt (List Item) (List Item) outline.block_step outline.stmt_step (Stmt-F.Call name))
+    (record { tests = λ rest. refl; actions = λ rest. refl })
 stmt_agrees (Stmt-F.Stop span) =
     agrees_as _ Text.Stop _ []
-      (fold-roll-Stmt Front Front text.block_step text.stmt_step (Stmt-F.Stop span))
-      (fold-roll-Stmt (List Item) (List Item) outline.block_step outline.stmt_step (Stmt-F.Stop span))
-      (record { tests = λ rest. refl; actions = λ rest. refl })
+    (fold-roll-Stmt Front Front text.block_step text.stmt_step (Stmt-F.Stop span))
+    (fold-roll-Stmt (List Item) (List Item) outline.block_step outline.stmt_step (Stmt-F.Stop span))
+    (record { tests = λ rest. refl; actions = λ rest. refl })
 stmt_agrees (Stmt-F.If x done None) =
     agrees_as _ (λ rest. Text.If x (front_of_block done.0 Text.End) Text.End rest) _ (Item.Test x ∷ (items_of_block done.0 ++ []))
-      (fold-roll-Stmt Front Front text.block_step text.stmt_step (Stmt-F.If x done.0 None))
-      (fold-roll-Stmt (List Item) (List Item) outline.block_step outline.stmt_step (Stmt-F.If x done.0 None) ∙ ap (λ xs. Item.Test x ∷ xs) (sym (append-nil (items_of_block done.0))))
-      (if_agrees x (front_of_block done.0) (λ rest. rest) (items_of_block done.0) [] done.1 nothing_agrees)
+    (fold-roll-Stmt Front Front text.block_step text.stmt_step (Stmt-F.If x done.0 None))
+    (fold-roll-Stmt (List Item) (List Item) outline.block_step outline.stmt_step (Stmt-F.If x done.0 None) ∙ ap (λ xs. Item.Test x ∷ xs) (sym (append-nil (items_of_block done.0))))
+    (if_agrees x (front_of_block done.0) (λ rest. rest) (items_of_block done.0) [] done.1 nothing_agrees)
 stmt_agrees (Stmt-F.If x done (Some otherwise)) =
     agrees_as _ (λ rest. Text.If x (front_of_block done.0 Text.End) (front_of_block otherwise.0 Text.End) rest) _ (Item.Test x ∷ (items_of_block done.0 ++ items_of_block otherwise.0))
-      (fold-roll-Stmt Front Front text.block_step text.stmt_step (Stmt-F.If x done.0 (Some otherwise.0)))
-      (fold-roll-Stmt (List Item) (List Item) outline.block_step outline.stmt_step (Stmt-F.If x done.0 (Some otherwise.0)))
-      (if_agrees x (front_of_block done.0) (front_of_block otherwise.0) (items_of_block done.0) (items_of_block otherwise.0) done.1 otherwise.1)
+    (fold-roll-Stmt Front Front text.block_step text.stmt_step (Stmt-F.If x done.0 (Some otherwise.0)))
+    (fold-roll-Stmt (List Item) (List Item) outline.block_step outline.stmt_step (Stmt-F.If x done.0 (Some otherwise.0)))
+    (if_agrees x (front_of_block done.0) (front_of_block otherwise.0) (items_of_block done.0) (items_of_block otherwise.0) done.1 otherwise.1)
 
 each_agrees : (x : Stmt) → StmtAgrees x
 each_agrees = ind-Stmt BlockAgrees StmtAgrees

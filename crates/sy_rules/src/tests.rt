@@ -3,6 +3,7 @@
 mod faults;
 mod objects;
 mod outline;
+mod plan;
 mod ranges;
 mod read;
 mod script;
