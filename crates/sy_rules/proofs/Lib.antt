@@ -29,3 +29,4 @@ pub mod PlanTables
 pub mod SingleTables
 pub mod Loads
 pub mod Kept
+pub mod ScriptLimits

@@ -85,7 +85,7 @@ rulesets-append xs ys = ap (map (λ r. r.name)) (filter_map-append ruleset_at xs
 ports-append : (xs ys : List Item) → ports_of (xs ++ ys) ≡ ports_of xs ++ ports_of ys
 ports-append xs ys = ap (map (λ i. i.port)) (filter_map-append input_at xs ys) ∙ map-append (λ i. i.port) (inputs_of xs) (inputs_of ys)
 
-length-names : (n : ℕ) (xs : List ActionParameters) → length (names_from n xs) ≡ length xs
+pub length-names : (n : ℕ) (xs : List ActionParameters) → length (names_from n xs) ≡ length xs
 length-names n [] = refl
 length-names n (x ∷ xs) = ap suc (length-names (n + 1) xs)
 
@@ -127,7 +127,7 @@ same_faults all before w s (Item.Test test) k h = refl
 
 -- ---- nothing is wrong with the objects
 
-both_empty : (xs ys : List PlanFault) → xs ++ ys ≡ [] → (xs ≡ []) × (ys ≡ [])
+pub both_empty : (xs ys : List PlanFault) → xs ++ ys ≡ [] → (xs ≡ []) × (ys ≡ [])
 both_empty [] ys e = (refl, e)
 both_empty (x ∷ xs) ys e = absurd cc
 

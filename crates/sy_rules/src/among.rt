@@ -29,7 +29,7 @@ const RULESETS: usize = 256;
 /// The most actions of a file.
 const ACTIONS: usize = 256;
 /// The name of the ruleset of the statements outside every other.
-const DEFAULT_RULESET: &[u8] = b"RSYSLOG_DefaultRuleset";
+pub const DEFAULT_RULESET: &[u8] = b"RSYSLOG_DefaultRuleset";
 
 /// Refuses where a fault is there.
 pub fn refuse_if(alloc: Global, there: bool, code: FaultCode, word: &[u8]) -> Result<(), PlanFault>
