@@ -30,3 +30,5 @@ pub mod SingleTables
 pub mod Loads
 pub mod Kept
 pub mod ScriptLimits
+pub mod AllLines
+pub mod KnownLists

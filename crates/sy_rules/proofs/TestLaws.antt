@@ -1,5 +1,6 @@
 -- The tests and actions of the parts of a file are those of its items, in their order.
 use Rattle.std.proofs.Common.{◌≡◌, ◌++◌, List, [], ◌∷◌, Option, Some, None, map, refl, sym, ap, ◌∙◌, subst, append_assoc, append-nil}
+use Rattle.std.proofs.Common.{◌≡◌, ◌++◌, ℕ, suc, List, [], ◌∷◌, Option, Some, None, map, length, refl, sym, ap, ◌∙◌, subst, append_assoc, append-nil}
 use Rattle.std.proofs.lemmas.List.Elements.{filter_map-append}
 use Rattle.std.specs.List.{filter_map}
 use Rattle.sy_script.specs.declared.tree.ExprTree.{ExprTree}
@@ -14,6 +15,7 @@ use Rattle.sy_script.specs.declared.tree.Top.TheVariants as top
 use Rattle.sy_rules.specs.Outline as outline
 use Rattle.sy_rules.specs.Outline.{Item, joined, items_of_block, items_of_stmt, items_of_body, items_of_top, items_of_tops, items}
 use Rattle.sy_rules.specs.Expressions.{trees_of}
+use Rattle.sy_rules.specs.Plans.{ruleset_at, rulesets_of}
 use Rattle.sy_rules.specs.PlanValue.{test_of_item}
 use Rattle.sy_rules.specs.Texts as text
 use Rattle.sy_rules.specs.Texts.{Text, Front, Part, together, tests, actions, front_of_block, front_of_stmt, front_of_body, part_of, parts}
@@ -30,6 +32,8 @@ params_of xs = filter_map params_of_item xs
 pub record Agrees (f : Front) (xs : List Item) : Type 0 where
   pub tests : (rest : Text) → tests (f rest) ≡ trees_of xs ++ tests rest
   pub actions : (rest : Text) → actions (f rest) ≡ params_of xs ++ actions rest
+  -- none of them is the head of a ruleset
+  pub heads : rulesets_of xs ≡ []
 
 agrees_as : (f g : Front) (xs ys : List Item) → f ≡ g → xs ≡ ys → Agrees g ys → Agrees f xs
 agrees_as f g xs ys e h a = rw (e, h) a
@@ -42,19 +46,24 @@ trees-append xs ys = filter_map-append test_of_item xs ys
 params-append : (xs ys : List Item) → params_of (xs ++ ys) ≡ params_of xs ++ params_of ys
 params-append xs ys = filter_map-append params_of_item xs ys
 
+pub rulesets-append : (xs ys : List Item) → rulesets_of (xs ++ ys) ≡ rulesets_of xs ++ rulesets_of ys
+rulesets-append xs ys = filter_map-append ruleset_at xs ys
+
 nothing_agrees : Agrees (λ rest. rest) []
-nothing_agrees = record { tests = λ rest. refl; actions = λ rest. refl }
+nothing_agrees = record { tests = λ rest. refl; actions = λ rest. refl; heads = refl }
 
 both_agree : (f g : Front) (xs ys : List Item) → Agrees f xs → Agrees g ys → Agrees (λ rest. f (g rest)) (xs ++ ys)
 both_agree f g xs ys a b = record {
   tests = λ rest. a.tests (g rest) ∙ rw (b.tests rest, trees-append xs ys) (sym (append_assoc (trees_of xs) (trees_of ys) (tests rest)));
   actions = λ rest. a.actions (g rest) ∙ rw (b.actions rest, params-append xs ys) (sym (append_assoc (params_of xs) (params_of ys) (actions rest)));
+  heads = rw (rulesets-append xs ys, a.heads, b.heads) refl;
 }
 
 if_agrees : (x : ExprTree) (done otherwise : Front) (xs ys : List Item) → Agrees done xs → Agrees otherwise ys → Agrees (λ rest. Text.If x (done Text.End) (otherwise Text.End) rest) (Item.Test x ∷ (xs ++ ys))
 if_agrees x done otherwise xs ys a b = record {
   tests = λ rest. rw (a.tests Text.End, b.tests Text.End, append-nil (trees_of xs), append-nil (trees_of ys), trees-append xs ys, append_assoc (trees_of xs) (trees_of ys) (tests rest)) refl;
   actions = λ rest. rw (a.actions Text.End, b.actions Text.End, append-nil (params_of xs), append-nil (params_of ys), params-append xs ys, append_assoc (params_of xs) (params_of ys) (actions rest)) refl;
+  heads = rw (rulesets-append xs ys, a.heads, b.heads) refl;
 }
 
 -- ---- statements and blocks
@@ -91,16 +100,19 @@ stmt_agrees (Stmt-F.Action span ps) =
     (fold-roll-Stmt Front Front text.block_step text.stmt_step (Stmt-F.Action span ps))
     (fold-roll-Stmt (List Item) (List Item) outline.block_step outline.stmt_step (Stmt-F.Action span ps))
     (record { tests = λ rest. refl; actions = λ rest. refl })
+    (record { tests = λ rest. refl; actions = λ rest. refl; heads = refl })
 stmt_agrees (Stmt-F.Call name) =
     agrees_as _ (Text.Call name.text) _ (Item.Call name.text ∷ [])
     (fold-roll-Stmt Front Front text.block_step text.stmt_step (Stmt-F.Call name))
     (fold-roll-Stmt (List Item) (List Item) outline.block_step outline.stmt_step (Stmt-F.Call name))
     (record { tests = λ rest. refl; actions = λ rest. refl })
+    (record { tests = λ rest. refl; actions = λ rest. refl; heads = refl })
 stmt_agrees (Stmt-F.Stop span) =
     agrees_as _ Text.Stop _ []
     (fold-roll-Stmt Front Front text.block_step text.stmt_step (Stmt-F.Stop span))
     (fold-roll-Stmt (List Item) (List Item) outline.block_step outline.stmt_step (Stmt-F.Stop span))
     (record { tests = λ rest. refl; actions = λ rest. refl })
+    (record { tests = λ rest. refl; actions = λ rest. refl; heads = refl })
 stmt_agrees (Stmt-F.If x done None) =
     agrees_as _ (λ rest. Text.If x (front_of_block done.0 Text.End) Text.End rest) _ (Item.Test x ∷ (items_of_block done.0 ++ []))
     (fold-roll-Stmt Front Front text.block_step text.stmt_step (Stmt-F.If x done.0 None))
@@ -156,3 +168,16 @@ tests_are_those_of_items script = tests_of_tops script.tops
 -- The actions of a file's parts are those of its items, in the order of the text.
 pub actions_are_those_of_items : (script : Script) → actions_of_parts (parts script.tops) ≡ params_of (items script)
 actions_are_those_of_items script = actions_of_tops script.tops
+
+-- the parts of rulesets
+abbrev pub rulesets_in : List Part → ℕ
+rulesets_in [] = 0
+rulesets_in (Part.Inside x ∷ later) = suc (rulesets_in later)
+rulesets_in (Part.Outside x ∷ later) = rulesets_in later
+
+-- A file's parts are of as many rulesets as its items.
+pub rulesets_of_tops : (tops : List Top) → rulesets_in (parts tops) ≡ length (rulesets_of (items_of_tops tops))
+rulesets_of_tops [] = refl
+rulesets_of_tops (top.Object found ∷ later) = rulesets_of_tops later
+rulesets_of_tops (top.Ruleset found ∷ later) = rw (rulesets-append (items_of_body found.body) (items_of_tops later), (body_agrees found.body).heads) (ap suc (rulesets_of_tops later))
+rulesets_of_tops (top.Stmt found ∷ later) = rw (rulesets-append (items_of_stmt found) (items_of_tops later), (each_agrees found).heads) (rulesets_of_tops later)

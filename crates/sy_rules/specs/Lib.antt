@@ -25,3 +25,4 @@ pub mod Loading
 pub mod TableWalk
 pub mod TableSizes
 pub mod Numbers
+pub mod KnownNumbers

@@ -14,6 +14,7 @@ pub mod kind;
 mod load;
 mod names;
 mod number;
+mod known;
 pub mod objects;
 pub mod occurrence;
 mod outline;

@@ -1,5 +1,7 @@
 //! The parameters of objects, read from scripts.
 
+mod build;
+mod expressions;
 mod faults;
 mod objects;
 mod outline;
