@@ -12,7 +12,7 @@ ghost use Rattle.sy_rules.specs.TableSizes.{listed_in, occurrences_in};
 use crate::occurrence::Occurrence;
 use crate::sizes::Size;
 use crate::step::Step;
-use crate::walk::table_at;
+use crate::walk::{LISTS_DEEP, table_at};
 use std::alloc::{AllocError, Global};
 use sy_script::Items;
 
@@ -131,9 +131,6 @@ fn put_steps(
     }
     Ok(())
 }
-
-// How many lists may lie in one another: one, and so many calls made at once.
-const LISTS_DEEP: u32 = 17;
 
 /// The occurrences of a list, in the order of its expanded text, in time linear in that text.
 pub fn occurrences(

@@ -4,6 +4,7 @@ ghost use Rattle.std.specs.Prelude.{◌≡◌, ◌<◌, List, [], map, IfOk, OnO
 ghost use Rattle.sy_select.specs.declared.condition.Test.{Test};
 ghost use Rattle.sy_select.specs.Truth.{Formula};
 ghost use Rattle.sy_rules.specs.Faults.{IsAnswered};
+ghost use Rattle.sy_rules.specs.Lines as lines;
 ghost use Rattle.sy_rules.specs.ScriptFaults.{faults_of_lists};
 ghost use Rattle.sy_rules.specs.TableSizes as spec;
 ghost use Rattle.sy_rules.specs.Tables.{lines_of_tables};
@@ -137,7 +138,7 @@ fn round(
 
 // The sizes of lists whose calls are expanded as deep as they may lie in one another, in time linear in the tables.
 fn sizes_of(alloc: Global, tables: &[Vec<Step>]) -> Result<Vec<Size>, AllocError>
-    ensures { IfOk result (λ sizes. spec.AreSizes (map (λ table. table.items) tables.now) CALL_DEPTH sizes.items) }
+    ensures { IfOk result (λ sizes. spec.AreSizes (map (λ table. table.items) tables.now) lines.CALL_DEPTH sizes.items) }
 {
     let mut sizes = round(alloc, tables, &[], TOO_DEEP)?;
     for _depth in 0..CALL_DEPTH {
@@ -178,7 +179,7 @@ pub fn check_lists(
     tables: &[Vec<Step>],
     names: &[&[u8]],
 ) -> Result<Vec<Size>, PlanFault>
-    ensures sizes { IfOk result (λ sizes. spec.AreSizes (map (λ table. table.items) tables.now) CALL_DEPTH sizes.items) }
+    ensures sizes { IfOk result (λ sizes. spec.AreSizes (map (λ table. table.items) tables.now) lines.CALL_DEPTH sizes.items) }
     ensures ok { OnOk result ((tests : List (Formula Test)) → faults_of_lists (lines_of_tables tests (map (λ table. table.items) tables.now)) 0 (map (λ name. name.now) names.now) ≡ []) }
     ensures err { IfErr result (λ f. (tests : List (Formula Test)) → IsAnswered (faults_of_lists (lines_of_tables tests (map (λ table. table.items) tables.now)) 0 (map (λ name. name.now) names.now)) f) }
 {

@@ -9,3 +9,4 @@ mod plan;
 mod ranges;
 mod read;
 mod script;
+mod tables;

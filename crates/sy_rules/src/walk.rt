@@ -147,8 +147,8 @@ impl Walker<'_> {
     }
 }
 
-// How many lists may lie in one another: one, and so many calls made at once.
-const LISTS_DEEP: u32 = 17;
+/// How many lists may lie in one another: one, and 16 by calls made at once.
+pub const LISTS_DEEP: u32 = 17;
 
 /// Which occurrences of a list a message executes: bit k stands for occurrence k. It takes no memory, and visits only the steps that the
 /// message reaches.

@@ -1,4 +1,4 @@
-use Rattle.std.proofs.Common.{◌≡◌, ℕ, List, map, ap, ◌∙◌, subst, arith, add-one}
+use Rattle.std.proofs.Common.{◌≡◌, ℕ, suc, ◌+◌, List, map, ap, ◌∙◌, subst, arith}
 use Rattle.sy_rules.specs.declared.sizes.Size.{Size}
 use Rattle.sy_rules.specs.TableSizes.{AreSizes, size_of, size_at, empty}
 use Rattle.sy_rules.proofs.SizeSums.{first_round, next_round}
@@ -11,7 +11,9 @@ pub loop-depth-preserved : goal.loop-depth-preserved
 loop-depth-preserved c =
     let tables = map (λ table. table.items) c.args.tables.now in
     let made = c.in_ok-sizes-2.ensures ∙ ap (λ (s : List Size). map (size_of (size_at s empty)) tables) c.as_slice.ensures.value in
-    rw add-one (next_round tables c.loop-depth._depth c.loop-depth.sizes.items c.in_ok-sizes-2.sizes.items c.loop-depth.invariant made)
+    let one_more : suc c.loop-depth._depth ≡ c.loop-depth._depth + 1 = omega arith in
+    subst (λ (n : ℕ). AreSizes tables n c.in_ok-sizes-2.sizes.items) one_more
+    (next_round tables c.loop-depth._depth c.loop-depth.sizes.items c.in_ok-sizes-2.sizes.items c.loop-depth.invariant made)
 
 pub returns : goal.returns
 returns c =
