@@ -1,5 +1,4 @@
 -- The tests and actions of the parts of a file are those of its items, in their order.
-use Rattle.std.proofs.Common.{◌≡◌, ◌++◌, List, [], ◌∷◌, Option, Some, None, map, refl, sym, ap, ◌∙◌, subst, append_assoc, append-nil}
 use Rattle.std.proofs.Common.{◌≡◌, ◌++◌, ℕ, suc, List, [], ◌∷◌, Option, Some, None, map, length, refl, sym, ap, ◌∙◌, subst, append_assoc, append-nil}
 use Rattle.std.proofs.lemmas.List.Elements.{filter_map-append}
 use Rattle.std.specs.List.{filter_map}
@@ -99,19 +98,16 @@ stmt_agrees (Stmt-F.Action span ps) =
     agrees_as _ (Text.Action ps) _ (Item.Action ps ∷ [])
     (fold-roll-Stmt Front Front text.block_step text.stmt_step (Stmt-F.Action span ps))
     (fold-roll-Stmt (List Item) (List Item) outline.block_step outline.stmt_step (Stmt-F.Action span ps))
-    (record { tests = λ rest. refl; actions = λ rest. refl })
     (record { tests = λ rest. refl; actions = λ rest. refl; heads = refl })
 stmt_agrees (Stmt-F.Call name) =
     agrees_as _ (Text.Call name.text) _ (Item.Call name.text ∷ [])
     (fold-roll-Stmt Front Front text.block_step text.stmt_step (Stmt-F.Call name))
     (fold-roll-Stmt (List Item) (List Item) outline.block_step outline.stmt_step (Stmt-F.Call name))
-    (record { tests = λ rest. refl; actions = λ rest. refl })
     (record { tests = λ rest. refl; actions = λ rest. refl; heads = refl })
 stmt_agrees (Stmt-F.Stop span) =
     agrees_as _ Text.Stop _ []
     (fold-roll-Stmt Front Front text.block_step text.stmt_step (Stmt-F.Stop span))
     (fold-roll-Stmt (List Item) (List Item) outline.block_step outline.stmt_step (Stmt-F.Stop span))
-    (record { tests = λ rest. refl; actions = λ rest. refl })
     (record { tests = λ rest. refl; actions = λ rest. refl; heads = refl })
 stmt_agrees (Stmt-F.If x done None) =
     agrees_as _ (λ rest. Text.If x (front_of_block done.0 Text.End) Text.End rest) _ (Item.Test x ∷ (items_of_block done.0 ++ []))
