@@ -20,9 +20,10 @@ use Rattle.sy_rules.proofs.Fits.{no_front, no_back}
 pub clean_items : (all before later : List Item) → faults_behind all before later ≡ [] → AreClean later
 clean_items all before [] e = tt
 clean_items all before (x ∷ later) e =
-    let behind = faults_behind all (before ++ x ∷ []) later in
-    (no_front (object_faults x) (faults_among all before x ++ behind) e,
-      clean_items all (before ++ x ∷ []) later (no_back (faults_among all before x) behind (no_back (object_faults x) (faults_among all before x ++ behind) e)))
+    let behind = faults_behind all (before ++ x ∷ []) later in (
+      no_front (object_faults x) (faults_among all before x ++ behind) e,
+      clean_items all (before ++ x ∷ []) later (no_back (faults_among all before x) behind (no_back (object_faults x) (faults_among all before x ++ behind) e)),
+    )
 
 -- ---- how many
 

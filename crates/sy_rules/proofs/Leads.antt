@@ -52,7 +52,7 @@ module _ (P : Occurrence → Type 0) where
   expand_all become known (Lines.Stop rest) p = expand_all become known rest p
   expand_all become known (Lines.If x done otherwise rest) p =
       all-append P (occurrences (expand become done)) _ (expand_all become known done p.0)
-        (all-append P (occurrences (expand become otherwise)) _ (expand_all become known otherwise p.1) (expand_all become known rest p.2))
+      (all-append P (occurrences (expand become otherwise)) _ (expand_all become known otherwise p.1) (expand_all become known rest p.2))
 
   list_at_all : (lists : List Lines) (l : ℕ) → AllByRecursion AllLines lists → AllLines (list_at lists l)
   list_at_all [] l p = tt
@@ -80,17 +80,17 @@ module _ (P : Occurrence → Type 0) where
     action_all : (a : ℕ) (rest : Lines) → a < length file.actions → AllLines rest → AllLines (line_of_action file a rest)
     action_all a rest le p = by_case (has_queue (slice_get file.actions a)) refl
       where
-      by_case : (b : Bool) → has_queue (slice_get file.actions a) ≡ b → AllLines (if b then Lines.Post (list_of_action file a) rest else Lines.Run a rest)
-      by_case true e = (posts a le e, p)
-      by_case false e = (runs a le, p)
+        by_case : (b : Bool) → has_queue (slice_get file.actions a) ≡ b → AllLines (if b then Lines.Post (list_of_action file a) rest else Lines.Run a rest)
+        by_case true e = (posts a le e, p)
+        by_case false e = (runs a le, p)
 
     call_all : (o : Option ℕ) (rest : Lines) → AllLines rest → AllLines (call_at file o rest)
     call_all None rest p = p
     call_all (Some place) rest p = by_case (is_queued_ruleset (slice_get file.rulesets place)) refl
       where
-      by_case : (b : Bool) → is_queued_ruleset (slice_get file.rulesets place) ≡ b → AllLines (if b then Lines.Post (place + 1) rest else Lines.Call (place + 1) rest)
-      by_case true e = (calls place e, p)
-      by_case false e = p
+        by_case : (b : Bool) → is_queued_ruleset (slice_get file.rulesets place) ≡ b → AllLines (if b then Lines.Post (place + 1) rest else Lines.Call (place + 1) rest)
+        by_case true e = (calls place e, p)
+        by_case false e = p
 
     lines_all : (a t : ℕ) (x : Text) → a + length (text.actions x) ≤ length file.actions → AllLines (lines file a t x)
     lines_all a t Text.End le = tt
@@ -99,10 +99,11 @@ module _ (P : Occurrence → Type 0) where
     lines_all a t (Text.Stop rest) le = lines_all a t rest le
     lines_all a t (Text.If test done otherwise rest) le =
         let whole = length-append (text.actions done) (text.actions otherwise ++ text.actions rest) in
-        let rear = length-append (text.actions otherwise) (text.actions rest) in
-        (lines_all a (t + 1) done (omega (arith, le, whole)),
+        let rear = length-append (text.actions otherwise) (text.actions rest) in (
+          lines_all a (t + 1) done (omega (arith, le, whole)),
           lines_all (a + length (text.actions done)) (t + 1 + length (text.tests done)) otherwise (omega (arith, le, whole, rear)),
-          lines_all (a + length (text.actions done) + length (text.actions otherwise)) (t + 1 + length (text.tests done) + length (text.tests otherwise)) rest (omega (arith, le, whole, rear)))
+          lines_all (a + length (text.actions done) + length (text.actions otherwise)) (t + 1 + length (text.tests done) + length (text.tests otherwise)) rest (omega (arith, le, whole, rear)),
+        )
 
     outside_all : (a t : ℕ) (ps : List Part) → a + actions_in ps ≤ length file.actions → AllLines (outside file a t ps)
     outside_all a t [] le = tt
@@ -125,9 +126,10 @@ module _ (P : Occurrence → Type 0) where
     singles_all number (a ∷ later) le = single (is_some a.queue) number (singles (number + 1) later) (runs number (omega (arith, le))) (singles_all (number + 1) later (omega (arith, le)))
 
     pub lists_all : (ps : List Part) → actions_in ps ≡ length file.actions → AllByRecursion AllLines (lists_of file ps)
-    lists_all ps e =
-        (outside_all 0 0 ps (omega (arith, e)),
-          all-append AllLines (inside file 0 0 ps) (singles 0 file.actions) (inside_all 0 0 ps (omega (arith, e))) (singles_all 0 file.actions (omega arith)))
+    lists_all ps e = (
+      outside_all 0 0 ps (omega (arith, e)),
+      all-append AllLines (inside file 0 0 ps) (singles 0 file.actions) (inside_all 0 0 ps (omega (arith, e))) (singles_all 0 file.actions (omega arith)),
+    )
 
     pub steps_all : (ps : List Part) → actions_in ps ≡ length file.actions → (l : ℕ) → AllByRecursion P (occurrences (steps_of (lists_of file ps) l))
     steps_all ps e l = expanded_all (lists_of file ps) (lists_all ps e) CALL_DEPTH l

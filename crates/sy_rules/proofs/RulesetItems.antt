@@ -75,11 +75,11 @@ pub as_many_rulesets : (file : File) (a t : ℕ) (tops : List Top) → length (i
 as_many_rulesets file a t [] = refl
 as_many_rulesets file a t (top.Object found ∷ later) = by_kind found.kind (as_many_rulesets file a t later)
   where
-  by_kind : (k : ObjectKind) → length (inside file a t (parts later)) ≡ length (rulesets_of (items_of_tops later)) → length (inside file a t (parts later)) ≡ length (rulesets_of (Item.Object k found.params ∷ items_of_tops later))
-  by_kind object.Input e = e
-  by_kind object.MainQueue e = e
-  by_kind object.Module e = e
-  by_kind object.Global e = e
+    by_kind : (k : ObjectKind) → length (inside file a t (parts later)) ≡ length (rulesets_of (items_of_tops later)) → length (inside file a t (parts later)) ≡ length (rulesets_of (Item.Object k found.params ∷ items_of_tops later))
+    by_kind object.Input e = e
+    by_kind object.MainQueue e = e
+    by_kind object.Module e = e
+    by_kind object.Global e = e
 as_many_rulesets file a t (top.Ruleset found ∷ later) =
     let x = front_of_body found.body Text.End in
     ap suc (as_many_rulesets file (a + length (text.actions x)) (t + length (text.tests x)) later ∙ sym (behind (items_of_body found.body) (items_of_tops later) (body_within found.body)))

@@ -53,5 +53,5 @@ singles_behind script tables n e is =
     let rear = singles 0 file.actions in
     let same : n ≡ length front = omega (arith, e, as_many_rulesets file 0 0 script.tops) in
     let behind : lines_of_tables [] (drop n tables) ≡ rear =
-      sym (drop-map (lines_of_table []) n tables) ∙ (ap (drop n) is ∙ (ap (λ k. drop k (front ++ rear)) same ∙ drop-append_seam front rear)) in
+    sym (drop-map (lines_of_table []) n tables) ∙ (ap (drop n) is ∙ (ap (λ k. drop k (front ++ rear)) same ∙ drop-append_seam front rear)) in
     are_singles [] (drop n tables) (subst (AllByRecursion RunsOne) (sym behind) (singles_run_one 0 file.actions))

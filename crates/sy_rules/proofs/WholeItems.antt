@@ -48,17 +48,17 @@ module _ {X : Type 0} (P : X → Type 0) where
 queue_of_in_range : (k : Kind) (ps : List Param) → takes_queue k ≡ true → faults k ps ≡ [] → IfSome (queue_of k ps) AreInRange
 queue_of_in_range k ps takes clean = by_case (has_queue k ps)
   where
-  by_case : (b : Bool) → IfSome (if b then Some (queue_parameters k ps) else None) AreInRange
-  by_case true = queue_in_range k ps takes clean
-  by_case false = tt
+    by_case : (b : Bool) → IfSome (if b then Some (queue_parameters k ps) else None) AreInRange
+    by_case true = queue_in_range k ps takes clean
+    by_case false = tt
 
 is_action_named : (word : Option (List ℕ)) → is_action (kind_named word) ≡ true
 is_action_named word = by_case (is_word (codes "omfile") word) (is_word (codes "omfwd") word)
   where
-  by_case : (a b : Bool) → is_action (if a then kind.Archive else if b then kind.Forward else kind.Action) ≡ true
-  by_case true b = refl
-  by_case false true = refl
-  by_case false false = refl
+    by_case : (a b : Bool) → is_action (if a then kind.Archive else if b then kind.Forward else kind.Action) ≡ true
+    by_case true b = refl
+    by_case false true = refl
+    by_case false false = refl
 
 pub kind_is_action : (ps : List Param) → is_action (kind_of_action ps) ≡ true
 unfolding kind_of_action
@@ -99,8 +99,8 @@ pub workers_exist : (most number : ℕ) (queues : List QueueParameters) → numb
 workers_exist most number [] le = tt
 workers_exist most number (q ∷ later) le =
     all-append (λ queue. queue < most) (replicate q.workers number) (workers_from (number + 1) later)
-      (all-replicate (λ queue. queue < most) q.workers number (omega arith))
-      (workers_exist most (number + 1) later (omega arith))
+    (all-replicate (λ queue. queue < most) q.workers number (omega arith))
+    (workers_exist most (number + 1) later (omega arith))
 
 -- ---- actions
 
@@ -160,15 +160,15 @@ ruleset_queues_exist : (most number : ℕ) (items : List Item) → number + leng
 ruleset_queues_exist most number [] le = tt
 ruleset_queues_exist most number (x ∷ items) le =
     if_ruleset most (is_ruleset x) (queue_here number x) (ruleset_queues (queue_behind number x) items)
-      (here_exists number most (queue_at x) (filter_map queue_at items) le)
-      (ruleset_queues_exist most (queue_behind number x) items (behind_fits number most (queue_at x) (filter_map queue_at items) le))
+    (here_exists number most (queue_at x) (filter_map queue_at items) le)
+    (ruleset_queues_exist most (queue_behind number x) items (behind_fits number most (queue_at x) (filter_map queue_at items) le))
 
 there : (number most : ℕ) (x : Item) (rest : List QueueParameters) → is_queued_action x ≡ true → number + length (cons_option (queue_at x) rest) ≤ most → number < most
 there number most (Item.Action ps) rest is le = by_case (queue_at (Item.Action ps)) is le
   where
-  by_case : (o : Option QueueParameters) → is_some o ≡ true → number + length (cons_option o rest) ≤ most → number < most
-  by_case None e h = cc
-  by_case (Some q) e h = omega (arith, h)
+    by_case : (o : Option QueueParameters) → is_some o ≡ true → number + length (cons_option o rest) ≤ most → number < most
+    by_case None e h = cc
+    by_case (Some q) e h = omega (arith, h)
 there number most (Item.Ruleset ps) rest is le = cc
 there number most (Item.Object found ps) rest is le = cc
 there number most (Item.Call name) rest is le = cc
@@ -182,15 +182,17 @@ action_queues_exist : (most number : ℕ) (items : List Item) → number + lengt
 action_queues_exist most number [] le = tt
 action_queues_exist most number (x ∷ items) le =
     if_queued most number (is_queued_action x) (action_queues (queue_behind number x) items)
-      (λ is. there number most x (filter_map queue_at items) is le)
-      (action_queues_exist most (queue_behind number x) items (behind_fits number most (queue_at x) (filter_map queue_at items) le))
+    (λ is. there number most x (filter_map queue_at items) is le)
+    (action_queues_exist most (queue_behind number x) items (behind_fits number most (queue_at x) (filter_map queue_at items) le))
 
 pub list_queues_exist : (items : List Item) → AllByRecursion (Exists (length (queues_of items))) (list_queues items)
 list_queues_exist items =
-    let most = length (queues_of items) in
-    (tt, all-append (Exists most) (ruleset_queues 1 items) (action_queues 1 items)
-      (ruleset_queues_exist most 1 items (omega arith))
-      (action_queues_exist most 1 items (omega arith)))
+    let most = length (queues_of items) in (
+      tt,
+      all-append (Exists most) (ruleset_queues 1 items) (action_queues 1 items)
+          (ruleset_queues_exist most 1 items (omega arith))
+          (action_queues_exist most 1 items (omega arith)),
+    )
 
 -- ---- how many lists
 
@@ -224,7 +226,7 @@ unfolding action_of
 length-action_queues number [] = refl
 length-action_queues number (Item.Action ps ∷ items) =
     one_of (queue_at (Item.Action ps)) number (action_queues (queue_behind number (Item.Action ps)) items) (actions_of items)
-      (length-action_queues (queue_behind number (Item.Action ps)) items)
+    (length-action_queues (queue_behind number (Item.Action ps)) items)
 length-action_queues number (Item.Ruleset ps ∷ items) = length-action_queues (queue_behind number (Item.Ruleset ps)) items
 length-action_queues number (Item.Object object.Input ps ∷ items) = length-action_queues number items
 length-action_queues number (Item.Object object.MainQueue ps ∷ items) = length-action_queues number items
@@ -261,10 +263,12 @@ abbrev pub IsBound : List Item → Input → Type 0
 IsBound all i = (1 ≤ i.port) × (i.list < length (list_queues all)) × (i.queue < length (queues_of all))
 
 part_is_bound : (all : List Item) (i : InputParameters) → 1 ≤ i.port → IsBound all (input_part all i)
-part_is_bound all i port =
-    (port, list_of_input_exists all i.ruleset_name,
-      queue_exists (length (queues_of all)) (slice_get (list_queues all) (list_of_input all i.ruleset_name)) (omega arith)
-        (if_there (Exists (length (queues_of all))) (list_queues all) (list_of_input all i.ruleset_name) (list_queues_exist all)))
+part_is_bound all i port = (
+  port,
+  list_of_input_exists all i.ruleset_name,
+  queue_exists (length (queues_of all)) (slice_get (list_queues all) (list_of_input all i.ruleset_name)) (omega arith)
+      (if_there (Exists (length (queues_of all))) (list_queues all) (list_of_input all i.ruleset_name) (list_queues_exist all)),
+)
 
 input_is_bound : (all : List Item) (x : Item) → object_faults x ≡ [] → IfSome (input_at x) (λ i. 1 ≤ i.port)
 unfolding input_of

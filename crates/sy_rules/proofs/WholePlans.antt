@@ -72,7 +72,7 @@ ruleset_has number (Item.Test test ∷ items) place h = ruleset_has number items
 pub call_leads : (all : List Item) (place : ℕ) → is_queued_ruleset (slice_get (rulesets_of all) place) ≡ true → Has (list_queues all) (place + 1)
 call_leads all place h =
     has_behind (None ∷ []) (ruleset_queues 1 all ++ action_queues 1 all) place (place + 1) (omega arith)
-      (has_in_front (ruleset_queues 1 all) (action_queues 1 all) place (ruleset_has 1 all place h))
+    (has_in_front (ruleset_queues 1 all) (action_queues 1 all) place (ruleset_has 1 all place h))
 
 -- of an action that has one
 
@@ -80,23 +80,23 @@ has_all : (number : ℕ) (items : List Item) (k : ℕ) → k < length (action_qu
 has_all number [] k le = absurd (omega (arith, le))
 has_all number (x ∷ items) k le = by_case (is_queued_action x) (action_queues (queue_behind number x) items) k (has_all (queue_behind number x) items) le
   where
-  by_case : (b : Bool) (rest : List (Option ℕ)) (k : ℕ) → ((j : ℕ) → j < length rest → Has rest j) → k < length (if b then Some number ∷ rest else rest) → Has (if b then Some number ∷ rest else rest) k
-  by_case true rest zero h le = refl
-  by_case true rest (suc k) h le = h k (omega (arith, le))
-  by_case false rest k h le = h k le
+    by_case : (b : Bool) (rest : List (Option ℕ)) (k : ℕ) → ((j : ℕ) → j < length rest → Has rest j) → k < length (if b then Some number ∷ rest else rest) → Has (if b then Some number ∷ rest else rest) k
+    by_case true rest zero h le = refl
+    by_case true rest (suc k) h le = h k (omega (arith, le))
+    by_case false rest k h le = h k le
 
 queued_before : (actions : List ActionParameters) (a : ℕ) → has_queue (slice_get actions a) ≡ true → queued (take a actions) < queued actions
 queued_before [] a h = cc
 queued_before (x ∷ later) zero h = first (is_some x.queue) h
   where
-  first : (b : Bool) → b ≡ true → 0 < (if b then queued later + 1 else queued later)
-  first true e = omega arith
-  first false e = cc
+    first : (b : Bool) → b ≡ true → 0 < (if b then queued later + 1 else queued later)
+    first true e = omega arith
+    first false e = cc
 queued_before (x ∷ later) (suc a) h = next (is_some x.queue) (queued_before later a h)
   where
-  next : (b : Bool) → queued (take a later) < queued later → (if b then queued (take a later) + 1 else queued (take a later)) < (if b then queued later + 1 else queued later)
-  next true le = omega (arith, le)
-  next false le = le
+    next : (b : Bool) → queued (take a later) < queued later → (if b then queued (take a later) + 1 else queued (take a later)) < (if b then queued later + 1 else queued later)
+    next true le = omega (arith, le)
+    next false le = le
 
 pub action_leads : (all : List Item) (tests : List (Formula Test)) (a : ℕ) → has_queue (slice_get (actions_of all) a) ≡ true → Has (list_queues all) (list_of_action (file_of all tests) a)
 action_leads all tests a h =
@@ -105,7 +105,7 @@ action_leads all tests a h =
     let k = queued (take a (actions_of all)) in
     let few = queued_before (actions_of all) a h in
     has_behind (None ∷ ruleset_queues 1 all) (action_queues 1 all) k (list_of_action (file_of all tests) a) (omega (arith, rulesets))
-      (has_all 1 all k (omega (arith, length-append (ruleset_queues 1 all) (action_queues 1 all), few, lists, rulesets)))
+    (has_all 1 all k (omega (arith, length-append (ruleset_queues 1 all) (action_queues 1 all), few, lists, rulesets)))
 
 -- ---- the lists of a plan
 
@@ -155,9 +155,9 @@ module _ (script : Script) (tests : List (Formula Test))
   steps_lead : (l : ℕ) → AllByRecursion (Leads plan) (occurrences (steps_of (lines_of script tests) l))
   steps_lead =
       steps_all (Leads plan) (file_of all tests) runs
-        (λ a le h. posts (list_of_action (file_of all tests) a) (action_leads all tests a h))
-        (λ place h. posts (place + 1) (call_leads all place h))
-        (parts script.tops) (as_many_actions script.tops)
+      (λ a le h. posts (list_of_action (file_of all tests) a) (action_leads all tests a h))
+      (λ place h. posts (place + 1) (call_leads all place h))
+      (parts script.tops) (as_many_actions script.tops)
 
   pub is_whole : IsWhole plan
   is_whole =
@@ -183,5 +183,5 @@ module _ (script : Script) (tests : List (Formula Test))
         list_queues = All-from_recursion (λ l. Exists (length plan.queues) l.queue) plan.lists (queues_listed (Exists (length plan.queues)) (lines_of script tests) 0 (list_queues all) (list_queues_exist all));
         occurrences_most = All-from_recursion (λ l. count l.steps ≤ 64) plan.lists (steps_listed (λ s. count s ≤ 64) (lines_of script tests) few 0 (list_queues all));
         occurrences_lead = All-from_recursion (λ l. All (Leads plan) (occurrences l.steps)) plan.lists
-          (steps_listed (λ s. All (Leads plan) (occurrences s)) (lines_of script tests) (λ l. All-from_recursion (Leads plan) (occurrences (steps_of (lines_of script tests) l)) (steps_lead l)) 0 (list_queues all));
+            (steps_listed (λ s. All (Leads plan) (occurrences s)) (lines_of script tests) (λ l. All-from_recursion (Leads plan) (occurrences (steps_of (lines_of script tests) l)) (steps_lead l)) 0 (list_queues all));
       }

@@ -22,8 +22,8 @@ pub mod PassPlan
 pub mod PlanInside
 pub mod TextTables
 pub mod Expressions
+pub mod Loading
 pub mod TableWalk
 pub mod TableSizes
 pub mod KnownNumbers
 pub mod Numbers
-pub mod Loading

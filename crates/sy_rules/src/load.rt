@@ -18,7 +18,7 @@ use crate::build::build;
 use crate::expressions::read_tests;
 use crate::fault::PlanFault;
 use crate::gather::{actions, inputs, list_queues, queues, rulesets, workers};
-use crate::number::{occurrences};
+use crate::number::occurrences;
 use crate::objects::{ActionParameters, RulesetParameters};
 use crate::occurrence::Occurrence;
 use crate::outline::Item;
@@ -89,10 +89,7 @@ pub struct Lists {
 }
 
 // The names of the lists that have one.
-fn names_of_lists(
-    alloc: Global,
-    rulesets: &[RulesetParameters],
-) -> Result<Vec<&[u8]>, AllocError>
+fn names_of_lists(alloc: Global, rulesets: &[RulesetParameters]) -> Result<Vec<&[u8]>, AllocError>
     ensures { IfOk result (λ names. map (λ name. name.now) names.items ≡ default_ruleset ∷ map (λ r. r.name) rulesets.now) }
 {
     let mut names = Vec::new(alloc);
@@ -126,11 +123,7 @@ fn occurrences_of_lists(
 }
 
 // The tables of a script's lists, whose occurrences aren't numbered yet.
-fn tables(
-    alloc: Global,
-    script: &Script,
-    gathered: &Gathered,
-) -> Result<Vec<Vec<Step>>, AllocError>
+fn tables(alloc: Global, script: &Script, gathered: &Gathered) -> Result<Vec<Vec<Step>>, AllocError>
     requires gathered { IsGathered (items script.now) gathered.now }
     ensures lines { IfOk result (λ found. (tests : List (Formula Test)) → lines_of_tables tests (map (λ t. t.items) found.items) ≡ lines_of script.now tests) }
     ensures singles { IfOk result (λ found. AreSingles (drop (length gathered.now.rulesets.items + 1) (map (λ t. t.items) found.items))) }

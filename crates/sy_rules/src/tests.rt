@@ -5,6 +5,7 @@ mod expressions;
 mod faults;
 mod objects;
 mod outline;
+mod plan;
 mod ranges;
 mod read;
 mod script;

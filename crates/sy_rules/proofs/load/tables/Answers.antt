@@ -15,6 +15,6 @@ returns-clause-lines c = λ tests.
 pub returns-clause-singles : goal.returns-clause-singles
 returns-clause-singles c =
     singles_behind c.args.script.now (map (λ t. t.items) c.in_ok-found.found.items) (length c.args.gathered.now.rulesets.items + 1) (omega (arith, ap length c.requires.gathered.rulesets))
-      (map-map (lines_of_table []) (λ t. t.items) c.in_ok-found.found.items
-      ∙ (c.in_ok-found.ensures []
-      ∙ same_lists _ _ _ _ [] (parts c.args.script.now.tops) (c.as_slice.ensures.value ∙ c.requires.gathered.rulesets) (c.as_slice-2.ensures.value ∙ c.requires.gathered.actions)))
+    (map-map (lines_of_table []) (λ t. t.items) c.in_ok-found.found.items
+    ∙ (c.in_ok-found.ensures []
+    ∙ same_lists _ _ _ _ [] (parts c.args.script.now.tops) (c.as_slice.ensures.value ∙ c.requires.gathered.rulesets) (c.as_slice-2.ensures.value ∙ c.requires.gathered.actions)))

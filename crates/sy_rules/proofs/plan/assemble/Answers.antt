@@ -25,14 +25,14 @@ invariant_of-result c =
     let g = subst (λ x. IsGathered x c.in_ok-gathered.gathered) c.requires.items c.in_ok-gathered.ensures.ok in
     let found = c.in_ok-lists.ensures.found in
     kept c.args.script.now _
-      (record {
-        inputs = g.inputs;
-        queues = g.queues;
-        workers = g.workers;
-        actions = c.in_ok-actions.ensures.ok ∙ ap (action_parts 0) g.actions;
-        own_queues = g.list_queues;
-        tests = g.tests;
-        lines = found.lines;
-        tables = found.tables;
-        occurrences = found.occurrences ∙ listed_same c.args.script.now c.in_ok-gathered.gathered.tests.items _ _ g.list_queues;
-      }) c.requires.clean c.requires.workers
+    (record {
+      inputs = g.inputs;
+      queues = g.queues;
+      workers = g.workers;
+      actions = c.in_ok-actions.ensures.ok ∙ ap (action_parts 0) g.actions;
+      own_queues = g.list_queues;
+      tests = g.tests;
+      lines = found.lines;
+      tables = found.tables;
+      occurrences = found.occurrences ∙ listed_same c.args.script.now c.in_ok-gathered.gathered.tests.items _ _ g.list_queues;
+    }) c.requires.clean c.requires.workers
