@@ -31,7 +31,6 @@ pub mod SizeSums
 pub mod Numbering
 pub mod LineLaws
 pub mod PlanTables
-pub mod ListFits
 pub mod ScriptLimits
 pub mod SingleTables
 pub mod Loads
