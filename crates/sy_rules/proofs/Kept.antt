@@ -11,7 +11,7 @@ use Rattle.sy_rules.specs.Lines.{Lines}
 use Rattle.sy_rules.specs.Outline.{items}
 use Rattle.sy_rules.specs.Plans.{list_queues}
 use Rattle.sy_rules.specs.PlanInside.{AreParts, IsKept, plan_of}
-use Rattle.sy_rules.specs.PlanValue.{IsPlan, Plan, lines_of, listed_from}
+use Rattle.sy_rules.specs.PlanValue.{HasParts, Plan, lines_of, listed_from}
 use Rattle.sy_rules.specs.ScriptFaults.{faults_behind, too_many_workers}
 use Rattle.sy_rules.specs.Steps.{occurrences}
 use Rattle.sy_rules.specs.Tables.{count_of}
@@ -40,7 +40,7 @@ kept script p parts clean workers =
       occurrences = parts.occurrences ∙ ap (map (λ l. occurrences l.steps)) (sym (same_listed _ _ _ _ parts.lines parts.own_queues));
     }
 
-pub is_plan : (script : Script) (p : Inside) → AreParts script p → IsPlan script (plan_of p)
+pub is_plan : (script : Script) (p : Inside) → AreParts script p → HasParts script (plan_of p)
 is_plan script p parts = record {
   tests = p.tests.items;
   are_tests = parts.tests;

@@ -14,6 +14,7 @@ use Rattle.sy_rules.specs.declared.parts.Action.{Action}
 use Rattle.sy_rules.specs.Lines.{File, Lines, lists_of, steps_of}
 use Rattle.sy_rules.specs.Outline.{Item, items}
 use Rattle.sy_rules.specs.Plans.{inputs_of, rulesets_of, actions_of, action_name, list_of_input, list_queues, queues_of, workers_of}
+use Rattle.sy_rules.specs.ScriptFaults.{faults_of}
 use Rattle.sy_rules.specs.Steps.{Steps}
 use Rattle.sy_rules.specs.Texts.{parts}
 
@@ -84,7 +85,8 @@ abbrev pub listed_from : List Lines → ℕ → List (Option ℕ) → List Liste
 listed_from lines number [] = []
 listed_from lines number (queue ∷ later) = record { steps = steps_of lines number; queue = queue } ∷ listed_from lines (number + 1) later
 
-pub record IsPlan (script : Script) (plan : Plan) : Type 0 where
+-- the parts of a plan, each as the script gives it
+pub record HasParts (script : Script) (plan : Plan) : Type 0 where
   pub tests : List (Formula Test)
   pub are_tests : AreExprs (filter_map test_of_item (items script)) tests
   pub inputs : plan.inputs ≡ map (input_part (items script)) (inputs_of (items script))
@@ -92,3 +94,8 @@ pub record IsPlan (script : Script) (plan : Plan) : Type 0 where
   pub workers : plan.workers ≡ workers_of (items script)
   pub actions : plan.actions ≡ action_parts 0 (actions_of (items script))
   pub lists : plan.lists ≡ listed_from (lines_of script tests) 0 (list_queues (items script))
+
+-- A script with a fault has no plan.
+pub record IsPlan (script : Script) (plan : Plan) : Type 0 where
+  pub clean : faults_of script ≡ []
+  pub parts : HasParts script plan

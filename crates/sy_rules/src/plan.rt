@@ -5,7 +5,7 @@ ghost use Rattle.sy_rules.specs.ItemViews.{item};
 ghost use Rattle.sy_rules.specs.Loading.{faults_of_its_lists};
 ghost use Rattle.sy_rules.specs.Outline.{items};
 ghost use Rattle.sy_rules.specs.PassPlan as pass;
-ghost use Rattle.sy_rules.specs.PlanValue.{IsPlan};
+ghost use Rattle.sy_rules.specs.PlanValue.{HasParts, IsPlan};
 ghost use Rattle.sy_rules.specs.ScriptFaults.{faults_behind, faults_of, too_many_workers};
 ghost use Rattle.sy_rules.specs.Steps as steps;
 ghost use Rattle.sy_rules.specs.Whole.{IsWhole, queue_at, steps_at};
@@ -123,7 +123,7 @@ fn assemble(alloc: Global, script: &Script, found: &[Item<'_>]) -> Result<Plan, 
     requires items { map item found.now ≡ items script.now }
     requires clean { faults_behind (items script.now) [] (items script.now) ≡ [] }
     requires workers { too_many_workers (items script.now) ≡ [] }
-    ensures plan { IfOk result (λ plan. IsPlan script.now plan) }
+    ensures plan { IfOk result (λ plan. HasParts script.now plan) }
     ensures ok { OnOk result (faults_of_its_lists script.now ≡ []) }
     ensures err { IfErr result (λ f. IsAnswered (faults_of_its_lists script.now) f) }
 {
@@ -145,7 +145,7 @@ fn assemble(alloc: Global, script: &Script, found: &[Item<'_>]) -> Result<Plan, 
 // The plan of a script that has these items.
 fn load_items(alloc: Global, script: &Script, found: &[Item<'_>]) -> Result<Plan, PlanFault>
     requires items { map item found.now ≡ items script.now }
-    ensures plan { IfOk result (λ plan. IsPlan script.now plan) }
+    ensures plan { IfOk result (λ plan. HasParts script.now plan) }
     ensures ok { OnOk result (faults_of script.now ≡ []) }
     ensures err { IfErr result (λ f. IsAnswered (faults_of script.now) f) }
 {
