@@ -1,6 +1,7 @@
 //! The parameters of objects, read from scripts.
 
 mod build;
+mod configurations;
 mod expressions;
 mod faults;
 mod objects;
