@@ -211,6 +211,7 @@ fn of_calls_and_posts(rt: HostRuntime) -> Result<(), Fail> {
         alloc,
         b"ruleset(name=\"cut\") { stop } call cut action(type=\"omfile\" file=\"f\")",
     );
+    assert_eq!(&rt; called.lists(), 2);
     has_list(&rt, &called, 0, &[Occurrence::Run(0)], None);
     assert_eq!(&rt; called.due(0, &message), 0);
     let posted = load(
@@ -218,6 +219,8 @@ fn of_calls_and_posts(rt: HostRuntime) -> Result<(), Fail> {
         alloc,
         b"ruleset(name=\"cut\" queue.type=\"LinkedList\") { stop } call cut action(type=\"omfile\" file=\"f\")",
     );
+    assert_eq!(&rt; posted.lists(), 2);
+    has_list(&rt, &posted, 1, &[], Some(1));
     has_list(
         &rt,
         &posted,
