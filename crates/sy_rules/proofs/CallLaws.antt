@@ -47,14 +47,16 @@ replaced lists (suc depth) l h = same_text (is_deeper lists depth) (expanded lis
 found : (p : ℕ → Bool) (xs : List ℕ) → list_any p xs ≡ true → (x : ℕ) × (is_in x xs ≡ true) × (p x ≡ true)
 found p [] h = absurd (true≢false (sym h))
 found p (x ∷ xs) h = elim (either (p x) (list_any p xs) h) [
-    inl met ↦ (x, here x xs, met)
-  | inr later ↦ (let f = found p xs later in (f.0, there f.0 x xs f.1, f.2)) ]
+  | inl met ↦ (x, here x xs, met)
+  | inr later ↦ (let f = found p xs later in (f.0, there f.0 x xs f.1, f.2))
+]
 
 any_of : (p : ℕ → Bool) (xs : List ℕ) (x : ℕ) → is_in x xs ≡ true → p x ≡ true → list_any p xs ≡ true
 any_of p [] x i h = absurd (true≢false (sym i))
 any_of p (y ∷ ys) x i h = elim (either (y == x) (is_in x ys) i) [
-    inl same ↦ ap (λ b. b || list_any p ys) (ap p (eqb-true y x same) ∙ h)
-  | inr later ↦ there_by (p y) (list_any p ys) (any_of p ys x later h) ]
+  | inl same ↦ ap (λ b. b || list_any p ys) (ap p (eqb-true y x same) ∙ h)
+  | inr later ↦ there_by (p y) (list_any p ys) (any_of p ys x later h)
+]
 
 abbrev Chain : List Lines → ℕ → ℕ → Type 0
 Chain lists n l = (callees : List ℕ) × (length callees ≡ n) × IsChain lists l callees

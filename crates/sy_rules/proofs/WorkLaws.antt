@@ -34,8 +34,9 @@ in_then k xs false b h = inl h
 within_then : (f u v : ℕ) (a b : Walk) → Within f u a → Within u v b → f ≤ u → u ≤ v → Within f v (a then b)
 within_then f u v a b ha hb fu uv k h =
     elim (in_then k a.executed a.goes_on b h) [
-        inl left ↦ (let p = ha k left in (p.0, omega arith))
-      | inr right ↦ (let p = hb k right in (omega arith, p.1)) ]
+      | inl left ↦ (let p = ha k left in (p.0, omega arith))
+      | inr right ↦ (let p = hb k right in (omega arith, p.1))
+    ]
 
 within_more : (f g u v : ℕ) (a : Walk) → Within g u a → f ≤ g → u ≤ v → Within f v a
 within_more f g u v a h fg uv k is = let p = h k is in (omega arith, omega arith)
@@ -43,8 +44,9 @@ within_more f g u v a h fg uv k is = let p = h k is in (omega arith, omega arith
 within_one : (n : ℕ) → Within n (n + 1) (one n)
 within_one n k h =
     elim (either (n == k) false h) [
-        inl same ↦ (let e : n ≡ k = eqb-true n k same in (omega arith, omega arith))
-      | inr apart ↦ absurd (true≢false (sym apart)) ]
+      | inl same ↦ (let e : n ≡ k = eqb-true n k same in (omega arith, omega arith))
+      | inr apart ↦ absurd (true≢false (sym apart))
+    ]
 
 within_choice : (f u : ℕ) (b : Bool) (x y : Walk) → Within f u x → Within f u y → Within f u (if b then x else y)
 within_choice f u true x y hx hy = hx
@@ -67,13 +69,13 @@ within (Steps.If x done otherwise rest) n v =
     let m = length-append (occurrences otherwise) (occurrences rest) in
     let e : count (Steps.If x done otherwise rest) ≡ count done + (count otherwise + count rest) = l ∙ ap (λ j. count done + j) m in
     let choice : Within n (n + count done + count otherwise) (if b then first else second)
-          = within_choice n (n + count done + count otherwise) b first second
-              (within_more n n (n + count done) (n + count done + count otherwise) first (within done n (behind (truth.occurrences x) v)) (omega arith) (omega arith))
-              (within_more n (n + count done) (n + count done + count otherwise) (n + count done + count otherwise) second (within otherwise (n + count done) (behind (truth.occurrences x ++ tests done) v)) (omega arith) (omega arith)) in
+    = within_choice n (n + count done + count otherwise) b first second
+    (within_more n n (n + count done) (n + count done + count otherwise) first (within done n (behind (truth.occurrences x) v)) (omega arith) (omega arith))
+    (within_more n (n + count done) (n + count done + count otherwise) (n + count done + count otherwise) second (within otherwise (n + count done) (behind (truth.occurrences x ++ tests done) v)) (omega arith) (omega arith)) in
     within_then n (n + count done + count otherwise) (n + count (Steps.If x done otherwise rest)) (if b then first else second) next choice
-      (within_more (n + count done + count otherwise) (n + count done + count otherwise) (n + count done + count otherwise + count rest) (n + count (Steps.If x done otherwise rest)) next
-        (within rest (n + count done + count otherwise) (behind (truth.occurrences x ++ (tests done ++ tests otherwise)) v)) (omega arith) (omega arith))
-      (omega arith) (omega arith)
+    (within_more (n + count done + count otherwise) (n + count done + count otherwise) (n + count done + count otherwise + count rest) (n + count (Steps.If x done otherwise rest)) next
+    (within rest (n + count done + count otherwise) (behind (truth.occurrences x ++ (tests done ++ tests otherwise)) v)) (omega arith) (omega arith))
+    (omega arith) (omega arith)
 
 pub of_the_list : (s : Steps) (v : Valuation) (k : ℕ) → is_in k (executed s v) ≡ true → k < count s
 of_the_list s v k h = let p = within s 0 v k h in omega arith
@@ -122,11 +124,11 @@ follows (Steps.If x done otherwise rest) t n v =
     let e : count (Steps.If x done otherwise rest) ≡ count done + (count otherwise + count rest) = l ∙ ap (λ j. count done + j) m in
     let numbers : next + count rest ≡ n + count (Steps.If x done otherwise rest) = omega arith in
     let joined : seen ++ tests rest ≡ truth.occurrences x ++ (tests done ++ (tests otherwise ++ tests rest))
-          = append_assoc (truth.occurrences x) (tests done ++ tests otherwise) (tests rest) ∙ ap (λ ts. truth.occurrences x ++ ts) (append_assoc (tests done) (tests otherwise) (tests rest)) in
+    = append_assoc (truth.occurrences x) (tests done ++ tests otherwise) (tests rest) ∙ ap (λ ts. truth.occurrences x ++ ts) (append_assoc (tests done) (tests otherwise) (tests rest)) in
     let values : behind (tests rest) (behind seen v) ≡ behind (truth.occurrences x ++ (tests done ++ (tests otherwise ++ tests rest))) v
-          = behind_behind seen (tests rest) v ∙ ap (λ ts. behind ts v) joined in
+    = behind_behind seen (tests rest) v ∙ ap (λ ts. behind ts v) joined in
     step chosen (walk (rest ⧺ t) next (behind seen v)) rest t next (next + count rest) (n + count (Steps.If x done otherwise rest)) (behind seen v) (behind (tests rest) (behind seen v)) (behind (truth.occurrences x ++ (tests done ++ (tests otherwise ++ tests rest))) v)
-      (follows rest t next (behind seen v)) numbers values
+    (follows rest t next (behind seen v)) numbers values
 
 -- where a text stops, nothing behind it is executed
 stops : (xs : List ℕ) (goes_on : Bool) (b : Walk) → goes_on ≡ false → (record { executed = xs; goes_on = goes_on }) then b ≡ record { executed = xs; goes_on = goes_on }
@@ -174,8 +176,9 @@ there k n ns h = there_by (n == k) (is_in k ns) h
 above : (n : ℕ) (xs ys : List ℕ) (u : ℕ) → n < u → ((k : ℕ) → is_in k xs ≡ true → n < k) → ((k : ℕ) → is_in k ys ≡ true → u ≤ k) → (k : ℕ) → is_in k (xs ++ ys) ≡ true → n < k
 above n xs ys u nu a b k h =
     elim (in_either k xs ys h) [
-        inl left ↦ a k left
-      | inr right ↦ (let l = b k right in omega arith) ]
+      | inl left ↦ a k left
+      | inr right ↦ (let l = b k right in omega arith)
+    ]
 
 rising_joined : (xs ys : List ℕ) (u : ℕ) → IsRising xs → IsRising ys → ((k : ℕ) → is_in k xs ≡ true → k < u) → ((k : ℕ) → is_in k ys ≡ true → u ≤ k) → IsRising (xs ++ ys)
 rising_joined [] ys u rx ry a b = ry
@@ -205,14 +208,14 @@ rising (Steps.If x done otherwise rest) n v =
     let u = n + count done + count otherwise in
     let next = walk rest u (behind (truth.occurrences x ++ (tests done ++ tests otherwise)) v) in
     let choice : Within n u (if b then first else second)
-          = within_choice n u b first second
-              (within_more n n (n + count done) u first (within done n (behind (truth.occurrences x) v)) (omega arith) (omega arith))
-              (within_more n (n + count done) u u second (within otherwise (n + count done) (behind (truth.occurrences x ++ tests done) v)) (omega arith) (omega arith)) in
+    = within_choice n u b first second
+    (within_more n n (n + count done) u first (within done n (behind (truth.occurrences x) v)) (omega arith) (omega arith))
+    (within_more n (n + count done) u u second (within otherwise (n + count done) (behind (truth.occurrences x ++ tests done) v)) (omega arith) (omega arith)) in
     rising_then (if b then first else second).executed (if b then first else second).goes_on next u
-      (rising_choice b first second (rising done n (behind (truth.occurrences x) v)) (rising otherwise (n + count done) (behind (truth.occurrences x ++ tests done) v)))
-      (rising rest u (behind (truth.occurrences x ++ (tests done ++ tests otherwise)) v))
-      (λ k h. (choice k h).1)
-      (λ k h. (within rest u (behind (truth.occurrences x ++ (tests done ++ tests otherwise)) v) k h).0)
+    (rising_choice b first second (rising done n (behind (truth.occurrences x) v)) (rising otherwise (n + count done) (behind (truth.occurrences x ++ tests done) v)))
+    (rising rest u (behind (truth.occurrences x ++ (tests done ++ tests otherwise)) v))
+    (λ k h. (choice k h).1)
+    (λ k h. (within rest u (behind (truth.occurrences x ++ (tests done ++ tests otherwise)) v) k h).0)
 
 -- what every admitted valuation executes some admitted one executes, since there is one
 pub must_may : (s : Steps) (facility severity k : ℕ) → Must s facility severity k → May s facility severity k

@@ -211,7 +211,12 @@ action(type="omfile" file="a.log")
 fn a_stop_in_a_called_ruleset(rt: HostRuntime) -> Result<(), Fail> {
     let alloc = rt.alloc();
     has_due(&rt, alloc, CUT, &[(0, "<34>1 - - - - - -", 0)])?;
-    has_due(&rt, alloc, CUT_WITH_A_QUEUE, &[(0, "<34>1 - - - - - -", 0b11), (1, "<34>1 - - - - - -", 0)])?;
+    has_due(
+        &rt,
+        alloc,
+        CUT_WITH_A_QUEUE,
+        &[(0, "<34>1 - - - - - -", 0b11), (1, "<34>1 - - - - - -", 0)],
+    )?;
     Ok(())
 }
 
