@@ -1,6 +1,3 @@
-pub mod Lookups
-pub mod Fits
-pub mod Ranges
 pub mod Puts
 pub mod Places
 pub mod Fronts
@@ -8,3 +5,6 @@ pub mod Encoding
 pub mod TestLaws
 pub mod AllLines
 pub mod KnownLists
+pub mod Lookups
+pub mod Fits
+pub mod Ranges

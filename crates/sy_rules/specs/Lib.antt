@@ -8,12 +8,12 @@ pub mod ItemViews
 pub mod ItemFaults
 pub mod Plans
 pub mod Texts
+pub mod TextTables
+pub mod Expressions
+pub mod KnownNumbers
 pub mod Steps
 pub mod Work
 pub mod Lines
 pub mod ScriptFaults
 pub mod PlanValue
 pub mod Tables
-pub mod TextTables
-pub mod Expressions
-pub mod KnownNumbers
