@@ -35,6 +35,3 @@ pub mod ScriptLimits
 pub mod SingleTables
 pub mod Loads
 pub mod Kept
-pub mod Lookups
-pub mod Fits
-pub mod Ranges

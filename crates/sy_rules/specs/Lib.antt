@@ -23,10 +23,7 @@ pub mod PlanCodes
 pub mod Whole
 pub mod PassPlan
 pub mod PlanInside
-pub mod TextTables
-pub mod Expressions
 pub mod Loading
 pub mod TableWalk
 pub mod TableSizes
-pub mod KnownNumbers
 pub mod Numbers
