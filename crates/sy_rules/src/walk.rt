@@ -34,6 +34,7 @@ fn place(base: u32, number: u32) -> u32
     base.wrapping_add(number)
 }
 
+// In a plan's tables numbers are below 64, so that neither this nor the sum above cuts one.
 fn add(set: u64, at: u32) -> u64
     ensures { result ≡ spec.add set at }
 {
@@ -54,6 +55,7 @@ fn expr_at(tests: &[Expr], number: u32) -> Option<&Expr>
     tests.get(number as usize)
 }
 
+/// The table of the list of this number, which is empty where there is no such list.
 pub fn table_at(tables: &[Items<Step>], list: u32) -> &[Step]
     ensures { result.now ≡ table_at tables.now list }
 {
@@ -85,6 +87,7 @@ impl Walker<'_> {
         }
     }
 
+    // A list whose occurrences begin at this number, behind a set, where lists may lie in one another so deep.
     #[cycle(walk)]
     fn list(self, depth: u32, list: u32, base: u32, set: u64) -> Reached
         ensures { result ≡ spec.run_list (spec.meets (says self.entry.message.now) self.entry.tests.now) self.entry.tables.now depth list base set }
@@ -129,6 +132,7 @@ impl Walker<'_> {
         }
     }
 
+    // It goes as deep as blocks nest, and calls may lie in one another so deep.
     #[cycle(walk)]
     fn steps(self, depth: u32, steps: &[Step], base: u32, set: u64) -> Reached
         ensures { result ≡ spec.run_steps (spec.meets (says self.entry.message.now) self.entry.tests.now) self.entry.tables.now depth steps.now base set }

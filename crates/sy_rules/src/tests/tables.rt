@@ -1,6 +1,6 @@
 //! Tables written by hand: their numbers, their limits, and what messages execute of them.
 
-use crate::fault::PlanFault;
+use crate::fault::{FaultCode, PlanFault};
 use crate::number::occurrences;
 use crate::occurrence::Occurrence;
 use crate::step::Step;
@@ -300,4 +300,30 @@ fn statements_in_calls(rt: HostRuntime) -> Result<(), Fail> {
     ];
     refused(&rt, alloc, doubled(alloc, &more)?.as_slice(), 46, ZERO);
     Ok(())
+}
+
+// Tables are made, or refused for memory alone.
+fn for_memory_alone(rt: &impl Abort, alloc: Global) -> Result<(), AllocError> {
+    let caller: [Step; 2] = [Step::Run(0, 0), Step::Call(1, 0)];
+    let called: [Step; 1] = [Step::Run(1, 0)];
+    let raw = raw(alloc, &[&caller, &called])?;
+    match planned(alloc, raw.as_slice(), &[ZERO, ONE]) {
+        Ok(tables) => {
+            let all = occurrences(alloc, tables.as_slice(), 0)?;
+            assert_eq!(rt; all.len(), 2);
+        }
+        Err(fault) => {
+            assert_eq!(rt; fault.code, FaultCode::NoMemory);
+            assert!(rt; fault.word.is_empty());
+        }
+    }
+    Ok(())
+}
+
+#[test]
+fn runs_out(rt: HostRuntime) -> Result<(), Fail> {
+    match for_memory_alone(&rt, rt.alloc()) {
+        Ok(()) => Ok(()),
+        Err(_) => Ok(()),
+    }
 }
