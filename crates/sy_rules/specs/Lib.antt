@@ -8,9 +8,6 @@ pub mod ItemViews
 pub mod ItemFaults
 pub mod Plans
 pub mod Texts
-pub mod TextTables
-pub mod Expressions
-pub mod KnownNumbers
 pub mod Steps
 pub mod Work
 pub mod Lines
