@@ -35,6 +35,3 @@ pub mod ScriptLimits
 pub mod SingleTables
 pub mod Loads
 pub mod Kept
-pub mod ScriptLimits
-pub mod AllLines
-pub mod KnownLists

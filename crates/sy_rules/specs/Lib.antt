@@ -24,3 +24,6 @@ pub mod Loading
 pub mod TableWalk
 pub mod TableSizes
 pub mod Numbers
+pub mod TextTables
+pub mod Expressions
+pub mod KnownNumbers
