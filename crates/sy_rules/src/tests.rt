@@ -1,9 +1,10 @@
-//! The parameters of objects, read from scripts.
+//! Plans of scripts, and what they are made of.
 
 mod build;
 mod configurations;
 mod expressions;
 mod faults;
+mod loading;
 mod objects;
 mod outline;
 mod plan;

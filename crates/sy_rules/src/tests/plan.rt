@@ -201,6 +201,77 @@ fn of_a_hub(rt: HostRuntime) -> Result<(), Fail> {
     Ok(())
 }
 
+const MIXED: &[u8] = b"module(load=\"imtcp\")
+main_queue(queue.size=\"101\" queue.workerThreads=\"3\")
+input(type=\"imtcp\" port=\"1\" ruleset=\"b\")
+ruleset(name=\"a\" queue.type=\"LinkedList\" queue.size=\"1\" queue.workerThreads=\"2\") {
+  action(name=\"x\" type=\"omfile\" file=\"x\" queue.type=\"FixedArray\" queue.size=\"7\"
+         action.resumeInterval=\"5\" action.resumeRetryCount=\"3\")
+}
+input(type=\"imtcp\" port=\"2\" flowControl=\"off\" ruleset=\"a\")
+ruleset(name=\"b\" queue.type=\"LinkedList\" queue.size=\"9\") { call a }
+action(type=\"omfile\" file=\"y\")
+";
+
+// The size, the three marks and the workers of a queue.
+fn has_queue(rt: &impl Abort, queue: Option<&QueueParameters>, wanted: [u32; 5]) {
+    match queue {
+        None => assert!(rt; false),
+        Some(q) => {
+            let marks = [q.full_delay_mark, q.light_delay_mark, q.discard_mark];
+            assert_eq!(rt; [q.size, marks[0], marks[1], marks[2], q.workers], wanted);
+        }
+    }
+}
+
+// Queues in the order of the text, lists in an order of their own.
+#[test]
+fn of_queues_of_rulesets_and_actions(rt: HostRuntime) -> Result<(), Fail> {
+    let plan = load(&rt, rt.alloc(), MIXED);
+    let queues = plan.queues();
+    assert_eq!(&rt; queues.len(), 4);
+    has_queue(&rt, queues.first(), [101, 97, 70, 80, 3]);
+    has_queue(&rt, queues.get(1), [1, 0, 0, 0, 2]);
+    has_queue(&rt, queues.get(2), [7, 6, 4, 5, 1]);
+    has_queue(&rt, queues.get(3), [9, 8, 6, 7, 1]);
+    assert_eq!(&rt; plan.workers(), [0, 0, 0, 1, 1, 2, 3].as_slice());
+    has_list(&rt, &plan, 0, &[Occurrence::Run(1)], None);
+    has_list(&rt, &plan, 1, &[Occurrence::Post(3)], Some(1));
+    has_list(&rt, &plan, 2, &[Occurrence::Post(1)], Some(3));
+    has_list(&rt, &plan, 3, &[Occurrence::Run(0)], Some(2));
+    Ok(())
+}
+
+#[test]
+fn of_inputs_and_actions_of_a_mixed_text(rt: HostRuntime) -> Result<(), Fail> {
+    let plan = load(&rt, rt.alloc(), MIXED);
+    let inputs = [
+        Input {
+            port: 1,
+            flow: FlowControl::On,
+            list: 2,
+            queue: 3,
+        },
+        Input {
+            port: 2,
+            flow: FlowControl::Off,
+            list: 1,
+            queue: 1,
+        },
+    ];
+    assert_eq!(&rt; plan.inputs(), inputs.as_slice());
+    match plan.actions() {
+        [first, second] => {
+            assert_eq!(&rt; first.name.as_slice(), b"x".as_slice());
+            assert_eq!(&rt; (first.retry, first.resume_interval), (Some(3), 5));
+            assert_eq!(&rt; second.name.as_slice(), b"action-1".as_slice());
+            assert_eq!(&rt; (second.retry, second.resume_interval), (Some(0), 30));
+        }
+        _ => assert!(&rt; false),
+    }
+    Ok(())
+}
+
 // A stop ends all that follows, also behind a call; behind a post the list goes on.
 #[test]
 fn of_calls_and_posts(rt: HostRuntime) -> Result<(), Fail> {

@@ -1,0 +1,274 @@
+//! Scripts that are no plan: each fault with its word, and which of several is answered. The expected values come from the rules of the
+//! profile, worked out by hand.
+
+use crate::Plan;
+use std::alloc::{AllocError, Global};
+use std::process::Abort;
+use std::test::Fail;
+use sy_script::read_script;
+
+/// The number and word of a script's fault.
+fn has_fault(
+    rt: &impl Abort,
+    alloc: Global,
+    text: &[u8],
+    number: u8,
+    word: &str,
+) -> Result<(), AllocError> {
+    let Ok(script) = read_script(alloc, text) else {
+        return Err(AllocError);
+    };
+    match Plan::load(alloc, &script) {
+        Ok(_) => assert!(rt; false, "no fault, not {number} {word}"),
+        Err(fault) => {
+            assert_eq!(rt; fault.code.number(), number, "{word}");
+            assert_eq!(rt; fault.word.as_slice(), word.as_bytes());
+        }
+    }
+    Ok(())
+}
+
+fn has_faults(rt: &impl Abort, alloc: Global, rows: &[(&str, u8, &str)]) -> Result<(), AllocError> {
+    for (text, number, word) in rows {
+        has_fault(rt, alloc, text.as_bytes(), *number, word)?;
+    }
+    Ok(())
+}
+
+fn has_plan(rt: &impl Abort, alloc: Global, text: &[u8]) -> Result<(), AllocError> {
+    let Ok(script) = read_script(alloc, text) else {
+        return Err(AllocError);
+    };
+    match Plan::load(alloc, &script) {
+        Ok(_) => (),
+        Err(fault) => assert_eq!(rt; fault.code.number(), 0),
+    }
+    Ok(())
+}
+
+const INPUT: &str =
+    "module(load=\"imtcp\") input(type=\"imtcp\" port=\"6514\" flowControl=\"full\" ruleset=\"out\")
+    ruleset(name=\"out\" queue.type=\"LinkedList\" queue.fullDelayMark=\"90\" ";
+
+const ACTION: &str =
+    ") { action(name=\"up\" type=\"omfwd\" target=\"hub\" port=\"6515\" protocol=\"tcp\" ";
+
+const END: &str = " action.resumeRetryCount=\"-1\") } ";
+
+/// The edge of the worked site with these parameters of its queue, this framing, and more behind it.
+fn edge(alloc: Global, queue: &str, framing: &str, more: &str) -> Result<Vec<u8>, AllocError> {
+    let mut text = Vec::from_slice(alloc, INPUT.as_bytes())?;
+    text.extend_from_slice(queue.as_bytes())?;
+    text.extend_from_slice(ACTION.as_bytes())?;
+    text.extend_from_slice(framing.as_bytes())?;
+    text.extend_from_slice(END.as_bytes())?;
+    text.extend_from_slice(more.as_bytes())?;
+    Ok(text)
+}
+
+const SIZES: &str = "queue.size=\"100\" queue.discardSeverity=\"8\"";
+
+const FRAMING: &str = "TCP_Framing=\"octet-counted\"";
+
+#[test]
+fn of_a_changed_edge(rt: HostRuntime) -> Result<(), Fail> {
+    let alloc = rt.alloc();
+    has_plan(&rt, alloc, edge(alloc, SIZES, FRAMING, "")?.as_slice())?;
+    let rows = [
+        ("queue.size=\"1k\"", FRAMING, "", 43, "queue.size"),
+        ("queue.size=\"0\"", FRAMING, "", 44, "queue.size"),
+        (
+            "queue.discardSeverity=\"9\"",
+            FRAMING,
+            "",
+            44,
+            "queue.discardSeverity",
+        ),
+        (
+            SIZES,
+            FRAMING,
+            "ruleset(name=\"a\") { call b } ruleset(name=\"b\") { call a }",
+            45,
+            "a",
+        ),
+        (
+            SIZES,
+            FRAMING,
+            "input(type=\"imtcp\" port=\"6514\")",
+            47,
+            "6514",
+        ),
+        (SIZES, "", "", 40, "TCP_Framing"),
+    ];
+    for (queue, framing, more, number, word) in rows {
+        has_fault(
+            &rt,
+            alloc,
+            edge(alloc, queue, framing, more)?.as_slice(),
+            number,
+            word,
+        )?;
+    }
+    Ok(())
+}
+
+#[test]
+fn each_with_its_word(rt: HostRuntime) -> Result<(), Fail> {
+    let rows = [
+        ("if prifilt(\"foo.info\") then stop", 31, "foo"),
+        ("if prifilt(\"mail.foo\") then stop", 32, "foo"),
+        ("if prifilt(\"mail.!none\") then stop", 33, "mail.!none"),
+        ("if $msg > \"x\" then stop", 34, ">"),
+        ("action(type=\"omfile\")", 40, "file"),
+        (
+            "global(workDirectory=\"a\" WORKDIRECTORY=\"b\")",
+            41,
+            "WORKDIRECTORY",
+        ),
+        ("main_queue() main_queue()", 41, "main_queue"),
+        ("ruleset(name=\"a\") { } ruleset(name=\"a\") { }", 41, "a"),
+        (
+            "ruleset(name=\"RSYSLOG_DefaultRuleset\") { }",
+            41,
+            "RSYSLOG_DefaultRuleset",
+        ),
+        (
+            "action(name=\"action-1\" type=\"omfile\" file=\"f\") action(type=\"omfile\" file=\"f\")",
+            41,
+            "action-1",
+        ),
+        ("global(x=\"1\")", 42, "x"),
+        ("if $foo == \"x\" then stop", 42, "$foo"),
+        ("call nowhere", 42, "nowhere"),
+        ("call RSYSLOG_DefaultRuleset", 42, "RSYSLOG_DefaultRuleset"),
+        (
+            "module(load=\"imtcp\") input(type=\"imtcp\" port=\"1\" ruleset=\"nowhere\")",
+            42,
+            "nowhere",
+        ),
+        ("module(load=\"imudp\")", 43, "load"),
+        (
+            "module(load=\"imtcp\") input(type=\"imtcp\" port=\"65536\")",
+            44,
+            "port",
+        ),
+        (
+            "module(load=\"imtcp\") input(type=\"imtcp\" port=\"1\") input(type=\"imtcp\" port=\"01\")",
+            47,
+            "1",
+        ),
+        ("input(type=\"imtcp\" port=\"1\")", 48, "imtcp"),
+        (
+            "call a ruleset(name=\"a\") { call a }",
+            45,
+            "RSYSLOG_DefaultRuleset",
+        ),
+        ("ruleset(name=\"a\") { call a }", 45, "a"),
+    ];
+    has_faults(&rt, rt.alloc(), &rows)?;
+    Ok(())
+}
+
+// In the order of the text; what concerns the whole comes behind it.
+#[test]
+fn the_first_of_several(rt: HostRuntime) -> Result<(), Fail> {
+    let rows = [
+        (
+            "call RSYSLOG_DefaultRuleset ruleset(name=\"RSYSLOG_DefaultRuleset\") { }",
+            42,
+            "RSYSLOG_DefaultRuleset",
+        ),
+        ("call nowhere global(x=\"1\")", 42, "nowhere"),
+        ("ruleset(name=\"a\") { call a } global(x=\"1\")", 42, "x"),
+        (
+            "ruleset(name=\"a\") { call a } main_queue(queue.workerThreads=\"64\")
+          ruleset(name=\"b\" queue.type=\"LinkedList\" queue.workerThreads=\"64\") { }
+          ruleset(name=\"c\" queue.type=\"LinkedList\" queue.workerThreads=\"64\") { }
+          ruleset(name=\"d\" queue.type=\"LinkedList\" queue.workerThreads=\"64\") { }
+          ruleset(name=\"e\" queue.type=\"LinkedList\") { }",
+            44,
+            "queue.workerThreads",
+        ),
+        (
+            "ruleset(name=\"a\") { call a } call b ruleset(name=\"b\") { call b }",
+            45,
+            "RSYSLOG_DefaultRuleset",
+        ),
+    ];
+    has_faults(&rt, rt.alloc(), &rows)?;
+    Ok(())
+}
+
+fn repeated(alloc: Global, part: &str, count: usize) -> Result<Vec<u8>, AllocError> {
+    let mut text = Vec::new(alloc);
+    for _ in 0..count {
+        text.extend_from_slice(part.as_bytes())?;
+    }
+    Ok(text)
+}
+
+const ARCHIVE: &str = "action(type=\"omfile\" file=\"f\")";
+
+#[test]
+fn of_64_and_65_occurrences(rt: HostRuntime) -> Result<(), Fail> {
+    let alloc = rt.alloc();
+    has_plan(&rt, alloc, repeated(alloc, ARCHIVE, 64)?.as_slice())?;
+    let mut text = repeated(alloc, ARCHIVE, 65)?;
+    has_fault(&rt, alloc, text.as_slice(), 46, "RSYSLOG_DefaultRuleset")?;
+    // Too deep comes before too large.
+    text.extend_from_slice(b" call a ruleset(name=\"a\") { call a }")?;
+    has_fault(&rt, alloc, text.as_slice(), 45, "RSYSLOG_DefaultRuleset")?;
+    Ok(())
+}
+
+// Of two faulty lists the earlier: the one that is too large before the later one, whose calls lie too deep.
+#[test]
+fn of_the_earlier_list(rt: HostRuntime) -> Result<(), Fail> {
+    let alloc = rt.alloc();
+    let mut text = repeated(alloc, ARCHIVE, 65)?;
+    text.extend_from_slice(b" ruleset(name=\"a\") { call a }")?;
+    has_fault(&rt, alloc, text.as_slice(), 46, "RSYSLOG_DefaultRuleset")?;
+    Ok(())
+}
+
+// Rulesets that each call the next one, from r0 on; the last one calls none.
+fn chain(alloc: Global, calls: usize) -> Result<Vec<u8>, AllocError> {
+    let mut text = Vec::new(alloc);
+    for (name, next) in NAMES.iter().zip(&NAMES[1..]).take(calls) {
+        for part in ["ruleset(name=\"", *name, "\") { call ", *next, " } "] {
+            text.extend_from_slice(part.as_bytes())?;
+        }
+    }
+    for part in ["ruleset(name=\"", NAMES[calls.min(17)], "\") { stop }"] {
+        text.extend_from_slice(part.as_bytes())?;
+    }
+    Ok(text)
+}
+
+const NAMES: [&str; 18] = [
+    "r0", "r1", "r2", "r3", "r4", "r5", "r6", "r7", "r8", "r9", "r10", "r11", "r12", "r13", "r14",
+    "r15", "r16", "r17",
+];
+
+#[test]
+fn of_16_and_17_calls_in_one_another(rt: HostRuntime) -> Result<(), Fail> {
+    let alloc = rt.alloc();
+    has_plan(&rt, alloc, chain(alloc, 16)?.as_slice())?;
+    has_fault(&rt, alloc, chain(alloc, 17)?.as_slice(), 45, "r0")?;
+    Ok(())
+}
+
+// 254 calls of 256 statements each, and 258 statements beside them: with the calls 65,536.
+#[test]
+fn of_65536_and_65537_statements(rt: HostRuntime) -> Result<(), Fail> {
+    let alloc = rt.alloc();
+    let mut text = repeated(alloc, "call inner ", 254)?;
+    text.extend_from_slice(repeated(alloc, "if $msg == \"x\" then stop ", 129)?.as_slice())?;
+    text.extend_from_slice(b"ruleset(name=\"inner\") { ")?;
+    text.extend_from_slice(repeated(alloc, "if $msg == \"x\" then stop ", 128)?.as_slice())?;
+    text.extend_from_slice(b"} ")?;
+    has_plan(&rt, alloc, text.as_slice())?;
+    text.extend_from_slice(b"stop")?;
+    has_fault(&rt, alloc, text.as_slice(), 46, "RSYSLOG_DefaultRuleset")?;
+    Ok(())
+}
