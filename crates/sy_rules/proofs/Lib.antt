@@ -25,13 +25,9 @@ pub mod SizeLaws
 pub mod Walks
 pub mod Sets
 pub mod TableRuns
-pub mod AllLines
-pub mod KnownLists
 pub mod SizeSums
 pub mod Numbering
-pub mod LineLaws
 pub mod PlanTables
-pub mod ScriptLimits
 pub mod SingleTables
 pub mod Loads
 pub mod Kept

@@ -26,4 +26,3 @@ pub mod TableSizes
 pub mod Numbers
 pub mod TextTables
 pub mod Expressions
-pub mod KnownNumbers

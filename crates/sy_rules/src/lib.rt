@@ -11,7 +11,6 @@ mod gather;
 mod item_check;
 mod item_values;
 pub mod kind;
-mod known;
 pub mod laws;
 mod load;
 mod names;

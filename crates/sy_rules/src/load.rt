@@ -14,6 +14,7 @@ ghost use Rattle.sy_rules.specs.ScriptFaults.{faults_behind};
 ghost use Rattle.sy_rules.specs.Steps as steps;
 ghost use Rattle.sy_rules.specs.Tables.{lines_of_tables};
 
+use crate::among::DEFAULT_RULESET;
 use crate::build::build;
 use crate::expressions::read_tests;
 use crate::fault::PlanFault;
@@ -30,9 +31,6 @@ use std::alloc::{AllocError, Global};
 use sy_script::Items;
 use sy_script::tree::Script;
 use sy_select::Expr;
-
-/// The name of the ruleset of the statements outside every other.
-const DEFAULT_RULESET: &[u8] = b"RSYSLOG_DefaultRuleset";
 
 /// What the items of a script give to its plan.
 #[derive(Drop)]
