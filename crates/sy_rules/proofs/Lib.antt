@@ -31,3 +31,5 @@ pub mod PlanTables
 pub mod SingleTables
 pub mod Loads
 pub mod Kept
+pub mod Different
+pub mod WholePass

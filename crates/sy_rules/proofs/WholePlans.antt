@@ -1,25 +1,27 @@
 -- The plan of a script without faults keeps what every plan keeps.
-use Rattle.std.proofs.Common.{◌≡◌, ℕ, zero, suc, ◌+◌, ◌≤◌, ◌<◌, Bool, true, false, if◌then◌else◌, List, [], ◌∷◌, ◌++◌, length, map, take, slice_get, Option, Some, None, is_some, refl, ap, ◌∙◌, arith}
+use Rattle.std.proofs.Common.{◌≡◌, ℕ, zero, suc, ◌+◌, ◌≤◌, ◌<◌, Bool, true, false, if◌then◌else◌, List, [], ◌∷◌, ◌++◌, length, map, take, slice_get, slice_index_or, Option, Some, None, is_some, unwrap_or, refl, sym, ap, ◌∙◌, arith}
 use Rattle.std.proofs.lemmas.List.{length-append, length-map}
-use Rattle.std.proofs.lemmas.List.Elements.{All-from_recursion}
+use Rattle.std.proofs.lemmas.List.Elements.{All-from_recursion, All-map}
 use Rattle.std.specs.List.{All, AllByRecursion}
 use Rattle.sy_script.specs.declared.tree.ObjectKind.TheVariants as object
 use Rattle.sy_script.specs.declared.tree.Script.{Script}
 use Rattle.sy_select.specs.declared.condition.Test.{Test}
 use Rattle.sy_select.specs.Truth.{Formula}
 use Rattle.sy_rules.specs.declared.objects.ActionParameters.{ActionParameters}
+use Rattle.sy_rules.specs.declared.objects.InputParameters.{InputParameters}
 use Rattle.sy_rules.specs.declared.parameters.QueueParameters.{QueueParameters}
 use Rattle.sy_rules.specs.Lines.{Lines, has_queue, is_queued_ruleset, list_of_action, queued, steps_of}
 use Rattle.sy_rules.specs.Objects.{AreInRange, HasPort}
 use Rattle.sy_rules.specs.Outline.{Item, items}
-use Rattle.sy_rules.specs.Plans.{queue_at, actions_of, rulesets_of, inputs_of, queues_of, workers_of, is_queued_action, queue_behind, ruleset_queues, action_queues, list_queues}
-use Rattle.sy_rules.specs.PlanValue.{Plan, action_parts, file_of, input_part, lines_of, listed_from}
+use Rattle.sy_rules.specs.Plans.{queue_at, actions_of, rulesets_of, inputs_of, list_of_input, queues_of, workers_of, is_queued_action, queue_behind, ruleset_queues, action_queues, list_queues}
+use Rattle.sy_rules.specs.PlanValue.{Plan, action_parts, file_of, input_part, lines_of, listed_from, queue_or_main}
 use Rattle.sy_rules.specs.ScriptFaults.{faults_behind, too_many_workers}
 use Rattle.sy_rules.specs.Steps.{Steps, count, occurrences}
 use Rattle.sy_rules.specs.Texts.{parts}
 use Rattle.sy_rules.specs.Whole as whole
-use Rattle.sy_rules.specs.Whole.{IsWhole, Leads, queue_in}
+use Rattle.sy_rules.specs.Whole.{IsWhole, Leads, queue_for, queue_in}
 use Rattle.sy_rules.proofs.CleanItems.{are_clean, few_inputs, few_rulesets, few_actions, few_workers, queues_of_both}
+use Rattle.sy_rules.proofs.Different.{names_differ, ports_differ}
 use Rattle.sy_rules.proofs.Leads.{steps_all}
 use Rattle.sy_rules.proofs.Listed.{length-listed_from}
 use Rattle.sy_rules.proofs.TextItems.{as_many_actions}
@@ -50,6 +52,12 @@ own_listed : (lines : List Lines) (number : ℕ) (queues : List (Option ℕ)) (k
 own_listed lines number [] k = refl
 own_listed lines number (q ∷ qs) zero = refl
 own_listed lines number (q ∷ qs) (suc k) = own_listed lines (number + 1) qs k
+
+-- an input's queue is its list's own, or else queue 0
+or_main : (o : Option (Option ℕ)) → queue_or_main o ≡ unwrap_or (own o) 0
+or_main None = refl
+or_main (Some None) = refl
+or_main (Some (Some queue)) = refl
 
 -- of a ruleset that has one
 
@@ -143,6 +151,11 @@ module _ (script : Script) (tests : List (Formula Test))
   abbrev plan : Plan
   plan = plan_from all (lines_of script tests)
 
+  puts : (i : InputParameters) → (input_part all i).queue ≡ queue_for plan (input_part all i).list
+  puts i =
+      let list = list_of_input all i.ruleset_name in
+      or_main (slice_get (list_queues all) list) ∙ ap (λ (o : Option ℕ). unwrap_or o 0) (sym (own_listed (lines_of script tests) 0 (list_queues all) list))
+
   lists_are_as_many : length plan.lists ≡ length (list_queues all)
   lists_are_as_many = length-listed_from (lines_of script tests) 0 (list_queues all)
 
@@ -169,7 +182,9 @@ module _ (script : Script) (tests : List (Formula Test))
       record {
         inputs_most = omega (arith, few_inputs all clean, length-map (inputs_of all) (input_part all));
         input_ports = All-from_recursion (λ i. 1 ≤ i.port) plan.inputs (each (IsBound all) (λ i. 1 ≤ i.port) (λ i p. p.0) plan.inputs bound);
+        ports_differ = ports_differ all clean;
         input_lists = All-from_recursion (λ i. i.list < length plan.lists) plan.inputs (each (IsBound all) (λ i. i.list < length plan.lists) (λ i p. omega (arith, p.1, lists_are_as_many)) plan.inputs bound);
+        input_queues_are_those_of_their_lists = All-map (λ i. i.queue ≡ queue_for plan i.list) (input_part all) (inputs_of all) (λ k d within. puts (slice_index_or (inputs_of all) k d));
         input_queues = All-from_recursion (λ i. i.queue < length plan.queues) plan.inputs (each (IsBound all) (λ i. i.queue < length plan.queues) (λ i p. p.2) plan.inputs bound);
         queues_least = omega arith;
         queues_most = omega (arith, inner, rulesets, actions);
@@ -177,9 +192,11 @@ module _ (script : Script) (tests : List (Formula Test))
         workers_most = omega (arith, few_workers all workers, length-workers_from 0 (queues_of all));
         worker_queues = All-from_recursion (λ queue. queue < length plan.queues) plan.workers (workers_exist (length plan.queues) 0 (queues_of all) (omega arith));
         actions_most = omega (arith, actions, length-action_parts 0 (actions_of all));
+        names_differ = names_differ all clean;
         target_ports = All-from_recursion (λ a. HasPort a.device) plan.actions (targets_have_ports all kept);
         lists_least = omega (arith, lists_are_as_many);
         lists_most = omega (arith, lists_are_as_many, length-list_queues all, rulesets, actions, queued_at_most (actions_of all));
+        main_list = refl;
         list_queues = All-from_recursion (λ l. Exists (length plan.queues) l.queue) plan.lists (queues_listed (Exists (length plan.queues)) (lines_of script tests) 0 (list_queues all) (list_queues_exist all));
         occurrences_most = All-from_recursion (λ l. count l.steps ≤ 64) plan.lists (steps_listed (λ s. count s ≤ 64) (lines_of script tests) few 0 (list_queues all));
         occurrences_lead = All-from_recursion (λ l. All (Leads plan) (occurrences l.steps)) plan.lists

@@ -1,5 +1,5 @@
--- What every plan keeps: each number that it gives exists, and the limits of a relay.
-use Rattle.std.specs.Prelude.{◌≡◌, ℕ, ◌≤◌, ◌<◌, true, Option, Some, None, is_some, length, slice_get, All, IfSome}
+-- What every plan keeps: each number that it gives exists, no two things share what tells them apart, and the limits of a relay.
+use Rattle.std.specs.Prelude.{◌≡◌, ◌≢◌, ℕ, ◌≤◌, ◌<◌, true, List, Option, Some, None, is_some, unwrap_or, length, map, slice_get, All, AllPairs, IfSome}
 use Rattle.sy_rules.specs.declared.occurrence.Occurrence.{Occurrence}
 use Rattle.sy_rules.specs.declared.occurrence.Occurrence.TheVariants as occurrence
 use Rattle.sy_rules.specs.Objects.{AreInRange, HasPort}
@@ -24,7 +24,15 @@ steps_at plan list = steps_in (slice_get plan.lists list)
 abbrev pub queue_at : Plan → ℕ → Option ℕ
 queue_at plan list = queue_in (slice_get plan.lists list)
 
+-- the queue that a message for a list is put into: its own, or else queue 0
+abbrev pub queue_for : Plan → ℕ → ℕ
+queue_for plan list = unwrap_or (queue_at plan list) 0
+
 -- ---- what is kept
+
+-- no two of these are the same
+abbrev pub AreDifferent : {A : Type 0} → List A → Type 0
+AreDifferent xs = AllPairs (λ x y. x ≢ y) xs
 
 -- a run's action is there, and a post's list has a queue
 abbrev pub Leads : Plan → Occurrence → Type 0
@@ -34,7 +42,9 @@ Leads plan (occurrence.Post list) = is_some (queue_at plan list) ≡ true
 pub record IsWhole (plan : Plan) : Type 0 where
   pub inputs_most : length plan.inputs ≤ 64
   pub input_ports : All (λ i. 1 ≤ i.port) plan.inputs
+  pub ports_differ : AreDifferent (map (λ i. i.port) plan.inputs)
   pub input_lists : All (λ i. i.list < length plan.lists) plan.inputs
+  pub input_queues_are_those_of_their_lists : All (λ i. i.queue ≡ queue_for plan i.list) plan.inputs
   pub input_queues : All (λ i. i.queue < length plan.queues) plan.inputs
   pub queues_least : 1 ≤ length plan.queues
   pub queues_most : length plan.queues ≤ 513
@@ -42,9 +52,11 @@ pub record IsWhole (plan : Plan) : Type 0 where
   pub workers_most : length plan.workers ≤ 256
   pub worker_queues : All (λ queue. queue < length plan.queues) plan.workers
   pub actions_most : length plan.actions ≤ 256
+  pub names_differ : AreDifferent (map (λ a. a.name) plan.actions)
   pub target_ports : All (λ a. HasPort a.device) plan.actions
   pub lists_least : 1 ≤ length plan.lists
   pub lists_most : length plan.lists ≤ 513
+  pub main_list : queue_at plan 0 ≡ None
   pub list_queues : All (λ l. IfSome l.queue (λ queue. queue < length plan.queues)) plan.lists
   pub occurrences_most : All (λ l. count l.steps ≤ 64) plan.lists
   pub occurrences_lead : All (λ l. All (Leads plan) (occurrences l.steps)) plan.lists

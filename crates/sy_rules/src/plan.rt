@@ -35,7 +35,8 @@ use sy_wire::Message;
 /// What a relay does: its inputs, queues, workers and actions, and for each list what it executes.
 ///
 /// Each number that it gives exists: the list and the queue of an input, the queue of a worker, the action of a run. The list of a post
-/// has a queue. There is a queue and a list at least; there are at most 64 inputs, 256 actions and 256 workers, and 64 occurrences a list.
+/// has a queue. No two inputs have the same port. There is a queue and a list at least; there are at most 64 inputs, 256 actions and 256
+/// workers, and 64 occurrences a list.
 #[derive(Drop)]
 pub struct Plan {
     inputs: Vec<Input>,
