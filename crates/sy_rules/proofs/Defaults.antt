@@ -1,7 +1,7 @@
 -- Objects without parameters.
 use Rattle.std.proofs.Common.{◌≡◌, [], Some, codes, refl}
 use Rattle.sy_rules.specs.declared.kind.Kind.TheVariants as kind
-use Rattle.sy_rules.specs.Objects.{number_of, retry_of}
+use Rattle.sy_rules.specs.Objects.{number_of, queue_parameters, retry_of}
 use Rattle.sy_rules.specs.Parameters.{faults}
 use Rattle.sy_rules.specs.Table.{own_rows, device_rows, queue_head_rows, queue_rest_rows}
 
@@ -17,3 +17,8 @@ archive_retry = refl
 pub archive_interval : number_of kind.Archive [] 0 (codes "action.resumeInterval") ≡ 30
 unfolding number_of own_rows device_rows queue_head_rows queue_rest_rows
 archive_interval = refl
+
+-- the main queue has one worker
+pub one_worker : (queue_parameters kind.MainQueue []).workers ≡ 1
+unfolding queue_parameters number_of own_rows device_rows queue_head_rows queue_rest_rows
+one_worker = refl

@@ -33,3 +33,5 @@ pub mod Loads
 pub mod Kept
 pub mod Different
 pub mod WholePass
+pub mod Led
+pub mod StepSizes

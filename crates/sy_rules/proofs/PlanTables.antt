@@ -18,9 +18,10 @@ use Rattle.sy_rules.proofs.Numbering.{are_few}
 use Rattle.sy_rules.proofs.SizeLaws.{count_is}
 use Rattle.sy_rules.proofs.TableRuns.{list_is, more_deep}
 
--- a list that is not too deep and has not too many occurrences
+-- a list that is not too deep, and has not too many statements and occurrences
 pub record Fits (lists : List Lines) (l : ℕ) : Type 0 where
   pub not_deeper : is_deeper lists CALL_DEPTH l ≡ false
+  pub small : statements_of lists l ≤ STATEMENTS
   pub few : count_of lists l ≤ 64
 
 front_none : (xs ys : List PlanFault) → xs ++ ys ≡ [] → xs ≡ []
@@ -35,6 +36,10 @@ not_there : (b : Bool) (f : PlanFault) → when b f ≡ [] → b ≡ false
 not_there true f h = cc
 not_there false f h = refl
 
+or_left : (a b : Bool) → (a || b) ≡ false → a ≡ false
+or_left true b h = cc
+or_left false b h = refl
+
 or_right : (a b : Bool) → (a || b) ≡ false → b ≡ false
 or_right true b h = cc
 or_right false b h = h
@@ -44,6 +49,7 @@ no_fault_fits lists name l none =
     let many = nat_lt STATEMENTS (statements_of lists l) || nat_lt OCCURRENCES (count_of lists l) in
     record {
       not_deeper = not_there _ _ (front_none _ _ none);
+      small = ltb-false STATEMENTS (statements_of lists l) (or_left _ _ (not_there many _ (behind_none _ _ none)));
       few = ltb-false OCCURRENCES (count_of lists l) (or_right _ _ (not_there many _ (behind_none _ _ none)));
     }
 
@@ -56,11 +62,11 @@ named_fit lists l (name ∷ names) (suc k) none within =
 
 -- a list that runs one action and no more
 pub single_fits : (lists : List Lines) (l a : ℕ) → list_at lists l ≡ Lines.Run a Lines.End → Fits lists l
-single_fits lists l a is = record { not_deeper = rw is refl; few = rw is (omega arith) }
+single_fits lists l a is = record { not_deeper = rw is refl; small = rw is (omega arith); few = rw is (omega arith) }
 
 -- a number behind the last list
 pub none_fits : (lists : List Lines) (l : ℕ) → list_at lists l ≡ Lines.End → Fits lists l
-none_fits lists l is = record { not_deeper = rw is refl; few = rw is (omega arith) }
+none_fits lists l is = record { not_deeper = rw is refl; small = rw is (omega arith); few = rw is (omega arith) }
 
 single_table : (tests : List (Formula Test)) (lists : List Lines) (l : ℕ) (table : List Step) → list_at lists l ≡ lines_of_table tests table → IsSingle table → Fits lists l
 single_table tests lists l (step.Run a n ∷ []) is single = single_fits lists l a is
@@ -144,6 +150,7 @@ module _ (tests : List (Formula Test)) (tables : List (List Step)) (sizes : List
   pub are_tables : (numbered : List (List Step)) → lines_of_tables tests numbered ≡ lines_of_tables tests tables → ((l : ℕ) → AreNumbered (count_in sizes) 0 (table_at numbered l)) → AreTables tests numbered
   are_tables numbered same numbers = record {
     not_deeper = λ l. subst (λ (lists : List Lines). is_deeper lists CALL_DEPTH l ≡ false) (sym same) (fit l).not_deeper;
+    small = λ l. subst (λ (lists : List Lines). statements_of lists l ≤ STATEMENTS) (sym same) (fit l).small;
     few = λ l. subst (λ (lists : List Lines). count_of lists l ≤ 64) (sym same) (fit l).few;
     numbered = λ l. subst (λ (lists : List Lines). AreNumbered (count_of lists) 0 (table_at numbered l)) (sym same)
         (same_numbers (count_in sizes) (count_of (lines_of_tables tests tables)) counts 0 (table_at numbered l) (numbers l));

@@ -3,6 +3,7 @@ use Rattle.std.proofs.Common.{◌≡◌, ℕ, zero, suc, ◌+◌, ◌≤◌, ◌
 use Rattle.std.proofs.lemmas.List.{length-append, length-map}
 use Rattle.std.proofs.lemmas.List.Elements.{All-from_recursion, All-map}
 use Rattle.std.specs.List.{All, AllByRecursion}
+use Rattle.std.specs.Option.{IfSome}
 use Rattle.sy_script.specs.declared.tree.ObjectKind.TheVariants as object
 use Rattle.sy_script.specs.declared.tree.Script.{Script}
 use Rattle.sy_select.specs.declared.condition.Test.{Test}
@@ -10,28 +11,26 @@ use Rattle.sy_select.specs.Truth.{Formula}
 use Rattle.sy_rules.specs.declared.objects.ActionParameters.{ActionParameters}
 use Rattle.sy_rules.specs.declared.objects.InputParameters.{InputParameters}
 use Rattle.sy_rules.specs.declared.parameters.QueueParameters.{QueueParameters}
-use Rattle.sy_rules.specs.Lines.{Lines, has_queue, is_queued_ruleset, list_of_action, queued, steps_of}
+use Rattle.sy_rules.specs.Lines.{Lines, has_queue, is_queued_ruleset, list_of_action, queued, statements_of, steps_of}
 use Rattle.sy_rules.specs.Objects.{AreInRange, HasPort}
 use Rattle.sy_rules.specs.Outline.{Item, items}
 use Rattle.sy_rules.specs.Plans.{queue_at, actions_of, rulesets_of, inputs_of, list_of_input, queues_of, workers_of, is_queued_action, queue_behind, ruleset_queues, action_queues, list_queues}
 use Rattle.sy_rules.specs.PlanValue.{Plan, action_parts, file_of, input_part, lines_of, listed_from, queue_or_main}
 use Rattle.sy_rules.specs.ScriptFaults.{faults_behind, too_many_workers}
-use Rattle.sy_rules.specs.Steps.{Steps, count, occurrences}
+use Rattle.sy_rules.specs.Steps.{Steps, count, occurrences, size}
 use Rattle.sy_rules.specs.Texts.{parts}
 use Rattle.sy_rules.specs.Whole as whole
-use Rattle.sy_rules.specs.Whole.{IsWhole, Leads, queue_for, queue_in}
+use Rattle.sy_rules.specs.Whole.{IsLed, IsWhole, Leads, queue_for, queue_in}
 use Rattle.sy_rules.proofs.CleanItems.{are_clean, few_inputs, few_rulesets, few_actions, few_workers, queues_of_both}
 use Rattle.sy_rules.proofs.Different.{names_differ, ports_differ}
 use Rattle.sy_rules.proofs.Leads.{steps_all}
+use Rattle.sy_rules.proofs.Led.{IsInner, alone, found, lists_are_inner, once_listed, own}
 use Rattle.sy_rules.proofs.Listed.{length-listed_from}
 use Rattle.sy_rules.proofs.TextItems.{as_many_actions}
+use Rattle.sy_rules.proofs.StepSizes.{size_at_most}
 use Rattle.sy_rules.proofs.WholeItems.{Exists, IsBound, inputs_are_bound, list_queues_exist, length-action_parts, length-list_queues, length-ruleset_queues, length-workers_from, queued_at_most, queues_in_range, targets_have_ports, workers_exist}
 
 -- ---- lists that have a queue of their own
-
-abbrev own : Option (Option ℕ) → Option ℕ
-own None = None
-own (Some queue) = queue
 
 abbrev Has : List (Option ℕ) → ℕ → Type 0
 Has queues k = is_some (own (slice_get queues k)) ≡ true
@@ -125,6 +124,15 @@ queues_listed : (Q : Option ℕ → Type 0) (lines : List Lines) (number : ℕ) 
 queues_listed Q lines number [] p = tt
 queues_listed Q lines number (q ∷ qs) p = (p.0, queues_listed Q lines (number + 1) qs p.1)
 
+-- a queue of a list's own
+abbrev IsOwn : ℕ → Option ℕ → Type 0
+IsOwn most o = IfSome o (λ queue. (1 ≤ queue) × (queue < most))
+
+are_own : (most : ℕ) (queues : List (Option ℕ)) → AllByRecursion IsInner queues → AllByRecursion (Exists most) queues → AllByRecursion (IsOwn most) queues
+are_own most [] p q = tt
+are_own most (None ∷ queues) p q = (tt, are_own most queues p.1 q.1)
+are_own most (Some queue ∷ queues) p q = ((p.0, q.0), are_own most queues p.1 q.1)
+
 each : {X : Type 0} (P Q : X → Type 0) → ((x : X) → P x → Q x) → (xs : List X) → AllByRecursion P xs → AllByRecursion Q xs
 each P Q f [] p = tt
 each P Q f (x ∷ xs) p = (f x p.0, each P Q f xs p.1)
@@ -144,6 +152,7 @@ plan_from all lines = record {
 module _ (script : Script) (tests : List (Formula Test))
     (clean : faults_behind (items script) [] (items script) ≡ [])
     (workers : too_many_workers (items script) ≡ [])
+    (small : (l : ℕ) → statements_of (lines_of script tests) l ≤ 65536)
     (few : (l : ℕ) → count (steps_of (lines_of script tests) l) ≤ 64) where
   abbrev all : List Item
   all = items script
@@ -155,6 +164,17 @@ module _ (script : Script) (tests : List (Formula Test))
   puts i =
       let list = list_of_input all i.ruleset_name in
       or_main (slice_get (list_queues all) list) ∙ ap (λ (o : Option ℕ). unwrap_or o 0) (sym (own_listed (lines_of script tests) 0 (list_queues all) list))
+
+  led : (queue : ℕ) → 1 ≤ queue → queue < length plan.queues → IsLed plan queue
+  led queue least most =
+      let lines = lines_of script tests in
+      let once = once_listed all queue least most in
+      let first = found queue (list_queues all) (omega (arith, once)) in
+      record {
+        list = first.0;
+        leads = own_listed lines 0 (list_queues all) first.0 ∙ first.1;
+        alone = λ other e. alone queue (list_queues all) first.0 other (omega (arith, once)) first.1 (sym (own_listed lines 0 (list_queues all) other) ∙ e);
+      }
 
   lists_are_as_many : length plan.lists ≡ length (list_queues all)
   lists_are_as_many = length-listed_from (lines_of script tests) 0 (list_queues all)
@@ -189,6 +209,7 @@ module _ (script : Script) (tests : List (Formula Test))
         queues_least = omega arith;
         queues_most = omega (arith, inner, rulesets, actions);
         queue_ranges = All-from_recursion AreInRange plan.queues (queues_in_range all kept);
+        workers = refl;
         workers_most = omega (arith, few_workers all workers, length-workers_from 0 (queues_of all));
         worker_queues = All-from_recursion (λ queue. queue < length plan.queues) plan.workers (workers_exist (length plan.queues) 0 (queues_of all) (omega arith));
         actions_most = omega (arith, actions, length-action_parts 0 (actions_of all));
@@ -197,7 +218,11 @@ module _ (script : Script) (tests : List (Formula Test))
         lists_least = omega (arith, lists_are_as_many);
         lists_most = omega (arith, lists_are_as_many, length-list_queues all, rulesets, actions, queued_at_most (actions_of all));
         main_list = refl;
-        list_queues = All-from_recursion (λ l. Exists (length plan.queues) l.queue) plan.lists (queues_listed (Exists (length plan.queues)) (lines_of script tests) 0 (list_queues all) (list_queues_exist all));
+        list_queues = All-from_recursion (λ l. IsOwn (length plan.queues) l.queue) plan.lists
+            (queues_listed (IsOwn (length plan.queues)) (lines_of script tests) 0 (list_queues all) (are_own (length plan.queues) (list_queues all) (lists_are_inner all) (list_queues_exist all)));
+        queues_are_led = led;
+        steps_most = All-from_recursion (λ l. size l.steps ≤ 65536) plan.lists
+            (steps_listed (λ s. size s ≤ 65536) (lines_of script tests) (λ l. size_at_most 65536 (lines_of script tests) l (small l)) 0 (list_queues all));
         occurrences_most = All-from_recursion (λ l. count l.steps ≤ 64) plan.lists (steps_listed (λ s. count s ≤ 64) (lines_of script tests) few 0 (list_queues all));
         occurrences_lead = All-from_recursion (λ l. All (Leads plan) (occurrences l.steps)) plan.lists
             (steps_listed (λ s. All (Leads plan) (occurrences s)) (lines_of script tests) (λ l. All-from_recursion (Leads plan) (occurrences (steps_of (lines_of script tests) l)) (steps_lead l)) 0 (list_queues all));

@@ -47,6 +47,14 @@ tests (Steps.If x done otherwise rest) = truth.occurrences x ++ (tests done ++ (
 abbrev pub count : Steps → ℕ
 count s = length (occurrences s)
 
+-- how many statements stand in a text
+abbrev pub size : Steps → ℕ
+size Steps.End = 0
+size (Steps.Run a rest) = 1 + size rest
+size (Steps.Post l rest) = 1 + size rest
+size (Steps.Stop rest) = 1 + size rest
+size (Steps.If x done otherwise rest) = 1 + size done + size otherwise + size rest
+
 -- ---- execution
 
 -- the occurrences executed, by their numbers in rising order, and whether what follows is executed too

@@ -4,7 +4,7 @@ use Rattle.sy_select.specs.declared.condition.Test.{Test}
 use Rattle.sy_select.specs.Truth.{Formula}
 use Rattle.sy_rules.specs.declared.step.Step.{Step}
 use Rattle.sy_rules.specs.declared.step.Step.TheVariants as step
-use Rattle.sy_rules.specs.Lines.{Lines, is_deeper, steps_of, CALL_DEPTH}
+use Rattle.sy_rules.specs.Lines.{Lines, is_deeper, statements_of, steps_of, CALL_DEPTH}
 use Rattle.sy_rules.specs.Steps.{count}
 
 abbrev pub test_of : List (Formula Test) → ℕ → Formula Test
@@ -48,8 +48,10 @@ table_at tables list = unwrap_or (slice_get tables list) []
 abbrev pub count_of : List Lines → ℕ → ℕ
 count_of lists list = count (steps_of lists list)
 
--- The tables of lists whose calls lie in one another no deeper than they may, which have no more occurrences than they may, and whose occurrences are numbered.
+-- The tables of lists whose calls lie in one another no deeper than they may, which have no more statements and occurrences than they may, and whose occurrences
+-- are numbered.
 pub record AreTables (tests : List (Formula Test)) (tables : List (List Step)) : Type 0 where
   pub not_deeper : (list : ℕ) → is_deeper (lines_of_tables tests tables) CALL_DEPTH list ≡ false
+  pub small : (list : ℕ) → statements_of (lines_of_tables tests tables) list ≤ 65536
   pub few : (list : ℕ) → count_of (lines_of_tables tests tables) list ≤ 64
   pub numbered : (list : ℕ) → AreNumbered (count_of (lines_of_tables tests tables)) 0 (table_at tables list)

@@ -3,8 +3,9 @@ use Rattle.std.specs.Prelude.{◌≡◌, ◌≢◌, ℕ, ◌≤◌, ◌<◌, tru
 use Rattle.sy_rules.specs.declared.occurrence.Occurrence.{Occurrence}
 use Rattle.sy_rules.specs.declared.occurrence.Occurrence.TheVariants as occurrence
 use Rattle.sy_rules.specs.Objects.{AreInRange, HasPort}
+use Rattle.sy_rules.specs.Plans.{workers_from}
 use Rattle.sy_rules.specs.PlanValue.{Plan, Listed}
-use Rattle.sy_rules.specs.Steps.{Steps, occurrences, count}
+use Rattle.sy_rules.specs.Steps.{Steps, occurrences, count, size}
 
 -- ---- the lists of a plan by their numbers
 
@@ -39,6 +40,12 @@ abbrev pub Leads : Plan → Occurrence → Type 0
 Leads plan (occurrence.Run action) = action < length plan.actions
 Leads plan (occurrence.Post list) = is_some (queue_at plan list) ≡ true
 
+-- A queue is that of one list and no other.
+pub record IsLed (plan : Plan) (queue : ℕ) : Type 0 where
+  pub list : ℕ
+  pub leads : queue_at plan list ≡ Some queue
+  pub alone : (other : ℕ) → queue_at plan other ≡ Some queue → other ≡ list
+
 pub record IsWhole (plan : Plan) : Type 0 where
   pub inputs_most : length plan.inputs ≤ 64
   pub input_ports : All (λ i. 1 ≤ i.port) plan.inputs
@@ -49,6 +56,7 @@ pub record IsWhole (plan : Plan) : Type 0 where
   pub queues_least : 1 ≤ length plan.queues
   pub queues_most : length plan.queues ≤ 513
   pub queue_ranges : All AreInRange plan.queues
+  pub workers : plan.workers ≡ workers_from 0 plan.queues
   pub workers_most : length plan.workers ≤ 256
   pub worker_queues : All (λ queue. queue < length plan.queues) plan.workers
   pub actions_most : length plan.actions ≤ 256
@@ -57,6 +65,8 @@ pub record IsWhole (plan : Plan) : Type 0 where
   pub lists_least : 1 ≤ length plan.lists
   pub lists_most : length plan.lists ≤ 513
   pub main_list : queue_at plan 0 ≡ None
-  pub list_queues : All (λ l. IfSome l.queue (λ queue. queue < length plan.queues)) plan.lists
+  pub list_queues : All (λ l. IfSome l.queue (λ queue. (1 ≤ queue) × (queue < length plan.queues))) plan.lists
+  pub queues_are_led : (queue : ℕ) → 1 ≤ queue → queue < length plan.queues → IsLed plan queue
+  pub steps_most : All (λ l. size l.steps ≤ 65536) plan.lists
   pub occurrences_most : All (λ l. count l.steps ≤ 64) plan.lists
   pub occurrences_lead : All (λ l. All (Leads plan) (occurrences l.steps)) plan.lists

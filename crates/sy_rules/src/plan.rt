@@ -35,8 +35,10 @@ use sy_wire::Message;
 /// What a relay does: its inputs, queues, workers and actions, and for each list what it executes.
 ///
 /// Each number that it gives exists: the list and the queue of an input, the queue of a worker, the action of a run. The list of a post
-/// has a queue. No two inputs have the same port. There is a queue and a list at least; there are at most 64 inputs, 256 actions and 256
-/// workers, and 64 occurrences a list.
+/// has a queue. No two inputs have the same port, and no two actions the same name. An input's queue is the one of its list, or queue 0
+/// where that list has none. The workers are those that the queues have, in the order of the queues. List 0 has no queue of its own; queue
+/// 0 is that of no list, and each other queue that of one list and no other. There is a queue and a list at least; there are at most 64
+/// inputs, 256 actions and 256 workers, and a list has at most 64 occurrences and 65,536 statements, where what replaces a call counts.
 #[derive(Drop)]
 pub struct Plan {
     inputs: Vec<Input>,
