@@ -3,7 +3,6 @@ pub mod Fits
 pub mod Ranges
 pub mod WorkLaws
 pub mod CallLaws
-pub mod OnePlan
 pub mod Defaults
 pub mod ListNames
 pub mod Listed
@@ -31,3 +30,10 @@ pub mod PlanTables
 pub mod SingleTables
 pub mod Loads
 pub mod Kept
+pub mod GivenParts
+pub mod GivenItems
+pub mod GivenLists
+pub mod GivenQueues
+pub mod GivenInputs
+pub mod GivenPlans
+pub mod OnePlan
