@@ -36,4 +36,5 @@ pub mod GivenLists
 pub mod GivenQueues
 pub mod GivenInputs
 pub mod GivenPlans
+pub mod QueueLaws
 pub mod OnePlan
