@@ -27,3 +27,4 @@ pub mod TableSizes
 pub mod Numbers
 pub mod TextTables
 pub mod Expressions
+pub mod PartItems

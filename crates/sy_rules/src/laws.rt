@@ -8,7 +8,10 @@ ghost use Rattle.sy_rules.specs.declared.objects.ActionParameters.{ActionParamet
 ghost use Rattle.sy_rules.specs.declared.objects.RulesetParameters.{RulesetParameters};
 ghost use Rattle.sy_rules.specs.Lines.{Lines, expand, expanded, is_deeper, list_at, list_of_action};
 ghost use Rattle.sy_rules.specs.Outline.{items};
+ghost use Rattle.sy_rules.specs.Expressions.{trees_of};
+ghost use Rattle.sy_rules.specs.PartItems.{actions_of_parts, calls_of_parts, names_of_calls, params_of, rulesets_in, tests_of_parts};
 ghost use Rattle.sy_rules.specs.Plans.{actions_of, rulesets_of};
+ghost use Rattle.sy_rules.specs.Texts.{parts};
 ghost use Rattle.sy_rules.specs.ScriptFaults.{untested};
 ghost use Rattle.sy_rules.specs.Laws.{IsChain, IsRising};
 ghost use Rattle.sy_rules.specs.Steps.{Steps, ◌then◌, ◌⧺◌, count, executed, is_in, occurrences, tests, walk};
@@ -83,4 +86,13 @@ pub fn lists_of_rulesets()
 pub fn lists_of_actions()
     ensures queue { (script : Script) (plan : Plan) (number : ℕ) (a : ActionParameters) → IsPlan script plan → slice_get (actions_of (items script)) number ≡ Some a → is_some a.queue ≡ true → option_and_then (slice_get plan.queues) (queue_at plan (list_of_action (untested (items script)) number)) ≡ a.queue }
     ensures run { (script : Script) (plan : Plan) (number : ℕ) (a : ActionParameters) → IsPlan script plan → slice_get (actions_of (items script)) number ≡ Some a → is_some a.queue ≡ true → steps_at plan (list_of_action (untested (items script)) number) ≡ Steps.Run number Steps.End }
+{}
+
+/// The texts of a file's parts have the tests, actions and calls of its items, in the same order, and there are as many parts of rulesets
+/// as rulesets.
+pub fn texts_have_the_items()
+    ensures tests { (script : Script) → tests_of_parts (parts script.tops) ≡ trees_of (items script) }
+    ensures actions { (script : Script) → actions_of_parts (parts script.tops) ≡ params_of (items script) }
+    ensures calls { (script : Script) → calls_of_parts (parts script.tops) ≡ names_of_calls (items script) }
+    ensures rulesets { (script : Script) → rulesets_in (parts script.tops) ≡ length (rulesets_of (items script)) }
 {}
