@@ -3,7 +3,6 @@ pub mod Fits
 pub mod Ranges
 pub mod WorkLaws
 pub mod CallLaws
-pub mod OnePlan
 pub mod Defaults
 pub mod ListNames
 pub mod Listed
@@ -35,3 +34,11 @@ pub mod Different
 pub mod WholePass
 pub mod Led
 pub mod StepSizes
+pub mod GivenParts
+pub mod GivenItems
+pub mod GivenLists
+pub mod GivenQueues
+pub mod GivenInputs
+pub mod GivenPlans
+pub mod QueueLaws
+pub mod OnePlan

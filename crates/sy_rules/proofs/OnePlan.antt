@@ -10,6 +10,7 @@ use Rattle.sy_select.proofs.OneExpr.{one_meaning}
 use Rattle.sy_rules.specs.Outline.{items}
 use Rattle.sy_rules.specs.PlanValue.{AreExprs, HasParts, IsPlan, Plan, lines_of, listed_from, test_of_item}
 use Rattle.sy_rules.specs.Plans.{list_queues}
+use Rattle.sy_rules.proofs.GivenPlans.{has_parts}
 
 pub one_list : (trees : List ExprTree) (xs ys : List (Formula Test)) → AreExprs trees xs → AreExprs trees ys → xs ≡ ys
 one_list [] [] [] a b = refl
@@ -34,4 +35,4 @@ same_parts script p q a b =
     ∙ ap (λ x. record p { inputs = q.inputs; queues = q.queues; workers = q.workers; actions = q.actions; lists = x }) (same_lists script p q a b)
 
 pub one_plan : (script : Script) (p q : Plan) → IsPlan script p → IsPlan script q → p ≡ q
-one_plan script p q a b = same_parts script p q a.parts b.parts
+one_plan script p q a b = same_parts script p q (has_parts script p a.given) (has_parts script q b.given)

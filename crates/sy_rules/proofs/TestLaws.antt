@@ -1,36 +1,27 @@
--- The tests and actions of the parts of a file are those of its items, in their order.
-use Rattle.std.proofs.Common.{◌≡◌, ◌++◌, ℕ, suc, List, [], ◌∷◌, Option, Some, None, map, length, refl, sym, ap, ◌∙◌, subst, append_assoc, append-nil}
+-- The tests, actions and calls of the parts of a file are those of its items, in their order.
+use Rattle.std.proofs.Common.{◌≡◌, ◌++◌, List, [], ◌∷◌, Some, None, map, length, refl, sym, ap, ◌∙◌, subst, append_assoc, append-nil, arith}
 use Rattle.std.proofs.lemmas.List.Elements.{filter_map-append}
-use Rattle.std.specs.List.{filter_map}
 use Rattle.sy_script.specs.declared.tree.ExprTree.{ExprTree}
-use Rattle.sy_script.specs.declared.tree.Param.{Param}
 use Rattle.sy_script.specs.declared.tree.Block.{Block, roll-Block, map-Block}
 use Rattle.sy_script.specs.declared.tree.Block.TheOpen.{Block-F, Stmt-F}
 use Rattle.sy_script.specs.declared.tree.Block.TheFolds.{ind-Stmt, fold-roll-Block, fold-roll-Stmt}
-use Rattle.sy_script.specs.declared.tree.Script.{Script}
 use Rattle.sy_script.specs.declared.tree.Stmt.{Stmt, roll-Stmt, map-Stmt}
 use Rattle.sy_script.specs.declared.tree.Top.{Top}
 use Rattle.sy_script.specs.declared.tree.Top.TheVariants as top
 use Rattle.sy_rules.specs.Outline as outline
 use Rattle.sy_rules.specs.Outline.{Item, joined, items_of_block, items_of_stmt, items_of_body, items_of_top, items_of_tops, items}
 use Rattle.sy_rules.specs.Expressions.{trees_of}
+use Rattle.sy_rules.specs.PartItems.{actions_of_parts, calls, calls_of_parts, name_of_call, names_of_calls, params_of, params_of_item, rulesets_in, tests_of_parts}
 use Rattle.sy_rules.specs.Plans.{ruleset_at, rulesets_of}
 use Rattle.sy_rules.specs.PlanValue.{test_of_item}
 use Rattle.sy_rules.specs.Texts as text
 use Rattle.sy_rules.specs.Texts.{Text, Front, Part, together, tests, actions, front_of_block, front_of_stmt, front_of_body, part_of, parts}
 
-abbrev pub params_of_item : Item → Option (List Param)
-params_of_item (Item.Action ps) = Some ps
-params_of_item _ = None
-
--- the parameters of the actions, in the order of the text
-abbrev pub params_of : List Item → List (List Param)
-params_of xs = filter_map params_of_item xs
-
--- what is put in front of a text has the tests and actions of these items, in their order
+-- what is put in front of a text has the tests, actions and calls of these items, in their order
 pub record Agrees (f : Front) (xs : List Item) : Type 0 where
   pub tests : (rest : Text) → tests (f rest) ≡ trees_of xs ++ tests rest
   pub actions : (rest : Text) → actions (f rest) ≡ params_of xs ++ actions rest
+  pub calls : (rest : Text) → calls (f rest) ≡ names_of_calls xs ++ calls rest
   -- none of them is the head of a ruleset
   pub heads : rulesets_of xs ≡ []
 
@@ -45,16 +36,20 @@ trees-append xs ys = filter_map-append test_of_item xs ys
 params-append : (xs ys : List Item) → params_of (xs ++ ys) ≡ params_of xs ++ params_of ys
 params-append xs ys = filter_map-append params_of_item xs ys
 
+calls-append : (xs ys : List Item) → names_of_calls (xs ++ ys) ≡ names_of_calls xs ++ names_of_calls ys
+calls-append xs ys = filter_map-append name_of_call xs ys
+
 pub rulesets-append : (xs ys : List Item) → rulesets_of (xs ++ ys) ≡ rulesets_of xs ++ rulesets_of ys
 rulesets-append xs ys = filter_map-append ruleset_at xs ys
 
 nothing_agrees : Agrees (λ rest. rest) []
-nothing_agrees = record { tests = λ rest. refl; actions = λ rest. refl; heads = refl }
+nothing_agrees = record { tests = λ rest. refl; actions = λ rest. refl; calls = λ rest. refl; heads = refl }
 
 both_agree : (f g : Front) (xs ys : List Item) → Agrees f xs → Agrees g ys → Agrees (λ rest. f (g rest)) (xs ++ ys)
 both_agree f g xs ys a b = record {
   tests = λ rest. a.tests (g rest) ∙ rw (b.tests rest, trees-append xs ys) (sym (append_assoc (trees_of xs) (trees_of ys) (tests rest)));
   actions = λ rest. a.actions (g rest) ∙ rw (b.actions rest, params-append xs ys) (sym (append_assoc (params_of xs) (params_of ys) (actions rest)));
+  calls = λ rest. a.calls (g rest) ∙ rw (b.calls rest, calls-append xs ys) (sym (append_assoc (names_of_calls xs) (names_of_calls ys) (calls rest)));
   heads = rw (rulesets-append xs ys, a.heads, b.heads) refl;
 }
 
@@ -62,6 +57,7 @@ if_agrees : (x : ExprTree) (done otherwise : Front) (xs ys : List Item) → Agre
 if_agrees x done otherwise xs ys a b = record {
   tests = λ rest. rw (a.tests Text.End, b.tests Text.End, append-nil (trees_of xs), append-nil (trees_of ys), trees-append xs ys, append_assoc (trees_of xs) (trees_of ys) (tests rest)) refl;
   actions = λ rest. rw (a.actions Text.End, b.actions Text.End, append-nil (params_of xs), append-nil (params_of ys), params-append xs ys, append_assoc (params_of xs) (params_of ys) (actions rest)) refl;
+  calls = λ rest. rw (a.calls Text.End, b.calls Text.End, append-nil (names_of_calls xs), append-nil (names_of_calls ys), calls-append xs ys, append_assoc (names_of_calls xs) (names_of_calls ys) (calls rest)) refl;
   heads = rw (rulesets-append xs ys, a.heads, b.heads) refl;
 }
 
@@ -98,17 +94,17 @@ stmt_agrees (Stmt-F.Action span ps) =
     agrees_as _ (Text.Action ps) _ (Item.Action ps ∷ [])
     (fold-roll-Stmt Front Front text.block_step text.stmt_step (Stmt-F.Action span ps))
     (fold-roll-Stmt (List Item) (List Item) outline.block_step outline.stmt_step (Stmt-F.Action span ps))
-    (record { tests = λ rest. refl; actions = λ rest. refl; heads = refl })
+    (record { tests = λ rest. refl; actions = λ rest. refl; calls = λ rest. refl; heads = refl })
 stmt_agrees (Stmt-F.Call name) =
     agrees_as _ (Text.Call name.text) _ (Item.Call name.text ∷ [])
     (fold-roll-Stmt Front Front text.block_step text.stmt_step (Stmt-F.Call name))
     (fold-roll-Stmt (List Item) (List Item) outline.block_step outline.stmt_step (Stmt-F.Call name))
-    (record { tests = λ rest. refl; actions = λ rest. refl; heads = refl })
+    (record { tests = λ rest. refl; actions = λ rest. refl; calls = λ rest. refl; heads = refl })
 stmt_agrees (Stmt-F.Stop span) =
     agrees_as _ Text.Stop _ []
     (fold-roll-Stmt Front Front text.block_step text.stmt_step (Stmt-F.Stop span))
     (fold-roll-Stmt (List Item) (List Item) outline.block_step outline.stmt_step (Stmt-F.Stop span))
-    (record { tests = λ rest. refl; actions = λ rest. refl; heads = refl })
+    (record { tests = λ rest. refl; actions = λ rest. refl; calls = λ rest. refl; heads = refl })
 stmt_agrees (Stmt-F.If x done None) =
     agrees_as _ (λ rest. Text.If x (front_of_block done.0 Text.End) Text.End rest) _ (Item.Test x ∷ (items_of_block done.0 ++ []))
     (fold-roll-Stmt Front Front text.block_step text.stmt_step (Stmt-F.If x done.0 None))
@@ -131,16 +127,6 @@ body_agrees (x ∷ xs) = both_agree (front_of_stmt x) (front_of_body xs) (items_
 
 -- ---- files
 
-abbrev pub tests_of_parts : List Part → List ExprTree
-tests_of_parts [] = []
-tests_of_parts (Part.Inside x ∷ later) = tests x ++ tests_of_parts later
-tests_of_parts (Part.Outside x ∷ later) = tests x ++ tests_of_parts later
-
-abbrev pub actions_of_parts : List Part → List (List Param)
-actions_of_parts [] = []
-actions_of_parts (Part.Inside x ∷ later) = actions x ++ actions_of_parts later
-actions_of_parts (Part.Outside x ∷ later) = actions x ++ actions_of_parts later
-
 pub tests_of_tops : (tops : List Top) → tests_of_parts (parts tops) ≡ trees_of (items_of_tops tops)
 tests_of_tops [] = refl
 tests_of_tops (top.Object found ∷ later) = tests_of_tops later
@@ -157,23 +143,18 @@ actions_of_tops (top.Ruleset found ∷ later) =
 actions_of_tops (top.Stmt found ∷ later) =
     rw ((each_agrees found).actions Text.End, append-nil (params_of (items_of_stmt found)), actions_of_tops later) (sym (params-append (items_of_stmt found) (items_of_tops later)))
 
--- The tests of a file's parts are those of its items, in the order of the text.
-pub tests_are_those_of_items : (script : Script) → tests_of_parts (parts script.tops) ≡ trees_of (items script)
-tests_are_those_of_items script = tests_of_tops script.tops
-
--- The actions of a file's parts are those of its items, in the order of the text.
-pub actions_are_those_of_items : (script : Script) → actions_of_parts (parts script.tops) ≡ params_of (items script)
-actions_are_those_of_items script = actions_of_tops script.tops
-
--- the parts of rulesets
-abbrev pub rulesets_in : List Part → ℕ
-rulesets_in [] = 0
-rulesets_in (Part.Inside x ∷ later) = suc (rulesets_in later)
-rulesets_in (Part.Outside x ∷ later) = rulesets_in later
+pub calls_of_tops : (tops : List Top) → calls_of_parts (parts tops) ≡ names_of_calls (items_of_tops tops)
+calls_of_tops [] = refl
+calls_of_tops (top.Object found ∷ later) = calls_of_tops later
+calls_of_tops (top.Ruleset found ∷ later) =
+    rw ((body_agrees found.body).calls Text.End, append-nil (names_of_calls (items_of_body found.body)), calls_of_tops later) (sym (calls-append (items_of_body found.body) (items_of_tops later)))
+calls_of_tops (top.Stmt found ∷ later) =
+    rw ((each_agrees found).calls Text.End, append-nil (names_of_calls (items_of_stmt found)), calls_of_tops later) (sym (calls-append (items_of_stmt found) (items_of_tops later)))
 
 -- A file's parts are of as many rulesets as its items.
 pub rulesets_of_tops : (tops : List Top) → rulesets_in (parts tops) ≡ length (rulesets_of (items_of_tops tops))
 rulesets_of_tops [] = refl
 rulesets_of_tops (top.Object found ∷ later) = rulesets_of_tops later
-rulesets_of_tops (top.Ruleset found ∷ later) = rw (rulesets-append (items_of_body found.body) (items_of_tops later), (body_agrees found.body).heads) (ap suc (rulesets_of_tops later))
+rulesets_of_tops (top.Ruleset found ∷ later) =
+    rw (rulesets-append (items_of_body found.body) (items_of_tops later), (body_agrees found.body).heads) (omega (arith, rulesets_of_tops later))
 rulesets_of_tops (top.Stmt found ∷ later) = rw (rulesets-append (items_of_stmt found) (items_of_tops later), (each_agrees found).heads) (rulesets_of_tops later)

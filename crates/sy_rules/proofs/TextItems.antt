@@ -5,10 +5,11 @@ use Rattle.sy_script.specs.declared.tree.ObjectKind.TheVariants as object
 use Rattle.sy_script.specs.declared.tree.Top.{Top}
 use Rattle.sy_rules.specs.Lines.{text_of}
 use Rattle.sy_rules.specs.Outline.{Item, items_of_tops}
+use Rattle.sy_rules.specs.PartItems.{actions_of_parts, params_of}
 use Rattle.sy_rules.specs.Plans.{actions_of}
 use Rattle.sy_rules.specs.Texts as text
 use Rattle.sy_rules.specs.Texts.{Part, parts}
-use Rattle.sy_rules.proofs.TestLaws.{actions_of_parts, actions_of_tops, params_of}
+use Rattle.sy_rules.proofs.TestLaws.{actions_of_tops}
 
 abbrev pub actions_in : List Part → ℕ
 actions_in [] = 0

@@ -13,6 +13,7 @@ pub mod Work
 pub mod Lines
 pub mod ScriptFaults
 pub mod Seen
+pub mod Given
 pub mod PlanValue
 pub mod Tables
 pub mod Laws
@@ -26,3 +27,4 @@ pub mod TableSizes
 pub mod Numbers
 pub mod TextTables
 pub mod Expressions
+pub mod PartItems

@@ -11,19 +11,13 @@ use Rattle.sy_rules.specs.declared.objects.InputParameters.{InputParameters}
 use Rattle.sy_rules.specs.declared.parameters.QueueParameters.{QueueParameters}
 use Rattle.sy_rules.specs.declared.parts.Input.{Input}
 use Rattle.sy_rules.specs.declared.parts.Action.{Action}
+pub use Rattle.sy_rules.specs.Given.{Listed}
+use Rattle.sy_rules.specs.Given.{Given, GivesAction, GivesInput, GiveLists, GiveQueues, GiveWorkers}
 use Rattle.sy_rules.specs.Lines.{File, Lines, lists_of, steps_of}
 use Rattle.sy_rules.specs.Outline.{Item, items}
 use Rattle.sy_rules.specs.Plans.{inputs_of, rulesets_of, actions_of, action_name, list_of_input, list_queues, queues_of, workers_of}
 use Rattle.sy_rules.specs.ScriptFaults.{faults_of}
-use Rattle.sy_rules.specs.Steps.{Steps}
 use Rattle.sy_rules.specs.Texts.{parts}
-
--- what a list is
-pub record Listed : Type 0 where
-  -- its expanded text
-  pub steps : Steps
-  -- the queue that leads to it, where it has one of its own
-  pub queue : Option ℕ
 
 pub record Plan : Type 0 where
   pub inputs : List Input
@@ -85,7 +79,7 @@ abbrev pub listed_from : List Lines → ℕ → List (Option ℕ) → List Liste
 listed_from lines number [] = []
 listed_from lines number (queue ∷ later) = record { steps = steps_of lines number; queue = queue } ∷ listed_from lines (number + 1) later
 
--- the parts of a plan, each as the script gives it
+-- the parts of a plan, listed item after item
 pub record HasParts (script : Script) (plan : Plan) : Type 0 where
   pub tests : List (Formula Test)
   pub are_tests : AreExprs (filter_map test_of_item (items script)) tests
@@ -95,7 +89,17 @@ pub record HasParts (script : Script) (plan : Plan) : Type 0 where
   pub actions : plan.actions ≡ action_parts 0 (actions_of (items script))
   pub lists : plan.lists ≡ listed_from (lines_of script tests) 0 (list_queues (items script))
 
+-- Each part of a plan is one that an object of the script gives, at its number, and each object that gives one has it there.
+pub record IsGiven (script : Script) (plan : Plan) : Type 0 where
+  pub tests : List (Formula Test)
+  pub are_tests : AreExprs (filter_map test_of_item (items script)) tests
+  pub inputs : Given (GivesInput (items script)) 0 [] (items script) plan.inputs
+  pub queues : GiveQueues (items script) plan.queues
+  pub workers : GiveWorkers 0 plan.queues plan.workers
+  pub actions : Given GivesAction 0 [] (items script) plan.actions
+  pub lists : GiveLists (items script) (lines_of script tests) plan.lists
+
 -- A script with a fault has no plan.
 pub record IsPlan (script : Script) (plan : Plan) : Type 0 where
   pub clean : faults_of script ≡ []
-  pub parts : HasParts script plan
+  pub given : IsGiven script plan

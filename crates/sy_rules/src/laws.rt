@@ -1,12 +1,21 @@
 //! Laws of lists and of what they execute. Each function does nothing; its contract is the law.
-ghost use Rattle.std.specs.Prelude.{◌≡◌, ◌+◌, ◌++◌, ◌<◌, ℕ, true, false, List, length};
+ghost use Rattle.std.specs.Prelude.{◌≡◌, ◌+◌, ◌++◌, ◌<◌, ℕ, Some, true, false, is_some, option_and_then, slice_get, List, length};
 ghost use Rattle.sy_wire.specs.Messages.{Said};
 ghost use Rattle.sy_select.specs.Truth.{Valuation, behind};
 ghost use Rattle.sy_script.specs.declared.tree.Script.{Script};
 ghost use Rattle.sy_rules.specs.PlanValue.{IsPlan, Plan};
-ghost use Rattle.sy_rules.specs.Lines.{Lines, expand, expanded, is_deeper, list_at};
+ghost use Rattle.sy_rules.specs.declared.objects.ActionParameters.{ActionParameters};
+ghost use Rattle.sy_rules.specs.declared.objects.RulesetParameters.{RulesetParameters};
+ghost use Rattle.sy_rules.specs.Lines.{Lines, expand, expanded, is_deeper, list_at, list_of_action};
+ghost use Rattle.sy_rules.specs.Outline.{items};
+ghost use Rattle.sy_rules.specs.Expressions.{trees_of};
+ghost use Rattle.sy_rules.specs.PartItems.{actions_of_parts, calls_of_parts, names_of_calls, params_of, rulesets_in, tests_of_parts};
+ghost use Rattle.sy_rules.specs.Plans.{actions_of, rulesets_of};
+ghost use Rattle.sy_rules.specs.Texts.{parts};
+ghost use Rattle.sy_rules.specs.ScriptFaults.{untested};
 ghost use Rattle.sy_rules.specs.Laws.{IsChain, IsRising};
 ghost use Rattle.sy_rules.specs.Steps.{Steps, ◌then◌, ◌⧺◌, count, executed, is_in, occurrences, tests, walk};
+ghost use Rattle.sy_rules.specs.Whole.{queue_at, steps_at};
 ghost use Rattle.sy_rules.specs.Work.{May, Must, work};
 
 /// What every valuation that a class admits executes, each message of the class executes.
@@ -66,4 +75,24 @@ pub fn calls_too_deep_are_a_chain()
 /// A script has one plan at most.
 pub fn one_plan()
     ensures { (script : Script) (p q : Plan) → IsPlan script p → IsPlan script q → p ≡ q }
+{}
+
+/// The queue of a ruleset's list is the one that the ruleset says it has. Where it says none, its list has none of its own.
+pub fn lists_of_rulesets()
+    ensures { (script : Script) (plan : Plan) (place : ℕ) (r : RulesetParameters) → IsPlan script plan → slice_get (rulesets_of (items script)) place ≡ Some r → option_and_then (slice_get plan.queues) (queue_at plan (place + 1)) ≡ r.queue }
+{}
+
+/// The list to which an action with a queue posts has that queue, and runs that action alone.
+pub fn lists_of_actions()
+    ensures queue { (script : Script) (plan : Plan) (number : ℕ) (a : ActionParameters) → IsPlan script plan → slice_get (actions_of (items script)) number ≡ Some a → is_some a.queue ≡ true → option_and_then (slice_get plan.queues) (queue_at plan (list_of_action (untested (items script)) number)) ≡ a.queue }
+    ensures run { (script : Script) (plan : Plan) (number : ℕ) (a : ActionParameters) → IsPlan script plan → slice_get (actions_of (items script)) number ≡ Some a → is_some a.queue ≡ true → steps_at plan (list_of_action (untested (items script)) number) ≡ Steps.Run number Steps.End }
+{}
+
+/// The texts of a file's parts have the tests, actions and calls of its items, in the same order, and there are as many parts of rulesets
+/// as rulesets.
+pub fn texts_have_the_items()
+    ensures tests { (script : Script) → tests_of_parts (parts script.tops) ≡ trees_of (items script) }
+    ensures actions { (script : Script) → actions_of_parts (parts script.tops) ≡ params_of (items script) }
+    ensures calls { (script : Script) → calls_of_parts (parts script.tops) ≡ names_of_calls (items script) }
+    ensures rulesets { (script : Script) → rulesets_in (parts script.tops) ≡ length (rulesets_of (items script)) }
 {}
