@@ -31,3 +31,10 @@ pub mod PlanTables
 pub mod SingleTables
 pub mod Loads
 pub mod Kept
+pub mod AmongLaws
+pub mod TestFaultLaws
+pub mod ParameterFaultLaws
+pub mod ItemFacts
+pub mod ItemsThere
+pub mod ItemsRefuted
+pub mod FaultLaws

@@ -26,3 +26,7 @@ pub mod TableSizes
 pub mod Numbers
 pub mod TextTables
 pub mod Expressions
+pub mod Among
+pub mod TestFaults
+pub mod ObjectFaults
+pub mod FaultsThere
