@@ -1,0 +1,5 @@
+use Rattle.sy_rules.proofs.FaultLaws.{refused_there}
+use Rattle.sy_rules.proofs.plan.Plan.load.Goals as goal
+
+pub returns-in-Ok-clause-there : goal.returns-in-Ok-clause-there
+returns-in-Ok-clause-there c = refused_there c.args.script.now c.load_items.result c.load_items.ensures.err
