@@ -42,3 +42,10 @@ pub mod GivenInputs
 pub mod GivenPlans
 pub mod QueueLaws
 pub mod OnePlan
+pub mod AmongLaws
+pub mod TestFaultLaws
+pub mod ParameterFaultLaws
+pub mod ItemFacts
+pub mod ItemsThere
+pub mod ItemsRefuted
+pub mod FaultLaws

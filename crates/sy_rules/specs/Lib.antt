@@ -28,3 +28,7 @@ pub mod Numbers
 pub mod TextTables
 pub mod Expressions
 pub mod PartItems
+pub mod Among
+pub mod TestFaults
+pub mod ObjectFaults
+pub mod FaultsThere

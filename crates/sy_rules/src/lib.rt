@@ -7,6 +7,7 @@ mod build;
 mod check;
 mod expressions;
 pub mod fault;
+pub mod fault_laws;
 mod gather;
 mod item_check;
 mod item_values;

@@ -1,6 +1,7 @@
 //! What a relay does.
-ghost use Rattle.std.specs.Prelude.{◌≡◌, ◌<◌, ◌∷◌, [], length, map, IfOk, IfErr, OnOk};
+ghost use Rattle.std.specs.Prelude.{◌≡◌, ◌<◌, ◌⊎◌, ◌∷◌, [], length, map, IfOk, IfErr, OnOk};
 ghost use Rattle.sy_rules.specs.Faults.{IsAnswered, no_memory};
+ghost use Rattle.sy_rules.specs.FaultsThere.{HasFault};
 ghost use Rattle.sy_rules.specs.ItemViews.{item};
 ghost use Rattle.sy_rules.specs.Loading.{faults_of_its_lists};
 ghost use Rattle.sy_rules.specs.Outline.{items};
@@ -164,6 +165,8 @@ impl Plan {
         ensures plan { IfOk result (λ plan. IsPlan script.now plan) }
         ensures ok { OnOk result (faults_of script.now ≡ []) }
         ensures err { IfErr result (λ f. IsAnswered (faults_of script.now) f) }
+        // What is refused is there.
+        ensures there { IfErr result (λ f. (f ≡ no_memory) ⊎ HasFault script.now f) }
     {
         match outline(alloc, script) {
             Ok(found) => load_items(alloc, script, found.as_slice()),
