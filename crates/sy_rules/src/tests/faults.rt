@@ -1,6 +1,6 @@
 //! Each fault with its word, and which of several is answered.
 
-use super::read::{accepted, for_memory_alone, refused};
+use super::read::{accepted, each_refused, for_memory_alone, refused};
 use std::test::Fail;
 
 #[test]
@@ -85,153 +85,91 @@ fn given_twice(rt: HostRuntime) -> Result<(), Fail> {
 
 #[test]
 fn unknown(rt: HostRuntime) -> Result<(), Fail> {
-    let alloc = rt.alloc();
-    refused(&rt, alloc, b"module(Loaded=\"imtcp\")", 42, b"Loaded");
-    refused(&rt, alloc, b"global(load=\"imtcp\")", 42, b"load");
-    refused(&rt, alloc, b"main_queue(name=\"q\")", 42, b"name");
-    refused(
-        &rt,
-        alloc,
-        b"input(type=\"imtcp\" port=\"1\" queue.size=\"5\")",
-        42,
-        b"queue.size",
-    );
-    refused(
-        &rt,
-        alloc,
-        b"ruleset(name=\"a\" type=\"b\") { }",
-        42,
-        b"type",
-    );
-    refused(
-        &rt,
-        alloc,
-        b"action(type=\"omfile\" target=\"hub\")",
-        42,
-        b"target",
-    );
-    refused(
-        &rt,
-        alloc,
-        b"action(type=\"omfwd\" target=\"hub\" file=\"f\")",
-        42,
-        b"file",
-    );
-    refused(
-        &rt,
-        alloc,
-        b"main_queue(queue.workerFlow=\"full\")",
-        42,
-        b"queue.workerFlow",
-    );
+    let rows = [
+        ("module(Loaded=\"imtcp\")", "Loaded"),
+        ("global(load=\"imtcp\")", "load"),
+        ("main_queue(name=\"q\")", "name"),
+        (
+            "input(type=\"imtcp\" port=\"1\" queue.size=\"5\")",
+            "queue.size",
+        ),
+        ("ruleset(name=\"a\" type=\"b\") { }", "type"),
+        ("action(type=\"omfile\" target=\"hub\")", "target"),
+        ("action(type=\"omfwd\" target=\"hub\" file=\"f\")", "file"),
+        ("main_queue(queue.workerFlow=\"full\")", "queue.workerFlow"),
+    ];
+    each_refused(&rt, rt.alloc(), 42, &rows);
     Ok(())
 }
 
 #[test]
-fn values(rt: HostRuntime) -> Result<(), Fail> {
-    let alloc = rt.alloc();
-    refused(&rt, alloc, b"module(load=\"imudp\")", 43, b"load");
-    refused(&rt, alloc, b"module(load=\"Imtcp\")", 43, b"load");
-    refused(&rt, alloc, b"input(type=\"imudp\" port=\"1\")", 43, b"type");
-    refused(&rt, alloc, b"input(type=\"imtcp\" port=\"\")", 43, b"port");
-    refused(
-        &rt,
-        alloc,
-        b"input(type=\"imtcp\" port=\"1 \")",
-        43,
-        b"port",
-    );
-    refused(
-        &rt,
-        alloc,
-        b"input(type=\"imtcp\" port=\"+1\")",
-        43,
-        b"port",
-    );
-    refused(
-        &rt,
-        alloc,
-        b"input(type=\"imtcp\" port=\"1\" flowControl=\"Full\")",
-        43,
-        b"flowControl",
-    );
-    refused(
-        &rt,
-        alloc,
-        b"main_queue(queue.size=\"1k\")",
-        43,
-        b"queue.size",
-    );
-    refused(
-        &rt,
-        alloc,
-        b"main_queue(queue.size=\"00000000001\")",
-        43,
-        b"queue.size",
-    );
-    refused(
-        &rt,
-        alloc,
-        b"main_queue(queue.type=\"Direct\")",
-        43,
-        b"queue.type",
-    );
-    refused(
-        &rt,
-        alloc,
-        b"main_queue(queue.type=\"linkedlist\")",
-        43,
-        b"queue.type",
-    );
-    refused(
-        &rt,
-        alloc,
-        b"main_queue(queue.saveOnShutdown=\"yes\")",
-        43,
-        b"queue.saveOnShutdown",
-    );
-    refused(
-        &rt,
-        alloc,
-        b"ruleset(name=\"a\" queue.type=\"Direct\") { }",
-        43,
-        b"queue.type",
-    );
-    refused(
-        &rt,
-        alloc,
-        b"ruleset(name=\"a\" queue.type=\"Disk\") { }",
-        43,
-        b"queue.type",
-    );
-    refused(&rt, alloc, b"action(type=\"ommail\")", 43, b"type");
-    refused(
-        &rt,
-        alloc,
-        b"action(type=\"omfwd\" target=\"h\" protocol=\"udp\")",
-        43,
-        b"protocol",
-    );
-    refused(
-        &rt,
-        alloc,
-        b"action(type=\"omfwd\" target=\"h\" protocol=\"tcp\" tcp_framing=\"traditional\")",
-        43,
-        b"tcp_framing",
-    );
-    accepted(&rt, alloc, b"main_queue(queue.size=\"0000000001\")");
-    accepted(
-        &rt,
-        alloc,
-        b"action(type=\"omfile\" file=\"\" queue.type=\"Direct\")",
-    );
-    accepted(
-        &rt,
-        alloc,
-        b"ruleset(name=\"\" queue.type=\"FixedArray\") { }",
-    );
-    accepted(&rt, alloc, b"module(LOAD=\"builtin:omfile\")");
-    accepted(&rt, alloc, b"global(workDirectory=\"/var/spool\")");
+fn values_of_modules_and_inputs(rt: HostRuntime) -> Result<(), Fail> {
+    let rows = [
+        ("module(load=\"imudp\")", "load"),
+        ("module(load=\"Imtcp\")", "load"),
+        ("input(type=\"imudp\" port=\"1\")", "type"),
+        ("input(type=\"imtcp\" port=\"\")", "port"),
+        ("input(type=\"imtcp\" port=\"1 \")", "port"),
+        ("input(type=\"imtcp\" port=\"+1\")", "port"),
+        (
+            "input(type=\"imtcp\" port=\"1\" flowControl=\"Full\")",
+            "flowControl",
+        ),
+    ];
+    each_refused(&rt, rt.alloc(), 43, &rows);
+    Ok(())
+}
+
+#[test]
+fn values_of_queues(rt: HostRuntime) -> Result<(), Fail> {
+    let rows = [
+        ("main_queue(queue.size=\"1k\")", "queue.size"),
+        ("main_queue(queue.size=\"00000000001\")", "queue.size"),
+        ("main_queue(queue.type=\"Direct\")", "queue.type"),
+        ("main_queue(queue.type=\"linkedlist\")", "queue.type"),
+        (
+            "main_queue(queue.saveOnShutdown=\"yes\")",
+            "queue.saveOnShutdown",
+        ),
+        (
+            "ruleset(name=\"a\" queue.type=\"Direct\") { }",
+            "queue.type",
+        ),
+        ("ruleset(name=\"a\" queue.type=\"Disk\") { }", "queue.type"),
+    ];
+    each_refused(&rt, rt.alloc(), 43, &rows);
+    Ok(())
+}
+
+#[test]
+fn values_of_actions(rt: HostRuntime) -> Result<(), Fail> {
+    let rows = [
+        ("action(type=\"ommail\")", "type"),
+        (
+            "action(type=\"omfwd\" target=\"h\" protocol=\"udp\")",
+            "protocol",
+        ),
+        (
+            "action(type=\"omfwd\" target=\"h\" protocol=\"tcp\" tcp_framing=\"traditional\")",
+            "tcp_framing",
+        ),
+    ];
+    each_refused(&rt, rt.alloc(), 43, &rows);
+    Ok(())
+}
+
+#[test]
+fn values_that_are_read(rt: HostRuntime) -> Result<(), Fail> {
+    let texts = [
+        "main_queue(queue.size=\"0000000001\")",
+        "action(type=\"omfile\" file=\"\" queue.type=\"Direct\")",
+        "ruleset(name=\"\" queue.type=\"FixedArray\") { }",
+        "module(LOAD=\"builtin:omfile\")",
+        "global(workDirectory=\"/var/spool\")",
+    ];
+    for text in texts {
+        accepted(&rt, rt.alloc(), text.as_bytes());
+    }
     Ok(())
 }
 

@@ -101,25 +101,36 @@ fn of_a_changed_edge(rt: HostRuntime) -> Result<(), Fail> {
         (SIZES, "", "", 40, "TCP_Framing"),
     ];
     for (queue, framing, more, number, word) in rows {
-        has_fault(
-            &rt,
-            alloc,
-            edge(alloc, queue, framing, more)?.as_slice(),
-            number,
-            word,
-        )?;
+        let text = edge(alloc, queue, framing, more)?;
+        has_fault(&rt, alloc, text.as_slice(), number, word)?;
     }
     Ok(())
 }
 
 #[test]
-fn each_with_its_word(rt: HostRuntime) -> Result<(), Fail> {
+fn of_tests_and_calls(rt: HostRuntime) -> Result<(), Fail> {
     let rows = [
         ("if prifilt(\"foo.info\") then stop", 31, "foo"),
         ("if prifilt(\"mail.foo\") then stop", 32, "foo"),
         ("if prifilt(\"mail.!none\") then stop", 33, "mail.!none"),
         ("if $msg > \"x\" then stop", 34, ">"),
-        ("action(type=\"omfile\")", 40, "file"),
+        ("if $foo == \"x\" then stop", 42, "$foo"),
+        ("call nowhere", 42, "nowhere"),
+        ("call RSYSLOG_DefaultRuleset", 42, "RSYSLOG_DefaultRuleset"),
+        (
+            "call a ruleset(name=\"a\") { call a }",
+            45,
+            "RSYSLOG_DefaultRuleset",
+        ),
+        ("ruleset(name=\"a\") { call a }", 45, "a"),
+    ];
+    has_faults(&rt, rt.alloc(), &rows)?;
+    Ok(())
+}
+
+#[test]
+fn of_what_is_there_twice(rt: HostRuntime) -> Result<(), Fail> {
+    let rows = [
         (
             "global(workDirectory=\"a\" WORKDIRECTORY=\"b\")",
             41,
@@ -137,10 +148,21 @@ fn each_with_its_word(rt: HostRuntime) -> Result<(), Fail> {
             41,
             "action-1",
         ),
+        (
+            "module(load=\"imtcp\") input(type=\"imtcp\" port=\"1\") input(type=\"imtcp\" port=\"01\")",
+            47,
+            "1",
+        ),
+    ];
+    has_faults(&rt, rt.alloc(), &rows)?;
+    Ok(())
+}
+
+#[test]
+fn of_parameters_and_inputs(rt: HostRuntime) -> Result<(), Fail> {
+    let rows = [
+        ("action(type=\"omfile\")", 40, "file"),
         ("global(x=\"1\")", 42, "x"),
-        ("if $foo == \"x\" then stop", 42, "$foo"),
-        ("call nowhere", 42, "nowhere"),
-        ("call RSYSLOG_DefaultRuleset", 42, "RSYSLOG_DefaultRuleset"),
         (
             "module(load=\"imtcp\") input(type=\"imtcp\" port=\"1\" ruleset=\"nowhere\")",
             42,
@@ -152,18 +174,7 @@ fn each_with_its_word(rt: HostRuntime) -> Result<(), Fail> {
             44,
             "port",
         ),
-        (
-            "module(load=\"imtcp\") input(type=\"imtcp\" port=\"1\") input(type=\"imtcp\" port=\"01\")",
-            47,
-            "1",
-        ),
         ("input(type=\"imtcp\" port=\"1\")", 48, "imtcp"),
-        (
-            "call a ruleset(name=\"a\") { call a }",
-            45,
-            "RSYSLOG_DefaultRuleset",
-        ),
-        ("ruleset(name=\"a\") { call a }", 45, "a"),
     ];
     has_faults(&rt, rt.alloc(), &rows)?;
     Ok(())
@@ -270,5 +281,58 @@ fn of_65536_and_65537_statements(rt: HostRuntime) -> Result<(), Fail> {
     has_plan(&rt, alloc, text.as_slice())?;
     text.extend_from_slice(b"stop")?;
     has_fault(&rt, alloc, text.as_slice(), 46, "RSYSLOG_DefaultRuleset")?;
+    Ok(())
+}
+
+// Where memory is refused, the fault is the text's own, or that there is no memory, which has no word.
+fn has_fault_or_no_memory(
+    rt: &impl Abort,
+    alloc: Global,
+    text: &str,
+    number: u8,
+    word: &str,
+) -> Result<(), AllocError> {
+    let Ok(script) = read_script(alloc, text.as_bytes()) else {
+        return Err(AllocError);
+    };
+    match Plan::load(alloc, &script) {
+        Ok(_) => assert!(rt; false, "no fault, not {number} {word}"),
+        Err(fault) => {
+            let found = (fault.code.number(), fault.word.as_slice());
+            if found.0 == 49 {
+                assert!(rt; found.1.is_empty());
+            } else {
+                assert_eq!(rt; found, (number, word.as_bytes()));
+            }
+        }
+    }
+    Ok(())
+}
+
+#[test]
+fn a_fault_where_memory_is_refused(rt: HostRuntime) -> Result<(), Fail> {
+    let rows = [
+        ("if prifilt(\"foo.info\") then stop", 31, "foo"),
+        ("if $msg > \"x\" then stop", 34, ">"),
+        ("action(type=\"omfile\")", 40, "file"),
+        (
+            "action(name=\"action-1\" type=\"omfile\" file=\"f\") action(type=\"omfile\" file=\"f\")",
+            41,
+            "action-1",
+        ),
+        ("call nowhere", 42, "nowhere"),
+        ("module(load=\"imudp\")", 43, "load"),
+        ("main_queue(queue.size=\"0\")", 44, "queue.size"),
+        ("ruleset(name=\"a\") { call a }", 45, "a"),
+        (
+            "module(load=\"imtcp\") input(type=\"imtcp\" port=\"12\") input(type=\"imtcp\" port=\"12\")",
+            47,
+            "12",
+        ),
+        ("input(type=\"imtcp\" port=\"1\")", 48, "imtcp"),
+    ];
+    for (text, number, word) in rows {
+        has_fault_or_no_memory(&rt, rt.alloc(), text, number, word)?;
+    }
     Ok(())
 }

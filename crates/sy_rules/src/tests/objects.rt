@@ -49,7 +49,12 @@ fn main_queues(rt: HostRuntime) -> Result<(), Fail> {
         ..usual()
     };
     main_queue(&rt, alloc, b"main_queue(queue.size=\"01\")", least);
-    // a mark above the size is kept, also where the size is written behind it
+    Ok(())
+}
+
+// A mark above the size is kept, also where the size is written behind it.
+#[test]
+fn a_main_queue_with_all_of_its_parameters(rt: HostRuntime) -> Result<(), Fail> {
     let given = QueueParameters {
         size: 100,
         batch: 7,
@@ -62,7 +67,7 @@ fn main_queues(rt: HostRuntime) -> Result<(), Fail> {
     };
     main_queue(
         &rt,
-        alloc,
+        rt.alloc(),
         b"main_queue(queue.fullDelayMark=\"200\" queue.lightDelayMark=\"0\" QUEUE.discardmark=\"3\"
             queue.discardSeverity=\"2\" queue.timeoutEnqueue=\"0\" queue.workerThreads=\"64\"
             queue.dequeueBatchSize=\"7\" queue.size=\"100\" queue.type=\"FixedArray\"

@@ -69,6 +69,13 @@ pub fn refused(rt: &impl Abort, alloc: Global, text: &[u8], number: u8, word: &[
     }
 }
 
+/// The first object of each text is refused with this fault and the word beside it.
+pub fn each_refused(rt: &impl Abort, alloc: Global, number: u8, rows: &[(&str, &str)]) {
+    for (text, word) in rows {
+        refused(rt, alloc, text.as_bytes(), number, word.as_bytes());
+    }
+}
+
 /// The first object is read.
 pub fn accepted(rt: &impl Abort, alloc: Global, text: &[u8]) {
     match read(alloc, text) {

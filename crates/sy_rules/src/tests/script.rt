@@ -246,10 +246,15 @@ fn names_of_actions(rt: HostRuntime) -> Result<(), Fail> {
         41,
         b"action-0",
     );
-    // actions of rulesets and of blocks are counted too
+    Ok(())
+}
+
+// Actions of rulesets and of blocks are counted too.
+#[test]
+fn names_of_actions_of_rulesets(rt: HostRuntime) -> Result<(), Fail> {
     refused(
         &rt,
-        alloc,
+        rt.alloc(),
         b"ruleset(name=\"r\") { action(type=\"omfile\" file=\"f\") if $msg == \"x\" then { action(type=\"omfile\" file=\"g\") } }
             action(name=\"action-2\" type=\"omfile\" file=\"g\") action(name=\"action-1\" type=\"omfile\" file=\"g\")",
         41,
@@ -407,10 +412,10 @@ fn two_hundred_and_fifty_six_workers(rt: HostRuntime) -> Result<(), Fail> {
     Ok(())
 }
 
+// An item's own faults come before those among the others.
 #[test]
-fn the_first_in_the_text(rt: HostRuntime) -> Result<(), Fail> {
+fn the_first_of_an_item(rt: HostRuntime) -> Result<(), Fail> {
     let alloc = rt.alloc();
-    // an item's own before those among the others
     refused(&rt, alloc, b"main_queue() main_queue(a=\"1\")", 42, b"a");
     refused(
         &rt,
@@ -426,7 +431,13 @@ fn the_first_in_the_text(rt: HostRuntime) -> Result<(), Fail> {
         42,
         b"a",
     );
-    // those of an earlier item before a later one's
+    Ok(())
+}
+
+// Those of an earlier item come before a later one's.
+#[test]
+fn the_first_in_the_text(rt: HostRuntime) -> Result<(), Fail> {
+    let alloc = rt.alloc();
     refused(
         &rt,
         alloc,
@@ -442,7 +453,13 @@ fn the_first_in_the_text(rt: HostRuntime) -> Result<(), Fail> {
         42,
         b"nowhere",
     );
-    // of an input: too many, its module, its ruleset, its port
+    Ok(())
+}
+
+// Of an input: too many, its module, its ruleset, its port.
+#[test]
+fn the_first_of_an_input(rt: HostRuntime) -> Result<(), Fail> {
+    let alloc = rt.alloc();
     refused(
         &rt,
         alloc,
