@@ -10,7 +10,7 @@ use Rattle.sy_select.proofs.FoundExpr.{some_meaning}
 use Rattle.sy_rules.specs.declared.fault.FaultCode.TheVariants as code
 use Rattle.sy_rules.specs.declared.fault.PlanFault.{PlanFault}
 use Rattle.sy_rules.specs.Faults.{IsAnswered, fault, first, no_memory, when}
-use Rattle.sy_rules.specs.FaultsThere.{CallsTooDeep, HasFault, HasSoundItems, IsListOf, lists_in, workers_of}
+use Rattle.sy_rules.specs.FaultsThere.{CallsTooDeep, HasFault, HasSoundItems, IsListOf, lists_in, worker_count}
 use Rattle.sy_rules.specs.ItemFaults.{object_faults}
 use Rattle.sy_rules.specs.Lines.{CALL_DEPTH, Lines, is_deeper, statements_of, steps_of}
 use Rattle.sy_rules.specs.Outline.{Item, items}
@@ -102,8 +102,8 @@ module _ (script : Script) where
 
   workers_there : (f : PlanFault) → HasSoundItems script → first (too_many_workers found_items) ≡ Some f → HasFault script f
   workers_there f right e =
-      let w = first_when (nat_lt WORKERS (workers_of script)) (fault code.Range (codes "queue.workerThreads")) f e in
-      move (HasFault script) w.1 (HasFault.workers right (ltb-true WORKERS (workers_of script) w.0))
+      let w = first_when (nat_lt WORKERS (worker_count script)) (fault code.Range (codes "queue.workerThreads")) f e in
+      move (HasFault script) w.1 (HasFault.workers right (ltb-true WORKERS (worker_count script) w.0))
 
   pub first_there : (f : PlanFault) → first (faults_of script) ≡ Some f → HasFault script f
   first_there f e = elim (first_of (faults_behind found_items [] found_items) (too_many_workers found_items ++ in_lists) f e) [

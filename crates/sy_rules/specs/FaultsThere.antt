@@ -25,11 +25,12 @@ use Rattle.sy_rules.specs.Texts.{parts}
 
 -- ---- what an item is
 
+-- an input object; in a sound one `type` is imtcp
 abbrev pub IsInput : Item → Type 0
 IsInput (Item.Object object.Input ps) = Unit {0}
 IsInput _ = ⊥
 
--- an input of this port, as a number
+-- an input that is given this port, as a number
 abbrev pub HasPort : ℕ → Item → Type 0
 HasPort port (Item.Object object.Input ps) = (value : List ℕ) × (given (codes "port") ps ≡ Some value) × (number value ≡ Some port)
 HasPort port _ = ⊥
@@ -102,8 +103,9 @@ pub data HasItemFault (all : List Item) : PlanFault → Type 0 where
 abbrev pub HasSoundItems : Script → Type 0
 HasSoundItems script = (f : PlanFault) → HasItemFault (items script) f → ⊥
 
-abbrev pub workers_of : Script → ℕ
-workers_of script = sum (map (λ q. q.workers) (queues_of (items script)))
+-- the workers of all queues (rsyslog manual, "General Queue Parameters": queue.workerThreads)
+abbrev pub worker_count : Script → ℕ
+worker_count script = sum (map (λ q. q.workers) (queues_of (items script)))
 
 -- the lists of its statements; what their tests say doesn't matter here
 abbrev pub lists_in : Script → List Lines
@@ -117,11 +119,11 @@ IsListOf script name list = slice_get (default_ruleset ∷ ruleset_names_of (ite
 abbrev pub CallsTooDeep : Script → ℕ → Type 0
 CallsTooDeep script list = (callees : List ℕ) × (length callees ≡ CALL_DEPTH + 1) × IsChain (lists_in script) list callees
 
--- A script has a fault.
+-- A script has a fault. Which list a call leads to, and what a queue is given, is read of items without faults.
 pub data HasFault (script : Script) : PlanFault → Type 0 where
   item : (f : PlanFault) → HasItemFault (items script) f → HasFault script f
   -- 44: more workers than there may be, those of all queues together
-  workers : HasSoundItems script → WORKERS < workers_of script → HasFault script (fault code.Range (codes "queue.workerThreads"))
+  workers : HasSoundItems script → WORKERS < worker_count script → HasFault script (fault code.Range (codes "queue.workerThreads"))
   -- 45, with the name of the ruleset whose list is expanded
   call_depth : (name : List ℕ) (list : ℕ) → HasSoundItems script → IsListOf script name list → CallsTooDeep script list → HasFault script (fault code.CallDepth name)
   -- 46, with the same: too many statements in the expanded text, calls and what replaces them among them
