@@ -8,6 +8,7 @@ pub mod ItemViews
 pub mod ItemFaults
 pub mod Plans
 pub mod Texts
+pub mod PartItems
 pub mod Steps
 pub mod Work
 pub mod Lines
@@ -27,4 +28,3 @@ pub mod TableSizes
 pub mod Numbers
 pub mod TextTables
 pub mod Expressions
-pub mod PartItems
