@@ -3,6 +3,14 @@ pub mod Fits
 pub mod Ranges
 pub mod WorkLaws
 pub mod CallLaws
+pub mod GivenParts
+pub mod GivenItems
+pub mod GivenLists
+pub mod GivenQueues
+pub mod GivenInputs
+pub mod GivenPlans
+pub mod QueueLaws
+pub mod OnePlan
 pub mod Defaults
 pub mod ListNames
 pub mod Listed

@@ -8,6 +8,7 @@ pub mod ItemViews
 pub mod ItemFaults
 pub mod Plans
 pub mod Texts
+pub mod PartItems
 pub mod Steps
 pub mod Work
 pub mod Lines

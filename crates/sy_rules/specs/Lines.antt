@@ -1,11 +1,11 @@
 -- The text of each list, its actions, tests and calls by their numbers, and the expanded text that comes of it.
-use Rattle.std.specs.Prelude.{ℕ, zero, suc, ◌+◌, Bool, true, false, if◌then◌else◌, List, [], ◌∷◌, ◌++◌, length, slice_get, Option, Some, None, is_some, map, unwrap_or, take}
+use Rattle.std.specs.Prelude.{ℕ, zero, suc, ◌+◌, Bool, true, false, if◌then◌else◌, List, [], ◌∷◌, ◌++◌, length, slice_get, Option, Some, None, is_some, unwrap_or, take}
 use Rattle.std.specs.List.{list_any}
 use Rattle.sy_select.specs.declared.condition.Test.{Test}
 use Rattle.sy_select.specs.Truth.{Formula}
 use Rattle.sy_rules.specs.declared.objects.ActionParameters.{ActionParameters}
 use Rattle.sy_rules.specs.declared.objects.RulesetParameters.{RulesetParameters}
-use Rattle.sy_rules.specs.Plans.{place_of}
+use Rattle.sy_rules.specs.Plans.{names_of, place_of}
 use Rattle.sy_rules.specs.Steps.{Steps, ◌⧺◌}
 use Rattle.sy_rules.specs.Texts as text
 use Rattle.sy_rules.specs.Texts.{Text, Part, parts}
@@ -59,7 +59,7 @@ line_of_action file number rest =
     if has_queue (slice_get file.actions number) then Lines.Post (list_of_action file number) rest else Lines.Run number rest
 
 abbrev pub ruleset_names : File → List (List ℕ)
-ruleset_names file = map (λ r. r.name) file.rulesets
+ruleset_names file = names_of file.rulesets
 
 abbrev pub is_queued_ruleset : Option RulesetParameters → Bool
 is_queued_ruleset None = false

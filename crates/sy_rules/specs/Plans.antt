@@ -104,8 +104,11 @@ abbrev pub list_at_place : Option ℕ → ℕ
 list_at_place None = 0
 list_at_place (Some place) = place + 1
 
+abbrev pub names_of : List RulesetParameters → List (List ℕ)
+names_of rulesets = map (λ r. r.name) rulesets
+
 abbrev pub ruleset_names : List Item → List (List ℕ)
-ruleset_names items = map (λ r. r.name) (rulesets_of items)
+ruleset_names items = names_of (rulesets_of items)
 
 abbrev pub list_of_input : List Item → Option (List ℕ) → ℕ
 list_of_input items None = 0

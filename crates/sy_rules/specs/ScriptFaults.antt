@@ -19,6 +19,7 @@ use Rattle.sy_rules.specs.Faults.{fault, when}
 use Rattle.sy_rules.specs.Objects.{module_of, input_of, ruleset_of, kind_of_action, action_of}
 use Rattle.sy_rules.specs.ItemFaults.{object_faults}
 use Rattle.sy_rules.specs.Outline.{Item, items}
+pub use Rattle.sy_rules.specs.Plans.{ruleset_names as ruleset_names_of}
 use Rattle.sy_rules.specs.Plans.{inputs_of, rulesets_of, actions_of, action_name, action_names, queues_of, default_ruleset}
 use Rattle.sy_rules.specs.Texts.{parts}
 use Rattle.sy_rules.specs.Steps as steps
@@ -61,9 +62,6 @@ loads_imtcp _ = false
 -- so many of a kind stand before one more
 abbrev pub too_many : ℕ → ℕ → List ℕ → List PlanFault
 too_many most before word = when (nat_le most before) (fault code.Range word)
-
-abbrev pub ruleset_names_of : List Item → List (List ℕ)
-ruleset_names_of all = map (λ r. r.name) (rulesets_of all)
 
 abbrev pub ports_of : List Item → List ℕ
 ports_of all = map (λ i. i.port) (inputs_of all)

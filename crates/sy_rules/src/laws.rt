@@ -3,7 +3,7 @@ ghost use Rattle.std.specs.Prelude.{◌≡◌, ◌+◌, ◌++◌, ◌<◌, ℕ, 
 ghost use Rattle.sy_wire.specs.Messages.{Said};
 ghost use Rattle.sy_select.specs.Truth.{Valuation, behind};
 ghost use Rattle.sy_script.specs.declared.tree.Script.{Script};
-ghost use Rattle.sy_rules.specs.PlanValue.{IsPlan, Plan};
+ghost use Rattle.sy_rules.specs.PlanValue.{HasParts, IsGiven, IsPlan, Plan};
 ghost use Rattle.sy_rules.specs.declared.objects.ActionParameters.{ActionParameters};
 ghost use Rattle.sy_rules.specs.declared.objects.RulesetParameters.{RulesetParameters};
 ghost use Rattle.sy_rules.specs.Lines.{Lines, expand, expanded, is_deeper, list_at, list_of_action};
@@ -75,6 +75,12 @@ pub fn calls_too_deep_are_a_chain()
 /// A script has one plan at most.
 pub fn one_plan()
     ensures { (script : Script) (p q : Plan) → IsPlan script p → IsPlan script q → p ≡ q }
+{}
+
+/// The parts that the objects of a script give are those listed item after item, and no others.
+pub fn parts_are_listed()
+    ensures listed { (script : Script) (plan : Plan) → IsGiven script plan → HasParts script plan }
+    ensures given { (script : Script) (plan : Plan) → HasParts script plan → IsGiven script plan }
 {}
 
 /// The queue of a ruleset's list is the one that the ruleset says it has. Where it says none, its list has none of its own.
