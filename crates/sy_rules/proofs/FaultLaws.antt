@@ -1,5 +1,5 @@
 -- Which faults scripts have: the first that is found, and none where none is found. A script without faults has a plan.
-use Rattle.std.proofs.Common.{◌≡◌, ℕ, zero, suc, ◌+◌, ◌≤◌, inl, inr, ◌⊎◌, Bool, true, false, ◌||◌, nat_lt, List, [], ◌∷◌, ◌++◌, Some, Result, Ok, Err, IfErr, codes, filter_map, slice_get, refl, sym, ap, ◌∙◌, arith}
+use Rattle.std.proofs.Common.{◌≡◌, ◌≢◌, ℕ, zero, suc, ◌+◌, ◌≤◌, inl, inr, ◌⊎◌, Bool, true, false, ◌||◌, nat_lt, List, [], ◌∷◌, ◌++◌, Some, Result, Ok, Err, IfErr, codes, filter_map, slice_get, refl, sym, ap, ◌∙◌, arith}
 use Rattle.std.proofs.lemmas.Bool.{ltb-false, ltb-true, or_cases}
 use Rattle.sy_script.specs.declared.tree.ObjectKind.TheVariants as object
 use Rattle.sy_script.specs.declared.tree.Script.{Script}
@@ -10,7 +10,7 @@ use Rattle.sy_select.proofs.FoundExpr.{some_meaning}
 use Rattle.sy_rules.specs.declared.fault.FaultCode.TheVariants as code
 use Rattle.sy_rules.specs.declared.fault.PlanFault.{PlanFault}
 use Rattle.sy_rules.specs.Faults.{IsAnswered, fault, first, no_memory, when}
-use Rattle.sy_rules.specs.FaultsThere.{CallsTooDeep, HasFault, HasSoundItems, IsListOf, lists_in, worker_count}
+use Rattle.sy_rules.specs.FaultsThere.{CallsTooDeep, HasCleanItems, HasFault, HasNoFault, IsListOf, lists_in, worker_count}
 use Rattle.sy_rules.specs.ItemFaults.{object_faults}
 use Rattle.sy_rules.specs.Lines.{CALL_DEPTH, Lines, is_deeper, statements_of, steps_of}
 use Rattle.sy_rules.specs.Outline.{Item, items}
@@ -71,8 +71,8 @@ module _ (script : Script) where
   abbrev in_lists : List PlanFault
   in_lists = faults_of_lists (lists_in script) 0 (default_ruleset ∷ ruleset_names_of found_items)
 
-  sound_items : faults_behind found_items [] found_items ≡ [] → HasSoundItems script
-  sound_items e f is = item_refuted found_items e f is
+  clean_as_found : faults_behind found_items [] found_items ≡ [] → HasCleanItems script
+  clean_as_found e f is = item_refuted found_items e f is
 
   not_deep : (l : ℕ) (b : Bool) (g : PlanFault) → is_deeper (lists_in script) CALL_DEPTH l ≡ b → when b g ≡ [] → CallsTooDeep script l → ⊥
   not_deep l b g is e chain =
@@ -80,7 +80,7 @@ module _ (script : Script) where
 
   -- ---- what is found is there
 
-  list_there : (l : ℕ) (name : List ℕ) (f : PlanFault) → HasSoundItems script → IsListOf script name l → first (list_faults (lists_in script) name l) ≡ Some f → HasFault script f
+  list_there : (l : ℕ) (name : List ℕ) (f : PlanFault) → HasCleanItems script → IsListOf script name l → first (list_faults (lists_in script) name l) ≡ Some f → HasFault script f
   list_there l name f right is e = elim (first_of (too_deep name l) (too_large name l) f e) [
     | inl deep ↦
         let w = first_when (is_deeper (lists_in script) CALL_DEPTH l) (fault code.CallDepth name) f deep in
@@ -94,13 +94,13 @@ module _ (script : Script) where
         ])
   ]
 
-  lists_there : (f : PlanFault) → HasSoundItems script → first in_lists ≡ Some f → HasFault script f
+  lists_there : (f : PlanFault) → HasCleanItems script → first in_lists ≡ Some f → HasFault script f
   lists_there f right e =
       let r = list_found (lists_in script) 0 (default_ruleset ∷ ruleset_names_of found_items) f e in
       let same : 0 + r.place ≡ r.place = omega arith in
       list_there r.place r.name f right r.named (rw same at r.found)
 
-  workers_there : (f : PlanFault) → HasSoundItems script → first (too_many_workers found_items) ≡ Some f → HasFault script f
+  workers_there : (f : PlanFault) → HasCleanItems script → first (too_many_workers found_items) ≡ Some f → HasFault script f
   workers_there f right e =
       let w = first_when (nat_lt WORKERS (worker_count script)) (fault code.Range (codes "queue.workerThreads")) f e in
       move (HasFault script) w.1 (HasFault.workers right (ltb-true WORKERS (worker_count script) w.0))
@@ -109,8 +109,8 @@ module _ (script : Script) where
   first_there f e = elim (first_of (faults_behind found_items [] found_items) (too_many_workers found_items ++ in_lists) f e) [
     | inl own ↦ HasFault.item f (behind_there found_items [] found_items f refl tt own)
     | inr rest ↦ elim (first_of (too_many_workers found_items) in_lists f rest.1) [
-      | inl many ↦ workers_there f (sound_items rest.0) many
-      | inr lists ↦ lists_there f (sound_items rest.0) lists.1
+      | inl many ↦ workers_there f (clean_as_found rest.0) many
+      | inr lists ↦ lists_there f (clean_as_found rest.0) lists.1
     ]
   ]
 
@@ -176,18 +176,25 @@ parts_of script clean =
     (plan_from (items script) (lines_of script x.0), record { tests = x.0; are_tests = x.1; inputs = refl; queues = refl; workers = refl; actions = refl; lists = refl })
 
 pub plan_of : (script : Script) → faults_of script ≡ [] → (plan : Plan) × IsPlan script plan
-plan_of script clean = let p = parts_of script clean in (p.0, record { clean = clean; given = is_given script p.0 p.1 })
+plan_of script clean = let p = parts_of script clean in (p.0, record { clean = fault_refuted script clean; given = is_given script p.0 p.1 })
 
 -- where no fault is there, none is found
-none_found : (script : Script) (found : List PlanFault) → faults_of script ≡ found → ((f : PlanFault) → HasFault script f → ⊥) → faults_of script ≡ []
+none_found : (script : Script) (found : List PlanFault) → faults_of script ≡ found → HasNoFault script → faults_of script ≡ []
 none_found script [] e none = e
 none_found script (f ∷ later) e none = absurd (none f (first_there script f (ap first e)))
 
-pub plan_without_faults : (script : Script) → ((f : PlanFault) → HasFault script f → ⊥) → (plan : Plan) × IsPlan script plan
-plan_without_faults script none = plan_of script (none_found script (faults_of script) refl none)
+pub found_where_there : (script : Script) (f : PlanFault) → HasFault script f → faults_of script ≢ []
+found_where_there script f is e = fault_refuted script e f is
 
-pub no_plan : (script : Script) (f : PlanFault) (plan : Plan) → HasFault script f → IsPlan script plan → ⊥
-no_plan script f plan is p = fault_refuted script p.clean f is
+pub nothing_found : (script : Script) → HasNoFault script → faults_of script ≡ []
+nothing_found script none = none_found script (faults_of script) refl none
+
+pub plan_without_faults : (script : Script) → HasNoFault script → (plan : Plan) × IsPlan script plan
+plan_without_faults script none = plan_of script (nothing_found script none)
+
+pub loaded : {E : Type 0} (script : Script) (r : Result Plan E) → IfOk r (λ plan. HasParts script plan) → OnOk r (faults_of script ≡ []) → IfOk r (λ plan. IsPlan script plan)
+loaded script (Ok plan) p clean = record { clean = fault_refuted script clean; given = is_given script plan p }
+loaded script (Err e) p clean = tt
 
 -- ---- answers
 

@@ -90,7 +90,3 @@ has_parts script plan g =
       actions = one_list GivesAction same_action 0 [] all plan.actions _ g.actions (of.actions_given all);
       lists = one_lists all (lines_of script g.tests) plan.lists _ g.lists (lists_by_objects script g.tests);
     }
-
-pub plan_of_parts : {E : Type 0} (script : Script) (r : Result Plan E) → IfOk r (λ plan. HasParts script plan) → OnOk r (faults_of script ≡ []) → IfOk r (λ plan. IsPlan script plan)
-plan_of_parts script (Ok plan) p clean = record { clean = clean; given = is_given script plan p }
-plan_of_parts script (Err e) p clean = tt

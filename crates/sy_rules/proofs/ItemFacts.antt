@@ -13,7 +13,7 @@ use Rattle.sy_rules.specs.declared.objects.InputParameters.{InputParameters}
 use Rattle.sy_rules.specs.declared.objects.Module.TheVariants as modules
 use Rattle.sy_rules.specs.declared.objects.RulesetParameters.{RulesetParameters}
 use Rattle.sy_rules.specs.Among.{IsAmong}
-use Rattle.sy_rules.specs.FaultsThere.{HasPort, IsAction, IsMainQueue, IsRuleset, LoadsImtcp, NoneIs}
+use Rattle.sy_rules.specs.FaultsThere.{IsInputOfPort, IsAction, IsMainQueue, IsRuleset, LoadsImtcp, NoneIs}
 use Rattle.sy_rules.specs.ItemFaults.{AreClean, object_faults}
 use Rattle.sy_rules.specs.Objects.{action_of, default_number, input_of, kind_of_action, module_named, number_of, ruleset_of, text}
 use Rattle.sy_rules.specs.Outline.{Item}
@@ -53,23 +53,23 @@ port_number : (lowest highest : ℕ) (value : List ℕ) → has_shape (Shape.Num
 unfolding has_shape
 port_number lowest highest value e = e
 
-number_there : (ps : List Param) (value : List ℕ) (default : ℕ) → given (codes "port") ps ≡ Some value → (o : Option ℕ) → number value ≡ o → is_some o ≡ true → HasPort (unwrap_or o default) (Item.Object object.Input ps)
+number_there : (ps : List Param) (value : List ℕ) (default : ℕ) → given (codes "port") ps ≡ Some value → (o : Option ℕ) → number value ≡ o → is_some o ≡ true → IsInputOfPort (unwrap_or o default) (Item.Object object.Input ps)
 number_there ps value default found None is e = absurd cc
 number_there ps value default found (Some n) is e = (value, found, is)
 
-port_there : (ps : List Param) → faults kind.Input ps ≡ [] → (default : ℕ) (o : Option (List ℕ)) → given (codes "port") ps ≡ o → is_some o ≡ true → HasPort (unwrap_or (option_and_then number o) default) (Item.Object object.Input ps)
+port_there : (ps : List Param) → faults kind.Input ps ≡ [] → (default : ℕ) (o : Option (List ℕ)) → given (codes "port") ps ≡ o → is_some o ≡ true → IsInputOfPort (unwrap_or (option_and_then number o) default) (Item.Object object.Input ps)
 port_there ps clean default None found e = absurd cc
 port_there ps clean default (Some value) found e =
     number_there ps value default found (number value) refl (port_number 1 65535 value (fit kind.Input ps clean (codes "port") value _ found port_row).has)
 
 -- an input without faults has its port
-pub port_given : (ps : List Param) → faults kind.Input ps ≡ [] → HasPort (input_of ps).port (Item.Object object.Input ps)
+pub port_given : (ps : List Param) → faults kind.Input ps ≡ [] → IsInputOfPort (input_of ps).port (Item.Object object.Input ps)
 unfolding input_of number_of
 port_given ps clean =
     port_there ps clean (default_number 0 (lookup (rows kind.Input) (codes "port"))) (given (codes "port") ps) refl (given_if_required kind.Input ps clean (codes "port") _ port_row refl)
 
-pub port_of_input : (x : Item) (i : InputParameters) → input_at x ≡ Some i → object_faults x ≡ [] → HasPort i.port x
-port_of_input (Item.Object object.Input ps) i is clean = subst (λ (j : InputParameters). HasPort j.port (Item.Object object.Input ps)) (same_Some (input_of ps) i is) (port_given ps clean)
+pub port_of_input : (x : Item) (i : InputParameters) → input_at x ≡ Some i → object_faults x ≡ [] → IsInputOfPort i.port x
+port_of_input (Item.Object object.Input ps) i is clean = subst (λ (j : InputParameters). IsInputOfPort j.port (Item.Object object.Input ps)) (same_Some (input_of ps) i is) (port_given ps clean)
 port_of_input (Item.Object object.MainQueue ps) i is clean = absurd cc
 port_of_input (Item.Object object.Module ps) i is clean = absurd cc
 port_of_input (Item.Object object.Global ps) i is clean = absurd cc
@@ -84,11 +84,11 @@ pub record IsPortOf (port : ℕ) (x : Item) : Type 0 where
   pub is : x ≡ Item.Object object.Input params
   pub same : (input_of params).port ≡ port
 
-port_is : (port : ℕ) (ps : List Param) → HasPort port (Item.Object object.Input ps) → (input_of ps).port ≡ port
+port_is : (port : ℕ) (ps : List Param) → IsInputOfPort port (Item.Object object.Input ps) → (input_of ps).port ≡ port
 unfolding input_of number_of
 port_is port ps h = rw (h.1, h.2) refl
 
-pub input_with : (port : ℕ) (x : Item) → HasPort port x → IsPortOf port x
+pub input_with : (port : ℕ) (x : Item) → IsInputOfPort port x → IsPortOf port x
 input_with port (Item.Object object.Input ps) h = record { params = ps; is = refl; same = port_is port ps h }
 input_with port (Item.Object object.MainQueue ps) h = absurd h
 input_with port (Item.Object object.Module ps) h = absurd h

@@ -10,7 +10,7 @@ use Rattle.sy_rules.specs.declared.fault.FaultCode.TheVariants as code
 use Rattle.sy_rules.specs.declared.fault.PlanFault.{PlanFault}
 use Rattle.sy_rules.specs.declared.objects.InputParameters.{InputParameters}
 use Rattle.sy_rules.specs.Among.{IsAmong}
-use Rattle.sy_rules.specs.FaultsThere.{HasItemFault, HasPort, IsAction, IsBoundTo, IsInput, IsMainQueue, IsRuleset, LoadsImtcp, NoneIs}
+use Rattle.sy_rules.specs.FaultsThere.{HasItemFault, IsInputOfPort, IsAction, IsBoundTo, IsInput, IsMainQueue, IsRuleset, LoadsImtcp, NoneIs}
 use Rattle.sy_rules.specs.Faults.{fault, when}
 use Rattle.sy_rules.specs.ItemFaults.{object_faults}
 use Rattle.sy_rules.specs.Objects.{action_of, input_of, kind_of_action, ruleset_of}
@@ -106,7 +106,7 @@ module _ (all : List Item) (clean : faults_behind all [] all ≡ []) where
   unbound name (Item.Call called) a is other none = is
   unbound name (Item.Test test) a is other none = is
 
-  port_twice : (port : ℕ) (x y : Item) (before after : List Item) → all ≡ before ++ y ∷ after → IsAmong x before → HasPort port x → HasPort port y → ⊥
+  port_twice : (port : ℕ) (x y : Item) (before after : List Item) → all ≡ before ++ y ∷ after → IsAmong x before → IsInputOfPort port x → IsInputOfPort port y → ⊥
   port_twice port x y before after split among first later =
       let p = input_with port x first in
       let q = input_with port y later in
@@ -185,7 +185,7 @@ module _ (all : List Item) (clean : faults_behind all [] all ≡ []) where
   item_refuted f (HasItemFault.same_ruleset_name x y name before s t p q) = name_twice name x y before.0 before.1 before.2 before.3 p q
   item_refuted f (HasItemFault.default_name x among s is) = named_default x among is
   item_refuted f (HasItemFault.same_action_name before between after x y name split s t p q) = action_twice before between after x y name split p q
-  item_refuted f (HasItemFault.bound x name among s is other none) = unbound name x among is other none
+  item_refuted f (HasItemFault.bound x name among is other none) = unbound name x among is other none
   item_refuted f (HasItemFault.called name among none) = there_is name true (call_right name among).1 refl none
   item_refuted f (HasItemFault.default_called among) = let no = (call_right default_ruleset among).0 in absurd cc
   item_refuted f (HasItemFault.inputs many) = absurd (omega (arith, many, few_inputs all clean))

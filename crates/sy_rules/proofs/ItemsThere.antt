@@ -14,7 +14,7 @@ use Rattle.sy_rules.specs.declared.fault.PlanFault.{PlanFault}
 use Rattle.sy_rules.specs.declared.kind.Kind.TheVariants as kind
 use Rattle.sy_rules.specs.declared.objects.InputParameters.{InputParameters}
 use Rattle.sy_rules.specs.declared.objects.RulesetParameters.{RulesetParameters}
-use Rattle.sy_rules.specs.FaultsThere.{HasItemFault, HasPort, IsRuleset}
+use Rattle.sy_rules.specs.FaultsThere.{HasItemFault, IsInputOfPort, IsRuleset}
 use Rattle.sy_rules.specs.Faults.{fault, first, when}
 use Rattle.sy_rules.specs.ItemFaults.{AreClean, object_faults}
 use Rattle.sy_rules.specs.Objects.{action_of, input_of, kind_of_action, ruleset_of}
@@ -25,7 +25,7 @@ use Rattle.sy_rules.specs.ScriptFaults.{ACTIONS, INPUTS, RULESETS, as_plan_fault
 use Rattle.sy_rules.proofs.AmongLaws.{any_found, any_map, first_of, first_when, made_found, move}
 use Rattle.sy_rules.proofs.CleanItems.{length-filter_map-append}
 use Rattle.sy_rules.proofs.ItemFacts.{clean_of, clean_more, equal_bytes, given_name, is_main, name_found, name_of_ruleset, named_found, none_loads, none_named, port_given, port_of_input, same_bytes}
-use Rattle.sy_rules.proofs.ParameterFaultLaws.{own_there, sound}
+use Rattle.sy_rules.proofs.ParameterFaultLaws.{own_there, no_own_fault}
 use Rattle.sy_rules.proofs.ScriptLaws.{length-names}
 use Rattle.sy_rules.proofs.TestFaultLaws.{tree_there}
 
@@ -64,7 +64,7 @@ module _ (all before later : List Item) (clean : AreClean before) where
     unloaded f e =
         let w = first_when (not (list_any loads_imtcp all)) (fault code.NotLoaded (codes "imtcp")) f e in
         move (HasItemFault all) w.1
-        (HasItemFault.not_loaded (Item.Object object.Input ps) (before, later, split) (sound (Item.Object object.Input ps) right) tt (none_loads all (not_true (list_any loads_imtcp all) w.0)))
+        (HasItemFault.not_loaded (Item.Object object.Input ps) (before, later, split) (no_own_fault (Item.Object object.Input ps) right) tt (none_loads all (not_true (list_any loads_imtcp all) w.0)))
 
     unbound : (o : Option (List ℕ)) (f : PlanFault) → given (codes "ruleset") ps ≡ o → first (unknown_ruleset (ruleset_names_of all) o) ≡ Some f → HasItemFault all f
     unbound None f is e = absurd cc
@@ -72,7 +72,7 @@ module _ (all before later : List Item) (clean : AreClean before) where
         let w = first_when (not (bytes_eq name default_ruleset || is_among name (ruleset_names_of all))) (fault code.Unknown name) f e in
         let both = neither (bytes_eq name default_ruleset) (is_among name (ruleset_names_of all)) w.0 in
         move (HasItemFault all) w.1
-        (HasItemFault.bound (Item.Object object.Input ps) name (before, later, split) (sound (Item.Object object.Input ps) right) is
+        (HasItemFault.bound (Item.Object object.Input ps) name (before, later, split) is
         (λ same. let there = equal_bytes name default_ruleset same in absurd cc) (none_named all name both.1))
 
     port_twice : (f : PlanFault) → first (same_port (ports_of before) (input_of ps).port) ≡ Some f → HasItemFault all f
@@ -81,9 +81,9 @@ module _ (all before later : List Item) (clean : AreClean before) where
         let w = first_when (list_any (λ p. p == port) (ports_of before)) (fault code.SamePort (decimal port)) f e in
         let m = made_found input_at (λ (i : InputParameters). i.port == port) before (sym (any_map (λ (i : InputParameters). i.port) (λ p. p == port) (inputs_of before)) ∙ w.0) in
         let cleaned = clean_of before m.x m.among clean in
-        let first_port = subst (λ p. HasPort p m.x) (eqb-true m.y.port port m.met) (port_of_input m.x m.y m.is cleaned) in
+        let first_port = subst (λ p. IsInputOfPort p m.x) (eqb-true m.y.port port m.met) (port_of_input m.x m.y m.is cleaned) in
         move (HasItemFault all) w.1
-        (HasItemFault.same_port m.x (Item.Object object.Input ps) port (before, later, split, m.among) (sound m.x cleaned) (sound (Item.Object object.Input ps) right) first_port (port_given ps right))
+        (HasItemFault.same_port m.x (Item.Object object.Input ps) port (before, later, split, m.among) (no_own_fault m.x cleaned) (no_own_fault (Item.Object object.Input ps) right) first_port (port_given ps right))
 
     input_there : (f : PlanFault) → first (faults_among all before (Item.Object object.Input ps)) ≡ Some f → HasItemFault all f
     unfolding input_of
@@ -117,10 +117,10 @@ module _ (all before later : List Item) (clean : AreClean before) where
           | inl default ↦
               let same = same_bytes (ruleset_of ps).name default_ruleset default in
               subst (λ n. HasItemFault all (fault code.Duplicate n)) (sym same)
-              (HasItemFault.default_name (Item.Ruleset ps) (before, later, split) (sound (Item.Ruleset ps) right) (subst (λ n. IsRuleset n (Item.Ruleset ps)) same named))
+              (HasItemFault.default_name (Item.Ruleset ps) (before, later, split) (no_own_fault (Item.Ruleset ps) right) (subst (λ n. IsRuleset n (Item.Ruleset ps)) same named))
           | inr earlier ↦
               let m = name_found before (ruleset_of ps).name clean earlier in
-              HasItemFault.same_ruleset_name m.0 (Item.Ruleset ps) (ruleset_of ps).name (before, later, split, m.1) (sound m.0 (clean_of before m.0 m.1 clean)) (sound (Item.Ruleset ps) right) m.2 named
+              HasItemFault.same_ruleset_name m.0 (Item.Ruleset ps) (ruleset_of ps).name (before, later, split, m.1) (no_own_fault m.0 (clean_of before m.0 m.1 clean)) (no_own_fault (Item.Ruleset ps) right) m.2 named
         ])
 
     many_rulesets : (f : PlanFault) → first (too_many RULESETS (length (ruleset_names_of before)) (codes "ruleset")) ≡ Some f → HasItemFault all f
@@ -159,8 +159,8 @@ module _ (all before later : List Item) (clean : AreClean before) where
         move (HasItemFault all) w.1
         (HasItemFault.same_action_name m.before m.after later (Item.Action m.params) (Item.Action ps) its_name
         (split ∙ ap (λ xs. xs ++ Item.Action ps ∷ later) m.split)
-        (sound (Item.Action m.params) (clean_of before (Item.Action m.params) (m.before, m.after, m.split) clean))
-        (sound (Item.Action ps) right) earlier
+        (no_own_fault (Item.Action m.params) (clean_of before (Item.Action m.params) (m.before, m.after, m.split) clean))
+        (no_own_fault (Item.Action ps) right) earlier
         (subst (λ xs. action_name (length (actions_of xs)) (given (codes "name") ps) ≡ its_name) m.split (ap (action_name (length (actions_of before))) (sym (given_name ps)))))
 
     action_there : (f : PlanFault) → first (faults_among all before (Item.Action ps)) ≡ Some f → HasItemFault all f

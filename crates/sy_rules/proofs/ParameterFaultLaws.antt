@@ -10,7 +10,7 @@ use Rattle.sy_rules.specs.declared.kind.Kind.TheVariants as kind
 use Rattle.sy_rules.specs.Among.{IsAmong}
 use Rattle.sy_rules.specs.Faults.{fault, first, when}
 use Rattle.sy_rules.specs.ItemFaults.{kind_of_object, object_faults}
-use Rattle.sy_rules.specs.ObjectFaults.{HasOwnFault, HasParameterFault, IsSound}
+use Rattle.sy_rules.specs.ObjectFaults.{HasOwnFault, HasParameterFault, IsClean}
 use Rattle.sy_rules.specs.Objects.{kind_of_action}
 use Rattle.sy_rules.specs.Outline.{Item}
 use Rattle.sy_rules.specs.Parameters.{bad_value, doubled, faults, faults_at, faults_of_given, given, has_shape, is_given, is_in_range, is_required, missing, out_of_range, unknown}
@@ -179,5 +179,5 @@ own_refuted (Item.Action ps) f is e = parameter_refuted (kind_of_action ps) ps f
 own_refuted (Item.Call name) f is e = absurd is
 own_refuted (Item.Test test) f is e = absurd is
 
-pub sound : (x : Item) → object_faults x ≡ [] → IsSound x
-sound x e f is = own_refuted x f is e
+pub no_own_fault : (x : Item) → object_faults x ≡ [] → IsClean x
+no_own_fault x e f is = own_refuted x f is e

@@ -14,7 +14,7 @@ use Rattle.sy_rules.specs.Among.{IsAmong, IsBefore}
 use Rattle.sy_rules.specs.Faults.{fault}
 use Rattle.sy_rules.specs.Laws.{IsChain}
 use Rattle.sy_rules.specs.Lines.{CALL_DEPTH, Lines, lists_of, statements_of, steps_of}
-use Rattle.sy_rules.specs.ObjectFaults.{HasOwnFault, IsSound}
+use Rattle.sy_rules.specs.ObjectFaults.{HasOwnFault, IsClean}
 use Rattle.sy_rules.specs.Outline.{Item, items}
 use Rattle.sy_rules.specs.Parameters.{given, number}
 use Rattle.sy_rules.specs.Plans.{action_name, actions_of, default_ruleset, inputs_of, queues_of, rulesets_of}
@@ -25,15 +25,15 @@ use Rattle.sy_rules.specs.Texts.{parts}
 
 -- ---- what an item is
 
--- an input object; in a sound one `type` is imtcp
+-- an input object; where it has no fault of its own, its `type` is imtcp
 abbrev pub IsInput : Item → Type 0
 IsInput (Item.Object object.Input ps) = Unit {0}
 IsInput _ = ⊥
 
 -- an input that is given this port, as a number
-abbrev pub HasPort : ℕ → Item → Type 0
-HasPort port (Item.Object object.Input ps) = (value : List ℕ) × (given (codes "port") ps ≡ Some value) × (number value ≡ Some port)
-HasPort port _ = ⊥
+abbrev pub IsInputOfPort : ℕ → Item → Type 0
+IsInputOfPort port (Item.Object object.Input ps) = (value : List ℕ) × (given (codes "port") ps ≡ Some value) × (number value ≡ Some port)
+IsInputOfPort port _ = ⊥
 
 -- an input that names this ruleset
 abbrev pub IsBoundTo : List ℕ → Item → Type 0
@@ -75,15 +75,15 @@ pub data HasItemFault (all : List Item) : PlanFault → Type 0 where
   -- 41: a second main_queue
   main_queue : (x y : Item) → IsBefore x y all → IsMainQueue x → IsMainQueue y → HasItemFault all (fault code.Duplicate (codes "main_queue"))
   -- two rulesets of one name
-  same_ruleset_name : (x y : Item) (name : List ℕ) → IsBefore x y all → IsSound x → IsSound y → IsRuleset name x → IsRuleset name y
+  same_ruleset_name : (x y : Item) (name : List ℕ) → IsBefore x y all → IsClean x → IsClean y → IsRuleset name x → IsRuleset name y
       → HasItemFault all (fault code.Duplicate name)
   -- a ruleset of the name of the default one
-  default_name : (x : Item) → IsAmong x all → IsSound x → IsRuleset default_ruleset x → HasItemFault all (fault code.Duplicate default_ruleset)
+  default_name : (x : Item) → IsAmong x all → IsClean x → IsRuleset default_ruleset x → HasItemFault all (fault code.Duplicate default_ruleset)
   -- two actions of one name
-  same_action_name : (before between after : List Item) (x y : Item) (name : List ℕ) → all ≡ (before ++ x ∷ between) ++ y ∷ after → IsSound x → IsSound y
+  same_action_name : (before between after : List Item) (x y : Item) (name : List ℕ) → all ≡ (before ++ x ∷ between) ++ y ∷ after → IsClean x → IsClean y
       → IsAction before name x → IsAction (before ++ x ∷ between) name y → HasItemFault all (fault code.Duplicate name)
   -- 42: an input names a ruleset that isn't there
-  bound : (x : Item) (name : List ℕ) → IsAmong x all → IsSound x → IsBoundTo name x → (name ≡ default_ruleset → ⊥) → NoneIs (IsRuleset name) all
+  bound : (x : Item) (name : List ℕ) → IsAmong x all → IsBoundTo name x → (name ≡ default_ruleset → ⊥) → NoneIs (IsRuleset name) all
       → HasItemFault all (fault code.Unknown name)
   -- a call of a ruleset that isn't there
   called : (name : List ℕ) → IsAmong (Item.Call name) all → NoneIs (IsRuleset name) all → HasItemFault all (fault code.Unknown name)
@@ -94,14 +94,14 @@ pub data HasItemFault (all : List Item) : PlanFault → Type 0 where
   rulesets : RULESETS < length (rulesets_of all) → HasItemFault all (fault code.Range (codes "ruleset"))
   actions : ACTIONS < length (actions_of all) → HasItemFault all (fault code.Range (codes "action"))
   -- 47: two inputs of one port; the word is its number in decimal
-  same_port : (x y : Item) (port : ℕ) → IsBefore x y all → IsSound x → IsSound y → HasPort port x → HasPort port y → HasItemFault all (fault code.SamePort (decimal port))
+  same_port : (x y : Item) (port : ℕ) → IsBefore x y all → IsClean x → IsClean y → IsInputOfPort port x → IsInputOfPort port y → HasItemFault all (fault code.SamePort (decimal port))
   -- 48: an input, and imtcp loaded nowhere in the file
-  not_loaded : (x : Item) → IsAmong x all → IsSound x → IsInput x → NoneIs LoadsImtcp all → HasItemFault all (fault code.NotLoaded (codes "imtcp"))
+  not_loaded : (x : Item) → IsAmong x all → IsClean x → IsInput x → NoneIs LoadsImtcp all → HasItemFault all (fault code.NotLoaded (codes "imtcp"))
 
 -- ---- faults of the whole, of a script whose items have none
 
-abbrev pub HasSoundItems : Script → Type 0
-HasSoundItems script = (f : PlanFault) → HasItemFault (items script) f → ⊥
+abbrev pub HasCleanItems : Script → Type 0
+HasCleanItems script = (f : PlanFault) → HasItemFault (items script) f → ⊥
 
 -- the workers of all queues (rsyslog manual, "General Queue Parameters": queue.workerThreads)
 abbrev pub worker_count : Script → ℕ
@@ -123,12 +123,15 @@ CallsTooDeep script list = (callees : List ℕ) × (length callees ≡ CALL_DEPT
 pub data HasFault (script : Script) : PlanFault → Type 0 where
   item : (f : PlanFault) → HasItemFault (items script) f → HasFault script f
   -- 44: more workers than there may be, those of all queues together
-  workers : HasSoundItems script → WORKERS < worker_count script → HasFault script (fault code.Range (codes "queue.workerThreads"))
+  workers : HasCleanItems script → WORKERS < worker_count script → HasFault script (fault code.Range (codes "queue.workerThreads"))
   -- 45, with the name of the ruleset whose list is expanded
-  call_depth : (name : List ℕ) (list : ℕ) → HasSoundItems script → IsListOf script name list → CallsTooDeep script list → HasFault script (fault code.CallDepth name)
+  call_depth : (name : List ℕ) (list : ℕ) → HasCleanItems script → IsListOf script name list → CallsTooDeep script list → HasFault script (fault code.CallDepth name)
   -- 46, with the same: too many statements in the expanded text, calls and what replaces them among them
-  statements : (name : List ℕ) (list : ℕ) → HasSoundItems script → IsListOf script name list → (CallsTooDeep script list → ⊥) → STATEMENTS < statements_of (lists_in script) list
+  statements : (name : List ℕ) (list : ℕ) → HasCleanItems script → IsListOf script name list → (CallsTooDeep script list → ⊥) → STATEMENTS < statements_of (lists_in script) list
       → HasFault script (fault code.TooManyDeeds name)
   -- too many occurrences
-  occurrences : (name : List ℕ) (list : ℕ) → HasSoundItems script → IsListOf script name list → (CallsTooDeep script list → ⊥) → OCCURRENCES < steps.count (steps_of (lists_in script) list)
+  occurrences : (name : List ℕ) (list : ℕ) → HasCleanItems script → IsListOf script name list → (CallsTooDeep script list → ⊥) → OCCURRENCES < steps.count (steps_of (lists_in script) list)
       → HasFault script (fault code.TooManyDeeds name)
+
+abbrev pub HasNoFault : Script → Type 0
+HasNoFault script = (f : PlanFault) → HasFault script f → ⊥

@@ -39,5 +39,5 @@ HasOwnFault (Item.Call name) f = ⊥
 HasOwnFault (Item.Test test) f = ⊥
 
 -- its parameters are without faults
-abbrev pub IsSound : Item → Type 0
-IsSound x = (f : PlanFault) → HasOwnFault x f → ⊥
+abbrev pub IsClean : Item → Type 0
+IsClean x = (f : PlanFault) → HasOwnFault x f → ⊥

@@ -12,11 +12,11 @@ use Rattle.sy_rules.specs.declared.parameters.QueueParameters.{QueueParameters}
 use Rattle.sy_rules.specs.declared.parts.Input.{Input}
 use Rattle.sy_rules.specs.declared.parts.Action.{Action}
 pub use Rattle.sy_rules.specs.Given.{Listed}
+use Rattle.sy_rules.specs.FaultsThere.{HasNoFault}
 use Rattle.sy_rules.specs.Given.{Given, GivesAction, GivesInput, GiveLists, GiveQueues, GiveWorkers}
 use Rattle.sy_rules.specs.Lines.{File, Lines, lists_of, steps_of}
 use Rattle.sy_rules.specs.Outline.{Item, items}
 use Rattle.sy_rules.specs.Plans.{inputs_of, rulesets_of, actions_of, action_name, list_of_input, list_queues, queues_of, workers_of}
-use Rattle.sy_rules.specs.ScriptFaults.{faults_of}
 use Rattle.sy_rules.specs.Texts.{parts}
 
 pub record Plan : Type 0 where
@@ -101,5 +101,5 @@ pub record IsGiven (script : Script) (plan : Plan) : Type 0 where
 
 -- A script with a fault has no plan.
 pub record IsPlan (script : Script) (plan : Plan) : Type 0 where
-  pub clean : faults_of script ≡ []
+  pub clean : HasNoFault script
   pub given : IsGiven script plan

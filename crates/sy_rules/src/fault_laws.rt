@@ -1,9 +1,9 @@
 //! Laws of the faults of scripts. Each function does nothing; its contract is the law.
-ghost use Rattle.std.specs.Prelude.{◌≡◌, [], Some};
+ghost use Rattle.std.specs.Prelude.{◌≡◌, ◌≢◌, [], Some};
 ghost use Rattle.sy_script.specs.declared.tree.Script.{Script};
 ghost use Rattle.sy_rules.specs.declared.fault.PlanFault.{PlanFault};
 ghost use Rattle.sy_rules.specs.Faults.{first};
-ghost use Rattle.sy_rules.specs.FaultsThere.{HasFault};
+ghost use Rattle.sy_rules.specs.FaultsThere.{HasFault, HasNoFault};
 ghost use Rattle.sy_rules.specs.PlanValue.{IsPlan, Plan};
 ghost use Rattle.sy_rules.specs.ScriptFaults.{faults_of};
 
@@ -12,13 +12,12 @@ pub fn first_fault_is_there()
     ensures { (script : Script) (f : PlanFault) → first (faults_of script) ≡ Some f → HasFault script f }
 {}
 
-/// A script that has a fault has no plan.
-pub fn no_plan_with_a_fault()
-    ensures { (script : Script) (f : PlanFault) (plan : Plan) → HasFault script f → IsPlan script plan → ⊥ }
+/// In a script that has a fault one is found.
+pub fn a_fault_is_found()
+    ensures { (script : Script) (f : PlanFault) → HasFault script f → faults_of script ≢ [] }
 {}
 
-/// A script in which no fault is found has a plan, and so has one that has none.
+/// A script without faults has a plan.
 pub fn plan_without_faults()
-    ensures found { (script : Script) → faults_of script ≡ [] → (plan : Plan) × IsPlan script plan }
-    ensures there { (script : Script) → ((f : PlanFault) → HasFault script f → ⊥) → (plan : Plan) × IsPlan script plan }
+    ensures { (script : Script) → HasNoFault script → (plan : Plan) × IsPlan script plan }
 {}
