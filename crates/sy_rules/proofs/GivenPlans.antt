@@ -1,5 +1,5 @@
 -- What objects give and what is listed item after item are the same parts.
-use Rattle.std.proofs.Common.{◌≡◌, ℕ, ◌+◌, List, [], ◌∷◌, ◌++◌, length, Option, None, Result, Ok, Err, IfOk, OnOk, refl, sym, ap, ◌∙◌, subst, arith}
+use Rattle.std.proofs.Common.{◌≡◌, ℕ, ◌+◌, List, [], ◌∷◌, ◌++◌, length, Option, None, refl, sym, ap, ◌∙◌, subst, arith}
 use Rattle.std.specs.List.{filter_map}
 use Rattle.sy_script.specs.declared.tree.Script.{Script}
 use Rattle.sy_select.specs.declared.condition.Test.{Test}
@@ -9,8 +9,7 @@ use Rattle.sy_rules.specs.Given.{Given, GivesAction, GivesActionList, GivesInput
 use Rattle.sy_rules.specs.Lines.{Lines, steps_of}
 use Rattle.sy_rules.specs.Outline.{Item, items}
 use Rattle.sy_rules.specs.Plans.{action_queues, list_queues, main_queue_of, queue_at, queues_of, ruleset_queues, rulesets_of, workers_from}
-use Rattle.sy_rules.specs.PlanValue.{HasParts, IsGiven, IsPlan, Plan, lines_of, listed_from}
-use Rattle.sy_rules.specs.ScriptFaults.{faults_of}
+use Rattle.sy_rules.specs.PlanValue.{HasParts, IsGiven, Plan, lines_of, listed_from}
 use Rattle.sy_rules.proofs.GivenInputs.{inputs_given, same_input}
 use Rattle.sy_rules.proofs.GivenItems.{same_queue}
 use Rattle.sy_rules.proofs.GivenLists.{actions_given, rulesets_given, same_action_list, same_ruleset_list}

@@ -42,14 +42,6 @@ pub mod Different
 pub mod WholePass
 pub mod Led
 pub mod StepSizes
-pub mod GivenParts
-pub mod GivenItems
-pub mod GivenLists
-pub mod GivenQueues
-pub mod GivenInputs
-pub mod GivenPlans
-pub mod QueueLaws
-pub mod OnePlan
 pub mod AmongLaws
 pub mod TestFaultLaws
 pub mod ParameterFaultLaws

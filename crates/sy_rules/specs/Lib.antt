@@ -28,7 +28,6 @@ pub mod TableSizes
 pub mod Numbers
 pub mod TextTables
 pub mod Expressions
-pub mod PartItems
 pub mod Among
 pub mod TestFaults
 pub mod ObjectFaults

@@ -242,6 +242,26 @@ fn of_the_earlier_list(rt: HostRuntime) -> Result<(), Fail> {
     Ok(())
 }
 
+// A ruleset that nothing calls is judged like the others, and answered by its own name.
+#[test]
+fn of_a_ruleset_that_is_never_called(rt: HostRuntime) -> Result<(), Fail> {
+    let alloc = rt.alloc();
+    let head = b"ruleset(name=\"small\") { stop } ruleset(name=\"big\") { ";
+    let mut text = Vec::from_slice(alloc, head)?;
+    text.extend_from_slice(repeated(alloc, ARCHIVE, 65)?.as_slice())?;
+    text.extend_from_slice(b"}")?;
+    has_fault(&rt, alloc, text.as_slice(), 46, "big")?;
+    Ok(())
+}
+
+#[test]
+fn of_several_modules_and_globals(rt: HostRuntime) -> Result<(), Fail> {
+    let text =
+        "module(load=\"imtcp\") module(load=\"imtcp\") global(workDirectory=\"a\") global(workDirectory=\"b\")";
+    has_plan(&rt, rt.alloc(), text.as_bytes())?;
+    Ok(())
+}
+
 // Rulesets that each call the next one, from r0 on; the last one calls none.
 fn chain(alloc: Global, calls: usize) -> Result<Vec<u8>, AllocError> {
     let mut text = Vec::new(alloc);
@@ -313,7 +333,10 @@ fn has_fault_or_no_memory(
 fn a_fault_where_memory_is_refused(rt: HostRuntime) -> Result<(), Fail> {
     let rows = [
         ("if prifilt(\"foo.info\") then stop", 31, "foo"),
+        ("if prifilt(\"kern.foo\") then stop", 32, "foo"),
+        ("if prifilt(\"kern\") then stop", 33, "kern"),
         ("if $msg > \"x\" then stop", 34, ">"),
+        ("if $nothing == \"x\" then stop", 42, "$nothing"),
         ("action(type=\"omfile\")", 40, "file"),
         (
             "action(name=\"action-1\" type=\"omfile\" file=\"f\") action(type=\"omfile\" file=\"f\")",
@@ -334,5 +357,15 @@ fn a_fault_where_memory_is_refused(rt: HostRuntime) -> Result<(), Fail> {
     for (text, number, word) in rows {
         has_fault_or_no_memory(&rt, rt.alloc(), text, number, word)?;
     }
+    Ok(())
+}
+
+#[test]
+fn a_list_too_large_where_memory_is_refused(rt: HostRuntime) -> Result<(), Fail> {
+    let mut text = String::new(rt.alloc());
+    for _ in 0..65 {
+        text.push_str(ARCHIVE)?;
+    }
+    has_fault_or_no_memory(&rt, rt.alloc(), text.as_str(), 46, "RSYSLOG_DefaultRuleset")?;
     Ok(())
 }
