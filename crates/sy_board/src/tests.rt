@@ -76,7 +76,7 @@ fn accounts(taken: u64, in_hands: u64, in_queues: u64, grabbed: u64) -> Accounts
 }
 
 #[test]
-fn carries_a_message(rt: HostRuntime) -> Result<(), Fail> {
+fn takes_a_message_into_the_queue(rt: HostRuntime) -> Result<(), Fail> {
     let alloc = rt.alloc();
     let message = message(alloc)?;
     let mut board = board(alloc)?;
@@ -100,6 +100,16 @@ fn carries_a_message(rt: HostRuntime) -> Result<(), Fail> {
     assert_eq!(rt; *board.accounts(), accounts(1, 0, 1, 0));
     assert!(rt; board.job(0).is_none());
     assert_eq!(rt; board.settle(0), Err(BoardFault::NoJob));
+    Ok(())
+}
+
+#[test]
+fn carries_a_message(rt: HostRuntime) -> Result<(), Fail> {
+    let alloc = rt.alloc();
+    let message = message(alloc)?;
+    let mut board = board(alloc)?;
+    assert!(rt; board.take(0, 0, node(alloc, &message, 7)?).is_ok());
+    assert_eq!(rt; enter(&mut board), Ok(Entry::Entered));
 
     assert_eq!(rt; grab(&rt, &mut board), Ok(1));
     assert_eq!(rt; *board.accounts(), accounts(1, 0, 0, 1));

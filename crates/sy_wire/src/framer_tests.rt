@@ -50,6 +50,39 @@ fn gives_the_same_frames_for_every_cutting(rt: HostRuntime) {
     }
 }
 
+// As many as a large piece may hold: each is cut off without the others being moved.
+#[test]
+fn gives_ten_thousand_frames_of_one_piece(rt: HostRuntime) -> Result<(), Fail> {
+    let mut stream = Vec::new(rt.alloc());
+    for _ in 0..10_000 {
+        stream.extend_from_slice(b"1 a")?;
+    }
+    let mut framer = Framer::new(rt.alloc());
+    assert_eq!(rt; feed(&mut framer, stream.as_slice()), Ok(()));
+    for _ in 0..10_000 {
+        let Ok(Some(frame)) = next_frame(&mut framer) else {
+            panic!(rt; "no frame");
+        };
+        assert_eq!(rt; frame.as_slice(), b"a".as_slice());
+    }
+    assert!(rt; matches!(next_frame(&mut framer), Ok(None)));
+    Ok(())
+}
+
+#[test]
+fn gives_the_longest_frame_that_comes_byte_by_byte(rt: HostRuntime) {
+    let mut framer = Framer::new(rt.alloc());
+    assert_eq!(rt; feed(&mut framer, b"65536 "), Ok(()));
+    for _ in 0..65_536 {
+        assert!(rt; matches!(next_frame(&mut framer), Ok(None)));
+        assert_eq!(rt; feed(&mut framer, b"x"), Ok(()));
+    }
+    let Ok(Some(frame)) = next_frame(&mut framer) else {
+        panic!(rt; "no frame");
+    };
+    assert_eq!(rt; frame.len(), 65_536);
+}
+
 // The first fault of the stream, fed byte by byte, and how many bytes were fed when it came.
 fn first_fault(alloc: Global, stream: &[u8]) -> Option<(FrameFault, usize)> {
     let mut framer = Framer::new(alloc);
