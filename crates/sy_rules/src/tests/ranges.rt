@@ -1,211 +1,229 @@
-//! Each number at its lowest and highest value, and one below and above. The ranges are the profile's, written down by hand.
+//! Each number at its lowest and highest value, and one below and above.
 
-use super::one_object::{
-    ARCHIVE, DIRECT_ARCHIVE, FORWARD, INPUT, MAIN_QUEUE, Object, QUEUED_ARCHIVE, QUEUED_FORWARD,
-    QUEUED_RULESET, RULESET, last_queue, plan, port, refuses,
-};
-use crate::parameters::QueueParameters;
+use super::read::{accepted, refused};
 use std::alloc::{AllocError, Global};
 use std::process::Abort;
 use std::test::Fail;
 
-/// The greatest number of seconds, milliseconds and retries.
-const MOST: u32 = 2_147_483_647;
+// An object with one more parameter.
+fn with(alloc: Global, front: &[u8], name: &[u8], value: &[u8]) -> Result<Vec<u8>, AllocError> {
+    let mut text = Vec::from_slice(alloc, front)?;
+    text.extend_from_slice(b" ")?;
+    text.extend_from_slice(name)?;
+    text.extend_from_slice(b"=\"")?;
+    text.extend_from_slice(value)?;
+    text.extend_from_slice(b"\")")?;
+    Ok(text)
+}
 
-/// The numbers of a queue, with their lowest and highest values.
-const OF_A_QUEUE: [(&str, u32, u32); 8] = [
-    ("queue.size", 1, 1_000_000),
-    ("queue.dequeueBatchSize", 1, 65_536),
-    ("queue.fullDelayMark", 0, 1_000_000),
-    ("queue.lightDelayMark", 0, 1_000_000),
-    ("queue.discardMark", 0, 1_000_000),
-    ("queue.discardSeverity", 0, 8),
-    ("queue.timeoutEnqueue", 0, MOST),
-    ("queue.workerThreads", 1, 64),
-];
-
-/// Those that have no effect.
-const WITHOUT_EFFECT: [(&str, u32, u32); 6] = [
-    ("queue.highWatermark", 0, MOST),
-    ("queue.lowWatermark", 0, MOST),
-    ("queue.workerThreadMinimumMessages", 0, MOST),
-    ("queue.timeoutShutdown", 0, MOST),
-    ("queue.timeoutActionCompletion", 0, MOST),
-    ("queue.timeoutWorkerThreadShutdown", 0, MOST),
-];
-
-// One below the lowest value, and one above the highest. What begins with a minus is no number at all.
-fn is_refused_beside(
+// The two values are the ends of the range, and those beside them are outside.
+fn between(
     rt: &impl Abort,
     alloc: Global,
-    object: Object,
-    (name, lowest, highest): (&str, u32, u32),
+    front: &[u8],
+    name: &[u8],
+    ends: (&[u8], &[u8]),
+    beside: (&[u8], &[u8]),
 ) -> Result<(), AllocError> {
-    match lowest.checked_sub(1) {
-        None => refuses(rt, alloc, object, (name, "-1"), 43)?,
-        Some(below) => {
-            let below = below.to_string(alloc)?;
-            refuses(rt, alloc, object, (name, below.as_str()), 44)?;
-        }
-    }
-    let above = highest.saturating_add(1).to_string(alloc)?;
-    refuses(rt, alloc, object, (name, above.as_str()), 44)
-}
-
-fn number_named(queue: &QueueParameters, name: &str) -> Option<u32> {
-    match name.as_bytes() {
-        b"queue.size" => Some(queue.size),
-        b"queue.dequeueBatchSize" => Some(queue.batch),
-        b"queue.fullDelayMark" => Some(queue.full_delay_mark),
-        b"queue.lightDelayMark" => Some(queue.light_delay_mark),
-        b"queue.discardMark" => Some(queue.discard_mark),
-        b"queue.discardSeverity" => Some(u32::from(queue.discard_severity)),
-        b"queue.timeoutEnqueue" => Some(queue.timeout_enqueue),
-        b"queue.workerThreads" => Some(queue.workers),
-        _ => None,
-    }
-}
-
-// The object's queue has this number where it is given.
-fn is_in_queue(
-    rt: &impl Abort,
-    alloc: Global,
-    object: Object,
-    name: &str,
-    number: u32,
-) -> Result<(), AllocError> {
-    let value = number.to_string(alloc)?;
-    let plan = plan(rt, alloc, object, &[(name, value.as_str())])?;
-    match last_queue(&plan) {
-        Some(queue) => assert_eq!(rt; number_named(queue, name), Some(number), "{name}"),
-        None => assert!(rt; false),
-    }
-    Ok(())
-}
-
-// All numbers of an object's queue.
-fn has_ranges(rt: &impl Abort, alloc: Global, object: Object) -> Result<(), AllocError> {
-    for (name, lowest, highest) in OF_A_QUEUE {
-        is_in_queue(rt, alloc, object, name, lowest)?;
-        is_in_queue(rt, alloc, object, name, highest)?;
-        is_refused_beside(rt, alloc, object, (name, lowest, highest))?;
-    }
+    accepted(rt, alloc, &with(alloc, front, name, ends.0)?);
+    accepted(rt, alloc, &with(alloc, front, name, ends.1)?);
+    let below = if beside.0 == b"-1".as_slice() { 43 } else { 44 };
+    refused(rt, alloc, &with(alloc, front, name, beside.0)?, below, name);
+    refused(rt, alloc, &with(alloc, front, name, beside.1)?, 44, name);
     Ok(())
 }
 
 #[test]
-fn of_queues(rt: HostRuntime) -> Result<(), Fail> {
-    let objects = [MAIN_QUEUE, QUEUED_RULESET, QUEUED_ARCHIVE, QUEUED_FORWARD];
-    for object in objects {
-        has_ranges(&rt, rt.alloc(), object)?;
-    }
-    Ok(())
-}
-
-// Where it is given, the queues of the plan are those without it.
-fn changes_nothing(
-    rt: &impl Abort,
-    alloc: Global,
-    object: Object,
-    name: &str,
-    number: u32,
-) -> Result<(), AllocError> {
-    let value = number.to_string(alloc)?;
-    let found = plan(rt, alloc, object, &[(name, value.as_str())])?;
-    let without = plan(rt, alloc, object, &[])?;
-    assert_eq!(rt; found.queues(), without.queues(), "{name}");
-    Ok(())
-}
-
-fn are_without_effect(
-    rt: &impl Abort,
-    alloc: Global,
-    object: Object,
-    ranges: &[(&str, u32, u32)],
-) -> Result<(), AllocError> {
-    for (name, lowest, highest) in ranges {
-        changes_nothing(rt, alloc, object, name, *lowest)?;
-        changes_nothing(rt, alloc, object, name, *highest)?;
-        is_refused_beside(rt, alloc, object, (*name, *lowest, *highest))?;
-    }
-    Ok(())
-}
-
-#[test]
-fn of_numbers_without_effect(rt: HostRuntime) -> Result<(), Fail> {
-    let objects = [MAIN_QUEUE, QUEUED_RULESET, QUEUED_ARCHIVE, QUEUED_FORWARD];
-    for object in objects {
-        are_without_effect(&rt, rt.alloc(), object, &WITHOUT_EFFECT)?;
-    }
-    Ok(())
-}
-
-// An object without a queue reads the numbers of one, within their ranges, and has none all the same.
-#[test]
-fn of_objects_without_a_queue(rt: HostRuntime) -> Result<(), Fail> {
+fn queues(rt: HostRuntime) -> Result<(), Fail> {
     let alloc = rt.alloc();
-    for object in [RULESET, ARCHIVE, DIRECT_ARCHIVE, FORWARD] {
-        let without = plan(&rt, alloc, object, &[])?;
-        assert_eq!(&rt; without.queues().len(), 1);
-        are_without_effect(&rt, alloc, object, &OF_A_QUEUE)?;
-        are_without_effect(&rt, alloc, object, &WITHOUT_EFFECT)?;
-    }
+    let front = b"main_queue(".as_slice();
+    let most = (b"0".as_slice(), b"2147483647".as_slice());
+    let beside = (b"-1".as_slice(), b"2147483648".as_slice());
+    between(
+        &rt,
+        alloc,
+        front,
+        b"queue.size",
+        (b"1", b"1000000"),
+        (b"0", b"1000001"),
+    )?;
+    between(
+        &rt,
+        alloc,
+        front,
+        b"queue.dequeueBatchSize",
+        (b"1", b"65536"),
+        (b"0", b"65537"),
+    )?;
+    between(
+        &rt,
+        alloc,
+        front,
+        b"queue.fullDelayMark",
+        (b"0", b"1000000"),
+        (b"-1", b"1000001"),
+    )?;
+    between(
+        &rt,
+        alloc,
+        front,
+        b"queue.lightDelayMark",
+        (b"0", b"1000000"),
+        (b"-1", b"1000001"),
+    )?;
+    between(
+        &rt,
+        alloc,
+        front,
+        b"queue.discardMark",
+        (b"0", b"1000000"),
+        (b"-1", b"1000001"),
+    )?;
+    between(
+        &rt,
+        alloc,
+        front,
+        b"queue.discardSeverity",
+        (b"0", b"8"),
+        (b"-1", b"9"),
+    )?;
+    between(
+        &rt,
+        alloc,
+        front,
+        b"queue.workerThreads",
+        (b"1", b"64"),
+        (b"0", b"65"),
+    )?;
+    between(&rt, alloc, front, b"queue.timeoutEnqueue", most, beside)?;
+    between(&rt, alloc, front, b"queue.highWatermark", most, beside)?;
+    between(&rt, alloc, front, b"queue.lowWatermark", most, beside)?;
+    between(
+        &rt,
+        alloc,
+        front,
+        b"queue.workerThreadMinimumMessages",
+        most,
+        beside,
+    )?;
+    between(&rt, alloc, front, b"queue.timeoutShutdown", most, beside)?;
+    between(
+        &rt,
+        alloc,
+        front,
+        b"queue.timeoutActionCompletion",
+        most,
+        beside,
+    )?;
+    between(
+        &rt,
+        alloc,
+        front,
+        b"queue.timeoutWorkerThreadShutdown",
+        most,
+        beside,
+    )?;
+    Ok(())
+}
+
+// Of a ruleset's and an action's queue, also where it has none: its numbers are checked all the same.
+#[test]
+fn queues_of_others(rt: HostRuntime) -> Result<(), Fail> {
+    let alloc = rt.alloc();
+    let action = b"action(type=\"omfile\" file=\"f\"".as_slice();
+    between(
+        &rt,
+        alloc,
+        action,
+        b"queue.size",
+        (b"1", b"1000000"),
+        (b"0", b"1000001"),
+    )?;
+    between(
+        &rt,
+        alloc,
+        action,
+        b"queue.dequeueBatchSize",
+        (b"1", b"65536"),
+        (b"0", b"65537"),
+    )?;
+    between(
+        &rt,
+        alloc,
+        action,
+        b"queue.discardSeverity",
+        (b"0", b"8"),
+        (b"-1", b"9"),
+    )?;
+    refused(
+        &rt,
+        alloc,
+        b"ruleset(name=\"a\" queue.size=\"0\") { }",
+        44,
+        b"queue.size",
+    );
+    accepted(&rt, alloc, b"ruleset(name=\"a\" queue.size=\"1\") { }");
     Ok(())
 }
 
 #[test]
-fn of_ports(rt: HostRuntime) -> Result<(), Fail> {
+fn ports(rt: HostRuntime) -> Result<(), Fail> {
     let alloc = rt.alloc();
-    let rows = [("1", 1), ("65535", 65_535), ("0000065535", 65_535)];
-    for object in [INPUT, FORWARD, QUEUED_FORWARD] {
-        for (value, wanted) in rows {
-            let plan = plan(&rt, alloc, object, &[("port", value)])?;
-            assert_eq!(&rt; port(&plan), Some(wanted));
-        }
-        is_refused_beside(&rt, alloc, object, ("port", 1, 65_535))?;
-        refuses(&rt, alloc, object, ("port", "-1"), 43)?;
-        refuses(&rt, alloc, object, ("port", "00000065535"), 43)?;
-    }
-    // a forward may leave it out
-    let without = plan(&rt, alloc, FORWARD, &[])?;
-    assert_eq!(&rt; port(&without), Some(514));
-    Ok(())
-}
-
-// The retries and the interval of a plan's first action; no number of retries is without end.
-fn has_retries(
-    rt: &impl Abort,
-    alloc: Global,
-    parameters: &[(&str, &str)],
-    wanted: (Option<u32>, u32),
-) -> Result<(), AllocError> {
-    for object in [ARCHIVE, FORWARD] {
-        let plan = plan(rt, alloc, object, parameters)?;
-        match plan.actions().first() {
-            Some(action) => assert_eq!(rt; (action.retry, action.resume_interval), wanted),
-            None => assert!(rt; false),
-        }
-    }
+    let input = b"input(type=\"imtcp\"".as_slice();
+    between(
+        &rt,
+        alloc,
+        input,
+        b"port",
+        (b"1", b"65535"),
+        (b"0", b"65536"),
+    )?;
+    accepted(&rt, alloc, b"input(type=\"imtcp\" port=\"0000065535\")");
+    refused(
+        &rt,
+        alloc,
+        b"input(type=\"imtcp\" port=\"-1\")",
+        43,
+        b"port",
+    );
+    let forward =
+        b"action(type=\"omfwd\" target=\"h\" protocol=\"tcp\" TCP_Framing=\"octet-counted\"".as_slice();
+    between(
+        &rt,
+        alloc,
+        forward,
+        b"port",
+        (b"1", b"65535"),
+        (b"0", b"65536"),
+    )?;
     Ok(())
 }
 
 #[test]
-fn of_retries(rt: HostRuntime) -> Result<(), Fail> {
+fn retries(rt: HostRuntime) -> Result<(), Fail> {
     let alloc = rt.alloc();
-    let count = "action.resumeRetryCount";
-    has_retries(&rt, alloc, &[], (Some(0), 30))?;
-    has_retries(&rt, alloc, &[(count, "-1")], (None, 30))?;
-    has_retries(&rt, alloc, &[(count, "0")], (Some(0), 30))?;
-    has_retries(&rt, alloc, &[(count, "2147483647")], (Some(MOST), 30))?;
-    let interval = "action.resumeInterval";
-    has_retries(&rt, alloc, &[(interval, "0")], (Some(0), 0))?;
-    has_retries(&rt, alloc, &[(interval, "2147483647")], (Some(0), MOST))?;
-    for object in [ARCHIVE, FORWARD] {
-        for value in ["-2", "-01", "-0", ""] {
-            refuses(&rt, alloc, object, (count, value), 43)?;
-        }
-        refuses(&rt, alloc, object, (count, "2147483648"), 44)?;
-        is_refused_beside(&rt, alloc, object, (interval, 0, MOST))?;
-    }
+    let action = b"action(type=\"omfile\" file=\"f\"".as_slice();
+    let count = b"action.resumeRetryCount".as_slice();
+    accepted(&rt, alloc, &with(alloc, action, count, b"-1")?);
+    accepted(&rt, alloc, &with(alloc, action, count, b"0")?);
+    accepted(&rt, alloc, &with(alloc, action, count, b"2147483647")?);
+    refused(&rt, alloc, &with(alloc, action, count, b"-2")?, 43, count);
+    refused(&rt, alloc, &with(alloc, action, count, b"-01")?, 43, count);
+    refused(
+        &rt,
+        alloc,
+        &with(alloc, action, count, b"2147483648")?,
+        44,
+        count,
+    );
+    let interval = b"action.resumeInterval".as_slice();
+    between(
+        &rt,
+        alloc,
+        action,
+        interval,
+        (b"0", b"2147483647"),
+        (b"-1", b"2147483648"),
+    )?;
     Ok(())
 }
