@@ -10,16 +10,15 @@ use Rattle.sy_script.specs.declared.tree.Param.{Param}
 use Rattle.sy_rules.specs.declared.kind.Kind.TheVariants as kind
 use Rattle.sy_rules.specs.declared.objects.ActionParameters.{ActionParameters}
 use Rattle.sy_rules.specs.declared.objects.InputParameters.{InputParameters}
-use Rattle.sy_rules.specs.declared.objects.Module.TheVariants as modules
 use Rattle.sy_rules.specs.declared.objects.RulesetParameters.{RulesetParameters}
 use Rattle.sy_rules.specs.Among.{IsAmong}
 use Rattle.sy_rules.specs.FaultsThere.{IsInputOfPort, IsAction, IsMainQueue, IsRuleset, LoadsImtcp, NoneIs}
 use Rattle.sy_rules.specs.ItemFaults.{AreClean, object_faults}
-use Rattle.sy_rules.specs.Objects.{action_of, default_number, input_of, kind_of_action, module_named, number_of, ruleset_of, text}
+use Rattle.sy_rules.specs.Objects.{action_of, default_number, input_of, kind_of_action, is_word, number_of, ruleset_of, text}
 use Rattle.sy_rules.specs.Outline.{Item}
 use Rattle.sy_rules.specs.Parameters.{faults, given, has_shape, number}
 use Rattle.sy_rules.specs.Plans.{action_at, action_name, actions_of, input_at, names_from, ruleset_at, rulesets_of}
-use Rattle.sy_rules.specs.ScriptFaults.{is_among, is_imtcp, is_main_queue, loads_imtcp, ruleset_names_of}
+use Rattle.sy_rules.specs.ScriptFaults.{is_among, is_main_queue, loads_imtcp, ruleset_names_of}
 use Rattle.sy_rules.specs.Table.{Absent, Shape, device_rows, lookup, own_rows, queue_head_rows, queue_rest_rows, row, rows}
 use Rattle.sy_rules.proofs.AmongLaws.{any_map, any_of, made_any, made_found}
 use Rattle.sy_rules.proofs.Fits.{fit, given_if_required}
@@ -122,14 +121,9 @@ main_is (Item.Test test) e = absurd e
 
 -- ---- modules
 
-imtcp_named : (o : Option (List ℕ)) → is_imtcp (module_named o) ≡ true → o ≡ Some (codes "imtcp")
+imtcp_named : (o : Option (List ℕ)) → is_word (codes "imtcp") o ≡ true → o ≡ Some (codes "imtcp")
 imtcp_named None e = absurd cc
-imtcp_named (Some word) e = go (bytes_eq word (codes "imtcp")) refl (bytes_eq word (codes "builtin:omfwd")) e
-  where
-    go : (a : Bool) → bytes_eq word (codes "imtcp") ≡ a → (b : Bool) → is_imtcp (if a then modules.Imtcp else if b then modules.Omfwd else modules.Omfile) ≡ true → Some word ≡ Some (codes "imtcp")
-    go true same b e = ap Some (same_bytes word (codes "imtcp") same)
-    go false same true e = absurd cc
-    go false same false e = absurd cc
+imtcp_named (Some word) e = ap Some (same_bytes word (codes "imtcp") e)
 
 pub loads : (x : Item) → loads_imtcp x ≡ true → LoadsImtcp x
 loads (Item.Object object.Module ps) e = imtcp_named (given (codes "load") ps) e

@@ -7,12 +7,10 @@ use Rattle.sy_rules.specs.declared.kind.Kind.TheVariants as kind
 use Rattle.sy_rules.specs.declared.parameters.FlowControl.{FlowControl}
 use Rattle.sy_rules.specs.declared.parameters.FlowControl.TheVariants as flow
 use Rattle.sy_rules.specs.declared.parameters.QueueParameters.{QueueParameters}
-use Rattle.sy_rules.specs.declared.objects.Module.{Module}
 use Rattle.sy_rules.specs.declared.objects.InputParameters.{InputParameters}
 use Rattle.sy_rules.specs.declared.objects.RulesetParameters.{RulesetParameters}
 use Rattle.sy_rules.specs.declared.objects.ActionParameters.{ActionParameters}
 use Rattle.sy_rules.specs.declared.objects.Device.{Device}
-use Rattle.sy_rules.specs.declared.objects.Module.TheVariants as modules
 use Rattle.sy_rules.specs.declared.objects.Device.TheVariants as device
 use Rattle.sy_rules.specs.Parameters.{given, number}
 use Rattle.sy_rules.specs.Table.{Absent, Row, rows, lookup}
@@ -104,15 +102,6 @@ queue_of k ps = if has_queue k ps then Some (queue_parameters k ps) else None
 abbrev pub IsQueueInRange : Option QueueParameters → Type 0
 IsQueueInRange None = Unit {0}
 IsQueueInRange (Some q) = AreInRange q
-
--- ---- modules
-
-abbrev pub module_named : Option (List ℕ) → Module
-module_named word = if is_word (codes "imtcp") word then modules.Imtcp else if is_word (codes "builtin:omfwd") word then modules.Omfwd else modules.Omfile
-
--- the module that a module object loads
-abbrev pub module_of : List Param → Module
-module_of ps = module_named (given (codes "load") ps)
 
 -- ---- inputs
 

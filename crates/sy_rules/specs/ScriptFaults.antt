@@ -13,12 +13,11 @@ use Rattle.sy_rules.specs.declared.fault.FaultCode.{FaultCode}
 use Rattle.sy_rules.specs.declared.fault.FaultCode.TheVariants as code
 use Rattle.sy_rules.specs.declared.fault.PlanFault.{PlanFault}
 use Rattle.sy_rules.specs.declared.objects.InputParameters.{InputParameters}
-use Rattle.sy_rules.specs.declared.objects.Module.{Module}
-use Rattle.sy_rules.specs.declared.objects.Module.TheVariants as modules
 use Rattle.sy_rules.specs.Faults.{fault, when}
-use Rattle.sy_rules.specs.Objects.{module_of, input_of, ruleset_of, kind_of_action, action_of}
+use Rattle.sy_rules.specs.Objects.{is_word, input_of, ruleset_of, kind_of_action, action_of}
 use Rattle.sy_rules.specs.ItemFaults.{object_faults}
 use Rattle.sy_rules.specs.Outline.{Item, items}
+use Rattle.sy_rules.specs.Parameters.{given}
 pub use Rattle.sy_rules.specs.Plans.{ruleset_names as ruleset_names_of}
 use Rattle.sy_rules.specs.Plans.{inputs_of, rulesets_of, actions_of, action_name, action_names, queues_of, default_ruleset}
 use Rattle.sy_rules.specs.Texts.{parts}
@@ -51,12 +50,8 @@ abbrev pub is_main_queue : Item → Bool
 is_main_queue (Item.Object object.MainQueue params) = true
 is_main_queue _ = false
 
-abbrev pub is_imtcp : Module → Bool
-is_imtcp modules.Imtcp = true
-is_imtcp _ = false
-
 abbrev pub loads_imtcp : Item → Bool
-loads_imtcp (Item.Object object.Module params) = is_imtcp (module_of params)
+loads_imtcp (Item.Object object.Module params) = is_word (codes "imtcp") (given (codes "load") params)
 loads_imtcp _ = false
 
 -- so many of a kind stand before one more

@@ -80,7 +80,7 @@ pub struct PlanFault {
 
 impl PlanFault {
     /// The fault where memory runs out.
-    pub fn no_memory(alloc: Global) -> PlanFault
+    pub(crate) fn no_memory(alloc: Global) -> PlanFault
         ensures { result ≡ spec.no_memory }
     {
         PlanFault {
@@ -90,7 +90,7 @@ impl PlanFault {
     }
 
     /// A fault with a copy of its word, or the one of memory where the copy finds none.
-    pub fn new(alloc: Global, code: FaultCode, word: &[u8]) -> PlanFault
+    pub(crate) fn new(alloc: Global, code: FaultCode, word: &[u8]) -> PlanFault
         ensures { (result ≡ spec.no_memory) ⊎ (result ≡ spec.fault code word.now) }
     {
         match Items::from_slice(alloc, word) {

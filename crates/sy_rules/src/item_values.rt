@@ -1,10 +1,9 @@
 //! Single values of objects with which nothing is wrong, as they lie in the script.
 
-ghost use Rattle.std.specs.Prelude.{◌≡◌, ◌≤◌, [], true};
+ghost use Rattle.std.specs.Prelude.{◌≡◌, ◌≤◌, [], codes, true};
 ghost use Rattle.std.specs.Option.{option_copied};
 ghost use Rattle.sy_rules.specs.Objects as spec;
-ghost use Rattle.sy_rules.specs.Parameters.{faults};
-ghost use Rattle.sy_rules.specs.ScriptFaults.{is_imtcp};
+ghost use Rattle.sy_rules.specs.Parameters as parameters;
 ghost use Rattle.sy_rules.specs.Seen.{workers_in};
 
 use crate::kind::Kind;
@@ -14,7 +13,7 @@ use sy_script::tree::Param;
 
 /// Whether a `module` object loads `imtcp`.
 pub fn loads_imtcp(params: &[Param]) -> bool
-    ensures { result ≡ is_imtcp (spec.module_of params.now) }
+    ensures { result ≡ spec.is_word (codes "imtcp") (parameters.given (codes "load") params.now) }
 {
     is_word(b"imtcp", given(b"load", params))
 }
@@ -22,7 +21,7 @@ pub fn loads_imtcp(params: &[Param]) -> bool
 /// The port of an `input`.
 #[tactic(auto, unfolding(crate::specs::Objects::input_of))]
 pub fn port_of(params: &[Param]) -> u16
-    requires { faults Kind.Input params.now ≡ [] }
+    requires { parameters.faults Kind.Input params.now ≡ [] }
     ensures { result ≡ (spec.input_of params.now).port }
 {
     number_of(Kind::Input, params, 0, b"port") as u16
@@ -58,7 +57,7 @@ pub fn name_of_action(params: &[Param]) -> Option<&[u8]>
 /// How many workers the queue of an object has; none without a queue.
 pub fn workers_of(kind: Kind, params: &[Param]) -> u32
     requires takes { spec.takes_queue kind ≡ true }
-    requires clean { faults kind params.now ≡ [] }
+    requires clean { parameters.faults kind params.now ≡ [] }
     ensures value { result ≡ workers_in (spec.queue_of kind params.now) }
     ensures most { result ≤ 64 }
 {

@@ -19,14 +19,6 @@ use std::alloc::Global;
 use sy_script::Items;
 use sy_script::tree::Param;
 
-/// A module that a script loads.
-#[derive(Clone, Copy, Debug, PartialEq, Eq)]
-pub enum Module {
-    Imtcp,
-    Omfile,
-    Omfwd,
-}
-
 /// What an `input` object says.
 #[derive(Debug, Drop)]
 pub struct InputParameters {
@@ -94,42 +86,6 @@ fn text(alloc: Global, params: &[Param], name: &[u8]) -> Result<Items<u8>, PlanF
         Some(text) => copied(alloc, text),
         None => Ok(Items::new(alloc)),
     }
-}
-
-/// Reads a `module` object.
-pub fn read_module(alloc: Global, params: &[Param]) -> Result<Module, PlanFault>
-    ensures clean { OnOk result (faults Kind.Module params.now ≡ []) }
-    ensures value { IfOk result (λ m. m ≡ spec.module_of params.now) }
-    ensures err { IfErr result (λ f. fault.IsAnswered (faults Kind.Module params.now) f) }
-{
-    check(alloc, Kind::Module, params)?;
-    let word = given(b"load", params);
-    Ok(if is_word(b"imtcp", word) {
-        Module::Imtcp
-    } else if is_word(b"builtin:omfwd", word) {
-        Module::Omfwd
-    } else {
-        Module::Omfile
-    })
-}
-
-/// Reads a `global` object, whose parameters have no effect.
-pub fn read_global(alloc: Global, params: &[Param]) -> Result<(), PlanFault>
-    ensures clean { OnOk result (faults Kind.Global params.now ≡ []) }
-    ensures err { IfErr result (λ f. fault.IsAnswered (faults Kind.Global params.now) f) }
-{
-    check(alloc, Kind::Global, params)
-}
-
-/// Reads a `main_queue` object.
-pub fn read_main_queue(alloc: Global, params: &[Param]) -> Result<QueueParameters, PlanFault>
-    ensures clean { OnOk result (faults Kind.MainQueue params.now ≡ []) }
-    ensures value { IfOk result (λ q. q ≡ spec.queue_parameters Kind.MainQueue params.now) }
-    ensures in_range { IfOk result (λ q. spec.AreInRange q) }
-    ensures err { IfErr result (λ f. fault.IsAnswered (faults Kind.MainQueue params.now) f) }
-{
-    check(alloc, Kind::MainQueue, params)?;
-    Ok(queue_parameters(Kind::MainQueue, params))
 }
 
 fn flow_named(word: Option<&[u8]>) -> FlowControl

@@ -35,19 +35,36 @@ fn operator_of(kind: Kind) -> Option<Operator>
 }
 
 impl<'s> Reader<'s> {
+    fn number<'t>(&self, token: Token, after: &'t [Token]) -> Found<'t, Operand>
+        ensures { Gives (λ x. (x.0, x.1.now)) result (spec.operand_by self.now.text.now Kind.Number token after.now) }
+    {
+        Ok((Operand::Number(self.spelled(token.span)?), after))
+    }
+
+    fn string<'t>(&self, token: Token, after: &'t [Token]) -> Found<'t, Operand>
+        ensures { Gives (λ x. (x.0, x.1.now)) result (spec.operand_by self.now.text.now Kind.Quoted token after.now) }
+    {
+        Ok((Operand::Text(self.string_at(token.span)?), after))
+    }
+
+    // The number or the string that a token is.
+    fn operand_by<'t>(&self, token: Token, after: &'t [Token]) -> Found<'t, Operand>
+        ensures { Gives (λ x. (x.0, x.1.now)) result (spec.operand_by self.now.text.now token.kind token after.now) }
+    {
+        match token.kind {
+            Kind::Number => self.number(token, after),
+            Kind::Quoted | Kind::SingleQuoted => self.string(token, after),
+            _ => Err(Halt::Unexpected(token.span)),
+        }
+    }
+
     // A number or a string.
     #[tactic(auto, unfolding(crate::specs::ReadingExpr::operand))]
     fn operand<'t>(&self, opened: Option<usize>, rest: &'t [Token]) -> Found<'t, Operand>
         ensures { Gives (λ x. (x.0, x.1.now)) result (spec.operand self.now.text.now opened rest.now) }
     {
         let (token, after) = first(opened, rest)?;
-        match token.kind {
-            Kind::Number => Ok((Operand::Number(self.spelled(token.span)?), after)),
-            Kind::Quoted | Kind::SingleQuoted => {
-                Ok((Operand::Text(self.string_at(token.span)?), after))
-            }
-            _ => Err(Halt::Unexpected(token.span)),
-        }
+        self.operand_by(token, after)
     }
 
     // What stands behind a property.

@@ -37,7 +37,7 @@ fn show<W: Sink, E: Sink>(alloc: Global, writer: &mut W, errors: &mut E, error: 
 }
 
 /// Runs the command that the words name, those after the program's name, and answers the exit status: 0
-/// accepted or done, 1 refused, 2 faulty input or command line, 3 no memory, 4 a read or write failed.
+/// done, 2 faulty input or command line, 3 no memory, 4 a read or write failed.
 pub fn run<R: Source, W: Sink, E: Sink, F: Files>(
     alloc: Global,
     args: &[String],

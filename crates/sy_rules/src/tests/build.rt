@@ -1,5 +1,7 @@
 //! The tables of scripts, worked out by hand.
 
+use super::tables::raw;
+use super::texts::script;
 use crate::build::build;
 use crate::objects::{ActionParameters, RulesetParameters, read_action, read_ruleset};
 use crate::outline::{Item, outline};
@@ -7,7 +9,6 @@ use crate::step::Step;
 use std::alloc::{AllocError, Global};
 use std::process::Abort;
 use std::test::Fail;
-use sy_script::read_script;
 use sy_script::tree::Script;
 
 fn tables(alloc: Global, script: &Script) -> Result<Vec<Vec<Step>>, AllocError> {
@@ -29,57 +30,52 @@ fn tables(alloc: Global, script: &Script) -> Result<Vec<Vec<Step>>, AllocError> 
     build(alloc, script, rulesets.as_slice(), actions.as_slice())
 }
 
-fn has_tables(rt: &impl Abort, alloc: Global, text: &[u8], wanted: &[&[Step]]) {
-    match read_script(alloc, text) {
-        Err(_) => assert!(rt; false),
-        Ok(script) => match tables(alloc, &script) {
-            Err(_) => assert!(rt; false),
-            Ok(tables) => {
-                assert_eq!(rt; tables.len(), wanted.len());
-                for (table, wanted) in tables.iter().zip(wanted) {
-                    assert_eq!(rt; table.as_slice(), *wanted);
-                }
-            }
-        },
-    }
+fn has_tables(
+    rt: &impl Abort,
+    alloc: Global,
+    text: &[u8],
+    wanted: &[&[Step]],
+) -> Result<(), AllocError> {
+    let tables = tables(alloc, &script(alloc, text)?)?;
+    let wanted = raw(alloc, wanted)?;
+    assert_eq!(rt; tables.as_slice(), wanted.as_slice());
+    Ok(())
 }
 
+const EDGE: &[u8] = b"module(load=\"imtcp\")
+    input(type=\"imtcp\" port=\"6514\" flowControl=\"full\" ruleset=\"out\")
+    ruleset(name=\"out\" queue.type=\"LinkedList\" queue.size=\"100\"
+            queue.fullDelayMark=\"90\" queue.discardSeverity=\"8\") {
+      action(name=\"up\" type=\"omfwd\" target=\"hub\" port=\"6515\" protocol=\"tcp\"
+             TCP_Framing=\"octet-counted\" action.resumeRetryCount=\"-1\")
+    }";
+
 #[test]
-fn of_a_site(rt: HostRuntime) -> Result<(), Fail> {
-    let alloc = rt.alloc();
-    has_tables(
-        &rt,
-        alloc,
-        b"module(load=\"imtcp\")
-        input(type=\"imtcp\" port=\"6514\" flowControl=\"full\" ruleset=\"out\")
-        ruleset(name=\"out\" queue.type=\"LinkedList\" queue.size=\"100\"
-                queue.fullDelayMark=\"90\" queue.discardSeverity=\"8\") {
-          action(name=\"up\" type=\"omfwd\" target=\"hub\" port=\"6515\" protocol=\"tcp\"
-                 TCP_Framing=\"octet-counted\" action.resumeRetryCount=\"-1\")
-        }",
-        &[&[], &[Step::Run(0, 0)]],
-    );
-    has_tables(
-        &rt,
-        alloc,
-        b"module(load=\"imtcp\")
-        input(type=\"imtcp\" port=\"6515\" flowControl=\"full\")
-        action(name=\"audit\" type=\"omfile\" file=\"audit.log\" action.resumeRetryCount=\"-1\")",
-        &[&[Step::Run(0, 0)]],
-    );
+fn of_an_edge(rt: HostRuntime) -> Result<(), Fail> {
+    has_tables(&rt, rt.alloc(), EDGE, &[&[], &[Step::Run(0, 0)]])?;
+    Ok(())
+}
+
+const HUB: &[u8] = b"module(load=\"imtcp\")
+    input(type=\"imtcp\" port=\"6515\" flowControl=\"full\")
+    action(name=\"audit\" type=\"omfile\" file=\"audit.log\" action.resumeRetryCount=\"-1\")";
+
+#[test]
+fn of_a_hub(rt: HostRuntime) -> Result<(), Fail> {
+    has_tables(&rt, rt.alloc(), HUB, &[&[Step::Run(0, 0)]])?;
     Ok(())
 }
 
 #[test]
 fn of_nothing(rt: HostRuntime) -> Result<(), Fail> {
     let alloc = rt.alloc();
-    has_tables(&rt, alloc, b"", &[&[]]);
+    has_tables(&rt, alloc, b"", &[&[]])?;
     has_tables(
         &rt,
         alloc,
         b"ruleset(name=\"a\") { stop } ruleset(name=\"b\") { stop stop }",
         &[&[], &[Step::Stop], &[Step::Stop, Step::Stop]],
-    );
+    )?;
     Ok(())
 }
 
@@ -101,9 +97,9 @@ const SCATTERED: &[u8] = b"call cut
     action(type=\"omfile\" file=\"last.log\" queue.type=\"Direct\")
     if $msg contains \"e\" then stop";
 
-#[test]
-fn of_statements_between_rulesets(rt: HostRuntime) -> Result<(), Fail> {
-    let outside = [
+// Those outside of rulesets, of the two rulesets, and of the two actions.
+const SCATTERED_TABLES: [&[Step]; 5] = [
+    &[
         Step::Call(1, 0),
         Step::If(1, 2, 5),
         Step::Run(0, 0),
@@ -116,19 +112,16 @@ fn of_statements_between_rulesets(rt: HostRuntime) -> Result<(), Fail> {
         Step::Run(4, 0),
         Step::If(4, 1, 0),
         Step::Stop,
-    ];
-    has_tables(
-        &rt,
-        rt.alloc(),
-        SCATTERED,
-        &[
-            &outside,
-            &[Step::If(0, 1, 0), Step::Stop],
-            &[Step::Run(2, 0), Step::Stop, Step::Post(4, 0)],
-            &[Step::Run(1, 0)],
-            &[Step::Run(3, 0)],
-        ],
-    );
+    ],
+    &[Step::If(0, 1, 0), Step::Stop],
+    &[Step::Run(2, 0), Step::Stop, Step::Post(4, 0)],
+    &[Step::Run(1, 0)],
+    &[Step::Run(3, 0)],
+];
+
+#[test]
+fn of_statements_between_rulesets(rt: HostRuntime) -> Result<(), Fail> {
+    has_tables(&rt, rt.alloc(), SCATTERED, &SCATTERED_TABLES)?;
     Ok(())
 }
 
@@ -147,18 +140,20 @@ fn of_calls_by_name(rt: HostRuntime) -> Result<(), Fail> {
             &[Step::Stop],
             &[Step::Call(2, 0), Step::Call(1, 0)],
         ],
-    );
+    )?;
+    Ok(())
+}
+
+fn are_all(rt: &impl Abort, alloc: Global, text: &[u8]) -> Result<(), AllocError> {
+    let tables = tables(alloc, &script(alloc, text)?)?;
+    assert_eq!(rt; tables.len(), 5);
     Ok(())
 }
 
 // Under each allocation that fails in turn, all tables are there, or none.
 #[test]
 fn runs_out(rt: HostRuntime) -> Result<(), Fail> {
-    let alloc = rt.alloc();
-    if let Ok(script) = read_script(alloc, SCATTERED) {
-        if let Ok(tables) = tables(alloc, &script) {
-            assert_eq!(rt; tables.len(), 5);
-        }
+    match are_all(&rt, rt.alloc(), SCATTERED) {
+        Ok(()) | Err(_) => Ok(()),
     }
-    Ok(())
 }

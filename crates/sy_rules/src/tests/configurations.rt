@@ -1,19 +1,11 @@
 //! Configurations as an administrator would write them, and what messages execute of their lists. The due sets were worked out by hand
 //! from the text: bit k is for the occurrence k of the expanded list.
 
+use super::texts::{fault, message, planned};
 use crate::{FaultCode, Plan};
 use std::alloc::{AllocError, Global};
 use std::process::Abort;
 use std::test::Fail;
-use sy_script::read_script;
-use sy_wire::Message;
-
-fn message(alloc: Global, text: &str) -> Result<Message, AllocError> {
-    match Message::read(Vec::from_slice(alloc, text.as_bytes())?) {
-        Ok(message) => Ok(message),
-        Err(_) => Err(AllocError),
-    }
-}
 
 /// What the plan of a text executes: a list, a message, and its due set.
 fn has_due(
@@ -22,22 +14,38 @@ fn has_due(
     text: &str,
     rows: &[(u32, &str, u64)],
 ) -> Result<(), AllocError> {
-    let Ok(script) = read_script(alloc, text.as_bytes()) else {
-        return Err(AllocError);
-    };
-    match Plan::load(alloc, &script) {
-        Ok(plan) => {
-            for (list, raw, due) in rows {
-                let message = message(alloc, raw)?;
-                if *list < plan.lists() {
-                    assert_eq!(rt; plan.due(*list, &message), *due, "{raw}");
-                } else {
-                    assert!(rt; false, "no list {list}");
-                }
-            }
+    match planned(alloc, text.as_bytes())? {
+        Ok(plan) => execute(rt, alloc, &plan, rows),
+        Err(fault) => {
+            assert_eq!(rt; fault.code.number(), 0);
+            Ok(())
         }
-        Err(fault) => assert_eq!(rt; fault.code.number(), 0),
     }
+}
+
+fn execute(
+    rt: &impl Abort,
+    alloc: Global,
+    plan: &Plan,
+    rows: &[(u32, &str, u64)],
+) -> Result<(), AllocError> {
+    for (list, raw, due) in rows {
+        executes(rt, alloc, plan, *list, raw, *due)?;
+    }
+    Ok(())
+}
+
+fn executes(
+    rt: &impl Abort,
+    alloc: Global,
+    plan: &Plan,
+    list: u32,
+    raw: &str,
+    due: u64,
+) -> Result<(), AllocError> {
+    assert!(rt; list < plan.lists(), "no list {list}");
+    let message = message(alloc, raw.as_bytes())?;
+    assert_eq!(rt; plan.due(list, &message), due, "{raw}");
     Ok(())
 }
 
@@ -64,24 +72,25 @@ ruleset(name="remote") {
 "#;
 
 // 0 auth, 1 mail, 2 mail-errors, 3 cron, 4 messages, 5 emergency
+const COLLECTED: [(u32, &str, u64); 13] = [
+    (0, "<38>1 - - - - - -", 0b01_0001),
+    (0, "<85>1 - - - - - -", 0b00_0001),
+    (0, "<22>1 - - - - - -", 0b00_0010),
+    (0, "<18>1 - - - - - -", 0b00_0110),
+    (0, "<19>1 - - - - - -", 0b00_0110),
+    (0, "<20>1 - - - - - -", 0b00_0010),
+    (0, "<78>1 - - - - - -", 0b00_1000),
+    (0, "<0>1 - - - - - -", 0b11_0000),
+    (0, "<15>1 - - - - - -", 0b00_0000),
+    (0, "<72>1 - - - - - -", 0b10_1000),
+    (0, "<96>1 - - - - - -", 0b11_0000),
+    (1, "<15>1 - - - - - -", 1),
+    (1, "<0>1 - - - - - -", 1),
+];
+
 #[test]
 fn a_collector_with_archives_by_facility(rt: HostRuntime) -> Result<(), Fail> {
-    let rows = [
-        (0, "<38>1 - - - - - -", 0b01_0001),
-        (0, "<85>1 - - - - - -", 0b00_0001),
-        (0, "<22>1 - - - - - -", 0b00_0010),
-        (0, "<18>1 - - - - - -", 0b00_0110),
-        (0, "<19>1 - - - - - -", 0b00_0110),
-        (0, "<20>1 - - - - - -", 0b00_0010),
-        (0, "<78>1 - - - - - -", 0b00_1000),
-        (0, "<0>1 - - - - - -", 0b11_0000),
-        (0, "<15>1 - - - - - -", 0b00_0000),
-        (0, "<72>1 - - - - - -", 0b10_1000),
-        (0, "<96>1 - - - - - -", 0b11_0000),
-        (1, "<15>1 - - - - - -", 1),
-        (1, "<0>1 - - - - - -", 1),
-    ];
-    has_due(&rt, rt.alloc(), COLLECTOR, &rows)?;
+    has_due(&rt, rt.alloc(), COLLECTOR, &COLLECTED)?;
     Ok(())
 }
 
@@ -101,19 +110,20 @@ ruleset(name="edge" queue.type="LinkedList" queue.size="20000") {
 "#;
 
 // 0 up, 1 databases, 2 rest
+const KEPT: [(u32, &str, u64); 8] = [
+    (1, "<13>1 - db1 - - - -", 0b011),
+    (1, "<13>1 - db2 - - - -", 0b011),
+    (1, "<13>1 - db - - - -", 0b101),
+    (1, "<13>1 - web1 - - - -", 0b101),
+    (1, "<34>1 - - - - - -", 0b101),
+    (1, "<15>1 - db1 - - - -", 0),
+    (1, "<191>1 - web1 - - - -", 0),
+    (0, "<13>1 - db1 - - - -", 0),
+];
+
 #[test]
 fn an_edge_that_keeps_a_copy(rt: HostRuntime) -> Result<(), Fail> {
-    let rows = [
-        (1, "<13>1 - db1 - - - -", 0b011),
-        (1, "<13>1 - db2 - - - -", 0b011),
-        (1, "<13>1 - db - - - -", 0b101),
-        (1, "<13>1 - web1 - - - -", 0b101),
-        (1, "<34>1 - - - - - -", 0b101),
-        (1, "<15>1 - db1 - - - -", 0),
-        (1, "<191>1 - web1 - - - -", 0),
-        (0, "<13>1 - db1 - - - -", 0),
-    ];
-    has_due(&rt, rt.alloc(), EDGE, &rows)?;
+    has_due(&rt, rt.alloc(), EDGE, &KEPT)?;
     Ok(())
 }
 
@@ -140,21 +150,22 @@ ruleset(name="tail" queue.type="LinkedList") {
 "#;
 
 // 0 into audit's queue, 1 applications, 2 into mirror's queue, 3 into tail's queue
+const QUEUED: [(u32, &str, u64); 10] = [
+    (0, "<13>1 - - web - - - app", 0b1001),
+    (0, "<13>1 - - app1 - - - hello", 0b1111),
+    (0, "<13>1 - - app - - -", 0b1111),
+    (0, "<13>1 - - app1 - - - a secret", 0b0001),
+    (0, "<13>1 - - ap - - - a secret", 0b1001),
+    (1, "<13>1 - - - - - - a secret", 0),
+    (1, "<13>1 - - - - - - b", 1),
+    (2, "<13>1 - - - - - - a secret", 1),
+    (3, "<13>1 - - - - - - a secret", 1),
+    (4, "<13>1 - - - - - -", 1),
+];
+
 #[test]
 fn a_hub_with_queues_of_actions(rt: HostRuntime) -> Result<(), Fail> {
-    let rows = [
-        (0, "<13>1 - - web - - - app", 0b1001),
-        (0, "<13>1 - - app1 - - - hello", 0b1111),
-        (0, "<13>1 - - app - - -", 0b1111),
-        (0, "<13>1 - - app1 - - - a secret", 0b0001),
-        (0, "<13>1 - - ap - - - a secret", 0b1001),
-        (1, "<13>1 - - - - - - a secret", 0),
-        (1, "<13>1 - - - - - - b", 1),
-        (2, "<13>1 - - - - - - a secret", 1),
-        (3, "<13>1 - - - - - - a secret", 1),
-        (4, "<13>1 - - - - - -", 1),
-    ];
-    has_due(&rt, rt.alloc(), HUB, &rows)?;
+    has_due(&rt, rt.alloc(), HUB, &QUEUED)?;
     Ok(())
 }
 
@@ -178,19 +189,20 @@ ruleset(name="locals") {
 "#;
 
 // 0 quiet, 1 loud, 2 daemon, 3 quiet, 4 loud, 5 all
+const BRANCHED: [(u32, &str, u64); 8] = [
+    (1, "<134>1 - - - - - -", 0b10_0001),
+    (1, "<187>1 - - - - - -", 0b10_0010),
+    (1, "<31>1 - - - - - -", 0b10_0100),
+    (1, "<11>1 - - - - - -", 0b01_0000),
+    (1, "<14>1 - - - - - -", 0b00_1000),
+    (2, "<14>1 - - - - - -", 0b01),
+    (2, "<11>1 - - - - - -", 0b10),
+    (0, "<14>1 - - - - - -", 0),
+];
+
 #[test]
 fn one_ruleset_called_twice(rt: HostRuntime) -> Result<(), Fail> {
-    let rows = [
-        (1, "<134>1 - - - - - -", 0b10_0001),
-        (1, "<187>1 - - - - - -", 0b10_0010),
-        (1, "<31>1 - - - - - -", 0b10_0100),
-        (1, "<11>1 - - - - - -", 0b01_0000),
-        (1, "<14>1 - - - - - -", 0b00_1000),
-        (2, "<14>1 - - - - - -", 0b01),
-        (2, "<11>1 - - - - - -", 0b10),
-        (0, "<14>1 - - - - - -", 0),
-    ];
-    has_due(&rt, rt.alloc(), BRANCHES, &rows)?;
+    has_due(&rt, rt.alloc(), BRANCHES, &BRANCHED)?;
     Ok(())
 }
 
@@ -206,39 +218,43 @@ call cut
 action(type="omfile" file="a.log")
 "#;
 
-// A stop in a ruleset that is called at once ends the whole list; behind a queue it ends its own.
+// A stop in a ruleset that is called at once ends the whole list.
 #[test]
 fn a_stop_in_a_called_ruleset(rt: HostRuntime) -> Result<(), Fail> {
-    let alloc = rt.alloc();
-    has_due(&rt, alloc, CUT, &[(0, "<34>1 - - - - - -", 0)])?;
-    has_due(
-        &rt,
-        alloc,
-        CUT_WITH_A_QUEUE,
-        &[(0, "<34>1 - - - - - -", 0b11), (1, "<34>1 - - - - - -", 0)],
-    )?;
+    has_due(&rt, rt.alloc(), CUT, &[(0, "<34>1 - - - - - -", 0)])?;
+    Ok(())
+}
+
+const STOPPED: [(u32, &str, u64); 2] = [
+    (0, "<34>1 - - - - - -", 0b11),
+    (1, "<34>1 - - - - - -", 0),
+];
+
+// Behind a queue it ends its own.
+#[test]
+fn a_stop_behind_a_queue(rt: HostRuntime) -> Result<(), Fail> {
+    has_due(&rt, rt.alloc(), CUT_WITH_A_QUEUE, &STOPPED)?;
     Ok(())
 }
 
 // The plan is made, or refused for want of memory.
 fn for_memory_alone(rt: &impl Abort, alloc: Global, text: &str) -> Result<(), AllocError> {
-    let Ok(script) = read_script(alloc, text.as_bytes()) else {
-        return Err(AllocError);
-    };
-    match Plan::load(alloc, &script) {
-        Ok(_) => (),
-        Err(fault) => {
-            assert_eq!(rt; fault.code, FaultCode::NoMemory);
-            assert!(rt; fault.word.is_empty());
-        }
+    if let Some(fault) = fault(alloc, text.as_bytes())? {
+        assert_eq!(rt; fault.code, FaultCode::NoMemory);
+        assert!(rt; fault.word.is_empty());
+    }
+    Ok(())
+}
+
+fn each_for_memory_alone(rt: &impl Abort, alloc: Global, texts: &[&str]) -> Result<(), AllocError> {
+    for text in texts {
+        for_memory_alone(rt, alloc, text)?;
     }
     Ok(())
 }
 
 #[test]
 fn a_plan_where_memory_is_refused(rt: HostRuntime) -> Result<(), Fail> {
-    for text in [EDGE, HUB, BRANCHES] {
-        for_memory_alone(&rt, rt.alloc(), text)?;
-    }
+    each_for_memory_alone(&rt, rt.alloc(), &[EDGE, HUB, BRANCHES])?;
     Ok(())
 }

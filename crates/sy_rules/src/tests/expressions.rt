@@ -1,19 +1,18 @@
 //! The tests of scripts, read.
 
+use super::texts::script;
 use crate::expressions::read_tests;
 use crate::outline::outline;
 use std::alloc::{AllocError, Global};
 use std::process::Abort;
 use std::test::Fail;
-use sy_script::read_script;
 use sy_select::{Expr, FaultCode, SelectFault, Verdict, eval_class};
 use sy_wire::Class;
 
 fn read(alloc: Global, text: &[u8]) -> Result<Result<Vec<Expr>, SelectFault>, AllocError> {
-    match read_script(alloc, text) {
-        Ok(script) => Ok(read_tests(alloc, outline(alloc, &script)?.as_slice())),
-        Err(_) => Err(AllocError),
-    }
+    let script = script(alloc, text)?;
+    let items = outline(alloc, &script)?;
+    Ok(read_tests(alloc, items.as_slice()))
 }
 
 fn refused(rt: &impl Abort, alloc: Global, text: &[u8], number: u8, word: &[u8]) {
@@ -24,6 +23,25 @@ fn refused(rt: &impl Abort, alloc: Global, text: &[u8], number: u8, word: &[u8])
         ),
         _ => assert!(rt; false),
     }
+}
+
+// What the tests of a text say of a class.
+fn verdicts(
+    rt: &impl Abort,
+    alloc: Global,
+    text: &[u8],
+    class: Class,
+) -> Result<Vec<Verdict>, AllocError> {
+    let mut found = Vec::new(alloc);
+    match read(alloc, text)? {
+        Ok(exprs) => {
+            for expr in exprs.iter() {
+                found.push(eval_class(expr, class))?;
+            }
+        }
+        Err(fault) => assert_eq!(rt; fault.code, FaultCode::NoMemory),
+    }
+    Ok(found)
 }
 
 // Those of rulesets and of blocks too, in the order of the text.
@@ -39,23 +57,15 @@ fn in_the_order_of_the_text(rt: HostRuntime) -> Result<(), Fail> {
         facility: 4,
         severity: 2,
     };
-    let exprs = read(rt.alloc(), text);
-    match &exprs {
-        Ok(Ok(exprs)) => {
-            let wanted = [
-                Verdict::Yes,
-                Verdict::No,
-                Verdict::Yes,
-                Verdict::No,
-                Verdict::Either,
-            ];
-            assert_eq!(rt; exprs.len(), wanted.len());
-            for (expr, wanted) in exprs.iter().zip(&wanted) {
-                assert_eq!(rt; eval_class(expr, class), *wanted);
-            }
-        }
-        _ => assert!(rt; false),
-    }
+    let wanted = [
+        Verdict::Yes,
+        Verdict::No,
+        Verdict::Yes,
+        Verdict::No,
+        Verdict::Either,
+    ];
+    let found = verdicts(&rt, rt.alloc(), text, class)?;
+    assert_eq!(rt; found.as_slice(), wanted.as_slice());
     Ok(())
 }
 

@@ -1,229 +1,300 @@
-//! Each number at its lowest and highest value, and one below and above.
+//! Each number at its lowest and highest value, and one below and above. The ranges are the profile's, written down by hand.
 
-use super::read::{accepted, refused};
+use super::objects::tries_again;
+use super::one_object::{
+    ARCHIVE, DIRECT_ARCHIVE, FORWARD, INPUT, MAIN_QUEUE, Object, QUEUED_ARCHIVE, QUEUED_FORWARD,
+    QUEUED_RULESET, RULESET, port, queue, refuses, refuses_each, said,
+};
+use super::read::Said;
+use crate::parameters::QueueParameters;
 use std::alloc::{AllocError, Global};
 use std::process::Abort;
 use std::test::Fail;
 
-// An object with one more parameter.
-fn with(alloc: Global, front: &[u8], name: &[u8], value: &[u8]) -> Result<Vec<u8>, AllocError> {
-    let mut text = Vec::from_slice(alloc, front)?;
-    text.extend_from_slice(b" ")?;
-    text.extend_from_slice(name)?;
-    text.extend_from_slice(b"=\"")?;
-    text.extend_from_slice(value)?;
-    text.extend_from_slice(b"\")")?;
-    Ok(text)
-}
+/// The greatest number of seconds, milliseconds and retries.
+const MOST: u32 = 2_147_483_647;
 
-// The two values are the ends of the range, and those beside them are outside.
-fn between(
+/// The numbers of a queue, with their lowest and highest values.
+const OF_A_QUEUE: [(&str, u32, u32); 8] = [
+    ("queue.size", 1, 1_000_000),
+    ("queue.dequeueBatchSize", 1, 65_536),
+    ("queue.fullDelayMark", 0, 1_000_000),
+    ("queue.lightDelayMark", 0, 1_000_000),
+    ("queue.discardMark", 0, 1_000_000),
+    ("queue.discardSeverity", 0, 8),
+    ("queue.timeoutEnqueue", 0, MOST),
+    ("queue.workerThreads", 1, 64),
+];
+
+/// Those that have no effect.
+const WITHOUT_EFFECT: [(&str, u32, u32); 6] = [
+    ("queue.highWatermark", 0, MOST),
+    ("queue.lowWatermark", 0, MOST),
+    ("queue.workerThreadMinimumMessages", 0, MOST),
+    ("queue.timeoutShutdown", 0, MOST),
+    ("queue.timeoutActionCompletion", 0, MOST),
+    ("queue.timeoutWorkerThreadShutdown", 0, MOST),
+];
+
+/// Objects that have a queue.
+const WITH_A_QUEUE: [Object; 4] = [MAIN_QUEUE, QUEUED_RULESET, QUEUED_ARCHIVE, QUEUED_FORWARD];
+
+/// Objects that may have one, and don't.
+const WITHOUT_A_QUEUE: [Object; 4] = [RULESET, ARCHIVE, DIRECT_ARCHIVE, FORWARD];
+
+// One below the lowest value, and one above the highest. What begins with a minus is no number at all.
+fn is_refused_beside(
     rt: &impl Abort,
     alloc: Global,
-    front: &[u8],
-    name: &[u8],
-    ends: (&[u8], &[u8]),
-    beside: (&[u8], &[u8]),
+    object: Object,
+    (name, lowest, highest): (&str, u32, u32),
 ) -> Result<(), AllocError> {
-    accepted(rt, alloc, &with(alloc, front, name, ends.0)?);
-    accepted(rt, alloc, &with(alloc, front, name, ends.1)?);
-    let below = if beside.0 == b"-1".as_slice() { 43 } else { 44 };
-    refused(rt, alloc, &with(alloc, front, name, beside.0)?, below, name);
-    refused(rt, alloc, &with(alloc, front, name, beside.1)?, 44, name);
+    match lowest.checked_sub(1) {
+        None => refuses(rt, alloc, object, (name, "-1"), 43)?,
+        Some(below) => {
+            let below = below.to_string(alloc)?;
+            refuses(rt, alloc, object, (name, below.as_str()), 44)?;
+        }
+    }
+    let above = highest.saturating_add(1).to_string(alloc)?;
+    refuses(rt, alloc, object, (name, above.as_str()), 44)
+}
+
+fn number_named(queue: &QueueParameters, name: &str) -> Option<u32> {
+    match name.as_bytes() {
+        b"queue.size" => Some(queue.size),
+        b"queue.dequeueBatchSize" => Some(queue.batch),
+        b"queue.fullDelayMark" => Some(queue.full_delay_mark),
+        b"queue.lightDelayMark" => Some(queue.light_delay_mark),
+        b"queue.discardMark" => Some(queue.discard_mark),
+        b"queue.discardSeverity" => Some(u32::from(queue.discard_severity)),
+        b"queue.timeoutEnqueue" => Some(queue.timeout_enqueue),
+        b"queue.workerThreads" => Some(queue.workers),
+        _ => None,
+    }
+}
+
+// The object's queue has this number where it is given.
+fn is_in_queue(
+    rt: &impl Abort,
+    alloc: Global,
+    object: Object,
+    name: &str,
+    number: u32,
+) -> Result<(), AllocError> {
+    let value = number.to_string(alloc)?;
+    match queue(rt, alloc, object, &[(name, value.as_str())])? {
+        Some(queue) => assert_eq!(rt; number_named(&queue, name), Some(number), "{name}"),
+        None => assert!(rt; false, "{name}={number}: no queue"),
+    }
+    Ok(())
+}
+
+// The object's queue is the one without this number.
+fn is_without_effect(
+    rt: &impl Abort,
+    alloc: Global,
+    object: Object,
+    name: &str,
+    number: u32,
+) -> Result<(), AllocError> {
+    let value = number.to_string(alloc)?;
+    let found = queue(rt, alloc, object, &[(name, value.as_str())])?;
+    let without = queue(rt, alloc, object, &[])?;
+    assert_eq!(rt; found, without, "{name}");
+    Ok(())
+}
+
+// A number of the object's queue: its ends, and what is beside them.
+fn has_range(
+    rt: &impl Abort,
+    alloc: Global,
+    object: Object,
+    (name, lowest, highest): (&str, u32, u32),
+) -> Result<(), AllocError> {
+    is_in_queue(rt, alloc, object, name, lowest)?;
+    is_in_queue(rt, alloc, object, name, highest)?;
+    is_refused_beside(rt, alloc, object, (name, lowest, highest))
+}
+
+fn has_ranges(
+    rt: &impl Abort,
+    alloc: Global,
+    object: Object,
+    ranges: &[(&str, u32, u32)],
+) -> Result<(), AllocError> {
+    for row in ranges {
+        has_range(rt, alloc, object, *row)?;
+    }
+    Ok(())
+}
+
+fn have_ranges(rt: &impl Abort, alloc: Global, objects: &[Object]) -> Result<(), AllocError> {
+    for object in objects {
+        has_ranges(rt, alloc, *object, &OF_A_QUEUE)?;
+    }
     Ok(())
 }
 
 #[test]
-fn queues(rt: HostRuntime) -> Result<(), Fail> {
-    let alloc = rt.alloc();
-    let front = b"main_queue(".as_slice();
-    let most = (b"0".as_slice(), b"2147483647".as_slice());
-    let beside = (b"-1".as_slice(), b"2147483648".as_slice());
-    between(
-        &rt,
-        alloc,
-        front,
-        b"queue.size",
-        (b"1", b"1000000"),
-        (b"0", b"1000001"),
-    )?;
-    between(
-        &rt,
-        alloc,
-        front,
-        b"queue.dequeueBatchSize",
-        (b"1", b"65536"),
-        (b"0", b"65537"),
-    )?;
-    between(
-        &rt,
-        alloc,
-        front,
-        b"queue.fullDelayMark",
-        (b"0", b"1000000"),
-        (b"-1", b"1000001"),
-    )?;
-    between(
-        &rt,
-        alloc,
-        front,
-        b"queue.lightDelayMark",
-        (b"0", b"1000000"),
-        (b"-1", b"1000001"),
-    )?;
-    between(
-        &rt,
-        alloc,
-        front,
-        b"queue.discardMark",
-        (b"0", b"1000000"),
-        (b"-1", b"1000001"),
-    )?;
-    between(
-        &rt,
-        alloc,
-        front,
-        b"queue.discardSeverity",
-        (b"0", b"8"),
-        (b"-1", b"9"),
-    )?;
-    between(
-        &rt,
-        alloc,
-        front,
-        b"queue.workerThreads",
-        (b"1", b"64"),
-        (b"0", b"65"),
-    )?;
-    between(&rt, alloc, front, b"queue.timeoutEnqueue", most, beside)?;
-    between(&rt, alloc, front, b"queue.highWatermark", most, beside)?;
-    between(&rt, alloc, front, b"queue.lowWatermark", most, beside)?;
-    between(
-        &rt,
-        alloc,
-        front,
-        b"queue.workerThreadMinimumMessages",
-        most,
-        beside,
-    )?;
-    between(&rt, alloc, front, b"queue.timeoutShutdown", most, beside)?;
-    between(
-        &rt,
-        alloc,
-        front,
-        b"queue.timeoutActionCompletion",
-        most,
-        beside,
-    )?;
-    between(
-        &rt,
-        alloc,
-        front,
-        b"queue.timeoutWorkerThreadShutdown",
-        most,
-        beside,
-    )?;
+fn of_queues(rt: HostRuntime) -> Result<(), Fail> {
+    have_ranges(&rt, rt.alloc(), &WITH_A_QUEUE)?;
     Ok(())
 }
 
-// Of a ruleset's and an action's queue, also where it has none: its numbers are checked all the same.
-#[test]
-fn queues_of_others(rt: HostRuntime) -> Result<(), Fail> {
-    let alloc = rt.alloc();
-    let action = b"action(type=\"omfile\" file=\"f\"".as_slice();
-    between(
-        &rt,
-        alloc,
-        action,
-        b"queue.size",
-        (b"1", b"1000000"),
-        (b"0", b"1000001"),
-    )?;
-    between(
-        &rt,
-        alloc,
-        action,
-        b"queue.dequeueBatchSize",
-        (b"1", b"65536"),
-        (b"0", b"65537"),
-    )?;
-    between(
-        &rt,
-        alloc,
-        action,
-        b"queue.discardSeverity",
-        (b"0", b"8"),
-        (b"-1", b"9"),
-    )?;
-    refused(
-        &rt,
-        alloc,
-        b"ruleset(name=\"a\" queue.size=\"0\") { }",
-        44,
-        b"queue.size",
-    );
-    accepted(&rt, alloc, b"ruleset(name=\"a\" queue.size=\"1\") { }");
+fn has_no_effect(
+    rt: &impl Abort,
+    alloc: Global,
+    object: Object,
+    (name, lowest, highest): (&str, u32, u32),
+) -> Result<(), AllocError> {
+    is_without_effect(rt, alloc, object, name, lowest)?;
+    is_without_effect(rt, alloc, object, name, highest)?;
+    is_refused_beside(rt, alloc, object, (name, lowest, highest))
+}
+
+fn have_no_effect(
+    rt: &impl Abort,
+    alloc: Global,
+    object: Object,
+    ranges: &[(&str, u32, u32)],
+) -> Result<(), AllocError> {
+    for row in ranges {
+        has_no_effect(rt, alloc, object, *row)?;
+    }
+    Ok(())
+}
+
+// For each of these objects.
+fn each_has_no_effect(
+    rt: &impl Abort,
+    alloc: Global,
+    objects: &[Object],
+    ranges: &[(&str, u32, u32)],
+) -> Result<(), AllocError> {
+    for object in objects {
+        have_no_effect(rt, alloc, *object, ranges)?;
+    }
     Ok(())
 }
 
 #[test]
-fn ports(rt: HostRuntime) -> Result<(), Fail> {
-    let alloc = rt.alloc();
-    let input = b"input(type=\"imtcp\"".as_slice();
-    between(
-        &rt,
-        alloc,
-        input,
-        b"port",
-        (b"1", b"65535"),
-        (b"0", b"65536"),
-    )?;
-    accepted(&rt, alloc, b"input(type=\"imtcp\" port=\"0000065535\")");
-    refused(
-        &rt,
-        alloc,
-        b"input(type=\"imtcp\" port=\"-1\")",
-        43,
-        b"port",
-    );
-    let forward =
-        b"action(type=\"omfwd\" target=\"h\" protocol=\"tcp\" TCP_Framing=\"octet-counted\"".as_slice();
-    between(
-        &rt,
-        alloc,
-        forward,
-        b"port",
-        (b"1", b"65535"),
-        (b"0", b"65536"),
-    )?;
+fn of_numbers_without_effect(rt: HostRuntime) -> Result<(), Fail> {
+    each_has_no_effect(&rt, rt.alloc(), &WITH_A_QUEUE, &WITHOUT_EFFECT)?;
+    Ok(())
+}
+
+fn have_no_queue(rt: &impl Abort, alloc: Global, objects: &[Object]) -> Result<(), AllocError> {
+    for object in objects {
+        let found = queue(rt, alloc, *object, &[])?;
+        assert!(rt; found.is_none());
+    }
+    Ok(())
+}
+
+// An object without a queue reads the numbers of one, within their ranges, and has none all the same.
+#[test]
+fn of_objects_without_a_queue(rt: HostRuntime) -> Result<(), Fail> {
+    have_no_queue(&rt, rt.alloc(), &WITHOUT_A_QUEUE)?;
+    each_has_no_effect(&rt, rt.alloc(), &WITHOUT_A_QUEUE, &OF_A_QUEUE)?;
+    each_has_no_effect(&rt, rt.alloc(), &WITHOUT_A_QUEUE, &WITHOUT_EFFECT)?;
+    Ok(())
+}
+
+fn has_port(
+    rt: &impl Abort,
+    alloc: Global,
+    object: Object,
+    parameters: &[(&str, &str)],
+    wanted: u16,
+) -> Result<(), AllocError> {
+    let found = said(alloc, object, parameters)?;
+    assert_eq!(rt; port(&found), Some(wanted));
+    Ok(())
+}
+
+fn has_ports(rt: &impl Abort, alloc: Global, object: Object) -> Result<(), AllocError> {
+    has_port(rt, alloc, object, &[("port", "1")], 1)?;
+    has_port(rt, alloc, object, &[("port", "65535")], 65_535)?;
+    has_port(rt, alloc, object, &[("port", "0000065535")], 65_535)?;
+    is_refused_beside(rt, alloc, object, ("port", 1, 65_535))?;
+    refuses(rt, alloc, object, ("port", "-1"), 43)?;
+    refuses(rt, alloc, object, ("port", "00000065535"), 43)
+}
+
+fn have_ports(rt: &impl Abort, alloc: Global, objects: &[Object]) -> Result<(), AllocError> {
+    for object in objects {
+        has_ports(rt, alloc, *object)?;
+    }
     Ok(())
 }
 
 #[test]
-fn retries(rt: HostRuntime) -> Result<(), Fail> {
-    let alloc = rt.alloc();
-    let action = b"action(type=\"omfile\" file=\"f\"".as_slice();
-    let count = b"action.resumeRetryCount".as_slice();
-    accepted(&rt, alloc, &with(alloc, action, count, b"-1")?);
-    accepted(&rt, alloc, &with(alloc, action, count, b"0")?);
-    accepted(&rt, alloc, &with(alloc, action, count, b"2147483647")?);
-    refused(&rt, alloc, &with(alloc, action, count, b"-2")?, 43, count);
-    refused(&rt, alloc, &with(alloc, action, count, b"-01")?, 43, count);
-    refused(
-        &rt,
-        alloc,
-        &with(alloc, action, count, b"2147483648")?,
-        44,
-        count,
-    );
-    let interval = b"action.resumeInterval".as_slice();
-    between(
-        &rt,
-        alloc,
-        action,
-        interval,
-        (b"0", b"2147483647"),
-        (b"-1", b"2147483648"),
-    )?;
+fn of_ports(rt: HostRuntime) -> Result<(), Fail> {
+    have_ports(&rt, rt.alloc(), &[INPUT, FORWARD, QUEUED_FORWARD])?;
+    Ok(())
+}
+
+#[test]
+fn of_a_port_that_is_left_out(rt: HostRuntime) -> Result<(), Fail> {
+    has_port(&rt, rt.alloc(), FORWARD, &[], 514)?;
+    Ok(())
+}
+
+/// Parameters of an action, how often it tries again, none where without end, and how long it waits.
+type Retries = (&'static [(&'static str, &'static str)], Option<u32>, u32);
+
+const RETRIES: [Retries; 6] = [
+    (&[], Some(0), 30),
+    (&[("action.resumeRetryCount", "-1")], None, 30),
+    (&[("action.resumeRetryCount", "0")], Some(0), 30),
+    (&[("action.resumeRetryCount", "2147483647")], Some(MOST), 30),
+    (&[("action.resumeInterval", "0")], Some(0), 0),
+    (&[("action.resumeInterval", "2147483647")], Some(0), MOST),
+];
+
+fn has_retries(
+    rt: &impl Abort,
+    alloc: Global,
+    object: Object,
+    (parameters, retry, interval): Retries,
+) -> Result<(), AllocError> {
+    match &said(alloc, object, parameters)? {
+        Ok(Said::Action(action)) => tries_again(rt, action, retry, interval),
+        _ => assert!(rt; false),
+    }
+    Ok(())
+}
+
+fn have_retries(
+    rt: &impl Abort,
+    alloc: Global,
+    object: Object,
+    rows: &[Retries],
+) -> Result<(), AllocError> {
+    for row in rows {
+        has_retries(rt, alloc, object, *row)?;
+    }
+    Ok(())
+}
+
+#[test]
+fn of_retries_that_are_read(rt: HostRuntime) -> Result<(), Fail> {
+    have_retries(&rt, rt.alloc(), ARCHIVE, &RETRIES)?;
+    have_retries(&rt, rt.alloc(), FORWARD, &RETRIES)?;
+    Ok(())
+}
+
+fn refuses_retries(rt: &impl Abort, alloc: Global, object: Object) -> Result<(), AllocError> {
+    let name = "action.resumeRetryCount";
+    refuses_each(rt, alloc, object, name, &["-2", "-01", "-0", ""])?;
+    refuses(rt, alloc, object, (name, "2147483648"), 44)?;
+    is_refused_beside(rt, alloc, object, ("action.resumeInterval", 0, MOST))
+}
+
+#[test]
+fn of_retries_that_are_refused(rt: HostRuntime) -> Result<(), Fail> {
+    refuses_retries(&rt, rt.alloc(), ARCHIVE)?;
+    refuses_retries(&rt, rt.alloc(), FORWARD)?;
     Ok(())
 }

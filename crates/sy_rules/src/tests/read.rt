@@ -1,14 +1,15 @@
 //! The first object of a script, read.
 
+use super::texts::script;
+use crate::check::check;
 use crate::fault::{FaultCode, PlanFault};
+use crate::kind::Kind;
 use crate::objects::{
-    ActionParameters, InputParameters, RulesetParameters, read_action, read_input, read_main_queue,
-    read_module, read_ruleset,
+    ActionParameters, InputParameters, RulesetParameters, read_action, read_input, read_ruleset,
 };
-use crate::parameters::QueueParameters;
+use crate::parameters::{QueueParameters, queue_parameters};
 use std::alloc::Global;
 use std::process::Abort;
-use sy_script::read_script;
 use sy_script::tree::{ObjectKind, Script, Stmt, Top};
 
 /// What an object says.
@@ -27,14 +28,17 @@ fn read_top(alloc: Global, script: &Script) -> Result<Said, PlanFault> {
             let params = object.params.as_slice();
             match object.kind {
                 ObjectKind::Module => {
-                    read_module(alloc, params)?;
+                    check(alloc, Kind::Module, params)?;
                     Ok(Said::Nothing)
                 }
                 ObjectKind::Global => {
-                    crate::objects::read_global(alloc, params)?;
+                    check(alloc, Kind::Global, params)?;
                     Ok(Said::Nothing)
                 }
-                ObjectKind::MainQueue => Ok(Said::MainQueue(read_main_queue(alloc, params)?)),
+                ObjectKind::MainQueue => {
+                    check(alloc, Kind::MainQueue, params)?;
+                    Ok(Said::MainQueue(queue_parameters(Kind::MainQueue, params)))
+                }
                 ObjectKind::Input => Ok(Said::Input(read_input(alloc, params)?)),
             }
         }
@@ -50,7 +54,7 @@ fn read_top(alloc: Global, script: &Script) -> Result<Said, PlanFault> {
 
 /// What the first object of a script says, or its fault.
 pub fn read(alloc: Global, text: &[u8]) -> Result<Said, PlanFault> {
-    match read_script(alloc, text) {
+    match script(alloc, text) {
         Ok(script) => read_top(alloc, &script),
         Err(_) => Err(PlanFault::no_memory(alloc)),
     }

@@ -1,12 +1,12 @@
 //! What is wrong with scripts, and which of several faults is answered.
 
+use super::texts::script;
 use crate::fault::{FaultCode, PlanFault};
 use crate::outline::outline;
 use crate::script_check::check_script;
 use std::alloc::{AllocError, Global};
 use std::process::Abort;
 use std::test::Fail;
-use sy_script::read_script;
 
 const ACTION: &[u8] = b"action(type=\"omfile\" file=\"f\") ";
 
@@ -14,7 +14,7 @@ const QUEUED: &[u8] = b"action(type=\"omfile\" file=\"f\" queue.type=\"LinkedLis
 
 // Of a text that is no script: none.
 fn check(alloc: Global, text: &[u8]) -> Option<Result<(), PlanFault>> {
-    match read_script(alloc, text) {
+    match script(alloc, text) {
         Err(_) => None,
         Ok(script) => match outline(alloc, &script) {
             Err(_) => Some(Err(PlanFault::no_memory(alloc))),

@@ -1,5 +1,6 @@
 //! Tables written by hand: their numbers, their limits, and what messages execute of them.
 
+use super::texts::{message, script};
 use crate::fault::{FaultCode, PlanFault};
 use crate::number::occurrences;
 use crate::occurrence::Occurrence;
@@ -9,8 +10,8 @@ use crate::walk::due;
 use std::alloc::{AllocError, Global};
 use std::process::Abort;
 use std::test::Fail;
-use sy_script::tree::{Stmt, Top};
-use sy_script::{Items, read_script};
+use sy_script::Items;
+use sy_script::tree::{Script, Stmt, Top};
 use sy_select::Expr;
 use sy_wire::Message;
 
@@ -20,7 +21,8 @@ const ONE: &[u8] = b"one";
 
 const TWO: &[u8] = b"two";
 
-fn raw(alloc: Global, tables: &[&[Step]]) -> Result<Vec<Vec<Step>>, AllocError> {
+/// Tables of these steps.
+pub fn raw(alloc: Global, tables: &[&[Step]]) -> Result<Vec<Vec<Step>>, AllocError> {
     let mut all = Vec::new(alloc);
     for table in tables {
         all.push(Vec::from_slice(alloc, table)?)?;
@@ -57,15 +59,17 @@ fn walked(
 }
 
 fn test(alloc: Global, text: &[u8]) -> Result<Expr, AllocError> {
-    match read_script(alloc, text) {
-        Ok(script) => match script.tops.as_slice() {
-            [Top::Stmt(Stmt::If(tree, _, _))] => match Expr::read(alloc, tree) {
-                Ok(expr) => Ok(expr),
-                Err(_) => Err(AllocError),
-            },
-            _ => Err(AllocError),
+    test_of(alloc, &script(alloc, text)?)
+}
+
+// The test that a script begins with.
+fn test_of(alloc: Global, script: &Script) -> Result<Expr, AllocError> {
+    match script.tops.as_slice() {
+        [Top::Stmt(Stmt::If(tree, _, _))] => match Expr::read(alloc, tree) {
+            Ok(expr) => Ok(expr),
+            Err(_) => Err(AllocError),
         },
-        Err(_) => Err(AllocError),
+        _ => Err(AllocError),
     }
 }
 
@@ -75,15 +79,6 @@ fn tests(alloc: Global) -> Result<Vec<Expr>, AllocError> {
     tests.push(test(alloc, b"if $msg == 'a' then stop")?)?;
     tests.push(test(alloc, b"if $msg == 'b' then stop")?)?;
     Ok(tests)
-}
-
-fn message(alloc: Global, text: u8) -> Result<Message, AllocError> {
-    let mut raw = Vec::from_slice(alloc, b"<13>1 - - - - - - ")?;
-    raw.push(text)?;
-    match Message::read(raw) {
-        Ok(message) => Ok(message),
-        Err(_) => Err(AllocError),
-    }
 }
 
 // The set that a message with this text executes of list 0.
@@ -96,7 +91,9 @@ fn executes(
 ) -> Result<(), AllocError> {
     let raw = raw(alloc, tables)?;
     let tests = tests(alloc)?;
-    let message = message(alloc, text)?;
+    let mut raw_message = Vec::from_slice(alloc, b"<13>1 - - - - - - ")?;
+    raw_message.push(text)?;
+    let message = message(alloc, raw_message.as_slice())?;
     let names = [ZERO, ONE, TWO];
     match walked(alloc, raw.as_slice(), &names, tests.as_slice(), 0, &message) {
         Ok(set) => assert_eq!(rt; set, want),
@@ -158,42 +155,72 @@ fn stop_in_a_called_list(rt: HostRuntime) -> Result<(), Fail> {
     Ok(())
 }
 
+const CALLER: [Step; 4] = [
+    Step::Run(0, 0),
+    Step::Call(1, 0),
+    Step::Call(1, 0),
+    Step::Run(1, 0),
+];
+
+const CALLED: [Step; 2] = [Step::Post(2, 0), Step::Run(3, 0)];
+
+const NUMBERED: [Step; 4] = [
+    Step::Run(0, 0),
+    Step::Call(1, 1),
+    Step::Call(1, 3),
+    Step::Run(1, 5),
+];
+
+const OCCURRENCES: [Occurrence; 6] = [
+    Occurrence::Run(0),
+    Occurrence::Post(2),
+    Occurrence::Run(3),
+    Occurrence::Post(2),
+    Occurrence::Run(3),
+    Occurrence::Run(1),
+];
+
+fn has_occurrences(
+    rt: &impl Abort,
+    alloc: Global,
+    tables: &[Items<Step>],
+    wanted: &[Occurrence],
+) -> Result<(), AllocError> {
+    let all = occurrences(alloc, tables, 0)?;
+    assert_eq!(rt; all.as_slice(), wanted);
+    Ok(())
+}
+
+fn begins_with(rt: &impl Abort, tables: &[Items<Step>], wanted: &[Step]) {
+    match tables {
+        [first, ..] => assert_eq!(rt; first.as_slice(), wanted),
+        [] => assert!(rt; false),
+    }
+}
+
+// The first of these tables, numbered, and the occurrences of its list.
+fn has_numbers(
+    rt: &impl Abort,
+    alloc: Global,
+    tables: &[&[Step]],
+    numbered: &[Step],
+    occurrences: &[Occurrence],
+) -> Result<(), AllocError> {
+    let raw = raw(alloc, tables)?;
+    match planned(alloc, raw.as_slice(), &[ZERO, ONE, TWO]) {
+        Ok(tables) => {
+            begins_with(rt, tables.as_slice(), numbered);
+            has_occurrences(rt, alloc, tables.as_slice(), occurrences)
+        }
+        Err(_) => Err(AllocError),
+    }
+}
+
 // The occurrences of a called list stand in the call's place.
 #[test]
 fn numbers(rt: HostRuntime) -> Result<(), Fail> {
-    let alloc = rt.alloc();
-    let caller: [Step; 4] = [
-        Step::Run(0, 0),
-        Step::Call(1, 0),
-        Step::Call(1, 0),
-        Step::Run(1, 0),
-    ];
-    let called: [Step; 2] = [Step::Post(2, 0), Step::Run(3, 0)];
-    let raw = raw(alloc, &[&caller, &called, &[]])?;
-    let tables = match planned(alloc, raw.as_slice(), &[ZERO, ONE, TWO]) {
-        Ok(tables) => tables,
-        Err(_) => return Err(AllocError.into()),
-    };
-    let numbered: [Step; 4] = [
-        Step::Run(0, 0),
-        Step::Call(1, 1),
-        Step::Call(1, 3),
-        Step::Run(1, 5),
-    ];
-    match tables.as_slice() {
-        [first, _, _] => assert_eq!(&rt; first.as_slice(), numbered.as_slice()),
-        _ => assert!(&rt; false),
-    }
-    let all = occurrences(alloc, tables.as_slice(), 0)?;
-    let want: [Occurrence; 6] = [
-        Occurrence::Run(0),
-        Occurrence::Post(2),
-        Occurrence::Run(3),
-        Occurrence::Post(2),
-        Occurrence::Run(3),
-        Occurrence::Run(1),
-    ];
-    assert_eq!(&rt; all.as_slice(), want.as_slice());
+    let tables = [CALLER.as_slice(), CALLED.as_slice(), &[]];
+    has_numbers(&rt, rt.alloc(), &tables, &NUMBERED, &OCCURRENCES)?;
     Ok(())
 }
 
@@ -255,17 +282,20 @@ fn occurrences_of_a_list(rt: HostRuntime) -> Result<(), Fail> {
     Ok(())
 }
 
+// An empty table, and one of so many steps.
+fn second_of(alloc: Global, steps: usize) -> Result<Vec<Vec<Step>>, AllocError> {
+    let mut tables = Vec::new(alloc);
+    tables.push(Vec::new(alloc))?;
+    tables.push(many(alloc, Step::Stop, steps)?)?;
+    Ok(tables)
+}
+
 // 65,536 steps of one list, and one more.
 #[test]
 fn statements_of_a_list(rt: HostRuntime) -> Result<(), Fail> {
     let alloc = rt.alloc();
-    let mut tables = Vec::new(alloc);
-    tables.push(Vec::new(alloc))?;
-    tables.push(many(alloc, Step::Stop, 65_536)?)?;
-    accepted(&rt, alloc, tables.as_slice());
-    tables.pop();
-    tables.push(many(alloc, Step::Stop, 65_537)?)?;
-    refused(&rt, alloc, tables.as_slice(), 46, ONE);
+    accepted(&rt, alloc, second_of(alloc, 65_536)?.as_slice());
+    refused(&rt, alloc, second_of(alloc, 65_537)?.as_slice(), 46, ONE);
     Ok(())
 }
 

@@ -1,11 +1,11 @@
-//! Scripts of one object with some more parameters, and what their plans say.
+//! Scripts of one object with some more parameters, and what they say.
 
+use super::read::{Said, read, refused};
+use crate::fault::PlanFault;
 use crate::objects::Device;
 use crate::parameters::QueueParameters;
-use crate::plan::Plan;
 use std::alloc::{AllocError, Global};
 use std::process::Abort;
-use sy_script::read_script;
 
 /// What stands before and behind the parameters that are added.
 #[derive(Clone, Copy)]
@@ -59,7 +59,7 @@ pub const QUEUED_FORWARD: Object = Object {
 
 /// An input without a port.
 pub const INPUT: Object = Object {
-    front: "module(load=\"imtcp\") input(type=\"imtcp\"",
+    front: "input(type=\"imtcp\"",
     end: ")",
 };
 
@@ -79,24 +79,13 @@ pub fn with(
     Ok(text)
 }
 
-/// The plan of an object with these parameters, with which nothing is wrong.
-pub fn plan(
-    rt: &impl Abort,
+/// What an object with these parameters says, or its fault.
+pub fn said(
     alloc: Global,
     object: Object,
     parameters: &[(&str, &str)],
-) -> Result<Plan, AllocError> {
-    let text = with(alloc, object, parameters)?;
-    let Ok(script) = read_script(alloc, text.as_slice()) else {
-        return Err(AllocError);
-    };
-    match Plan::load(alloc, &script) {
-        Ok(plan) => Ok(plan),
-        Err(fault) => {
-            assert_eq!(rt; (fault.code.number(), text.as_slice()), (0, b"".as_slice()));
-            Err(AllocError)
-        }
-    }
+) -> Result<Result<Said, PlanFault>, AllocError> {
+    Ok(read(alloc, with(alloc, object, parameters)?.as_slice()))
 }
 
 /// An object with one more parameter is refused with this fault, whose word is the parameter's name.
@@ -108,34 +97,51 @@ pub fn refuses(
     number: u8,
 ) -> Result<(), AllocError> {
     let text = with(alloc, object, &[(name, value)])?;
-    let Ok(script) = read_script(alloc, text.as_slice()) else {
-        return Err(AllocError);
-    };
-    match Plan::load(alloc, &script) {
-        Ok(_) => assert!(rt; false, "{name}={value} is read"),
-        Err(fault) => {
-            assert_eq!(rt; fault.code.number(), number, "{name}={value}");
-            assert_eq!(rt; fault.word.as_slice(), name.as_bytes());
-        }
+    refused(rt, alloc, text.as_slice(), number, name.as_bytes());
+    Ok(())
+}
+
+/// So it is with each of these values, which have a wrong shape.
+pub fn refuses_each(
+    rt: &impl Abort,
+    alloc: Global,
+    object: Object,
+    name: &str,
+    values: &[&str],
+) -> Result<(), AllocError> {
+    for value in values {
+        refuses(rt, alloc, object, (name, *value), 43)?;
     }
     Ok(())
 }
 
-/// The one queue that a plan has beside the main queue, or the main queue where it has no other.
-pub fn last_queue(plan: &Plan) -> Option<&QueueParameters> {
-    plan.queues().last()
+/// The queue of an object with these parameters, with which nothing is wrong: none where it has none.
+pub fn queue(
+    rt: &impl Abort,
+    alloc: Global,
+    object: Object,
+    parameters: &[(&str, &str)],
+) -> Result<Option<QueueParameters>, AllocError> {
+    match &said(alloc, object, parameters)? {
+        Ok(Said::MainQueue(queue)) => Ok(Some(*queue)),
+        Ok(Said::Ruleset(ruleset)) => Ok(ruleset.queue),
+        Ok(Said::Action(action)) => Ok(action.queue),
+        Ok(_) => Ok(None),
+        Err(fault) => {
+            assert_eq!(rt; (fault.code.number(), object.front), (0, ""));
+            Ok(None)
+        }
+    }
 }
 
-/// The port of a plan's one input, or else that of its one forward.
-pub fn port(plan: &Plan) -> Option<u16> {
-    match plan.inputs() {
-        [input] => Some(input.port),
-        _ => match plan.actions() {
-            [action] => match &action.device {
-                Device::Forward(_, port) => Some(*port),
-                Device::Archive(_) => None,
-            },
-            _ => None,
+/// The port of an input or a forward; none of another object.
+pub fn port(said: &Result<Said, PlanFault>) -> Option<u16> {
+    match said {
+        Ok(Said::Input(input)) => Some(input.port),
+        Ok(Said::Action(action)) => match &action.device {
+            Device::Forward(_, port) => Some(*port),
+            Device::Archive(_) => None,
         },
+        _ => None,
     }
 }
