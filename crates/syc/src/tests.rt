@@ -149,7 +149,16 @@ fn passes_through_a_writer_that_takes_a_byte_at_a_time(rt: HostRuntime) -> Resul
 fn stops_at_each_write_that_fails(rt: HostRuntime) -> Result<(), Fail> {
     let alloc = rt.alloc();
     // Each line is two writes, and a flush comes before each of the two reads; so many bytes are written before each of these.
-    let rows = [(0, 0), (1, 0), (2, 17), (3, 18), (4, 39), (5, 40), (6, 58), (7, 59)];
+    let rows = [
+        (0, 0),
+        (1, 0),
+        (2, 17),
+        (3, 18),
+        (4, 39),
+        (5, 40),
+        (6, 58),
+        (7, 59),
+    ];
     for (failing, written) in rows {
         let reader = Pieces {
             rest: INPUT,

@@ -251,7 +251,9 @@ fn numbered(
     let mut text = Vec::from_slice(alloc, front.as_bytes())?;
     for number in 0..count {
         let number = (number + 1).to_string(alloc)?;
-        put_all(&mut text, &[before, number.as_str(), behind])?;
+        text.extend_from_slice(before.as_bytes())?;
+        text.extend_from_slice(number.as_bytes())?;
+        text.extend_from_slice(behind.as_bytes())?;
     }
     Ok(text)
 }
