@@ -1,6 +1,6 @@
 //! Each pair that does not go together, and which fault is answered.
 
-use super::{read, refused};
+use super::{each_refused, is_fault, read};
 use std::alloc::{AllocError, Global};
 use std::process::Abort;
 use std::test::Fail;
@@ -18,6 +18,58 @@ const TEXTS: [&str; 8] = [
 
 const NUMBERS: [&str; 2] = ["$syslogfacility", "$syslogseverity"];
 
+// Operators, operands, and whether each of the pairs is read.
+type Pairs = (&'static [&'static str], &'static [&'static str], bool);
+
+const OF_TEXTS: &[&str] = &[
+    "==",
+    "!=",
+    "contains",
+    "startswith",
+    "Contains",
+    "STARTSWITH",
+];
+
+const NOT_OF_TEXTS: &[&str] = &[
+    "<",
+    "<=",
+    ">",
+    ">=",
+    "isequal",
+    "contains_i",
+    "startswith_i",
+    "re_match",
+];
+
+const TEXT_PAIRS: [Pairs; 3] = [
+    (OF_TEXTS, &["\"x\"", "''"], true),
+    (OF_TEXTS, &["5"], false),
+    (NOT_OF_TEXTS, &["\"x\"", "5"], false),
+];
+
+const OF_NUMBERS: &[&str] = &["==", "!=", "<", "<=", ">", ">="];
+
+const NOT_OF_NUMBERS: &[&str] = &["contains", "startswith", "isequal", "eq"];
+
+const WRITTEN_NUMBERS: &[&str] = &[
+    "5",
+    "\"5\"",
+    "'005'",
+    "\"191\"",
+    "00000000000000000000005",
+    "99999999999999999999",
+];
+
+const NO_NUMBERS: &[&str] = &[
+    "\"\"", "\"0005\"", "\"x\"", "\"-1\"", "\"5 \"", "\" 5\"", "\"+5\"", "\"0x5\"", "\"err\"",
+];
+
+const NUMBER_PAIRS: [Pairs; 3] = [
+    (OF_NUMBERS, WRITTEN_NUMBERS, true),
+    (OF_NUMBERS, NO_NUMBERS, false),
+    (NOT_OF_NUMBERS, &["5", "\"5\""], false),
+];
+
 fn joined(alloc: Global, parts: [&str; 3]) -> Result<Vec<u8>, AllocError> {
     let mut text = Vec::new(alloc);
     for part in parts {
@@ -27,124 +79,131 @@ fn joined(alloc: Global, parts: [&str; 3]) -> Result<Vec<u8>, AllocError> {
     Ok(text)
 }
 
-fn pair(rt: &impl Abort, alloc: Global, parts: [&str; 3], is_read: bool) -> Result<(), AllocError> {
-    match read(alloc, joined(alloc, parts)?.as_slice())? {
+// The text is read, or refused for its operator.
+fn is_pair(
+    rt: &impl Abort,
+    alloc: Global,
+    text: &[u8],
+    operator: &str,
+    is_read: bool,
+) -> Result<(), AllocError> {
+    match read(alloc, text)? {
         Ok(_) => assert!(rt; is_read),
         Err(fault) => {
             assert!(rt; !is_read);
-            assert_eq!(rt; fault.code.number(), 34);
-            assert_eq!(rt; fault.word.as_slice(), parts[1].as_bytes());
+            is_fault(rt, &fault, 34, operator, operator);
         }
+    }
+    Ok(())
+}
+
+fn with_operand(
+    rt: &impl Abort,
+    alloc: Global,
+    property: &str,
+    operator: &str,
+    operand: &str,
+    is_read: bool,
+) -> Result<(), AllocError> {
+    let text = joined(alloc, [property, operator, operand])?;
+    is_pair(rt, alloc, text.as_slice(), operator, is_read)
+}
+
+fn with_operands(
+    rt: &impl Abort,
+    alloc: Global,
+    property: &str,
+    operator: &str,
+    operands: &[&str],
+    are_read: bool,
+) -> Result<(), AllocError> {
+    for operand in operands {
+        with_operand(rt, alloc, property, operator, operand, are_read)?;
+    }
+    Ok(())
+}
+
+fn with_operators(
+    rt: &impl Abort,
+    alloc: Global,
+    property: &str,
+    operators: &[&str],
+    operands: &[&str],
+    are_read: bool,
+) -> Result<(), AllocError> {
+    for operator in operators {
+        with_operands(rt, alloc, property, operator, operands, are_read)?;
+    }
+    Ok(())
+}
+
+fn with_pairs(
+    rt: &impl Abort,
+    alloc: Global,
+    property: &str,
+    rows: &[Pairs],
+) -> Result<(), AllocError> {
+    for (operators, operands, are_read) in rows {
+        with_operators(rt, alloc, property, operators, operands, *are_read)?;
+    }
+    Ok(())
+}
+
+fn each_with_pairs(
+    rt: &impl Abort,
+    alloc: Global,
+    properties: &[&str],
+    rows: &[Pairs],
+) -> Result<(), AllocError> {
+    for property in properties {
+        with_pairs(rt, alloc, property, rows)?;
     }
     Ok(())
 }
 
 #[test]
 fn operators_of_texts(rt: HostRuntime) -> Result<(), Fail> {
-    let alloc = rt.alloc();
-    for property in TEXTS {
-        for operator in [
-            "==",
-            "!=",
-            "contains",
-            "startswith",
-            "Contains",
-            "STARTSWITH",
-        ] {
-            pair(&rt, alloc, [property, operator, "\"x\""], true)?;
-            pair(&rt, alloc, [property, operator, "''"], true)?;
-            pair(&rt, alloc, [property, operator, "5"], false)?;
-        }
-        for operator in [
-            "<",
-            "<=",
-            ">",
-            ">=",
-            "isequal",
-            "contains_i",
-            "startswith_i",
-            "re_match",
-        ] {
-            pair(&rt, alloc, [property, operator, "\"x\""], false)?;
-            pair(&rt, alloc, [property, operator, "5"], false)?;
-        }
-    }
+    each_with_pairs(&rt, rt.alloc(), &TEXTS, &TEXT_PAIRS)?;
     Ok(())
 }
 
 #[test]
 fn operators_of_numbers(rt: HostRuntime) -> Result<(), Fail> {
-    let alloc = rt.alloc();
-    for property in NUMBERS {
-        for operator in ["==", "!=", "<", "<=", ">", ">="] {
-            for number in [
-                "5",
-                "\"5\"",
-                "'005'",
-                "\"191\"",
-                "00000000000000000000005",
-                "99999999999999999999",
-            ] {
-                pair(&rt, alloc, [property, operator, number], true)?;
-            }
-            for other in [
-                "\"\"", "\"0005\"", "\"x\"", "\"-1\"", "\"5 \"", "\" 5\"", "\"+5\"", "\"0x5\"",
-                "\"err\"",
-            ] {
-                pair(&rt, alloc, [property, operator, other], false)?;
-            }
-        }
-        for operator in ["contains", "startswith", "isequal", "eq"] {
-            pair(&rt, alloc, [property, operator, "5"], false)?;
-            pair(&rt, alloc, [property, operator, "\"5\""], false)?;
-        }
-    }
+    each_with_pairs(&rt, rt.alloc(), &NUMBERS, &NUMBER_PAIRS)?;
     Ok(())
 }
+
+const UNKNOWN: [(&str, u8, &str); 6] = [
+    ("$Msg == \"x\"", 42, "$Msg"),
+    ("$HOSTNAME == \"x\"", 42, "$HOSTNAME"),
+    ("$syslogtag == \"x\"", 42, "$syslogtag"),
+    ("$syslogseverity-tex == \"x\"", 42, "$syslogseverity-tex"),
+    ("$msgi contains \"x\"", 42, "$msgi"),
+    ("$appname == \"x\"", 42, "$appname"),
+];
 
 // Names are exact.
 #[test]
 fn unknown_properties(rt: HostRuntime) -> Result<(), Fail> {
-    let alloc = rt.alloc();
-    refused(&rt, alloc, "$Msg == \"x\"", 42, "$Msg")?;
-    refused(&rt, alloc, "$HOSTNAME == \"x\"", 42, "$HOSTNAME")?;
-    refused(&rt, alloc, "$syslogtag == \"x\"", 42, "$syslogtag")?;
-    refused(
-        &rt,
-        alloc,
-        "$syslogseverity-tex == \"x\"",
-        42,
-        "$syslogseverity-tex",
-    )?;
-    refused(&rt, alloc, "$msgi contains \"x\"", 42, "$msgi")?;
-    refused(&rt, alloc, "$appname == \"x\"", 42, "$appname")?;
+    each_refused(&rt, rt.alloc(), &UNKNOWN)?;
     Ok(())
 }
+
+const FIRST: [(&str, u8, &str); 9] = [
+    ("$msg > \"x\"", 34, ">"),
+    ("$msg and \"x\"", 34, "and"),
+    ("$msg Then \"x\"", 34, "Then"),
+    ("$foo > 1", 42, "$foo"),
+    ("$msg > \"x\" or $foo == \"x\"", 34, ">"),
+    ("$foo == \"x\" or $msg > \"x\"", 42, "$foo"),
+    ("$msg == \"x\" and ($foo == 1 or $bar == 1)", 42, "$foo"),
+    ("not (not ($msg < 1)) or $bar == 1", 34, "<"),
+    ("$syslogseverity <= 3 and $msg == 5 and $msg != 6", 34, "=="),
+];
 
 // The first fault in the text is answered.
 #[test]
 fn the_first_from_the_left(rt: HostRuntime) -> Result<(), Fail> {
-    let alloc = rt.alloc();
-    refused(&rt, alloc, "$msg > \"x\"", 34, ">")?;
-    refused(&rt, alloc, "$msg and \"x\"", 34, "and")?;
-    refused(&rt, alloc, "$msg Then \"x\"", 34, "Then")?;
-    refused(&rt, alloc, "$foo > 1", 42, "$foo")?;
-    refused(&rt, alloc, "$msg > \"x\" or $foo == \"x\"", 34, ">")?;
-    refused(&rt, alloc, "$foo == \"x\" or $msg > \"x\"", 42, "$foo")?;
-    refused(
-        &rt,
-        alloc,
-        "$msg == \"x\" and ($foo == 1 or $bar == 1)",
-        42,
-        "$foo",
-    )?;
-    refused(&rt, alloc, "not (not ($msg < 1)) or $bar == 1", 34, "<")?;
-    refused(
-        &rt,
-        alloc,
-        "$syslogseverity <= 3 and $msg == 5 and $msg != 6",
-        34,
-        "==",
-    )?;
+    each_refused(&rt, rt.alloc(), &FIRST)?;
     Ok(())
 }
