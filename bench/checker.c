@@ -72,7 +72,7 @@ static int field(const unsigned char *message, size_t length, size_t at, size_t 
     return i < length && message[i] == ' ' && i > at && i - at <= longest;
 }
 
-/* SD-NAME, or 0; *at moves behind it. */
+/* SD-NAME, or 0; *at moves past it. */
 static int sd_name(const unsigned char *message, size_t length, size_t *at) {
     size_t first = *at, i = first;
     while (i < length && is_printable(message[i]) && message[i] != '=' && message[i] != ']' && message[i] != '"')
@@ -126,7 +126,7 @@ static int structured_data(const unsigned char *message, size_t length, size_t *
     return 1;
 }
 
-/* PRI; *at moves behind it. */
+/* PRI; *at moves past it. */
 static int pri(const unsigned char *message, size_t length, size_t *at) {
     size_t i = 1;
     int value = 0;

@@ -1,6 +1,6 @@
 /* What reader.c and checker.c share: octet-counted frames (RFC 6587, section 3.4.1) from standard input, one line a
  * message on standard output. It reads in blocks of 64 KiB and has written each line before the next read, as
- * `syc pass` does. Faults are told as `syc pass` tells them, so that the outputs can be compared byte by byte. */
+ * `syc pass` does. Faults are reported as `syc pass` reports them, so that the outputs can be compared byte by byte. */
 #ifndef LINES_H
 #define LINES_H
 

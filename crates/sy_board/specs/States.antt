@@ -28,7 +28,15 @@ pub record IsBalanced (b : BoardState) : Type 0 where
 
 -- before the first message
 abbrev pub opening : BoardState
-opening = record { hands = replicate 64 None; queue = []; batch = []; taken = 0; in_hands = 0; in_queues = 0; grabbed = 0 }
+opening = record {
+  hands = replicate 64 None;
+  queue = [];
+  batch = [];
+  taken = 0;
+  in_hands = 0;
+  in_queues = 0;
+  grabbed = 0;
+}
 
 -- the totals of a state
 abbrev pub accounts_of : BoardState → Accounts

@@ -18,7 +18,8 @@ use Rattle.sy_board.specs.declared.fault.BoardFault.TheVariants.{HandEmpty, Hand
 pub record Takes (old : BoardState) (hand : ℕ) (node : Entry) (new : BoardState) : Type 0 where
   pub free : slice_get old.hands hand ≡ Some None
   pub room : old.taken + 1 < 2 ^ 64
-  pub after : new ≡ record old { hands = slice_set old.hands hand (Some node); taken = old.taken + 1; in_hands = old.in_hands + 1 }
+  pub after :
+      new ≡ record old { hands = slice_set old.hands hand (Some node); taken = old.taken + 1; in_hands = old.in_hands + 1 }
 
 -- what `take` answers: the queue has no discard mark, so nothing is discarded
 abbrev pub TakeIs : Taken → BoardState → ℕ → Entry → BoardState → Type 0
@@ -36,7 +37,13 @@ pub record Enters (old : BoardState) (hand : ℕ) (new : BoardState) : Type 0 wh
   pub node : Entry
   pub there : slice_get old.hands hand ≡ Some (Some node)
   pub room : length old.queue < 50000
-  pub after : new ≡ record old { hands = slice_set old.hands hand None; queue = old.queue ++ node ∷ []; in_hands = old.in_hands - 1; in_queues = old.in_queues + 1 }
+  pub after :
+      new ≡ record old {
+        hands = slice_set old.hands hand None;
+        queue = old.queue ++ node ∷ [];
+        in_hands = old.in_hands - 1;
+        in_queues = old.in_queues + 1;
+      }
 
 -- what `enter` answers: the step, or that a message there is held by a full queue
 abbrev pub EnterIs : EnterAnswer → BoardState → ℕ → BoardState → Type 0
@@ -55,7 +62,13 @@ pub record Grabs (old : BoardState) (count : ℕ) (lost : List Entry) (new : Boa
   pub idle : old.batch ≡ []
   pub count_is : count ≡ min 1024 (length old.queue)
   pub nothing_lost : lost ≡ []
-  pub after : new ≡ record old { queue = drop count old.queue; batch = take count old.queue; in_queues = old.in_queues - count; grabbed = old.grabbed + count }
+  pub after :
+      new ≡ record old {
+        queue = drop count old.queue;
+        batch = take count old.queue;
+        in_queues = old.in_queues - count;
+        grabbed = old.grabbed + count;
+      }
 
 -- why `grab` refuses: the worker has entries; or it has none, and there was no memory to cut the queue,
 -- which is done only where more than a batch waits

@@ -1,4 +1,4 @@
-// What a board counts.
+//! What a board counts.
 
 /// The totals of a board: `taken` = `in_hands` + `in_queues` + `grabbed`.
 #[derive(Clone, Copy, Debug, PartialEq, Eq)]

@@ -1,4 +1,4 @@
-// What a board answers.
+//! What a board answers.
 
 use std::sync::Arc;
 use sy_chain::Node;

@@ -1,14 +1,23 @@
-// The state of one relay.
+//! The state of one relay.
 ghost use Rattle.std.specs.Prelude.{◌≡◌, ◌<◌, ◌∷◌, [], drop, length, min, take, IfErr, IfNone, IfOk, IfSome, OnErr, OnOk};
 
 use crate::accounts::Accounts;
 use crate::answers::{Entry, Hold, Job, Taken};
 use crate::fault::BoardFault;
-use crate::limits::{ARCHIVE, BATCH_SIZE, HANDS, INPUTS, QUEUE_SIZE, WORKERS};
+use crate::limits::{BATCH_SIZE, HANDS, INPUTS, QUEUE_SIZE, WORKERS};
 use std::alloc::{AllocError, Global};
 use std::marker::Model;
 use std::mem;
 use sy_chain::{Chain, Node};
+
+/// The number of the list that every message follows.
+pub const LIST: u32 = 0;
+
+/// The due set of every message: its list has one occurrence, number 0, which runs the archive's action.
+pub const DUE: u64 = 1;
+
+/// The number of the archive's action.
+pub const ARCHIVE: u32 = 0;
 
 /// The state of one relay: the hands of its input, its queue, the batch of the queue's worker, and the
 /// totals.
@@ -55,7 +64,8 @@ fn move_batch(queue: &mut Box<Chain>, batch: &mut Box<Chain>) -> Result<usize, A
     ensures count { IfOk result (λ count. count ≡ min BATCH_SIZE (length queue.old.value)) }
     ensures front { IfOk result (λ count. batch.new.value ≡ take count queue.old.value) }
     ensures rest { IfOk result (λ count. queue.new.value ≡ drop count queue.old.value) }
-    ensures err { OnErr result ((queue.new.value ≡ queue.old.value) × (batch.new.value ≡ batch.old.value) × (BATCH_SIZE < length queue.old.value)) }
+    ensures err { OnErr result ((queue.new.value ≡ queue.old.value) × (batch.new.value ≡ batch.old.value)
+        × (BATCH_SIZE < length queue.old.value)) }
 {
     let waiting = queue.len();
     if waiting <= BATCH_SIZE {
@@ -200,17 +210,14 @@ impl Board {
         })
     }
 
-    /// The worker's job is done. Nothing more is due for its message, which leaves the board.
+    /// The worker's job is done. Nothing more is due for its message, which leaves the board and is dropped.
     pub fn settle(&mut self, worker: u32) -> Result<(), BoardFault>
         requires { worker < WORKERS }
         ensures ok { OnOk result (Settles self.old self.new) }
         ensures err { IfErr result (λ fault. SettleFails fault self.old self.new) }
     {
-        let _ = worker;
-        match self.batch.pop_front() {
-            Some(_done) => Ok(()),
-            None => Err(BoardFault::NoJob),
-        }
+        let _done = self.settle_out(worker)?;
+        Ok(())
     }
 
     /// The same as `settle`, and the entry that leaves is handed out.

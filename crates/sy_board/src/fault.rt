@@ -1,21 +1,65 @@
-// Why a board refuses a call.
+//! Why a board refuses a call.
+ghost use Rattle.std.specs.Prelude.{◌≡◌, Some};
+ghost use Rattle.sy_board.specs.Faults.{fault_number, fault_words};
 
-use thiserror::Error;
+use std::error::Error;
+use std::fmt;
 
 /// Why a board refuses a call, which then has changed nothing. `TotalsFull` is answered where no other
-/// fault is.
-#[derive(Clone, Copy, Debug, PartialEq, Eq, Error)]
+/// fault is. The numbers are those of `number`.
+#[derive(Clone, Copy, Debug, PartialEq, Eq)]
 pub enum BoardFault {
-    #[error("the hand holds a message")]
-    HandTaken = 81,
-    #[error("the hand holds no message")]
-    HandEmpty = 82,
-    #[error("the worker still has entries")]
-    SlotBusy = 83,
-    #[error("the worker has no job")]
-    NoJob = 84,
-    #[error("a total would pass its limit")]
-    TotalsFull = 86,
-    #[error("no memory")]
-    NoMemory = 88,
+    /// The hand holds a message.
+    HandTaken,
+    /// The hand holds no message.
+    HandEmpty,
+    /// The worker still has entries.
+    SlotBusy,
+    /// The worker has no job.
+    NoJob,
+    /// A total would pass its limit.
+    TotalsFull,
+    /// Memory ran out.
+    NoMemory,
 }
+
+impl BoardFault {
+    /// The number of the fault: 81 for `HandTaken` to 88 for `NoMemory`, without 85 and 87.
+    pub fn number(self) -> u8
+        ensures { result ≡ fault_number self }
+    {
+        match self {
+            BoardFault::HandTaken => 81,
+            BoardFault::HandEmpty => 82,
+            BoardFault::SlotBusy => 83,
+            BoardFault::NoJob => 84,
+            BoardFault::TotalsFull => 86,
+            BoardFault::NoMemory => 88,
+        }
+    }
+
+    /// The number and the name of the fault, as `81 HandTaken`.
+    pub fn words(self) -> &'static str
+        ensures { result.now ≡ fault_words self }
+    {
+        match self {
+            BoardFault::HandTaken => "81 HandTaken",
+            BoardFault::HandEmpty => "82 HandEmpty",
+            BoardFault::SlotBusy => "83 SlotBusy",
+            BoardFault::NoJob => "84 NoJob",
+            BoardFault::TotalsFull => "86 TotalsFull",
+            BoardFault::NoMemory => "88 NoMemory",
+        }
+    }
+}
+
+impl fmt::Display for BoardFault {
+    ghost output = { λ fault. Some (fault_words fault) };
+
+    fn fmt<W: fmt::Write>(&self, f: &mut fmt::Formatter<W>) -> fmt::Result {
+        let words = self.words();
+        write!(f, "{words}")
+    }
+}
+
+impl Error for BoardFault {}

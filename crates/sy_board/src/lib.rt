@@ -9,12 +9,10 @@ pub mod accounts;
 pub mod answers;
 pub mod board;
 pub mod fault;
+pub mod laws;
 pub mod limits;
 
 pub use accounts::Accounts;
 pub use answers::{Entry, Hold, Job, Taken};
-pub use board::Board;
+pub use board::{ARCHIVE, Board, DUE, LIST};
 pub use fault::BoardFault;
-
-#[cfg(test)]
-mod tests;

@@ -1,4 +1,4 @@
-// The sizes of the board that serves one input, one queue and one archive.
+//! The sizes of the board that serves one input, one queue and one archive.
 
 /// How many inputs the board has. The input doesn't wait: nothing but a full queue holds its messages.
 pub const INPUTS: u32 = 1;
@@ -14,12 +14,3 @@ pub const WORKERS: u32 = 1;
 
 /// How many entries a worker takes from the queue at once.
 pub const BATCH_SIZE: usize = 1_024;
-
-/// The number of the list that every message follows.
-pub const LIST: u32 = 0;
-
-/// The due set of every message: its list has one occurrence, number 0, which runs the archive's action.
-pub const DUE: u64 = 1;
-
-/// The number of the archive's action.
-pub const ARCHIVE: u32 = 0;

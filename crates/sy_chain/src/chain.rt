@@ -1,4 +1,4 @@
-// Entries in order.
+//! Entries in order.
 ghost use Rattle.std.specs.Prelude.{◌≡◌, ◌<◌, ◌≤◌, [], ◌∷◌, ◌++◌, drop, take, length, IfErr, IfNone, IfOk, IfSome, IsOk, IsTrue, ◌↔◌, OnErr, OnOk};
 ghost use Rattle.sy_chain.specs.Entries.{with_front_due};
 
@@ -10,7 +10,7 @@ use std::mem;
 
 /// Entries in order, seen as a list.
 ///
-/// A refusal is always for want of memory: the chain is then as it was, and what was given comes back.
+/// A call is refused only where memory runs out: the chain is then as it was, and what was given comes back.
 #[derive(Drop)]
 pub struct Chain {
     alloc: Global,

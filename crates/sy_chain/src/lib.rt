@@ -10,6 +10,3 @@ pub mod node;
 
 pub use chain::Chain;
 pub use node::{Node, RenewFault};
-
-#[cfg(test)]
-mod tests;

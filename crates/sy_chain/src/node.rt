@@ -1,10 +1,12 @@
-// One entry, on the heap.
-ghost use Rattle.std.specs.Prelude.{◌≡◌, IfErr, IfOk, OnErr, OnOk};
+//! One entry, on the heap.
+ghost use Rattle.std.specs.Prelude.{◌≡◌, IfErr, IfOk, OnErr, OnOk, Some};
 ghost use Rattle.std.specs.Arc.{arc_value};
-ghost use Rattle.sy_chain.specs.Entries.{RenewFails};
+ghost use Rattle.sy_chain.specs.Entries.{RenewFails, renew_fault_text};
 ghost use Rattle.sy_wire.specs.Messages.{IsMessage};
 
 use std::alloc::Global;
+use std::error::Error;
+use std::fmt;
 use std::marker::Model;
 use std::sync::Arc;
 use sy_wire::{Message, MsgFault};
@@ -27,6 +29,19 @@ pub enum RenewFault {
     /// The text is no message.
     Message(MsgFault),
 }
+
+impl fmt::Display for RenewFault {
+    ghost output = { λ fault. Some (renew_fault_text fault) };
+
+    fn fmt<W: fmt::Write>(&self, f: &mut fmt::Formatter<W>) -> fmt::Result {
+        match self {
+            RenewFault::Shared => write!(f, "the message is shared"),
+            RenewFault::Message(fault) => write!(f, "{fault}"),
+        }
+    }
+}
+
+impl Error for RenewFault {}
 
 /// An entry: a message with what is still due for it.
 ///
@@ -64,7 +79,8 @@ impl Node {
         due: u64,
         tag: u64,
     ) -> Result<Node, Arc<Message>>
-        ensures ok { IfOk result (λ n. n ≡ record { message = arc_value message; list = list; input = input; due = due; tag = tag }) }
+        ensures ok { IfOk result
+            (λ n. n ≡ record { message = arc_value message; list = list; input = input; due = due; tag = tag }) }
         ensures err { IfErr result (λ m. m ≡ message) }
     {
         let fields = Fields {
@@ -91,7 +107,8 @@ impl Node {
         tag: u64,
     ) -> Result<(), RenewFault>
         ensures found { OnOk result (IsMessage self.new.message × (self.new.message.raw ≡ raw.old.items)) }
-        ensures ok { OnOk result (self.new ≡ record { message = self.new.message; list = list; input = input; due = due; tag = tag }) }
+        ensures ok { OnOk result
+            (self.new ≡ record { message = self.new.message; list = list; input = input; due = due; tag = tag }) }
         ensures old { OnOk result (raw.new.items ≡ self.old.message.raw) }
         ensures fault { IfErr result (λ e. RenewFails e raw.old.items) }
         ensures unchanged { OnErr result ((self.new ≡ self.old) × (raw.new ≡ raw.old)) }
@@ -110,9 +127,12 @@ impl Node {
         Ok(())
     }
 
+    /// The message, which is one by the grammar.
     pub fn message(&self) -> &Arc<Message>
-        ensures { arc_value result.now ≡ self.now.message }
+        ensures value { arc_value result.now ≡ self.now.message }
+        ensures message { IsMessage self.now.message }
     {
+        self.fields.message.is_message();
         &self.fields.message
     }
 

@@ -1,19 +1,19 @@
 -- The plan that takes messages in and writes them all.
 use Rattle.std.specs.Prelude.{[], ◌∷◌, None, codes}
-use Rattle.sy_rules.specs.declared.kind.Kind.TheVariants as kind
-use Rattle.sy_rules.specs.declared.objects.Device.TheVariants as device
-use Rattle.sy_rules.specs.declared.parameters.FlowControl.TheVariants as flow
+use Rattle.sy_rules.specs.declared.parameters.kind.Kind.TheVariants as kind
+use Rattle.sy_rules.specs.declared.parameters.objects.Destination.TheVariants as destination
+use Rattle.sy_rules.specs.declared.parameters.settings.FlowControl.TheVariants as flow
 use Rattle.sy_rules.specs.declared.parts.Action.{Action}
-use Rattle.sy_rules.specs.Objects.{number_of, queue_parameters, retry_of}
-use Rattle.sy_rules.specs.Plans.{action_name}
+use Rattle.sy_rules.specs.parameters.Objects.{number_of, queue_parameters, retry_of}
+use Rattle.sy_rules.specs.parts.Plans.{action_name, default_ruleset}
 use Rattle.sy_rules.specs.PlanValue.{Plan}
-use Rattle.sy_rules.specs.Steps.{Steps}
+use Rattle.sy_rules.specs.lists.Body.{Body}
 
 -- an archive without a file's name, by the defaults of actions
 abbrev pub action : Action
 action = record {
   name = action_name 0 None;
-  device = device.Archive [];
+  destination = destination.Archive [];
   retry = retry_of kind.Archive [];
   resume_interval = number_of kind.Archive [] 0 (codes "action.resumeInterval");
 }
@@ -25,5 +25,6 @@ plan = record {
   queues = queue_parameters kind.MainQueue [] ∷ [];
   workers = 0 ∷ [];
   actions = action ∷ [];
-  lists = record { steps = Steps.Run 0 Steps.End; queue = None } ∷ [];
+  lists = record { body = Body.Run 0 Body.End; queue = None } ∷ [];
+  names = default_ruleset ∷ [];
 }

@@ -6,18 +6,18 @@ use Rattle.sy_script.specs.declared.tree.Script.{Script}
 use Rattle.sy_select.specs.declared.condition.Test.{Test}
 use Rattle.sy_select.specs.Trees.{IsExpr}
 use Rattle.sy_select.specs.Truth.{Formula}
-use Rattle.sy_rules.specs.declared.objects.ActionParameters.{ActionParameters}
-use Rattle.sy_rules.specs.declared.objects.InputParameters.{InputParameters}
-use Rattle.sy_rules.specs.declared.parameters.QueueParameters.{QueueParameters}
+use Rattle.sy_rules.specs.declared.parameters.objects.ActionParameters.{ActionParameters}
+use Rattle.sy_rules.specs.declared.parameters.objects.InputParameters.{InputParameters}
+use Rattle.sy_rules.specs.declared.parameters.settings.QueueParameters.{QueueParameters}
 use Rattle.sy_rules.specs.declared.parts.Input.{Input}
 use Rattle.sy_rules.specs.declared.parts.Action.{Action}
-pub use Rattle.sy_rules.specs.Given.{Listed}
-use Rattle.sy_rules.specs.FaultsThere.{HasNoFault}
-use Rattle.sy_rules.specs.Given.{Given, GivesAction, GivesInput, GiveLists, GiveQueues, GiveWorkers}
-use Rattle.sy_rules.specs.Lines.{File, Lines, lists_of, steps_of}
-use Rattle.sy_rules.specs.Outline.{Item, items}
-use Rattle.sy_rules.specs.Plans.{inputs_of, rulesets_of, actions_of, action_name, list_of_input, list_queues, queues_of, workers_of}
-use Rattle.sy_rules.specs.Texts.{parts}
+pub use Rattle.sy_rules.specs.parts.Given.{Listed}
+use Rattle.sy_rules.specs.check.FaultsThere.{HasNoFault}
+use Rattle.sy_rules.specs.parts.Given.{Given, GivesAction, GivesInput, GiveLists, GiveQueues, GiveWorkers}
+use Rattle.sy_rules.specs.lists.Lines.{File, Lines, lists_of, body_of}
+use Rattle.sy_rules.specs.items.Outline.{Item, items}
+use Rattle.sy_rules.specs.parts.Plans.{inputs_of, rulesets_of, actions_of, action_name, list_names, list_of_input, list_queues, queues_of, workers_of}
+use Rattle.sy_rules.specs.lists.Texts.{parts}
 
 pub record Plan : Type 0 where
   pub inputs : List Input
@@ -26,6 +26,8 @@ pub record Plan : Type 0 where
   pub workers : List ℕ
   pub actions : List Action
   pub lists : List Listed
+  -- the name of each list
+  pub names : List (List ℕ)
 
 -- ---- the parts
 
@@ -45,7 +47,7 @@ input_part all i = record {
 abbrev pub action_part : ℕ → ActionParameters → Action
 action_part number a = record {
   name = action_name number a.name;
-  device = a.device;
+  destination = a.destination;
   retry = a.retry;
   resume_interval = a.resume_interval;
 }
@@ -77,7 +79,7 @@ lines_of script tests = lists_of (file_of (items script) tests) (parts script.to
 -- lists from this number on, which have these queues
 abbrev pub listed_from : List Lines → ℕ → List (Option ℕ) → List Listed
 listed_from lines number [] = []
-listed_from lines number (queue ∷ later) = record { steps = steps_of lines number; queue = queue } ∷ listed_from lines (number + 1) later
+listed_from lines number (queue ∷ later) = record { body = body_of lines number; queue = queue } ∷ listed_from lines (number + 1) later
 
 -- the parts of a plan, listed item after item
 pub record HasParts (script : Script) (plan : Plan) : Type 0 where
@@ -88,6 +90,7 @@ pub record HasParts (script : Script) (plan : Plan) : Type 0 where
   pub workers : plan.workers ≡ workers_of (items script)
   pub actions : plan.actions ≡ action_parts 0 (actions_of (items script))
   pub lists : plan.lists ≡ listed_from (lines_of script tests) 0 (list_queues (items script))
+  pub names : plan.names ≡ list_names (rulesets_of (items script)) (actions_of (items script))
 
 -- Each part of a plan is one that an object of the script gives, at its number, and each object that gives one has it there.
 pub record IsGiven (script : Script) (plan : Plan) : Type 0 where
@@ -98,6 +101,7 @@ pub record IsGiven (script : Script) (plan : Plan) : Type 0 where
   pub workers : GiveWorkers 0 plan.queues plan.workers
   pub actions : Given GivesAction 0 [] (items script) plan.actions
   pub lists : GiveLists (items script) (lines_of script tests) plan.lists
+  pub names : plan.names ≡ list_names (rulesets_of (items script)) (actions_of (items script))
 
 -- A script with a fault has no plan.
 pub record IsPlan (script : Script) (plan : Plan) : Type 0 where

@@ -1,9 +1,11 @@
 //! What may be wrong with a script that is read, and is no plan.
 
-ghost use Rattle.std.specs.Prelude.{◌≡◌, ◌⊎◌};
+ghost use Rattle.std.specs.Prelude.{◌≡◌, ◌⊎◌, Some};
 ghost use Rattle.sy_rules.specs.Faults as spec;
 
 use std::alloc::Global;
+use std::error::Error;
+use std::fmt;
 use sy_script::Items;
 
 /// The faults of a plan. Their numbers are those of `number`.
@@ -61,7 +63,40 @@ impl FaultCode {
             FaultCode::NoMemory => 49,
         }
     }
+
+    /// The number and the name of the fault, as `44 Range`.
+    pub fn words(self) -> &'static str
+        ensures { result.now ≡ spec.words self }
+    {
+        match self {
+            FaultCode::Facility => "31 Facility",
+            FaultCode::Severity => "32 Severity",
+            FaultCode::Shape => "33 Shape",
+            FaultCode::Operator => "34 Operator",
+            FaultCode::Missing => "40 Missing",
+            FaultCode::Duplicate => "41 Duplicate",
+            FaultCode::Unknown => "42 Unknown",
+            FaultCode::BadValue => "43 BadValue",
+            FaultCode::Range => "44 Range",
+            FaultCode::CallDepth => "45 CallDepth",
+            FaultCode::TooManyDeeds => "46 TooManyDeeds",
+            FaultCode::SamePort => "47 SamePort",
+            FaultCode::NotLoaded => "48 NotLoaded",
+            FaultCode::NoMemory => "49 NoMemory",
+        }
+    }
 }
+
+impl fmt::Display for FaultCode {
+    ghost output = { λ code. Some (spec.words code) };
+
+    fn fmt<W: fmt::Write>(&self, f: &mut fmt::Formatter<W>) -> fmt::Result {
+        let words = self.words();
+        write!(f, "{words}")
+    }
+}
+
+impl Error for FaultCode {}
 
 /// A fault and its word. The word is, of
 ///
@@ -99,3 +134,16 @@ impl PlanFault {
         }
     }
 }
+
+/// As `44 Range: queue.size`; without the word where that is no UTF-8, or memory ran out.
+impl fmt::Display for PlanFault {
+    fn fmt<W: fmt::Write>(&self, f: &mut fmt::Formatter<W>) -> fmt::Result {
+        let words = self.code.words();
+        match str::from_utf8(self.word.as_slice()) {
+            Ok(word) if !matches!(self.code, FaultCode::NoMemory) => write!(f, "{words}: {word}"),
+            _ => write!(f, "{words}"),
+        }
+    }
+}
+
+impl Error for PlanFault {}

@@ -1,7 +1,11 @@
 //! The parts of a plan.
 
-use crate::objects::Device;
-use crate::parameters::FlowControl;
+pub mod action_names;
+pub mod expressions;
+pub mod gather;
+
+use crate::parameters::objects::Destination;
+use crate::parameters::settings::FlowControl;
 use sy_script::Items;
 
 /// An input of a relay.
@@ -17,11 +21,11 @@ pub struct Input {
 }
 
 /// An action of a relay.
-#[derive(Debug, Drop)]
+#[derive(Drop)]
 pub struct Action {
     /// as given, or `action-N` by its number
     pub name: Items<u8>,
-    pub device: Device,
+    pub destination: Destination,
     /// How often a failed message is tried again; none where without end.
     pub retry: Option<u32>,
     /// how long to wait after a failure, in seconds

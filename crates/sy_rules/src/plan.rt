@@ -1,37 +1,43 @@
 //! What a relay does.
 ghost use Rattle.std.specs.Prelude.{◌≡◌, ◌<◌, ◌⊎◌, ◌∷◌, [], length, map, IfOk, IfErr, OnOk};
 ghost use Rattle.sy_rules.specs.Faults.{IsAnswered, no_memory};
-ghost use Rattle.sy_rules.specs.FaultsThere.{HasFault};
-ghost use Rattle.sy_rules.specs.ItemViews.{item};
-ghost use Rattle.sy_rules.specs.Loading.{faults_of_its_lists};
-ghost use Rattle.sy_rules.specs.Outline.{items};
+ghost use Rattle.sy_rules.specs.check.FaultsThere.{HasFault, HasNoFault};
+ghost use Rattle.sy_rules.specs.internal.ItemViews.{item};
+ghost use Rattle.sy_rules.specs.internal.Loading.{faults_of_its_lists};
+ghost use Rattle.sy_rules.specs.items.Outline.{items};
 ghost use Rattle.sy_rules.specs.PassPlan as pass;
 ghost use Rattle.sy_rules.specs.PlanValue.{HasParts, IsPlan};
-ghost use Rattle.sy_rules.specs.ScriptFaults.{faults_behind, faults_of, too_many_workers};
-ghost use Rattle.sy_rules.specs.Steps as steps;
-ghost use Rattle.sy_rules.specs.Whole.{IsWhole, queue_at, steps_at};
-ghost use Rattle.sy_rules.specs.Work.{IsSetOf, work};
+ghost use Rattle.sy_rules.specs.check.ScriptFaults.{faults_after, faults_of, too_many_workers};
+ghost use Rattle.sy_rules.specs.lists.Body as body;
+ghost use Rattle.sy_rules.specs.Whole.{IsWhole, name_at, queue_at, body_at};
+ghost use Rattle.sy_rules.specs.lists.Sets.{Bits};
+ghost use Rattle.sy_rules.specs.lists.Work.{Due, May, Must, work};
 ghost use Rattle.sy_wire.specs.Messages.{Said};
 
-use crate::action_names::name_by_number;
+mod load;
+
+use crate::check::among::DEFAULT_RULESET;
+use crate::check::script::check_script;
 use crate::fault::PlanFault;
-use crate::gather::action_parts;
-use crate::kind::Kind;
-use crate::load::{expand_lists, gather};
-use crate::objects::Device;
-use crate::occurrence::Occurrence;
-use crate::outline::{Item, outline};
-use crate::parameters::{FlowControl, QueueParameters, queue_parameters};
+use crate::items::outline::{Item, outline};
+use crate::lists::flow::flows;
+use crate::lists::list_names::list_names;
+use crate::lists::occurrence::Occurrence;
+use crate::lists::statement::Statement;
+use crate::lists::walk::due;
+use crate::parameters::kind::Kind;
+use crate::parameters::objects::Destination;
+use crate::parameters::settings::{FlowControl, QueueParameters, queue_parameters};
+use crate::parts::action_names::name_by_number;
+use crate::parts::gather::action_parts;
 use crate::parts::{Action, Input};
-use crate::script_check::check_script;
-use crate::step::Step;
-use crate::walk::due;
+use load::{expand_lists, gather};
 use std::alloc::{AllocError, Global};
 use std::marker::Model;
 use sy_script::Items;
 use sy_script::tree::Script;
 use sy_select::Expr;
-use sy_wire::Message;
+use sy_wire::{Class, Message};
 
 /// What a relay does: its inputs, queues, workers and actions, and for each list what it executes.
 ///
@@ -48,20 +54,22 @@ pub struct Plan {
     actions: Vec<Action>,
     tests: Vec<Expr>,
     // of each list: its table, its occurrences and its queue
-    tables: Vec<Items<Step>>,
+    tables: Vec<Items<Statement>>,
     occurrences: Vec<Items<Occurrence>>,
     list_queues: Vec<Option<u32>>,
+    // and its name
+    names: Vec<Items<u8>>,
 }
 
 impl Model for Plan {
     ghost use Rattle.sy_rules.specs.PlanValue as value;
-    ghost use Rattle.sy_rules.specs.PlanCodes.{plan_code};
+    ghost use Rattle.sy_rules.specs.internal.PlanCodes.{plan_code};
 
     ghost Value = { value.Plan };
 
     ghost coded = { plan_code };
 
-    ghost use Rattle.sy_rules.specs.PlanInside.{plan_of, IsKept};
+    ghost use Rattle.sy_rules.specs.internal.PlanInside.{plan_of, IsKept};
 
     ghost view = { plan_of };
 
@@ -69,12 +77,12 @@ impl Model for Plan {
 }
 
 // The tables and occurrences of the one list of the plan that takes messages in and writes them all.
-fn pass_list(alloc: Global) -> Result<(Vec<Items<Step>>, Vec<Items<Occurrence>>), AllocError>
-    ensures tables { IfOk result (λ found. found.0.items ≡ (Step.Run 0 0 ∷ []) ∷ []) }
+fn pass_list(alloc: Global) -> Result<(Vec<Items<Statement>>, Vec<Items<Occurrence>>), AllocError>
+    ensures tables { IfOk result (λ found. found.0.items ≡ (Statement.Run 0 0 ∷ []) ∷ []) }
     ensures occurrences { IfOk result (λ found. found.1.items ≡ (Occurrence.Run 0 ∷ []) ∷ []) }
 {
     let mut tables = Vec::new(alloc);
-    tables.push(Items::from_slice(alloc, &[Step::Run(0, 0)])?)?;
+    tables.push(Items::from_slice(alloc, &[Statement::Run(0, 0)])?)?;
     let mut occurrences = Vec::new(alloc);
     occurrences.push(Items::from_slice(alloc, &[Occurrence::Run(0)])?)?;
     Ok((tables, occurrences))
@@ -85,7 +93,7 @@ fn pass_action(alloc: Global) -> Result<Action, AllocError>
 {
     Ok(Action {
         name: name_by_number(alloc, 0)?,
-        device: Device::Archive(Items::new(alloc)),
+        destination: Destination::Archive(Items::new(alloc)),
         retry: Some(0),
         resume_interval: 30,
     })
@@ -119,13 +127,14 @@ fn pass(alloc: Global) -> Result<Plan, AllocError>
         tables,
         occurrences,
         list_queues: one(alloc, None)?,
+        names: one(alloc, Items::from_slice(alloc, DEFAULT_RULESET)?)?,
     })
 }
 
 // The plan of a script that has these items, with which nothing is wrong but for its lists.
 fn assemble(alloc: Global, script: &Script, found: &[Item<'_>]) -> Result<Plan, PlanFault>
     requires items { map item found.now ≡ items script.now }
-    requires clean { faults_behind (items script.now) [] (items script.now) ≡ [] }
+    requires clean { faults_after (items script.now) [] (items script.now) ≡ [] }
     requires workers { too_many_workers (items script.now) ≡ [] }
     ensures plan { IfOk result (λ plan. HasParts script.now plan) }
     ensures ok { OnOk result (faults_of_its_lists script.now ≡ []) }
@@ -133,6 +142,11 @@ fn assemble(alloc: Global, script: &Script, found: &[Item<'_>]) -> Result<Plan, 
 {
     let gathered = gather(alloc, found)?;
     let lists = expand_lists(alloc, script, &gathered)?;
+    let names = list_names(
+        alloc,
+        gathered.rulesets.as_slice(),
+        gathered.actions.as_slice(),
+    )?;
     let actions = action_parts(alloc, gathered.actions)?;
     Ok(Plan {
         inputs: gathered.inputs,
@@ -143,6 +157,7 @@ fn assemble(alloc: Global, script: &Script, found: &[Item<'_>]) -> Result<Plan, 
         tables: lists.tables,
         occurrences: lists.occurrences,
         list_queues: gathered.list_queues,
+        names,
     })
 }
 
@@ -165,8 +180,10 @@ impl Plan {
         ensures plan { IfOk result (λ plan. IsPlan script.now plan) }
         ensures ok { OnOk result (faults_of script.now ≡ []) }
         ensures err { IfErr result (λ f. IsAnswered (faults_of script.now) f) }
-        // What is refused is there.
+        // What is refused is there,
         ensures there { IfErr result (λ f. (f ≡ no_memory) ⊎ HasFault script.now f) }
+        // and a script without a fault is refused for memory alone.
+        ensures only { IfErr result (λ f. HasNoFault script.now → f ≡ no_memory) }
     {
         match outline(alloc, script) {
             Ok(found) => load_items(alloc, script, found.as_slice()),
@@ -175,11 +192,11 @@ impl Plan {
     }
 
     /// The plan that takes messages in and writes them all: one input that does not wait, of port 1; the main queue by its defaults, with
-    /// its one worker; one archive, whose file has no name; and the list that runs it. Its only refusal is for want of memory.
+    /// its one worker; one archive, whose file has no name; and the list that runs it. Its only refusal is where memory runs out.
     pub fn pass(alloc: Global) -> Result<Plan, PlanFault>
         ensures value { IfOk result (λ plan. plan ≡ pass.plan) }
         // Of each message the one occurrence is executed.
-        ensures work { IfOk result (λ plan. (m : Said) → work (steps_at plan 0) m ≡ 0 ∷ []) }
+        ensures work { IfOk result (λ plan. (m : Said) → work (body_at plan 0) m ≡ 0 ∷ []) }
         ensures err { IfErr result (λ f. f ≡ no_memory) }
     {
         match pass(alloc) {
@@ -216,17 +233,27 @@ impl Plan {
         self.actions.as_slice()
     }
 
-    /// How many lists there are.
-    pub fn lists(&self) -> u32
-        ensures { result ≡ length self.now.lists }
+    /// The names of the lists, in the order of their numbers: list 0 has that of the default ruleset, those of rulesets and of actions have
+    /// theirs.
+    pub fn list_names(&self) -> &[Items<u8>]
+        ensures names { result.now ≡ self.now.names }
+        ensures lists { length result.now ≡ length self.now.lists }
     {
-        self.list_queues.len() as u32
+        self.names.as_slice()
+    }
+
+    /// The name of a list: its ruleset's, or that of the action that it runs.
+    pub fn list_name(&self, list: u32) -> &[u8]
+        requires exists { list < length self.now.lists }
+        ensures { result.now ≡ name_at self.now list }
+    {
+        self.names[list as usize].as_slice()
     }
 
     /// What a list executes: its occurrences, numbered from 0.
     pub fn occurrences(&self, list: u32) -> &[Occurrence]
         requires exists { list < length self.now.lists }
-        ensures { result.now ≡ steps.occurrences (steps_at self.now list) }
+        ensures { result.now ≡ body.occurrences (body_at self.now list) }
     {
         self.occurrences[list as usize].as_slice()
     }
@@ -243,13 +270,26 @@ impl Plan {
     /// the message reaches.
     pub fn due(&self, list: u32, message: &Message) -> u64
         requires exists { list < length self.now.lists }
-        ensures { IsSetOf (work (steps_at self.now list) message.now) result }
+        ensures { Bits (Due (body_at self.now list) message.now) result }
     {
         due(&self.tables, &self.tests, list, message)
     }
 
-    /// Each number that a plan gives exists, and a plan keeps the limits of a relay.
-    pub fn is_whole(&self)
+    /// May and must of a list for a class: the occurrences that some valuation which the class admits executes, and those that every such
+    /// valuation executes. Bit k stands for occurrence k. A valuation gives each test occurrence of the list's expanded text a truth value:
+    /// where the class decides the test it is as the class says, every other is free by itself, also where one test occurs twice. So each
+    /// message of the class executes all of must and nothing outside may. It takes no memory, and visits each statement of the expanded text
+    /// once at most.
+    pub fn flows(&self, list: u32, class: Class) -> (u64, u64)
+        requires exists { list < length self.now.lists }
+        ensures may { Bits (May (body_at self.now list) class) result.0 }
+        ensures must { Bits (Must (body_at self.now list) class) result.1 }
+    {
+        flows(&self.tables, &self.tests, list, class)
+    }
+
+    /// What the type keeps, for the law.
+    pub(crate) fn is_whole(&self)
         ensures { IsWhole self.now }
     {
         let _ = &self.queues;

@@ -15,7 +15,7 @@ use Rattle.sy_script.specs.declared.lex.Quote.{Quote}
 use Rattle.sy_script.specs.declared.lex.Quote.TheVariants as quote
 use Rattle.sy_script.specs.declared.lex.Move.TheVariants as move
 use Rattle.sy_script.specs.Terms.{is_blank, is_escaped, is_in_word, starts_word}
-use Rattle.sy_script.specs.Lex.{Lexing, begin, with_front, follow, tokens_from, tokens}
+use Rattle.sy_script.specs.internal.Lex.{Lexing, begin, with_front, follow, tokens_from, tokens}
 use Rattle.sy_script.specs.Tokens.{All, NoneNext, is_equals, is_no_feed, InString, NoEnd, PieceAt, with_token, Cut, AreTokens}
 use Rattle.sy_script.specs.Spans.{InOrder}
 use Rattle.sy_script.specs.Faults.{is_sign, is_quote, is_star, BeginsNone}

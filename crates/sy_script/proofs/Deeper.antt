@@ -12,9 +12,9 @@ use Rattle.sy_script.specs.declared.tree.ObjectKind.{ObjectKind}
 use Rattle.sy_script.specs.declared.tree.Block.{Block}
 use Rattle.sy_script.specs.declared.tree.Top.{Top}
 use Rattle.sy_script.specs.Terms.{object_kind}
-use Rattle.sy_script.specs.Reading.{Outcome, Parser, Open, and_then, same_kind, first, expect, behind, turn, items_from, params}
-use Rattle.sy_script.specs.ReadingExpr.{Level, unit_by, unit_at, part_behind, chain_from, joined_by, expr_at, negated_by, level, expr}
-use Rattle.sy_script.specs.ReadingStmt.{otherwise_by, choice_at, stmt_by, stmt_at, body_at, block_by, block, stmt, body, rules, other_top, top_by, top, tops_then, tops_from, tops}
+use Rattle.sy_script.specs.internal.Reading.{Outcome, Parser, Open, and_then, same_kind, first, expect, behind, turn, items_from, params}
+use Rattle.sy_script.specs.internal.ReadingExpr.{Level, unit_by, unit_at, part_behind, chain_from, joined_by, expr_at, negated_by, level, expr}
+use Rattle.sy_script.specs.internal.ReadingStmt.{otherwise_by, choice_at, stmt_by, stmt_at, body_at, block_by, block, stmt, body, rules, other_top, top_by, top, tops_then, tops_from, tops}
 
 -- the first is the second, or too deep
 abbrev pub Within : {A : Type 0} → Result A Halt → Result A Halt → Type 0

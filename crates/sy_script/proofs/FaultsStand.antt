@@ -13,10 +13,10 @@ use Rattle.sy_script.specs.declared.script.Fault.{Fault}
 use Rattle.sy_script.specs.declared.tree.Span.{Span}
 use Rattle.sy_script.specs.declared.tree.Top.{Top}
 use Rattle.sy_script.specs.Terms.{max_depth}
-use Rattle.sy_script.specs.Lex.{tokens}
+use Rattle.sy_script.specs.internal.Lex.{tokens}
 use Rattle.sy_script.specs.Grammar as g
-use Rattle.sy_script.specs.ReadingStmt.{tops}
-use Rattle.sy_script.specs.Answer.{at, at_end, fault_of, ended_by, ended, reading, located, place, Locates}
+use Rattle.sy_script.specs.internal.ReadingStmt.{tops}
+use Rattle.sy_script.specs.internal.Answer.{at, at_end, fault_of, ended_by, ended, reading, located, place, Locates}
 use Rattle.sy_script.specs.Tokens.{Cut, AreTokens}
 use Rattle.sy_script.specs.Faults.{IsBadByte, IsUnclosed, IsUnexpected, IsTooDeep, IsLeftOut, NoneRefused, At, Stands}
 use Rattle.sy_script.proofs.Places.{is_place}

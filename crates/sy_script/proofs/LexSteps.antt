@@ -5,7 +5,7 @@ use Rattle.sy_script.specs.declared.token.Token.{Token}
 use Rattle.sy_script.specs.declared.token.Ending.{Ending}
 use Rattle.sy_script.specs.declared.lex.State.{State}
 use Rattle.sy_script.specs.declared.lex.Step.{Step}
-use Rattle.sy_script.specs.Lex.{Lexing, with_found, with_front, follow, and_on, step, end, tokens_from}
+use Rattle.sy_script.specs.internal.Lex.{Lexing, with_found, with_front, follow, and_on, step, end, tokens_from}
 
 with_front-follow : (front : List Token) (found : Option Token) (rest : Lexing) → with_front front (follow found rest) ≡ with_front (with_found front found) rest
 with_front-follow front None rest = refl

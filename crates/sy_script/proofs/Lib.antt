@@ -1,3 +1,4 @@
+pub mod DeadEnd
 pub mod LexSteps
 pub mod ReadBack
 pub mod ReadBackExpr
@@ -29,3 +30,4 @@ pub mod Even
 pub mod NoFault
 pub mod OneFault
 pub mod OneEnding
+pub mod OneAnswer

@@ -6,8 +6,8 @@ use Rattle.sy_script.specs.declared.token.Token.{Token}
 use Rattle.sy_script.specs.declared.halt.Halt.{Halt}
 use Rattle.sy_script.specs.declared.halt.Halt.TheVariants as halt
 use Rattle.sy_script.specs.Terms.{is_text, is_word, text_of, word_of}
-use Rattle.sy_script.specs.Reading.{Outcome, Parser, Open, and_then, ◌>>=◌, pure, refuse, same_kind, first, expect, behind, word, text, param}
-use Rattle.sy_script.specs.DeadEnd.{StopsAt, AtToken}
+use Rattle.sy_script.specs.internal.Reading.{Outcome, Parser, Open, and_then, ◌>>=◌, pure, refuse, same_kind, first, expect, behind, word, text, param}
+use Rattle.sy_script.proofs.DeadEnd.{StopsAt, AtToken}
 use Rattle.sy_script.proofs.Sound.{bind_ok, pure_ok}
 use Rattle.sy_script.proofs.ReadBack.{then_reads}
 

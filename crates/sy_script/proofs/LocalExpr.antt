@@ -9,9 +9,9 @@ use Rattle.sy_script.specs.declared.halt.Halt.TheVariants as halt
 use Rattle.sy_script.specs.declared.tree.Operator.{Operator}
 use Rattle.sy_script.specs.declared.tree.ExprTree.{ExprTree}
 use Rattle.sy_script.specs.Terms.{operator_of}
-use Rattle.sy_script.specs.Reading.{Outcome, Parser, Open, and_then, same_kind, behind}
-use Rattle.sy_script.specs.ReadingExpr.{operand_by, operand, compared_by, comparison, prifilt, Level, unit_by, unit_at, part_behind, chain_from, chain_at, joined_by, expr_at, group_at, negated_by, negation_at, level, expr}
-use Rattle.sy_script.specs.DeadEnd.{StopsAt, AtToken}
+use Rattle.sy_script.specs.internal.Reading.{Outcome, Parser, Open, and_then, same_kind, behind}
+use Rattle.sy_script.specs.internal.ReadingExpr.{operand_by, operand, compared_by, comparison, prifilt, Level, unit_by, unit_at, part_behind, chain_from, chain_at, joined_by, expr_at, group_at, negated_by, negation_at, level, expr}
+use Rattle.sy_script.proofs.DeadEnd.{StopsAt, AtToken}
 use Rattle.sy_script.proofs.Takes.{unit_takes}
 use Rattle.sy_script.proofs.Sound.{bind_ok, ok_is, behind_ok}
 use Rattle.sy_script.proofs.SoundExpr.{unit_ok, level_ok}

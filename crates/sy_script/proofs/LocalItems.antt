@@ -6,8 +6,8 @@ use Rattle.sy_script.specs.declared.token.Token.{Token}
 use Rattle.sy_script.specs.declared.halt.Halt.{Halt}
 use Rattle.sy_script.specs.declared.halt.Halt.TheVariants as halt
 use Rattle.sy_script.specs.declared.tree.Param.{Param}
-use Rattle.sy_script.specs.Reading.{Outcome, Parser, Open, and_then, behind, param, turn, items_from, items, params_in, params}
-use Rattle.sy_script.specs.DeadEnd.{StopsAt, AtToken}
+use Rattle.sy_script.specs.internal.Reading.{Outcome, Parser, Open, and_then, behind, param, turn, items_from, items, params_in, params}
+use Rattle.sy_script.proofs.DeadEnd.{StopsAt, AtToken}
 use Rattle.sy_script.proofs.Sound.{bind_ok, ok_is, behind_ok, param_ok}
 use Rattle.sy_script.proofs.ReadBack.{then_reads, behind_reads}
 use Rattle.sy_script.proofs.Local.{Alike, alike_front, behind_alike, Local, bind_err, local_bind, expect_local, param_local}

@@ -11,10 +11,10 @@ use Rattle.sy_script.specs.declared.tree.Block.{Block}
 use Rattle.sy_script.specs.declared.tree.Stmt.{Stmt}
 use Rattle.sy_script.specs.declared.tree.Top.{Top}
 use Rattle.sy_script.specs.Terms.{max_depth, object_kind}
-use Rattle.sy_script.specs.Reading.{Outcome, Parser, Open, and_then, refuse, same_kind, behind, first, params}
-use Rattle.sy_script.specs.ReadingStmt.{refusal_by, refusal, too_deep_by, too_deep, otherwise_by, choice_at, stmt_by, stmt_at, body_at, block_by, block, stmt, body, rules, other_top, top_by, top, tops_then, tops_from, tops}
+use Rattle.sy_script.specs.internal.Reading.{Outcome, Parser, Open, and_then, refuse, same_kind, behind, first, params}
+use Rattle.sy_script.specs.internal.ReadingStmt.{refusal_by, refusal, too_deep_by, too_deep, otherwise_by, choice_at, stmt_by, stmt_at, body_at, block_by, block, stmt, body, rules, other_top, top_by, top, tops_then, tops_from, tops}
 use Rattle.sy_script.specs.Grammar as g
-use Rattle.sy_script.specs.DeadEnd.{StopsAt, AtToken, IsDeadEnd}
+use Rattle.sy_script.proofs.DeadEnd.{StopsAt, AtToken, IsDeadEnd}
 use Rattle.sy_script.proofs.Takes.{stmt_takes, top_takes}
 use Rattle.sy_script.proofs.Sound.{pure_ok, behind_ok}
 use Rattle.sy_script.proofs.SoundStmt.{stmt_ok, block_ok, top_ok}

@@ -9,11 +9,11 @@ use Rattle.sy_script.specs.declared.fault.ScriptFault.{ScriptFault}
 use Rattle.sy_script.specs.declared.tree.Top.{Top}
 use Rattle.sy_script.specs.declared.tree.Script.{Script}
 use Rattle.sy_script.specs.Terms.{max_depth}
-use Rattle.sy_script.specs.ReadingStmt.{tops}
+use Rattle.sy_script.specs.internal.ReadingStmt.{tops}
 use Rattle.sy_script.specs.Grammar as g
 use Rattle.sy_script.specs.Brackets.{Balanced}
 use Rattle.sy_script.specs.Tokens.{Cut}
-use Rattle.sy_script.specs.DeadEnd.{AtToken}
+use Rattle.sy_script.proofs.DeadEnd.{AtToken}
 use Rattle.sy_script.specs.Faults.{IsBadByte, IsUnclosed, IsUnexpected, IsTooDeep, IsLeftOut, IsFault, Stands}
 use Rattle.sy_script.proofs.Balance.{balanced_on, top_balanced}
 use Rattle.sy_script.proofs.Cuts.{BadAt, OpenAt, one_cutting, cut_front, no_bad, no_open}

@@ -4,7 +4,7 @@ use Rattle.sy_script.specs.declared.token.Token.{Token}
 use Rattle.sy_script.specs.declared.token.Ending.TheVariants as ending
 use Rattle.sy_script.specs.declared.fault.FaultCode.{FaultCode}
 use Rattle.sy_script.specs.declared.fault.FaultCode.TheVariants as code
-use Rattle.sy_script.specs.Lex.{Lexing, tokens}
+use Rattle.sy_script.specs.internal.Lex.{Lexing, tokens}
 use Rattle.sy_script.specs.Tokens.{AreTokens}
 use Rattle.sy_script.specs.Brackets.{IsInnermost}
 use Rattle.sy_script.specs.Faults.{IsBadByte, IsUnclosed, Unended}

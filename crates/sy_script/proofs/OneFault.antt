@@ -1,9 +1,8 @@
 -- At most one of the faults 23, 24 and 26 stands in a text, and at one place.
-use Rattle.std.proofs.Common.{◌≡◌, ◌⊎◌, inl, inr, ◌≤◌, ℕ, false, cond, nat_lt, Option, Some, None, take, List, [], ◌∷◌, ◌++◌, length, Result, Ok, Err, refl, sym, ap, ◌∙◌, subst, append_assoc, append-nil, arith}
-use Rattle.std.proofs.lemmas.Bool.Decides.{nat_tests}
+use Rattle.std.proofs.Common.{◌≡◌, ◌⊎◌, inl, inr, ℕ, Option, Some, None, List, [], ◌∷◌, ◌++◌, length, Result, Ok, Err, refl, sym, ap, ◌∙◌, subst, append_assoc, append-nil, arith}
+use Rattle.std.specs.List.{slice_range}
 use Rattle.sy_script.specs.declared.token.Token.{Token}
 use Rattle.sy_script.specs.declared.token.Ending.{Ending}
-use Rattle.sy_script.specs.declared.fault.ScriptFault.{ScriptFault}
 use Rattle.sy_script.specs.declared.script.Fault.{Fault}
 use Rattle.sy_script.specs.declared.halt.Halt.{Halt}
 use Rattle.sy_script.specs.declared.halt.Halt.TheVariants as halt
@@ -11,24 +10,22 @@ use Rattle.sy_script.specs.declared.fault.FaultCode.{FaultCode}
 use Rattle.sy_script.specs.declared.fault.FaultCode.TheVariants as code
 use Rattle.sy_script.specs.declared.tree.Span.{Span}
 use Rattle.sy_script.specs.declared.tree.Top.{Top}
-use Rattle.sy_script.specs.Terms.{max_depth, max_text}
-use Rattle.sy_script.specs.Lex.{Lexing, tokens}
-use Rattle.sy_script.specs.ReadingStmt.{tops}
+use Rattle.sy_script.specs.Terms.{max_depth}
+use Rattle.sy_script.specs.internal.Lex.{Lexing, tokens}
+use Rattle.sy_script.specs.internal.ReadingStmt.{tops}
 use Rattle.sy_script.specs.Grammar as g
 use Rattle.sy_script.specs.Tokens.{Cut}
-use Rattle.sy_script.specs.Answer.{fault_of, ended, reading, located, too_large, answered, answer}
+use Rattle.sy_script.specs.internal.Answer.{fault_of, ended, reading}
 use Rattle.sy_script.specs.Brackets.{Balanced}
-use Rattle.sy_script.specs.Place.{IsPlace}
-use Rattle.sy_script.specs.DeadEnd.{AtToken}
-use Rattle.sy_script.specs.Faults.{IsUnexpected, IsTooDeep, IsLeftOut, NoneRefused, Misplaced}
+use Rattle.sy_script.proofs.DeadEnd.{StopsAt, AtToken}
+use Rattle.sy_script.specs.Faults.{Deepens, BeginsLeftOut, IsUnexpected, IsTooDeep, IsLeftOut, NoneRefused, Misplaced}
 use Rattle.sy_script.proofs.SoundStmt.{tops_ok}
-use Rattle.sy_script.proofs.LocalStmt.{top_stop}
+use Rattle.sy_script.proofs.LocalStmt.{dead_end, top_stop}
 use Rattle.sy_script.proofs.Cuts.{cut_in, are_tokens, cut_in_order}
 use Rattle.sy_script.proofs.OnePlace.{one_place}
 use Rattle.sy_script.proofs.Holes.{begins_front}
 use Rattle.sy_script.proofs.Reaches.{deepens_reads, left_out_reads}
 use Rattle.sy_script.proofs.Even.{none_open}
-use Rattle.sy_script.proofs.Places.{is_place}
 use Rattle.sy_script.proofs.Told.{IsOpen}
 use Rattle.sy_script.proofs.ToldStmt.{tops_told}
 use Rattle.sy_script.proofs.FaultsStand.{no_beginning}
@@ -153,14 +150,6 @@ misplaced_read text c n s =
     let v = read text c n s in
     (fault_of (length text) (tokens text).1 v.0, ap (ended (length text) (tokens text).1) v.1, ap (λ (p : FaultCode × ℕ). p.0) v.2, ap (λ (p : FaultCode × ℕ). p.1) v.2)
 
-pub misplaced_first : (text : List ℕ) (c : FaultCode) (n : ℕ) → length text ≤ max_text → Misplaced text c n → (f : ScriptFault) × (answer text ≡ Err f) × (f.code ≡ c) × IsPlace (take n text) f.line f.column
-unfolding answer
-misplaced_first text c n small s =
-    let v = misplaced_read text c n s in
-    let fits : nat_lt max_text (length text) ≡ false = grind (arith, nat_tests) in
-    let P : ℕ → Type 0 = λ m. IsPlace (take m text) (located text v.0).line (located text v.0).column in
-    (located text v.0, ap (λ b. cond b (Err too_large) (answered text (reading text))) fits ∙ ap (answered text) v.1, v.2, subst P v.3 (is_place (take v.0.span.start text)))
-
 pub one_misplaced : (text : List ℕ) (c d : FaultCode) (n m : ℕ) → Misplaced text c n → Misplaced text d m → (c ≡ d) × (n ≡ m)
 unfolding Read
 one_misplaced text c d n m a b =
@@ -169,3 +158,31 @@ one_misplaced text c d n m a b =
     let one : v.0 ≡ w.0 = (let e : (let r : Result (List Top) Halt = Err v.0 in r) ≡ Err w.0 = sym v.1 ∙ w.1 in cc) in
     let same : (c, n) ≡ (d, m) = sym v.2 ∙ (ap (fault_at text (tokens text).1) one ∙ w.2) in
     (ap (λ (p : FaultCode × ℕ). p.0) same, ap (λ (p : FaultCode × ℕ). p.1) same)
+
+-- a statement that is left out has one word
+pub one_word : (text : List ℕ) (n m : ℕ) (v w : List ℕ) → IsLeftOut text n v → IsLeftOut text m w → v ≡ w
+one_word text n m v w (IsLeftOut.token {ts = ts} {t = t} c d) (IsLeftOut.token {ts = us} {t = u} b e) =
+    let first : tops text max_depth (tokens text).0 ≡ Err (halt.LeftOut t.span) = in_all text (halt.LeftOut t.span) tt c (left_out_reads text ts t d) in
+    let second : tops text max_depth (tokens text).0 ≡ Err (halt.LeftOut u.span) = in_all text (halt.LeftOut u.span) tt b (left_out_reads text us u e) in
+    let halts : (let r : Result (List Top) Halt = Err (halt.LeftOut t.span) in r) ≡ Err (halt.LeftOut u.span) = sym first ∙ second in
+    let spans : t.span ≡ u.span = cc in
+    ap (λ (s : Span). slice_range text s.start s.end) spans
+
+-- ---- no script goes on with a token of 24 or 26
+
+same_next : (front : List Token) (t u : Token) (r s : List Token) → front ++ t ∷ r ≡ front ++ u ∷ s → t ≡ u
+same_next [] t u r s e = cc
+same_next (v ∷ front) t u r s e = same_next front t u r s (let tails : front ++ t ∷ r ≡ front ++ u ∷ s = cc in tails)
+
+module _ (text : List ℕ) (ts front rest : List Token) (t : Token) {end : ℕ} {left : List ℕ} (c : Cut 0 text ts end left) (is_ts : ts ≡ front ++ t ∷ rest) where
+  none_with : (h : Halt) → AtToken h → ((u : Token) → StopsAt h u → u.span ≡ t.span) → tops text max_depth ts ≡ Err h → (tree : List Top) (more : List Token) → g.TopsAt text max_depth tree (front ++ t ∷ more) → ⊥
+  none_with h hard spot e tree more d =
+      let w = dead_end text ts h hard e in
+      let fronts : front ≡ w.front = one_place 0 end ts front w.front rest w.rest t w.t (cut_in_order c 0 (omega arith)) is_ts w.is_ts (sym (spot w.t w.stops)) in
+      let heads : t ≡ w.t = same_next w.front t w.t rest w.rest (ap (λ f. f ++ t ∷ rest) (sym fronts) ∙ (sym is_ts ∙ w.is_ts)) in
+      let P : List Token → Type 0 = λ v. g.TopsAt text max_depth tree v in
+      w.none tree more (subst P (ap (λ f. f ++ t ∷ more) fronts ∙ ap (λ u. w.front ++ u ∷ more) heads) d)
+
+  pub dead_ends : Deepens text ts t ⊎ BeginsLeftOut text ts t → (tree : List Top) (more : List Token) → g.TopsAt text max_depth tree (front ++ t ∷ more) → ⊥
+  dead_ends (inl d) = none_with (halt.TooDeep t.span) tt (λ u is. is) (deepens_reads text ts t d)
+  dead_ends (inr d) = none_with (halt.LeftOut t.span) tt (λ u is. is) (left_out_reads text ts t d)

@@ -17,7 +17,7 @@ use Rattle.sy_script.specs.declared.lex.Quote.{Quote}
 use Rattle.sy_script.specs.declared.lex.Quote.TheVariants as quote
 use Rattle.sy_script.specs.declared.lex.Move.TheVariants as move
 use Rattle.sy_script.specs.Terms.{is_blank, is_in_word, starts_word, word_kind}
-use Rattle.sy_script.specs.Lex.{quoted, closes, begin, take_if, in_comment, go_on, token, finish, turn_with, turn, step_by, step, end_by, end, follow, and_on, tokens_from}
+use Rattle.sy_script.specs.internal.Lex.{quoted, closes, begin, take_if, in_comment, go_on, token, finish, turn_with, turn, step_by, step, end_by, end, follow, and_on, tokens_from}
 use Rattle.sy_script.specs.Tokens.{All, NoneNext, is_equals, is_no_feed, InString, NoEnd, PieceAt}
 
 -- ---- tests of one byte

@@ -1,8 +1,8 @@
 -- The line and the column of a place.
-use Rattle.std.proofs.Common.{◌≡◌, ◌≢◌, inl, inr, ℕ, ◌+◌, Bool, true, false, cond, List, [], ◌∷◌, ◌++◌, refl, sym, ap, ◌∙◌, subst, append_assoc, append-nil, arith, length-append}
+use Rattle.std.proofs.Common.{◌≡◌, ◌≢◌, ◌⊎◌, inl, inr, ℕ, ◌+◌, Bool, true, false, cond, List, [], ◌∷◌, ◌++◌, refl, sym, ap, ◌∙◌, subst, append_assoc, append-nil, arith, length, length-append}
 use Rattle.std.specs.Prelude.{◌==◌}
 use Rattle.std.proofs.lemmas.Bool.Decides.{eqb_tells}
-use Rattle.sy_script.specs.Answer.{place_from, place}
+use Rattle.sy_script.specs.internal.Answer.{place_from, place}
 use Rattle.sy_script.specs.Place.{feeds, IsOneLine, IsPlace}
 
 feeds_by : (t : Bool) (x y z : ℕ) → x ≡ y + z → cond t (x + 1) x ≡ cond t (y + 1) y + z
@@ -62,3 +62,50 @@ places before line column (b ∷ bytes) p =
 pub is_place : (before : List ℕ) → IsPlace before (place before).0 (place before).1
 unfolding place
 is_place before = places [] 1 1 before (record { above = []; last = []; is_before = refl; is_one_line = tt; is_above = inl refl; line_is = refl; column_is = refl })
+
+-- ---- one line and one column
+
+has_feed : (lines : List ℕ) → IsOneLine (lines ++ 10 ∷ []) → ⊥
+has_feed [] h = h.0 refl
+has_feed (b ∷ lines) h = has_feed lines h.1
+
+one_line_front : (front rest : List ℕ) → IsOneLine (front ++ rest) → IsOneLine front
+one_line_front [] rest h = tt
+one_line_front (b ∷ front) rest h = (h.0, one_line_front front rest h.1)
+
+no_bytes : (a b : List ℕ) → [] ≡ a ++ b → b ≡ []
+no_bytes [] b e = sym e
+no_bytes (x ∷ a) b e = absurd cc
+
+-- what ends in a line feed ends in no bytes of one line
+ends_in_feed : (lines above more : List ℕ) → lines ++ 10 ∷ [] ≡ above ++ more → IsOneLine more → more ≡ []
+ends_in_feed lines [] more e h = absurd (has_feed lines (subst (λ (l : List ℕ). IsOneLine l) (sym e) h))
+ends_in_feed [] (b ∷ above) more e h = no_bytes above more (let tails : [] ≡ above ++ more = cc in tails)
+ends_in_feed (x ∷ lines) (b ∷ above) more e h = ends_in_feed lines above more (let tails : lines ++ 10 ∷ [] ≡ above ++ more = cc in tails) h
+
+-- of two cuts of one list one is no later than the other
+two_cuts : (a b c d : List ℕ) → a ++ b ≡ c ++ d → ((more : List ℕ) × (c ≡ a ++ more) × (b ≡ more ++ d)) ⊎ ((more : List ℕ) × (a ≡ c ++ more) × (d ≡ more ++ b))
+two_cuts [] b c d e = inl (c, refl, e)
+two_cuts (x ∷ a) b [] d e = inr (x ∷ a, refl, sym e)
+two_cuts (x ∷ a) b (y ∷ c) d e =
+    let heads : x ≡ y = cc in
+    elim (two_cuts a b c d (let tails : a ++ b ≡ c ++ d = cc in tails)) [
+      | inl w ↦ inl (w.0, ap (λ z. z ∷ c) (sym heads) ∙ ap (λ l. x ∷ l) w.1, w.2)
+      | inr w ↦ inr (w.0, ap (λ z. z ∷ a) heads ∙ ap (λ l. y ∷ l) w.1, w.2)
+    ]
+
+-- the last line of a place ends no later than another's
+last_of : (above more last : List ℕ) → (above ++ more ≡ []) ⊎ ((lines : List ℕ) × (above ++ more ≡ lines ++ 10 ∷ [])) → IsOneLine (more ++ last) → more ++ last ≡ last
+last_of above more last (inl none) h = ap (λ l. l ++ last) (no_bytes above more (sym none))
+last_of above more last (inr w) h = ap (λ l. l ++ last) (ends_in_feed w.0 above more (sym w.1) (one_line_front more last h))
+
+pub one_column : (before : List ℕ) (a b n m : ℕ) → IsPlace before a n → IsPlace before b m → (a ≡ b) × (n ≡ m)
+one_column before a b n m p q = (p.line_is ∙ sym q.line_is, p.column_is ∙ (ap (λ (l : List ℕ). length l + 1) same ∙ sym q.column_is)) where
+  Ends : List ℕ → Type 0
+  Ends l = (l ≡ []) ⊎ ((lines : List ℕ) × (l ≡ lines ++ 10 ∷ []))
+
+  same : p.last ≡ q.last
+  same = elim (two_cuts p.above p.last q.above q.last (sym p.is_before ∙ q.is_before)) [
+    | inl w ↦ w.2 ∙ last_of p.above w.0 q.last (let P : List ℕ → Type 0 = λ l. Ends l in subst P w.1 q.is_above) (subst (λ (l : List ℕ). IsOneLine l) w.2 p.is_one_line)
+    | inr w ↦ sym (w.2 ∙ last_of q.above w.0 p.last (let P : List ℕ → Type 0 = λ l. Ends l in subst P w.1 p.is_above) (subst (λ (l : List ℕ). IsOneLine l) w.2 q.is_one_line))
+  ]

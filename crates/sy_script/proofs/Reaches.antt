@@ -12,9 +12,9 @@ use Rattle.sy_script.specs.declared.tree.Block.{Block}
 use Rattle.sy_script.specs.declared.tree.Stmt.{Stmt}
 use Rattle.sy_script.specs.declared.tree.Top.{Top}
 use Rattle.sy_script.specs.Terms.{max_depth, object_kind}
-use Rattle.sy_script.specs.Reading.{Outcome, Parser, Open, and_then, same_kind, expect, behind, turn, items_from, params}
-use Rattle.sy_script.specs.ReadingExpr.{unit_by, unit_at, part_behind, chain_from, chain_at, joined_by, expr_at, negated_by, level, expr}
-use Rattle.sy_script.specs.ReadingStmt.{refusal_by, too_deep_by, otherwise_by, stmt_at, block_by, block, stmt, body, rules, other_top, top_by, top, tops_from, tops}
+use Rattle.sy_script.specs.internal.Reading.{Outcome, Parser, Open, and_then, same_kind, expect, behind, turn, items_from, params}
+use Rattle.sy_script.specs.internal.ReadingExpr.{unit_by, unit_at, part_behind, chain_from, chain_at, joined_by, expr_at, negated_by, level, expr}
+use Rattle.sy_script.specs.internal.ReadingStmt.{refusal_by, too_deep_by, otherwise_by, stmt_at, block_by, block, stmt, body, rules, other_top, top_by, top, tops_from, tops}
 use Rattle.sy_script.specs.Grammar as g
 use Rattle.sy_script.specs.Standing.{is_joint, TopPlace, StmtPlace, BodyPlace, BlockPlace, ExprPlace, UnitPlace, JointPlace, GroupPlace}
 use Rattle.sy_script.specs.Faults.{begins_block, is_left_out, Deepens, BeginsLeftOut}

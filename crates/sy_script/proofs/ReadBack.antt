@@ -8,7 +8,7 @@ use Rattle.sy_script.specs.declared.token.Kind.TheVariants as k
 use Rattle.sy_script.specs.declared.token.Token.{Token}
 use Rattle.sy_script.specs.declared.tree.Param.{Param}
 use Rattle.sy_script.specs.Terms.{is_text, is_word, text_of, word_of}
-use Rattle.sy_script.specs.Reading.{Outcome, Parser, Open, and_then, same_kind, that, expect, behind, word, text, param, turn, items_from, params_in, params}
+use Rattle.sy_script.specs.internal.Reading.{Outcome, Parser, Open, and_then, same_kind, that, expect, behind, word, text, param, turn, items_from, params_in, params}
 use Rattle.sy_script.specs.Grammar as g
 
 -- ---- steps

@@ -10,8 +10,8 @@ use Rattle.sy_script.specs.declared.tree.Operand.TheVariants as value
 use Rattle.sy_script.specs.declared.tree.ExprTree.{ExprTree}
 use Rattle.sy_script.specs.declared.tree.ExprTree.TheVariants as e
 use Rattle.sy_script.specs.Terms.{comparison_of, is_text, operator_of, text_of}
-use Rattle.sy_script.specs.Reading.{Parser, Open, same_kind, expect, behind, text}
-use Rattle.sy_script.specs.ReadingExpr.{operand_by, operand, compared_by, comparison, prifilt, Level, unit_by, unit_at, part_behind, chain_from, chain_at, joined_by, expr_at, negated_by, negation_at, level, expr}
+use Rattle.sy_script.specs.internal.Reading.{Parser, Open, same_kind, expect, behind, text}
+use Rattle.sy_script.specs.internal.ReadingExpr.{operand_by, operand, compared_by, comparison, prifilt, Level, unit_by, unit_at, part_behind, chain_from, chain_at, joined_by, expr_at, negated_by, negation_at, level, expr}
 use Rattle.sy_script.specs.Grammar as g
 use Rattle.sy_script.proofs.Takes.{unit_takes}
 use Rattle.sy_script.proofs.ReadBack.{then_reads, expect_reads, behind_reads, behind_other, text_reads}

@@ -16,11 +16,11 @@ use Rattle.sy_script.specs.declared.tree.Top.TheVariants as t
 use Rattle.sy_script.specs.declared.tree.Script.{Script}
 use Rattle.sy_script.specs.declared.script.Fault.{Fault}
 use Rattle.sy_script.specs.Terms.{max_depth, object_kind}
-use Rattle.sy_script.specs.Lex.{Lexing}
-use Rattle.sy_script.specs.Reading.{Outcome, Parser, Open, and_then, same_kind, first, expect, behind, word, turn, items_from, params}
-use Rattle.sy_script.specs.ReadingExpr.{expr}
-use Rattle.sy_script.specs.ReadingStmt.{otherwise_by, choice_at, stmt_by, stmt_at, body_at, block_by, block, stmt, body, rules, other_top, top_by, top, tops_then, tops_from, tops}
-use Rattle.sy_script.specs.Answer.{ended, reading}
+use Rattle.sy_script.specs.internal.Lex.{Lexing}
+use Rattle.sy_script.specs.internal.Reading.{Outcome, Parser, Open, and_then, same_kind, first, expect, behind, word, turn, items_from, params}
+use Rattle.sy_script.specs.internal.ReadingExpr.{expr}
+use Rattle.sy_script.specs.internal.ReadingStmt.{otherwise_by, choice_at, stmt_by, stmt_at, body_at, block_by, block, stmt, body, rules, other_top, top_by, top, tops_then, tops_from, tops}
+use Rattle.sy_script.specs.internal.Answer.{ended, reading}
 use Rattle.sy_script.specs.Grammar as g
 use Rattle.sy_script.proofs.Cuts.{are_tokens}
 use Rattle.sy_script.proofs.Takes.{stmt_takes, top_takes}

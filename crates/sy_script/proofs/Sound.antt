@@ -10,7 +10,7 @@ use Rattle.sy_script.specs.declared.tree.Word.{Word}
 use Rattle.sy_script.specs.declared.tree.Text.{Text}
 use Rattle.sy_script.specs.declared.tree.Param.{Param}
 use Rattle.sy_script.specs.Terms.{is_text, is_word, text_of, word_of}
-use Rattle.sy_script.specs.Reading.{Outcome, Parser, Open, and_then, pure, refuse, same_kind, first, expect, behind, word, text, param, turn, items_from, params_in, params}
+use Rattle.sy_script.specs.internal.Reading.{Outcome, Parser, Open, and_then, pure, refuse, same_kind, first, expect, behind, word, text, param, turn, items_from, params_in, params}
 use Rattle.sy_script.specs.Grammar as g
 
 -- what stands at these tokens, under other names

@@ -16,11 +16,11 @@ use Rattle.sy_script.specs.declared.tree.Top.{Top}
 use Rattle.sy_script.specs.declared.tree.Top.TheVariants as t
 use Rattle.sy_script.specs.declared.tree.Script.{Script}
 use Rattle.sy_script.specs.Terms.{max_depth, max_text, object_kind}
-use Rattle.sy_script.specs.Lex.{tokens}
-use Rattle.sy_script.specs.Reading.{Outcome, Parser, Open, and_then, refuse, same_kind, first, expect, behind, word, items_from, params}
-use Rattle.sy_script.specs.ReadingExpr.{expr}
-use Rattle.sy_script.specs.ReadingStmt.{otherwise_by, choice_at, stmt_by, stmt_at, body_at, block_by, block, stmt, body, rules, other_top, top_by, top, tops_then, tops_from, tops}
-use Rattle.sy_script.specs.Answer.{ended, reading}
+use Rattle.sy_script.specs.internal.Lex.{tokens}
+use Rattle.sy_script.specs.internal.Reading.{Outcome, Parser, Open, and_then, refuse, same_kind, first, expect, behind, word, items_from, params}
+use Rattle.sy_script.specs.internal.ReadingExpr.{expr}
+use Rattle.sy_script.specs.internal.ReadingStmt.{otherwise_by, choice_at, stmt_by, stmt_at, body_at, block_by, block, stmt, body, rules, other_top, top_by, top, tops_then, tops_from, tops}
+use Rattle.sy_script.specs.internal.Answer.{ended, reading}
 use Rattle.sy_script.specs.Grammar as g
 use Rattle.sy_script.proofs.Sound.{bind_ok, ok_is, pure_ok, kind_is, first_ok, expect_ok, behind_ok, word_ok, params_ok, turn_ok, move}
 use Rattle.sy_script.proofs.SoundExpr.{whole_ok}

@@ -9,8 +9,8 @@ use Rattle.sy_script.specs.declared.tree.Operator.{Operator}
 use Rattle.sy_script.specs.declared.tree.Operand.{Operand}
 use Rattle.sy_script.specs.declared.tree.ExprTree.{ExprTree}
 use Rattle.sy_script.specs.Terms.{operator_of}
-use Rattle.sy_script.specs.Reading.{Parser, Open, and_then, first, expect, behind, text}
-use Rattle.sy_script.specs.ReadingExpr.{operand_by, operand, compared_by, comparison, prifilt, Level, unit_by, unit_at, part_behind, chain_from, chain_at, joined_by, expr_at, group_at, negated_by, negation_at, level, expr}
+use Rattle.sy_script.specs.internal.Reading.{Parser, Open, and_then, first, expect, behind, text}
+use Rattle.sy_script.specs.internal.ReadingExpr.{operand_by, operand, compared_by, comparison, prifilt, Level, unit_by, unit_at, part_behind, chain_from, chain_at, joined_by, expr_at, group_at, negated_by, negation_at, level, expr}
 use Rattle.sy_script.specs.Grammar as g
 use Rattle.sy_script.specs.Brackets.{opens, is_bracket, Balanced}
 use Rattle.sy_script.specs.Standing.{is_joint, ExprPlace, UnitPlace, JointPlace, GroupPlace}

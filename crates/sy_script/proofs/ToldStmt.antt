@@ -11,9 +11,9 @@ use Rattle.sy_script.specs.declared.tree.Block.{Block}
 use Rattle.sy_script.specs.declared.tree.Stmt.{Stmt}
 use Rattle.sy_script.specs.declared.tree.Top.{Top}
 use Rattle.sy_script.specs.Terms.{max_depth, object_kind}
-use Rattle.sy_script.specs.Reading.{Outcome, Open, same_kind, first, expect, behind, word, params}
-use Rattle.sy_script.specs.ReadingExpr.{expr}
-use Rattle.sy_script.specs.ReadingStmt.{refusal_by, refusal, too_deep_by, otherwise_by, choice_at, stmt_by, stmt_at, body_at, block_by, block, stmt, body, rules, other_top, top_by, top, tops_then, tops_from, tops}
+use Rattle.sy_script.specs.internal.Reading.{Outcome, Open, same_kind, first, expect, behind, word, params}
+use Rattle.sy_script.specs.internal.ReadingExpr.{expr}
+use Rattle.sy_script.specs.internal.ReadingStmt.{refusal_by, refusal, too_deep_by, otherwise_by, choice_at, stmt_by, stmt_at, body_at, block_by, block, stmt, body, rules, other_top, top_by, top, tops_then, tops_from, tops}
 use Rattle.sy_script.specs.Grammar as g
 use Rattle.sy_script.specs.Brackets.{opens, Balanced}
 use Rattle.sy_script.specs.Standing.{TopPlace, StmtPlace, BodyPlace, BlockPlace, ExprPlace}

@@ -1,5 +1,5 @@
 -- What each fault of a script is, and where it stands. Offsets count bytes from 0.
-use Rattle.std.specs.Prelude.{◌≡◌, ◌<◌, ℕ, ◌+◌, ◌==◌, ◌||◌, Bool, true, false, List, [], ◌∷◌, ◌++◌, length, take}
+use Rattle.std.specs.Prelude.{◌≡◌, ◌≢◌, ◌<◌, ◌≤◌, ℕ, ◌+◌, ◌==◌, ◌||◌, Bool, true, false, List, [], ◌∷◌, ◌++◌, length, take, Result, Ok, Err, codes, decimal}
 use Rattle.std.specs.List.{slice_range}
 use Rattle.std.specs.Char.{is_ascii_digit}
 use Rattle.sy_script.specs.declared.token.Kind.{Kind}
@@ -9,12 +9,37 @@ use Rattle.sy_script.specs.declared.fault.FaultCode.{FaultCode}
 use Rattle.sy_script.specs.declared.fault.FaultCode.TheVariants as code
 use Rattle.sy_script.specs.declared.fault.ScriptFault.{ScriptFault}
 use Rattle.sy_script.specs.declared.tree.Top.{Top}
+use Rattle.sy_script.specs.declared.tree.Script.{Script}
 use Rattle.sy_script.specs.Terms.{is_blank, is_escaped, max_text, starts_word}
 use Rattle.sy_script.specs.Tokens.{NoneNext, is_equals, InString, NoEnd, Cut, AreTokens}
 use Rattle.sy_script.specs.Brackets.{Balanced, IsInnermost}
 use Rattle.sy_script.specs.Grammar.{TopsAt, Begins}
 use Rattle.sy_script.specs.Standing.{StmtPlace, BlockPlace, UnitPlace, GroupPlace}
 use Rattle.sy_script.specs.Place.{IsPlace}
+
+-- the numbers of the faults
+abbrev pub number : FaultCode → ℕ
+number code.Byte = 21
+number code.Unclosed = 22
+number code.Unexpected = 23
+number code.TooDeep = 24
+number code.TooLarge = 25
+number code.LeftOut = 26
+number code.NoMemory = 27
+
+-- the number and the name
+abbrev pub words : FaultCode → List ℕ
+words code.Byte = codes "21 Byte"
+words code.Unclosed = codes "22 Unclosed"
+words code.Unexpected = codes "23 Unexpected"
+words code.TooDeep = codes "24 TooDeep"
+words code.TooLarge = codes "25 TooLarge"
+words code.LeftOut = codes "26 LeftOut"
+words code.NoMemory = codes "27 NoMemory"
+
+-- a fault in words: its number and name, and its line and column
+abbrev pub fault_text : ScriptFault → List ℕ
+fault_text f = words f.code ++ (codes " at " ++ (decimal f.line ++ (codes ":" ++ decimal f.column)))
 
 -- a byte is one of these
 abbrev pub is_sign : ℕ → Bool
@@ -34,7 +59,7 @@ pub data BeginsNone : List ℕ → Type 0 where
   bang : {rest : List ℕ} → NoneNext is_equals rest → BeginsNone (33 ∷ rest)
   slash : {rest : List ℕ} → NoneNext is_star rest → BeginsNone (47 ∷ rest)
 
--- Fault 21: a byte that begins no token, or the byte behind a `\` in a string that is none of the seven.
+-- Fault 21: a byte that begins no token, or the byte after a `\` in a string that is none of the seven.
 pub data IsBadByte (text : List ℕ) : ℕ → Type 0 where
   begins_none : {ts : List Token} {at : ℕ} {rest : List ℕ} → Cut 0 text ts at rest → BeginsNone rest → IsBadByte text at
   no_escape : {ts : List Token} {at quote : ℕ} {bytes : List ℕ} (b : ℕ) (rest : List ℕ) → Cut 0 text ts at (quote ∷ bytes ++ 92 ∷ b ∷ rest) → is_quote quote ≡ true → InString quote bytes → is_escaped b ≡ false → IsBadByte text (at + length bytes + 2)
@@ -136,3 +161,31 @@ IsFault text code.NoMemory line column word = (line ≡ 1) × (column ≡ 1) × 
 -- the fault is there, in its line and column, and with its word
 abbrev pub Stands : List ℕ → ScriptFault → Type 0
 Stands text f = IsFault text f.code f.line f.column f.word
+
+-- ---- which of several
+
+-- none of 23, 24 and 26 stands in the text
+abbrev pub NoneMisplaced : List ℕ → Type 0
+NoneMisplaced text = (c : FaultCode) (offset : ℕ) → Misplaced text c offset → ⊥
+
+-- Of the faults of a text this one goes before all others: 25 before the rest, and one of 23, 24 and 26 before 21 and 22. Of 23, 24 and 26 at
+-- most one stands, and of 21 and 22 at most one.
+abbrev pub IsFirst : List ℕ → FaultCode → Type 0
+IsFirst text code.Byte = (length text ≤ max_text) × NoneMisplaced text
+IsFirst text code.Unclosed = (length text ≤ max_text) × NoneMisplaced text
+IsFirst text code.Unexpected = length text ≤ max_text
+IsFirst text code.TooDeep = length text ≤ max_text
+IsFirst text code.TooLarge = Unit {0}
+IsFirst text code.LeftOut = length text ≤ max_text
+IsFirst text code.NoMemory = length text ≤ max_text
+
+-- the fault is the answer for the text, memory aside
+pub record IsAnswer (text : List ℕ) (f : ScriptFault) : Type 0 where
+  pub stands : Stands text f
+  pub is_first : IsFirst text f.code
+  pub not_memory : f.code ≢ code.NoMemory
+
+-- the tree is the answer, memory aside
+abbrev pub IsRead : Script → Result Script ScriptFault → Type 0
+IsRead script (Ok found) = found ≡ script
+IsRead script (Err f) = f.code ≡ code.NoMemory

@@ -23,7 +23,7 @@ use Rattle.sy_script.specs.Tokens.{AreTokens}
 
 -- ---- "(" *(word "=" string) ")"
 
--- behind the parenthesis
+-- after the parenthesis
 pub data ParamsIn (text : List ℕ) : List Param → List Token → List Token → Type 0 where
   close : {c : Token} {rest : List Token} → c.kind ≡ k.RightParen → ParamsIn text [] (c ∷ rest) rest
   param : {n a v : Token} {ps : List Param} {ts rest : List Token} → is_word n.kind ≡ true → a.kind ≡ k.Assign → v.kind ≡ k.Quoted → ParamsIn text ps ts rest
@@ -84,7 +84,7 @@ mutual
     action : {left : ℕ} {a : Token} {ps : List Param} {ts rest : List Token} → a.kind ≡ k.Action → ParamsAt text ps ts rest → StmtAt text left (s.Action a.span ps) (a ∷ ts) rest
     call : {left : ℕ} {c n : Token} {rest : List Token} → c.kind ≡ k.Call → is_word n.kind ≡ true → StmtAt text left (s.Call (word_of text n.span)) (c ∷ n ∷ rest) rest
     stop : {left : ℕ} {w : Token} {rest : List Token} → w.kind ≡ k.Stop → StmtAt text left (s.Stop w.span) (w ∷ rest) rest
-    -- An `else` belongs to the nearest `if`: behind one without it, none stands.
+    -- An `else` belongs to the nearest `if`: after one without it, none stands.
     one_way : {left : ℕ} {i w : Token} {x : ExprTree} {done : Block} {ts us rest : List Token} → i.kind ≡ k.If → ExprAt text left x ts (w ∷ us) → w.kind ≡ k.Then → BlockAt text left done us rest
         → NoElse rest → StmtAt text left (s.If x done None) (i ∷ ts) rest
     two_ways : {left : ℕ} {i w o : Token} {x : ExprTree} {done other : Block} {ts us vs rest : List Token} → i.kind ≡ k.If → ExprAt text left x ts (w ∷ us) → w.kind ≡ k.Then → BlockAt text left done us (o ∷ vs)

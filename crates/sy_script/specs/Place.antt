@@ -11,7 +11,7 @@ abbrev pub IsOneLine : List ℕ → Type 0
 IsOneLine [] = Unit {0}
 IsOneLine (b ∷ bytes) = (b ≢ 10) × IsOneLine bytes
 
--- The place behind these bytes: the line is one more than the line feeds before it, and the column one more than the bytes behind the last of them.
+-- The place after these bytes: the line is one more than the line feeds before it, and the column one more than the bytes after the last of them.
 pub record IsPlace (before : List ℕ) (line column : ℕ) : Type 0 where
   pub above : List ℕ
   pub last : List ℕ

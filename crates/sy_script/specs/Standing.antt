@@ -12,7 +12,7 @@ use Rattle.sy_script.specs.declared.tree.Top.{Top}
 use Rattle.sy_script.specs.Terms.{max_depth}
 use Rattle.sy_script.specs.Grammar.{ParamsAt, ExprAt, UnitAt, StmtAt, BlockAt, TopAt}
 
--- behind whole objects, rulesets and statements
+-- after whole objects, rulesets and statements
 pub data TopPlace (text : List ℕ) (ts : List Token) : List Token → Type 0 where
   start : TopPlace text ts ts
   next : {x : Top} {us rest : List Token} → TopPlace text ts us → TopAt text max_depth x us rest → TopPlace text ts rest
@@ -24,13 +24,13 @@ mutual
     -- a block without braces
     single : {left : ℕ} {rest : List Token} → BlockPlace text ts (suc left) rest → StmtPlace text ts left rest
 
-  -- behind a brace, and the statements that follow it
+  -- after a brace, and the statements that follow it
   pub data BodyPlace (text : List ℕ) (ts : List Token) : ℕ → List Token → Type 0 where
     rules : {w o : Token} {ps : List Param} {us rest : List Token} → TopPlace text ts (w ∷ us) → w.kind ≡ k.Ruleset → ParamsAt text ps us (o ∷ rest) → o.kind ≡ k.LeftBrace → BodyPlace text ts max_depth rest
     braced : {left : ℕ} {o : Token} {rest : List Token} → BlockPlace text ts (suc left) (o ∷ rest) → o.kind ≡ k.LeftBrace → BodyPlace text ts left rest
     next : {left : ℕ} {x : Stmt} {us rest : List Token} → BodyPlace text ts left us → StmtAt text left x us rest → BodyPlace text ts left rest
 
-  -- behind `then`, and behind `else`
+  -- after `then`, and after `else`
   pub data BlockPlace (text : List ℕ) (ts : List Token) : ℕ → List Token → Type 0 where
     done : {left : ℕ} {i w : Token} {x : ExprTree} {us rest : List Token} → StmtPlace text ts left (i ∷ us) → i.kind ≡ k.If → ExprAt text left x us (w ∷ rest) → w.kind ≡ k.Then → BlockPlace text ts left rest
     otherwise : {left : ℕ} {i w o : Token} {x : ExprTree} {done : Block} {us vs rest : List Token} → StmtPlace text ts left (i ∷ us) → i.kind ≡ k.If → ExprAt text left x us (w ∷ vs) → w.kind ≡ k.Then
@@ -43,7 +43,7 @@ is_joint k.And = true
 is_joint _ = false
 
 mutual
-  -- behind `if`, and behind a parenthesis
+  -- after `if`, and after a parenthesis
   pub data ExprPlace (text : List ℕ) (ts : List Token) : ℕ → List Token → Type 0 where
     test : {left : ℕ} {i : Token} {rest : List Token} → StmtPlace text ts left (i ∷ rest) → i.kind ≡ k.If → ExprPlace text ts left rest
     group : {left : ℕ} {o : Token} {rest : List Token} → GroupPlace text ts (suc left) (o ∷ rest) → o.kind ≡ k.LeftParen → ExprPlace text ts left rest
@@ -52,12 +52,12 @@ mutual
     start : {left : ℕ} {rest : List Token} → ExprPlace text ts left rest → UnitPlace text ts left rest
     next : {left : ℕ} {joint : Kind} {rest : List Token} → JointPlace text ts left joint rest → UnitPlace text ts left rest
 
-  -- behind `or`s, or behind `and`s, that join units
+  -- after `or`s, or after `and`s, that join units
   pub data JointPlace (text : List ℕ) (ts : List Token) : ℕ → Kind → List Token → Type 0 where
     one : {left : ℕ} {joint : Kind} {x : ExprTree} {j : Token} {us rest : List Token} → ExprPlace text ts left us → UnitAt text left x us (j ∷ rest) → j.kind ≡ joint → is_joint joint ≡ true → JointPlace text ts left joint rest
     more : {left : ℕ} {joint : Kind} {x : ExprTree} {j : Token} {us rest : List Token} → JointPlace text ts left joint us → UnitAt text left x us (j ∷ rest) → j.kind ≡ joint → JointPlace text ts left joint rest
 
-  -- where a parenthesis round an expression may stand: as a unit, or behind `not`
+  -- where a parenthesis round an expression may stand: as a unit, or after `not`
   pub data GroupPlace (text : List ℕ) (ts : List Token) : ℕ → List Token → Type 0 where
     unit : {left : ℕ} {rest : List Token} → UnitPlace text ts left rest → GroupPlace text ts left rest
     negated : {left : ℕ} {n : Token} {rest : List Token} → UnitPlace text ts (suc left) (n ∷ rest) → n.kind ≡ k.Not → GroupPlace text ts left rest

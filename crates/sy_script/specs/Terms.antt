@@ -31,7 +31,7 @@ starts_word b = is_ascii_alphabetic b || b == 95
 abbrev pub is_in_word : ℕ → Bool
 is_in_word b = starts_word b || is_ascii_digit b || b == 46 || b == 45
 
--- what may stand behind a `\` in a string: `"`, `'`, `\`, `$`, `n`, `r`, `t`
+-- what may stand after a `\` in a string: `"`, `'`, `\`, `$`, `n`, `r`, `t`
 abbrev pub is_escaped : ℕ → Bool
 is_escaped b = b == 34 || b == 39 || b == 92 || b == 36 || b == 110 || b == 114 || b == 116
 
@@ -87,7 +87,7 @@ is_text k.Quoted = true
 is_text k.SingleQuoted = true
 is_text _ = false
 
--- what a byte behind a `\` stands for
+-- what a byte after a `\` stands for
 abbrev pub escaped : ℕ → ℕ
 escaped b = if b == 110 then 10 else (if b == 114 then 13 else (if b == 116 then 9 else b))
 

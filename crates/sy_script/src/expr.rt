@@ -1,8 +1,8 @@
 //! Expressions.
 
 ghost use Rattle.std.specs.Prelude.{◌≡◌};
-ghost use Rattle.sy_script.specs.Reading.{Gives};
-ghost use Rattle.sy_script.specs.ReadingExpr as spec;
+ghost use Rattle.sy_script.specs.internal.Reading.{Gives};
+ghost use Rattle.sy_script.specs.internal.ReadingExpr as spec;
 ghost use Rattle.sy_script.specs.Terms as terms;
 
 use crate::boxed::Boxed;
@@ -34,6 +34,20 @@ fn operator_of(kind: Kind) -> Option<Operator>
     }
 }
 
+/// An expression that was read, where a token of this kind stands after it. That is taken too.
+#[tactic(auto, unfolding(crate::specs::internal::ReadingExpr::followed))]
+pub fn followed(
+    kind: Kind,
+    opened: Option<usize>,
+    inner: ExprTree,
+    rest: &[Token],
+) -> Found<'_, ExprTree>
+    ensures { Gives (λ x. (x.0, x.1.now)) result (spec.followed kind opened inner rest.now) }
+{
+    let (_token, rest) = expect(kind, opened, rest)?;
+    Ok((inner, rest))
+}
+
 impl<'s> Reader<'s> {
     fn number<'t>(&self, token: Token, after: &'t [Token]) -> Found<'t, Operand>
         ensures { Gives (λ x. (x.0, x.1.now)) result (spec.operand_by self.now.text.now Kind.Number token after.now) }
@@ -59,7 +73,7 @@ impl<'s> Reader<'s> {
     }
 
     // A number or a string.
-    #[tactic(auto, unfolding(crate::specs::ReadingExpr::operand))]
+    #[tactic(auto, unfolding(crate::specs::internal::ReadingExpr::operand))]
     fn operand<'t>(&self, opened: Option<usize>, rest: &'t [Token]) -> Found<'t, Operand>
         ensures { Gives (λ x. (x.0, x.1.now)) result (spec.operand self.now.text.now opened rest.now) }
     {
@@ -67,8 +81,8 @@ impl<'s> Reader<'s> {
         self.operand_by(token, after)
     }
 
-    // What stands behind a property.
-    #[tactic(auto, unfolding(crate::specs::ReadingExpr::comparison))]
+    // What stands after a property.
+    #[tactic(auto, unfolding(crate::specs::internal::ReadingExpr::comparison))]
     fn comparison<'t>(
         &self,
         property: Token,
@@ -91,8 +105,8 @@ impl<'s> Reader<'s> {
         Ok((ExprTree::Compare(comparison), rest))
     }
 
-    // What stands behind `prifilt`.
-    #[tactic(auto, unfolding(crate::specs::ReadingExpr::prifilt))]
+    // What stands after `prifilt`.
+    #[tactic(auto, unfolding(crate::specs::internal::ReadingExpr::prifilt))]
     fn prifilt<'t>(&self, opened: Option<usize>, rest: &'t [Token]) -> Found<'t, ExprTree>
         ensures { Gives (λ x. (x.0, x.1.now)) result (spec.prifilt self.now.text.now opened rest.now) }
     {
@@ -103,7 +117,7 @@ impl<'s> Reader<'s> {
         Ok((ExprTree::Prifilt(selector), rest))
     }
 
-    // What stands behind a parenthesis.
+    // What stands after a parenthesis.
     #[cycle(expr)]
     fn group<'t>(&self, paren: Token, left: usize, rest: &'t [Token]) -> Found<'t, ExprTree>
         ensures { Gives (λ x. (x.0, x.1.now)) result (spec.group self.now.text.now left paren rest.now) }
@@ -116,11 +130,11 @@ impl<'s> Reader<'s> {
             left: left - 1,
         };
         let (inner, rest) = self.expr(inside, rest)?;
-        let (_close, rest) = expect(Kind::RightParen, inside.opened, rest)?;
+        let (inner, rest) = followed(Kind::RightParen, inside.opened, inner, rest)?;
         Ok((ExprTree::Group(Boxed::new(self.alloc, inner)?), rest))
     }
 
-    // What stands behind `not`.
+    // What stands after `not`.
     #[cycle(expr)]
     fn negation<'t>(&self, word: Token, place: Place, rest: &'t [Token]) -> Found<'t, ExprTree>
         ensures { Gives (λ x. (x.0, x.1.now)) result (spec.negation self.now.text.now place.left place.opened word rest.now) }
@@ -138,7 +152,7 @@ impl<'s> Reader<'s> {
     }
 
     #[cycle(expr)]
-    #[tactic(auto, unfolding(crate::specs::ReadingExpr::unit))]
+    #[tactic(auto, unfolding(crate::specs::internal::ReadingExpr::unit))]
     fn unit<'t>(&self, place: Place, rest: &'t [Token]) -> Found<'t, ExprTree>
         ensures { Gives (λ x. (x.0, x.1.now)) result (spec.unit self.now.text.now place.left place.opened rest.now) }
     {
@@ -179,7 +193,7 @@ impl<'s> Reader<'s> {
 
     /// An expression: a part alone, or parts that are all joined by `or`, or all by `and`.
     #[cycle(expr)]
-    #[tactic(auto, unfolding(crate::specs::ReadingExpr::expr, crate::specs::ReadingExpr::unit, crate::specs::ReadingExpr::chain))]
+    #[tactic(auto, unfolding(crate::specs::internal::ReadingExpr::expr, crate::specs::internal::ReadingExpr::unit, crate::specs::internal::ReadingExpr::chain))]
     pub fn expr<'t>(&self, place: Place, rest: &'t [Token]) -> Found<'t, ExprTree>
         ensures { Gives (λ x. (x.0, x.1.now)) result (spec.expr self.now.text.now place.left place.opened rest.now) }
     {

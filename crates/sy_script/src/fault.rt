@@ -1,14 +1,16 @@
 //! What may be wrong with a script, and where.
 
-ghost use Rattle.std.specs.Prelude.{◌≡◌};
-ghost use Rattle.sy_script.specs.Answer as spec;
+ghost use Rattle.std.specs.Prelude.{◌≡◌, Some};
+ghost use Rattle.sy_script.specs.Faults as spec;
 
 use crate::items::Items;
+use std::error::Error;
+use std::fmt;
 
 /// The faults of a script. Their numbers are those of `number`.
 #[derive(Clone, Copy, Debug, PartialEq, Eq)]
 pub enum FaultCode {
-    /// A byte that begins no token, or that may not stand behind the `\` of a string.
+    /// A byte that begins no token, or that may not stand after the `\` of a string.
     Byte,
     /// A string, comment, parenthesis or brace that isn't ended.
     Unclosed,
@@ -39,6 +41,21 @@ impl FaultCode {
             FaultCode::NoMemory => 27,
         }
     }
+
+    /// The number and the name of the fault, as `21 Byte`.
+    pub fn words(self) -> &'static str
+        ensures { result.now ≡ spec.words self }
+    {
+        match self {
+            FaultCode::Byte => "21 Byte",
+            FaultCode::Unclosed => "22 Unclosed",
+            FaultCode::Unexpected => "23 Unexpected",
+            FaultCode::TooDeep => "24 TooDeep",
+            FaultCode::TooLarge => "25 TooLarge",
+            FaultCode::LeftOut => "26 LeftOut",
+            FaultCode::NoMemory => "27 NoMemory",
+        }
+    }
 }
 
 /// A fault and its place. Lines count from 1, columns from 1 in bytes; the word is that of `LeftOut`, and else empty.
@@ -49,3 +66,17 @@ pub struct ScriptFault {
     pub column: usize,
     pub word: Items<u8>,
 }
+
+/// As `23 Unexpected at 4:7`.
+impl fmt::Display for ScriptFault {
+    ghost output = { λ f. Some (spec.fault_text f) };
+
+    fn fmt<W: fmt::Write>(&self, f: &mut fmt::Formatter<W>) -> fmt::Result {
+        let words = self.code.words();
+        let line = self.line;
+        let column = self.column;
+        write!(f, "{words} at {line}:{column}")
+    }
+}
+
+impl Error for ScriptFault {}

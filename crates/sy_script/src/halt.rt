@@ -3,7 +3,7 @@
 use crate::tree::Span;
 use std::alloc::AllocError;
 
-#[derive(Clone, Copy, Debug, PartialEq, Eq)]
+#[derive(Clone, Copy)]
 pub enum Halt {
     Memory,
     /// This token may not stand here.

@@ -1,3 +1,5 @@
+//! A vector, as contracts see it.
+
 ghost use Rattle.std.specs.Prelude.{◌≡◌, [], ◌∷◌, ◌++◌, ◌<◌, length, slice_get, ◌↔◌, IsTrue, IfOk, OnOk, OnErr, OnSome};
 ghost use Rattle.std.specs.Option.{option_copied};
 
@@ -72,7 +74,7 @@ impl<T: Copy> Items<T> {
 }
 
 impl<T: Drop> Items<T> {
-    /// Puts an item behind the last.
+    /// Puts an item after the last.
     pub fn push(&mut self, item: T) -> Result<(), AllocError>
         ensures ok { OnOk result (self.new ≡ self.old ++ item ∷ []) }
         ensures err { OnErr result (self.new ≡ self.old) }

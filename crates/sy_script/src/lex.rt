@@ -3,7 +3,7 @@
 ghost use Rattle.std.specs.Prelude.{◌≡◌, map, IfOk, length};
 ghost use Rattle.std.specs.List.{slice_range};
 ghost use Rattle.std.specs.Str.{str_eq_ignore_ascii_case};
-ghost use Rattle.sy_script.specs.Lex as spec;
+ghost use Rattle.sy_script.specs.internal.Lex as spec;
 ghost use Rattle.sy_script.specs.Terms as terms;
 
 use crate::token::{Ending, KEYWORDS, Kind, Token};
@@ -11,7 +11,7 @@ use crate::tree::Span;
 use std::alloc::{AllocError, Global};
 
 /// What the bytes before the next one belong to. The numbers are places where it began.
-#[derive(Clone, Copy, Debug)]
+#[derive(Clone, Copy)]
 pub enum State {
     /// To nothing that goes on: blanks, or an ended comment.
     Between,
@@ -39,14 +39,14 @@ pub enum State {
     Greater(usize),
 }
 
-#[derive(Clone, Copy, Debug)]
+#[derive(Clone, Copy)]
 pub enum Quote {
     Double,
     Single,
 }
 
 /// What a state does with the next byte.
-#[derive(Clone, Copy, Debug)]
+#[derive(Clone, Copy)]
 pub enum Move {
     /// It takes the byte.
     On(State),
@@ -57,14 +57,14 @@ pub enum Move {
 }
 
 /// What comes of a byte: the token that it ends, and the next state or the end.
-#[derive(Clone, Copy, Debug)]
+#[derive(Clone, Copy)]
 pub struct Step {
     pub found: Option<Token>,
     pub next: Result<State, Ending>,
 }
 
 /// The tokens of a text, and how they end.
-#[derive(Debug, Drop)]
+#[derive(Drop)]
 pub struct Lexed {
     pub tokens: Vec<Token>,
     pub ending: Ending,
@@ -145,7 +145,7 @@ fn closes(quote: Quote, b: u8) -> bool
 }
 
 // The state that a byte begins.
-#[tactic(auto, unfolding(crate::specs::Lex::begin))]
+#[tactic(auto, unfolding(crate::specs::internal::Lex::begin))]
 fn begin(at: usize, b: u8) -> Result<State, Ending>
     ensures { result ≡ spec.begin at b }
 {
@@ -278,7 +278,7 @@ fn turn(text: &[u8], state: State, at: usize, b: u8) -> Step
     }
 }
 
-#[tactic(auto, unfolding(crate::specs::Lex::step))]
+#[tactic(auto, unfolding(crate::specs::internal::Lex::step))]
 fn next_step(text: &[u8], state: State, at: usize, b: u8) -> Step
     ensures { result ≡ spec.step text.now state at b }
 {

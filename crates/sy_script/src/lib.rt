@@ -18,6 +18,3 @@ pub use boxed::Boxed;
 pub use fault::{FaultCode, ScriptFault};
 pub use items::Items;
 pub use script::read_script;
-
-#[cfg(test)]
-mod tests;

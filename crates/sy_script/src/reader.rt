@@ -1,9 +1,9 @@
-//! The parts that rules are made of. Each reads from the front of the tokens that are left.
+//! The parts that rules are made of. Each reads the first of the tokens that are left.
 
 ghost use Rattle.std.specs.Prelude.{◌≡◌, IfOk};
-ghost use Rattle.sy_script.specs.Reading as spec;
+ghost use Rattle.sy_script.specs.internal.Reading as spec;
 ghost use Rattle.sy_script.specs.Terms as terms;
-ghost use Rattle.sy_script.specs.Reading.{Gives};
+ghost use Rattle.sy_script.specs.internal.Reading.{Gives};
 
 use crate::halt::Halt;
 use crate::items::Items;
@@ -12,7 +12,7 @@ use crate::token::{Kind, Token};
 use crate::tree::{Param, Span, Text, Word};
 use std::alloc::{AllocError, Global};
 
-/// What was read, and the tokens behind it.
+/// What was read, and the tokens after it.
 pub type Found<'t, T> = Result<(T, &'t [Token]), Halt>;
 
 /// The text that tokens are of.
@@ -22,7 +22,7 @@ pub struct Reader<'s> {
     pub text: &'s [u8],
 }
 
-#[tactic(auto, unfolding(crate::specs::Reading::same_kind))]
+#[tactic(auto, unfolding(crate::specs::internal::Reading::same_kind))]
 pub fn same_kind(a: Kind, b: Kind) -> bool
     ensures { result ≡ spec.same_kind a b }
 {
@@ -74,7 +74,7 @@ pub fn first(opened: Option<usize>, rest: &[Token]) -> Found<'_, Token>
 }
 
 /// The next token, which has to be of this kind.
-#[tactic(auto, unfolding(crate::specs::Reading::expect))]
+#[tactic(auto, unfolding(crate::specs::internal::Reading::expect))]
 pub fn expect(kind: Kind, opened: Option<usize>, rest: &[Token]) -> Found<'_, Token>
     ensures { Gives (λ x. (x.0, x.1.now)) result (spec.expect kind opened rest.now) }
 {
@@ -86,8 +86,8 @@ pub fn expect(kind: Kind, opened: Option<usize>, rest: &[Token]) -> Found<'_, To
     }
 }
 
-/// The tokens behind the next one, if that is of this kind.
-#[tactic(auto, unfolding(crate::specs::Reading::behind))]
+/// The tokens after the next one, if that is of this kind.
+#[tactic(auto, unfolding(crate::specs::internal::Reading::behind))]
 pub fn behind(kind: Kind, rest: &[Token]) -> Option<&[Token]>
     ensures { spec.view_rest result ≡ spec.behind kind rest.now }
 {
@@ -157,7 +157,7 @@ impl<'s> Reader<'s> {
     }
 
     /// A word.
-    #[tactic(auto, unfolding(crate::specs::Reading::word))]
+    #[tactic(auto, unfolding(crate::specs::internal::Reading::word))]
     pub fn word<'t>(&self, opened: Option<usize>, rest: &'t [Token]) -> Found<'t, Word>
         ensures { Gives (λ x. (x.0, x.1.now)) result (spec.word self.now.text.now opened rest.now) }
     {
@@ -169,7 +169,7 @@ impl<'s> Reader<'s> {
     }
 
     /// A string in either quotes.
-    #[tactic(auto, unfolding(crate::specs::Reading::text))]
+    #[tactic(auto, unfolding(crate::specs::internal::Reading::text))]
     pub fn text<'t>(&self, opened: Option<usize>, rest: &'t [Token]) -> Found<'t, Text>
         ensures { Gives (λ x. (x.0, x.1.now)) result (spec.text self.now.text.now opened rest.now) }
     {
@@ -181,7 +181,7 @@ impl<'s> Reader<'s> {
     }
 
     // `name="value"`, in double quotes
-    #[tactic(auto, unfolding(crate::specs::Reading::param))]
+    #[tactic(auto, unfolding(crate::specs::internal::Reading::param))]
     fn param<'t>(&self, opened: Option<usize>, rest: &'t [Token]) -> Found<'t, Param>
         ensures { Gives (λ x. (x.0, x.1.now)) result (spec.param self.now.text.now opened rest.now) }
     {
@@ -210,7 +210,7 @@ impl<'s> Reader<'s> {
     }
 
     /// `(name="value" ..)`
-    #[tactic(auto, unfolding(crate::specs::Reading::params))]
+    #[tactic(auto, unfolding(crate::specs::internal::Reading::params))]
     pub fn params<'t>(&self, opened: Option<usize>, rest: &'t [Token]) -> Found<'t, Items<Param>>
         ensures { Gives (λ x. (x.0, x.1.now)) result (spec.params self.now.text.now opened rest.now) }
     {

@@ -1,10 +1,9 @@
 //! Reads a script.
 
 ghost use Rattle.std.specs.Prelude.{◌≡◌, ◌≤◌, ◌<◌, ◌^◌, length, IfErr, IfOk};
-ghost use Rattle.sy_script.specs.Answer as spec;
-ghost use Rattle.sy_script.specs.Answer.{Answers};
+ghost use Rattle.sy_script.specs.internal.Answer as spec;
 ghost use Rattle.sy_script.specs.Depth.{depth};
-ghost use Rattle.sy_script.specs.Faults.{Stands};
+ghost use Rattle.sy_script.specs.Faults.{IsFirst, IsRead, Stands};
 ghost use Rattle.sy_script.specs.Grammar.{IsScript};
 ghost use Rattle.sy_script.specs.declared.tree.Script.{Script};
 
@@ -20,8 +19,8 @@ use std::alloc::Global;
 /// The most bytes that a script has.
 const MAX_TEXT: usize = 1_048_576;
 
-/// A fault by the place of its first byte, and the place behind its word.
-#[derive(Clone, Copy, Debug)]
+/// A fault by the place of its first byte, and the place after its word.
+#[derive(Clone, Copy)]
 pub struct Fault {
     pub code: FaultCode,
     pub span: Span,
@@ -65,8 +64,8 @@ fn fault_of(len: usize, ending: Ending, halt: Halt) -> Fault
     }
 }
 
-// The line and the column behind these bytes.
-#[tactic(auto, unfolding(crate::specs::Answer::place))]
+// The line and the column after these bytes.
+#[tactic(auto, unfolding(crate::specs::internal::Answer::place))]
 fn place(before: &[u8]) -> (usize, usize)
     requires { length before.now < 2 ^ 63 }
     ensures { result ≡ spec.place before.now }
@@ -111,7 +110,7 @@ fn located(alloc: Global, text: &[u8], fault: Fault) -> ScriptFault
     }
 }
 
-#[tactic(auto, unfolding(crate::specs::Answer::reading))]
+#[tactic(auto, unfolding(crate::specs::internal::Answer::reading))]
 fn read(alloc: Global, text: &[u8]) -> Result<Script, Fault>
     ensures { spec.Reads text.now result }
 {
@@ -129,18 +128,17 @@ fn read(alloc: Global, text: &[u8]) -> Result<Script, Fault>
 }
 
 /// Reads a script: its tree, or a fault with its place. A text of more than 1 MiB is refused.
-#[tactic(auto, unfolding(crate::specs::Answer::answer))]
 pub fn read_script(alloc: Global, text: &[u8]) -> Result<Script, ScriptFault>
     // What is read is a script, with this tree.
     ensures found { IfOk result (λ script. IsScript text.now script) }
     // A script is read, with each tree that it has, unless memory runs out.
-    ensures only { (script : Script) → IsScript text.now script → spec.IsRead script result }
+    ensures only { (script : Script) → IsScript text.now script → IsRead script result }
     // It nests at most 32 deep.
     ensures shallow { IfOk result (λ script. depth script ≤ 32) }
     // A fault is there, in its line and column, and with its word.
     ensures there { IfErr result (λ f. Stands text.now f) }
-    ensures exact { Answers text.now result }
-    ensures memory { IfErr result (λ f. f.code ≡ FaultCode.NoMemory → f ≡ spec.no_memory) }
+    // Of several it is the one that goes before all others.
+    ensures first { IfErr result (λ f. IsFirst text.now f.code) }
 {
     if text.len() > MAX_TEXT {
         return Err(ScriptFault {

@@ -1,17 +1,17 @@
 //! Statements, blocks and what stands at the top of a file.
 
 ghost use Rattle.std.specs.Prelude.{◌≡◌};
-ghost use Rattle.sy_script.specs.Reading.{Gives};
-ghost use Rattle.sy_script.specs.ReadingStmt as spec;
+ghost use Rattle.sy_script.specs.internal.Reading.{Gives};
+ghost use Rattle.sy_script.specs.internal.ReadingStmt as spec;
 ghost use Rattle.sy_script.specs.Terms as terms;
 
 use crate::boxed::Boxed;
-use crate::expr::Place;
+use crate::expr::{Place, followed};
 use crate::halt::Halt;
 use crate::items::Items;
 use crate::reader::{Found, Reader, behind, expect, first, same_kind};
 use crate::token::{Kind, Token};
-use crate::tree::{Block, Object, ObjectKind, Ruleset, Stmt, Top};
+use crate::tree::{Block, ExprTree, Object, ObjectKind, Ruleset, Stmt, Top};
 
 /// How deep blocks, parentheses and `not` nest together.
 const MAX_DEPTH: usize = 32;
@@ -52,7 +52,7 @@ fn object_kind(kind: Kind) -> Option<ObjectKind>
 
 impl<'s> Reader<'s> {
     #[cycle(stmt)]
-    #[tactic(auto, unfolding(crate::specs::ReadingStmt::stmt, crate::specs::ReadingStmt::choice))]
+    #[tactic(auto, unfolding(crate::specs::internal::ReadingStmt::stmt, crate::specs::internal::ReadingStmt::choice))]
     fn stmt<'t>(&self, place: Place, rest: &'t [Token]) -> Found<'t, Stmt>
         ensures { Gives (λ x. (x.0, x.1.now)) result (spec.stmt self.now.text.now place.left place.opened rest.now) }
     {
@@ -72,20 +72,38 @@ impl<'s> Reader<'s> {
         }
     }
 
-    // What stands behind `if`. An `else` belongs to the nearest one.
+    // What stands after `if`, up to `then`.
+    #[tactic(auto, unfolding(crate::specs::internal::ReadingStmt::condition, crate::specs::internal::ReadingExpr::followed))]
+    fn condition<'t>(&self, place: Place, rest: &'t [Token]) -> Found<'t, ExprTree>
+        ensures { Gives (λ x. (x.0, x.1.now)) result (spec.condition self.now.text.now place.left place.opened rest.now) }
+    {
+        let (test, rest) = self.expr(place, rest)?;
+        followed(Kind::Then, place.opened, test, rest)
+    }
+
+    // What stands after `then`. An `else` belongs to the nearest `if`.
     #[cycle(stmt)]
-    #[tactic(auto, unfolding(crate::specs::ReadingStmt::choice))]
+    #[tactic(auto, unfolding(crate::specs::internal::ReadingStmt::branches))]
+    fn branches<'t>(&self, place: Place, rest: &'t [Token]) -> Found<'t, (Block, Option<Block>)>
+        ensures { Gives (λ x. (x.0, x.1.now)) result (spec.branches self.now.text.now place.left place.opened rest.now) }
+    {
+        let (done, rest) = self.block(place, rest)?;
+        let Some(rest) = behind(Kind::Else, rest) else {
+            return Ok(((done, None), rest));
+        };
+        let (otherwise, rest) = self.block(place, rest)?;
+        Ok(((done, Some(otherwise)), rest))
+    }
+
+    // What stands after `if`.
+    #[cycle(stmt)]
+    #[tactic(auto, unfolding(crate::specs::internal::ReadingStmt::choice, crate::specs::internal::ReadingStmt::condition, crate::specs::internal::ReadingStmt::branches))]
     fn choice<'t>(&self, place: Place, rest: &'t [Token]) -> Found<'t, Stmt>
         ensures { Gives (λ x. (x.0, x.1.now)) result (spec.choice self.now.text.now place.left place.opened rest.now) }
     {
-        let (test, rest) = self.expr(place, rest)?;
-        let (_then, rest) = expect(Kind::Then, place.opened, rest)?;
-        let (done, rest) = self.block(place, rest)?;
-        let Some(rest) = behind(Kind::Else, rest) else {
-            return Ok((Stmt::If(test, done, None), rest));
-        };
-        let (otherwise, rest) = self.block(place, rest)?;
-        Ok((Stmt::If(test, done, Some(otherwise)), rest))
+        let (test, rest) = self.condition(place, rest)?;
+        let ((done, otherwise), rest) = self.branches(place, rest)?;
+        Ok((Stmt::If(test, done, otherwise), rest))
     }
 
     #[cycle(stmt)]
@@ -131,8 +149,8 @@ impl<'s> Reader<'s> {
         Err(Halt::End(place.opened))
     }
 
-    // What stands behind `ruleset`.
-    #[tactic(auto, unfolding(crate::specs::ReadingStmt::rules))]
+    // What stands after `ruleset`.
+    #[tactic(auto, unfolding(crate::specs::internal::ReadingStmt::rules))]
     fn ruleset<'t>(&self, word: Token, rest: &'t [Token]) -> Found<'t, Ruleset>
         ensures { Gives (λ x. (x.0, x.1.now)) result (spec.rules self.now.text.now terms.max_depth word rest.now) }
     {
@@ -147,7 +165,7 @@ impl<'s> Reader<'s> {
         Ok((Ruleset { span, params, body }, rest))
     }
 
-    #[tactic(auto, unfolding(crate::specs::ReadingStmt::top))]
+    #[tactic(auto, unfolding(crate::specs::internal::ReadingStmt::top))]
     fn top<'t>(&self, tokens: &'t [Token]) -> Found<'t, Top>
         ensures { Gives (λ x. (x.0, x.1.now)) result (spec.top self.now.text.now terms.max_depth tokens.now) }
     {

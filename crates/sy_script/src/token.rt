@@ -3,7 +3,7 @@
 use crate::tree::Span;
 
 /// The kind of a token. Words that the grammar knows have kinds of their own, and are words all the same.
-#[derive(Clone, Copy, Debug, PartialEq, Eq)]
+#[derive(Clone, Copy, PartialEq, Eq)]
 pub enum Kind {
     Module,
     Global,
@@ -45,14 +45,14 @@ pub enum Kind {
 }
 
 /// A token, and where it stands.
-#[derive(Clone, Copy, Debug, PartialEq, Eq)]
+#[derive(Clone, Copy)]
 pub struct Token {
     pub kind: Kind,
     pub span: Span,
 }
 
 /// How the tokens of a text end.
-#[derive(Clone, Copy, Debug, PartialEq, Eq)]
+#[derive(Clone, Copy)]
 pub enum Ending {
     /// At the end of the text.
     Complete,

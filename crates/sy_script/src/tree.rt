@@ -4,35 +4,35 @@ use crate::boxed::Boxed;
 use crate::items::Items;
 
 /// The bytes from `start` up to, and without, `end`, counted from 0.
-#[derive(Clone, Copy, Debug, PartialEq, Eq)]
+#[derive(Clone, Copy, Debug)]
 pub struct Span {
     pub start: usize,
     pub end: usize,
 }
 
 /// A word, a property (with its `$`) or a number, as the text spells it.
-#[derive(Debug, Drop)]
+#[derive(Drop)]
 pub struct Word {
     pub text: Items<u8>,
     pub span: Span,
 }
 
 /// A string: its bytes with the escapes resolved, and the place of it with its quotes.
-#[derive(Debug, Drop)]
+#[derive(Drop)]
 pub struct Text {
     pub bytes: Items<u8>,
     pub span: Span,
 }
 
 /// `name="value"`
-#[derive(Debug, Drop)]
+#[derive(Drop)]
 pub struct Param {
     pub name: Word,
     pub value: Text,
 }
 
 /// The objects that stand alone in a file.
-#[derive(Clone, Copy, Debug, PartialEq, Eq)]
+#[derive(Clone, Copy)]
 pub enum ObjectKind {
     Module,
     Global,
@@ -41,7 +41,7 @@ pub enum ObjectKind {
 }
 
 /// `module(..)`, `global(..)`, `main_queue(..)` or `input(..)`, with the place of that word.
-#[derive(Debug, Drop)]
+#[derive(Drop)]
 pub struct Object {
     pub kind: ObjectKind,
     pub span: Span,
@@ -49,7 +49,7 @@ pub struct Object {
 }
 
 /// `ruleset(..) { .. }`, with the place of the word `ruleset`.
-#[derive(Debug, Drop)]
+#[derive(Drop)]
 pub struct Ruleset {
     pub span: Span,
     pub params: Items<Param>,
@@ -57,7 +57,7 @@ pub struct Ruleset {
 }
 
 /// Which operator the signs are; `Named` is any word, as `contains`.
-#[derive(Clone, Copy, Debug, PartialEq, Eq)]
+#[derive(Clone, Copy)]
 pub enum Operator {
     Equal,
     NotEqual,
@@ -69,7 +69,7 @@ pub enum Operator {
 }
 
 /// A test of a property, as `$msg contains "x"`. The operator's spelling is the text's, also for signs.
-#[derive(Debug, Drop)]
+#[derive(Drop)]
 pub struct Comparison {
     pub property: Word,
     pub operator: Operator,
@@ -78,20 +78,20 @@ pub struct Comparison {
 }
 
 /// What a property is compared with.
-#[derive(Debug, Drop)]
+#[derive(Drop)]
 pub enum Operand {
     Number(Word),
     Text(Text),
 }
 
 /// An expression, as it is written: parentheses are kept, since they count for its depth.
-#[derive(Debug, Drop)]
+#[derive(Drop)]
 pub enum ExprTree {
     /// Two or more parts joined by `or`.
     Or(Items<ExprTree>),
     /// Two or more parts joined by `and`.
     And(Items<ExprTree>),
-    /// `not`, behind which a `Group` or a `Prifilt` stands.
+    /// `not`, after which a `Group` or a `Prifilt` stands.
     Not(Boxed<ExprTree>),
     /// `( .. )`
     Group(Boxed<ExprTree>),
@@ -102,7 +102,7 @@ pub enum ExprTree {
 
 /// What a test leads to.
 #[cycle(tree)]
-#[derive(Debug, Drop)]
+#[derive(Drop)]
 pub enum Block {
     /// A statement without braces.
     Single(Boxed<Stmt>),
@@ -112,7 +112,7 @@ pub enum Block {
 
 /// A statement.
 #[cycle(tree)]
-#[derive(Debug, Drop)]
+#[derive(Drop)]
 pub enum Stmt {
     /// The place of the word `action`, and the parameters.
     Action(Span, Items<Param>),
@@ -125,7 +125,7 @@ pub enum Stmt {
 }
 
 /// What stands at the top of a file.
-#[derive(Debug, Drop)]
+#[derive(Drop)]
 pub enum Top {
     Object(Object),
     Ruleset(Ruleset),
@@ -133,7 +133,7 @@ pub enum Top {
 }
 
 /// A whole file, in the order of the text.
-#[derive(Debug, Drop)]
+#[derive(Drop)]
 pub struct Script {
     pub tops: Items<Top>,
 }

@@ -3,7 +3,8 @@ use Rattle.std.proofs.Common.{◌≡◌, ◌≢◌, ℕ, ◌<◌, ◌≤◌, ◌
 use Rattle.std.proofs.Math.ListN.{get_or-map, length-set, set}
 use Rattle.std.proofs.lemmas.Bool.{cases_eq}
 use Rattle.sy_select.specs.declared.severities.Severities.{Severities}
-use Rattle.sy_select.specs.Reading.{at, has_bit}
+use Rattle.sy_select.specs.internal.Masks.{has_bit}
+use Rattle.sy_select.specs.internal.Reading.{at}
 use Rattle.sy_select.specs.Selectors.{holds}
 
 abbrev pub bits_at : List Severities → ℕ → ℕ

@@ -6,7 +6,7 @@ use Rattle.std.proofs.lemmas.Nat.{or_lt, pow_pos}
 use Rattle.std.proofs.lemmas.Bool.{cases_eq, cases_lt, le-ltb, lt-ltb, ne_eqb}
 use Rattle.std.proofs.lemmas.Nat.Bits.{and_pow, bit_at-lt, bit_at-pow_other, bit_at-pow_same, bit_at_and, bit_at_not, bit_at_ones, bit_at_ones_above, bit_at_or}
 use Rattle.bitflags.specs.Sets.{without}
-use Rattle.sy_select.specs.Reading.{has_bit}
+use Rattle.sy_select.specs.internal.Masks.{has_bit}
 
 one_times : (b p : ℕ) → b < 2 → 0 < p → (b * p == p) ≡ (b == 1)
 one_times b p small some =

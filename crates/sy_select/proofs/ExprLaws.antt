@@ -1,5 +1,5 @@
 -- The laws of expressions.
-use Rattle.std.proofs.Common.{◌≡◌, inl, inr, ◌<◌, ◌+◌, ℕ, Bool, true, false, not, nat_eq, List, [], ◌∷◌, ◌++◌, Option, Some, None, length, drop, take, refl, sym, ap, ◌∙◌, arith}
+use Rattle.std.proofs.Common.{◌≡◌, inl, inr, ◌<◌, ◌+◌, ℕ, Bool, true, false, not, nat_eq, List, [], ◌∷◌, ◌++◌, Option, Some, None, length, map, drop, take, refl, sym, ap, ◌∙◌, arith}
 use Rattle.std.specs.Prelude.{◌↔◌}
 use Rattle.std.specs.List.{starts_with}
 use Rattle.std.proofs.lemmas.Bool.{false≢true}
@@ -18,7 +18,11 @@ use Rattle.sy_select.specs.declared.property.Property.{Property}
 use Rattle.sy_select.specs.declared.verdict.Verdict.{Verdict}
 use Rattle.sy_select.specs.declared.verdict.Verdict.TheVariants.{Yes, No, Either}
 use Rattle.sy_script.specs.declared.tree.Comparison.{Comparison}
-use Rattle.sy_select.specs.Faults.{IsFirst, IsRefusal, faults, no_memory}
+use Rattle.sy_script.specs.declared.tree.Span.{Span}
+use Rattle.sy_select.specs.declared.fault.FaultCode.{FaultCode}
+use Rattle.sy_select.specs.internal.Reading.{Refuses}
+use Rattle.sy_select.specs.Selectors as selectors
+use Rattle.sy_select.specs.Faults.{IsFirst, IsRefusal, at_place, faults, faults_at, no_memory}
 use Rattle.sy_select.specs.declared.fault.SelectFault.{SelectFault}
 use Rattle.sy_select.specs.Properties.{contains, kept, known, part_number, property_of, relates, says, test_by}
 use Rattle.sy_select.specs.Trees.{Written, all_faults, property_faults, test_faults, IsTest, Means, Selects}
@@ -121,13 +125,17 @@ none_in : (c : Comparison) (p : Option Property) (t : Test) → test_by p c ≡ 
 none_in c None t is = absurd cc
 none_in c (Some p) t is = rw is refl
 
-no_fault_selected : (text : List ℕ) (t : Test) → Selects text t → faults text ≡ []
-no_fault_selected text (test.Class (decided.Selected set)) is = no_faults text is.parts is.is_selector
-no_fault_selected text _ is = absurd is
+-- a selector has no fault at any place
+pub none_at : (span : Span) (text : List ℕ) (parts : List selectors.Part) → selectors.IsSelector text parts → faults_at span text ≡ []
+none_at span text parts is = ap (map (at_place span)) (no_faults text parts is)
+
+no_fault_selected : (span : Span) (text : List ℕ) (t : Test) → Selects text t → faults_at span text ≡ []
+no_fault_selected span text (test.Class (decided.Selected set)) is = none_at span text is.parts is.is_selector
+no_fault_selected span text _ is = absurd is
 
 no_fault_in : (w : Written) (t : Test) → IsTest w t → test_faults w ≡ []
 no_fault_in (Written.compared c) t is = none_in c (property_of c.property.text) t is
-no_fault_in (Written.selected text) t is = no_fault_selected text t is
+no_fault_in (Written.selected text) t is = no_fault_selected text.span text.bytes t is
 
 pub no_fault : (w : Formula Written) (x : Formula Test) → Means w x → all_faults w ≡ []
 no_fault (Formula.Test w) (Formula.Test t) h = no_fault_in w t h
@@ -150,3 +158,7 @@ same_first a b later e = cc
 pub refused_for : (found : List SelectFault) (fault answer : SelectFault) → IsFirst found fault → IsRefusal (fault ∷ []) answer → IsRefusal found answer
 refused_for found fault answer first (inl memory) = inl memory
 refused_for found fault answer first (inr one) = inr (first.0, first.1 ∙ ap (λ f. f ∷ first.0) (same_first fault answer one.0 one.1))
+
+-- the first flaw of a text is its first fault, at the text's place
+pub first_at : (span : Span) (text : List ℕ) (c : FaultCode) (word : List ℕ) → Refuses (faults text) c word → IsFirst (faults_at span text) (record { code = c; word = word; span = span })
+first_at span text c word first = (map (at_place span) first.0, ap (map (at_place span)) first.1)

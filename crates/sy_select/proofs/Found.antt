@@ -4,8 +4,7 @@ use Rattle.std.specs.List.{flat_map}
 use Rattle.std.specs.Str.{bytes_eq, str_eq_ignore_ascii_case}
 use Rattle.std.proofs.lemmas.Bool.{cases_Bool}
 use Rattle.sy_select.specs.declared.fault.FaultCode.TheVariants as code
-use Rattle.sy_select.specs.declared.fault.SelectFault.{SelectFault}
-use Rattle.sy_select.specs.Faults.{behind_dot, behind_sign, behind_signs, cut, facilities_faults, facility_faults, faults, is_some, level_faults, no_name, part_faults, pieces, shape}
+use Rattle.sy_select.specs.Faults.{Flaw, behind_dot, behind_sign, behind_signs, cut, facilities_faults, facility_faults, faults, is_some, level_faults, no_name, part_faults, pieces, shape}
 use Rattle.sy_select.specs.Names.{facility_of, severity_of}
 use Rattle.sy_select.specs.Selectors.{add, all, AreFacilities, every, Facilities, IsFacilities, IsLevel, IsPart, IsSelector, last, Level, listed, more, none, not_star, one, Part, star, take_away}
 use Rattle.sy_select.proofs.Cutting.{pieces_last, pieces_more}
@@ -69,7 +68,7 @@ sign_or_none sign (b ∷ bytes) =
       | inr e ↦ (false, rw e refl)
     ]
 
-abbrev severity_faults : List ℕ → List ℕ → List SelectFault
+abbrev severity_faults : List ℕ → List ℕ → List Flaw
 severity_faults whole text = if is_some (severity_of (behind_signs text)) then [] else no_name code.Severity whole (behind_signs text) ∷ []
 
 severity_found : (whole text : List ℕ) → severity_faults whole text ≡ [] → (level : Level) × IsLevel text level

@@ -1,16 +1,17 @@
 -- A tree without faults is an expression.
-use Rattle.std.proofs.Common.{◌≡◌, ◌<◌, ◌+◌, ◌*◌, ◌/◌, ◌%◌, ◌^◌, ℕ, zero, suc, Bool, true, false, ◌==◌, List, [], ◌∷◌, length, Option, Some, None, get_or, refl, ap, ◌∙◌, arith}
+use Rattle.std.proofs.Common.{◌≡◌, ◌<◌, ◌+◌, ◌*◌, ◌/◌, ◌%◌, ◌^◌, ℕ, zero, suc, Bool, true, false, ◌==◌, List, [], ◌∷◌, length, map, Option, Some, None, get_or, refl, ap, ◌∙◌, arith}
 use Rattle.std.specs.Int.{bit_at}
 use native.Mathlib.Nat.{pow-suc}
 use Rattle.std.proofs.lemmas.Nat.Bits.{bit_at-suc, bit_at_lowest}
 use Rattle.sy_script.specs.declared.tree.Comparison.{Comparison}
+use Rattle.sy_script.specs.declared.tree.Span.{Span}
 use Rattle.sy_select.specs.declared.condition.ClassTest.TheVariants as decided
 use Rattle.sy_select.specs.declared.condition.Test.{Test}
 use Rattle.sy_select.specs.declared.condition.Test.TheVariants as test
 use Rattle.sy_select.specs.declared.property.Property.{Property}
-use Rattle.sy_select.specs.Faults.{faults}
+use Rattle.sy_select.specs.Faults.{Flaw, at_place, faults}
 use Rattle.sy_select.specs.Properties.{property_of, test_by, test_of}
-use Rattle.sy_select.specs.Reading.{has_bit}
+use Rattle.sy_select.specs.internal.Masks.{has_bit}
 use Rattle.sy_select.specs.Selectors.{IsSetOf, Pairs, pairs_of}
 use Rattle.sy_select.specs.Trees.{IsTest, Means, Written, all_faults, operator_faults, property_faults, test_faults}
 use Rattle.sy_select.specs.Truth.{Formula}
@@ -69,6 +70,11 @@ set_at zero f pairs within = absurd (omega arith)
 set_at (suc n) zero pairs within = refl
 set_at (suc n) (suc f) pairs within = set_at n f (λ g. pairs (suc g)) (omega arith)
 
+-- no faults, no flaws
+no_flaws : (span : Span) (flaws : List Flaw) → map (at_place span) flaws ≡ [] → flaws ≡ []
+no_flaws span [] none = refl
+no_flaws span (flaw ∷ flaws) none = absurd cc
+
 some_set : (text : List ℕ) → faults text ≡ [] → (set : List ℕ) × IsSetOf text set
 some_set text right =
     let found = selector_found text right in
@@ -95,7 +101,7 @@ test_found c (Some p) right = go (test_of p c) refl
 
 some_test : (w : Written) → test_faults w ≡ [] → (t : Test) × IsTest w t
 some_test (Written.compared c) right = test_found c (property_of c.property.text) right
-some_test (Written.selected text) right = let set = some_set text right in (test.Class (decided.Selected set.0), set.1)
+some_test (Written.selected text) right = let set = some_set text.bytes (no_flaws text.span (faults text.bytes) right) in (test.Class (decided.Selected set.0), set.1)
 
 pub some_meaning : (w : Formula Written) → all_faults w ≡ [] → (x : Formula Test) × Means w x
 some_meaning (Formula.Test w) right = let t = some_test w right in (Formula.Test t.0, t.1)

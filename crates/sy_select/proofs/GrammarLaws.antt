@@ -4,8 +4,7 @@ use Rattle.std.specs.Char.{is_ascii_alphanumeric}
 use Rattle.std.specs.List.{flat_map}
 use Rattle.std.specs.Str.{bytes_eq, str_eq_ignore_ascii_case, str_to_ascii_lowercase}
 use Rattle.std.proofs.lemmas.Bool.{ne_eqb, true≢false}
-use Rattle.sy_select.specs.declared.fault.SelectFault.{SelectFault}
-use Rattle.sy_select.specs.Faults.{all_alphanumeric, behind_sign, behind_signs, cut, facilities_faults, facility_faults, faults, level_faults, part_faults, pieces}
+use Rattle.sy_select.specs.Faults.{Flaw, all_alphanumeric, behind_sign, behind_signs, cut, facilities_faults, facility_faults, faults, level_faults, part_faults, pieces}
 use Rattle.sy_select.specs.Names.{severity_of}
 use Rattle.sy_select.specs.Selectors.{all, AreFacilities, equal, Facilities, IsFacilities, IsLevel, IsPart, IsSelector, last, Level, listed, more, named, none, not_equal, not_named, not_star, one, Part, star}
 use Rattle.sy_select.proofs.Cutting.{cut_at, cut_whole, Lacks, pieces_last, pieces_more}
@@ -67,7 +66,7 @@ names_right whole text fs (one name e) =
 names_right whole text fs (more name {rest} {fs = gs} e h) =
     rw (pieces_at 44 name rest (lacks_other 44 name refl (facility_alphanumeric name _ e)), e) (names_right whole rest gs h)
 
-either_way : (b : Bool) (xs : List SelectFault) → xs ≡ [] → (if b then [] else xs) ≡ []
+either_way : (b : Bool) (xs : List Flaw) → xs ≡ [] → (if b then [] else xs) ≡ []
 either_way true xs e = refl
 either_way false xs e = e
 
@@ -134,5 +133,5 @@ pub no_faults : (text : List ℕ) (parts : List Part) → IsSelector text parts 
 unfolding faults
 no_faults text parts h = selector_right text text parts h
 
-pub refused_is_none : (text : List ℕ) (fault : SelectFault) (later : List SelectFault) → faults text ≡ fault ∷ later → (parts : List Part) → IsSelector text parts → ⊥
+pub refused_is_none : (text : List ℕ) (fault : Flaw) (later : List Flaw) → faults text ≡ fault ∷ later → (parts : List Part) → IsSelector text parts → ⊥
 refused_is_none text fault later e parts h = let none = no_faults text parts h in cc

@@ -4,7 +4,8 @@ use Rattle.std.specs.Str.{bytes_eq, str_eq_ignore_ascii_case}
 use Rattle.std.specs.Cmp.Lexicographic.{bytes_decides}
 use Rattle.sy_select.specs.Faults.{behind_sign, behind_signs, level_faults}
 use Rattle.sy_select.specs.Names.{severity_of}
-use Rattle.sy_select.specs.Reading.{has_bit, ReadsLevel}
+use Rattle.sy_select.specs.internal.Masks.{has_bit}
+use Rattle.sy_select.specs.internal.Reading.{ReadsLevel}
 use Rattle.sy_select.specs.Selectors.{has_severity, IsLevel, Level, add, equal, every, named, none, not_equal, not_named, not_star, only, star, take_away, up_to}
 use Rattle.sy_select.proofs.Bits.{all_ones}
 

@@ -16,3 +16,5 @@ pub mod OneReading
 pub mod OneExpr
 pub mod Found
 pub mod FoundExpr
+pub mod Words
+pub mod Refusals

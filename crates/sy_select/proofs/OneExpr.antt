@@ -40,9 +40,9 @@ chosen text _ is = absurd is
 one_test : (w : Written) (t u : Test) → IsTest w t → IsTest w u → t ≡ u
 one_test (Written.compared c) t u p q = same_some t u (sym p ∙ q)
 one_test (Written.selected text) t u p q =
-    let a = chosen text t p in
-    let b = chosen text u q in
-    a.is ∙ ap (λ s. test.Class (decided.Selected s)) (one_set text a.set b.set a.set_is b.set_is) ∙ sym b.is
+    let a = chosen text.bytes t p in
+    let b = chosen text.bytes u q in
+    a.is ∙ ap (λ s. test.Class (decided.Selected s)) (one_set text.bytes a.set b.set a.set_is b.set_is) ∙ sym b.is
 
 same_or : {T : Type 0} (a b c d : Formula T) → a ≡ b → c ≡ d → Formula.Or a c ≡ Formula.Or b d
 same_or a b c d p q = rw (p, q) refl

@@ -2,9 +2,8 @@
 use Rattle.std.proofs.Common.{◌≡◌, ℕ, Bool, true, false, ◌||◌, if◌then◌else◌, ◌==◌, List, [], ◌∷◌, ◌++◌, Option, Some, None, codes, refl, sym, ap, ◌∙◌, append_assoc}
 use Rattle.std.specs.Str.{bytes_eq, str_eq_ignore_ascii_case}
 use Rattle.sy_select.specs.Faults.{behind_sign, pieces}
-use Rattle.sy_select.specs.Laws.{Stays}
 use Rattle.sy_select.specs.Names.{facility_of, severity_of}
-use Rattle.sy_select.specs.Selectors.{add, all, AreFacilities, equal, every, Facilities, IsFacilities, IsLevel, IsPart, IsSelector, last, Level, listed, more, named, none, not_equal, not_named, not_star, one, only, Part, star, take_away, up_to}
+use Rattle.sy_select.specs.Selectors.{add, all, AreFacilities, equal, every, Facilities, IsFacilities, IsLevel, IsPart, IsSelector, last, Level, listed, more, named, none, not_equal, not_named, not_star, one, only, Part, star, take_away, up_to, pairs_of}
 use Rattle.sy_select.proofs.Cutting.{Lacks}
 use Rattle.sy_select.proofs.GrammarLaws.{lacks_in_part, lacks_other, name_has_no_sign, part_cut, pieces_at, pieces_whole, severity_is_not_none}
 use Rattle.sy_select.proofs.NameLaws.{facility_alphanumeric, none_alphanumeric, severity_alphanumeric}
@@ -157,16 +156,10 @@ star_none = record { facilities = all; level = take_away every }
 abbrev star_star : Part
 star_star = record { facilities = all; level = add every }
 
-pub none_last : (text : List ℕ) (parts : List Part) → IsSelector text parts → Stays (text ++ codes ";*.none") false
-none_last text parts h = record {
-  parts = parts ++ star_none ∷ [];
-  is_selector = joined text (codes "*.none") parts (star_none ∷ []) h (last (record { front = codes "*"; behind = codes "none"; facilities = refl; level = none refl; whole = refl }));
-  each = λ f s. rw (one_more parts star_none) refl;
-}
+pub none_last : (text : List ℕ) (parts : List Part) → IsSelector text parts → (ps : List Part) × IsSelector (text ++ codes ";*.none") ps × ((f s : ℕ) → pairs_of ps f s ≡ false)
+none_last text parts h =
+    (parts ++ star_none ∷ [], joined text (codes "*.none") parts (star_none ∷ []) h (last (record { front = codes "*"; behind = codes "none"; facilities = refl; level = none refl; whole = refl })), λ f s. rw (one_more parts star_none) refl)
 
-pub all_last : (text : List ℕ) (parts : List Part) → IsSelector text parts → Stays (text ++ codes ";*.*") true
-all_last text parts h = record {
-  parts = parts ++ star_star ∷ [];
-  is_selector = joined text (codes "*.*") parts (star_star ∷ []) h (last (record { front = codes "*"; behind = codes "*"; facilities = refl; level = star; whole = refl }));
-  each = λ f s. rw (one_more parts star_star) refl;
-}
+pub all_last : (text : List ℕ) (parts : List Part) → IsSelector text parts → (ps : List Part) × IsSelector (text ++ codes ";*.*") ps × ((f s : ℕ) → pairs_of ps f s ≡ true)
+all_last text parts h =
+    (parts ++ star_star ∷ [], joined text (codes "*.*") parts (star_star ∷ []) h (last (record { front = codes "*"; behind = codes "*"; facilities = refl; level = star; whole = refl })), λ f s. rw (one_more parts star_star) refl)

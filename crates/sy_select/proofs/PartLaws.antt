@@ -8,7 +8,7 @@ use Rattle.sy_select.specs.declared.fault.FaultCode.{FaultCode}
 use Rattle.sy_select.specs.declared.fault.FaultCode.TheVariants as code
 use Rattle.sy_select.specs.Faults.{behind_dot, cut, facilities_faults, facility_faults, level_faults, no_name, part_faults, pieces}
 use Rattle.sy_select.specs.Names.{facility_of}
-use Rattle.sy_select.specs.Reading.{at, Lists, ReadsFacilities, ReadsLevel, ReadsPart, Refuses}
+use Rattle.sy_select.specs.internal.Reading.{at, Lists, ReadsFacilities, ReadsLevel, ReadsPart, Refuses}
 use Rattle.sy_select.specs.Selectors.{all, AreFacilities, is_among, listed, more, one}
 use Rattle.sy_select.proofs.Cutting.{first_piece, pieces_last, pieces_more}
 use Rattle.sy_select.proofs.LevelLaws.{same_text}

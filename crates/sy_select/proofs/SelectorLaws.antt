@@ -1,12 +1,12 @@
 -- Selectors part by part.
-use Rattle.std.proofs.Common.{◌≡◌, ℕ, ◌<◌, ◌^◌, Bool, true, false, not, ◌&&◌, if◌then◌else◌, List, [], ◌∷◌, ◌++◌, Some, None, refl, sym, ◌∙◌, append_assoc, zero, suc, get_or, length, slice_index, arith}
+use Rattle.std.proofs.Common.{◌≡◌, ℕ, ◌<◌, ◌^◌, Bool, true, false, List, [], ◌∷◌, ◌++◌, Some, None, refl, sym, ◌∙◌, append_assoc, zero, suc, get_or, length, slice_index, arith}
 use Rattle.std.proofs.Math.ListN.{replicate}
 use Rattle.std.proofs.lemmas.Nat.Bits.{bit_at-zero}
 use Rattle.std.specs.List.{flat_map}
 use Rattle.std.proofs.lemmas.List.Sums.{fold-append}
 use Rattle.sy_select.specs.declared.fault.FaultCode.{FaultCode}
 use Rattle.sy_select.specs.Faults.{cut, faults, part_faults, pieces}
-use Rattle.sy_select.specs.Reading.{at, has_bit, ReadsPart, Refuses}
+use Rattle.sy_select.specs.internal.Reading.{Applies, ReadsPart, Refuses}
 use Rattle.sy_select.specs.Selectors.{apply, holds, IsSelector, IsSetOf, last, more, no_pairs, Part, pairs_of, SamePairs}
 use Rattle.sy_select.proofs.Cutting.{first_piece, pieces_last, pieces_more}
 
@@ -21,12 +21,6 @@ pub record PartsSoFar (text rest sets : List ℕ) : Type 0 where
   pub size : length sets ≡ 24
   pub small : AreSmall sets
   pub same : SamePairs sets (pairs_of parts)
-
--- the sets after a part, by what the code says of it
-pub record Applies (table : List Bool) (takes : Bool) (mask : ℕ) (old new : List ℕ) : Type 0 where
-  pub size : length new ≡ 24
-  pub small : (f : ℕ) → f < 24 → slice_index old f < 2 ^ 8 → slice_index new f < 2 ^ 8
-  pub pairs : (f s : ℕ) → f < 24 → s < 8 → holds new f s ≡ (if at table f && has_bit mask s then not takes else holds old f s)
 
 pub parts_start : (text sets : List ℕ) → length sets ≡ 24 → AreSmall sets → ((f s : ℕ) → f < 24 → s < 8 → holds sets f s ≡ false) → PartsSoFar text text sets
 unfolding pairs_of

@@ -1,4 +1,4 @@
--- A code for expressions, by which a proof tells them apart: their symbols, each behind its parts.
+-- A code for expressions, by which a proof tells them apart: their symbols, each after its parts.
 use Rattle.std.specs.Prelude.{◌≡◌, ◌⊎◌, ℕ, zero, suc, List, [], ◌∷◌, refl}
 use Rattle.std.proofs.Common.{ap, ◌∙◌, inl, inr}
 use Rattle.std.specs.Coded.{Coded, code_by, coded_list, coded⊎, coded_ℕ}

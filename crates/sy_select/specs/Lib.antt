@@ -1,11 +1,10 @@
 pub mod Names
 pub mod Selectors
 pub mod Faults
-pub mod Reading
-pub mod Truth
-pub mod Codes
 pub mod Properties
+pub mod Truth
 pub mod Trees
 pub mod Nodes
+pub mod Codes
 pub mod Walk
-pub mod Laws
+pub mod internal

@@ -8,6 +8,17 @@ use Rattle.std.specs.List.{fold}
 use Rattle.std.specs.Str.{str_eq_ignore_ascii_case}
 use Rattle.sy_select.specs.Names.{facility_of, severity_of}
 
+-- ---- the signs between the pieces of a selector
+
+abbrev pub semicolon : ℕ
+semicolon = 59
+
+abbrev pub comma : ℕ
+comma = 44
+
+abbrev pub dot : ℕ
+dot = 46
+
 -- ---- parts
 
 pub data Facilities : Type 0 where
@@ -34,7 +45,7 @@ pub record Part : Type 0 where
 -- facility *("," facility)
 pub data AreFacilities : List ℕ → List ℕ → Type 0 where
   one : (name : List ℕ) {f : ℕ} → facility_of name ≡ Some f → AreFacilities name (f ∷ [])
-  more : (name : List ℕ) {rest fs : List ℕ} {f : ℕ} → facility_of name ≡ Some f → AreFacilities rest fs → AreFacilities (name ++ 44 ∷ rest) (f ∷ fs)
+  more : (name : List ℕ) {rest fs : List ℕ} {f : ℕ} → facility_of name ≡ Some f → AreFacilities rest fs → AreFacilities (name ++ comma ∷ rest) (f ∷ fs)
 
 -- "*" | facility *("," facility)
 abbrev pub IsFacilities : List ℕ → Facilities → Type 0
@@ -63,12 +74,12 @@ pub record IsPart (text : List ℕ) (part : Part) : Type 0 where
   pub behind : List ℕ
   pub facilities : IsFacilities front part.facilities
   pub level : IsLevel behind part.level
-  pub whole : text ≡ front ++ 46 ∷ behind
+  pub whole : text ≡ front ++ dot ∷ behind
 
 -- part *(";" part)
 pub data IsSelector : List ℕ → List Part → Type 0 where
   last : {text : List ℕ} {part : Part} → IsPart text part → IsSelector text (part ∷ [])
-  more : (text : List ℕ) {rest : List ℕ} {part : Part} {parts : List Part} → IsPart text part → IsSelector rest parts → IsSelector (text ++ 59 ∷ rest) (part ∷ parts)
+  more : (text : List ℕ) {rest : List ℕ} {part : Part} {parts : List Part} → IsPart text part → IsSelector rest parts → IsSelector (text ++ semicolon ∷ rest) (part ∷ parts)
 
 -- ---- the set
 

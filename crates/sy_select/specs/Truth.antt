@@ -38,12 +38,12 @@ abbrev pub first : Valuation → Bool
 first [] = false
 first (b ∷ v) = b
 
--- the values of what stands behind these test occurrences
+-- the values of what stands after these test occurrences
 abbrev pub behind : {T : Type 0} → List T → Valuation → Valuation
 behind ts v = drop (length ts) v
 
 -- The truth of an expression, whose test occurrences take the first values of a valuation. So several expressions may
--- share one valuation, each taking the values behind those of the one before.
+-- share one valuation, each taking the values after those of the one before.
 abbrev pub truth : {T : Type 0} → Formula T → Valuation → Bool
 truth (Formula.Test t) v = first v
 truth (Formula.Not x) v = not (truth x v)

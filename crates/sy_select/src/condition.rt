@@ -10,7 +10,7 @@ use sy_script::Items;
 use sy_wire::{Class, Message};
 
 /// How texts are compared.
-#[derive(Clone, Copy, Debug, PartialEq, Eq)]
+#[derive(Clone, Copy)]
 pub enum Match {
     Equal,
     NotEqual,
@@ -19,7 +19,7 @@ pub enum Match {
 }
 
 /// How numbers are compared.
-#[derive(Clone, Copy, Debug, PartialEq, Eq)]
+#[derive(Clone, Copy)]
 pub enum Relation {
     Equal,
     NotEqual,
@@ -30,7 +30,7 @@ pub enum Relation {
 }
 
 /// A test that the class of a message decides.
-#[derive(Debug, Drop)]
+#[derive(Drop)]
 pub enum ClassTest {
     Text(Part, Match, Items<u8>),
     /// A number above 255 is kept as 255, since no facility and no severity is as large.
@@ -40,7 +40,7 @@ pub enum ClassTest {
 }
 
 /// A test of a message.
-#[derive(Debug, Drop)]
+#[derive(Drop)]
 pub enum Test {
     /// Of a field, of which the class says nothing.
     Field(Field, Match, Items<u8>),

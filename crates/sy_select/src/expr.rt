@@ -4,8 +4,6 @@ ghost use Rattle.sy_select.specs.Properties.{known, says};
 ghost use Rattle.sy_select.specs.Truth.{IsVerdict, occurrences, truth, valuation};
 
 pub mod laws;
-#[cfg(test)]
-mod tests;
 
 use crate::fault::SelectFault;
 use crate::node::{Node, is_true, verdict_of};
@@ -17,7 +15,7 @@ use sy_script::tree::ExprTree;
 use sy_wire::{Class, Message};
 
 /// An expression that was read.
-#[derive(Debug, Drop)]
+#[derive(Drop)]
 pub struct Expr {
     node: Node,
 }
@@ -51,9 +49,9 @@ impl Expr {
         ensures found { IfOk result (λ expr. IsExpr tree.now expr) }
         // A tree with a fault isn't read.
         ensures right { IfOk result (λ expr. tree_faults tree.now ≡ []) }
-        // An expression is refused for want of memory alone.
+        // An expression is refused only where memory ran out.
         ensures only { (x : Formula Test) → IsExpr tree.now x → IfErr result (λ fault. fault ≡ no_memory) }
-        // A refusal is for the first fault in the text, or for want of memory.
+        // A refusal is for the first fault in the text, or memory ran out.
         ensures refused { IfErr result (λ fault. IsRefusal (tree_faults tree.now) fault) }
     {
         Ok(Expr {

@@ -4,7 +4,10 @@ ghost use Rattle.std.specs.Prelude.{◌≡◌, [], ◌∷◌};
 ghost use Rattle.sy_select.specs.Faults as spec;
 
 use std::alloc::Global;
+use std::error::Error;
+use std::{fmt, str};
 use sy_script::Items;
+use sy_script::tree::{Span, Word};
 
 /// The faults of a selector or an expression. Their numbers are those of `number`.
 #[derive(Clone, Copy, Debug, PartialEq, Eq)]
@@ -37,13 +40,32 @@ impl FaultCode {
             FaultCode::Unknown => 42,
         }
     }
+
+    /// The number and the name of the fault, as `31 Facility`.
+    pub fn words(self) -> &'static str
+        ensures { result.now ≡ spec.words self }
+    {
+        match self {
+            FaultCode::Facility => "31 Facility",
+            FaultCode::Severity => "32 Severity",
+            FaultCode::Shape => "33 Shape",
+            FaultCode::Operator => "34 Operator",
+            FaultCode::NoMemory => "35 NoMemory",
+            FaultCode::Unknown => "42 Unknown",
+        }
+    }
 }
 
-/// A fault and its word: the name that isn't known, the whole selector of `Shape`, the operator of `Operator`, and nothing of `NoMemory`.
+/// A fault with its word and its place.
+///
+/// The word is the name that isn't known, the whole selector of `Shape`, the operator of `Operator`, and nothing of `NoMemory`. The place
+/// is, in a script, that of the property of `Unknown`, of the operator of `Operator`, and of the string, with its quotes, of a selector; of
+/// a selector that was read by itself it is the whole text, and of `NoMemory` it is empty.
 #[derive(Debug, Drop)]
 pub struct SelectFault {
     pub code: FaultCode,
     pub word: Items<u8>,
+    pub span: Span,
 }
 
 impl SelectFault {
@@ -54,16 +76,45 @@ impl SelectFault {
         SelectFault {
             code: FaultCode::NoMemory,
             word: Items::new(alloc),
+            span: Span { start: 0, end: 0 },
         }
     }
 
     /// A fault with a copy of its word, or the one of memory where the copy finds none.
-    pub fn new(alloc: Global, code: FaultCode, word: &[u8]) -> SelectFault
-        ensures { spec.IsRefusal (record { code = code; word = word.now } ∷ []) result }
+    pub(crate) fn new(alloc: Global, code: FaultCode, word: &[u8], span: Span) -> SelectFault
+        ensures { spec.IsRefusal (record { code = code; word = word.now; span = span } ∷ []) result }
     {
         match Items::from_slice(alloc, word) {
-            Ok(word) => SelectFault { code, word },
+            Ok(word) => SelectFault { code, word, span },
             Err(_) => SelectFault::no_memory(alloc),
         }
     }
+
+    /// The fault of a word of a script.
+    pub(crate) fn of_word(alloc: Global, code: FaultCode, word: &Word) -> SelectFault
+        ensures { spec.IsRefusal (record { code = code; word = word.now.text; span = word.now.span } ∷ []) result }
+    {
+        SelectFault::new(alloc, code, word.text.as_slice(), word.span)
+    }
 }
+
+/// As `31 Facility: foo`, and `35 NoMemory` where there is no word. A word that is no text is escaped.
+impl fmt::Display for SelectFault {
+    ghost output = { spec.fault_text };
+
+    fn fmt<W: fmt::Write>(&self, f: &mut fmt::Formatter<W>) -> fmt::Result {
+        let words = self.code.words();
+        if self.word.is_empty() {
+            return write!(f, "{words}");
+        }
+        match str::from_utf8(self.word.as_slice()) {
+            Ok(word) => write!(f, "{words}: {word}"),
+            Err(_) => {
+                let word = self.word.as_slice().escape_ascii();
+                write!(f, "{words}: {word}")
+            }
+        }
+    }
+}
+
+impl Error for SelectFault {}

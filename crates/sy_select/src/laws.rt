@@ -1,9 +1,9 @@
 //! Laws of selectors: each function does nothing, and its contract is the law.
 
-ghost use Rattle.std.specs.Prelude.{◌≡◌, [], ◌++◌, ℕ, List, false, true, codes};
-ghost use Rattle.sy_select.specs.Faults.{faults};
-ghost use Rattle.sy_select.specs.Laws.{Stays};
-ghost use Rattle.sy_select.specs.Selectors.{Part, IsSelector, IsSetOf};
+ghost use Rattle.std.specs.Prelude.{◌≡◌, ◌≢◌, [], ◌++◌, ℕ, List, false, true, codes};
+ghost use Rattle.sy_select.specs.Faults.{IsRefusal, faults, no_memory};
+ghost use Rattle.sy_select.specs.Selectors.{Part, IsSelector, IsSetOf, pairs_of};
+ghost use Rattle.sy_select.specs.declared.fault.SelectFault.{SelectFault};
 
 /// A text has at most one list of parts.
 pub fn one_list_of_parts()
@@ -25,12 +25,21 @@ pub fn no_fault_is_a_selector()
     ensures { (text : List ℕ) → faults text ≡ [] → (parts : List Part) × IsSelector text parts }
 {}
 
-/// With `;*.none` behind it, a selector is one of no pairs.
-pub fn none_at_the_end()
-    ensures { (text : List ℕ) (parts : List Part) → IsSelector text parts → Stays (text ++ codes ";*.none") false }
+/// What is answered for a text that is no selector is determined, memory aside: the first of its faults. So of the
+/// faults of an expression.
+pub fn one_refusal()
+    ensures { (found : List SelectFault) (a b : SelectFault) → IsRefusal found a → IsRefusal found b → a ≢ no_memory
+        → b ≢ no_memory → a ≡ b }
 {}
 
-/// With `;*.*` behind it, a selector is one of all pairs, for each of the 24 facilities the 8 severities.
+/// With `;*.none` after it, a selector is one of no pairs.
+pub fn none_at_the_end()
+    ensures { (text : List ℕ) (parts : List Part) → IsSelector text parts
+        → (more : List Part) × IsSelector (text ++ codes ";*.none") more × ((f s : ℕ) → pairs_of more f s ≡ false) }
+{}
+
+/// With `;*.*` after it, a selector is one of all pairs, for each of the 24 facilities the 8 severities.
 pub fn all_at_the_end()
-    ensures { (text : List ℕ) (parts : List Part) → IsSelector text parts → Stays (text ++ codes ";*.*") true }
+    ensures { (text : List ℕ) (parts : List Part) → IsSelector text parts
+        → (more : List Part) × IsSelector (text ++ codes ";*.*") more × ((f s : ℕ) → pairs_of more f s ≡ true) }
 {}

@@ -1,8 +1,9 @@
-//! Reads the level of a part: what stands behind its dot.
+//! Reads the level of a part: what stands after its dot.
 
 ghost use Rattle.std.specs.Prelude.{◌≡◌, ◌<◌, ◌+◌, ◌==◌, ℕ, nat_lt, if◌then◌else◌, IfOk, IfErr};
 ghost use Rattle.sy_select.specs.Faults as spec;
-ghost use Rattle.sy_select.specs.Reading.{Refuses, ReadsLevel, has_bit};
+ghost use Rattle.sy_select.specs.internal.Masks.{has_bit};
+ghost use Rattle.sy_select.specs.internal.Reading.{Refuses, ReadsLevel};
 
 use crate::fault::FaultCode;
 use crate::names::severity_of;
@@ -10,7 +11,7 @@ use crate::pieces::{cut_sign, is_word, same_bytes, same_word};
 use crate::severities::{Level, Severities};
 
 /// A fault, and its word as it stands in the text.
-#[derive(Clone, Copy, Debug)]
+#[derive(Clone, Copy)]
 pub struct Refusal<'a> {
     pub code: FaultCode,
     pub word: &'a [u8],

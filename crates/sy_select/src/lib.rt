@@ -1,16 +1,16 @@
 //! Which messages a filter lets through: selectors and expressions, and what the class of a message alone decides.
 #![tactic(auto)]
 
-pub mod condition;
+mod condition;
 pub mod expr;
 pub mod fault;
 pub mod laws;
 mod level;
-pub mod names;
+mod names;
 mod node;
 mod part;
 mod pieces;
-pub mod property;
+mod property;
 mod read;
 pub mod selector;
 mod severities;
@@ -18,9 +18,5 @@ pub mod verdict;
 
 pub use expr::{Expr, eval, eval_class};
 pub use fault::{FaultCode, SelectFault};
-pub use names::{facility_of, facility_text, severity_of, severity_text};
 pub use selector::Selector;
 pub use verdict::Verdict;
-
-#[cfg(test)]
-mod tests;

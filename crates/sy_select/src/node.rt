@@ -11,7 +11,7 @@ use sy_script::{Boxed, Items};
 use sy_wire::{Class, Message};
 
 /// An expression without its parentheses.
-#[derive(Debug, Drop)]
+#[derive(Drop)]
 pub enum Node {
     Test(Test),
     Not(Boxed<Node>),

@@ -1,10 +1,10 @@
 //! Reads a part of a selector, and applies it.
 
-ghost use Rattle.std.specs.Prelude.{◌≡◌, ◌<◌, ◌^◌, ◌&&◌, ℕ, not, if◌then◌else◌, IfOk, IfErr, length, map, slice_index};
+ghost use Rattle.std.specs.Prelude.{IfOk, IfErr};
 ghost use Rattle.std.specs.List.{flat_map};
 ghost use Rattle.sy_select.specs.Faults as spec;
-ghost use Rattle.sy_select.specs.Reading.{Refuses, Lists, ReadsFacilities, ReadsPart, at, has_bit};
-ghost use Rattle.sy_select.specs.Selectors.{holds};
+ghost use Rattle.sy_select.specs.internal.Reading.{Applies, Lists, ReadsFacilities, ReadsPart, Refuses, masks};
+ghost use Rattle.sy_select.specs.Selectors.{comma};
 
 use crate::fault::FaultCode;
 use crate::level::{Refusal, no_name, read_level, shape};
@@ -13,7 +13,7 @@ use crate::pieces::{cut, same_bytes};
 use crate::severities::{Level, Severities};
 
 /// The facilities of a part, and its level.
-#[derive(Clone, Copy, Debug)]
+#[derive(Clone, Copy)]
 pub struct Part {
     pub facilities: [bool; 24],
     pub level: Level,
@@ -22,7 +22,7 @@ pub struct Part {
 // The facilities whose names stand between commas.
 fn listed<'a>(whole: &'a [u8], text: &'a [u8]) -> Result<[bool; 24], Refusal<'a>>
     ensures ok { IfOk result (λ set. Lists whole.now text.now set) }
-    ensures err { IfErr result (λ r. Refuses (flat_map (spec.facility_faults whole.now) (spec.pieces 44 text.now)) r.code r.word.now) }
+    ensures err { IfErr result (λ r. Refuses (flat_map (spec.facility_faults whole.now) (spec.pieces comma text.now)) r.code r.word.now) }
 {
     let mut set = [false; 24];
     let mut rest = text;
@@ -69,9 +69,7 @@ pub fn read_part<'a>(whole: &'a [u8], text: &'a [u8]) -> Result<Part, Refusal<'a
 impl Part {
     /// Adds the part's pairs to the severity sets of the facilities, or takes them away.
     pub fn apply(&self, sets: &mut [Severities; 24])
-        ensures size { length (map (λ x. x.0) sets.new) ≡ 24 }
-        ensures small { (f : ℕ) → f < 24 → slice_index (map (λ x. x.0) sets.old) f < 2 ^ 8 → slice_index (map (λ x. x.0) sets.new) f < 2 ^ 8 }
-        ensures pairs { (f s : ℕ) → f < 24 → s < 8 → holds (map (λ x. x.0) sets.new) f s ≡ (if at self.now.facilities f && has_bit self.now.level.severities.0 s then not self.now.level.takes else holds (map (λ x. x.0) sets.old) f s) }
+        ensures { Applies self.now.facilities self.now.level.takes self.now.level.severities.0 (masks sets.old) (masks sets.new) }
     {
         for facility in 0..24 {
             if self.facilities[facility] {

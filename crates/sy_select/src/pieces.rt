@@ -19,7 +19,7 @@ pub fn same_word(a: &[u8], b: &[u8]) -> bool
     a.eq_ignore_ascii_case(b)
 }
 
-/// What stands before the first such byte, and behind it where there is one.
+/// What stands before the first such byte, and after it where there is one.
 pub fn cut(bytes: &[u8], mark: u8) -> (&[u8], Option<&[u8]>)
     ensures front { result.0.now ≡ (spec.cut mark bytes.now).0 }
     ensures behind { option_copied result.1 ≡ (spec.cut mark bytes.now).1 }
@@ -32,7 +32,7 @@ pub fn cut(bytes: &[u8], mark: u8) -> (&[u8], Option<&[u8]>)
     (bytes, None)
 }
 
-/// Whether the text begins with a sign, and what is behind it.
+/// Whether the text begins with a sign, and what is after it.
 pub fn cut_sign(text: &[u8], sign: u8) -> (bool, &[u8])
     ensures behind { result.1.now ≡ spec.behind_sign sign text.now }
     ensures whole { text.now ≡ (if result.0 then sign ∷ result.1.now else result.1.now) }

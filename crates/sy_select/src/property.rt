@@ -3,7 +3,7 @@ ghost use Rattle.std.specs.Prelude.{◌≡◌, map};
 ghost use Rattle.sy_select.specs.Properties as spec;
 
 /// The parts of a message that its class doesn't give.
-#[derive(Clone, Copy, Debug, PartialEq, Eq)]
+#[derive(Clone, Copy)]
 pub enum Field {
     Msg,
     RawMsg,
@@ -14,14 +14,14 @@ pub enum Field {
 }
 
 /// The two parts of a class.
-#[derive(Clone, Copy, Debug, PartialEq, Eq)]
+#[derive(Clone, Copy)]
 pub enum Part {
     Facility,
     Severity,
 }
 
-/// What an expression names behind a `$`.
-#[derive(Clone, Copy, Debug, PartialEq, Eq)]
+/// What an expression names after a `$`.
+#[derive(Clone, Copy)]
 pub enum Property {
     /// The text of a field.
     Field(Field),

@@ -2,7 +2,7 @@
 ghost use Rattle.std.specs.Prelude.{◌≡◌, [], map, IfOk, IfErr};
 ghost use Rattle.sy_select.specs.Nodes.{formula};
 ghost use Rattle.sy_select.specs.Properties as spec;
-ghost use Rattle.sy_select.specs.Faults.{IsRefusal, faults, no_memory};
+ghost use Rattle.sy_select.specs.Faults.{IsRefusal, faults_at, no_memory};
 ghost use Rattle.sy_select.specs.Truth.{any};
 ghost use Rattle.sy_select.specs.Trees as trees;
 
@@ -12,7 +12,7 @@ use crate::node::Node;
 use crate::property::{Property, property_of};
 use crate::selector::Selector;
 use std::alloc::{AllocError, Global};
-use sy_script::tree::{Comparison, ExprTree, Operand, Operator};
+use sy_script::tree::{Comparison, ExprTree, Operand, Operator, Text};
 use sy_script::{Boxed, Items};
 
 fn match_by(operator: Operator, word: &[u8]) -> Option<Match>
@@ -107,25 +107,23 @@ fn comparison(alloc: Global, comparison: &Comparison) -> Result<Test, SelectFaul
     ensures right { IfOk result (λ test. trees.comparison_faults comparison.now ≡ []) }
     ensures err { IfErr result (λ fault. IsRefusal (trees.comparison_faults comparison.now) fault) }
 {
-    let name = comparison.property.text.as_slice();
-    let Some(property) = property_of(name) else {
-        return Err(SelectFault::new(alloc, FaultCode::Unknown, name));
+    let Some(property) = property_of(comparison.property.text.as_slice()) else {
+        return Err(SelectFault::of_word(alloc, FaultCode::Unknown, &comparison.property));
     };
-    let spelling = comparison.spelling.text.as_slice();
     match test_of(alloc, property, comparison) {
         Ok(Some(test)) => Ok(test),
-        Ok(None) => Err(SelectFault::new(alloc, FaultCode::Operator, spelling)),
+        Ok(None) => Err(SelectFault::of_word(alloc, FaultCode::Operator, &comparison.spelling)),
         Err(_) => Err(SelectFault::no_memory(alloc)),
     }
 }
 
 // The test of a `prifilt`.
-fn selected(alloc: Global, text: &[u8]) -> Result<Test, SelectFault>
-    ensures ok { IfOk result (λ test. trees.Selects text.now test) }
-    ensures right { IfOk result (λ test. faults text.now ≡ []) }
-    ensures err { IfErr result (λ fault. IsRefusal (faults text.now) fault) }
+fn selected(alloc: Global, text: &Text) -> Result<Test, SelectFault>
+    ensures ok { IfOk result (λ test. trees.Selects text.now.bytes test) }
+    ensures right { IfOk result (λ test. faults_at text.now.span text.now.bytes ≡ []) }
+    ensures err { IfErr result (λ fault. IsRefusal (faults_at text.now.span text.now.bytes) fault) }
 {
-    let selector = Selector::read(alloc, text)?;
+    let selector = Selector::read_at(alloc, text.bytes.as_slice(), text.span)?;
     Ok(Test::Class(ClassTest::Selected(selector)))
 }
 
@@ -178,7 +176,7 @@ pub fn node(alloc: Global, tree: &ExprTree) -> Result<Node, SelectFault>
         }
         ExprTree::Group(inner) => node(alloc, inner.get()),
         ExprTree::Prifilt(text) => {
-            let test = selected(alloc, text.bytes.as_slice())?;
+            let test = selected(alloc, text)?;
             Ok(Node::Test(test))
         }
         ExprTree::Compare(test) => {

@@ -3,8 +3,8 @@
 ghost use Rattle.std.specs.Prelude.{◌≡◌, ◌<◌, ℕ, List, [], IfOk, IfErr, IsOk, map};
 ghost use Rattle.std.specs.Option.{option_copied};
 ghost use Rattle.sy_select.specs.Faults as spec;
-ghost use Rattle.sy_select.specs.Reading.{Refuses};
-ghost use Rattle.sy_select.specs.Selectors.{Part, IsSelector, IsSetOf, holds};
+ghost use Rattle.sy_select.specs.internal.Reading.{Refuses};
+ghost use Rattle.sy_select.specs.Selectors.{Part, IsSelector, IsSetOf, holds, semicolon};
 
 use crate::fault::SelectFault;
 use crate::level::Refusal;
@@ -14,10 +14,11 @@ use crate::severities::Severities;
 use bitflags::Flags;
 use std::alloc::Global;
 use std::marker::Model;
+use sy_script::tree::Span;
 use sy_wire::Class;
 
 /// A set of pairs of a facility and a severity. Contracts see it as the numbers of the severity sets of the 24 facilities.
-#[derive(Debug, Drop)]
+#[derive(Drop)]
 pub struct Selector {
     sets: [Severities; 24],
 }
@@ -32,8 +33,8 @@ impl Model for Selector {
 
 // The first part of a text, and the text of the others where there are any.
 fn first_part(text: &[u8]) -> (&[u8], Option<&[u8]>)
-    ensures front { result.0.now ≡ (spec.cut 59 text.now).0 }
-    ensures behind { option_copied result.1 ≡ (spec.cut 59 text.now).1 }
+    ensures front { result.0.now ≡ (spec.cut semicolon text.now).0 }
+    ensures behind { option_copied result.1 ≡ (spec.cut semicolon text.now).1 }
 {
     cut(text, b';')
 }
@@ -64,12 +65,25 @@ impl Selector {
         ensures found { IfOk result (λ selector. IsSetOf text.now selector) }
         // Each selector is read.
         ensures only { (parts : List Part) → IsSelector text.now parts → IsOk result }
-        // Any other text is refused for the first of its faults, or for want of the memory that the fault's word takes.
-        ensures refused { IfErr result (λ fault. spec.IsRefusal (spec.faults text.now) fault) }
+        // Any other text is refused for the first of its faults, or where there is no memory for the fault's word.
+        ensures refused { IfErr result (λ fault. spec.IsRefusal (spec.faults_at (spec.whole_of text.now) text.now) fault) }
+    {
+        let span = Span {
+            start: 0,
+            end: text.len(),
+        };
+        Selector::read_at(alloc, text, span)
+    }
+
+    /// Reads a selector whose faults have this place.
+    pub(crate) fn read_at(alloc: Global, text: &[u8], span: Span) -> Result<Selector, SelectFault>
+        ensures found { IfOk result (λ selector. IsSetOf text.now selector) }
+        ensures only { (parts : List Part) → IsSelector text.now parts → IsOk result }
+        ensures refused { IfErr result (λ fault. spec.IsRefusal (spec.faults_at span text.now) fault) }
     {
         match sets_of(text) {
             Ok(sets) => Ok(Selector { sets }),
-            Err(refusal) => Err(SelectFault::new(alloc, refusal.code, refusal.word)),
+            Err(refusal) => Err(SelectFault::new(alloc, refusal.code, refusal.word, span)),
         }
     }
 

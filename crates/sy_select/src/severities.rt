@@ -2,11 +2,12 @@
 
 ghost use Rattle.std.specs.Prelude.{⊤, ◌≡◌, ◌<◌, ◌+◌, ◌-◌, ◌^◌, ◌==◌, ℕ, [], ◌∷◌, codes, not, if◌then◌else◌};
 ghost use Rattle.std.specs.Int.{bit_at};
+ghost use Rattle.sy_select.specs.internal.Masks.{has_bit};
 
 use bitflags::{Flag, Flags, bitflag_items};
 
 /// A set of severities, with a flag for each.
-#[derive(Clone, Copy, PartialEq, Eq, Debug)]
+#[derive(Clone, Copy)]
 pub struct Severities(u8);
 
 bitflag_items! {
@@ -91,7 +92,7 @@ impl Severities {
 }
 
 /// Severities, and whether they are taken away in place of added.
-#[derive(Clone, Copy, Debug)]
+#[derive(Clone, Copy)]
 pub struct Level {
     pub takes: bool,
     pub severities: Severities,
@@ -102,7 +103,7 @@ impl Level {
     /// Adds the severities to a set, or takes them away.
     pub fn apply(self, set: &mut Severities)
         ensures small { set.old.0 < 2 ^ 8 → set.new.0 < 2 ^ 8 }
-        ensures pairs { (s : ℕ) → s < 8 → (bit_at set.new.0 s == 1) ≡ (if bit_at self.severities.0 s == 1 then not self.takes else bit_at set.old.0 s == 1) }
+        ensures pairs { (s : ℕ) → s < 8 → has_bit set.new.0 s ≡ (if has_bit self.severities.0 s then not self.takes else has_bit set.old.0 s) }
     {
         if self.takes {
             set.remove(self.severities);

@@ -17,7 +17,7 @@ impl Verdict {
     ghost use Rattle.sy_select.specs.Walk as walk;
 
     /// The verdict of `not`.
-    pub fn opposite(self) -> Verdict
+    pub(crate) fn opposite(self) -> Verdict
         ensures { result ≡ opposite self }
     {
         match self {

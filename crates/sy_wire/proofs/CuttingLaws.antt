@@ -108,7 +108,7 @@ bad_more bytes more (inr b) = inr (b.0, b.1, b.2 ++ more, b.3, ap (λ x. x ++ mo
 pub long_more : (bytes more : List ℕ) → IsTooLong bytes → IsTooLong (bytes ++ more)
 long_more bytes more b = (b.0, b.1 ++ more, b.2, b.3, ap (λ x. x ++ more) b.4 ∙ append_assoc (decimal b.0) b.1 more)
 
-none_more : (bytes more : List ℕ) → IsBadLength bytes ⊎ IsTooLong bytes → NoFrame (bytes ++ more)
+pub none_more : (bytes more : List ℕ) → IsBadLength bytes ⊎ IsTooLong bytes → NoFrame (bytes ++ more)
 none_more bytes more (inl bad) = bad_is_none (bytes ++ more) (bad_more bytes more bad)
 none_more bytes more (inr long) = long_is_none (bytes ++ more) (long_more bytes more long)
 

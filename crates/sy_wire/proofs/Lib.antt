@@ -1,3 +1,4 @@
+pub mod AnswerLaws
 pub mod CuttingLaws
 pub mod Digits
 pub mod Elements
@@ -5,6 +6,7 @@ pub mod Held
 pub mod Moments
 pub mod Names
 pub mod OneReading
+pub mod OpenLaws
 pub mod Opens
 pub mod Options
 pub mod PartLaws

@@ -1,5 +1,7 @@
+pub mod Answers
 pub mod Characters
 pub mod Cuttings
+pub mod Faults
 pub mod Frames
 pub mod Heads
 pub mod Messages

@@ -1,4 +1,4 @@
-// A sink behind a buffer.
+//! A sink behind a buffer.
 ghost use Rattle.std.specs.Prelude.{◌≡◌, ◌<◌, ◌≤◌, [], drop, false, length, true, IfOk, OnErr, OnOk};
 ghost use Rattle.std.specs.Io.KnownBytes.{Keeps, WriteAppends};
 ghost use Rattle.sy_wire.specs.Streams.{Rose, with_held, with_held_flushed};
@@ -41,8 +41,11 @@ impl<S: Sink> Buffered<S> {
     #[inline(never)]
     fn hand_on(&mut self) -> Result<(), WriteFault>
         ensures ok { OnOk result (self.new.held.items ≡ []) }
-        ensures bytes { Keeps (with_held (S.contents self.old.inner) self.old.held.items) (with_held (S.contents self.new.inner) self.new.held.items) }
-        ensures flushed { with_held_flushed (S.is_flushed self.new.inner) self.new.held.items ≡ true → with_held_flushed (S.is_flushed self.old.inner) self.old.held.items ≡ true }
+        ensures bytes { Keeps
+            (with_held (S.contents self.old.inner) self.old.held.items)
+            (with_held (S.contents self.new.inner) self.new.held.items) }
+        ensures flushed { with_held_flushed (S.is_flushed self.new.inner) self.new.held.items ≡ true →
+            with_held_flushed (S.is_flushed self.old.inner) self.old.held.items ≡ true }
         ensures same { OnOk result (S.faults self.new.inner ≡ S.faults self.old.inner) }
         ensures count { S.faults self.old.inner ≤ S.faults self.new.inner }
         ensures err { OnErr result (Rose (S.faults self.old.inner) (S.faults self.new.inner)) }
@@ -72,9 +75,13 @@ impl<S: Sink> Buffered<S> {
     fn write_through(&mut self, bytes: &[u8]) -> Result<usize, WriteFault>
         ensures bound { IfOk result (λ n. n ≤ length bytes.now) }
         ensures some { IfOk result (λ n. 0 < length bytes.now → 0 < n) }
-        ensures bytes { WriteAppends (with_held (S.contents self.old.inner) self.old.held.items) (with_held (S.contents self.new.inner) self.new.held.items) result bytes.now }
-        ensures held_back { IfOk result (λ n. 0 < n → with_held_flushed (S.is_flushed self.new.inner) self.new.held.items ≡ false) }
-        ensures not_flushed { with_held_flushed (S.is_flushed self.new.inner) self.new.held.items ≡ true → with_held_flushed (S.is_flushed self.old.inner) self.old.held.items ≡ true }
+        ensures bytes { WriteAppends
+            (with_held (S.contents self.old.inner) self.old.held.items)
+            (with_held (S.contents self.new.inner) self.new.held.items) result bytes.now }
+        ensures held_back { IfOk result (λ n. 0 < n →
+            with_held_flushed (S.is_flushed self.new.inner) self.new.held.items ≡ false) }
+        ensures not_flushed { with_held_flushed (S.is_flushed self.new.inner) self.new.held.items ≡ true →
+            with_held_flushed (S.is_flushed self.old.inner) self.old.held.items ≡ true }
         ensures ok { OnOk result (S.faults self.new.inner ≡ S.faults self.old.inner) }
         ensures count { S.faults self.old.inner ≤ S.faults self.new.inner }
         ensures err { OnErr result (Rose (S.faults self.old.inner) (S.faults self.new.inner)) }

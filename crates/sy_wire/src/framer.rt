@@ -1,6 +1,7 @@
-// Octet-counted frames (RFC 6587, 3.4.1) from pieces of a stream.
-ghost use Rattle.std.specs.Prelude.{◌≡◌, ◌≢◌, ◌+◌, ◌-◌, ◌<◌, ◌≤◌, [], ◌++◌, false, length, drop, take, slice_range, OnErr, OnOk, IfErr, IfOk, MatchOption, MatchResult};
+//! Octet-counted frames (RFC 6587, 3.4.1) from pieces of a stream.
+ghost use Rattle.std.specs.Prelude.{◌≡◌, ◌≢◌, ◌+◌, ◌-◌, ◌<◌, ◌≤◌, [], ◌++◌, false, length, drop, take, slice_range, OnErr, OnOk, IfErr, IfOk, IsOk, MatchOption, MatchResult, Some};
 ghost use Rattle.std.specs.Io.KnownBytes.{Keeps};
+ghost use Rattle.sy_wire.specs.Faults as faults;
 ghost use Rattle.sy_wire.specs.Frames.{IsOpen};
 ghost use Rattle.sy_wire.specs.Heads.{HeadIs};
 ghost use Rattle.sy_wire.specs.Steps.{EndFails, Ends, FeedFails, Feeds, FillFails, Fills, FrameFails, GivesFrame, GivesInto, GivesNone};
@@ -8,17 +9,19 @@ ghost use Rattle.sy_wire.specs.Streams.{ReadsPiece, Rose, count_after};
 
 use super::stream::{ReadFault, Source};
 use std::alloc::{AllocError, Global};
+use std::error::Error;
+use std::fmt;
 use std::marker::Model;
 
 /// The longest message that a frame may carry, in bytes.
 pub const MAX_FRAME: usize = 65536;
 
 /// Why the framer gives no frame. After `BadLength`, `TooLong` and `Truncated` every call answers
-/// `Failed`; after `NoMemory` nothing has changed.
+/// `Failed`; after `NoMemory` nothing has changed. The numbers are those of `number`.
 #[derive(Clone, Copy, Debug, PartialEq, Eq)]
 pub enum FrameFault {
     /// The first byte is none of 1 to 9, or the byte after the digits is neither a digit nor a space.
-    BadLength = 11,
+    BadLength,
     /// The digits make more than 65,536.
     TooLong,
     /// The stream ended within a frame.
@@ -27,7 +30,46 @@ pub enum FrameFault {
     Failed,
 }
 
-// What stands at the front of bytes.
+impl FrameFault {
+    /// The number of the fault: 11 for `BadLength` to 15 for `Failed`.
+    pub fn number(self) -> u8
+        ensures { result ≡ faults.frame_fault_number self }
+    {
+        match self {
+            FrameFault::BadLength => 11,
+            FrameFault::TooLong => 12,
+            FrameFault::Truncated => 13,
+            FrameFault::NoMemory => 14,
+            FrameFault::Failed => 15,
+        }
+    }
+
+    /// The number and the name of the fault, as `11 BadLength`.
+    pub fn words(self) -> &'static str
+        ensures { result.now ≡ faults.frame_fault_words self }
+    {
+        match self {
+            FrameFault::BadLength => "11 BadLength",
+            FrameFault::TooLong => "12 TooLong",
+            FrameFault::Truncated => "13 Truncated",
+            FrameFault::NoMemory => "14 NoMemory",
+            FrameFault::Failed => "15 Failed",
+        }
+    }
+}
+
+impl fmt::Display for FrameFault {
+    ghost output = { λ fault. Some (faults.frame_fault_words fault) };
+
+    fn fmt<W: fmt::Write>(&self, f: &mut fmt::Formatter<W>) -> fmt::Result {
+        let words = self.words();
+        write!(f, "{words}")
+    }
+}
+
+impl Error for FrameFault {}
+
+// What bytes begin with.
 #[derive(Clone, Copy)]
 pub(crate) enum Head {
     Whole { from: usize, to: usize },
@@ -80,6 +122,20 @@ pub enum FillFault {
     Failed,
 }
 
+impl fmt::Display for FillFault {
+    ghost output = { λ fault. Some (faults.fill_fault_words fault) };
+
+    fn fmt<W: fmt::Write>(&self, f: &mut fmt::Formatter<W>) -> fmt::Result {
+        match self {
+            FillFault::ReadFailed => write!(f, "read failed"),
+            FillFault::NoMemory => write!(f, "14 NoMemory"),
+            FillFault::Failed => write!(f, "15 Failed"),
+        }
+    }
+}
+
+impl Error for FillFault {}
+
 /// Cuts a stream into frames. The stream is fed in pieces, and how it is cut into them doesn't show.
 #[derive(Drop)]
 pub struct Framer {
@@ -127,11 +183,12 @@ fn make_room(bytes: &mut Vec<u8>, end: usize, wanted: usize) -> Result<(), Alloc
 
 // Reads once into the room from there on.
 fn read_behind<R: Source>(bytes: &mut [u8], end: usize, source: &mut R) -> Result<usize, ReadFault>
-    requires { end + 65536 ≤ length bytes.old }
+    requires { end + PIECE ≤ length bytes.old }
     ensures front { take end bytes.new ≡ take end bytes.old }
     ensures len { length bytes.new ≡ length bytes.old }
-    ensures bound { IfOk result (λ count. count ≤ 65536) }
-    ensures read { IfOk result (λ count. ReadsPiece (R.remaining source.old) (R.remaining source.new) (take count (drop end bytes.new)) count) }
+    ensures bound { IfOk result (λ count. count ≤ PIECE) }
+    ensures read { IfOk result (λ count. ReadsPiece (R.remaining source.old) (R.remaining source.new)
+        (take count (drop end bytes.new)) count) }
     ensures kept { OnErr result (Keeps (R.remaining source.old) (R.remaining source.new)) }
     ensures call { R.calls source.new ≡ count_after (R.calls source.old) 1 }
     ensures ok { OnOk result (R.faults source.new ≡ R.faults source.old) }
@@ -172,6 +229,7 @@ impl Framer {
     pub fn feed(&mut self, piece: &[u8]) -> Result<(), FrameFault>
         ensures ok { OnOk result (Feeds self.old piece.now self.new) }
         ensures err { IfErr result (λ e. FeedFails e self.old self.new) }
+        ensures nothing { piece.now ≡ [] → self.old.has_failed ≡ false → IsOk result }
     {
         if self.has_failed {
             return Err(FrameFault::Failed);
@@ -190,15 +248,19 @@ impl Framer {
     /// Reads the next piece of the stream from its source, which is asked once, for at most `PIECE` bytes, and
     /// answers how many came. It is none only at the end of the stream.
     pub fn fill<R: Source>(&mut self, source: &mut R) -> Result<usize, FillFault>
-        ensures ok { IfOk result (λ count. Fills self.old count self.new (R.remaining source.old) (R.remaining source.new)) }
-        ensures bound { IfOk result (λ count. count ≤ 65536) }
+        ensures ok { IfOk result (λ count. Fills self.old count self.new
+            (R.remaining source.old) (R.remaining source.new)) }
+        ensures bound { IfOk result (λ count. count ≤ PIECE) }
         ensures none { IfOk result (λ count. count ≡ 0 → self.new ≡ self.old) }
-        ensures err { IfErr result (λ e. FillFails e self.old self.new (R.remaining source.old) (R.remaining source.new)) }
+        ensures err { IfErr result (λ e. FillFails e self.old self.new
+            (R.remaining source.old) (R.remaining source.new)) }
         ensures call { OnOk result (R.calls source.new ≡ count_after (R.calls source.old) 1) }
         ensures calls { R.calls source.new ≤ R.calls source.old + 1 }
         ensures same { OnOk result (R.faults source.new ≡ R.faults source.old) }
         ensures count { R.faults source.old ≤ R.faults source.new }
-        ensures cause { IfErr result (λ e. e ≡ FillFault.ReadFailed → Rose (R.faults source.old) (R.faults source.new)) }
+        ensures cause { IfErr result (λ e. e ≡ FillFault.ReadFailed →
+            Rose (R.faults source.old) (R.faults source.new)) }
+        ensures untouched { IfErr result (λ e. e ≢ FillFault.ReadFailed → source.new ≡ source.old) }
     {
         if self.has_failed {
             return Err(FillFault::Failed);

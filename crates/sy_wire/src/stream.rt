@@ -1,16 +1,39 @@
-// Where bytes come from and where they go. Both traits tell, for proofs alone, how many calls
-// failed: std's `Read` and `Write` don't, so nothing could be said of when a caller may give up.
-ghost use Rattle.std.specs.Prelude.{◌≡◌, ◌<◌, ◌≤◌, ℕ, List, Bool, Option, false, length, true, IfOk, OnErr, OnOk};
+//! Where bytes come from and where they go. Both traits say, for proofs alone, how many calls
+//! failed: std's `Read` and `Write` don't, so nothing could be said of when a caller may give up.
+ghost use Rattle.std.specs.Prelude.{Some, codes, ◌≡◌, ◌<◌, ◌≤◌, ℕ, List, Bool, Option, false, length, true, IfOk, OnErr, OnOk};
 ghost use Rattle.std.specs.Io.KnownBytes.{Keeps, ReadConsumes, WriteAppends};
 ghost use Rattle.sy_wire.specs.Streams.{Rose, count_after};
+
+use std::error::Error;
+use std::fmt;
 
 /// A read failed. What the stream has left is unchanged.
 #[derive(Clone, Copy, Debug, PartialEq, Eq)]
 pub struct ReadFault;
 
+impl fmt::Display for ReadFault {
+    ghost output = { λ _. Some (codes "read failed") };
+
+    fn fmt<W: fmt::Write>(&self, f: &mut fmt::Formatter<W>) -> fmt::Result {
+        write!(f, "read failed")
+    }
+}
+
+impl Error for ReadFault {}
+
 /// A write or a flush failed. Nothing of that call was written.
 #[derive(Clone, Copy, Debug, PartialEq, Eq)]
 pub struct WriteFault;
+
+impl fmt::Display for WriteFault {
+    ghost output = { λ _. Some (codes "write failed") };
+
+    fn fmt<W: fmt::Write>(&self, f: &mut fmt::Formatter<W>) -> fmt::Result {
+        write!(f, "write failed")
+    }
+}
+
+impl Error for WriteFault {}
 
 /// Where bytes come from.
 pub trait Source {
@@ -21,7 +44,7 @@ pub trait Source {
 
     ghost calls: { Self → ℕ };
 
-    /// Reads the next bytes into the front of the buffer, and answers how many. It is none only
+    /// Reads the next bytes into the beginning of the buffer, and answers how many. It is none only
     /// at the end of the stream or with an empty buffer.
     fn read(&mut self, buffer: &mut [u8]) -> Result<usize, ReadFault>
         ensures bound { IfOk result (λ n. n ≤ length buffer.new) }
@@ -41,7 +64,7 @@ pub trait Sink {
     // whether nothing was written since the last flush that succeeded
     ghost is_flushed: { Self → Bool };
 
-    /// Writes a front of the bytes, and answers how many: at least one where there are any.
+    /// Writes a prefix of the bytes, and answers how many: at least one where there are any.
     fn write(&mut self, bytes: &[u8]) -> Result<usize, WriteFault>
         ensures bound { IfOk result (λ n. n ≤ length bytes.now) }
         ensures some { IfOk result (λ n. 0 < length bytes.now → 0 < n) }

@@ -6,7 +6,7 @@ use Rattle.std.proofs.lemmas.Fmt.{decimal_digit, decimal_step}
 use Rattle.std.specs.Io.KnownBytes.{Appends, Keeps}
 use Rattle.std.proofs.KnownBytes.{Appends-trans, Appends-kept}
 use Rattle.std.proofs.lemmas.List.{append_assoc, append-nil, take-append-drop, drop-take, take-take}
-use Rattle.syc.specs.Stops.{Torn}
+use Rattle.syc.specs.Reports.{Torn}
 
 pub torn_at : (a b c : Option (List ℕ)) (bytes : List ℕ) (at : ℕ) → Appends a b (take at bytes) → Keeps b c → Torn a c bytes
 torn_at a b c bytes at wrote kept = record { part = take at bytes; tail = drop at bytes; wrote = Appends-kept a b c (take at bytes) wrote kept; front = sym (take-append-drop at bytes) }
@@ -41,3 +41,17 @@ decimal_more a b c n small large front last = rw (decimal_step n (omega arith) (
 
 pub decimal_one : (a b : Option (List ℕ)) (n : ℕ) → n < 10 → Appends a b ((48 + n % 10) ∷ []) → Appends a b (decimal n)
 decimal_one a b n small last = let same : n % 10 ≡ n = omega arith in rw (decimal_digit n small) (rw same at last)
+
+-- all was written, and then nothing more
+pub torn_nowhere : (a b c : Option (List ℕ)) (bytes : List ℕ) → Appends a b bytes → Keeps b c → Torn a c bytes
+torn_nowhere a b c bytes wrote kept = record { part = bytes; tail = []; wrote = Appends-kept a b c bytes wrote kept; front = sym (append-nil bytes) }
+
+-- a number was torn before its last digit, or in it
+pub torn_front_digits : (a b : Option (List ℕ)) (n : ℕ) → n < 2 ^ 64 → 10 ≤ n → Torn a b (decimal (n / 10)) → Torn a b (decimal n)
+torn_front_digits a b n small large t = rw (decimal_step n (omega arith) (omega arith)) (torn_first a b (decimal (n / 10)) ((48 + n % 10) ∷ []) t)
+
+pub torn_last_digit : (a b c : Option (List ℕ)) (n : ℕ) → n < 2 ^ 64 → 10 ≤ n → Appends a b (decimal (n / 10)) → Torn b c ((48 + n % 10) ∷ []) → Torn a c (decimal n)
+torn_last_digit a b c n small large front last = rw (decimal_step n (omega arith) (omega arith)) (torn_second a b c (decimal (n / 10)) ((48 + n % 10) ∷ []) front last)
+
+pub torn_one_digit : (a b : Option (List ℕ)) (n : ℕ) → n < 10 → Torn a b ((48 + n % 10) ∷ []) → Torn a b (decimal n)
+torn_one_digit a b n small last = let same : n % 10 ≡ n = omega arith in rw (decimal_digit n small) (rw same at last)

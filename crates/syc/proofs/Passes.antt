@@ -14,7 +14,8 @@ use Rattle.sy_wire.specs.Streams.{count_after}
 use Rattle.sy_wire.specs.declared.framer.FrameFault.TheVariants.{BadLength, TooLong, Truncated, NoMemory as OutOfMemory, Failed}
 use Rattle.sy_wire.specs.declared.message.MsgFault.{MsgFault}
 use Rattle.syc.specs.Pass.{BeginsWith, CarriesFault, IsFramed, IsPart, PartPassed, Passed, line, lines}
-use Rattle.syc.specs.Stops.{Advances, DrainFails, EntryFails, StopIs, StopsAt, Torn}
+use Rattle.syc.specs.Reports.{Torn}
+use Rattle.syc.specs.Stops.{Advances, DrainFails, EntryFails, StopIs, StopsAt}
 use Rattle.syc.specs.declared.stop.Stop.{Stop}
 use Rattle.syc.specs.declared.stop.Stop.TheVariants.{Frame, Message, NoMemory, ReadFailed, WriteFailed}
 use Rattle.sy_wire.proofs.CuttingLaws.{bad_more, long_more}

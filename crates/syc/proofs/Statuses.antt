@@ -1,10 +1,10 @@
 -- What each exit status says.
-use Rattle.std.proofs.Common.{◌≡◌, ℕ, ◌+◌, ◌≤◌, inl, inr, List, ◌++◌, refl, subst, arith}
+use Rattle.std.proofs.Common.{◌≡◌, ◌≢◌, ℕ, ◌+◌, ◌≤◌, inl, inr, List, ◌++◌, refl, subst, arith}
 use Rattle.std.specs.Prelude.{Option}
 use Rattle.std.specs.Io.KnownBytes.{Keeps}
 use Rattle.std.proofs.KnownBytes.{Appends-kept, Keeps-refl}
 use Rattle.sy_wire.specs.Streams.{Rose}
-use Rattle.syc.specs.Pass.{GivesUpFailing, HasFailed, PartPassed, PassIs, lines}
+use Rattle.syc.specs.Pass.{Counts, GivesUpFailing, HasFailed, NoneFailed, PartPassed, PassIs, lines}
 use Rattle.syc.specs.Reports.{report, status_shown}
 use Rattle.syc.specs.Stops.{PassCause, StopIs, StopsAt, StopsIn}
 use Rattle.syc.specs.declared.stop.Stop.{Stop}
@@ -32,13 +32,13 @@ stop_part NoMemory input a b i j h = part_of_passed input h.0 h.1 a b h.2
 stop_part ReadFailed input a b i j h = h
 stop_part WriteFailed input a b i j h = h
 
-module _ (input : List ℕ) (a b c : Option (List ℕ)) (kept : Keeps b c) (Tells : List ℕ → Type 0) where
+module _ (input : List ℕ) (a b c : Option (List ℕ)) (kept : Keeps b c) (IsReported : List ℕ → Type 0) where
   -- the last flush failed
-  pub flush_failed : (e : Stop) (frame : ℕ) → StopsIn e frame input a b → Tells (report WriteFailed frame) → PassIs 4 input a c Tells
-  flush_failed e frame s told = inr (inr (inr (refl, record { part = part_flushed input a b c (stop_part e input a b 0 s.taken s.stops) kept; told = inr told })))
+  pub flush_failed : (e : Stop) (frame : ℕ) → StopsIn e frame input a b → IsReported (report WriteFailed frame) → PassIs 4 input a c IsReported
+  flush_failed e frame s reported = inr (inr (inr (refl, record { part = part_flushed input a b c (stop_part e input a b 0 s.taken s.stops) kept; reported = inr reported })))
 
-  at_fault : (e : Stop) (frame taken : ℕ) → StopsAt e input a b 0 taken → frame ≡ taken + 1 → Tells (report e frame) → PassIs 2 input a c Tells
-  at_fault e frame taken s number told =
+  at_fault : (e : Stop) (frame taken : ℕ) → StopsAt e input a b 0 taken → frame ≡ taken + 1 → IsReported (report e frame) → PassIs 2 input a c IsReported
+  at_fault e frame taken s number reported =
       let n_is : frame ≡ s.advances.n + 1 = omega (arith, number, s.advances.taken) in
       inr (inl (
         refl,
@@ -48,20 +48,20 @@ module _ (input : List ℕ) (a b c : Option (List ℕ)) (kept : Keeps b c) (Tell
           n = s.advances.n;
           passed = passed_kept input s.rest s.advances.n a b c s.advances.passed kept;
           fault = s.fault;
-          told = rw (← n_is) told;
+          reported = rw (← n_is) reported;
         },
       ))
 
-  pub stopped : (e : Stop) (frame : ℕ) → StopsIn e frame input a b → Tells (report e frame) → PassIs (status_shown e) input a c Tells
-  stopped (Frame f) frame s told = at_fault (Frame f) frame s.taken s.stops s.number told
-  stopped (Message f) frame s told = at_fault (Message f) frame s.taken s.stops s.number told
-  stopped NoMemory frame s told = inr (inr (inl (refl, record { rest = s.stops.0; n = s.stops.1; passed = passed_kept input s.stops.0 s.stops.1 a b c s.stops.2 kept; told = told })))
-  stopped ReadFailed frame s told = inr (inr (inr (refl, record { part = part_flushed input a b c s.stops kept; told = inl told })))
-  stopped WriteFailed frame s told = inr (inr (inr (refl, record { part = part_flushed input a b c s.stops kept; told = inr told })))
+  pub stopped : (e : Stop) (frame : ℕ) → StopsIn e frame input a b → IsReported (report e frame) → PassIs (status_shown e) input a c IsReported
+  stopped (Frame f) frame s reported = at_fault (Frame f) frame s.taken s.stops s.number reported
+  stopped (Message f) frame s reported = at_fault (Message f) frame s.taken s.stops s.number reported
+  stopped NoMemory frame s reported = inr (inr (inl (refl, record { rest = s.stops.0; n = s.stops.1; passed = passed_kept input s.stops.0 s.stops.1 a b c s.stops.2 kept; reported = reported })))
+  stopped ReadFailed frame s reported = inr (inr (inr (refl, record { part = part_flushed input a b c s.stops kept; reported = inl reported })))
+  stopped WriteFailed frame s reported = inr (inr (inr (refl, record { part = part_flushed input a b c s.stops kept; reported = inr reported })))
 
 -- memory ran out before anything was read
-pub nothing_passed : (input : List ℕ) (a : Option (List ℕ)) (Tells : List ℕ → Type 0) → Tells (report NoMemory 0) → PassIs 3 input a a Tells
-nothing_passed input a Tells told = inr (inr (inl (refl, record { rest = input; n = 0; passed = passed_nothing input a a (Keeps-refl a); told = told })))
+pub nothing_passed : (input : List ℕ) (a : Option (List ℕ)) (IsReported : List ℕ → Type 0) → IsReported (report NoMemory 0) → PassIs 3 input a a IsReported
+nothing_passed input a IsReported reported = inr (inr (inl (refl, record { rest = input; n = 0; passed = passed_nothing input a a (Keeps-refl a); reported = reported })))
 
 rose_more : (a b c : ℕ) → b ≤ c → Rose a b → Rose a c
 rose_more a b c le (inl h) = inl (omega arith)
@@ -71,21 +71,33 @@ more_rose : (a b c : ℕ) → a ≤ b → Rose b c → Rose a c
 more_rose a b c le (inl h) = inl (omega arith)
 more_rose a b c le (inr h) = inr h
 
+-- the counts with another one of failed writes
+abbrev with_writes : Counts → ℕ → Counts
+with_writes now w = record { reads_failed = now.reads_failed; reads = now.reads; writes_failed = w }
+
 -- a failure that the last steps answer has a cause
-pub has_failed : (Tells : List ℕ → Type 0) (e : Stop) (rf rf' rc rc' w0 w1 w2 : ℕ) → w0 ≤ w1 → w1 ≤ w2 → PassCause e rf rf' rc rc' w0 w1 → GivesUpFailing Tells e w1 w2 → HasFailed Tells rf rf' rc rc' w0 w2
-has_failed Tells e rf rf' rc rc' w0 w1 w2 le le' cause (inl read) = let h : PassCause ReadFailed rf rf' rc rc' w0 w1 = subst (λ (s : Stop). PassCause s rf rf' rc rc' w0 w1) read.1 cause in inl (read.0, h)
-has_failed Tells e rf rf' rc rc' w0 w1 w2 le le' cause (inr write) = inr (
+pub has_failed : (IsReported : List ℕ → Type 0) (e : Stop) (before now : Counts) (w : ℕ) → before.writes_failed ≤ now.writes_failed → now.writes_failed ≤ w → PassCause e before now → GivesUpFailing IsReported e now.writes_failed w → HasFailed IsReported before (with_writes now w)
+has_failed IsReported e before now w le le' cause (inl read) = let h : PassCause ReadFailed before now = subst (λ (s : Stop). PassCause s before now) read.1 cause in inl (read.0, h)
+has_failed IsReported e before now w le le' cause (inr write) = inr (
   write.0,
   elim write.1 [
-    | inl is ↦ let h : PassCause WriteFailed rf rf' rc rc' w0 w1 = subst (λ (s : Stop). PassCause s rf rf' rc rc' w0 w1) is cause in rose_more w0 w1 w2 le' h
-    | inr rose ↦ more_rose w0 w1 w2 le rose
+    | inl is ↦ let h : PassCause WriteFailed before now = subst (λ (s : Stop). PassCause s before now) is cause in rose_more before.writes_failed now.writes_failed w le' h
+    | inr rose ↦ more_rose before.writes_failed now.writes_failed w le rose
   ],
 )
 
 -- the last flush may have failed
-pub gives_up : (Tells : List ℕ → Type 0) (e : Stop) (frame w w' : ℕ) → status_shown e ≡ 4 → Tells (report e frame) → GivesUpFailing Tells e w w'
-gives_up Tells (Frame f) frame w w' is told = absurd (omega (arith, is))
-gives_up Tells (Message f) frame w w' is told = absurd (omega (arith, is))
-gives_up Tells NoMemory frame w w' is told = absurd (omega (arith, is))
-gives_up Tells ReadFailed frame w w' is told = inl (told, refl)
-gives_up Tells WriteFailed frame w w' is told = inr (told, inl refl)
+pub gives_up : (IsReported : List ℕ → Type 0) (e : Stop) (frame w w' : ℕ) → status_shown e ≡ 4 → IsReported (report e frame) → GivesUpFailing IsReported e w w'
+gives_up IsReported (Frame f) frame w w' is reported = absurd (omega (arith, is))
+gives_up IsReported (Message f) frame w w' is reported = absurd (omega (arith, is))
+gives_up IsReported NoMemory frame w w' is reported = absurd (omega (arith, is))
+gives_up IsReported ReadFailed frame w w' is reported = inl (reported, refl)
+gives_up IsReported WriteFailed frame w w' is reported = inr (reported, inl refl)
+
+-- nothing failed where the status isn't that of a failure
+pub none_failed : (e : Stop) (before after : Counts) → PassCause e before after → status_shown e ≢ 4 → NoneFailed before after
+none_failed (Frame f) before after none other = none
+none_failed (Message f) before after none other = none
+none_failed NoMemory before after none other = none
+none_failed ReadFailed before after cause other = absurd (other refl)
+none_failed WriteFailed before after cause other = absurd (other refl)

@@ -59,7 +59,7 @@ BeginsWith WriteFailed rest = ⊥
 abbrev pub IsPart : List ℕ → List ℕ → Type 0
 IsPart part rest = (part ≡ []) ⊎ ((raw more tail : List ℕ) × IsFramed raw × (rest ≡ frame raw ++ more) × (line raw ≡ part ++ tail))
 
--- the lines of messages at the front of the bytes were written, and then at most a part of one more
+-- the lines of messages that the bytes begin with were written, and then at most a part of one more
 pub record PartPassed (bytes : List ℕ) (old new : Option (List ℕ)) : Type 0 where
   pub messages : List (List ℕ)
   pub rest : List ℕ
@@ -69,56 +69,79 @@ pub record PartPassed (bytes : List ℕ) (old new : Option (List ℕ)) : Type 0 
   pub is_part : IsPart part rest
   pub wrote : Appends old new (lines messages ++ part)
 
--- The four ends of a pass over an input. `Tells` says what was printed on standard error.
+-- The four ends of a pass over an input. `IsReported` says what was printed on standard error.
 
 -- the whole input is frames of messages, and all their lines were written
 abbrev pub EndsWhole : List ℕ → Option (List ℕ) → Option (List ℕ) → Type 0
 EndsWhole input old new = (n : ℕ) × Passed input old new [] n
 
--- the input reads as messages up to a fault, their lines were written, and the fault with the number of its frame was told
-pub record EndsAtFault (input : List ℕ) (old new : Option (List ℕ)) (Tells : List ℕ → Type 0) : Type 0 where
+-- the input reads as messages up to a fault, their lines were written, and the fault with the number of its frame
+-- was reported
+pub record EndsAtFault (input : List ℕ) (old new : Option (List ℕ)) (IsReported : List ℕ → Type 0) : Type 0 where
   pub stop : Stop
   pub rest : List ℕ
   pub n : ℕ
   pub passed : Passed input old new rest n
   pub fault : BeginsWith stop rest
-  pub told : Tells (report stop (n + 1))
+  pub reported : IsReported (report stop (n + 1))
 
--- the lines of messages at the front of the input were written, and that memory ran out was told
-pub record EndsForMemory (input : List ℕ) (old new : Option (List ℕ)) (Tells : List ℕ → Type 0) : Type 0 where
+-- the lines of messages that the input begins with were written, and that memory ran out was reported
+pub record EndsForMemory (input : List ℕ) (old new : Option (List ℕ)) (IsReported : List ℕ → Type 0) : Type 0 where
   pub rest : List ℕ
   pub n : ℕ
   pub passed : Passed input old new rest n
-  pub told : Tells (report NoMemory 0)
+  pub reported : IsReported (report NoMemory 0)
 
--- the same and at most a part of one more line, and that a read or a write failed was told
-pub record EndsFailing (input : List ℕ) (old new : Option (List ℕ)) (Tells : List ℕ → Type 0) : Type 0 where
+-- the same and at most a part of one more line, and that a read or a write failed was reported
+pub record EndsFailing (input : List ℕ) (old new : Option (List ℕ)) (IsReported : List ℕ → Type 0) : Type 0 where
   pub part : PartPassed input old new
-  pub told : Tells (report ReadFailed 0) ⊎ Tells (report WriteFailed 0)
+  pub reported : IsReported (report ReadFailed 0) ⊎ IsReported (report WriteFailed 0)
 
 -- the exit status of a pass over an input
 abbrev pub PassIs : ℕ → List ℕ → Option (List ℕ) → Option (List ℕ) → (List ℕ → Type 0) → Type 0
-PassIs status input old new Tells =
+PassIs status input old new IsReported =
     ((status ≡ 0) × EndsWhole input old new)
-    ⊎ ((status ≡ 2) × EndsAtFault input old new Tells)
-    ⊎ ((status ≡ 3) × EndsForMemory input old new Tells)
-    ⊎ ((status ≡ 4) × EndsFailing input old new Tells)
+    ⊎ ((status ≡ 2) × EndsAtFault input old new IsReported)
+    ⊎ ((status ≡ 3) × EndsForMemory input old new IsReported)
+    ⊎ ((status ≡ 4) × EndsFailing input old new IsReported)
+
+-- how many reads a pass makes at most
+abbrev pub READS : ℕ
+READS = 1000000000000
 
 -- all the reads that a pass may make were made
 abbrev pub AreReadsUsed : ℕ → ℕ → Type 0
-AreReadsUsed before after = after ≡ count_after before 1000000000000
+AreReadsUsed before after = after ≡ count_after before READS
 
--- why a pass may answer that a read or a write failed, with what it says then: a read did, or the reads are used up; or a write did
-abbrev pub HasFailed : (List ℕ → Type 0) → ℕ → ℕ → ℕ → ℕ → ℕ → ℕ → Type 0
-HasFailed Tells reads_failed reads_failed' reads reads' writes_failed writes_failed' =
-    (Tells (report ReadFailed 0) × (Rose reads_failed reads_failed' ⊎ AreReadsUsed reads reads'))
-    ⊎ (Tells (report WriteFailed 0) × Rose writes_failed writes_failed')
+-- how many reads failed, how many were made, and how many writes and flushes failed
+pub record Counts : Type 0 where
+  pub reads_failed : ℕ
+  pub reads : ℕ
+  pub writes_failed : ℕ
+
+abbrev pub counts : {R W : Type 0} → (R → ℕ) → (R → ℕ) → (W → ℕ) → R → W → Counts
+counts faults calls write_faults reader writer = record {
+  reads_failed = faults reader;
+  reads = calls reader;
+  writes_failed = write_faults writer;
+}
+
+-- no read, write or flush failed, as the counts of those that did tell
+abbrev pub NoneFailed : Counts → Counts → Type 0
+NoneFailed before after = (after.reads_failed ≡ before.reads_failed) × (after.writes_failed ≡ before.writes_failed)
+
+-- why a pass may answer that a read or a write failed, with what it says then: a read did, or the reads are used up;
+-- or a write did
+abbrev pub HasFailed : (List ℕ → Type 0) → Counts → Counts → Type 0
+HasFailed IsReported before after =
+    (IsReported (report ReadFailed 0) × (Rose before.reads_failed after.reads_failed ⊎ AreReadsUsed before.reads after.reads))
+    ⊎ (IsReported (report WriteFailed 0) × Rose before.writes_failed after.writes_failed)
 
 -- the same of the last steps, after this stop
 abbrev pub GivesUpFailing : (List ℕ → Type 0) → Stop → ℕ → ℕ → Type 0
-GivesUpFailing Tells stop writes_failed writes_failed' =
-    (Tells (report ReadFailed 0) × (stop ≡ ReadFailed))
-    ⊎ (Tells (report WriteFailed 0) × ((stop ≡ WriteFailed) ⊎ Rose writes_failed writes_failed'))
+GivesUpFailing IsReported stop writes_failed writes_failed' =
+    (IsReported (report ReadFailed 0) × (stop ≡ ReadFailed))
+    ⊎ (IsReported (report WriteFailed 0) × ((stop ≡ WriteFailed) ⊎ Rose writes_failed writes_failed'))
 
 -- the exit statuses of a pass
 abbrev pub IsStatus : ℕ → Type 0

@@ -7,7 +7,8 @@ use Rattle.sy_wire.specs.Streams.{Rose}
 use Rattle.sy_wire.specs.declared.framer.FrameFault.TheVariants.{BadLength, TooLong}
 use Rattle.sy_chain.specs.Entries.{Entry}
 use Rattle.sy_board.specs.States.{BoardState}
-use Rattle.syc.specs.Pass.{AreReadsUsed, BeginsWith, PartPassed, Passed}
+use Rattle.syc.specs.Pass.{AreReadsUsed, BeginsWith, Counts, NoneFailed, PartPassed, Passed}
+use Rattle.syc.specs.Reports.{Torn}
 use Rattle.syc.specs.declared.carry.CarryFault.{CarryFault}
 use Rattle.syc.specs.declared.carry.CarryFault.TheVariants.{NoMemory as OutOfRoom, WriteFailed as IsTorn}
 use Rattle.syc.specs.declared.stop.Stop.{Stop}
@@ -43,19 +44,17 @@ pub record IsReady (b : BoardState) (raw : List ℕ) : Type 0 where
   pub batch : b.batch ≡ entry ∷ []
   pub text : entry.message.raw ≡ raw
 
--- a front of the bytes was written
-pub record Torn (old new : Option (List ℕ)) (bytes : List ℕ) : Type 0 where
-  pub part : List ℕ
-  pub tail : List ℕ
-  pub wrote : Appends old new part
-  pub front : bytes ≡ part ++ tail
-
 -- a message's line was not, or not wholly, written
 abbrev pub CarryFails : CarryFault → Option (List ℕ) → Option (List ℕ) → List ℕ → Type 0
 CarryFails OutOfRoom old new bytes = Keeps old new
 CarryFails IsTorn old new bytes = Torn old new bytes
 
--- the messages at the front of the bytes were passed, and the board took each of them
+-- a torn line has its cause, and nothing failed where memory ran out
+abbrev pub CarryCause : CarryFault → ℕ → ℕ → Type 0
+CarryCause OutOfRoom before after = after ≡ before
+CarryCause IsTorn before after = Rose before after
+
+-- the messages that the bytes begin with were passed, and the board took each of them
 pub record Advances (bytes : List ℕ) (old new : Option (List ℕ)) (rest : List ℕ) (before after : ℕ) : Type 0 where
   pub n : ℕ
   pub passed : Passed bytes old new rest n
@@ -67,7 +66,7 @@ pub record StopsAt (stop : Stop) (bytes : List ℕ) (old new : Option (List ℕ)
   pub advances : Advances bytes old new rest before after
   pub fault : BeginsWith stop rest
 
--- some messages at the front of the bytes were passed
+-- some messages that the bytes begin with were passed
 abbrev pub PassedSome : List ℕ → Option (List ℕ) → Option (List ℕ) → Type 0
 PassedSome bytes old new = (rest : List ℕ) × (n : ℕ) × Passed bytes old new rest n
 
@@ -101,22 +100,22 @@ TurnIs (Ok true) bytes left ahead old new before after = (next : List ℕ) × (a
 TurnIs (Ok false) bytes left ahead old new before after = Advances bytes old new [] before after
 TurnIs (Err stop) bytes left ahead old new before after = StopIs stop bytes old new before after
 
--- a failed write has its cause
+-- a failed write has its cause, and at any other stop none failed
 abbrev pub WriteCause : Stop → ℕ → ℕ → Type 0
 WriteCause WriteFailed before after = Rose before after
-WriteCause _ before after = Unit {0}
+WriteCause _ before after = after ≡ before
 
--- a failed read or write has its cause
-abbrev pub FailCause : Stop → ℕ → ℕ → ℕ → ℕ → Type 0
-FailCause ReadFailed reads_before reads_after writes_before writes_after = Rose reads_before reads_after
-FailCause WriteFailed reads_before reads_after writes_before writes_after = Rose writes_before writes_after
-FailCause _ reads_before reads_after writes_before writes_after = Unit {0}
+-- a failed read or write has its cause, and at any other stop none failed
+abbrev pub FailCause : Stop → Counts → Counts → Type 0
+FailCause ReadFailed before after = Rose before.reads_failed after.reads_failed
+FailCause WriteFailed before after = Rose before.writes_failed after.writes_failed
+FailCause _ before after = NoneFailed before after
 
 -- the same where the reads may be used up too
-abbrev pub PassCause : Stop → ℕ → ℕ → ℕ → ℕ → ℕ → ℕ → Type 0
-PassCause ReadFailed failed failed' reads reads' writes_failed writes_failed' = Rose failed failed' ⊎ AreReadsUsed reads reads'
-PassCause WriteFailed failed failed' reads reads' writes_failed writes_failed' = Rose writes_failed writes_failed'
-PassCause _ failed failed' reads reads' writes_failed writes_failed' = Unit {0}
+abbrev pub PassCause : Stop → Counts → Counts → Type 0
+PassCause ReadFailed before after = Rose before.reads_failed after.reads_failed ⊎ AreReadsUsed before.reads after.reads
+PassCause WriteFailed before after = Rose before.writes_failed after.writes_failed
+PassCause _ before after = NoneFailed before after
 
 -- the same with the number of the frame in which it stopped, counted from 1
 pub record StopsIn (stop : Stop) (frame : ℕ) (input : List ℕ) (old new : Option (List ℕ)) : Type 0 where

@@ -1,18 +1,16 @@
-// A message's way over the board, from its frame to its line.
+//! A message's way over the board, from its frame to its line.
 ghost use Rattle.std.specs.Prelude.{◌≡◌, ◌+◌, ◌<◌, ◌≤◌, ◌^◌, Err, IfErr, IfOk, OnOk};
 ghost use Rattle.std.specs.Io.KnownBytes.{Appends};
 ghost use Rattle.sy_board.specs.States.{IsOfList};
 ghost use Rattle.syc.specs.Pass.{line};
-ghost use Rattle.syc.specs.Stops.{Carries, CarryFails, EntryFails, IsIdle, IsReady};
-ghost use Rattle.sy_wire.specs.Streams.{Rose};
+ghost use Rattle.syc.specs.Stops.{Carries, CarryCause, CarryFails, EntryFails, IsIdle, IsReady};
 
 use crate::output::write_line;
 use crate::stop::Stop;
 use std::alloc::{AllocError, Global};
 use std::mem;
 use std::sync::Arc;
-use sy_board::limits::{DUE, LIST};
-use sy_board::{Board, BoardFault, Entry, Job};
+use sy_board::{Board, BoardFault, DUE, Entry, Job, LIST};
 use sy_chain::{Node, RenewFault};
 use sy_wire::{Message, Sink};
 
@@ -103,10 +101,12 @@ pub fn carry<W: Sink>(board: &mut Board, writer: &mut W, node: Node) -> Result<N
     ensures ok { OnOk result (Appends (W.contents writer.old) (W.contents writer.new) (line node.message.raw)) }
     ensures taken { OnOk result (board.new.taken ≡ board.old.taken + 1) }
     ensures bound { board.new.taken ≤ board.old.taken + 1 }
-    ensures err { IfErr result (λ e. CarryFails e (W.contents writer.old) (W.contents writer.new) (line node.message.raw)) }
+    ensures err { IfErr result (λ e. CarryFails e (W.contents writer.old) (W.contents writer.new)
+        (line node.message.raw)) }
     ensures held { result ≡ Err CarryFault.WriteFailed → IsReady board.new node.message.raw }
     ensures count { W.faults writer.old ≤ W.faults writer.new }
-    ensures cause { result ≡ Err CarryFault.WriteFailed → Rose (W.faults writer.old) (W.faults writer.new) }
+    ensures same { OnOk result (W.faults writer.new ≡ W.faults writer.old) }
+    ensures cause { IfErr result (λ e. CarryCause e (W.faults writer.old) (W.faults writer.new)) }
 {
     let Ok(()) = put(board, node) else {
         return Err(CarryFault::NoMemory);

@@ -1,5 +1,5 @@
-// The words of the command line.
-ghost use Rattle.std.specs.Prelude.{◌≡◌, ◌∷◌, codes, map, string_bytes, IfErr, IfOk};
+//! The words of the command line.
+ghost use Rattle.std.specs.Prelude.{◌≡◌, ◌∷◌, ◌↔◌, codes, map, string_bytes, IfErr, IfOk, IsTrue};
 ghost use Rattle.clap.specs.Words.{kind_of};
 ghost use Rattle.syc.specs.Words.{ArePass};
 
@@ -8,7 +8,7 @@ use clap::{Command as Parser, Error};
 use std::alloc::{AllocError, Global};
 
 /// What the program is to do.
-#[derive(Clone, Copy, Debug, PartialEq, Eq)]
+#[derive(Clone, Copy)]
 pub enum Command {
     /// Frames on standard input to lines on standard output.
     Pass,
@@ -31,18 +31,38 @@ pub fn all_words<'a>(alloc: Global, args: &'a [String]) -> Result<Vec<&'a str>, 
     Ok(words)
 }
 
+fn is_word(word: &str, wanted: &str) -> bool
+    ensures { IsTrue result ↔ (word.now ≡ wanted.now) }
+{
+    word == wanted
+}
+
+// Whether the words are `pass` alone after the program's name. clap reads `pass --` as that command too.
+fn are_pass(words: &[&str]) -> bool
+    ensures { IsTrue result ↔ ArePass (map (λ s. s.now) words.now) }
+{
+    match words {
+        [program, command] => is_word(program, "syc") && is_word(command, "pass"),
+        _ => false,
+    }
+}
+
 /// The command that the words name, the program's name being the first of them. A call for help or for the
 /// version is an error of that kind.
 pub fn command_of(alloc: Global, words: &[&str]) -> Result<Command, Error>
+    ensures only { IfOk result (λ _. ArePass (map (λ s. s.now) words.now)) }
     ensures ok { ArePass (map (λ s. s.now) words.now) → IfOk result (λ command. command ≡ Command.Pass) }
     ensures err { ArePass (map (λ s. s.now) words.now) → IfErr result (λ e. kind_of e ≡ ErrorKind.OutOfMemory) }
 {
     let pass = Parser::new(alloc, "pass").about(PASS_ABOUT);
-    let parser = Parser::new(alloc, "syc")
+    let mut parser = Parser::new(alloc, "syc")
         .version("0.1.0")
         .about(ABOUT)
         .subcommand_required(true)
         .subcommand(pass)?;
-    parser.try_get_matches_from(words)?;
-    Ok(Command::Pass)
+    parser.try_get_matches_from_mut(words)?;
+    if are_pass(words) {
+        return Ok(Command::Pass);
+    }
+    Err(parser.error(ErrorKind::UnknownArgument, "unexpected argument '--' found")?)
 }

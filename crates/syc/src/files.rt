@@ -1,8 +1,8 @@
-// The files that a command reads.
+//! The files that a command reads.
 ghost use Rattle.std.specs.Prelude.{◌≡◌, List, ℕ, Option, None, IfOk, IfSome};
 
 /// Why a file's bytes aren't there.
-#[derive(Clone, Copy, Debug, PartialEq, Eq)]
+#[derive(Clone, Copy, Drop)]
 pub enum FileFault {
     Read,
     NoMemory,

@@ -1,4 +1,4 @@
-// The program `syc`.
+//! The program `syc`.
 #![tactic(auto)]
 
 mod carry;

@@ -1,18 +1,19 @@
-// Writing whole texts by as many writes as it takes.
-ghost use Rattle.std.specs.Prelude.{◌≤◌, OnErr, OnOk};
+//! Writing whole texts by as many writes as it takes.
+ghost use Rattle.std.specs.Prelude.{◌≡◌, ◌≤◌, OnErr, OnOk};
 ghost use Rattle.std.specs.Fmt.{decimal};
 ghost use Rattle.std.specs.Io.KnownBytes.{Appends};
 ghost use Rattle.sy_wire.specs.Streams.{Rose};
 ghost use Rattle.syc.specs.Pass.{line};
-ghost use Rattle.syc.specs.Stops.{Torn};
+ghost use Rattle.syc.specs.Reports.{Torn};
 
 use sy_wire::{Sink, WriteFault};
 
-/// Writes all the bytes, or a front of them.
+/// Writes all the bytes, or a prefix of them where a write fails, which is not tried again.
 #[inline(always)]
 pub fn write_all<W: Sink>(writer: &mut W, bytes: &[u8]) -> Result<(), WriteFault>
     ensures ok { OnOk result (Appends (W.contents writer.old) (W.contents writer.new) bytes.now) }
     ensures torn { OnErr result (Torn (W.contents writer.old) (W.contents writer.new) bytes.now) }
+    ensures same { OnOk result (W.faults writer.new ≡ W.faults writer.old) }
     ensures count { W.faults writer.old ≤ W.faults writer.new }
     ensures err { OnErr result (Rose (W.faults writer.old) (W.faults writer.new)) }
 {
@@ -29,6 +30,7 @@ pub fn write_all<W: Sink>(writer: &mut W, bytes: &[u8]) -> Result<(), WriteFault
 pub fn write_line<W: Sink>(writer: &mut W, message: &[u8]) -> Result<(), WriteFault>
     ensures ok { OnOk result (Appends (W.contents writer.old) (W.contents writer.new) (line message.now)) }
     ensures torn { OnErr result (Torn (W.contents writer.old) (W.contents writer.new) (line message.now)) }
+    ensures same { OnOk result (W.faults writer.new ≡ W.faults writer.old) }
     ensures count { W.faults writer.old ≤ W.faults writer.new }
     ensures err { OnErr result (Rose (W.faults writer.old) (W.faults writer.new)) }
 {
@@ -40,6 +42,8 @@ pub fn write_line<W: Sink>(writer: &mut W, message: &[u8]) -> Result<(), WriteFa
 /// Writes a number in decimal digits.
 pub fn write_decimal<W: Sink>(writer: &mut W, number: u64) -> Result<(), WriteFault>
     ensures ok { OnOk result (Appends (W.contents writer.old) (W.contents writer.new) (decimal number)) }
+    ensures torn { OnErr result (Torn (W.contents writer.old) (W.contents writer.new) (decimal number)) }
+    ensures same { OnOk result (W.faults writer.new ≡ W.faults writer.old) }
     ensures count { W.faults writer.old ≤ W.faults writer.new }
     ensures err { OnErr result (Rose (W.faults writer.old) (W.faults writer.new)) }
 {

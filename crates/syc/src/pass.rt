@@ -1,20 +1,20 @@
-// Standard input as frames, one line a message on standard output.
-ghost use Rattle.std.specs.Prelude.{◌≡◌, ◌+◌, ◌*◌, ◌<◌, ◌≤◌, ◌^◌, ◌⊎◌, ◌++◌, ℕ, [], List, Option, false, true, IfErr, OnOk, Ok, Some, length};
+//! Standard input as frames, one line a message on standard output.
+ghost use Rattle.std.specs.Prelude.{◌≡◌, ◌≢◌, ◌+◌, ◌*◌, ◌<◌, ◌≤◌, ◌^◌, ◌⊎◌, ◌++◌, ℕ, [], List, Option, false, true, IfErr, IfOk, OnOk, Ok, Some, length};
 ghost use Rattle.sy_wire.specs.Frames.{IsOpen};
 ghost use Rattle.sy_wire.specs.Streams.{Rose, count_after};
 ghost use Rattle.std.specs.Io.KnownBytes.{Keeps};
-ghost use Rattle.syc.specs.Pass.{EndsWhole, GivesUpFailing, HasFailed, IsStatus, PassIs};
-ghost use Rattle.syc.specs.Reports.{Told};
+ghost use Rattle.syc.specs.Pass.{EndsWhole, GivesUpFailing, HasFailed, IsStatus, NoneFailed, PassIs, counts};
+ghost use Rattle.syc.specs.Reports.{Reported, seen, status_shown};
 ghost use Rattle.syc.specs.Stops.{Advances, DrainFails, FailCause, IsBetween, IsIdle, PassCause, StopIs, StopsIn, TurnIs, WriteCause};
 
 use crate::carry::{CarryFault, carry, entry};
 use crate::stop::{Stop, status_of, tell};
 use std::alloc::Global;
 use sy_board::Board;
-use sy_wire::{FillFault, FrameFault, Framer, Sink, Source};
+use sy_wire::{FillFault, FrameFault, Framer, PIECE, Sink, Source};
 
 /// How many reads a pass makes at most.
-const READS: u64 = 1_000_000_000_000;
+pub const READS: u64 = 1_000_000_000_000;
 
 // Passes all whole frames that the framer holds.
 fn drain<W: Sink>(
@@ -27,10 +27,13 @@ fn drain<W: Sink>(
     requires good { framer.old.has_failed ≡ false }
     requires room { board.old.taken + length framer.old.left < 2 ^ 64 }
     ensures between { OnOk result (IsBetween board.new framer.new) }
-    ensures ok { OnOk result (Advances framer.old.left (W.contents writer.old) (W.contents writer.new) framer.new.left board.old.taken board.new.taken) }
+    ensures ok { OnOk result (Advances framer.old.left
+        (W.contents writer.old) (W.contents writer.new) framer.new.left board.old.taken board.new.taken) }
     ensures room { OnOk result (board.new.taken + length framer.new.left ≤ board.old.taken + length framer.old.left) }
     ensures bound { board.new.taken ≤ board.old.taken + length framer.old.left }
-    ensures err { IfErr result (λ e. DrainFails e framer.old.left (W.contents writer.old) (W.contents writer.new) board.old.taken board.new.taken) }
+    ensures err { IfErr result (λ e. DrainFails e framer.old.left
+        (W.contents writer.old) (W.contents writer.new) board.old.taken board.new.taken) }
+    ensures same { OnOk result (W.faults writer.new ≡ W.faults writer.old) }
     ensures count { W.faults writer.old ≤ W.faults writer.new }
     ensures cause { IfErr result (λ e. WriteCause e (W.faults writer.old) (W.faults writer.new)) }
 {
@@ -62,18 +65,24 @@ fn turn<R: Source, W: Sink>(
     writer: &mut W,
 ) -> Result<bool, Stop>
     requires between { IsBetween board.old framer.old }
-    requires room { board.old.taken + length framer.old.left + 65536 < 2 ^ 64 }
+    requires room { board.old.taken + length framer.old.left + PIECE < 2 ^ 64 }
     ensures between { result ≡ Ok true → IsBetween board.new framer.new }
-    ensures room { result ≡ Ok true → board.new.taken + length framer.new.left ≤ board.old.taken + length framer.old.left + 65536 }
-    ensures bound { board.new.taken ≤ board.old.taken + length framer.old.left + 65536 }
+    ensures room { result ≡ Ok true → board.new.taken + length framer.new.left ≤ board.old.taken + length framer.old.left + PIECE }
+    ensures bound { board.new.taken ≤ board.old.taken + length framer.old.left + PIECE }
     ensures turned { (ahead : List ℕ) → R.remaining reader.old ≡ Some ahead →
-        TurnIs result (framer.old.left ++ ahead) framer.new.left (R.remaining reader.new) (W.contents writer.old) (W.contents writer.new) board.old.taken board.new.taken }
+        TurnIs result (framer.old.left ++ ahead) framer.new.left (R.remaining reader.new)
+        (W.contents writer.old) (W.contents writer.new) board.old.taken board.new.taken }
     ensures flushed { result ≡ Ok false → W.is_flushed writer.new ≡ true }
     ensures call { result ≡ Ok true → R.calls reader.new ≡ count_after (R.calls reader.old) 1 }
     ensures calls { R.calls reader.new ≤ R.calls reader.old + 1 }
     ensures reads { R.faults reader.old ≤ R.faults reader.new }
     ensures writes { W.faults writer.old ≤ W.faults writer.new }
-    ensures cause { IfErr result (λ e. FailCause e (R.faults reader.old) (R.faults reader.new) (W.faults writer.old) (W.faults writer.new)) }
+    ensures none_failed { IfOk result (λ _. NoneFailed
+        (counts R.faults R.calls W.faults reader.old writer.old)
+        (counts R.faults R.calls W.faults reader.new writer.new)) }
+    ensures cause { IfErr result (λ e. FailCause e
+        (counts R.faults R.calls W.faults reader.old writer.old)
+        (counts R.faults R.calls W.faults reader.new writer.new)) }
 {
     let Ok(()) = writer.flush() else {
         return Err(Stop::WriteFailed);
@@ -106,12 +115,19 @@ fn turns<R: Source, W: Sink>(
     requires new { framer.old.left ≡ [] }
     requires first { board.old.taken ≡ 0 }
     ensures bound { board.new.taken + 1 < 2 ^ 64 }
-    ensures ok { (input : List ℕ) → R.remaining reader.old ≡ Some input → OnOk result (Advances input (W.contents writer.old) (W.contents writer.new) [] 0 board.new.taken) }
-    ensures err { (input : List ℕ) → R.remaining reader.old ≡ Some input → IfErr result (λ e. StopIs e input (W.contents writer.old) (W.contents writer.new) 0 board.new.taken) }
+    ensures ok { (input : List ℕ) → R.remaining reader.old ≡ Some input →
+        OnOk result (Advances input (W.contents writer.old) (W.contents writer.new) [] 0 board.new.taken) }
+    ensures err { (input : List ℕ) → R.remaining reader.old ≡ Some input →
+        IfErr result (λ e. StopIs e input (W.contents writer.old) (W.contents writer.new) 0 board.new.taken) }
     ensures flushed { OnOk result (W.is_flushed writer.new ≡ true) }
-    ensures calls { R.calls reader.new ≤ R.calls reader.old + 1000000000000 }
+    ensures calls { R.calls reader.new ≤ R.calls reader.old + READS }
     ensures writes { W.faults writer.old ≤ W.faults writer.new }
-    ensures cause { IfErr result (λ e. PassCause e (R.faults reader.old) (R.faults reader.new) (R.calls reader.old) (R.calls reader.new) (W.faults writer.old) (W.faults writer.new)) }
+    ensures none_failed { OnOk result (NoneFailed
+        (counts R.faults R.calls W.faults reader.old writer.old)
+        (counts R.faults R.calls W.faults reader.new writer.new)) }
+    ensures cause { IfErr result (λ e. PassCause e
+        (counts R.faults R.calls W.faults reader.old writer.old)
+        (counts R.faults R.calls W.faults reader.new writer.new)) }
 {
     for _ in 0..READS {
         if !turn(alloc, reader, board, framer, writer)? {
@@ -134,12 +150,19 @@ fn pass_all<R: Source, W: Sink>(
     reader: &mut R,
     writer: &mut W,
 ) -> Result<(), Stopped>
-    ensures ok { (input : List ℕ) → R.remaining reader.old ≡ Some input → OnOk result (EndsWhole input (W.contents writer.old) (W.contents writer.new)) }
-    ensures err { (input : List ℕ) → R.remaining reader.old ≡ Some input → IfErr result (λ e. StopsIn e.stop e.frame input (W.contents writer.old) (W.contents writer.new)) }
+    ensures ok { (input : List ℕ) → R.remaining reader.old ≡ Some input →
+        OnOk result (EndsWhole input (W.contents writer.old) (W.contents writer.new)) }
+    ensures err { (input : List ℕ) → R.remaining reader.old ≡ Some input →
+        IfErr result (λ e. StopsIn e.stop e.frame input (W.contents writer.old) (W.contents writer.new)) }
     ensures flushed { OnOk result (W.is_flushed writer.new ≡ true) }
-    ensures calls { R.calls reader.new ≤ R.calls reader.old + 1000000000000 }
+    ensures calls { R.calls reader.new ≤ R.calls reader.old + READS }
     ensures writes { W.faults writer.old ≤ W.faults writer.new }
-    ensures cause { IfErr result (λ e. PassCause e.stop (R.faults reader.old) (R.faults reader.new) (R.calls reader.old) (R.calls reader.new) (W.faults writer.old) (W.faults writer.new)) }
+    ensures none_failed { OnOk result (NoneFailed
+        (counts R.faults R.calls W.faults reader.old writer.old)
+        (counts R.faults R.calls W.faults reader.new writer.new)) }
+    ensures cause { IfErr result (λ e. PassCause e.stop
+        (counts R.faults R.calls W.faults reader.old writer.old)
+        (counts R.faults R.calls W.faults reader.new writer.new)) }
 {
     let Ok(mut board) = Board::single(alloc) else {
         return Err(Stopped {
@@ -157,16 +180,20 @@ fn pass_all<R: Source, W: Sink>(
     }
 }
 
-// Hands on the lines that were written before the stop, and tells of it.
+// Hands on the lines that were written before the stop, and reports it.
 fn give_up<W: Sink, E: Sink>(writer: &mut W, errors: &mut E, stopped: Stopped) -> u8
-    ensures pass { (input : List ℕ) (first : Option (List ℕ)) → StopsIn stopped.stop stopped.frame input first (W.contents writer.old) →
+    ensures pass { (input : List ℕ) (first : Option (List ℕ)) →
+        StopsIn stopped.stop stopped.frame input first (W.contents writer.old) →
         PassIs result input first (W.contents writer.new)
-        (λ text. Told (E.contents errors.old) (E.contents errors.new) (E.is_flushed errors.new) (E.faults errors.old) (E.faults errors.new) text) }
+        (Reported (seen E.contents E.is_flushed E.faults errors.old)
+        (seen E.contents E.is_flushed E.faults errors.new)) }
     ensures status { (result ≡ 2) ⊎ (result ≡ 3) ⊎ (result ≡ 4) }
-    ensures flushed { (W.is_flushed writer.new ≡ true) ⊎ ((result ≡ 4) × Rose (W.faults writer.old) (W.faults writer.new)) }
+    ensures flushed { (W.is_flushed writer.new ≡ true)
+        ⊎ ((result ≡ 4) × Rose (W.faults writer.old) (W.faults writer.new)) }
     ensures writes { W.faults writer.old ≤ W.faults writer.new }
+    ensures none_failed { result ≢ 4 → (status_shown stopped.stop ≢ 4) × (W.faults writer.new ≡ W.faults writer.old) }
     ensures cause { result ≡ 4 → GivesUpFailing
-        (λ text. Told (E.contents errors.old) (E.contents errors.new) (E.is_flushed errors.new) (E.faults errors.old) (E.faults errors.new) text)
+        (Reported (seen E.contents E.is_flushed E.faults errors.old) (seen E.contents E.is_flushed E.faults errors.new))
         stopped.stop (W.faults writer.old) (W.faults writer.new) }
 {
     let stop = match writer.flush() {
@@ -187,14 +214,20 @@ pub fn pass<R: Source, W: Sink, E: Sink>(
 ) -> u8
     ensures pass { (input : List ℕ) → R.remaining reader.old ≡ Some input →
         PassIs result input (W.contents writer.old) (W.contents writer.new)
-        (λ text. Told (E.contents errors.old) (E.contents errors.new) (E.is_flushed errors.new) (E.faults errors.old) (E.faults errors.new) text) }
+        (Reported (seen E.contents E.is_flushed E.faults errors.old)
+        (seen E.contents E.is_flushed E.faults errors.new)) }
     ensures status { IsStatus result }
     ensures quiet { result ≡ 0 → Keeps (E.contents errors.old) (E.contents errors.new) }
-    ensures flushed { (W.is_flushed writer.new ≡ true) ⊎ ((result ≡ 4) × Rose (W.faults writer.old) (W.faults writer.new)) }
-    ensures calls { R.calls reader.new ≤ R.calls reader.old + 1000000000000 }
+    ensures flushed { (W.is_flushed writer.new ≡ true)
+        ⊎ ((result ≡ 4) × Rose (W.faults writer.old) (W.faults writer.new)) }
+    ensures calls { R.calls reader.new ≤ R.calls reader.old + READS }
+    ensures none_failed { result ≢ 4 → NoneFailed
+        (counts R.faults R.calls W.faults reader.old writer.old)
+        (counts R.faults R.calls W.faults reader.new writer.new) }
     ensures cause { result ≡ 4 → HasFailed
-        (λ text. Told (E.contents errors.old) (E.contents errors.new) (E.is_flushed errors.new) (E.faults errors.old) (E.faults errors.new) text)
-        (R.faults reader.old) (R.faults reader.new) (R.calls reader.old) (R.calls reader.new) (W.faults writer.old) (W.faults writer.new) }
+        (Reported (seen E.contents E.is_flushed E.faults errors.old) (seen E.contents E.is_flushed E.faults errors.new))
+        (counts R.faults R.calls W.faults reader.old writer.old)
+        (counts R.faults R.calls W.faults reader.new writer.new) }
 {
     match pass_all(alloc, reader, writer) {
         Ok(()) => 0,

@@ -1,14 +1,15 @@
-// The commands.
-ghost use Rattle.std.specs.Prelude.{◌≡◌, ◌≤◌, ◌+◌, ◌⊎◌, ◌∷◌, [], ℕ, List, Some, codes, map, string_bytes, true};
+//! The commands.
+ghost use Rattle.std.specs.Prelude.{◌≡◌, ◌≢◌, ◌≤◌, ◌+◌, ◌⊎◌, ◌∷◌, [], ℕ, List, Some, codes, map, string_bytes, true};
 ghost use Rattle.std.specs.Io.KnownBytes.{Keeps};
 ghost use Rattle.sy_wire.specs.Streams.{Rose};
-ghost use Rattle.syc.specs.Pass.{HasFailed, IsStatus, PassIs};
-ghost use Rattle.syc.specs.Reports.{Told};
+ghost use Rattle.syc.specs.Pass.{HasFailed, IsStatus, NoneFailed, PassIs, counts};
+ghost use Rattle.syc.specs.Reports.{Reported, seen};
+ghost use Rattle.syc.specs.Words.{ArePassAlone};
 
 use crate::command::{Command, all_words, command_of};
 use crate::files::Files;
 use crate::output::write_all;
-use crate::pass::pass;
+use crate::pass::{READS, pass};
 use crate::stop::{out_of_memory, write_failed};
 use clap::Error;
 use clap::error::ErrorKind;
@@ -46,18 +47,27 @@ pub fn run<R: Source, W: Sink, E: Sink, F: Files>(
     writer: &mut W,
     errors: &mut E,
 ) -> u8
-    ensures pass { map string_bytes args.now ≡ codes "pass" ∷ [] → (input : List ℕ) → R.remaining reader.old ≡ Some input →
+    ensures pass { ArePassAlone (map string_bytes args.now) → (input : List ℕ) → R.remaining reader.old ≡ Some input →
         PassIs result input (W.contents writer.old) (W.contents writer.new)
-        (λ text. Told (E.contents errors.old) (E.contents errors.new) (E.is_flushed errors.new) (E.faults errors.old) (E.faults errors.new) text) }
+        (Reported (seen E.contents E.is_flushed E.faults errors.old)
+        (seen E.contents E.is_flushed E.faults errors.new)) }
     ensures status { IsStatus result }
-    ensures quiet { map string_bytes args.now ≡ codes "pass" ∷ [] → result ≡ 0 → Keeps (E.contents errors.old) (E.contents errors.new) }
-    ensures flushed { map string_bytes args.now ≡ codes "pass" ∷ [] → (W.is_flushed writer.old ≡ true → W.is_flushed writer.new ≡ true)
+    ensures quiet { ArePassAlone (map string_bytes args.now) → result ≡ 0 →
+        Keeps (E.contents errors.old) (E.contents errors.new) }
+    ensures flushed { ArePassAlone (map string_bytes args.now) →
+        (W.is_flushed writer.old ≡ true → W.is_flushed writer.new ≡ true)
         ⊎ ((result ≡ 4) × Rose (W.faults writer.old) (W.faults writer.new)) }
-    ensures done { map string_bytes args.now ≡ codes "pass" ∷ [] → (result ≡ 0) ⊎ (result ≡ 2) → W.is_flushed writer.new ≡ true }
-    ensures calls { R.calls reader.new ≤ R.calls reader.old + 1000000000000 }
-    ensures cause { map string_bytes args.now ≡ codes "pass" ∷ [] → result ≡ 4 → HasFailed
-        (λ text. Told (E.contents errors.old) (E.contents errors.new) (E.is_flushed errors.new) (E.faults errors.old) (E.faults errors.new) text)
-        (R.faults reader.old) (R.faults reader.new) (R.calls reader.old) (R.calls reader.new) (W.faults writer.old) (W.faults writer.new) }
+    ensures done { ArePassAlone (map string_bytes args.now) → (result ≡ 0) ⊎ (result ≡ 2) →
+        W.is_flushed writer.new ≡ true }
+    ensures calls { R.calls reader.new ≤ R.calls reader.old + READS }
+    ensures none_failed { ArePassAlone (map string_bytes args.now) → result ≢ 4 → NoneFailed
+        (counts R.faults R.calls W.faults reader.old writer.old)
+        (counts R.faults R.calls W.faults reader.new writer.new) }
+    ensures untouched { (ArePassAlone (map string_bytes args.now) → ⊥) → reader.new ≡ reader.old }
+    ensures cause { ArePassAlone (map string_bytes args.now) → result ≡ 4 → HasFailed
+        (Reported (seen E.contents E.is_flushed E.faults errors.old) (seen E.contents E.is_flushed E.faults errors.new))
+        (counts R.faults R.calls W.faults reader.old writer.old)
+        (counts R.faults R.calls W.faults reader.new writer.new) }
 {
     let _ = files;
     let Ok(words) = all_words(alloc, args) else {

@@ -1,4 +1,4 @@
-// Runs of `pass` over readers and writers that give and take little at once, or fail.
+//! Runs of `pass` over readers and writers that give and take little at once, or fail.
 use crate::files::NoFiles;
 use crate::run::run;
 use std::alloc::{AllocError, Global};
@@ -13,20 +13,42 @@ const LINES: &[u8] = b"<34>1 - - - - - -\n<35>1 - - - - - - a\nb\n<191>1 - - - -
 
 const NEVER: usize = usize::MAX;
 
-// Gives at most `size` bytes at a read, and fails at the read of number `failing`, counted from 0.
+// Which call of a fake fails, counted from 0: it alone, or it and all later ones.
+#[derive(Clone, Copy)]
+struct Failing {
+    at: usize,
+    is_once: bool,
+}
+
+const ALWAYS_FINE: Failing = Failing {
+    at: NEVER,
+    is_once: true,
+};
+
+impl Failing {
+    fn count_call(&mut self) -> io::Result<()> {
+        if self.at == 0 {
+            if self.is_once {
+                self.at = NEVER;
+            }
+            return Err(io::Error::from(ErrorKind::Other));
+        }
+        self.at -= 1;
+        Ok(())
+    }
+}
+
+// Gives at most `size` bytes at a read.
 #[derive(Drop)]
 struct Pieces<'a> {
     rest: &'a [u8],
     size: usize,
-    failing: usize,
+    failing: Failing,
 }
 
 impl Read for Pieces<'_> {
     fn read(&mut self, buf: &mut [u8]) -> io::Result<usize> {
-        if self.failing == 0 {
-            return Err(io::Error::from(ErrorKind::Other));
-        }
-        self.failing -= 1;
+        self.failing.count_call()?;
         let n = self.size.min(buf.len()).min(self.rest.len());
         let (front, rest) = self.rest.split_at(n);
         buf[..n].copy_from_slice(front);
@@ -35,42 +57,34 @@ impl Read for Pieces<'_> {
     }
 }
 
-// Takes at most `size` bytes at a write, and fails at the write or flush of number `failing`.
+// Takes at most `size` bytes at a write. Writes and flushes are counted together.
 #[derive(Drop)]
 struct Slow {
     bytes: Vec<u8>,
     size: usize,
-    failing: usize,
+    failing: Failing,
 }
 
 impl Slow {
-    fn new(alloc: Global, size: usize, failing: usize) -> Slow {
+    fn new(alloc: Global, size: usize, failing: Failing) -> Slow {
         Slow {
             bytes: Vec::new(alloc),
             size,
             failing,
         }
     }
-
-    fn count_call(&mut self) -> io::Result<()> {
-        if self.failing == 0 {
-            return Err(io::Error::from(ErrorKind::Other));
-        }
-        self.failing -= 1;
-        Ok(())
-    }
 }
 
 impl Write for Slow {
     fn write(&mut self, buf: &[u8]) -> io::Result<usize> {
-        self.count_call()?;
+        self.failing.count_call()?;
         let n = self.size.min(buf.len());
         self.bytes.extend_from_slice(&buf[..n])?;
         Ok(n)
     }
 
     fn flush(&mut self) -> io::Result<()> {
-        self.count_call()
+        self.failing.count_call()
     }
 }
 
@@ -87,7 +101,7 @@ fn pass(alloc: Global, reader: Pieces<'_>, writer: Slow) -> Result<Answer, Alloc
     let args = vec![in alloc; String::from_str(alloc, "pass")?]?;
     let mut reader = FromRead::new(reader);
     let mut writer = FromWrite::new(writer);
-    let mut errors = FromWrite::new(Slow::new(alloc, NEVER, NEVER));
+    let mut errors = FromWrite::new(Slow::new(alloc, NEVER, ALWAYS_FINE));
     let status = run(
         alloc,
         args.as_slice(),
@@ -126,9 +140,12 @@ fn passes_the_same_for_every_cutting(rt: HostRuntime) -> Result<(), Fail> {
         let reader = Pieces {
             rest: INPUT,
             size,
-            failing: NEVER,
+            failing: ALWAYS_FINE,
         };
-        assert_passed(&rt, pass(alloc, reader, Slow::new(alloc, NEVER, NEVER))?);
+        assert_passed(
+            &rt,
+            pass(alloc, reader, Slow::new(alloc, NEVER, ALWAYS_FINE))?,
+        );
     }
     Ok(())
 }
@@ -139,71 +156,104 @@ fn passes_through_a_writer_that_takes_a_byte_at_a_time(rt: HostRuntime) -> Resul
     let reader = Pieces {
         rest: INPUT,
         size: NEVER,
-        failing: NEVER,
+        failing: ALWAYS_FINE,
     };
-    assert_passed(&rt, pass(alloc, reader, Slow::new(alloc, 1, NEVER))?);
+    assert_passed(&rt, pass(alloc, reader, Slow::new(alloc, 1, ALWAYS_FINE))?);
+    Ok(())
+}
+
+/// Each line is two writes, and a flush comes before each of the two reads and at the end: so many bytes are written
+/// before each of these.
+const WRITES: [(usize, usize); 8] = [
+    (0, 0),
+    (1, 0),
+    (2, 17),
+    (3, 18),
+    (4, 39),
+    (5, 40),
+    (6, 58),
+    (7, 59),
+];
+
+/// The bytes of the whole lines after so many reads of 20 bytes, the length of the first frame.
+const READS: [(usize, usize); 5] = [(0, 0), (1, 18), (2, 18), (3, 40), (4, 59)];
+
+// The pass ended with status 4, this line on standard error, and so many bytes of lines.
+fn assert_failed(rt: &impl Abort, answer: Answer, written: usize, errors: &[u8]) {
+    assert_eq!(rt; answer.status, 4);
+    assert!(rt; written <= LINES.len());
+    assert_eq!(rt; answer.output.as_slice(), &LINES[..written]);
+    assert_eq!(rt; answer.errors.as_slice(), errors);
+}
+
+fn stops_at_write(
+    rt: &impl Abort,
+    alloc: Global,
+    failing: Failing,
+    written: usize,
+) -> Result<(), AllocError> {
+    let reader = Pieces {
+        rest: INPUT,
+        size: NEVER,
+        failing: ALWAYS_FINE,
+    };
+    let answer = pass(alloc, reader, Slow::new(alloc, NEVER, failing))?;
+    assert_failed(rt, answer, written, b"syc: write failed\n");
+    Ok(())
+}
+
+fn stops_at_read(
+    rt: &impl Abort,
+    alloc: Global,
+    failing: Failing,
+    written: usize,
+) -> Result<(), AllocError> {
+    let reader = Pieces {
+        rest: INPUT,
+        size: 20,
+        failing,
+    };
+    let answer = pass(alloc, reader, Slow::new(alloc, NEVER, ALWAYS_FINE))?;
+    assert_failed(rt, answer, written, b"syc: read failed\n");
+    Ok(())
+}
+
+// Whether the call fails alone or with all later ones: it is not tried again.
+fn stops_at_each_write(
+    rt: &impl Abort,
+    alloc: Global,
+    rows: &[(usize, usize)],
+) -> Result<(), AllocError> {
+    for (at, written) in rows {
+        for is_once in [false, true] {
+            stops_at_write(rt, alloc, Failing { at: *at, is_once }, *written)?;
+        }
+    }
+    Ok(())
+}
+
+fn stops_at_each_read(
+    rt: &impl Abort,
+    alloc: Global,
+    rows: &[(usize, usize)],
+) -> Result<(), AllocError> {
+    for (at, written) in rows {
+        for is_once in [false, true] {
+            stops_at_read(rt, alloc, Failing { at: *at, is_once }, *written)?;
+        }
+    }
     Ok(())
 }
 
 #[test]
 fn stops_at_each_write_that_fails(rt: HostRuntime) -> Result<(), Fail> {
-    let alloc = rt.alloc();
-    // Each line is two writes, and a flush comes before each of the two reads; so many bytes are written before each of these.
-    let rows = [
-        (0, 0),
-        (1, 0),
-        (2, 17),
-        (3, 18),
-        (4, 39),
-        (5, 40),
-        (6, 58),
-        (7, 59),
-    ];
-    for (failing, written) in rows {
-        let reader = Pieces {
-            rest: INPUT,
-            size: NEVER,
-            failing: NEVER,
-        };
-        let answer = pass(alloc, reader, Slow::new(alloc, NEVER, failing))?;
-        assert_eq!(rt; answer.status, 4, "at write {failing}");
-        assert!(rt; written <= LINES.len());
-        assert_eq!(rt;
-            answer.output.as_slice(),
-            &LINES[..written],
-            "at write {failing}"
-        );
-        assert_eq!(rt; answer.errors.as_slice(), b"syc: write failed\n".as_slice());
-    }
-    let reader = Pieces {
-        rest: INPUT,
-        size: NEVER,
-        failing: NEVER,
-    };
-    assert_passed(&rt, pass(alloc, reader, Slow::new(alloc, NEVER, 8))?);
+    stops_at_each_write(&rt, rt.alloc(), &WRITES)?;
     Ok(())
 }
 
 #[test]
 fn stops_at_each_read_that_fails(rt: HostRuntime) -> Result<(), Fail> {
-    let alloc = rt.alloc();
-    // The whole lines after so many reads of 20 bytes, the length of the first frame.
-    for (failing, lines) in [(0, 0), (1, 18), (2, 18), (3, 40), (4, 59)] {
-        let reader = Pieces {
-            rest: INPUT,
-            size: 20,
-            failing,
-        };
-        let answer = pass(alloc, reader, Slow::new(alloc, NEVER, NEVER))?;
-        assert_eq!(rt; answer.status, 4, "at read {failing}");
-        assert!(rt; lines <= LINES.len());
-        assert_eq!(rt;
-            answer.output.as_slice(),
-            &LINES[..lines],
-            "at read {failing}"
-        );
-        assert_eq!(rt; answer.errors.as_slice(), b"syc: read failed\n".as_slice());
-    }
+    stops_at_each_read(&rt, rt.alloc(), &READS)?;
     Ok(())
 }
 
@@ -237,9 +287,9 @@ fn tells_the_fault_and_its_frame(rt: HostRuntime) -> Result<(), Fail> {
         let reader = Pieces {
             rest: input,
             size: NEVER,
-            failing: NEVER,
+            failing: ALWAYS_FINE,
         };
-        let answer = pass(alloc, reader, Slow::new(alloc, NEVER, NEVER))?;
+        let answer = pass(alloc, reader, Slow::new(alloc, NEVER, ALWAYS_FINE))?;
         assert_eq!(rt; answer.status, 2, "on {input:?}");
         assert_eq!(rt; answer.output.as_slice(), output, "on {input:?}");
         assert_eq!(rt; answer.errors.as_slice(), errors, "on {input:?}");
@@ -306,16 +356,16 @@ fn ends_with_whole_lines_where_memory_is_refused(rt: HostRuntime) {
     assert!(rt; len <= bytes.len());
     let output = &bytes[..len];
     let Fixed {
-        bytes: told,
+        bytes: reported,
         len: told_len,
     } = errors.into_inner();
-    assert!(rt; told_len <= told.len());
+    assert!(rt; told_len <= reported.len());
     if status == 0 {
         assert_eq!(rt; output, LINES);
         assert_eq!(rt; told_len, 0);
     } else {
         assert_eq!(rt; status, 3);
-        assert_eq!(rt; &told[..told_len], b"syc: no memory\n".as_slice());
+        assert_eq!(rt; &reported[..told_len], b"syc: no memory\n".as_slice());
         assert!(rt; [0, 18, 40, 59].contains(&len));
         assert!(rt; LINES.starts_with(output));
     }

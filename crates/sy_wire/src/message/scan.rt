@@ -1,4 +1,4 @@
-// Scans over the front of bytes.
+//! Scans over the front of bytes.
 ghost use Rattle.std.specs.Prelude.{◌≡◌, ◌∷◌, List, ℕ, IsTrue, ◌↔◌, IfNone, IfSome, MatchOption, []};
 ghost use Rattle.sy_wire.specs.Characters.{OfKind, RunsTo};
 

@@ -1,4 +1,4 @@
-// Reading structured data.
+//! Reading structured data.
 ghost use Rattle.std.specs.Prelude.{◌≡◌, ◌≤◌, ◌∷◌, ◌↔◌, List, ℕ, drop, length, IfNone, IfSome, IsTrue};
 ghost use Rattle.sy_wire.specs.Characters.{Begins, EndsTo};
 ghost use Rattle.sy_wire.specs.StructuredData.{AreParams, DataTo, ElementsTo, IsParamValue, IsSdElement, IsSdParam};

@@ -1,4 +1,4 @@
-// Reading a timestamp.
+//! Reading a timestamp.
 ghost use Rattle.std.specs.Prelude.{◌≡◌, ◌+◌, ◌/◌, ◌%◌, ◌<◌, ◌≤◌, ◌∷◌, ◌++◌, ◌↔◌, List, ℕ, drop, length, IfNone, IfSome, IsTrue};
 ghost use Rattle.sy_wire.specs.Characters.{Begins};
 ghost use Rattle.sy_wire.specs.Timestamps.{IsDate, IsFullDate, IsHourMinute, IsLeapYear, IsMoment, IsTimeEnd, IsTimeOffset, IsTimestamp, two_digits};

@@ -1,4 +1,4 @@
-use Rattle.sy_rules.proofs.FaultLaws.{plan_without_faults}
+use Rattle.sy_rules.proofs.lemmas.check.FaultLaws.{plan_without_faults}
 use Rattle.sy_rules.proofs.fault_laws.plan_without_faults.Goals as goal
 
 pub returns : goal.returns

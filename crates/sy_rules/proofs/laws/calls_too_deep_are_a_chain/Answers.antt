@@ -1,4 +1,4 @@
-use Rattle.sy_rules.proofs.CallLaws.{chain_of, deep_by}
+use Rattle.sy_rules.proofs.lemmas.lists.CallLaws.{chain_of, deep_by}
 use Rattle.sy_rules.proofs.laws.calls_too_deep_are_a_chain.Goals as goal
 
 pub returns-clause-chain : goal.returns-clause-chain

@@ -1,4 +1,4 @@
-use Rattle.sy_rules.proofs.WorkLaws.{rising}
+use Rattle.sy_rules.proofs.lemmas.lists.WorkLaws.{rising}
 use Rattle.sy_rules.proofs.laws.executed_in_order.Goals as goal
 
 pub returns : goal.returns

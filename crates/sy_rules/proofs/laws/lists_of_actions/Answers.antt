@@ -1,4 +1,4 @@
-use Rattle.sy_rules.proofs.QueueLaws.{queue_of_action, run_of_action}
+use Rattle.sy_rules.proofs.lemmas.parts.QueueLaws.{queue_of_action, run_of_action}
 use Rattle.sy_rules.proofs.laws.lists_of_actions.Goals as goal
 
 pub returns-clause-queue : goal.returns-clause-queue

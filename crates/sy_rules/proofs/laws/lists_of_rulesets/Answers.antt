@@ -1,4 +1,4 @@
-use Rattle.sy_rules.proofs.QueueLaws.{queue_of_ruleset}
+use Rattle.sy_rules.proofs.lemmas.parts.QueueLaws.{queue_of_ruleset}
 use Rattle.sy_rules.proofs.laws.lists_of_rulesets.Goals as goal
 
 pub returns : goal.returns

@@ -1,4 +1,4 @@
-use Rattle.sy_rules.proofs.WorkLaws.{must_may}
+use Rattle.sy_rules.proofs.lemmas.lists.WorkLaws.{must_may}
 use Rattle.sy_rules.proofs.laws.must_is_may.Goals as goal
 
 pub returns : goal.returns

@@ -1,4 +1,4 @@
-use Rattle.sy_rules.proofs.OnePlan.{one_plan}
+use Rattle.sy_rules.proofs.lemmas.parts.OnePlan.{one_plan}
 use Rattle.sy_rules.proofs.laws.one_plan.Goals as goal
 
 pub returns : goal.returns

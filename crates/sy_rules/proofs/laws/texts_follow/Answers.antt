@@ -1,4 +1,4 @@
-use Rattle.sy_rules.proofs.WorkLaws.{follows}
+use Rattle.sy_rules.proofs.lemmas.lists.WorkLaws.{follows}
 use Rattle.sy_rules.proofs.laws.texts_follow.Goals as goal
 
 pub returns : goal.returns

@@ -1,4 +1,4 @@
-use Rattle.sy_rules.proofs.TestLaws.{actions_of_tops, calls_of_tops, rulesets_of_tops, tests_of_tops}
+use Rattle.sy_rules.proofs.lemmas.items.TestLaws.{actions_of_tops, calls_of_tops, rulesets_of_tops, tests_of_tops}
 use Rattle.sy_rules.proofs.laws.texts_have_the_items.Goals as goal
 
 pub returns-clause-tests : goal.returns-clause-tests

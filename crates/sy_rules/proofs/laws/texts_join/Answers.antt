@@ -1,4 +1,4 @@
-use Rattle.sy_rules.proofs.WorkLaws.{joined_occurrences, joined_tests}
+use Rattle.sy_rules.proofs.lemmas.lists.WorkLaws.{joined_occurrences, joined_tests}
 use Rattle.sy_rules.proofs.laws.texts_join.Goals as goal
 
 pub returns-clause-occurrences : goal.returns-clause-occurrences

@@ -1,4 +1,4 @@
-use Rattle.sy_rules.proofs.WorkLaws.{work_may}
+use Rattle.sy_rules.proofs.lemmas.lists.WorkLaws.{work_may}
 use Rattle.sy_rules.proofs.laws.work_is_may.Goals as goal
 
 pub returns : goal.returns

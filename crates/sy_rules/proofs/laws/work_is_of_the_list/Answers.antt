@@ -1,5 +1,5 @@
-use Rattle.sy_rules.specs.Work.{valuation_of}
-use Rattle.sy_rules.proofs.WorkLaws.{of_the_list, may_of_the_list}
+use Rattle.sy_rules.specs.lists.Work.{valuation_of}
+use Rattle.sy_rules.proofs.lemmas.lists.WorkLaws.{of_the_list, may_of_the_list}
 use Rattle.sy_rules.proofs.laws.work_is_of_the_list.Goals as goal
 
 pub returns-clause-work : goal.returns-clause-work

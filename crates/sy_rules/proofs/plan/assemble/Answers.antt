@@ -1,11 +1,11 @@
 use Rattle.std.proofs.Common.{length, ap, ◌∙◌, subst, arith}
-use Rattle.sy_rules.specs.Loading.{IsGathered}
-use Rattle.sy_rules.specs.Outline.{items}
+use Rattle.sy_rules.specs.internal.Loading.{IsGathered}
+use Rattle.sy_rules.specs.items.Outline.{items}
 use Rattle.sy_rules.specs.PlanValue.{action_parts}
-use Rattle.sy_rules.specs.Plans.{actions_of}
-use Rattle.sy_rules.proofs.CleanItems.{few_rulesets, few_actions}
-use Rattle.sy_rules.proofs.Kept.{kept, listed_same}
-use Rattle.sy_rules.proofs.WholeItems.{length-list_queues, queued_at_most}
+use Rattle.sy_rules.specs.parts.Plans.{actions_of}
+use Rattle.sy_rules.proofs.lemmas.check.CleanItems.{few_rulesets, few_actions}
+use Rattle.sy_rules.proofs.lemmas.plan.Kept.{kept, listed_same, same_names}
+use Rattle.sy_rules.proofs.lemmas.parts.WholeItems.{length-list_queues, queued_at_most}
 use Rattle.sy_rules.proofs.plan.assemble.Goals as goal
 
 pub expand_lists-requires-clause-few : goal.expand_lists-requires-clause-few
@@ -30,6 +30,7 @@ invariant_of-result c =
       queues = g.queues;
       workers = g.workers;
       actions = c.in_ok-actions.ensures.ok ∙ ap (action_parts 0) g.actions;
+      names = c.in_ok-names.ensures.ok ∙ same_names _ _ _ _ (c.as_slice.ensures.value ∙ g.rulesets) (c.as_slice-2.ensures.value ∙ g.actions);
       own_queues = g.list_queues;
       tests = g.tests;
       lines = found.lines;

@@ -1,5 +1,5 @@
 use Rattle.std.proofs.Common.{rules}
-use Rattle.sy_rules.proofs.Defaults.{archive_retry, archive_interval}
+use Rattle.sy_rules.proofs.lemmas.parameters.Defaults.{archive_retry, archive_interval}
 use Rattle.sy_rules.proofs.plan.pass_action.Goals as goal
 
 pub returns : goal.returns

@@ -1,6 +1,6 @@
 use Rattle.std.proofs.Common.{◌≡◌, length, sym, ◌∙◌, arith}
 use Rattle.sy_script.proofs.LexSteps.{goes_next, goes_wrong, ends}
-use Rattle.sy_script.specs.Lex as spec
+use Rattle.sy_script.specs.internal.Lex as spec
 use Rattle.sy_script.proofs.lex.tokens.Goals as goal
 
 pub returns-in-Err : goal.returns-in-Err

@@ -1,6 +1,6 @@
 use Rattle.std.proofs.Common.{◌≡◌, drop}
-use Rattle.sy_script.specs.Lex.{with_front, tokens_from}
-use Rattle.sy_script.specs.Lex as spec
+use Rattle.sy_script.specs.internal.Lex.{with_front, tokens_from}
+use Rattle.sy_script.specs.internal.Lex as spec
 use Rattle.sy_script.proofs.lex.tokens.Given as goal
 
 abbrev pub invariant-loop-at : goal.invariant-loop-at

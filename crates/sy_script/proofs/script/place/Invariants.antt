@@ -1,5 +1,5 @@
 use Rattle.std.proofs.Common.{◌≡◌, ◌+◌, ◌≤◌, drop}
-use Rattle.sy_script.specs.Answer.{place, place_from}
+use Rattle.sy_script.specs.internal.Answer.{place, place_from}
 use Rattle.sy_script.proofs.script.place.Given as goal
 
 abbrev pub invariant-loop-b : goal.invariant-loop-b

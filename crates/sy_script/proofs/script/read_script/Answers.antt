@@ -3,6 +3,7 @@ use Rattle.sy_script.proofs.SoundStmt.{reading_ok}
 use Rattle.sy_script.proofs.Depths.{script_within}
 use Rattle.sy_script.proofs.ReadBackStmt.{script_reads}
 use Rattle.sy_script.proofs.FaultsStand.{found_stands}
+use Rattle.sy_script.proofs.OneAnswer.{found_first}
 use Rattle.sy_script.proofs.script.read_script.Goals as goal
 
 pub returns-in-Ok-clause-found : goal.returns-in-Ok-clause-found
@@ -25,3 +26,6 @@ returns-in_default-clause-only c script is =
 
 pub returns-in_default-clause-there : goal.returns-in_default-clause-there
 returns-in_default-clause-there c = found_stands c.args.text.now c.in-Err.fault c.located.result (c.in-Err.ensures c.in_default.not-NoMemory) c.in_default.not-NoMemory c.located.ensures
+
+pub returns-in_default-clause-first : goal.returns-in_default-clause-first
+returns-in_default-clause-first c = found_first c.args.text.now c.in-Err.fault c.located.result (omega arith) (c.in-Err.ensures c.in_default.not-NoMemory) c.in_default.not-NoMemory c.located.ensures

@@ -21,12 +21,12 @@ is_taken : takes program words ≡ true
 unfolding clap_on_literals
 is_taken = refl
 
-pub returns-in_err-try_get_matches_from-clause-err : goal.returns-in_err-try_get_matches_from-clause-err
-returns-in_err-try_get_matches_from-clause-err c = λ words_are.
+pub returns-in_err-try_get_matches_from_mut-clause-err : goal.returns-in_err-try_get_matches_from_mut-clause-err
+returns-in_err-try_get_matches_from_mut-clause-err c = λ words_are.
     let pass_is : app_of c.about-pass.result ≡ new_app (codes "pass") = ap app_of_fields c.about-pass.ensures ∙ c.new.ensures.app in
     let version_is : app_of c.version.result ≡ with_version (new_app (codes "syc")) = ap app_of_fields c.version.ensures ∙ ap with_version c.new-2.ensures.app in
     let about_is : app_of c.about.result ≡ with_version (new_app (codes "syc")) = ap app_of_fields c.about.ensures ∙ version_is in
     let required_is : app_of c.subcommand_required.result ≡ with_required (with_version (new_app (codes "syc"))) = ap app_of_fields c.subcommand_required.ensures ∙ ap with_required about_is in
     let parser_is : app_of c.in_ok-parser.parser ≡ program = c.in_ok-parser.ensures.shape (search rules) ∙ ap₂ with_subcommand required_is (ap (λ (a : App). a.top) pass_is) in
-    let p = err_from_is_err_and c.from_residual-in_err-try_get_matches_from.result c.from_residual-in_err-try_get_matches_from.ensures.1 in
-    rw (p.1, p.2) (c.in_err-try_get_matches_from.ensures.passes (ap₂ takes parser_is words_are ∙ is_taken))
+    let p = err_from_is_err_and c.from_residual-in_err-try_get_matches_from_mut.result c.from_residual-in_err-try_get_matches_from_mut.ensures.1 in
+    rw (p.1, p.2) (c.in_err-try_get_matches_from_mut.ensures.passes (ap₂ takes parser_is words_are ∙ is_taken))

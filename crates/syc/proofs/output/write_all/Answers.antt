@@ -1,4 +1,4 @@
-use Rattle.std.proofs.Common.{arith}
+use Rattle.std.proofs.Common.{◌∙◌, arith}
 use Rattle.syc.proofs.Lines.{appends_more}
 use Rattle.syc.proofs.output.write_all.Goals as goal
 
@@ -6,5 +6,5 @@ pub loop-at-preserved : goal.loop-at-preserved
 loop-at-preserved g c = record {
   within = omega (arith, c.in_ok-count.ensures.bound, c.split_at.ensures.back_len);
   wrote = appends_more _ _ _ _ _ _ _ c.loop-at.invariant.wrote c.split_at.ensures.back c.in_ok-count.ensures.bytes;
-  count = omega arith;
+  same = c.in_ok-count.ensures.ok ∙ c.loop-at.invariant.same;
 }

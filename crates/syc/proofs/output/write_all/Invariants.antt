@@ -1,4 +1,4 @@
-use Rattle.std.proofs.Common.{◌-◌, ◌≤◌, length, take}
+use Rattle.std.proofs.Common.{◌≡◌, ◌-◌, ◌≤◌, length, take}
 use Rattle.std.specs.Io.KnownBytes.{Appends}
 use Rattle.syc.proofs.output.write_all.Given as goal
 
@@ -6,7 +6,7 @@ abbrev pub invariant-loop-at : goal.invariant-loop-at
 invariant-loop-at g l = record {
   within : l.at ≤ length l.bytes;
   wrote : Appends (g.W.Sink.contents l.initial.writer) (g.W.Sink.contents l.writer) (take l.at l.bytes);
-  count : g.W.Sink.faults l.initial.writer ≤ g.W.Sink.faults l.writer;
+  same : g.W.Sink.faults l.writer ≡ g.W.Sink.faults l.initial.writer;
 }
 
 abbrev pub decreases-loop-at : goal.decreases-loop-at

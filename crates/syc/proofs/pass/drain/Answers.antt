@@ -1,4 +1,4 @@
-use Rattle.std.proofs.Common.{arith}
+use Rattle.std.proofs.Common.{◌∙◌, arith}
 use Rattle.std.proofs.lemmas.Result.{err_from_is_err_and}
 use Rattle.syc.proofs.Passes.{carry_tears, entry_fails, gives_frame, left_shrinks, pass_frame}
 use Rattle.syc.proofs.pass.drain.Goals as goal
@@ -15,7 +15,7 @@ frames-preserved g c =
       room = omega (arith, less, one, c.frames.invariant.room);
       small = c.frames.invariant.small;
       advances = pass_frame _ _ _ _ _ _ _ _ _ _ c.frames.invariant.advances gives made.is_message made.text _ one c.in-Ok.ensures.ok;
-      count = omega (arith, c.frames.invariant.count, c.in-Ok.ensures.count);
+      same = c.in-Ok.ensures.same ∙ c.frames.invariant.same;
     }
 
 pub returns-in-Err-WriteFailed-clause-err : goal.returns-in-Err-WriteFailed-clause-err

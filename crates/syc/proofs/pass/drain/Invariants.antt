@@ -10,7 +10,7 @@ invariant-frames g l =
       room : l.board.taken + length l.framer.left ≤ l.initial.board.taken + length l.initial.framer.left;
       small : l.initial.board.taken + length l.initial.framer.left < 2 ^ 64;
       advances : Advances l.initial.framer.left (g.W.Sink.contents l.initial.writer) (g.W.Sink.contents l.writer) l.framer.left l.initial.board.taken l.board.taken;
-      count : g.W.Sink.faults l.initial.writer ≤ g.W.Sink.faults l.writer;
+      same : g.W.Sink.faults l.writer ≡ g.W.Sink.faults l.initial.writer;
     }
 
 abbrev pub decreases-frames : goal.decreases-frames

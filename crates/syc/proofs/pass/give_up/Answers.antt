@@ -1,5 +1,5 @@
 use Rattle.std.proofs.Common.{◌∙◌, inl, inr, ap, sym}
-use Rattle.syc.specs.Reports.{Told, status_shown}
+use Rattle.syc.specs.Reports.{Reported, seen, status_shown}
 use Rattle.syc.proofs.Statuses.{flush_failed, gives_up, stopped}
 use Rattle.syc.proofs.pass.give_up.Goals as goal
 use Rattle.syc.proofs.pass.give_up.Goals.{in-Ok, in-Err}
@@ -21,6 +21,13 @@ returns-clause-flushed g c =
 pub returns-clause-cause : goal.returns-clause-cause
 returns-clause-cause g c = λ is.
     elim c.match-flush.branch [
-      | in-Ok w ↦ gives_up (λ text. Told (g.E.Sink.contents c.args.errors.now) (g.E.Sink.contents c.tell.new.errors) (g.E.Sink.is_flushed c.tell.new.errors) (g.E.Sink.faults c.args.errors.now) (g.E.Sink.faults c.tell.new.errors) text) c.args.stopped.stop c.args.stopped.frame _ _ (ap status_shown (sym w.stop-is) ∙ sym c.status_of.ensures ∙ is) (rw w.stop-is at c.tell.ensures)
+      | in-Ok w ↦ gives_up (Reported (seen g.E.Sink.contents g.E.Sink.is_flushed g.E.Sink.faults c.args.errors.now) (seen g.E.Sink.contents g.E.Sink.is_flushed g.E.Sink.faults c.tell.new.errors)) c.args.stopped.stop c.args.stopped.frame _ _ (ap status_shown (sym w.stop-is) ∙ sym c.status_of.ensures ∙ is) (rw w.stop-is at c.tell.ensures)
       | in-Err w ↦ inr (rw w.stop-is at c.tell.ensures, inr w.in-Err.ensures.err)
+    ]
+
+pub returns-clause-none_failed : goal.returns-clause-none_failed
+returns-clause-none_failed g c = λ other.
+    elim c.match-flush.branch [
+      | in-Ok w ↦ ((λ is. other (c.status_of.ensures ∙ ap status_shown w.stop-is ∙ is)), w.in-Ok.ensures.ok)
+      | in-Err w ↦ absurd (other (c.status_of.ensures ∙ ap status_shown w.stop-is))
     ]

@@ -1,8 +1,18 @@
-use Rattle.syc.specs.Reports.{Told}
-use Rattle.syc.proofs.Statuses.{has_failed}
+use Rattle.syc.specs.Reports.{Reported, seen}
+use Rattle.std.proofs.Common.{◌∙◌}
+use Rattle.syc.proofs.Statuses.{has_failed, none_failed}
 use Rattle.syc.proofs.pass.pass.Goals as goal
 
 pub returns-in-Err-clause-cause : goal.returns-in-Err-clause-cause
 returns-in-Err-clause-cause g c = λ is.
-    has_failed (λ text. Told (g.E.Sink.contents c.args.errors.now) (g.E.Sink.contents c.give_up.new.errors) (g.E.Sink.is_flushed c.give_up.new.errors) (g.E.Sink.faults c.args.errors.now) (g.E.Sink.faults c.give_up.new.errors) text)
-    c.in-Err.stopped.stop _ _ _ _ _ _ _ c.in-Err.ensures.writes c.give_up.ensures.writes c.in-Err.ensures.cause (c.give_up.ensures.cause is)
+    has_failed (Reported (seen g.E.Sink.contents g.E.Sink.is_flushed g.E.Sink.faults c.args.errors.now) (seen g.E.Sink.contents g.E.Sink.is_flushed g.E.Sink.faults c.give_up.new.errors))
+    c.in-Err.stopped.stop _ _ _ c.in-Err.ensures.writes c.give_up.ensures.writes c.in-Err.ensures.cause (c.give_up.ensures.cause is)
+
+pub returns-in-Err-clause-none_failed : goal.returns-in-Err-clause-none_failed
+returns-in-Err-clause-none_failed g c = λ other.
+    let last = c.give_up.ensures.none_failed other in
+    let before = none_failed c.in-Err.stopped.stop _ _ c.in-Err.ensures.cause last.0 in
+    (before.0, last.1 ∙ before.1)
+
+pub returns-in-Err-clause-pass : goal.returns-in-Err-clause-pass
+returns-in-Err-clause-pass g c = λ input known. c.give_up.ensures.pass input _ (c.in-Err.ensures.err input known)

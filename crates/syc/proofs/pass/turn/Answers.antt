@@ -1,4 +1,5 @@
-use Rattle.std.proofs.Common.{ap}
+use Rattle.std.proofs.Common.{◌≡◌, ◌≢◌, ◌∙◌, ap, sym}
+use Rattle.sy_wire.specs.declared.framer.FillFault.TheVariants.{NoMemory, ReadFailed}
 use Rattle.std.proofs.lemmas.Result.{err_from_is_err_and}
 use Rattle.syc.proofs.Passes.{after_read, part_of_passed, passed_nothing, turn_stops}
 use Rattle.syc.proofs.pass.turn.Goals as goal
@@ -19,3 +20,8 @@ returns-in_err-drain-clause-turned g c = λ ahead known.
     let next = after_read ahead _ _ (rw known at filled.reads.consumed) in
     let held_is = ap (λ f. f.left) filled.feeds.after in
     rw (p.1, p.2) (turn_stops _ c.args.framer.now.left ahead next.0 _ _ _ _ _ _ _ c.flush.ensures.bytes next.2 held_is c.in_err-drain.ensures.err)
+
+pub returns-in-Err-NoMemory-clause-cause : goal.returns-in-Err-NoMemory-clause-cause
+returns-in-Err-NoMemory-clause-cause g c =
+    let unread : c.in-Err-NoMemory.field-0 ≢ ReadFailed = λ is. let both : NoMemory ≡ ReadFailed = sym c.in-Err-NoMemory.field-0-is ∙ is in cc in
+    (ap g.R.Source.faults (c.in-Err-NoMemory.ensures.untouched unread), c.in-Ok.ensures.ok)

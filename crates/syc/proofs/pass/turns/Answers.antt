@@ -1,4 +1,4 @@
-use Rattle.std.proofs.Common.{◌≡◌, ap, refl, length, arith}
+use Rattle.std.proofs.Common.{◌≡◌, ◌∙◌, ap, refl, length, arith}
 use Rattle.std.proofs.lemmas.Result.{err_from_is_err_and}
 use Rattle.std.proofs.KnownBytes.{Keeps-refl}
 use Rattle.syc.proofs.Passes.{advances_nothing, advances_trans, calls_next, stop_after}
@@ -11,8 +11,7 @@ loop-init g c = record {
   first = λ _. refl;
   calls = λ later. absurd (omega (arith, later));
   bound = omega arith;
-  reads = omega arith;
-  writes = omega arith;
+  none_failed = (refl, refl);
   passed = λ input known. (input, known, rw (c.requires.new, c.requires.first) (advances_nothing input _ _ 0 (Keeps-refl _)));
 }
 
@@ -37,8 +36,7 @@ loop-preserved g c =
       first = λ none. absurd (omega (arith, none));
       calls = λ later. calls_next _ _ _ _ c.loop.invariant.first c.loop.invariant.calls (more.call refl);
       bound = omega (arith, more.calls, c.loop.invariant.bound);
-      reads = omega (arith, more.reads, c.loop.invariant.reads);
-      writes = omega (arith, more.writes, c.loop.invariant.writes);
+      none_failed = (more.none_failed.0 ∙ c.loop.invariant.none_failed.0, more.none_failed.1 ∙ c.loop.invariant.none_failed.1);
       passed = λ input known.
           let before = c.loop.invariant.passed input known in
           let turned = more.turned before.0 before.1 in

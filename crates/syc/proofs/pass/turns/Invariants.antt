@@ -1,5 +1,6 @@
 use Rattle.std.proofs.Common.{◌≡◌, ◌<◌, ◌≤◌, ◌+◌, ◌*◌, ℕ, List, ◌++◌, length, Some}
 use Rattle.sy_wire.specs.Streams.{count_after}
+use Rattle.syc.specs.Pass.{NoneFailed, counts}
 use Rattle.syc.specs.Stops.{Advances, IsBetween}
 use Rattle.syc.proofs.pass.turns.Given as goal
 
@@ -11,8 +12,7 @@ invariant-loop g l =
       first : l.counter ≡ 0 → g.R.Source.calls l.reader ≡ g.R.Source.calls l.initial.reader;
       calls : 0 < l.counter → g.R.Source.calls l.reader ≡ count_after (g.R.Source.calls l.initial.reader) l.counter;
       bound : g.R.Source.calls l.reader ≤ g.R.Source.calls l.initial.reader + l.counter;
-      reads : g.R.Source.faults l.initial.reader ≤ g.R.Source.faults l.reader;
-      writes : g.W.Sink.faults l.initial.writer ≤ g.W.Sink.faults l.writer;
+      none_failed : NoneFailed (counts g.R.Source.faults g.R.Source.calls g.W.Sink.faults l.initial.reader l.initial.writer) (counts g.R.Source.faults g.R.Source.calls g.W.Sink.faults l.reader l.writer);
       passed :
           (input : List ℕ) → g.R.Source.remaining l.initial.reader ≡ Some input
           → (ahead : List ℕ) × (g.R.Source.remaining l.reader ≡ Some ahead)

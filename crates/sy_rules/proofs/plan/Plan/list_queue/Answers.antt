@@ -1,7 +1,7 @@
 use Rattle.std.proofs.Common.{◌<◌, length, sym, ◌∙◌, ap, arith}
-use Rattle.sy_rules.specs.Tables.{lines_of_tables}
+use Rattle.sy_rules.specs.internal.Tables.{lines_of_tables}
 use Rattle.sy_rules.specs.Whole.{queue_at}
-use Rattle.sy_rules.proofs.Listed.{length-listed_from, queue_listed}
+use Rattle.sy_rules.proofs.lemmas.parts.Listed.{length-listed_from, queue_listed}
 use Rattle.sy_rules.proofs.plan.Plan.list_queue.Goals as goal
 
 pub index-requires : goal.index-requires

@@ -1,6 +1,6 @@
 use Rattle.std.proofs.Common.{◌≡◌, rules, arith}
 use Rattle.std.proofs.lemmas.Grind.{common_steps}
-use Rattle.sy_script.specs.ReadingExpr.{level, group, negation, unit, chain, chain_from, expr}
+use Rattle.sy_script.specs.internal.ReadingExpr.{level, followed, group, negation, unit, chain, chain_from, expr}
 use Rattle.sy_script.proofs.Turns.{one_more, no_more, deeper}
 use Rattle.sy_script.proofs.reader.Reader.+expr.Goals as goal
 
@@ -44,14 +44,14 @@ group-returns-in_err-inner t c =
     let e = deeper (λ n. group c.args.self.now.text.now n c.args.paren c.args.rest.now) c.args.left (omega arith) in
     first_of (search rules, grind (arith, common_steps))
 
-pub group-returns-in_err-_close : goal.group-returns-in_err-_close
-unfolding level expr
-group-returns-in_err-_close t c =
+pub group-returns-in_err-inner-2 : goal.group-returns-in_err-inner-2
+unfolding level expr followed
+group-returns-in_err-inner-2 t c =
     let e = deeper (λ n. group c.args.self.now.text.now n c.args.paren c.args.rest.now) c.args.left (omega arith) in
     first_of (search rules, grind (arith, common_steps))
 
 pub group-returns : goal.group-returns
-unfolding level expr
+unfolding level expr followed
 group-returns t c =
     let e = deeper (λ n. group c.args.self.now.text.now n c.args.paren c.args.rest.now) c.args.left (omega arith) in
     first_of (search rules, grind (arith, common_steps))

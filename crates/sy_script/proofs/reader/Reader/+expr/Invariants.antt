@@ -1,5 +1,5 @@
 use Rattle.std.proofs.Common.{◌≡◌, ◌+◌, ◌-◌, ◌*◌}
-use Rattle.sy_script.specs.ReadingExpr.{unit, chain, chain_from}
+use Rattle.sy_script.specs.internal.ReadingExpr.{unit, chain, chain_from}
 use Rattle.sy_script.proofs.reader.Reader.+expr.Given as goal
 
 abbrev pub decreases-group : goal.decreases-group

@@ -1,8 +1,8 @@
 use Rattle.std.proofs.Common.{◌≡◌, rules, arith}
 use Rattle.std.proofs.lemmas.Grind.{common_steps}
 use Rattle.sy_script.specs.declared.token.Kind.TheVariants as k
-use Rattle.sy_script.specs.Reading.{items_from}
-use Rattle.sy_script.specs.ReadingStmt.{block, stmt, body}
+use Rattle.sy_script.specs.internal.Reading.{items_from}
+use Rattle.sy_script.specs.internal.ReadingStmt.{block, stmt, body}
 use Rattle.sy_script.proofs.Turns.{one_more, no_more, deeper}
 use Rattle.sy_script.proofs.reader.Reader.+stmt.Goals as goal
 

@@ -1,7 +1,7 @@
 use Rattle.std.proofs.Common.{rules, arith}
 use Rattle.std.proofs.lemmas.Grind.{common_steps}
 use Rattle.sy_script.specs.declared.token.Kind.TheVariants as k
-use Rattle.sy_script.specs.Reading.{items_from, param, params_in}
+use Rattle.sy_script.specs.internal.Reading.{items_from, param, params_in}
 use Rattle.sy_script.proofs.Turns.{one_more, no_more}
 use Rattle.sy_script.proofs.reader.Reader.params_in.Goals as goal
 

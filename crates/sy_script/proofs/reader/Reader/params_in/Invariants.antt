@@ -1,6 +1,6 @@
 use Rattle.std.proofs.Common.{◌≡◌, ◌-◌}
 use Rattle.sy_script.specs.declared.token.Kind.TheVariants as k
-use Rattle.sy_script.specs.Reading.{items_from, param, params_in}
+use Rattle.sy_script.specs.internal.Reading.{items_from, param, params_in}
 use Rattle.sy_script.proofs.reader.Reader.params_in.Given as goal
 
 abbrev pub invariant-loop-turn : goal.invariant-loop-turn

@@ -4,7 +4,7 @@ use Rattle.std.proofs.lemmas.Grind.{common_steps}
 use Rattle.sy_script.specs.declared.token.Token.{Token}
 use Rattle.sy_script.specs.declared.tree.Top.{Top}
 use Rattle.sy_script.specs.Terms.{max_depth}
-use Rattle.sy_script.specs.ReadingStmt.{top, tops, tops_from, tops_then}
+use Rattle.sy_script.specs.internal.ReadingStmt.{top, tops, tops_from, tops_then}
 use Rattle.sy_script.proofs.Turns.{one_more, no_more}
 use Rattle.sy_script.proofs.reader.Reader.tops.Goals as goal
 

@@ -1,6 +1,6 @@
 use Rattle.std.proofs.Common.{◌≡◌, ◌-◌}
 use Rattle.sy_script.specs.Terms.{max_depth}
-use Rattle.sy_script.specs.ReadingStmt.{tops, tops_from}
+use Rattle.sy_script.specs.internal.ReadingStmt.{tops, tops_from}
 use Rattle.sy_script.proofs.reader.Reader.tops.Given as goal
 
 abbrev pub invariant-loop-turn : goal.invariant-loop-turn

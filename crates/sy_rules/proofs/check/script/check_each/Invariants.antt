@@ -1,0 +1,12 @@
+use Rattle.std.proofs.Common.{◌≡◌, [], take, drop, map}
+use Rattle.sy_rules.specs.internal.ItemViews.{item}
+use Rattle.sy_rules.specs.check.ScriptFaults.{faults_after}
+use Rattle.sy_rules.specs.internal.Seen.{Shows}
+use Rattle.sy_rules.proofs.check.script.check_each.Given as goal
+
+-- nothing is wrong with the items before
+abbrev pub invariant-loop-next : goal.invariant-loop-next
+invariant-loop-next l = record {
+  shows : Shows (take l.next-index (map item l.items)) l.seen;
+  left : faults_after (map item l.items) (take l.next-index (map item l.items)) (drop l.next-index (map item l.items)) ≡ faults_after (map item l.items) [] (map item l.items);
+}

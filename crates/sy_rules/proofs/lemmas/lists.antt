@@ -1,0 +1,23 @@
+-- Lists, their tables and their work.
+pub mod Fronts
+pub mod Puts
+pub mod Places
+pub mod TableLaws
+pub mod TableRuns
+pub mod SingleTables
+pub mod Encoding
+pub mod SizeLaws
+pub mod SizeSums
+pub mod BodySizes
+pub mod Numbering
+pub mod PlanTables
+pub mod CallLaws
+pub mod WorkLaws
+pub mod Walks
+pub mod Sets
+pub mod Lowest
+pub mod Admitted
+pub mod KnownWalks
+pub mod MayMust
+pub mod FlowTables
+pub mod FlowRuns

@@ -1,7 +1,0 @@
-use Rattle.std.proofs.Common.{◌∙◌, ap}
-use Rattle.sy_rules.specs.ScriptFaults.{is_among}
-use Rattle.sy_rules.proofs.NameSets.{any_at}
-use Rattle.sy_rules.proofs.names.Names.has.Goals as goal
-
-pub returns : goal.returns
-returns c = c.contains.ensures ∙ any_at c.args.name.now _ ∙ ap (is_among c.args.name.now) c.self.view_is

@@ -1,6 +1,0 @@
-use Rattle.sy_rules.specs.TableSizes.{size_at}
-use Rattle.sy_rules.proofs.SizeSums.{sized_start}
-use Rattle.sy_rules.proofs.sizes.size_of.Goals as goal
-
-pub loop-rest-init : goal.loop-rest-init
-loop-rest-init c = sized_start (size_at c.args.inner.now c.args.outside) c.args.steps.now

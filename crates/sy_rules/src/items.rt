@@ -1,0 +1,4 @@
+//! The items of a script that a plan is made of, in the order of the text.
+
+pub mod borrowed;
+pub mod outline;

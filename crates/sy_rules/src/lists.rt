@@ -1,0 +1,11 @@
+//! The lists of a plan: their tables, what is executed of them, and their limits.
+
+pub mod build;
+pub mod flow;
+pub mod list_names;
+pub mod numbering;
+pub mod occurrence;
+pub mod sizes;
+pub mod statement;
+pub mod tables;
+pub mod walk;

@@ -1,0 +1,3 @@
+-- What the private functions that read a selector say to one another.
+pub mod Masks
+pub mod Reading

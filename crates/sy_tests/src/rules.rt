@@ -1,0 +1,10 @@
+//! Plans of scripts: each fault by its word, worked configurations, what messages execute of them and what classes may
+//! and must, and each range at its ends.
+
+mod configurations;
+mod faults;
+mod flows;
+mod memory;
+mod parameters;
+mod plans;
+mod queues;

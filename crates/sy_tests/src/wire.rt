@@ -1,0 +1,5 @@
+//! Messages, frames and streams.
+
+mod frames;
+mod messages;
+mod streams;

@@ -1,0 +1,158 @@
+"""The command line of tests/edits/run: what is to be tried, side by side, and what is said of it."""
+
+import os
+import re
+import sys
+import time
+from concurrent.futures import FIRST_COMPLETED, ThreadPoolExecutor, wait
+
+import edits
+import rounds
+import toolchain
+
+
+def stop(why):
+    print(f"tests/edits/run: {why}", file=sys.stderr)
+    sys.exit(2)
+
+
+def words_of(argv, usage):
+    """What the words say: the number of crates side by side, the checkout and the gate's log (None: none), and what is
+    named to be tried."""
+    given, names, left = {"-j": os.environ.get("RT_JOBS") or None, "-t": None, "-w": None}, [], list(argv)
+    while left:
+        word = left.pop(0)
+        if word in ("-h", "--help"):
+            print(usage, end="")
+            sys.exit(0)
+        elif word in given:
+            given[word] = left.pop(0) if left else stop(f"{word} wants a value")
+        elif word.startswith("-"):
+            stop(f"unknown flag {word}: see -h")
+        else:
+            names.append(word)
+    jobs = given["-j"] or str(len(os.sched_getaffinity(0)))
+    if not jobs.isdigit() or jobs == "0":
+        stop(f"{jobs} is no number of jobs")
+    tree, log = (given[it] and os.path.realpath(given[it]) for it in ("-t", "-w"))
+    return int(jobs), tree, log, names
+
+
+def edits_of(top, crate, wanted):
+    """The crate's edits that are named (all where none is), and those that can't be read, with the reason."""
+    folder, good, bad = f"{top}/crates/{crate}/must-fail", [], []
+    for file in sorted(os.listdir(folder)) if os.path.isdir(folder) else []:
+        name = file[: -len(".edit")] if file.endswith(".edit") else ""
+        if not name or wanted and name not in wanted:
+            continue
+        try:
+            good.append(edits.read_edit(crate, f"{folder}/{file}"))
+        except edits.BadEdit as why:
+            bad.append(rounds.Tried(f"{crate}/{name}", False, f"BAD EDIT: {why}"))
+    for name in sorted(set(wanted) - {it.name for it in good} - {it.label.partition("/")[2] for it in bad}):
+        stop(f"{crate} has no edit {name}")
+    return good, bad
+
+
+def control_of(top, crate):
+    """The crate's control, and what is to be said where there is none."""
+    file, label = f"{top}/tests/edits/controls/{crate}.edit", f"{crate}/control"
+    if not os.path.isfile(file):
+        return None, [rounds.Tried(label, False, f"there is no control tests/edits/controls/{crate}.edit")]
+    try:
+        control = edits.read_edit(crate, file)
+    except edits.BadEdit as why:
+        return None, [rounds.Tried(label, False, f"BAD EDIT: {why}")]
+    control.name = "control"
+    return control, []
+
+
+def try_one(top, crate, wanted):
+    """Tries a crate's edits and its control: what came of each, what that took, and the time."""
+    began = time.monotonic()
+    good, bad = edits_of(top, crate.name, wanted)
+    control, lacking = control_of(top, crate.name)
+    tried, cost = rounds.try_crate(crate, good, control) if good or control else ([], "no check")
+    return crate.name, [*bad, *lacking, *tried], cost, time.monotonic() - began
+
+
+def wanted_of(top, crates, names):
+    """Which edits of which crates are to be tried (an empty list: all)."""
+    wanted = {}
+    for name in names or [it for it in crates if os.path.isdir(f"{top}/crates/{it}/must-fail")]:
+        crate, _, edit = name.partition("/")
+        if crate not in crates:
+            stop(f"there is no crate {crate}")
+        wanted.setdefault(crate, []).extend([edit.removesuffix(".edit")] if edit else [])
+    return wanted
+
+
+def proved_in(log):
+    """The crates that the gate's log says to be proved, and whether the gate has ended."""
+    try:
+        with open(log, encoding="utf-8", errors="replace") as it:
+            said = it.read()
+    except FileNotFoundError:
+        return set(), False
+    return set(re.findall(r"^rt: (\w+) proved$", said, re.M)), bool(re.search(r"^\d+ passed, \d+ failed$", said, re.M))
+
+
+def side_by_side(names, jobs, is_ready, work):
+    """Does the work for each name, so many at a time, each once it is ready, and gives what came of each as it ends.
+    `is_ready` answers None where that name never will be, which ends the wait for it."""
+    left, running = list(names), {}
+    with ThreadPoolExecutor(jobs) as pool:
+        while left or running:
+            for name in list(left):
+                state = is_ready(name)
+                if state is None or state and len(running) < jobs:
+                    left.remove(name)
+                    running[pool.submit(work, name, state)] = name
+            for ended in wait(running, timeout=1 if left else None, return_when=FIRST_COMPLETED).done:
+                del running[ended]
+                yield ended.result()
+            if left and not running:
+                time.sleep(1)
+
+
+def readiness(crates, log):
+    """When a crate's edits can be tried: at once, or, over a gate that is still running, once that has proved all
+    libraries below."""
+
+    def is_ready(name):
+        if not log:
+            return True
+        proved, has_ended = proved_in(log)
+        if all(it.name in proved for it in crates[name].below()):
+            return True
+        return None if has_ended else False
+
+    return is_ready
+
+
+def main(top, argv, usage):
+    jobs, tree, log, names = words_of(argv, usage)
+    crates = toolchain.crates_of(tree or top)
+    wanted = wanted_of(top, crates, names)
+    for name in [] if log else wanted:
+        is_there = toolchain.are_built(crates[name]) if tree else toolchain.build_below(crates[name])
+        if not is_there:
+            stop(f"the libraries below {name} are not built")
+    toolchain.rtlib.guarded()
+
+    def work(name, state):
+        if state is None:
+            lacking = [rounds.Tried(f"{name}", False, "the gate has not proved the libraries below")]
+            return name, lacking, "no check", 0
+        return try_one(top, crates[name], wanted[name])
+
+    passed = failed = 0
+    largest_first = sorted(wanted, key=lambda it: -len(edits_of(top, it, wanted[it])[0]))
+    for name, tried, cost, seconds in side_by_side(largest_first, jobs, readiness(crates, log), work):
+        for it in tried:
+            passed, failed = passed + it.is_well, failed + (not it.is_well)
+            if not it.is_well or names or it.label.endswith("/control"):
+                print(f"edits: {it.label}: {it.text}", flush=True)
+        print(f"edits: {name}: {len(tried)} tried, {cost}, {seconds:.0f} s", flush=True)
+    print(f"edits: {passed} passed, {failed} failed")
+    return 1 if failed else 0

@@ -1,0 +1,203 @@
+"""Edits, and what of a crate's sources each of them changes."""
+
+import os
+import re
+from dataclasses import dataclass, field
+
+# The head of a function, of what methods stand in, of a constant or a table; as `rt fmt` lays them out.
+FUNCTION = re.compile(r"^(\s*)(?:pub(?:\([^)]*\))? )?(?:const )?(?:unsafe )?fn (\w+)")
+OWNER = re.compile(r"^(?:unsafe )?(?:impl|(?:pub )?trait)\b(.*)")
+CONSTANT = re.compile(r"^(?:pub(?:\([^)]*\))? )?(?:const|static) (\w+)\b")
+CYCLE = re.compile(r"#\[cycle\((\w+)\)\]")
+
+
+class BadEdit(Exception):
+    """An edit that can't be tried, with the reason."""
+
+
+@dataclass
+class Item:
+    """A function, or a constant or table, of a source: its name, the line (from 0) where its attributes begin, its
+    first and last line, and of a function the type that it belongs to and the cycle of calls that it is declared
+    to be in."""
+
+    file: str
+    name: str
+    head: int
+    first: int
+    last: int
+    is_function: bool
+    owner: str = ""
+    cycle: str = ""
+
+
+@dataclass
+class Edit:
+    """An edit: the function that its crate's proof must refuse by itself, and the texts to replace."""
+
+    crate: str
+    name: str
+    function: str = ""
+    pairs: list = field(default_factory=list)
+
+    @property
+    def label(self):
+        return f"{self.crate}/{self.name}"
+
+
+def read_edit(crate, file):
+    """Reads an edit; lines of another form are passed over, as `rt` does."""
+    edit, path, old = Edit(crate, os.path.basename(file)[: -len(".edit")]), "", None
+    with open(file, encoding="utf-8") as it:
+        lines = it.read().split("\n")
+    for line in lines:
+        if line.startswith("function: "):
+            edit.function = line[len("function: ") :].strip()
+        elif line.startswith("file: "):
+            path = line[len("file: ") :].strip()
+        elif line.startswith("old: "):
+            old = line[len("old: ") :]
+        elif line.startswith("new:"):
+            if not path or not old:
+                raise BadEdit("a line 'new:' stands before any 'file:' or 'old:'")
+            new = line[len("new:") :]
+            edit.pairs.append((path, old, new[1:] if new.startswith(" ") else new))
+            old = None
+    if not edit.function:
+        raise BadEdit("it has no line 'function: PATH'")
+    if not edit.pairs:
+        raise BadEdit("it has no pair of lines 'old:' and 'new:'")
+    return edit
+
+
+class Sources:
+    """The texts of a crate's files, by their path in the crate, as edits change them."""
+
+    def __init__(self, folder, texts=None):
+        self.folder, self.texts = folder, dict(texts or {})
+
+    def text(self, path):
+        if path not in self.texts:
+            try:
+                with open(f"{self.folder}/{path}", encoding="utf-8") as it:
+                    self.texts[path] = it.read()
+            except OSError:
+                raise BadEdit(f"there is no file {path}") from None
+        return self.texts[path]
+
+    def with_edit(self, edit):
+        """The sources with the edit, and the places (file, line) that it changes, in the sources before it."""
+        after, places = Sources(self.folder, self.texts), []
+        for path, old, new in edit.pairs:
+            text = after.text(path)
+            if text.count(old) != 1:
+                raise BadEdit(f"an 'old:' text stands in {path} {text.count(old)} times, and not once")
+            at = text.index(old) + len(old) - len(old.lstrip())
+            places.append((path, text.count("\n", 0, at)))
+            after.texts[path] = text.replace(old, new)
+        return after, places
+
+    def write(self, room):
+        for path, text in self.texts.items():
+            with open(f"{room}/{path}", "w", encoding="utf-8") as it:
+                it.write(text)
+
+
+def items_of(file, text):
+    """The functions and constants of a source."""
+    lines, found, owner = text.split("\n"), [], ""
+    for at, line in enumerate(lines):
+        function = FUNCTION.match(line)
+        if function:
+            indent, name = function.groups()
+            last = end_of(lines, at, indent)
+            head = head_of(lines, at)
+            cycle = CYCLE.search("\n".join(lines[head:at]))
+            found.append(Item(file, name, head, at, last, True, owner if indent else "", cycle[1] if cycle else ""))
+        elif OWNER.match(line):
+            owner = OWNER.match(line)[1]
+        elif CONSTANT.match(line):
+            found.append(Item(file, CONSTANT.match(line)[1], at, at, end_of(lines, at, ""), False))
+    return found
+
+
+def head_of(lines, at):
+    """The line where the attributes and comments right before a line begin."""
+    while at > 0 and lines[at - 1].strip().startswith(("#[", "//")):
+        at -= 1
+    return at
+
+
+def end_of(lines, at, indent):
+    """The last line of the item that begins at a line: the one that ends it, or a closing bracket below its head."""
+    for later in range(at, len(lines)):
+        line = lines[later]
+        if later == at and line.rstrip().endswith((";", "}")):
+            return at
+        if later > at and re.match(rf"^{indent}[\]}})]+;?$", line):
+            return later
+    return len(lines) - 1
+
+
+class Crate:
+    """What the judge asks of a crate's sources: which functions an edit may change, and what is in a cycle."""
+
+    def __init__(self, folder):
+        self.items = []
+        for at, _, names in sorted(os.walk(f"{folder}/src")):
+            for name in sorted(names):
+                if name.endswith(".rt"):
+                    path = os.path.relpath(f"{at}/{name}", folder)
+                    with open(f"{at}/{name}", encoding="utf-8") as it:
+                        text = it.read()
+                    for item in items_of(path, text):
+                        lines = text.split("\n")[item.first : item.last + 1]
+                        self.items.append((item, "\n".join(lines)))
+
+    def named(self, path):
+        """The functions of the sources that a check calls by this path: of that name, and of that type or file."""
+        *above, name = path.split("::")
+        owner, found = (above[-1] if above else ""), []
+        for item, _ in self.items:
+            if not item.is_function or item.name != name:
+                continue
+            if item.owner:
+                words = re.findall(r"\w+", item.owner.partition(" where ")[0])
+                fits = any(owner == it for it in words) or owner and owner in {a + b for a in words for b in words}
+            else:
+                stem = re.sub(r"/(lib|main)$", "", item.file[len("src") : -len(".rt")])
+                fits = stem.split("/")[1:] == above
+            if fits:
+                found.append(item)
+        return found
+
+    def cycle(self, path):
+        """The cycle of calls that a function is declared to be in, or the function itself."""
+        for item in self.named(path):
+            if item.cycle:
+                return "+" + item.cycle
+        return path
+
+    def using(self, names):
+        """Those names of items, and of all items that speak of them, directly or through constants."""
+        seen = set(names)
+        while True:
+            words = re.compile(r"\b(" + "|".join(map(re.escape, sorted(seen))) + r")\b")
+            more = {it.name for it, text in self.items if not it.is_function and words.search(text)} - seen
+            if not seen or not more:
+                break
+            seen |= more
+        users = [it for it, text in self.items if it.is_function and seen and words.search(text)]
+        return seen, users
+
+    def touched(self, places):
+        """What edits at these places change: functions, and the names of constants."""
+        functions, constants = [], set()
+        for path, line in places:
+            for item, _ in self.items:
+                if item.file == path and item.first <= line <= item.last:
+                    if item.is_function:
+                        functions.append(item)
+                    else:
+                        constants.add(item.name)
+        return functions, constants

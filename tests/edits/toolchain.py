@@ -1,0 +1,67 @@
+"""The toolchain's own words for a check: which crates there are, what each stands on, how rattle is called."""
+
+import importlib.machinery
+import importlib.util
+import os
+import re
+import shutil
+import subprocess
+import sys
+
+PARTS = ("src", "specs", "proofs")
+
+
+def _load():
+    rt = shutil.which("rt") or sys.exit("tests/edits/run: the command rt of the toolchain is not on PATH")
+    file = os.path.join(os.path.dirname(os.path.realpath(rt)), "rtlib.py")
+    sys.dont_write_bytecode = True
+    loader = importlib.machinery.SourceFileLoader("rtlib", file)
+    made = importlib.util.module_from_spec(importlib.util.spec_from_loader("rtlib", loader))
+    sys.modules["rtlib"] = made
+    loader.exec_module(made)
+    return made
+
+
+rtlib = _load()
+
+
+def crates_of(root):
+    """The crates of a repository, each after those that it stands on, by name."""
+    os.chdir(root)
+    found = sorted(rtlib.crates_below(root), key=lambda it: len(it.below()))
+    return {it.name: it for it in found}
+
+
+def build_below(crate):
+    """Builds the libraries that a crate stands on, over what earlier checks kept; whether all are there."""
+    return not any(it.build_rlib(["--jobs", "1"], anew=False) for it in crate.below())
+
+
+def are_built(crate):
+    """Whether the libraries that a crate stands on are there, as a run of the gate leaves them."""
+    return all(os.path.isdir(it.rlib) for it in crate.below())
+
+
+def check(crate, room, kept, functions, tests=False):
+    """What a check of the crate in `room`, with its tests or without, says of these functions and those that they
+    call (where none is named, of all); `kept` has what earlier checks proved. Returns its status, its lines and its
+    processor seconds."""
+    words = [*crate.words(["--jobs", "1"], tests=tests, keeps=False), "--incremental", kept]
+    for it in functions:
+        words += ["--only", it]
+    how = {"cwd": room, "stdin": subprocess.DEVNULL, "stdout": subprocess.PIPE, "stderr": subprocess.STDOUT}
+    ran = subprocess.Popen([*rtlib.guarded(), rtlib.RATTLE, "check", *words], errors="replace", **how)
+    with ran.stdout:
+        said = ran.stdout.read()
+    _, ended, usage = os.wait4(ran.pid, 0)
+    ran.returncode = os.waitstatus_to_exitcode(ended)
+    stale = re.search(r"Run the lower steps again", said)
+    return (2 if stale else ran.returncode), said.rstrip("\n").split("\n"), usage.ru_utime + usage.ru_stime
+
+
+def copy_of(crate, room):
+    """Copies the crate's sources, definitions and proofs to `room`."""
+    for part in PARTS:
+        shutil.rmtree(f"{room}/{part}", ignore_errors=True)
+        if os.path.isdir(f"{crate.folder}/{part}"):
+            shutil.copytree(f"{crate.folder}/{part}", f"{room}/{part}")
