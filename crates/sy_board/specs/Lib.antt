@@ -1,4 +1,4 @@
-pub mod Answers
-pub mod Faults
 pub mod States
 pub mod Steps
+pub mod Faults
+pub mod Answers

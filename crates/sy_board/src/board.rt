@@ -17,7 +17,7 @@ pub const LIST: u32 = 0;
 pub const DUE: u64 = 1;
 
 /// The number of the archive's action.
-pub const ARCHIVE: u32 = 0;
+const ARCHIVE: u32 = 0;
 
 /// The state of one relay: the hands of its input, its queue, the batch of the queue's worker, and the
 /// totals.

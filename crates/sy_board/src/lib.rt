@@ -10,9 +10,9 @@ pub mod answers;
 pub mod board;
 pub mod fault;
 pub mod laws;
-pub mod limits;
+mod limits;
 
 pub use accounts::Accounts;
 pub use answers::{Entry, Hold, Job, Taken};
-pub use board::{ARCHIVE, Board, DUE, LIST};
+pub use board::{Board, DUE, LIST};
 pub use fault::BoardFault;

@@ -77,7 +77,8 @@ pub fn executed_in_order()
 pub fn calls_too_deep_are_a_chain()
     ensures chain { (lists : List Lines) (depth l : ℕ) → is_deeper lists depth l ≡ true → (callees : List ℕ)
         × (length callees ≡ depth + 1) × IsChain lists l callees }
-    ensures deep { (lists : List Lines) (depth l : ℕ) (callees : List ℕ) → length callees ≡ depth + 1 → IsChain lists l callees
+    ensures deep { (lists : List Lines) (depth l : ℕ) (callees : List ℕ) → length callees ≡ depth + 1
+        → IsChain lists l callees
         → is_deeper lists depth l ≡ true }
 {}
 
@@ -128,6 +129,7 @@ pub fn texts_have_the_items()
 
 /// A set of 64 bits with an occurrence in it has a lowest one. No set has two, and one set alone is left without it.
 pub fn sets_have_a_lowest()
-    ensures there { (set : ℕ) → 0 < set → set < 2 ^ 64 → (number : ℕ) × (left : ℕ) × (number < 64) × IsLowest set number left }
+    ensures there { (set : ℕ) → 0 < set → set < 2 ^ 64 → (number : ℕ) × (left : ℕ) × (number < 64)
+        × IsLowest set number left }
     ensures one { (set m n left rest : ℕ) → IsLowest set m left → IsLowest set n rest → (m ≡ n) × (left ≡ rest) }
 {}

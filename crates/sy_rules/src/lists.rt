@@ -7,5 +7,5 @@ pub mod numbering;
 pub mod occurrence;
 pub mod sizes;
 pub mod statement;
-pub mod tables;
+pub mod plan_tables;
 pub mod walk;

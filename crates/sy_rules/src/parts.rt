@@ -2,7 +2,7 @@
 
 pub mod action_names;
 pub mod expressions;
-pub mod gather;
+pub mod of_items;
 
 use crate::parameters::objects::Destination;
 use crate::parameters::settings::FlowControl;

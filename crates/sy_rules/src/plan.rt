@@ -14,7 +14,7 @@ ghost use Rattle.sy_rules.specs.lists.Sets.{Bits};
 ghost use Rattle.sy_rules.specs.lists.Work.{Due, May, Must, work};
 ghost use Rattle.sy_wire.specs.Messages.{Said};
 
-mod load;
+mod gathered;
 
 use crate::check::among::DEFAULT_RULESET;
 use crate::check::script::check_script;
@@ -29,9 +29,9 @@ use crate::parameters::kind::Kind;
 use crate::parameters::objects::Destination;
 use crate::parameters::settings::{FlowControl, QueueParameters, queue_parameters};
 use crate::parts::action_names::name_by_number;
-use crate::parts::gather::action_parts;
+use crate::parts::of_items::action_parts;
 use crate::parts::{Action, Input};
-use load::{expand_lists, gather};
+use gathered::{expand_lists, gather};
 use std::alloc::{AllocError, Global};
 use std::marker::Model;
 use sy_script::Items;
@@ -175,7 +175,7 @@ fn load_items(alloc: Global, script: &Script, found: &[Item<'_>]) -> Result<Plan
 impl Plan {
     /// The plan of a script. Refuses it for its first fault: those of its items in the order of the text, then too many workers, then those of
     /// its lists in the order of their numbers. Without a fault only memory may be missing. It goes as deep as the script nests, and takes
-    /// time and memory linear in the expanded texts of its lists.
+    /// time and memory linear in the text.
     pub fn load(alloc: Global, script: &Script) -> Result<Plan, PlanFault>
         ensures plan { IfOk result (λ plan. IsPlan script.now plan) }
         ensures ok { OnOk result (faults_of script.now ≡ []) }

@@ -27,7 +27,7 @@ with_token_front : (kind : Option Kind) (start end : ℕ) (ts : List Token) (l :
 with_token_front None start end ts l text = refl
 with_token_front (Some kind) start end ts l text = refl
 
--- what stands behind a piece
+-- what stands after a piece
 behind_piece : (text before piece more : List ℕ) (at : ℕ) → text ≡ before ++ (piece ++ more) → length before ≡ at → (text ≡ (before ++ piece) ++ more) × (length (before ++ piece) ≡ at + length piece)
 behind_piece text before piece more at is_text is_at = (is_text ∙ sym (append_assoc before piece more), omega (arith, length-append before piece))
 
@@ -58,7 +58,7 @@ span test (b ∷ bytes) = by_test (test b) refl (span test bytes) where
   by_test true is w = (b ∷ w.0, w.1, ap (λ l. b ∷ l) w.2, (is, w.3), w.4)
   by_test false is w = ([], b ∷ bytes, refl, tt, is)
 
--- how the bytes behind a quote go on
+-- how the bytes after a quote go on
 data Scan (q : ℕ) : List ℕ → Type 0 where
   closed : {inner : List ℕ} (rest : List ℕ) → InString q inner → Scan q (inner ++ q ∷ rest)
   unended : {inner : List ℕ} → InString q inner → Scan q inner
@@ -100,7 +100,7 @@ scan q (b ∷ c ∷ bytes) = elim (eqb_tells b 92) [
   by_test more true is = scan_escape q c is more
   by_test more false is = Scan.bad c bytes InString.none is
 
--- how the bytes behind `/*` go on
+-- how the bytes after `/*` go on
 data Comment : List ℕ → Type 0 where
   ended : (inner rest : List ℕ) → NoEnd (inner ++ 42 ∷ []) → Comment (inner ++ 42 ∷ 47 ∷ rest)
   unended : {bytes : List ℕ} → NoEnd bytes → Comment bytes
@@ -486,7 +486,7 @@ open_reads text at _ _ (OpenAt.escape {q = q} {bytes = bytes} is h) =
 open_reads text at _ _ (OpenAt.comment {bytes = bytes} h) =
     begins text (s.Slash at) at 47 (42 ∷ bytes) refl ∙ (goes text (s.Slash at) (s.BlockComment at) (at + 1) 42 bytes refl ∙ comment_open text false at (at + 1 + 1) bytes h)
 
--- the tokens of a front of a text, and those behind it
+-- the tokens of a prefix of a text, and those after it
 pub cut_in : (text : List ℕ) {ts : List Token} {end : ℕ} {rest : List ℕ} → Cut 0 text ts end rest → (more : List Token) × ((tokens text).0 ≡ ts ++ more)
 cut_in text {end = end} {rest = rest} c = ((tokens_from text s.Between end rest).0, ap (λ (l : Lexing). l.0) (cut_reads text [] refl refl c))
 

@@ -23,7 +23,7 @@ AtToken (halt.LeftOut span) = Unit {0}
 AtToken (halt.TooDeep span) = Unit {0}
 AtToken (halt.End opened) = ⊥
 
--- one of the tokens is where reading stops, and whatever comes behind it, no tree has the tokens up to it
+-- one of the tokens is where reading stops, and whatever comes after it, no tree has the tokens up to it
 pub record IsDeadEnd (text : List ℕ) (ts : List Token) (h : Halt) : Type 0 where
   pub front : List Token
   pub t : Token

@@ -9,7 +9,7 @@ use Rattle.sy_script.specs.declared.halt.Halt.TheVariants as halt
 use Rattle.sy_script.specs.declared.fault.FaultCode.{FaultCode}
 use Rattle.sy_script.specs.declared.fault.FaultCode.TheVariants as code
 use Rattle.sy_script.specs.declared.fault.ScriptFault.{ScriptFault}
-use Rattle.sy_script.specs.declared.script.Fault.{Fault}
+use Rattle.sy_script.specs.declared.script.PlacedFault.{PlacedFault}
 use Rattle.sy_script.specs.declared.tree.Span.{Span}
 use Rattle.sy_script.specs.declared.tree.Top.{Top}
 use Rattle.sy_script.specs.Terms.{max_depth}
@@ -39,10 +39,10 @@ there text S n s = (n, s, is_place (take n text))
 
 module _ (text : List ℕ) where
   -- the fault stands where it is located
-  Right : Fault → Type 0
+  Right : PlacedFault → Type 0
   Right f = f.code ≢ code.NoMemory → Stands text (located text f)
 
-  right_as : {f f' : Fault} → f ≡ f' → Right f → Right f'
+  right_as : {f f' : PlacedFault} → f ≡ f' → Right f → Right f'
   right_as e r = subst Right e r
 
   byte_right : (n end : ℕ) (rest : List ℕ) {ts : List Token} → Cut 0 text ts end rest → BadAt n end rest → Right (at code.Byte n)
@@ -118,21 +118,21 @@ module _ (text : List ℕ) where
       ending_right (tokens text).1 opened (tokens text).0 w.end w.rest w.cut w.stopped (whole_cut text) (none_refused (halt.End opened) (λ a b. cc) (λ a b. cc) e)
       (no_tree (tokens text).0 (halt.End opened) (λ deep same. cc) e) s.0 s.1
 
-  ended_right : (e : Ending) (tree : List Top) (ts : List Token) (end : ℕ) (rest : List ℕ) (f : Fault) → Cut 0 text ts end rest → Stopped e end rest → ended_by (length text) tree e ≡ Err f → Right f
+  ended_right : (e : Ending) (tree : List Top) (ts : List Token) (end : ℕ) (rest : List ℕ) (f : PlacedFault) → Cut 0 text ts end rest → Stopped e end rest → ended_by (length text) tree e ≡ Err f → Right f
   ended_right ending.Complete tree ts end rest f c stopped h = absurd cc
   ended_right (ending.Byte n) tree ts end rest f c stopped h = right_as (let e : at code.Byte n ≡ f = cc in e) (byte_right n end rest c stopped)
   ended_right (ending.Open n) tree ts end rest f c stopped h = right_as (let e : at code.Unclosed n ≡ f = cc in e) (open_right n end rest c stopped)
 
-  reading_right : (r : Result (List Top) Halt) (f : Fault) → tops text max_depth (tokens text).0 ≡ r → ended (length text) (tokens text).1 r ≡ Err f → Right f
+  reading_right : (r : Result (List Top) Halt) (f : PlacedFault) → tops text max_depth (tokens text).0 ≡ r → ended (length text) (tokens text).1 r ≡ Err f → Right f
   reading_right (Ok tree) f is h = let w = tokens_cut text in ended_right (tokens text).1 tree (tokens text).0 w.end w.rest f w.cut w.stopped h
   reading_right (Err halt) f is h = right_as (let e : fault_of (length text) (tokens text).1 halt ≡ f = cc in e) (halt_right halt is)
 
-pub stands : (text : List ℕ) (f : Fault) → reading text ≡ Err f → f.code ≢ code.NoMemory → Stands text (located text f)
+pub stands : (text : List ℕ) (f : PlacedFault) → reading text ≡ Err f → f.code ≢ code.NoMemory → Stands text (located text f)
 unfolding reading Right
 stands text f h = reading_right text (tops text max_depth (tokens text).0) f refl h
 
 -- what the reader answers where reading finds a fault
-pub found_stands : (text : List ℕ) (f : Fault) (found : ScriptFault) → reading text ≡ Err f → f.code ≢ code.NoMemory → Locates text f found → Stands text found
+pub found_stands : (text : List ℕ) (f : PlacedFault) (found : ScriptFault) → reading text ≡ Err f → f.code ≢ code.NoMemory → Locates text f found → Stands text found
 found_stands text f found h other l = by_code found.code refl where
   as_located : found.code ≢ code.NoMemory → Stands text found
   as_located named = subst (λ v. Stands text v) (sym (l.0 named)) (stands text f h other)

@@ -28,7 +28,7 @@ pub record Fits (bytes : List ℕ) (ts us : List Token) : Type 0 where
   pub is_ts : ts ≡ front ++ us
   pub begins : g.Begins bytes front
 
--- and with each of some kind behind them too
+-- and with each of some kind after them too
 pub record Hole (bytes : List ℕ) (ts : List Token) (R : List Token → Type 0) (us : List Token) : Type 0 where
   pub front : List Token
   pub is_ts : ts ≡ front ++ us
@@ -109,7 +109,7 @@ a_unit bytes = let p = a_prifilt bytes in (0, p.0, g.UnitAt.selected p.1)
 
 -- ---- rules, at any depth
 
--- behind `if` and an expression
+-- after `if` and an expression
 tested : (bytes : List ℕ) (i w : Token) {left : ℕ} {x : ExprTree} (f v : List Token) → i.kind ≡ k.If → ((to : List Token) → g.ExprAt bytes left x (f ++ w ∷ to) (w ∷ to)) → w.kind ≡ k.Then → ABlock bytes v → AStmt bytes (i ∷ (f ++ w ∷ v))
 tested bytes i w {left} f v is test is_w b = (left + b.0, _, g.StmtAt.one_way is (expr_up (left + b.0) (omega arith) (test v)) is_w (block_up (left + b.0) (omega arith) b.2) tt)
 

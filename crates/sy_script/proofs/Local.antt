@@ -1,4 +1,4 @@
--- Reading looks at no token behind the one that it stops at, and at one behind what it reads.
+-- Reading looks at no token after the one that it stops at, and at one after what it reads.
 use Rattle.std.proofs.Common.{◌≡◌, ◌⊎◌, inl, inr, ℕ, Bool, true, false, cond, List, [], ◌∷◌, ◌++◌, Some, None, Ok, Err, refl, sym, ap, ◌∙◌, subst, append_assoc}
 use Rattle.sy_script.specs.declared.token.Kind.{Kind}
 use Rattle.sy_script.specs.declared.token.Kind.TheVariants as k
@@ -56,7 +56,7 @@ pub record Local {A : Type 0} (p : Parser A) : Type 0 where
   pub goes : (ts : List Token) (x : A) (rest : List Token) → p ts ≡ Ok (x, rest) → Goes p ts x rest
   pub stops : (ts : List Token) (h : Halt) → AtToken h → p ts ≡ Err h → Stops p ts h
 
--- reads behind a token, at which it may stop too
+-- reads after a token, at which it may stop too
 pub record After {A : Type 0} (t : Token) (p : Parser A) : Type 0 where
   pub goes : (ts : List Token) (x : A) (rest : List Token) → p ts ≡ Ok (x, rest) → Goes p ts x rest
   pub stops : (ts : List Token) (h : Halt) → AtToken h → p ts ≡ Err h → (StopsAt h t × ((more : List Token) → p more ≡ Err h)) ⊎ Stops p ts h

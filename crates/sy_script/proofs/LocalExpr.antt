@@ -1,4 +1,4 @@
--- Expressions look at no token behind the one that they stop at.
+-- Expressions look at no token after the one that they stop at.
 use Rattle.std.proofs.Common.{◌≡◌, ◌⊎◌, inl, inr, ◌<◌, ◌≤◌, ℕ, zero, suc, Bool, true, false, cond, List, [], ◌∷◌, ◌++◌, length, Option, Some, None, Ok, Err, refl, sym, ap, ◌∙◌, subst, append_assoc, arith}
 use Rattle.std.specs.Prelude.{is_some}
 use Rattle.sy_script.specs.declared.token.Kind.{Kind}

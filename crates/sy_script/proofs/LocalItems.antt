@@ -1,4 +1,4 @@
--- Items up to a closing token look at no token behind the one that they stop at.
+-- Items up to a closing token look at no token after the one that they stop at.
 use Rattle.std.proofs.Common.{◌≡◌, ◌⊎◌, inl, inr, ◌<◌, ◌≤◌, ℕ, zero, suc, List, [], ◌∷◌, ◌++◌, length, Option, Some, None, Ok, Err, refl, sym, ap, ◌∙◌, subst, append_assoc, arith, length-append}
 use Rattle.sy_script.specs.declared.token.Kind.{Kind}
 use Rattle.sy_script.specs.declared.token.Kind.TheVariants as k

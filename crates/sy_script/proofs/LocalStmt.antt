@@ -1,4 +1,4 @@
--- Statements and files look at no token behind the one that they stop at.
+-- Statements and files look at no token after the one that they stop at.
 use Rattle.std.proofs.Common.{◌≡◌, ◌⊎◌, inl, inr, ◌<◌, ◌≤◌, ℕ, zero, suc, Bool, true, false, List, [], ◌∷◌, ◌++◌, length, Option, Some, None, Result, Ok, Err, refl, sym, ap, ◌∙◌, subst, append_assoc, arith, length-append}
 use Rattle.sy_script.specs.declared.token.Kind.{Kind}
 use Rattle.sy_script.specs.declared.token.Kind.TheVariants as k
@@ -37,7 +37,7 @@ deep_spot k.Stop t h = refl
 deep_spot k.If t h = refl
 deep_spot _ t h = h
 
--- a parser that chooses by its first token: one that reads behind it, or one that reads from it
+-- a parser that chooses by its first token: one that reads after it, or one that reads from it
 module _ {A : Type 0} (o : Open) (test : Token → Bool) (q : Token → Parser A) (r : Parser A) (lq : (t : Token) → Local (q t)) (lr : Local r)
     (p : Parser A) (p_nil : p [] ≡ Err (halt.End o)) (p_true : (t : Token) (us : List Token) → test t ≡ true → p (t ∷ us) ≡ q t us) (p_false : (t : Token) (us : List Token) → test t ≡ false → p (t ∷ us) ≡ r (t ∷ us)) where
   reread : (t : Token) (us vs : List Token) → test t ≡ false → Alike (t ∷ us) vs → p vs ≡ r vs

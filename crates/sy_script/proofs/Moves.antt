@@ -132,7 +132,7 @@ top_moves {text} {left} {x = y} (g.TopAt.rules {w = w} {o = o} {ts = ts} {us = u
     )
 top_moves (g.TopAt.stmt a) = let m = stmt_moves a in (m.0, m.1, λ to same. g.TopAt.stmt (m.2 to same))
 
--- what is all of some tokens, with more behind them
+-- what is all of some tokens, with more after them
 pub with_tail : (R : List Token → List Token → Type 0) (w : List Token) → Moved R w [] → (tail : List Token) → NoElse tail → R (w ++ tail) tail
 with_tail R w m tail none =
     let P : List Token → Type 0 = λ v. R (v ++ tail) tail in

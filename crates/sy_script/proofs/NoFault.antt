@@ -49,7 +49,7 @@ module _ (text : List ℕ) (script : Script) (is : g.IsScript text script) where
       let P : List Token → Type 0 = λ v. g.TopsAt text max_depth script.tops v in
       none max_depth script.tops (subst P (one_cutting text is.tokens ts is.are_tokens are) is.tree)
 
-  -- what stops reading in a front of the text stops it in the whole
+  -- what stops reading in a prefix of the text stops it in the whole
   no_halt : (h : Halt) {ts : List Token} {end : ℕ} {left : List ℕ} → AtToken h → Cut 0 text ts end left → tops text max_depth ts ≡ Err h → ⊥
   no_halt h {ts = ts} hard c e =
       let m = cut_front text c is.are_tokens in

@@ -8,7 +8,7 @@ use Rattle.sy_script.specs.declared.halt.Halt.TheVariants as halt
 use Rattle.sy_script.specs.declared.fault.FaultCode.{FaultCode}
 use Rattle.sy_script.specs.declared.fault.FaultCode.TheVariants as code
 use Rattle.sy_script.specs.declared.fault.ScriptFault.{ScriptFault}
-use Rattle.sy_script.specs.declared.script.Fault.{Fault}
+use Rattle.sy_script.specs.declared.script.PlacedFault.{PlacedFault}
 use Rattle.sy_script.specs.declared.tree.Script.{Script}
 use Rattle.sy_script.specs.declared.tree.Top.{Top}
 use Rattle.sy_script.specs.Terms.{max_depth, max_text}
@@ -27,14 +27,14 @@ use Rattle.sy_script.proofs.OneEnding.{one_unended}
 
 -- ---- what reading finds goes before all others
 
-none_misplaced : (text : List ℕ) (f : Fault) (c : FaultCode) → reading text ≡ Err f → f.code ≡ c → ((n : ℕ) → Misplaced text c n → ⊥) → NoneMisplaced text
+none_misplaced : (text : List ℕ) (f : PlacedFault) (c : FaultCode) → reading text ≡ Err f → f.code ≡ c → ((n : ℕ) → Misplaced text c n → ⊥) → NoneMisplaced text
 none_misplaced text f c e is none d n s =
     let v = misplaced_read text d n s in
-    let same : v.0 ≡ f = (let r : (let r : Result Script Fault = Err v.0 in r) ≡ Err f = sym v.1 ∙ e in cc) in
+    let same : v.0 ≡ f = (let r : (let r : Result Script PlacedFault = Err v.0 in r) ≡ Err f = sym v.1 ∙ e in cc) in
     let P : FaultCode → Type 0 = λ c. Misplaced text c n in
-    none n (subst P (sym v.2 ∙ (ap (λ (f : Fault). f.code) same ∙ is)) s)
+    none n (subst P (sym v.2 ∙ (ap (λ (f : PlacedFault). f.code) same ∙ is)) s)
 
-first_by : (text : List ℕ) (f : Fault) (c : FaultCode) → length text ≤ max_text → reading text ≡ Err f → f.code ≡ c → IsFirst text c
+first_by : (text : List ℕ) (f : PlacedFault) (c : FaultCode) → length text ≤ max_text → reading text ≡ Err f → f.code ≡ c → IsFirst text c
 first_by text f code.Byte small e is = (small, none_misplaced text f code.Byte e is (λ n s. s))
 first_by text f code.Unclosed small e is = (small, none_misplaced text f code.Unclosed e is (λ n s. s))
 first_by text f code.Unexpected small e is = small
@@ -44,7 +44,7 @@ first_by text f code.LeftOut small e is = small
 first_by text f code.NoMemory small e is = small
 
 -- what the reader answers where reading finds a fault
-pub found_first : (text : List ℕ) (f : Fault) (found : ScriptFault) → length text ≤ max_text → reading text ≡ Err f → f.code ≢ code.NoMemory → Locates text f found → IsFirst text found.code
+pub found_first : (text : List ℕ) (f : PlacedFault) (found : ScriptFault) → length text ≤ max_text → reading text ≡ Err f → f.code ≢ code.NoMemory → Locates text f found → IsFirst text found.code
 found_first text f found small e other l = by_code found.code refl where
   as_located : found.code ≢ code.NoMemory → IsFirst text found.code
   as_located named = first_by text f found.code small e (sym (ap (λ (f : ScriptFault). f.code) (l.0 named)))
@@ -74,23 +74,23 @@ module _ (text : List ℕ) where
   halt_named (halt.LeftOut span) e stops is = cc
   halt_named (halt.End opened) e stops is = at_end_named (length text) e opened is
 
-  ended_named : (e : Ending) (tree : List Top) (f : Fault) → ended_by (length text) tree e ≡ Err f → f.code ≢ code.NoMemory
+  ended_named : (e : Ending) (tree : List Top) (f : PlacedFault) → ended_by (length text) tree e ≡ Err f → f.code ≢ code.NoMemory
   ended_named ending.Complete tree f h is = cc
   ended_named (ending.Byte n) tree f h is = cc
   ended_named (ending.Open n) tree f h is = cc
 
-  read_named : (r : Result (List Top) Halt) (f : Fault) → tops text max_depth (tokens text).0 ≡ r → ended (length text) (tokens text).1 r ≡ Err f → f.code ≢ code.NoMemory
+  read_named : (r : Result (List Top) Halt) (f : PlacedFault) → tops text max_depth (tokens text).0 ≡ r → ended (length text) (tokens text).1 r ≡ Err f → f.code ≢ code.NoMemory
   read_named (Ok tree) f is h = ended_named (tokens text).1 tree f h
   read_named (Err stop) f is h =
       let same : fault_of (length text) (tokens text).1 stop ≡ f = cc in
-      let P : Fault → Type 0 = λ f. f.code ≢ code.NoMemory in
+      let P : PlacedFault → Type 0 = λ f. f.code ≢ code.NoMemory in
       subst P same (halt_named stop (tokens text).1 is)
 
-  named : (f : Fault) → reading text ≡ Err f → f.code ≢ code.NoMemory
+  named : (f : PlacedFault) → reading text ≡ Err f → f.code ≢ code.NoMemory
   unfolding reading
   named f h = read_named (tops text max_depth (tokens text).0) f refl h
 
-  by_reading : (r : Result Script Fault) → length text ≤ max_text → reading text ≡ r → ((script : Script) × IsScript text script) ⊎ ((f : ScriptFault) × IsAnswer text f)
+  by_reading : (r : Result Script PlacedFault) → length text ≤ max_text → reading text ≡ r → ((script : Script) × IsScript text script) ⊎ ((f : ScriptFault) × IsAnswer text f)
   by_reading (Ok script) small e = inl (script, reading_ok text script small e)
   by_reading (Err f) small e = inr (located text f, record { stands = stands text f e (named f e); is_first = first_by text f f.code small e refl; not_memory = named f e })
 

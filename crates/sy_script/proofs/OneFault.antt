@@ -3,7 +3,7 @@ use Rattle.std.proofs.Common.{◌≡◌, ◌⊎◌, inl, inr, ℕ, Option, Some,
 use Rattle.std.specs.List.{slice_range}
 use Rattle.sy_script.specs.declared.token.Token.{Token}
 use Rattle.sy_script.specs.declared.token.Ending.{Ending}
-use Rattle.sy_script.specs.declared.script.Fault.{Fault}
+use Rattle.sy_script.specs.declared.script.PlacedFault.{PlacedFault}
 use Rattle.sy_script.specs.declared.halt.Halt.{Halt}
 use Rattle.sy_script.specs.declared.halt.Halt.TheVariants as halt
 use Rattle.sy_script.specs.declared.fault.FaultCode.{FaultCode}
@@ -30,7 +30,7 @@ use Rattle.sy_script.proofs.Told.{IsOpen}
 use Rattle.sy_script.proofs.ToldStmt.{tops_told}
 use Rattle.sy_script.proofs.FaultsStand.{no_beginning}
 
--- two places in one list are one, or one is behind the other
+-- two places in one list are one, or one is after the other
 pub three : (f r h s : List Token) (t u : Token) → f ++ t ∷ r ≡ h ++ u ∷ s → (t ≡ u) ⊎ (((more : List Token) × (h ≡ (f ++ t ∷ []) ++ more)) ⊎ ((more : List Token) × (f ≡ (h ++ u ∷ []) ++ more)))
 three [] r [] s t u e = inl cc
 three [] r (y ∷ h) s t u e = inr (inl (h, ap (λ v. v ∷ h) (let same : y ≡ t = cc in same)))
@@ -57,7 +57,7 @@ module _ (text : List ℕ) where
     ]
   ]
 
-  -- where reading stops in a front of the text, it stops in the whole
+  -- where reading stops in a prefix of the text, it stops in the whole
   in_all : (h : Halt) {ts : List Token} {end : ℕ} {left : List ℕ} → AtToken h → Cut 0 text ts end left → tops text max_depth ts ≡ Err h → tops text max_depth (tokens text).0 ≡ Err h
   in_all h {ts = ts} hard c e =
       let m = cut_in text c in
@@ -121,7 +121,7 @@ module _ (text : List ℕ) where
 
   -- the fault of a halt
   fault_at : Ending → Halt → FaultCode × ℕ
-  fault_at e h = let f : Fault = fault_of (length text) e h in (f.code, f.span.start)
+  fault_at e h = let f : PlacedFault = fault_of (length text) e h in (f.code, f.span.start)
 
   Read : FaultCode → ℕ → Type 0
   Read c n = (h : Halt) × (tops text max_depth (tokens text).0 ≡ Err h) × (fault_at (tokens text).1 h ≡ (c, n))
@@ -144,7 +144,7 @@ module _ (text : List ℕ) where
   read code.NoMemory n s = absurd s
 
 -- where one stands, it is answered
-pub misplaced_read : (text : List ℕ) (c : FaultCode) (n : ℕ) → Misplaced text c n → (f : Fault) × (reading text ≡ Err f) × (f.code ≡ c) × (f.span.start ≡ n)
+pub misplaced_read : (text : List ℕ) (c : FaultCode) (n : ℕ) → Misplaced text c n → (f : PlacedFault) × (reading text ≡ Err f) × (f.code ≡ c) × (f.span.start ≡ n)
 unfolding Read fault_at reading
 misplaced_read text c n s =
     let v = read text c n s in

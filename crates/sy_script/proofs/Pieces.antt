@@ -171,7 +171,7 @@ module _ (text : List ℕ) where
   token_of None start end = None
   token_of (Some kind) start end = Some (record { kind = kind; span = record { start = start; end = end } })
 
-  -- a piece is read as its token, and what is behind it is read by itself
+  -- a piece is read as its token, and what is after it is read by itself
   abbrev pub Reads : Option Kind → ℕ → List ℕ → List ℕ → Type 0
   Reads kind at piece rest = tokens_from text s.Between at (piece ++ rest) ≡ follow (token_of kind at (at + length piece)) (tokens_from text s.Between (at + length piece) rest)
 

@@ -64,7 +64,7 @@ InBody bytes h left us = (o : Open) (found : List Stmt) (m : ℕ) → length us 
 abbrev AtTop : List ℕ → Halt → List Token → Type 0
 AtTop bytes h us = (found : List Top) (m : ℕ) → length us ≤ m → tops_from bytes max_depth m found us ≡ Err h
 
--- and behind `or` or `and`
+-- and after `or` or `and`
 abbrev InChain : List ℕ → Halt → ℕ → Kind → List Token → Type 0
 InChain bytes h left joint us =
     (o : Open) (found : List ExprTree) (m : ℕ) → length us ≤ m → and_then (unit_at bytes (level bytes left) o us) (λ x. chain_from joint (unit_at bytes (level bytes left) o) m (found ++ x ∷ [])) ≡ Err h

@@ -50,7 +50,7 @@ prifilt_negated : {bytes : List ℕ} (l : Level) (o : Open) {x : ExprTree} {ts r
 prifilt_negated {bytes} l o (g.PrifiltAt.prifilt {w = w} {o = p} {v = v} {c = c} {rest = rest} is_w is_p is_v is_c) =
     then_reads (negated_by bytes l o w.kind w (p ∷ v ∷ c ∷ rest)) _ _ _ _ (ap (λ kind. negated_by bytes l o kind w (p ∷ v ∷ c ∷ rest)) is_w ∙ prifilt_tail bytes o p v c rest is_p is_v is_c) refl
 
--- ---- a parenthesis, as a unit and behind `not`
+-- ---- a parenthesis, as a unit and after `not`
 
 group_unit : (bytes : List ℕ) (l : Level) (o : Open) (t : Token) (ts rest : List Token) (x : ExprTree) → t.kind ≡ k.LeftParen → l.group t ts ≡ Ok (x, rest) → unit_at bytes l o (t ∷ ts) ≡ Ok (x, rest)
 group_unit bytes l o t ts rest x is h = ap (λ kind. unit_by bytes l o kind t ts) is ∙ h

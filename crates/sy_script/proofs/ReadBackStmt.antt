@@ -14,7 +14,7 @@ use Rattle.sy_script.specs.declared.tree.Stmt.TheVariants as s
 use Rattle.sy_script.specs.declared.tree.Top.{Top}
 use Rattle.sy_script.specs.declared.tree.Top.TheVariants as t
 use Rattle.sy_script.specs.declared.tree.Script.{Script}
-use Rattle.sy_script.specs.declared.script.Fault.{Fault}
+use Rattle.sy_script.specs.declared.script.PlacedFault.{PlacedFault}
 use Rattle.sy_script.specs.Terms.{max_depth, object_kind}
 use Rattle.sy_script.specs.internal.Lex.{Lexing}
 use Rattle.sy_script.specs.internal.Reading.{Outcome, Parser, Open, and_then, same_kind, first, expect, behind, word, turn, items_from, params}
@@ -234,4 +234,4 @@ script_reads text script is =
 
 -- one text, one tree
 pub one_tree : (text : List ℕ) (a b : Script) → g.IsScript text a → g.IsScript text b → a ≡ b
-one_tree text a b is_a is_b = let e : (let r : Result Script Fault = Ok a in r) ≡ Ok b = sym (script_reads text a is_a) ∙ script_reads text b is_b in cc
+one_tree text a b is_a is_b = let e : (let r : Result Script PlacedFault = Ok a in r) ≡ Ok b = sym (script_reads text a is_a) ∙ script_reads text b is_b in cc

@@ -17,7 +17,7 @@ use Rattle.sy_script.proofs.Local.{bind_err}
 use Rattle.sy_script.proofs.Holes.{tok, Fits, Hole, fits, over, Params, InParams}
 use Rattle.sy_script.proofs.Balance.{balanced_on, plain, word_plain}
 
--- what is open behind these tokens, where reading goes on
+-- what is open after these tokens, where reading goes on
 pub data IsOpen (ts : List Token) : Open → List Token → Type 0 where
   nothing : {rest : List Token} → Balanced ts rest → IsOpen ts None rest
   bracket : {o : Token} {rest : List Token} → IsInnermost ts o rest → IsOpen ts (Some o.span.start) rest
@@ -29,7 +29,7 @@ open_on (IsOpen.bracket i) a = IsOpen.bracket (record { front = i.front; inside 
 joined : (f : List Token) (c : Token) (g ts us rest : List Token) → ts ≡ f ++ c ∷ us → us ≡ g ++ rest → ts ≡ (f ++ c ∷ g) ++ rest
 joined f c g ts us rest a b = a ∙ (ap (λ r. f ++ c ∷ r) b ∙ sym (append_assoc f (c ∷ g) rest))
 
--- the tokens in front of what is left
+-- the tokens before what is left
 pub balanced_front : {ts rest : List Token} → Balanced ts rest → (front : List Token) × (ts ≡ front ++ rest)
 balanced_front Balanced.none = ([], refl)
 balanced_front (Balanced.other {t = t} h a) = let f = balanced_front a in (t ∷ f.0, ap (λ r. t ∷ r) f.1)
@@ -40,11 +40,11 @@ pub opened_front : {ts us : List Token} {o : Open} → IsOpen ts o us → (front
 opened_front (IsOpen.nothing b) = balanced_front b
 opened_front (IsOpen.bracket {o = o} {rest = rest} i) = let f = balanced_front i.is_closed in (i.front ++ o ∷ f.0, i.is_ts ∙ (ap (λ r. i.front ++ o ∷ r) f.1 ∙ sym (append_assoc i.front (o ∷ f.0) rest)))
 
--- behind a parenthesis or a brace
+-- after a parenthesis or a brace
 pub open_in : {ts : List Token} {p : Open} (o : Token) (rest : List Token) → IsOpen ts p (o ∷ rest) → opens o.kind ≡ true → IsOpen ts (Some o.span.start) rest
 open_in o rest is op = let f = opened_front is in IsOpen.bracket (record { front = f.0; inside = rest; is_ts = f.1; is_opening = op; is_closed = Balanced.none })
 
--- behind a token of a kind that opens and closes nothing
+-- after a token of a kind that opens and closes nothing
 pub open_plain : {ts : List Token} {o : Open} {kind : Kind} (t : Token) (rest : List Token) → IsOpen ts o (t ∷ rest) → t.kind ≡ kind → is_bracket kind ≡ false → IsOpen ts o rest
 open_plain {kind = kind} t rest is same none = open_on is (plain t kind same none Balanced.none)
 
@@ -115,7 +115,7 @@ module _ (bytes : List ℕ) (ts : List Token) where
   unfolding text
   text_told o us h is f e = bind_told (first o us) _ h e (first_told o us h is f) (λ x ok. if_told (is_text x.0.kind) (text_of bytes x.0.span) x.0.span x.1 h (stray_first o us x f ok))
 
-  -- ---- what is open behind what was read
+  -- ---- what is open after what was read
 
   pub expect_open : (kind : Kind) (o : Open) (us : List Token) (x : Token × List Token) → is_bracket kind ≡ false → expect kind o us ≡ Ok x → {p : Open} → IsOpen ts p us → IsOpen ts p x.1
   expect_open kind o us x none e is = let t = expect_ok kind o us x e in open_plain x.0 x.1 (open_as t.0 is) t.1 none

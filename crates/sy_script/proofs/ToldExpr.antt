@@ -33,7 +33,7 @@ module _ (bytes : List ℕ) (ts : List Token) where
   unfolding operand
   operand_told o us h is f e = bind_told bytes ts (first o us) _ h e (first_told bytes ts o us h is f) (λ x ok. operand_by_told x.0.kind x.0 x.1 h (fits_as bytes ts (first_ok o us x ok) f))
 
-  -- behind a property, and behind the operator
+  -- after a property, and after the operator
   signed : (p : Token) (us : List Token) → p.kind ≡ k.Property → Hole bytes ts (AUnit bytes) (p ∷ us) → Fits bytes ts us
   signed p us is_p hole =
       let P : List Token → Type 0 = λ v. AUnit bytes (p ∷ v) in
@@ -136,7 +136,7 @@ module _ (bytes : List ℕ) (ts : List Token) where
     expr_read : (o : Open) (us : List Token) (x : ExprTree × List Token) → expr_at bytes (level bytes left) o us ≡ Ok x → g.ExprAt bytes left x.0 us x.1
     expr_read o us x ok = expr_ok bytes left (level bytes left) (level_ok bytes left) o us x ok
 
-    -- behind the expression of a parenthesis
+    -- after the expression of a parenthesis
     enclosed : (t : Token) (us mid : List Token) (x : ExprTree) → t.kind ≡ k.LeftParen → GroupPlace bytes ts (suc left) (t ∷ us) → g.ExprAt bytes left x us mid → Fits bytes ts mid
     enclosed t us mid x same place d =
         let m = expr_moves d in
@@ -150,7 +150,7 @@ module _ (bytes : List ℕ) (ts : List Token) where
         bind_told bytes ts (expr_at bytes (level bytes left) s us) _ h e (expr_told s us h (ExprPlace.group place same) is2) (λ x ok e2.
         bind_told bytes ts (expect k.RightParen s x.1) _ h e2 (expect_told bytes ts k.RightParen s x.1 h (open_on is2 (expr_balanced (expr_read s us x ok))) (enclosed t us x.1 x.0 same place (expr_read s us x ok))) (λ y ok2. pure_told bytes ts _ y.1 h))
 
-    -- behind `not`
+    -- after `not`
     negated : (n : Token) (us : List Token) → n.kind ≡ k.Not → UnitPlace bytes ts (suc left) (n ∷ us) → Fits bytes ts us
     negated n us is_not place =
         let P : List Token → Type 0 = λ v. AUnit bytes (n ∷ v) in

@@ -63,7 +63,7 @@ module _ (bytes : List ℕ) (ts : List Token) where
         let c = behind_ok k.Else us after is_next in
         bind_told bytes ts (block bytes left o after) _ h e (deep.told o after h (place c.0 after c.1 c.2) (open_plain c.0 after (open_as c.1 is) c.2 refl)) (λ y ok. pure_told bytes ts _ y.1 h)
 
-    -- behind `if` and its expression
+    -- after `if` and its expression
     tested : (i : Token) (us mid : List Token) (x : ExprTree) → i.kind ≡ k.If → StmtPlace bytes ts left (i ∷ us) → g.ExprAt bytes left x us mid → Fits bytes ts mid
     tested i us mid x same place d =
         let m = expr_moves d in
@@ -86,7 +86,7 @@ module _ (bytes : List ℕ) (ts : List Token) where
         otherwise_told o x.0 d.0 (behind k.Else d.1) d.1 h refl (open_on is3 (block_balanced done))
         (λ v after at is_else. BlockPlace.otherwise place same test2 t.1 (move (g.BlockAt bytes left) refl refl at done) is_else) e4)))
 
-    -- behind `call`
+    -- after `call`
     called : (t : Token) (us : List Token) → t.kind ≡ k.Call → StmtPlace bytes ts left (t ∷ us) → Fits bytes ts us
     called t us same place =
         let P : List Token → Type 0 = λ v. AStmt bytes (t ∷ v) in
@@ -157,7 +157,7 @@ module _ (bytes : List ℕ) (ts : List Token) where
       pad P (Params bytes) (over (Tops bytes) P (top_hole bytes ts place) (w ∷ []) refl (λ v q. q)) braces (λ v q.
       (0, _, g.TopsAt.more (g.TopAt.rules same (with_tail (g.ParamsAt bytes q.0) v (params_moves q.1) braces (λ e. cc)) refl (g.BodyAt.close refl)) g.TopsAt.none))
 
-  -- behind a ruleset's parameters
+  -- after a ruleset's parameters
   headed : (w : Token) (us mid : List Token) (ps : List Param) → w.kind ≡ k.Ruleset → TopPlace bytes ts (w ∷ us) → g.ParamsAt bytes ps us mid → Fits bytes ts mid
   unfolding braces
   headed w us mid ps same place d =

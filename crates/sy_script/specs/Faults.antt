@@ -2,6 +2,7 @@
 use Rattle.std.specs.Prelude.{◌≡◌, ◌≢◌, ◌<◌, ◌≤◌, ℕ, ◌+◌, ◌==◌, ◌||◌, Bool, true, false, List, [], ◌∷◌, ◌++◌, length, take, Result, Ok, Err, codes, decimal}
 use Rattle.std.specs.List.{slice_range}
 use Rattle.std.specs.Char.{is_ascii_digit}
+use Rattle.sy_script.specs.Bytes.{backslash, exclamation_mark, close_brace, close_paren, dollar_sign, double_quote, equals_sign, greater_sign, hash, less_sign, open_brace, open_paren, single_quote, solidus, star}
 use Rattle.sy_script.specs.declared.token.Kind.{Kind}
 use Rattle.sy_script.specs.declared.token.Kind.TheVariants as k
 use Rattle.sy_script.specs.declared.token.Token.{Token}
@@ -43,33 +44,33 @@ fault_text f = words f.code ++ (codes " at " ++ (decimal f.line ++ (codes ":" ++
 
 -- a byte is one of these
 abbrev pub is_sign : ℕ → Bool
-is_sign b = b == 34 || b == 39 || b == 35 || b == 40 || b == 41 || b == 123 || b == 125 || b == 61 || b == 60 || b == 62
+is_sign b = b == double_quote || b == single_quote || b == hash || b == open_paren || b == close_paren || b == open_brace || b == close_brace || b == equals_sign || b == less_sign || b == greater_sign
 
 -- `"` or `'`
 abbrev pub is_quote : ℕ → Bool
-is_quote b = b == 34 || b == 39
+is_quote b = b == double_quote || b == single_quote
 
 abbrev pub is_star : ℕ → Bool
-is_star b = b == 42
+is_star b = b == star
 
 -- The bytes begin neither a token nor blanks nor a comment: the first is none that any of them begins with, or it is `$` without a word, `!` without `=` or `/` without `*`.
 pub data BeginsNone : List ℕ → Type 0 where
-  byte : {b : ℕ} {rest : List ℕ} → is_blank b ≡ false → starts_word b ≡ false → is_ascii_digit b ≡ false → is_sign b ≡ false → (b == 36) ≡ false → (b == 33) ≡ false → (b == 47) ≡ false → BeginsNone (b ∷ rest)
-  dollar : {rest : List ℕ} → NoneNext starts_word rest → BeginsNone (36 ∷ rest)
-  bang : {rest : List ℕ} → NoneNext is_equals rest → BeginsNone (33 ∷ rest)
-  slash : {rest : List ℕ} → NoneNext is_star rest → BeginsNone (47 ∷ rest)
+  byte : {b : ℕ} {rest : List ℕ} → is_blank b ≡ false → starts_word b ≡ false → is_ascii_digit b ≡ false → is_sign b ≡ false → (b == dollar_sign) ≡ false → (b == exclamation_mark) ≡ false → (b == solidus) ≡ false → BeginsNone (b ∷ rest)
+  dollar : {rest : List ℕ} → NoneNext starts_word rest → BeginsNone (dollar_sign ∷ rest)
+  bang : {rest : List ℕ} → NoneNext is_equals rest → BeginsNone (exclamation_mark ∷ rest)
+  slash : {rest : List ℕ} → NoneNext is_star rest → BeginsNone (solidus ∷ rest)
 
 -- Fault 21: a byte that begins no token, or the byte after a `\` in a string that is none of the seven.
 pub data IsBadByte (text : List ℕ) : ℕ → Type 0 where
   begins_none : {ts : List Token} {at : ℕ} {rest : List ℕ} → Cut 0 text ts at rest → BeginsNone rest → IsBadByte text at
-  no_escape : {ts : List Token} {at quote : ℕ} {bytes : List ℕ} (b : ℕ) (rest : List ℕ) → Cut 0 text ts at (quote ∷ bytes ++ 92 ∷ b ∷ rest) → is_quote quote ≡ true → InString quote bytes → is_escaped b ≡ false → IsBadByte text (at + length bytes + 2)
+  no_escape : {ts : List Token} {at quote : ℕ} {bytes : List ℕ} (b : ℕ) (rest : List ℕ) → Cut 0 text ts at (quote ∷ bytes ++ backslash ∷ b ∷ rest) → is_quote quote ≡ true → InString quote bytes → is_escaped b ≡ false → IsBadByte text (at + length bytes + 2)
 
 -- Fault 22: the string, comment, parenthesis or brace that begins here is open at the end of the text, and is the innermost.
 pub data IsUnclosed (text : List ℕ) : ℕ → Type 0 where
   string : {ts : List Token} {at quote : ℕ} {bytes : List ℕ} → Cut 0 text ts at (quote ∷ bytes) → is_quote quote ≡ true → InString quote bytes → IsUnclosed text at
   -- its last byte is a `\`
-  escape : {ts : List Token} {at quote : ℕ} {bytes : List ℕ} → Cut 0 text ts at (quote ∷ bytes ++ 92 ∷ []) → is_quote quote ≡ true → InString quote bytes → IsUnclosed text at
-  comment : {ts : List Token} {at : ℕ} {bytes : List ℕ} → Cut 0 text ts at (47 ∷ 42 ∷ bytes) → NoEnd bytes → IsUnclosed text at
+  escape : {ts : List Token} {at quote : ℕ} {bytes : List ℕ} → Cut 0 text ts at (quote ∷ bytes ++ backslash ∷ []) → is_quote quote ≡ true → InString quote bytes → IsUnclosed text at
+  comment : {ts : List Token} {at : ℕ} {bytes : List ℕ} → Cut 0 text ts at (solidus ∷ star ∷ bytes) → NoEnd bytes → IsUnclosed text at
   bracket : {ts : List Token} {o : Token} → AreTokens text ts → IsInnermost ts o [] → IsUnclosed text o.span.start
 
 -- what a block begins with

@@ -1,4 +1,5 @@
 pub mod formers
+pub mod Bytes
 pub mod Terms
 pub mod Tokens
 pub mod Grammar

@@ -3,6 +3,7 @@ use Rattle.std.specs.Prelude.{ℕ, ◌-◌, Bool, true, false, ◌||◌, if◌th
 use Rattle.std.specs.Char.{is_ascii_digit, is_ascii_alphabetic}
 use Rattle.std.specs.List.{slice_range}
 use Rattle.std.specs.Str.{str_eq_ignore_ascii_case}
+use Rattle.sy_script.specs.Bytes.{backslash, carriage_return, dash, dollar_sign, dot, double_quote, letter_n, letter_r, letter_t, line_feed, single_quote, space, tab, underscore}
 use Rattle.sy_script.specs.declared.token.Kind.{Kind}
 use Rattle.sy_script.specs.declared.token.Kind.TheVariants as k
 use Rattle.sy_script.specs.declared.token.Token.{Token}
@@ -21,19 +22,19 @@ use Rattle.sy_script.specs.declared.tree.ObjectKind.TheVariants as object
 
 -- space, tab, CR and LF
 abbrev pub is_blank : ℕ → Bool
-is_blank b = b == 32 || b == 9 || b == 13 || b == 10
+is_blank b = b == space || b == tab || b == carriage_return || b == line_feed
 
 -- a letter or `_`
 abbrev pub starts_word : ℕ → Bool
-starts_word b = is_ascii_alphabetic b || b == 95
+starts_word b = is_ascii_alphabetic b || b == underscore
 
 -- a letter, a digit, `_`, `.` or `-`
 abbrev pub is_in_word : ℕ → Bool
-is_in_word b = starts_word b || is_ascii_digit b || b == 46 || b == 45
+is_in_word b = starts_word b || is_ascii_digit b || b == dot || b == dash
 
 -- what may stand after a `\` in a string: `"`, `'`, `\`, `$`, `n`, `r`, `t`
 abbrev pub is_escaped : ℕ → Bool
-is_escaped b = b == 34 || b == 39 || b == 92 || b == 36 || b == 110 || b == 114 || b == 116
+is_escaped b = b == double_quote || b == single_quote || b == backslash || b == dollar_sign || b == letter_n || b == letter_r || b == letter_t
 
 -- ---- words
 
@@ -89,12 +90,12 @@ is_text _ = false
 
 -- what a byte after a `\` stands for
 abbrev pub escaped : ℕ → ℕ
-escaped b = if b == 110 then 10 else (if b == 114 then 13 else (if b == 116 then 9 else b))
+escaped b = if b == letter_n then line_feed else (if b == letter_r then carriage_return else (if b == letter_t then tab else b))
 
 abbrev pub resolved : List ℕ → List ℕ
 resolved [] = []
 resolved (b ∷ []) = b ∷ []
-resolved (b ∷ c ∷ bytes) = if b == 92 then escaped c ∷ resolved bytes else b ∷ resolved (c ∷ bytes)
+resolved (b ∷ c ∷ bytes) = if b == backslash then escaped c ∷ resolved bytes else b ∷ resolved (c ∷ bytes)
 
 -- the bytes between the quotes
 abbrev pub unquoted : List ℕ → Span → List ℕ

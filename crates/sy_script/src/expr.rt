@@ -137,7 +137,8 @@ impl<'s> Reader<'s> {
     // What stands after `not`.
     #[cycle(expr)]
     fn negation<'t>(&self, word: Token, place: Place, rest: &'t [Token]) -> Found<'t, ExprTree>
-        ensures { Gives (λ x. (x.0, x.1.now)) result (spec.negation self.now.text.now place.left place.opened word rest.now) }
+        ensures { Gives (λ x. (x.0, x.1.now)) result (spec.negation self.now.text.now place.left place.opened word
+            rest.now) }
     {
         if place.left == 0 {
             return Err(Halt::TooDeep(word.span));
@@ -175,7 +176,8 @@ impl<'s> Reader<'s> {
         place: Place,
         tokens: &'t [Token],
     ) -> Found<'t, Items<ExprTree>>
-        ensures { Gives (λ x. (x.0, x.1.now)) result (spec.chain self.now.text.now place.left place.opened joint start tokens.now) }
+        ensures { Gives (λ x. (x.0, x.1.now)) result (spec.chain self.now.text.now place.left place.opened joint
+            start tokens.now) }
     {
         let mut parts = Items::new(self.alloc);
         parts.push(start)?;

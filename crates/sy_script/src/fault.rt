@@ -58,6 +58,17 @@ impl FaultCode {
     }
 }
 
+impl fmt::Display for FaultCode {
+    ghost output = { λ code. Some (spec.words code) };
+
+    fn fmt<W: fmt::Write>(&self, f: &mut fmt::Formatter<W>) -> fmt::Result {
+        let words = self.words();
+        write!(f, "{words}")
+    }
+}
+
+impl Error for FaultCode {}
+
 /// A fault and its place. Lines count from 1, columns from 1 in bytes; the word is that of `LeftOut`, and else empty.
 #[derive(Debug, Drop)]
 pub struct ScriptFault {

@@ -306,7 +306,8 @@ fn keep(tokens: &mut Vec<Token>, found: Option<Token>) -> Result<(), AllocError>
 
 // The end of the text.
 fn end(mut tokens: Vec<Token>, text: &[u8], state: State) -> Result<Lexed, AllocError>
-    ensures { IfOk result (λ lexed. (lexed.tokens.items, lexed.ending) ≡ spec.with_front tokens.items (spec.end text.now state (length text.now))) }
+    ensures { IfOk result (λ lexed. (lexed.tokens.items, lexed.ending)
+        ≡ spec.with_front tokens.items (spec.end text.now state (length text.now))) }
 {
     match finish(text, state, text.len()) {
         Err(ending) => Ok(Lexed { tokens, ending }),

@@ -21,22 +21,22 @@ const MAX_TEXT: usize = 1_048_576;
 
 /// A fault by the place of its first byte, and the place after its word.
 #[derive(Clone, Copy)]
-pub struct Fault {
+pub struct PlacedFault {
     pub code: FaultCode,
     pub span: Span,
 }
 
-fn at(code: FaultCode, start: usize) -> Fault
+fn at(code: FaultCode, start: usize) -> PlacedFault
     ensures { result ≡ spec.at code start }
 {
-    Fault {
+    PlacedFault {
         code,
         span: Span { start, end: start },
     }
 }
 
 // The fault where the tokens are over too early.
-fn at_end(len: usize, ending: Ending, opened: Option<usize>) -> Fault
+fn at_end(len: usize, ending: Ending, opened: Option<usize>) -> PlacedFault
     ensures { result ≡ spec.at_end len ending opened }
 {
     match ending {
@@ -49,14 +49,14 @@ fn at_end(len: usize, ending: Ending, opened: Option<usize>) -> Fault
     }
 }
 
-fn fault_of(len: usize, ending: Ending, halt: Halt) -> Fault
+fn fault_of(len: usize, ending: Ending, halt: Halt) -> PlacedFault
     ensures { result ≡ spec.fault_of len ending halt }
 {
     match halt {
         Halt::Memory => at(FaultCode::NoMemory, 0),
         Halt::Unexpected(span) => at(FaultCode::Unexpected, span.start),
         Halt::TooDeep(span) => at(FaultCode::TooDeep, span.start),
-        Halt::LeftOut(span) => Fault {
+        Halt::LeftOut(span) => PlacedFault {
             code: FaultCode::LeftOut,
             span,
         },
@@ -94,7 +94,7 @@ fn no_memory(alloc: Global) -> ScriptFault
     }
 }
 
-fn located(alloc: Global, text: &[u8], fault: Fault) -> ScriptFault
+fn located(alloc: Global, text: &[u8], fault: PlacedFault) -> ScriptFault
     requires { length text.now < 2 ^ 63 }
     ensures { spec.Locates text.now fault result }
 {
@@ -111,7 +111,7 @@ fn located(alloc: Global, text: &[u8], fault: Fault) -> ScriptFault
 }
 
 #[tactic(auto, unfolding(crate::specs::internal::Answer::reading))]
-fn read(alloc: Global, text: &[u8]) -> Result<Script, Fault>
+fn read(alloc: Global, text: &[u8]) -> Result<Script, PlacedFault>
     ensures { spec.Reads text.now result }
 {
     let Ok(lexed) = tokens(alloc, text) else {

@@ -75,7 +75,8 @@ impl<'s> Reader<'s> {
     // What stands after `if`, up to `then`.
     #[tactic(auto, unfolding(crate::specs::internal::ReadingStmt::condition, crate::specs::internal::ReadingExpr::followed))]
     fn condition<'t>(&self, place: Place, rest: &'t [Token]) -> Found<'t, ExprTree>
-        ensures { Gives (λ x. (x.0, x.1.now)) result (spec.condition self.now.text.now place.left place.opened rest.now) }
+        ensures { Gives (λ x. (x.0, x.1.now)) result (spec.condition self.now.text.now place.left place.opened
+            rest.now) }
     {
         let (test, rest) = self.expr(place, rest)?;
         followed(Kind::Then, place.opened, test, rest)
@@ -85,7 +86,8 @@ impl<'s> Reader<'s> {
     #[cycle(stmt)]
     #[tactic(auto, unfolding(crate::specs::internal::ReadingStmt::branches))]
     fn branches<'t>(&self, place: Place, rest: &'t [Token]) -> Found<'t, (Block, Option<Block>)>
-        ensures { Gives (λ x. (x.0, x.1.now)) result (spec.branches self.now.text.now place.left place.opened rest.now) }
+        ensures { Gives (λ x. (x.0, x.1.now)) result (spec.branches self.now.text.now place.left place.opened
+            rest.now) }
     {
         let (done, rest) = self.block(place, rest)?;
         let Some(rest) = behind(Kind::Else, rest) else {

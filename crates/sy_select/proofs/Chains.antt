@@ -11,7 +11,7 @@ use Rattle.sy_select.specs.declared.node.Node.{Node}
 use Rattle.sy_select.specs.declared.node.Node.TheVariants as n
 use Rattle.sy_select.specs.declared.node.Node.TheOpen.{Node-F}
 use Rattle.sy_select.specs.declared.node.Node.TheFolds.{fold-roll-Node}
-use Rattle.sy_select.specs.Nodes.{formula, formula_step}
+use Rattle.sy_select.specs.internal.Nodes.{formula, formula_step}
 use Rattle.sy_select.specs.Faults.{IsRefusal}
 use Rattle.sy_select.specs.Trees.{Written, written, written_step, all_faults, Means}
 use Rattle.sy_select.specs.Truth.{Formula, any, all}

@@ -6,6 +6,7 @@ use Rattle.std.proofs.lemmas.Bool.{false≢true}
 use Rattle.std.proofs.lemmas.Bool.Decides.{nat_tests}
 use Rattle.std.proofs.lemmas.List.{take-append-drop, length-append}
 use Rattle.std.proofs.lemmas.List.{drop_at}
+use Rattle.sy_wire.specs.declared.class.Class.{Class}
 use Rattle.sy_wire.specs.Messages.{Said}
 use Rattle.sy_select.specs.declared.condition.Relation.{Relation}
 use Rattle.sy_select.specs.declared.condition.Relation.TheVariants as relation
@@ -33,15 +34,15 @@ use Rattle.sy_select.proofs.Contains.{begins, begun, contains_at, found}
 -- ---- verdicts
 
 module _ (m : Said) where
-  agrees : (t : Test) → Agrees (known m.facility m.severity t) (says m t)
+  agrees : (t : Test) → Agrees (known m.class t) (says m t)
   agrees (test.Field f how other) = tt
   agrees (test.Class t) = refl
 
-  pub admitted : (ts : List Test) → Admits (known m.facility m.severity) ts (valuation (says m) ts)
+  pub admitted : (ts : List Test) → Admits (known m.class) ts (valuation (says m) ts)
   admitted [] = tt
   admitted (t ∷ ts) = (agrees t, admitted ts)
 
-  pub holds_for_all : (x : Formula Test) (b : Bool) → Must (known m.facility m.severity) x b → truth x (valuation (says m) (occurrences x)) ≡ b
+  pub holds_for_all : (x : Formula Test) (b : Bool) → Must (known m.class) x b → truth x (valuation (says m) (occurrences x)) ≡ b
   holds_for_all x b must = must (valuation (says m) (occurrences x)) (admitted (occurrences x))
 
 module _ {T : Type 0} (k : T → Option Bool) where
@@ -99,9 +100,9 @@ same_relation relation.AtMost x n small = grind (arith, nat_tests)
 same_relation relation.Greater x n small = grind (arith, nat_tests)
 same_relation relation.AtLeast x n small = grind (arith, nat_tests)
 
-pub as_numbers : (p : Part) (r : Relation) (facility severity n : ℕ) → facility < 24 → severity < 8 → relates r (part_number p facility severity) (kept n) ≡ relates r (part_number p facility severity) n
-as_numbers part.Facility r facility severity n f s = same_relation r facility n f
-as_numbers part.Severity r facility severity n f s = same_relation r severity n (omega arith)
+pub as_numbers : (p : Part) (r : Relation) (class : Class) (n : ℕ) → relates r (part_number p class) (kept n) ≡ relates r (part_number p class) n
+as_numbers part.Facility r class n = same_relation r class.facility n class.facility_in_range
+as_numbers part.Severity r class n = same_relation r class.severity n (omega (arith, class.severity_in_range))
 
 -- ---- texts
 
@@ -150,7 +151,7 @@ pub for_memory : (found : List SelectFault) (fault : SelectFault) → found ≡ 
 for_memory found fault none (inl memory) = memory
 for_memory found fault none (inr first) = let e = first.1 in absurd cc
 
--- the first of one fault and of none behind it
+-- the first of one fault and of none after it
 same_first : (a b : SelectFault) (later : List SelectFault) → a ∷ [] ≡ b ∷ later → a ≡ b
 same_first a b later e = cc
 

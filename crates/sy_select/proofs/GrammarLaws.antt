@@ -100,7 +100,7 @@ name_has_no_sign name s e =
     let h = severity_alphanumeric name s e in
     (behind_other_sign 33 name (lacks_other 33 name refl h), behind_other_sign 61 name (lacks_other 61 name refl h))
 
--- a level with a severity's name behind its signs
+-- a level with a severity's name after its signs
 named_right : (whole text name : List ℕ) (s : ℕ) → behind_signs text ≡ name → severity_of name ≡ Some s → level_faults whole text ≡ []
 unfolding level_faults
 named_right whole text name s signs e =

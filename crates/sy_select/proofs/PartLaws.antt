@@ -4,24 +4,17 @@ use Rattle.std.proofs.Math.ListN.{length-set, set}
 use Rattle.std.specs.List.{flat_map}
 use Rattle.std.specs.Str.{bytes_eq}
 use Rattle.std.proofs.lemmas.Bool.{cases_eq, ne_eqb}
+use Rattle.std.proofs.lemmas.List.Folds.{list_any-append}
 use Rattle.sy_select.specs.declared.fault.FaultCode.{FaultCode}
 use Rattle.sy_select.specs.declared.fault.FaultCode.TheVariants as code
 use Rattle.sy_select.specs.Faults.{behind_dot, cut, facilities_faults, facility_faults, level_faults, no_name, part_faults, pieces}
 use Rattle.sy_select.specs.Names.{facility_of}
 use Rattle.sy_select.specs.internal.Reading.{at, Lists, ReadsFacilities, ReadsLevel, ReadsPart, Refuses}
-use Rattle.sy_select.specs.Selectors.{all, AreFacilities, is_among, listed, more, one}
+use Rattle.sy_select.specs.Selectors.{all, AreFacilities, has_facility, listed, more, one}
 use Rattle.sy_select.proofs.Cutting.{first_piece, pieces_last, pieces_more}
 use Rattle.sy_select.proofs.LevelLaws.{same_text}
 
 -- ---- sets of facilities
-
-among-append : (xs ys : List ℕ) (g : ℕ) → is_among (xs ++ ys) g ≡ (is_among xs g || is_among ys g)
-among-append [] ys g = refl
-among-append (x ∷ xs) ys g = go (x == g) (among-append xs ys g)
-  where
-    go : (b : Bool) → is_among (xs ++ ys) g ≡ (is_among xs g || is_among ys g) → (b || is_among (xs ++ ys) g) ≡ ((b || is_among xs g) || is_among ys g)
-    go true e = refl
-    go false e = e
 
 or_true : (x : Bool) → (x || (true || false)) ≡ true
 or_true true = refl
@@ -32,11 +25,12 @@ or_false true = refl
 or_false false = refl
 
 -- one more facility
-among_more : (table : List Bool) (found : List ℕ) (f : ℕ) → f < length table → ((g : ℕ) → g < 24 → at table g ≡ is_among found g) → (g : ℕ) → g < 24 → at (set table f true) g ≡ is_among (found ++ f ∷ []) g
-among_more table found f within same g bound =
+facility_more : (table : List Bool) (found : List ℕ) (f : ℕ) → f < length table → ((g : ℕ) → g < 24 → at table g ≡ has_facility (listed found) g)
+    → (g : ℕ) → g < 24 → at (set table f true) g ≡ has_facility (listed (found ++ f ∷ [])) g
+facility_more table found f within same g bound =
     elim (cases_eq g f) [
-      | inl e ↦ rw (among-append found (f ∷ []) g, e, get_or-set_same table f true false within, eq-eqb f f refl) (sym (or_true (is_among found f)))
-      | inr apart ↦ rw (among-append found (f ∷ []) g, get_or-set_other table f g true false apart, ne_eqb f g (λ h. apart (sym h)), same g bound) (sym (or_false (is_among found g)))
+      | inl e ↦ rw (list_any-append (λ h. h == g) found (f ∷ []), e, get_or-set_same table f true false within, eq-eqb f f refl) (sym (or_true (has_facility (listed found) f)))
+      | inr apart ↦ rw (list_any-append (λ h. h == g) found (f ∷ []), get_or-set_other table f g true false apart, ne_eqb f g (λ h. apart (sym h)), same g bound) (sym (or_false (has_facility (listed found) g)))
     ]
 
 -- ---- names between commas
@@ -47,7 +41,7 @@ pub record NamesSoFar (whole text rest : List ℕ) (table : List Bool) : Type 0 
   pub size : length table ≡ 24
   pub right : flat_map (facility_faults whole) (pieces 44 rest) ≡ flat_map (facility_faults whole) (pieces 44 text)
   pub goes_on : (fs : List ℕ) → AreFacilities rest fs → AreFacilities text (found ++ fs)
-  pub same : (f : ℕ) → f < 24 → at table f ≡ is_among found f
+  pub same : (f : ℕ) → f < 24 → at table f ≡ has_facility (listed found) f
 
 abbrev pub all_false : List Bool → Bool
 all_false [] = true
@@ -77,7 +71,7 @@ names_more whole text rest name behind table f so_far within front back is =
           let step : flat_map (facility_faults whole) (pieces 44 rest) ≡ flat_map (facility_faults whole) (pieces 44 behind) = rw (cuts.0, none) refl in
           sym step ∙ so_far.right;
       goes_on = λ fs h. rw append_assoc (so_far.goes_on (f ∷ fs) (rw cuts.1 (more (cut 44 rest).0 named h)));
-      same = among_more table so_far.found f place so_far.same;
+      same = facility_more table so_far.found f place so_far.same;
     }
 
 pub names_done : (whole text rest name : List ℕ) (table : List Bool) (f : ℕ) → NamesSoFar whole text rest table → f < 24
@@ -93,7 +87,7 @@ names_done whole text rest name table f so_far within front back is =
       right =
           let step : flat_map (facility_faults whole) (pieces 44 rest) ≡ [] = rw (cuts.0, none) refl in
           sym so_far.right ∙ step;
-      same = among_more table so_far.found f place so_far.same;
+      same = facility_more table so_far.found f place so_far.same;
     }
 
 pub names_fault : (whole text rest name : List ℕ) (table : List Bool) (c : FaultCode) (word : List ℕ) → NamesSoFar whole text rest table

@@ -4,7 +4,7 @@ use Rattle.std.proofs.lemmas.List.{drop_at, drop-append-le, length-append, lengt
 use Rattle.sy_select.specs.Truth.{Formula, Valuation, behind, occurrences, truth, valuation, Admits, Can, Must}
 
 module _ {T : Type 0} where
-  -- an expression looks at no values behind those of its test occurrences
+  -- an expression looks at no values after those of its test occurrences
   pub truth_front : (x : Formula T) (v w : Valuation) → length (occurrences x) ≤ length v → truth x (v ++ w) ≡ truth x v
   truth_front (Formula.Test t) [] w long = absurd (omega arith)
   truth_front (Formula.Test t) (b ∷ v) w long = refl

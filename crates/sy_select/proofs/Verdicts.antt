@@ -6,10 +6,10 @@ use Rattle.sy_select.specs.declared.verdict.Verdict.{Verdict}
 use Rattle.sy_select.specs.declared.verdict.Verdict.TheVariants.{Yes, No, Either}
 use Rattle.sy_select.specs.Truth.{Formula, Valuation, first, behind, occurrences, truth, valuation, Agrees, Admits, Can, Must, IsVerdict, opposite}
 use Rattle.sy_select.proofs.Valuations.{admits_append, admits_behind, behind_append}
-use Rattle.sy_select.specs.Walk.{holds, verdict, or_of, and_of, of_known}
+use Rattle.sy_select.specs.internal.Walk.{holds, verdict, or_of, and_of, of_known}
 
 module _ {T : Type 0} (k : T → Option Bool) where
-  -- ---- what is known of an expression, whatever stands behind it
+  -- ---- what is known of an expression, whatever stands after it
 
   -- all admitted valuations give it this truth value
   abbrev Sure : Formula T → Bool → Type 0
@@ -26,7 +26,7 @@ module _ {T : Type 0} (k : T → Option Bool) where
   Walked x No = Sure x false × Able x false
   Walked x Either = Able x true × Able x false
 
-  -- an expression of two parts, cut before what stands behind it
+  -- an expression of two parts, cut before what stands after it
   cut : (x y : Formula T) (ts : List T) (v : Valuation) → Admits k ((occurrences x ++ occurrences y) ++ ts) v → Admits k (occurrences x ++ (occurrences y ++ ts)) v
   cut x y ts v h = subst (λ us. Admits k us v) (append_assoc (occurrences x) (occurrences y) ts) h
 

@@ -8,7 +8,7 @@ use Rattle.sy_select.specs.declared.fault.FaultCode.TheVariants as code
 use Rattle.sy_select.specs.declared.fault.SelectFault.{SelectFault}
 use Rattle.sy_script.specs.declared.tree.Span.{Span}
 use Rattle.sy_select.specs.Names.{facility_of, severity_of}
-use Rattle.sy_select.specs.Selectors.{comma, dot, semicolon}
+use Rattle.sy_select.specs.Selectors.{comma, dot, equals_sign, exclamation_mark, semicolon}
 
 abbrev pub number : FaultCode → ℕ
 number code.Facility = 31
@@ -53,7 +53,7 @@ behind_sign sign (b ∷ bytes) = if b == sign then bytes else b ∷ bytes
 
 -- a level without its signs, of which there may be one `!` and then one `=`
 abbrev pub behind_signs : List ℕ → List ℕ
-behind_signs text = behind_sign 61 (behind_sign 33 text)
+behind_signs text = behind_sign equals_sign (behind_sign exclamation_mark text)
 
 abbrev pub all_alphanumeric : List ℕ → Bool
 all_alphanumeric = list_all is_ascii_alphanumeric

@@ -4,7 +4,4 @@ pub mod Faults
 pub mod Properties
 pub mod Truth
 pub mod Trees
-pub mod Nodes
-pub mod Codes
-pub mod Walk
 pub mod internal

@@ -9,6 +9,7 @@ use Rattle.std.specs.Char.{is_ascii_digit}
 use Rattle.std.specs.List.{list_all, starts_with}
 use Rattle.std.specs.Str.{bytes_eq, str_eq_ignore_ascii_case}
 use Rattle.std.specs.Str.Parse.{digits_value}
+use Rattle.sy_wire.specs.declared.class.Class.{Class}
 use Rattle.sy_wire.specs.Messages.{Said}
 use Rattle.sy_script.specs.declared.tree.Comparison.{Comparison}
 use Rattle.sy_script.specs.declared.tree.Operand.{Operand}
@@ -125,13 +126,13 @@ field_text field.AppName m = m.app_name
 field_text field.ProcId m = m.procid
 field_text field.MsgId m = m.msgid
 
-abbrev pub part_text : Part → ℕ → ℕ → List ℕ
-part_text part.Facility facility severity = facility_text facility
-part_text part.Severity facility severity = severity_text severity
+abbrev pub part_text : Part → Class → List ℕ
+part_text part.Facility class = facility_text class.facility
+part_text part.Severity class = severity_text class.severity
 
-abbrev pub part_number : Part → ℕ → ℕ → ℕ
-part_number part.Facility facility severity = facility
-part_number part.Severity facility severity = severity
+abbrev pub part_number : Part → Class → ℕ
+part_number part.Facility class = class.facility
+part_number part.Severity class = class.severity
 
 -- the other text stands somewhere in the text
 abbrev pub contains : List ℕ → List ℕ → Bool
@@ -153,17 +154,17 @@ relates relation.AtMost n other = nat_le n other
 relates relation.Greater n other = nat_lt other n
 relates relation.AtLeast n other = nat_le other n
 
--- a test that the class decides, of a facility and a severity
-abbrev pub of_class : ClassTest → ℕ → ℕ → Bool
-of_class (decided.Text p how other) facility severity = matches how (part_text p facility severity) other
-of_class (decided.Number p relation n) facility severity = relates relation (part_number p facility severity) n
-of_class (decided.Selected set) facility severity = holds set facility severity
+-- a test that the class decides
+abbrev pub of_class : ClassTest → Class → Bool
+of_class (decided.Text p how other) class = matches how (part_text p class) other
+of_class (decided.Number p relation n) class = relates relation (part_number p class) n
+of_class (decided.Selected set) class = holds set class.facility class.severity
 
 abbrev pub says : Said → Test → Bool
 says m (test.Field f how other) = matches how (field_text f m) other
-says m (test.Class t) = of_class t m.facility m.severity
+says m (test.Class t) = of_class t m.class
 
--- what a facility and a severity alone say
-abbrev pub known : ℕ → ℕ → Test → Option Bool
-known facility severity (test.Field f how other) = None
-known facility severity (test.Class t) = Some (of_class t facility severity)
+-- what a class alone says
+abbrev pub known : Class → Test → Option Bool
+known class (test.Field f how other) = None
+known class (test.Class t) = Some (of_class t class)

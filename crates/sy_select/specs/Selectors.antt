@@ -2,13 +2,13 @@
 --   selector = part *(";" part)
 --   part     = ("*" | facility *("," facility)) "." level
 --   level    = "*" | "none" | ["!"] ["="] severity | "!*"
-use Rattle.std.specs.Prelude.{◌≡◌, ℕ, Bool, true, false, not, ◌||◌, ◌&&◌, if◌then◌else◌, ◌==◌, nat_lt, ◌+◌, ◌<◌, ◌^◌, List, length, slice_index, [], ◌∷◌, ◌++◌, Some, codes}
+use Rattle.std.specs.Prelude.{◌≡◌, ℕ, Bool, true, false, not, ◌&&◌, if◌then◌else◌, ◌==◌, nat_lt, ◌+◌, ◌<◌, ◌^◌, List, length, slice_index, [], ◌∷◌, ◌++◌, Some, codes}
 use Rattle.std.specs.Int.{bit_at}
-use Rattle.std.specs.List.{fold}
+use Rattle.std.specs.List.{fold, list_any}
 use Rattle.std.specs.Str.{str_eq_ignore_ascii_case}
 use Rattle.sy_select.specs.Names.{facility_of, severity_of}
 
--- ---- the signs between the pieces of a selector
+-- ---- the signs between the pieces of a selector, and before the severity of a level
 
 abbrev pub semicolon : ℕ
 semicolon = 59
@@ -18,6 +18,12 @@ comma = 44
 
 abbrev pub dot : ℕ
 dot = 46
+
+abbrev pub exclamation_mark : ℕ
+exclamation_mark = 33
+
+abbrev pub equals_sign : ℕ
+equals_sign = 61
 
 -- ---- parts
 
@@ -64,9 +70,9 @@ pub data IsLevel : List ℕ → Level → Type 0 where
   none : {text : List ℕ} → str_eq_ignore_ascii_case (codes "none") text ≡ true → IsLevel text (take_away every)
   not_star : IsLevel (codes "!*") (take_away every)
   named : {name : List ℕ} {s : ℕ} → severity_of name ≡ Some s → IsLevel name (add (up_to s))
-  equal : {name : List ℕ} {s : ℕ} → severity_of name ≡ Some s → IsLevel (61 ∷ name) (add (only s))
-  not_named : {name : List ℕ} {s : ℕ} → severity_of name ≡ Some s → IsLevel (33 ∷ name) (take_away (up_to s))
-  not_equal : {name : List ℕ} {s : ℕ} → severity_of name ≡ Some s → IsLevel (33 ∷ 61 ∷ name) (take_away (only s))
+  equal : {name : List ℕ} {s : ℕ} → severity_of name ≡ Some s → IsLevel (equals_sign ∷ name) (add (only s))
+  not_named : {name : List ℕ} {s : ℕ} → severity_of name ≡ Some s → IsLevel (exclamation_mark ∷ name) (take_away (up_to s))
+  not_equal : {name : List ℕ} {s : ℕ} → severity_of name ≡ Some s → IsLevel (exclamation_mark ∷ equals_sign ∷ name) (take_away (only s))
 
 -- ("*" | facility *("," facility)) "." level
 pub record IsPart (text : List ℕ) (part : Part) : Type 0 where
@@ -90,13 +96,9 @@ Pairs = ℕ → ℕ → Bool
 abbrev pub no_pairs : Pairs
 no_pairs f s = false
 
-abbrev pub is_among : List ℕ → ℕ → Bool
-is_among [] f = false
-is_among (g ∷ gs) f = g == f || is_among gs f
-
 abbrev pub has_facility : Facilities → ℕ → Bool
 has_facility all f = true
-has_facility (listed fs) f = is_among fs f
+has_facility (listed fs) f = list_any (λ g. g == f) fs
 
 abbrev pub has_severity : Which → ℕ → Bool
 has_severity every s = true

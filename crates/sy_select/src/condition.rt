@@ -61,7 +61,7 @@ fn field_text(field: Field, message: &Message) -> &[u8]
 }
 
 fn part_text(part: Part, class: Class) -> &'static [u8]
-    ensures { result.now ≡ spec.part_text part class.facility class.severity }
+    ensures { result.now ≡ spec.part_text part class }
 {
     match part {
         Part::Facility => facility_text(class),
@@ -70,7 +70,7 @@ fn part_text(part: Part, class: Class) -> &'static [u8]
 }
 
 fn part_number(part: Part, class: Class) -> u8
-    ensures { result ≡ spec.part_number part class.facility class.severity }
+    ensures { result ≡ spec.part_number part class }
 {
     match part {
         Part::Facility => class.facility,
@@ -110,7 +110,7 @@ fn relates(number: u8, relation: Relation, other: u8) -> bool
 
 /// Whether a class meets a test that it decides.
 pub(crate) fn of_class(test: &ClassTest, class: Class) -> bool
-    ensures { result ≡ spec.of_class test.now class.facility class.severity }
+    ensures { result ≡ spec.of_class test.now class }
 {
     match test {
         ClassTest::Text(part, how, other) => {

@@ -7,7 +7,7 @@ pub mod laws;
 
 use crate::fault::SelectFault;
 use crate::node::{Node, is_true, verdict_of};
-use crate::read::node;
+use crate::read_expr::node;
 use crate::verdict::Verdict;
 use std::alloc::Global;
 use std::marker::Model;
@@ -26,12 +26,12 @@ impl Model for Expr {
 
     ghost Value = { Formula Test };
 
-    ghost use Rattle.sy_select.specs.Codes.{formula_code};
+    ghost use Rattle.sy_select.specs.internal.Codes.{formula_code};
     ghost use Rattle.sy_select.specs.contracts.condition.Test as test;
 
     ghost coded = { formula_code test.the_row.coded };
 
-    ghost use Rattle.sy_select.specs.Nodes.{formula};
+    ghost use Rattle.sy_select.specs.internal.Nodes.{formula};
 
     ghost view = { λ e. formula e.node };
 }
@@ -69,7 +69,7 @@ pub fn eval(expr: &Expr, message: &Message) -> bool
 
 /// What the class of a message alone says of the expression.
 pub fn eval_class(expr: &Expr, class: Class) -> Verdict
-    ensures { IsVerdict (known class.facility class.severity) expr.now result }
+    ensures { IsVerdict (known class) expr.now result }
 {
     verdict_of(&expr.node, class)
 }

@@ -1,6 +1,6 @@
 //! What may be wrong with a selector or an expression.
 
-ghost use Rattle.std.specs.Prelude.{◌≡◌, [], ◌∷◌};
+ghost use Rattle.std.specs.Prelude.{◌≡◌, [], ◌∷◌, Some};
 ghost use Rattle.sy_select.specs.Faults as spec;
 
 use std::alloc::Global;
@@ -55,6 +55,17 @@ impl FaultCode {
         }
     }
 }
+
+impl fmt::Display for FaultCode {
+    ghost output = { λ code. Some (spec.words code) };
+
+    fn fmt<W: fmt::Write>(&self, f: &mut fmt::Formatter<W>) -> fmt::Result {
+        let words = self.words();
+        write!(f, "{words}")
+    }
+}
+
+impl Error for FaultCode {}
 
 /// A fault with its word and its place.
 ///

@@ -1,9 +1,9 @@
 //! The tree of an expression, and the walks over it.
 ghost use Rattle.std.specs.Prelude.{◌≡◌, map};
 ghost use Rattle.sy_select.specs.Truth.{any, all};
-ghost use Rattle.sy_select.specs.Nodes.{formula};
+ghost use Rattle.sy_select.specs.internal.Nodes.{formula};
 ghost use Rattle.sy_select.specs.Properties as spec;
-ghost use Rattle.sy_select.specs.Walk as walk;
+ghost use Rattle.sy_select.specs.internal.Walk as walk;
 
 use crate::condition::{Test, of_class, says};
 use crate::verdict::Verdict;
@@ -58,7 +58,7 @@ pub fn is_true(node: &Node, message: &Message) -> bool
 
 #[cycle(walk)]
 fn any_verdict(parts: &[Node], class: Class) -> Verdict
-    ensures { result ≡ walk.verdict (spec.known class.facility class.severity) (any (map formula parts.now)) }
+    ensures { result ≡ walk.verdict (spec.known class) (any (map formula parts.now)) }
 {
     let mut verdict = Verdict::No;
     for part in parts {
@@ -69,7 +69,7 @@ fn any_verdict(parts: &[Node], class: Class) -> Verdict
 
 #[cycle(walk)]
 fn all_verdict(parts: &[Node], class: Class) -> Verdict
-    ensures { result ≡ walk.verdict (spec.known class.facility class.severity) (all (map formula parts.now)) }
+    ensures { result ≡ walk.verdict (spec.known class) (all (map formula parts.now)) }
 {
     let mut verdict = Verdict::Yes;
     for part in parts {
@@ -81,7 +81,7 @@ fn all_verdict(parts: &[Node], class: Class) -> Verdict
 /// What the class says of the expression.
 #[cycle(walk)]
 pub fn verdict_of(node: &Node, class: Class) -> Verdict
-    ensures { result ≡ walk.verdict (spec.known class.facility class.severity) (formula node.now) }
+    ensures { result ≡ walk.verdict (spec.known class) (formula node.now) }
 {
     match node {
         Node::Test(Test::Field(_, _, _)) => Verdict::Either,

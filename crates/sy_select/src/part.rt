@@ -7,7 +7,7 @@ ghost use Rattle.sy_select.specs.internal.Reading.{Applies, Lists, ReadsFaciliti
 ghost use Rattle.sy_select.specs.Selectors.{comma};
 
 use crate::fault::FaultCode;
-use crate::level::{Refusal, no_name, read_level, shape};
+use crate::read_level::{Refusal, no_name, read_level, shape};
 use crate::names::facility_of;
 use crate::pieces::{cut, same_bytes};
 use crate::severities::{Level, Severities};
@@ -22,7 +22,8 @@ pub struct Part {
 // The facilities whose names stand between commas.
 fn listed<'a>(whole: &'a [u8], text: &'a [u8]) -> Result<[bool; 24], Refusal<'a>>
     ensures ok { IfOk result (λ set. Lists whole.now text.now set) }
-    ensures err { IfErr result (λ r. Refuses (flat_map (spec.facility_faults whole.now) (spec.pieces comma text.now)) r.code r.word.now) }
+    ensures err { IfErr result (λ r. Refuses (flat_map (spec.facility_faults whole.now)
+        (spec.pieces comma text.now)) r.code r.word.now) }
 {
     let mut set = [false; 24];
     let mut rest = text;
@@ -54,7 +55,8 @@ fn facilities<'a>(whole: &'a [u8], text: &'a [u8]) -> Result<[bool; 24], Refusal
 /// The part that a text is.
 #[tactic(auto, unfolding(crate::specs::Faults::part_faults))]
 pub fn read_part<'a>(whole: &'a [u8], text: &'a [u8]) -> Result<Part, Refusal<'a>>
-    ensures ok { IfOk result (λ part. ReadsPart whole.now text.now part.facilities part.level.takes part.level.severities.0) }
+    ensures ok { IfOk result (λ part. ReadsPart whole.now text.now part.facilities part.level.takes
+        part.level.severities.0) }
     ensures err { IfErr result (λ r. Refuses (spec.part_faults whole.now text.now) r.code r.word.now) }
 {
     let (front, behind) = cut(text, b'.');
@@ -69,7 +71,8 @@ pub fn read_part<'a>(whole: &'a [u8], text: &'a [u8]) -> Result<Part, Refusal<'a
 impl Part {
     /// Adds the part's pairs to the severity sets of the facilities, or takes them away.
     pub fn apply(&self, sets: &mut [Severities; 24])
-        ensures { Applies self.now.facilities self.now.level.takes self.now.level.severities.0 (masks sets.old) (masks sets.new) }
+        ensures { Applies self.now.facilities self.now.level.takes self.now.level.severities.0 (masks sets.old)
+            (masks sets.new) }
     {
         for facility in 0..24 {
             if self.facilities[facility] {

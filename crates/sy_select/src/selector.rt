@@ -7,7 +7,7 @@ ghost use Rattle.sy_select.specs.internal.Reading.{Refuses};
 ghost use Rattle.sy_select.specs.Selectors.{Part, IsSelector, IsSetOf, holds, semicolon};
 
 use crate::fault::SelectFault;
-use crate::level::Refusal;
+use crate::read_level::Refusal;
 use crate::part::read_part;
 use crate::pieces::cut;
 use crate::severities::Severities;
@@ -66,7 +66,8 @@ impl Selector {
         // Each selector is read.
         ensures only { (parts : List Part) → IsSelector text.now parts → IsOk result }
         // Any other text is refused for the first of its faults, or where there is no memory for the fault's word.
-        ensures refused { IfErr result (λ fault. spec.IsRefusal (spec.faults_at (spec.whole_of text.now) text.now) fault) }
+        ensures refused { IfErr result (λ fault. spec.IsRefusal (spec.faults_at (spec.whole_of text.now) text.now)
+            fault) }
     {
         let span = Span {
             start: 0,

@@ -28,7 +28,8 @@ impl Flags for Severities {
 
     ghost exact = { ⊤ };
 
-    ghost table = { (codes "EMERG", 1) ∷ (codes "ALERT", 2) ∷ (codes "CRIT", 4) ∷ (codes "ERR", 8) ∷ (codes "WARNING", 16) ∷ (codes "NOTICE", 32) ∷ (codes "INFO", 64) ∷ (codes "DEBUG", 128) ∷ [] };
+    ghost table = { (codes "EMERG", 1) ∷ (codes "ALERT", 2) ∷ (codes "CRIT", 4) ∷ (codes "ERR", 8)
+        ∷ (codes "WARNING", 16) ∷ (codes "NOTICE", 32) ∷ (codes "INFO", 64) ∷ (codes "DEBUG", 128) ∷ [] };
 
     ghost set_of = { λ s. s.0 };
 
@@ -103,7 +104,8 @@ impl Level {
     /// Adds the severities to a set, or takes them away.
     pub fn apply(self, set: &mut Severities)
         ensures small { set.old.0 < 2 ^ 8 → set.new.0 < 2 ^ 8 }
-        ensures pairs { (s : ℕ) → s < 8 → has_bit set.new.0 s ≡ (if has_bit self.severities.0 s then not self.takes else has_bit set.old.0 s) }
+        ensures pairs { (s : ℕ) → s < 8 → has_bit set.new.0 s
+            ≡ (if has_bit self.severities.0 s then not self.takes else has_bit set.old.0 s) }
     {
         if self.takes {
             set.remove(self.severities);

@@ -14,7 +14,7 @@ pub enum Verdict {
 impl Verdict {
     ghost use Rattle.std.specs.Prelude.{◌≡◌};
     ghost use Rattle.sy_select.specs.Truth.{opposite};
-    ghost use Rattle.sy_select.specs.Walk as walk;
+    ghost use Rattle.sy_select.specs.internal.Walk as walk;
 
     /// The verdict of `not`.
     pub(crate) fn opposite(self) -> Verdict

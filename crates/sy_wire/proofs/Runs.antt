@@ -1,4 +1,4 @@
--- Runs of characters at the front of bytes.
+-- Runs of characters as prefixes of bytes.
 use Rattle.std.proofs.Common.{◌≡◌, ℕ, ◌+◌, ◌<◌, ◌≤◌, List, [], ◌∷◌, ◌++◌, length, get_or, take, drop, refl, sym, ap, ◌∙◌, arith, length-append}
 use Rattle.std.specs.List.{AllByRecursion}
 use Rattle.std.proofs.lemmas.List.{append-nil, drop_more, length-take-le, take_all, take-append-drop}
@@ -11,7 +11,7 @@ same_head a b x y e = cc
 pub same_tail : (a b : ℕ) (x y : List ℕ) → a ∷ x ≡ b ∷ y → x ≡ y
 same_tail a b x y e = cc
 
--- a byte behind i bytes
+-- a byte after i bytes
 pub at_byte : (bytes : List ℕ) (i : ℕ) → i < length bytes → bytes ≡ take i bytes ++ get_or bytes i 0 ∷ drop (i + 1) bytes
 at_byte bytes i within = rw (← drop_more bytes i 0 within) (sym (take-append-drop i bytes))
 
@@ -27,7 +27,7 @@ module _ (P : ℕ → Type 0) where
       let parts = one_run az bs c d x y p.1 q.1 nc nd rest in
       (let tail : az ≡ bs = parts.0 in cc, parts.1, parts.2)
 
-  -- the byte behind a shorter text is one of the run
+  -- the byte after a shorter text is one of the run
   pub inside : (a b : List ℕ) (c : ℕ) (x y : List ℕ) → AllByRecursion P a → a ++ x ≡ b ++ c ∷ y → length b < length a → P c
   inside [] b c x y p e short = absurd (omega arith)
   inside (a ∷ az) [] c x y p e short = let same : a ≡ c = cc in rw same at p.0

@@ -15,7 +15,7 @@ use Rattle.sy_wire.specs.declared.framer.FrameFault.TheVariants.{BadLength, TooL
 use Rattle.sy_wire.specs.declared.message.MsgFault.{MsgFault}
 use Rattle.syc.specs.Pass.{BeginsWith, CarriesFault, IsFramed, IsPart, PartPassed, Passed, line, lines}
 use Rattle.syc.specs.Reports.{Torn}
-use Rattle.syc.specs.Stops.{Advances, DrainFails, EntryFails, StopIs, StopsAt}
+use Rattle.syc.specs.internal.Stops.{Advances, DrainFails, EntryFails, StopIs, StopsAt}
 use Rattle.syc.specs.declared.stop.Stop.{Stop}
 use Rattle.syc.specs.declared.stop.Stop.TheVariants.{Frame, Message, NoMemory, ReadFailed, WriteFailed}
 use Rattle.sy_wire.proofs.CuttingLaws.{bad_more, long_more}
@@ -155,7 +155,7 @@ advances_more bytes rest more a b i j p = record { n = p.n; passed = passed_more
 stops_more : (e : Stop) (bytes more : List ℕ) (a b : Option (List ℕ)) (i j : ℕ) → ((rest : List ℕ) → BeginsWith e rest → BeginsWith e (rest ++ more)) → StopsAt e bytes a b i j → StopsAt e (bytes ++ more) a b i j
 stops_more e bytes more a b i j stays s = record { rest = s.rest ++ more; advances = advances_more bytes s.rest more a b i j s.advances; fault = stays s.rest s.fault }
 
--- more bytes behind a fault don't mend it
+-- more bytes after a fault don't mend it
 drain_more : (e : Stop) (bytes more : List ℕ) (a b : Option (List ℕ)) (i j : ℕ) → DrainFails e bytes a b i j → StopIs e (bytes ++ more) a b i j
 drain_more (Frame BadLength) bytes more a b i j h = stops_more (Frame BadLength) bytes more a b i j (λ rest. bad_more rest more) h
 drain_more (Frame TooLong) bytes more a b i j h = stops_more (Frame TooLong) bytes more a b i j (λ rest. long_more rest more) h

@@ -6,7 +6,7 @@ use Rattle.sy_board.specs.States.{BoardState}
 use Rattle.sy_board.specs.Steps.{Enters, Grabs, Settles, TakeIs, Takes}
 use Rattle.sy_board.specs.declared.answers.Taken.{Taken}
 use Rattle.sy_board.specs.declared.answers.Taken.TheVariants.{Discarded, InHand}
-use Rattle.syc.specs.Stops.{IsIdle, IsReady}
+use Rattle.syc.specs.internal.Stops.{IsIdle, IsReady}
 
 get_set : {X : Type 0} (xs : List X) (y z : X) → slice_get xs 0 ≡ Some y → slice_get (slice_set xs 0 z) 0 ≡ Some z
 get_set [] y z e = cc

@@ -6,7 +6,7 @@ use Rattle.std.proofs.KnownBytes.{Appends-kept, Keeps-refl}
 use Rattle.sy_wire.specs.Streams.{Rose}
 use Rattle.syc.specs.Pass.{Counts, GivesUpFailing, HasFailed, NoneFailed, PartPassed, PassIs, lines}
 use Rattle.syc.specs.Reports.{report, status_shown}
-use Rattle.syc.specs.Stops.{PassCause, StopIs, StopsAt, StopsIn}
+use Rattle.syc.specs.internal.Stops.{PassCause, StopIs, StopsAt, StopsIn}
 use Rattle.syc.specs.declared.stop.Stop.{Stop}
 use Rattle.syc.specs.declared.stop.Stop.TheVariants.{Frame, Message, NoMemory, ReadFailed, WriteFailed}
 use Rattle.syc.proofs.Passes.{part_of_passed, passed_kept, passed_nothing}

@@ -1,4 +1,4 @@
-pub mod Pass
-pub mod Reports
-pub mod Stops
 pub mod Words
+pub mod Reports
+pub mod Pass
+pub mod internal

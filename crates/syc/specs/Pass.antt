@@ -7,13 +7,13 @@ use Rattle.sy_wire.specs.Messages.{IsFault, IsMessage, Said}
 use Rattle.sy_wire.specs.Streams.{Rose, count_after}
 use Rattle.sy_wire.specs.declared.framer.FrameFault.TheVariants.{BadLength, TooLong, Truncated, NoMemory as OutOfMemory, Failed}
 use Rattle.sy_wire.specs.declared.message.MsgFault.{MsgFault}
-use Rattle.syc.specs.Reports.{report}
+use Rattle.syc.specs.Reports.{line_feed, report}
 use Rattle.syc.specs.declared.stop.Stop.{Stop}
 use Rattle.syc.specs.declared.stop.Stop.TheVariants.{Frame, Message, NoMemory, ReadFailed, WriteFailed}
 
 -- a message's line: its bytes and a line feed
 abbrev pub line : List ℕ → List ℕ
-line raw = raw ++ 10 ∷ []
+line raw = raw ++ line_feed ∷ []
 
 -- the lines of the messages, one after another
 abbrev pub lines : List (List ℕ) → List ℕ

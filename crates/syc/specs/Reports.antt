@@ -19,9 +19,13 @@ cause NoMemory frame = codes "no memory"
 cause ReadFailed frame = codes "read failed"
 cause WriteFailed frame = codes "write failed"
 
+-- %d10
+abbrev pub line_feed : ℕ
+line_feed = 10
+
 -- the line on standard error
 abbrev pub report : Stop → ℕ → List ℕ
-report stop frame = codes "syc: " ++ (cause stop frame ++ 10 ∷ [])
+report stop frame = codes "syc: " ++ (cause stop frame ++ line_feed ∷ [])
 
 -- a prefix of the bytes was written
 pub record Torn (old new : Option (List ℕ)) (bytes : List ℕ) : Type 0 where

@@ -3,7 +3,7 @@ ghost use Rattle.std.specs.Prelude.{◌≡◌, ◌+◌, ◌<◌, ◌≤◌, ◌^
 ghost use Rattle.std.specs.Io.KnownBytes.{Appends};
 ghost use Rattle.sy_board.specs.States.{IsOfList};
 ghost use Rattle.syc.specs.Pass.{line};
-ghost use Rattle.syc.specs.Stops.{Carries, CarryCause, CarryFails, EntryFails, IsIdle, IsReady};
+ghost use Rattle.syc.specs.internal.Stops.{Carries, CarryCause, CarryFails, EntryFails, IsIdle, IsReady};
 
 use crate::output::write_line;
 use crate::stop::Stop;

@@ -5,7 +5,7 @@ ghost use Rattle.sy_wire.specs.Streams.{Rose, count_after};
 ghost use Rattle.std.specs.Io.KnownBytes.{Keeps};
 ghost use Rattle.syc.specs.Pass.{EndsWhole, GivesUpFailing, HasFailed, IsStatus, NoneFailed, PassIs, counts};
 ghost use Rattle.syc.specs.Reports.{Reported, seen, status_shown};
-ghost use Rattle.syc.specs.Stops.{Advances, DrainFails, FailCause, IsBetween, IsIdle, PassCause, StopIs, StopsIn, TurnIs, WriteCause};
+ghost use Rattle.syc.specs.internal.Stops.{Advances, DrainFails, FailCause, IsBetween, IsIdle, PassCause, StopIs, StopsIn, TurnIs, WriteCause};
 
 use crate::carry::{CarryFault, carry, entry};
 use crate::stop::{Stop, status_of, tell};
@@ -67,7 +67,8 @@ fn turn<R: Source, W: Sink>(
     requires between { IsBetween board.old framer.old }
     requires room { board.old.taken + length framer.old.left + PIECE < 2 ^ 64 }
     ensures between { result ≡ Ok true → IsBetween board.new framer.new }
-    ensures room { result ≡ Ok true → board.new.taken + length framer.new.left ≤ board.old.taken + length framer.old.left + PIECE }
+    ensures room { result ≡ Ok true → board.new.taken + length framer.new.left ≤ board.old.taken + length
+        framer.old.left + PIECE }
     ensures bound { board.new.taken ≤ board.old.taken + length framer.old.left + PIECE }
     ensures turned { (ahead : List ℕ) → R.remaining reader.old ≡ Some ahead →
         TurnIs result (framer.old.left ++ ahead) framer.new.left (R.remaining reader.new)

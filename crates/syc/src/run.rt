@@ -18,7 +18,8 @@ use sy_wire::{Sink, Source};
 
 // Prints what clap answers in place of a command, and answers the exit status.
 fn show<W: Sink, E: Sink>(alloc: Global, writer: &mut W, errors: &mut E, error: &Error) -> u8
-    ensures { IsStatus result }
+    ensures status { IsStatus result }
+    ensures none_failed { result ≢ 4 → W.faults writer.new ≡ W.faults writer.old }
 {
     let Ok(text) = format!(in alloc; "{error}") else {
         return out_of_memory(errors);
@@ -60,7 +61,7 @@ pub fn run<R: Source, W: Sink, E: Sink, F: Files>(
     ensures done { ArePassAlone (map string_bytes args.now) → (result ≡ 0) ⊎ (result ≡ 2) →
         W.is_flushed writer.new ≡ true }
     ensures calls { R.calls reader.new ≤ R.calls reader.old + READS }
-    ensures none_failed { ArePassAlone (map string_bytes args.now) → result ≢ 4 → NoneFailed
+    ensures none_failed { result ≢ 4 → NoneFailed
         (counts R.faults R.calls W.faults reader.old writer.old)
         (counts R.faults R.calls W.faults reader.new writer.new) }
     ensures untouched { (ArePassAlone (map string_bytes args.now) → ⊥) → reader.new ≡ reader.old }

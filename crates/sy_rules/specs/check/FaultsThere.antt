@@ -17,7 +17,7 @@ use Rattle.sy_rules.specs.lists.Laws.{IsChain}
 use Rattle.sy_rules.specs.lists.Lines.{Lines, lists_of, statements_of, body_of}
 use Rattle.sy_rules.specs.check.ObjectFaults.{HasOwnFault, IsClean}
 use Rattle.sy_rules.specs.items.Outline.{Item, items}
-use Rattle.sy_rules.specs.parameters.Values.{given, number}
+use Rattle.sy_rules.specs.parameters.Values.{decimal_value, given}
 use Rattle.sy_rules.specs.parts.Plans.{action_name, actions_of, default_ruleset, inputs_of, queues_of, rulesets_of}
 use Rattle.sy_rules.specs.check.ScriptFaults.{as_plan_fault, ruleset_names_of, untested}
 use Rattle.sy_rules.specs.lists.Body as body
@@ -32,7 +32,7 @@ IsInput _ = ⊥
 
 -- an input that is given this port, as a number
 abbrev pub IsInputOfPort : ℕ → Item → Type 0
-IsInputOfPort port (Item.Object object.Input ps) = (value : List ℕ) × (given (codes "port") ps ≡ Some value) × (number value ≡ Some port)
+IsInputOfPort port (Item.Object object.Input ps) = (value : List ℕ) × (given (codes "port") ps ≡ Some value) × (decimal_value value ≡ Some port)
 IsInputOfPort port _ = ⊥
 
 -- an input that names this ruleset

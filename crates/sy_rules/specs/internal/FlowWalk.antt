@@ -6,7 +6,7 @@ use Rattle.sy_select.specs.declared.verdict.Verdict.{Verdict}
 use Rattle.sy_select.specs.declared.verdict.Verdict.TheVariants.{Yes, No, Either}
 use Rattle.sy_select.specs.Properties.{known}
 use Rattle.sy_select.specs.Truth.{Formula}
-use Rattle.sy_select.specs.Walk.{verdict}
+use Rattle.sy_select.specs.internal.Walk.{verdict}
 use Rattle.sy_rules.specs.declared.lists.statement.Statement.{Statement}
 use Rattle.sy_rules.specs.declared.lists.walk.Reached.{Reached}
 use Rattle.sy_rules.specs.declared.lists.flow.Flow.{Flow}
@@ -28,7 +28,7 @@ must_take Either a b = record { set = 0; goes_on = a.goes_on && b.goes_on }
 
 -- the verdict of a class on each test, by its number
 abbrev pub judged : Class → List (Formula Test) → ℕ → Verdict
-judged class tests number = verdict (known class.facility class.severity) (test_of tests number)
+judged class tests number = verdict (known class) (test_of tests number)
 
 abbrev pub flow_of_list : Class → List (Formula Test) → List (List Statement) → ℕ → ℕ → ℕ → Flow
 flow_of_list class tests tables depth list base = record {

@@ -4,8 +4,8 @@ use Rattle.sy_script.specs.declared.tree.Script.{Script}
 use Rattle.sy_select.specs.declared.condition.Test.{Test}
 use Rattle.sy_select.specs.Truth.{Formula}
 use Rattle.sy_rules.specs.declared.fault.PlanFault.{PlanFault}
-use Rattle.sy_rules.specs.declared.plan.load.Gathered.{Gathered}
-use Rattle.sy_rules.specs.declared.plan.load.Lists.{Lists}
+use Rattle.sy_rules.specs.declared.plan.gathered.Gathered.{Gathered}
+use Rattle.sy_rules.specs.declared.plan.gathered.Lists.{Lists}
 use Rattle.sy_rules.specs.lists.Lines.{lists_of}
 use Rattle.sy_rules.specs.items.Outline.{Item, items}
 use Rattle.sy_rules.specs.parts.Plans.{actions_of, default_ruleset, inputs_of, list_queues, queues_of, rulesets_of, workers_of}

@@ -2,7 +2,7 @@
 use Rattle.std.specs.Prelude.{◌≡◌, ◌⊎◌, ℕ, zero, suc, List, [], ◌∷◌, Option, refl}
 use Rattle.std.proofs.Common.{ap, ◌∙◌, inl, inr}
 use Rattle.std.specs.Coded.{Coded, code_by, coded_list, coded_option, coded⊎, coded×, coded_ℕ}
-use Rattle.sy_select.specs.Codes.{formula_code}
+use Rattle.sy_select.specs.internal.Codes.{formula_code}
 use Rattle.sy_select.specs.declared.condition.Test.{Test}
 use Rattle.sy_select.specs.contracts.condition.Test as test
 use Rattle.sy_select.specs.Truth.{Formula}

@@ -2,7 +2,7 @@
 use Rattle.std.specs.Prelude.{ℕ, zero, suc, ◌+◌, ◌%◌, ◌^◌, bit_or, Bool, true, false, if◌then◌else◌, List, [], ◌∷◌, length, take, drop}
 use Rattle.sy_select.specs.declared.condition.Test.{Test}
 use Rattle.sy_select.specs.Truth.{Formula}
-use Rattle.sy_select.specs.Walk.{holds}
+use Rattle.sy_select.specs.internal.Walk.{holds}
 use Rattle.sy_rules.specs.declared.lists.statement.Statement.{Statement}
 use Rattle.sy_rules.specs.declared.lists.statement.Statement.TheVariants as statement
 use Rattle.sy_rules.specs.declared.lists.walk.Reached.{Reached}

@@ -2,7 +2,7 @@
 use Rattle.std.specs.Prelude.{◌≡◌, ℕ, ◌+◌, if◌then◌else◌, List, [], ◌∷◌, ◌++◌, length, slice_get, unwrap_or, Option, Some, None, is_some, map}
 use Rattle.sy_script.specs.declared.tree.Block.{Block}
 use Rattle.sy_rules.specs.declared.lists.build.count.Counts.{Counts}
-use Rattle.sy_rules.specs.declared.lists.build.lists.Lists.{Lists}
+use Rattle.sy_rules.specs.declared.lists.build.tops.Lists.{Lists}
 use Rattle.sy_rules.specs.declared.parameters.objects.ActionParameters.{ActionParameters}
 use Rattle.sy_rules.specs.declared.parameters.objects.RulesetParameters.{RulesetParameters}
 use Rattle.sy_rules.specs.declared.lists.statement.Statement.{Statement}

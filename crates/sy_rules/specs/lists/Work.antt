@@ -20,11 +20,11 @@ Due s m number = is_in number (work s m) ≡ true
 
 -- the class of a message
 abbrev pub HasClass : Said → Class → Type 0
-HasClass m class = (m.facility ≡ class.facility) × (m.severity ≡ class.severity)
+HasClass m class = m.class ≡ class
 
 -- the valuations that a class admits: what the class decides is as it says, every other test occurrence is free by itself
 abbrev pub IsAdmitted : Body → Class → Valuation → Type 0
-IsAdmitted s class v = Admits (known class.facility class.severity) (tests s) v
+IsAdmitted s class v = Admits (known class) (tests s) v
 
 -- an occurrence that some admitted valuation executes
 pub record May (s : Body) (class : Class) (number : ℕ) : Type 0 where

@@ -12,7 +12,7 @@ use Rattle.sy_rules.specs.declared.parameters.objects.RulesetParameters.{Ruleset
 use Rattle.sy_rules.specs.declared.parameters.objects.ActionParameters.{ActionParameters}
 use Rattle.sy_rules.specs.declared.parameters.objects.Destination.{Destination}
 use Rattle.sy_rules.specs.declared.parameters.objects.Destination.TheVariants as destination
-use Rattle.sy_rules.specs.parameters.Values.{given, number}
+use Rattle.sy_rules.specs.parameters.Values.{decimal_value, given}
 use Rattle.sy_rules.specs.parameters.Rows.{Absent, Row, rows, lookup}
 
 -- ---- single values
@@ -29,7 +29,7 @@ default_number size (Some r) = absent_number size r.absent
 
 -- the number of a parameter, as given or by its default
 unfoldable pub number_of : Kind → List Param → ℕ → List ℕ → ℕ
-number_of k ps size name = unwrap_or (option_and_then number (given name ps)) (default_number size (lookup (rows k) name))
+number_of k ps size name = unwrap_or (option_and_then decimal_value (given name ps)) (default_number size (lookup (rows k) name))
 
 abbrev pub absent_word : Absent → Option (List ℕ)
 absent_word (Absent.Word word) = Some word

@@ -14,15 +14,15 @@ use Rattle.sy_rules.specs.parameters.Rows.{Shape, Absent, Row, rows, lookup}
 -- ---- values
 
 -- the number that 1 to 10 decimal digits write, where a value is that
-unfoldable pub number : List ℕ → Option ℕ
-number value = if is_numeral value && nat_le (length value) 10 then Some (digits_value 10 value) else None
+unfoldable pub decimal_value : List ℕ → Option ℕ
+decimal_value value = if is_numeral value && nat_le (length value) 10 then Some (digits_value 10 value) else None
 
 abbrev pub is_minus_one : List ℕ → Bool
 is_minus_one value = bytes_eq value (codes "-1")
 
 unfoldable pub has_shape : Shape → List ℕ → Bool
-has_shape (Shape.Number lowest highest) value = is_some (number value)
-has_shape (Shape.NumberOrMinusOne lowest highest) value = is_minus_one value || is_some (number value)
+has_shape (Shape.Number lowest highest) value = is_some (decimal_value value)
+has_shape (Shape.NumberOrMinusOne lowest highest) value = is_minus_one value || is_some (decimal_value value)
 has_shape (Shape.OneOf words) value = list_any (bytes_eq value) words
 has_shape Shape.AnyText value = true
 
@@ -32,8 +32,8 @@ is_within lowest highest (Some n) = nat_le lowest n && nat_le n highest
 
 -- of a value that has the shape
 unfoldable pub is_in_range : Shape → List ℕ → Bool
-is_in_range (Shape.Number lowest highest) value = is_within lowest highest (number value)
-is_in_range (Shape.NumberOrMinusOne lowest highest) value = is_minus_one value || is_within lowest highest (number value)
+is_in_range (Shape.Number lowest highest) value = is_within lowest highest (decimal_value value)
+is_in_range (Shape.NumberOrMinusOne lowest highest) value = is_minus_one value || is_within lowest highest (decimal_value value)
 is_in_range (Shape.OneOf words) value = true
 is_in_range Shape.AnyText value = true
 

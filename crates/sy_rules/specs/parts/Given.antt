@@ -113,7 +113,7 @@ pub record GivesActionList (all before : List Item) (x : Item) (number : ℕ) (l
   pub given : GivesQueue before x of_queue parameters
   pub queue : l.queue ≡ Some of_queue
 
--- List 0 has no queue of its own. Behind it stand the lists of the rulesets, and then those of the actions that have a queue.
+-- List 0 has no queue of its own. After it come the lists of the rulesets, and then those of the actions that have a queue.
 pub record GiveLists (all : List Item) (lines : List Lines) (lists : List Listed) : Type 0 where
   pub of_rulesets : List Listed
   pub of_actions : List Listed

@@ -129,7 +129,8 @@ pub fn check_input(
 ) -> Result<(), PlanFault>
     requires { faults Kind.Input params.now ≡ [] }
     ensures ok { OnOk result (spec.input_faults loaded names.now ports.now (input_of params.now) ≡ []) }
-    ensures err { IfErr result (λ f. IsAnswered (spec.input_faults loaded names.now ports.now (input_of params.now)) f) }
+    ensures err { IfErr result (λ f. IsAnswered (spec.input_faults loaded names.now ports.now
+        (input_of params.now)) f) }
 {
     check_count(alloc, INPUTS, ports.len(), b"input")?;
     check_loaded(alloc, loaded)?;

@@ -8,16 +8,16 @@ ghost use Rattle.sy_rules.specs.internal.TextTables as spec;
 ghost use Rattle.sy_rules.specs.lists.Texts.{parts};
 
 pub mod count;
-mod lists;
 mod scope;
 mod statements;
+mod tops;
 
 use crate::lists::statement::Statement;
 use crate::parameters::objects::{ActionParameters, RulesetParameters};
-use lists::{put_singles, put_tops};
 use scope::{Scope, action_statements};
 use std::alloc::{AllocError, Global};
 use sy_script::tree::Script;
+use tops::{put_singles, put_tops};
 
 fn tables(
     alloc: Global,
@@ -48,7 +48,8 @@ pub fn build(
     rulesets: &[RulesetParameters],
     actions: &[ActionParameters],
 ) -> Result<Vec<Vec<Statement>>, AllocError>
-    ensures { IfOk result (λ tables. (tests : List (Formula Test)) → map (λ t. lines_of_table tests t.items) tables.items
+    ensures { IfOk result (λ tables. (tests : List (Formula Test))
+        → map (λ t. lines_of_table tests t.items) tables.items
         ≡ lists_of (record { rulesets = rulesets.now; actions = actions.now; tests = tests })
         (parts script.now.tops)) }
 {

@@ -83,7 +83,8 @@ impl Judge<'_> {
     // A list whose occurrences begin at this number, where lists may lie in one another so deep.
     #[cycle(flow)]
     fn list(self, depth: u32, list: u32, base: u32) -> Flow
-        ensures { result ≡ spec.flow_of_list self.entry.class self.entry.tests.now self.entry.tables.now depth list base }
+        ensures { result ≡ spec.flow_of_list self.entry.class self.entry.tests.now self.entry.tables.now depth
+            list base }
     {
         if depth == 0 {
             return both(nothing());
@@ -123,7 +124,8 @@ impl Judge<'_> {
         after: &'t [Statement],
         base: u32,
     ) -> (Flow, &'t [Statement])
-        ensures reached { let walked = spec.flow_of_statements self.entry.class self.entry.tests.now self.entry.tables.now depth
+        ensures reached { let walked = spec.flow_of_statements self.entry.class self.entry.tests.now
+            self.entry.tables.now depth
             in walked (statement ∷ after.now) base ≡ spec.flow_followed_by result.0 (walked result.1.now base) }
         ensures shorter { length result.1.now ≤ length after.now }
     {

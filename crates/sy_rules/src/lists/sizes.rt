@@ -132,7 +132,8 @@ fn round(
 
 // The sizes of lists whose calls are expanded as deep as they may lie in one another, in time linear in the tables.
 fn sizes_of(alloc: Global, tables: &[Vec<Statement>]) -> Result<Vec<Size>, AllocError>
-    ensures { IfOk result (λ sizes. spec.AreSizes (map (λ table. table.items) tables.now) limits.CALL_DEPTH sizes.items) }
+    ensures { IfOk result (λ sizes. spec.AreSizes (map (λ table. table.items) tables.now) limits.CALL_DEPTH
+        sizes.items) }
 {
     let mut sizes = round(alloc, tables, &[], TOO_DEEP)?;
     for _depth in 0..CALL_DEPTH {
@@ -173,7 +174,8 @@ pub fn check_lists(
     tables: &[Vec<Statement>],
     names: &[&[u8]],
 ) -> Result<Vec<Size>, PlanFault>
-    ensures sizes { IfOk result (λ sizes. spec.AreSizes (map (λ table. table.items) tables.now) limits.CALL_DEPTH sizes.items) }
+    ensures sizes { IfOk result (λ sizes. spec.AreSizes (map (λ table. table.items) tables.now) limits.CALL_DEPTH
+        sizes.items) }
     ensures ok { OnOk result ((tests : List (Formula Test))
         → faults_of_lists (lines_of_tables tests (map (λ table. table.items) tables.now)) 0
         (map (λ name. name.now) names.now) ≡ []) }

@@ -8,7 +8,7 @@ ghost use Rattle.sy_rules.specs.internal.Views as view;
 
 use crate::parameters::kind::Kind;
 use crate::parameters::rows::{Absent, Row, find};
-use crate::parameters::values::{given, number};
+use crate::parameters::values::{decimal_value, given};
 use sy_script::tree::Param;
 
 /// How the messages of an input wait (`flowControl`).
@@ -68,7 +68,7 @@ pub fn number_of(kind: Kind, params: &[Param], size: u32, name: &[u8]) -> u64
     ensures { result ≡ spec.number_of kind params.now size name.now }
 {
     if let Some(value) = given(name, params) {
-        if let Some(number) = number(value) {
+        if let Some(number) = decimal_value(value) {
             return number;
         }
     }

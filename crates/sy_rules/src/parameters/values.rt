@@ -14,9 +14,9 @@ use sy_script::tree::Param;
 const MOST_DIGITS: usize = 10;
 
 /// The number that 1 to 10 decimal digits write, where the value is that.
-#[tactic(auto, unfolding(crate::specs::parameters::Values::number))]
-pub fn number(value: &[u8]) -> Option<u64>
-    ensures { result ≡ spec.number value.now }
+#[tactic(auto, unfolding(crate::specs::parameters::Values::decimal_value))]
+pub fn decimal_value(value: &[u8]) -> Option<u64>
+    ensures { result ≡ spec.decimal_value value.now }
 {
     if value.is_empty() || value.len() > MOST_DIGITS {
         return None;
@@ -56,8 +56,8 @@ pub fn has_shape(shape: Shape, value: &[u8]) -> bool
     ensures { result ≡ spec.has_shape (view.shape_of shape) value.now }
 {
     match shape {
-        Shape::Number(_, _) => number(value).is_some(),
-        Shape::NumberOrMinusOne(_, _) => is_minus_one(value) || number(value).is_some(),
+        Shape::Number(_, _) => decimal_value(value).is_some(),
+        Shape::NumberOrMinusOne(_, _) => is_minus_one(value) || decimal_value(value).is_some(),
         Shape::OneOf(words) => is_one_of(value, words),
         Shape::AnyText => true,
     }
@@ -78,9 +78,9 @@ pub fn is_in_range(shape: Shape, value: &[u8]) -> bool
     ensures { result ≡ spec.is_in_range (view.shape_of shape) value.now }
 {
     match shape {
-        Shape::Number(lowest, highest) => is_within(lowest, highest, number(value)),
+        Shape::Number(lowest, highest) => is_within(lowest, highest, decimal_value(value)),
         Shape::NumberOrMinusOne(lowest, highest) => {
-            is_minus_one(value) || is_within(lowest, highest, number(value))
+            is_minus_one(value) || is_within(lowest, highest, decimal_value(value))
         }
         Shape::OneOf(_) | Shape::AnyText => true,
     }

@@ -3,7 +3,7 @@ use Rattle.std.specs.Prelude.{◌≡◌, ℕ, ◌<◌, ◌^◌, ◌&&◌, not, i
 use Rattle.std.specs.List.{flat_map, slice_index_or}
 use Rattle.sy_select.specs.declared.fault.FaultCode.{FaultCode}
 use Rattle.sy_select.specs.declared.severities.Severities.{Severities}
-use Rattle.sy_select.specs.Selectors.{Facilities, IsFacilities, AreFacilities, Level, IsLevel, Part, IsPart, has_facility, has_severity, holds, comma, is_among}
+use Rattle.sy_select.specs.Selectors.{Facilities, IsFacilities, AreFacilities, Level, IsLevel, Part, IsPart, has_facility, has_severity, holds, comma, listed}
 use Rattle.sy_select.specs.internal.Masks.{has_bit}
 use Rattle.sy_select.specs.Faults.{Flaw, facility_faults, facilities_faults, level_faults, part_faults, pieces}
 
@@ -19,7 +19,7 @@ pub record Lists (whole text : List ℕ) (set : List Bool) : Type 0 where
   pub facilities : List ℕ
   pub is : AreFacilities text facilities
   pub right : flat_map (facility_faults whole) (pieces comma text) ≡ []
-  pub same : (f : ℕ) → f < 24 → at set f ≡ is_among facilities f
+  pub same : (f : ℕ) → f < 24 → at set f ≡ has_facility (listed facilities) f
 
 pub record ReadsFacilities (whole text : List ℕ) (set : List Bool) : Type 0 where
   pub facilities : Facilities

@@ -1,4 +1,4 @@
-//! Scans over the front of bytes.
+//! Scans over a prefix of bytes.
 ghost use Rattle.std.specs.Prelude.{◌≡◌, ◌∷◌, List, ℕ, IsTrue, ◌↔◌, IfNone, IfSome, MatchOption, []};
 ghost use Rattle.sy_wire.specs.Characters.{OfKind, RunsTo};
 
@@ -22,7 +22,7 @@ impl Kind {
     }
 }
 
-// The first byte and those behind it.
+// The first byte and those after it.
 pub(crate) fn first(bytes: &[u8]) -> Option<(u8, &[u8])>
     ensures { MatchOption result (bytes.now ≡ []) (λ r. bytes.now ≡ r.0 ∷ r.1.now) }
 {
@@ -30,7 +30,7 @@ pub(crate) fn first(bytes: &[u8]) -> Option<(u8, &[u8])>
     Some((*byte, rest))
 }
 
-// The bytes behind this one, where it is the first.
+// The bytes after this one, where it is the first.
 pub(crate) fn after(bytes: &[u8], wanted: u8) -> Option<&[u8]>
     ensures some { IfSome result (λ rest. bytes.now ≡ wanted ∷ rest.now) }
     ensures none { IfNone result ((rest : List ℕ) → bytes.now ≡ wanted ∷ rest → ⊥) }
@@ -39,7 +39,7 @@ pub(crate) fn after(bytes: &[u8], wanted: u8) -> Option<&[u8]>
     if byte == wanted { Some(rest) } else { None }
 }
 
-// The byte that ends a run of one to `most` characters, and the bytes behind it.
+// The byte that ends a run of one to `most` characters, and the bytes after it.
 pub(crate) fn run(bytes: &[u8], kind: Kind, most: usize) -> Option<(u8, &[u8])>
     ensures some { IfSome result (λ r. RunsTo (OfKind kind) most bytes.now r.0 r.1.now) }
     ensures none { IfNone result ((ending : ℕ) (rest : List ℕ) → RunsTo (OfKind kind) most bytes.now ending rest → ⊥) }

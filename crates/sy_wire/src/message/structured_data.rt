@@ -1,14 +1,14 @@
 //! Reading structured data.
 ghost use Rattle.std.specs.Prelude.{◌≡◌, ◌≤◌, ◌∷◌, ◌↔◌, List, ℕ, drop, length, IfNone, IfSome, IsTrue};
-ghost use Rattle.sy_wire.specs.Characters.{Begins, EndsTo};
+ghost use Rattle.sy_wire.specs.Characters.{Begins, closing_bracket, EndsTo, open_bracket, quote};
 ghost use Rattle.sy_wire.specs.StructuredData.{AreParams, DataTo, ElementsTo, IsParamValue, IsSdElement, IsSdParam};
 
 use super::scan::{Kind, after, first, run};
 
-// The bytes behind a parameter's value and the double quote that ends it.
+// The bytes after a parameter's value and the double quote that ends it.
 fn value(bytes: &[u8]) -> Option<&[u8]>
-    ensures some { IfSome result (λ rest. EndsTo IsParamValue 34 bytes.now rest.now) }
-    ensures none { IfNone result ((rest : List ℕ) → EndsTo IsParamValue 34 bytes.now rest → ⊥) }
+    ensures some { IfSome result (λ rest. EndsTo IsParamValue quote bytes.now rest.now) }
+    ensures none { IfNone result ((rest : List ℕ) → EndsTo IsParamValue quote bytes.now rest → ⊥) }
 {
     let mut left = bytes;
     while let Some((byte, rest)) = first(left) {
@@ -22,7 +22,7 @@ fn value(bytes: &[u8]) -> Option<&[u8]>
     None
 }
 
-// The bytes behind a parameter.
+// The bytes after a parameter.
 fn param(bytes: &[u8]) -> Option<&[u8]>
     ensures some { IfSome result (λ rest. Begins IsSdParam bytes.now rest.now) }
     ensures none { IfNone result ((rest : List ℕ) → Begins IsSdParam bytes.now rest → ⊥) }
@@ -35,10 +35,10 @@ fn param(bytes: &[u8]) -> Option<&[u8]>
     }
 }
 
-// The bytes behind an element's parameters and the bracket that closes it, from the byte that ends its id.
+// The bytes after an element's parameters and the bracket that closes it, from the byte that ends its id.
 fn params(ending: u8, bytes: &[u8]) -> Option<&[u8]>
-    ensures some { IfSome result (λ rest. EndsTo AreParams 93 (ending ∷ bytes.now) rest.now) }
-    ensures none { IfNone result ((rest : List ℕ) → EndsTo AreParams 93 (ending ∷ bytes.now) rest → ⊥) }
+    ensures some { IfSome result (λ rest. EndsTo AreParams closing_bracket (ending ∷ bytes.now) rest.now) }
+    ensures none { IfNone result ((rest : List ℕ) → EndsTo AreParams closing_bracket (ending ∷ bytes.now) rest → ⊥) }
 {
     let mut byte = ending;
     let mut left = bytes;
@@ -50,7 +50,7 @@ fn params(ending: u8, bytes: &[u8]) -> Option<&[u8]>
     if byte == b']' { Some(left) } else { None }
 }
 
-// The bytes behind an element.
+// The bytes after an element.
 fn element(bytes: &[u8]) -> Option<&[u8]>
     ensures some { IfSome result (λ rest. Begins IsSdElement bytes.now rest.now) }
     ensures none { IfNone result ((rest : List ℕ) → Begins IsSdElement bytes.now rest → ⊥) }
@@ -61,12 +61,12 @@ fn element(bytes: &[u8]) -> Option<&[u8]>
 
 // Whether the bytes open an element.
 fn is_open(bytes: &[u8]) -> bool
-    ensures { IsTrue result ↔ ((more : List ℕ) × (bytes.now ≡ 91 ∷ more)) }
+    ensures { IsTrue result ↔ ((more : List ℕ) × (bytes.now ≡ open_bracket ∷ more)) }
 {
     after(bytes, b'[').is_some()
 }
 
-// The bytes behind the last element.
+// The bytes after the last element.
 fn elements(bytes: &[u8]) -> Option<&[u8]>
     ensures some { IfSome result (λ rest. ElementsTo bytes.now rest.now) }
     ensures none { IfNone result ((rest : List ℕ) → ElementsTo bytes.now rest → ⊥) }
@@ -89,7 +89,7 @@ fn elements_len(bytes: &[u8]) -> Option<usize>
     Some(bytes.len() - rest.len())
 }
 
-// The bytes behind the structured data.
+// The bytes after the structured data.
 #[inline(always)]
 pub(super) fn behind_structured_data(bytes: &[u8]) -> Option<&[u8]>
     ensures some { IfSome result (λ rest. DataTo bytes.now rest.now) }

@@ -5,7 +5,7 @@ ghost use Rattle.sy_wire.specs.Timestamps.{IsDate, IsFullDate, IsHourMinute, IsL
 
 use super::scan::{Kind, after, first, run};
 
-// The number in two digits, which is below the limit, and the bytes behind it.
+// The number in two digits, which is below the limit, and the bytes after it.
 fn number(bytes: &[u8], limit: u8) -> Option<(u8, &[u8])>
     requires { limit ≤ 100 }
     ensures some { IfSome result (λ r. (r.0 < limit) × (bytes.now ≡ two_digits r.0 ++ r.1.now)) }
@@ -43,7 +43,7 @@ fn is_date(year: u16, month: u8, day: u8) -> bool
     1 <= day && day <= last
 }
 
-// The bytes behind the date.
+// The bytes after the date.
 fn date(bytes: &[u8]) -> Option<&[u8]>
     ensures some { IfSome result (λ rest. Begins IsFullDate bytes.now rest.now) }
     ensures none { IfNone result ((rest : List ℕ) → Begins IsFullDate bytes.now rest → ⊥) }
@@ -60,7 +60,7 @@ fn date(bytes: &[u8]) -> Option<&[u8]>
     }
 }
 
-// The bytes behind the hour and the minute.
+// The bytes after the hour and the minute.
 fn hour_minute(bytes: &[u8]) -> Option<&[u8]>
     ensures some { IfSome result (λ rest. Begins IsHourMinute bytes.now rest.now) }
     ensures none { IfNone result ((rest : List ℕ) → Begins IsHourMinute bytes.now rest → ⊥) }
@@ -70,7 +70,7 @@ fn hour_minute(bytes: &[u8]) -> Option<&[u8]>
     Some(rest)
 }
 
-// The bytes behind the offset, whose first byte is the mark.
+// The bytes after the offset, whose first byte is the mark.
 fn offset(mark: u8, bytes: &[u8]) -> Option<&[u8]>
     ensures some { IfSome result (λ rest. Begins IsTimeOffset (mark ∷ bytes.now) rest.now) }
     ensures none { IfNone result ((rest : List ℕ) → Begins IsTimeOffset (mark ∷ bytes.now) rest → ⊥) }
@@ -82,7 +82,7 @@ fn offset(mark: u8, bytes: &[u8]) -> Option<&[u8]>
     }
 }
 
-// The bytes behind the fraction of the second, if there is one, and the offset.
+// The bytes after the fraction of the second, if there is one, and the offset.
 fn time_end(bytes: &[u8]) -> Option<&[u8]>
     ensures some { IfSome result (λ rest. Begins IsTimeEnd bytes.now rest.now) }
     ensures none { IfNone result ((rest : List ℕ) → Begins IsTimeEnd bytes.now rest → ⊥) }
@@ -95,7 +95,7 @@ fn time_end(bytes: &[u8]) -> Option<&[u8]>
     offset(mark, rest)
 }
 
-// The bytes behind the date and the time.
+// The bytes after the date and the time.
 fn moment(bytes: &[u8]) -> Option<&[u8]>
     ensures some { IfSome result (λ rest. Begins IsMoment bytes.now rest.now) }
     ensures none { IfNone result ((rest : List ℕ) → Begins IsMoment bytes.now rest → ⊥) }
@@ -117,7 +117,7 @@ fn moment_len(bytes: &[u8]) -> Option<usize>
     Some(bytes.len() - rest.len())
 }
 
-// The bytes behind the timestamp.
+// The bytes after the timestamp.
 #[inline(always)]
 pub(super) fn behind_timestamp(bytes: &[u8]) -> Option<&[u8]>
     ensures some { IfSome result (λ rest. Begins IsTimestamp bytes.now rest.now) }

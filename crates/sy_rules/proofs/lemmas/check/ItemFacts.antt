@@ -15,7 +15,7 @@ use Rattle.sy_rules.specs.check.FaultsThere.{IsInputOfPort, IsAction, IsMainQueu
 use Rattle.sy_rules.specs.items.ItemFaults.{AreClean, object_faults}
 use Rattle.sy_rules.specs.parameters.Objects.{action_of, default_number, input_of, kind_of_action, is_word, number_of, ruleset_of, text}
 use Rattle.sy_rules.specs.items.Outline.{Item}
-use Rattle.sy_rules.specs.parameters.Values.{faults, given, has_shape, number}
+use Rattle.sy_rules.specs.parameters.Values.{decimal_value, faults, given, has_shape}
 use Rattle.sy_rules.specs.parts.Plans.{action_at, action_name, actions_of, input_at, names_from, ruleset_at, rulesets_of}
 use Rattle.sy_rules.specs.check.ScriptFaults.{is_among, is_main_queue, loads_imtcp, ruleset_names_of}
 use Rattle.sy_rules.specs.parameters.Rows.{Absent, Shape, destination_rows, lookup, own_rows, queue_head_rows, queue_rest_rows, row, rows}
@@ -47,18 +47,18 @@ port_row : lookup (rows kind.Input) (codes "port") ≡ Some (row (codes "port") 
 unfolding own_rows destination_rows queue_head_rows queue_rest_rows
 port_row = refl
 
-port_number : (lowest highest : ℕ) (value : List ℕ) → has_shape (Shape.Number lowest highest) value ≡ true → is_some (number value) ≡ true
+port_number : (lowest highest : ℕ) (value : List ℕ) → has_shape (Shape.Number lowest highest) value ≡ true → is_some (decimal_value value) ≡ true
 unfolding has_shape
 port_number lowest highest value e = e
 
-number_there : (ps : List Param) (value : List ℕ) (default : ℕ) → given (codes "port") ps ≡ Some value → (o : Option ℕ) → number value ≡ o → is_some o ≡ true → IsInputOfPort (unwrap_or o default) (Item.Object object.Input ps)
+number_there : (ps : List Param) (value : List ℕ) (default : ℕ) → given (codes "port") ps ≡ Some value → (o : Option ℕ) → decimal_value value ≡ o → is_some o ≡ true → IsInputOfPort (unwrap_or o default) (Item.Object object.Input ps)
 number_there ps value default found None is e = absurd cc
 number_there ps value default found (Some n) is e = (value, found, is)
 
-port_there : (ps : List Param) → faults kind.Input ps ≡ [] → (default : ℕ) (o : Option (List ℕ)) → given (codes "port") ps ≡ o → is_some o ≡ true → IsInputOfPort (unwrap_or (option_and_then number o) default) (Item.Object object.Input ps)
+port_there : (ps : List Param) → faults kind.Input ps ≡ [] → (default : ℕ) (o : Option (List ℕ)) → given (codes "port") ps ≡ o → is_some o ≡ true → IsInputOfPort (unwrap_or (option_and_then decimal_value o) default) (Item.Object object.Input ps)
 port_there ps clean default None found e = absurd cc
 port_there ps clean default (Some value) found e =
-    number_there ps value default found (number value) refl (port_number 1 65535 value (fit kind.Input ps clean (codes "port") value _ found port_row).has)
+    number_there ps value default found (decimal_value value) refl (port_number 1 65535 value (fit kind.Input ps clean (codes "port") value _ found port_row).has)
 
 -- an input without faults has its port
 pub port_given : (ps : List Param) → faults kind.Input ps ≡ [] → IsInputOfPort (input_of ps).port (Item.Object object.Input ps)

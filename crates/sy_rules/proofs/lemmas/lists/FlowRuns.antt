@@ -6,7 +6,7 @@ use Rattle.sy_select.specs.declared.verdict.Verdict.{Verdict}
 use Rattle.sy_select.specs.declared.verdict.Verdict.TheVariants.{Yes, No, Either}
 use Rattle.sy_select.specs.Properties.{known}
 use Rattle.sy_select.specs.Truth.{Formula}
-use Rattle.sy_select.specs.Walk.{verdict}
+use Rattle.sy_select.specs.internal.Walk.{verdict}
 use Rattle.sy_select.proofs.Verdicts.{verdict_is}
 use Rattle.sy_rules.specs.Limits.{CALL_DEPTH}
 use Rattle.sy_rules.specs.declared.lists.statement.Statement.{Statement}
@@ -36,7 +36,7 @@ module _ (tests : List (Formula Test)) (tables : List (List Statement)) (class :
   text = body_of (lines_of_tables tests tables) l
 
   abbrev k : Test → Option Bool
-  k = known class.facility class.severity
+  k = known class
 
   pub may_set : Bits (May text class) (flow_of_list class tests tables (suc CALL_DEPTH) l 0).may.set
   may_set =

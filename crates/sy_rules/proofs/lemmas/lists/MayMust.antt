@@ -54,9 +54,9 @@ flag_of : (A : Type 0) (b : Bool) → (b ≡ false → A → ⊥) → A → b �
 flag_of A true f a = refl
 flag_of A false f a = absurd (f refl a)
 
-module _ (class : Class) (judge : Formula Test → Verdict) (right : (x : Formula Test) → IsVerdict (known class.facility class.severity) x (judge x)) (s : Body) (j : ℕ) where
+module _ (class : Class) (judge : Formula Test → Verdict) (right : (x : Formula Test) → IsVerdict (known class) x (judge x)) (s : Body) (j : ℕ) where
   abbrev k : Test → Option Bool
-  k = known class.facility class.severity
+  k = known class
 
   facts : Known k (tests s) (walk s 0) (may_flow judge s 0) (must_flow judge s 0)
   facts = flows k judge right s 0

@@ -9,7 +9,7 @@ use Rattle.sy_wire.specs.Messages.{Said}
 use Rattle.sy_select.specs.declared.condition.Test.{Test}
 use Rattle.sy_select.specs.Properties.{says}
 use Rattle.sy_select.specs.Truth.{Formula}
-use Rattle.sy_select.specs.Walk.{holds}
+use Rattle.sy_select.specs.internal.Walk.{holds}
 use Rattle.sy_rules.specs.Limits.{CALL_DEPTH}
 use Rattle.sy_rules.specs.declared.lists.statement.Statement.{Statement}
 use Rattle.sy_rules.specs.declared.lists.statement.Statement.TheVariants as statement

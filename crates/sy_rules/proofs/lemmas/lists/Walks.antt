@@ -6,7 +6,7 @@ use Rattle.sy_select.specs.declared.condition.Test.{Test}
 use Rattle.sy_select.specs.Properties.{says}
 use Rattle.sy_select.specs.Truth as truth
 use Rattle.sy_select.specs.Truth.{Formula, Valuation, valuation}
-use Rattle.sy_select.specs.Walk.{holds}
+use Rattle.sy_select.specs.internal.Walk.{holds}
 use Rattle.sy_select.proofs.Verdicts.{truth_before}
 use Rattle.sy_rules.specs.internal.Flow.{flow, work_flow}
 use Rattle.sy_rules.specs.lists.Body.{Body, ◌⧺◌, Walk, ◌then◌, walk, tests, one, count}

@@ -84,9 +84,7 @@ of_the_list s v k h = let p = within s 0 v k h in omega arith
 -- ---- a class and its messages
 
 admitted_by : (s : Body) (m : Said) (class : Class) → HasClass m class → IsAdmitted s class (valuation_of s m)
-admitted_by s m class is =
-    subst (λ f. Admits (known f class.severity) (tests s) (valuation_of s m)) is.0
-    (subst (λ severity. Admits (known m.facility severity) (tests s) (valuation_of s m)) is.1 (admitted m (tests s)))
+admitted_by s m class is = subst (λ (c : Class). Admits (known c) (tests s) (valuation_of s m)) is (admitted m (tests s))
 
 pub must_work : (s : Body) (m : Said) (class : Class) (k : ℕ) → HasClass m class → Must s class k → Due s m k
 must_work s m class k is must = must (valuation_of s m) (admitted_by s m class is)
@@ -225,4 +223,4 @@ rising (Body.If x done otherwise rest) n v =
 
 -- what every admitted valuation executes some admitted one executes, since there is one
 pub must_may : (s : Body) (class : Class) (k : ℕ) → Must s class k → May s class k
-must_may s class k must = let some = some_valuation (known class.facility class.severity) (tests s) in record { values = some.0; admitted = some.1; executes = must some.0 some.1 }
+must_may s class k must = let some = some_valuation (known class) (tests s) in record { values = some.0; admitted = some.1; executes = must some.0 some.1 }

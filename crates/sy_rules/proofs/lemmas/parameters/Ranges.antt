@@ -6,7 +6,7 @@ use Rattle.sy_script.specs.declared.tree.Param.{Param}
 use Rattle.sy_rules.specs.declared.parameters.kind.Kind.{Kind}
 use Rattle.sy_rules.specs.declared.parameters.kind.Kind.TheVariants as kind
 use Rattle.sy_rules.specs.parameters.Objects.{absent_number, default_number, number_of, takes_queue, is_action, is_word, size_of, queue_parameters, AreInRange}
-use Rattle.sy_rules.specs.parameters.Values.{given, number, is_minus_one, is_in_range, is_within, faults}
+use Rattle.sy_rules.specs.parameters.Values.{decimal_value, given, is_minus_one, is_in_range, is_within, faults}
 use Rattle.sy_rules.specs.parameters.Rows.{Shape, Absent, row, rows, lookup, own_rows, destination_rows, queue_head_rows, queue_rest_rows, most}
 use Rattle.sy_rules.proofs.lemmas.parameters.Fits.{IsFit, fit, given_if_required}
 
@@ -26,14 +26,14 @@ between lowest highest (Some n) default e =
     let parts = both (nat_le lowest n) (nat_le n highest) e in
     record { least = leb-true lowest n parts.0; greatest = leb-true n highest parts.1 }
 
-within_shape : (lowest highest : ℕ) (value : List ℕ) → IsFit (Shape.Number lowest highest) value → is_within lowest highest (number value) ≡ true
+within_shape : (lowest highest : ℕ) (value : List ℕ) → IsFit (Shape.Number lowest highest) value → is_within lowest highest (decimal_value value) ≡ true
 unfolding is_in_range
 within_shape lowest highest value fits = fits.within
 
-by_value : (k : Kind) (ps : List Param) → faults k ps ≡ [] → (name : List ℕ) (lowest highest : ℕ) (absent : Absent) → lookup (rows k) name ≡ Some (row name (Shape.Number lowest highest) absent) → (default : ℕ) → IsBetween lowest highest default → (value : Option (List ℕ)) → given name ps ≡ value → IsBetween lowest highest (unwrap_or (option_and_then number value) default)
+by_value : (k : Kind) (ps : List Param) → faults k ps ≡ [] → (name : List ℕ) (lowest highest : ℕ) (absent : Absent) → lookup (rows k) name ≡ Some (row name (Shape.Number lowest highest) absent) → (default : ℕ) → IsBetween lowest highest default → (value : Option (List ℕ)) → given name ps ≡ value → IsBetween lowest highest (unwrap_or (option_and_then decimal_value value) default)
 by_value k ps clean name lowest highest absent known default fits None found = fits
 by_value k ps clean name lowest highest absent known default fits (Some value) found =
-    between lowest highest (number value) default (within_shape lowest highest value (fit k ps clean name value _ found known))
+    between lowest highest (decimal_value value) default (within_shape lowest highest value (fit k ps clean name value _ found known))
 
 -- a number as given, or its default where that is in range
 pub in_range : (k : Kind) (ps : List Param) → faults k ps ≡ [] → (size : ℕ) (name : List ℕ) (lowest highest : ℕ) (absent : Absent) → lookup (rows k) name ≡ Some (row name (Shape.Number lowest highest) absent) → IsBetween lowest highest (absent_number size absent) → IsBetween lowest highest (number_of k ps size name)
@@ -106,10 +106,10 @@ port_row : lookup (rows kind.Input) (codes "port") ≡ Some (row (codes "port") 
 unfolding own_rows destination_rows queue_head_rows queue_rest_rows
 port_row = refl
 
-of_given : (k : Kind) (ps : List Param) → faults k ps ≡ [] → (name : List ℕ) (lowest highest : ℕ) (absent : Absent) → lookup (rows k) name ≡ Some (row name (Shape.Number lowest highest) absent) → (default : ℕ) → (value : Option (List ℕ)) → given name ps ≡ value → is_some value ≡ true → IsBetween lowest highest (unwrap_or (option_and_then number value) default)
+of_given : (k : Kind) (ps : List Param) → faults k ps ≡ [] → (name : List ℕ) (lowest highest : ℕ) (absent : Absent) → lookup (rows k) name ≡ Some (row name (Shape.Number lowest highest) absent) → (default : ℕ) → (value : Option (List ℕ)) → given name ps ≡ value → is_some value ≡ true → IsBetween lowest highest (unwrap_or (option_and_then decimal_value value) default)
 of_given k ps clean name lowest highest absent known default None found there = cc
 of_given k ps clean name lowest highest absent known default (Some value) found there =
-    between lowest highest (number value) default (within_shape lowest highest value (fit k ps clean name value _ found known))
+    between lowest highest (decimal_value value) default (within_shape lowest highest value (fit k ps clean name value _ found known))
 
 -- a number that must be given
 required : (k : Kind) (ps : List Param) → faults k ps ≡ [] → (size : ℕ) (name : List ℕ) (lowest highest : ℕ) → lookup (rows k) name ≡ Some (row name (Shape.Number lowest highest) Absent.Required) → IsBetween lowest highest (number_of k ps size name)
@@ -155,14 +155,14 @@ the_other : (a b : Bool) → a ≡ false → (a || b) ≡ true → b ≡ true
 the_other true b e h = cc
 the_other false b e h = h
 
-within_or_minus_one : (lowest highest : ℕ) (value : List ℕ) → IsFit (Shape.NumberOrMinusOne lowest highest) value → is_minus_one value ≡ false → is_within lowest highest (number value) ≡ true
+within_or_minus_one : (lowest highest : ℕ) (value : List ℕ) → IsFit (Shape.NumberOrMinusOne lowest highest) value → is_minus_one value ≡ false → is_within lowest highest (decimal_value value) ≡ true
 unfolding is_in_range
-within_or_minus_one lowest highest value fits other = the_other (is_minus_one value) (is_within lowest highest (number value)) other fits.within
+within_or_minus_one lowest highest value fits other = the_other (is_minus_one value) (is_within lowest highest (decimal_value value)) other fits.within
 
-count_of : (k : Kind) (ps : List Param) → faults k ps ≡ [] → (name : List ℕ) (lowest highest : ℕ) (absent : Absent) → lookup (rows k) name ≡ Some (row name (Shape.NumberOrMinusOne lowest highest) absent) → (default : ℕ) → IsBetween lowest highest default → (value : Option (List ℕ)) → given name ps ≡ value → is_word (codes "-1") value ≡ false → IsBetween lowest highest (unwrap_or (option_and_then number value) default)
+count_of : (k : Kind) (ps : List Param) → faults k ps ≡ [] → (name : List ℕ) (lowest highest : ℕ) (absent : Absent) → lookup (rows k) name ≡ Some (row name (Shape.NumberOrMinusOne lowest highest) absent) → (default : ℕ) → IsBetween lowest highest default → (value : Option (List ℕ)) → given name ps ≡ value → is_word (codes "-1") value ≡ false → IsBetween lowest highest (unwrap_or (option_and_then decimal_value value) default)
 count_of k ps clean name lowest highest absent known default fits None found other = fits
 count_of k ps clean name lowest highest absent known default fits (Some value) found other =
-    between lowest highest (number value) default (within_or_minus_one lowest highest value (fit k ps clean name value _ found known) other)
+    between lowest highest (decimal_value value) default (within_or_minus_one lowest highest value (fit k ps clean name value _ found known) other)
 
 pub retry_in_range : (k : Kind) (ps : List Param) → is_action k ≡ true → faults k ps ≡ [] → is_word (codes "-1") (given (codes "action.resumeRetryCount") ps) ≡ false → IsBetween 0 most (number_of k ps 0 (codes "action.resumeRetryCount"))
 unfolding number_of

@@ -22,7 +22,8 @@ fn put_action(
     counts: &mut Counts,
     table: &mut Vec<Statement>,
 ) -> Result<(), AllocError>
-    ensures table { OnOk result (table.new.items ≡ table.old.items ++ spec.action_statement actions.now counts.old.actions ∷ []) }
+    ensures table { OnOk result (table.new.items ≡ table.old.items ++ spec.action_statement actions.now
+        counts.old.actions ∷ []) }
     ensures actions { OnOk result (counts.new.actions ≡ counts.old.actions + 1) }
     ensures tests { OnOk result (counts.new.tests ≡ counts.old.tests) }
 {
@@ -114,7 +115,8 @@ fn put_otherwise(
     table: &mut Vec<Statement>,
     otherwise: &Option<Block>,
 ) -> Result<(), AllocError>
-    ensures { OnOk result (spec.IsPut scope.now.rulesets.now scope.now.actions.now (spec.front_of_otherwise otherwise.now)
+    ensures { OnOk result (spec.IsPut scope.now.rulesets.now scope.now.actions.now
+        (spec.front_of_otherwise otherwise.now)
         counts.old counts.new table.old.items table.new.items) }
 {
     match otherwise {

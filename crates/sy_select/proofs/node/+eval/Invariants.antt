@@ -1,8 +1,8 @@
 use Rattle.std.proofs.Common.{◌≡◌, map, drop}
 use Rattle.sy_select.specs.Truth.{any, all}
-use Rattle.sy_select.specs.Nodes.{formula}
+use Rattle.sy_select.specs.internal.Nodes.{formula}
 use Rattle.sy_select.specs.Properties.{says}
-use Rattle.sy_select.specs.Walk.{holds}
+use Rattle.sy_select.specs.internal.Walk.{holds}
 use Rattle.sy_select.proofs.node.+eval.Given as goal
 
 abbrev pub invariant-all_true-loop-part : goal.invariant-all_true-loop-part

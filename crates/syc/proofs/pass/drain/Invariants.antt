@@ -1,5 +1,5 @@
 use Rattle.std.proofs.Common.{◌≡◌, ◌+◌, ◌≤◌, ◌<◌, ◌^◌, false, length}
-use Rattle.syc.specs.Stops.{Advances, IsIdle}
+use Rattle.syc.specs.internal.Stops.{Advances, IsIdle}
 use Rattle.syc.proofs.pass.drain.Given as goal
 
 abbrev pub invariant-frames : goal.invariant-frames

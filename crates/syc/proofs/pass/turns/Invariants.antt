@@ -1,7 +1,7 @@
 use Rattle.std.proofs.Common.{◌≡◌, ◌<◌, ◌≤◌, ◌+◌, ◌*◌, ℕ, List, ◌++◌, length, Some}
 use Rattle.sy_wire.specs.Streams.{count_after}
 use Rattle.syc.specs.Pass.{NoneFailed, counts}
-use Rattle.syc.specs.Stops.{Advances, IsBetween}
+use Rattle.syc.specs.internal.Stops.{Advances, IsBetween}
 use Rattle.syc.proofs.pass.turns.Given as goal
 
 abbrev pub invariant-loop : goal.invariant-loop

@@ -3,4 +3,4 @@ use Rattle.sy_select.proofs.ExprLaws.{opposite_of_not}
 use Rattle.sy_select.proofs.expr.laws.the_opposite_of_not.Goals as goal
 
 pub returns : goal.returns
-returns c = λ x f s v h. opposite_of_not (known f s) x v h
+returns c = λ x class v h. opposite_of_not (known class) x v h

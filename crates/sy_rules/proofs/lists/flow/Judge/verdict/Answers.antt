@@ -2,16 +2,16 @@ use Rattle.std.proofs.Common.{◌∙◌, ap, unwrap_or, Option}
 use Rattle.sy_select.specs.declared.condition.Test.{Test}
 use Rattle.sy_select.specs.Properties.{known}
 use Rattle.sy_select.specs.Truth.{Formula}
-use Rattle.sy_select.specs.Walk.{verdict}
+use Rattle.sy_select.specs.internal.Walk.{verdict}
 use Rattle.sy_select.proofs.ExprLaws.{same_verdict}
 use Rattle.sy_select.proofs.Verdicts.{verdict_is}
 use Rattle.sy_rules.proofs.lists.flow.Judge.verdict.Goals as goal
 
 pub returns-in-Some : goal.returns-in-Some
 returns-in-Some c =
-    let k = known c.args.self.class.facility c.args.self.class.severity in
+    let k = known c.args.self.class in
     same_verdict k c.in-Some.expr.now c.eval_class.result (verdict k c.in-Some.expr.now) c.eval_class.ensures (verdict_is k c.in-Some.expr.now)
     ∙ ap (λ (o : Option (Formula Test)). verdict k (unwrap_or o Formula.Never)) c.in-Some.ensures
 
 pub returns-in-None : goal.returns-in-None
-returns-in-None c = let k = known c.args.self.class.facility c.args.self.class.severity in ap (λ (o : Option (Formula Test)). verdict k (unwrap_or o Formula.Never)) c.in-None.ensures
+returns-in-None c = let k = known c.args.self.class in ap (λ (o : Option (Formula Test)). verdict k (unwrap_or o Formula.Never)) c.in-None.ensures

@@ -2,7 +2,7 @@ use Rattle.std.proofs.Common.{sym, ◌∙◌, ap, unwrap_or, Option}
 use Rattle.sy_select.specs.declared.condition.Test.{Test}
 use Rattle.sy_select.specs.Properties.{says}
 use Rattle.sy_select.specs.Truth.{Formula}
-use Rattle.sy_select.specs.Walk.{holds}
+use Rattle.sy_select.specs.internal.Walk.{holds}
 use Rattle.sy_select.proofs.Verdicts.{truth_is}
 use Rattle.sy_rules.proofs.lists.walk.Walker.meets.Goals as goal
 

@@ -1,0 +1,15 @@
+use Rattle.std.proofs.Common.{◌≡◌, ◌++◌, length, map}
+use Rattle.sy_rules.specs.items.ItemFaults.{AreClean}
+use Rattle.sy_rules.specs.internal.ItemViews.{item}
+use Rattle.sy_rules.specs.parts.Plans.{rulesets_of}
+use Rattle.sy_rules.proofs.parts.of_items.rulesets.Given as goal
+
+-- what is found, and what the rest gives
+abbrev pub invariant-loop-rest : goal.invariant-loop-rest
+invariant-loop-rest l = record {
+  so_far : l.found.items ++ rulesets_of (map item l.rest) ≡ rulesets_of (map item l.items);
+  clean : AreClean (map item l.rest);
+}
+
+abbrev pub decreases-loop-rest : goal.decreases-loop-rest
+decreases-loop-rest l = length l.rest

@@ -1,0 +1,171 @@
+//! Loads the plan of a script, part by part.
+
+ghost use Rattle.std.specs.Prelude.{◌≡◌, ◌≤◌, ◌+◌, ◌∷◌, [], drop, filter_map, length, map, IfOk, IfErr, List, OnOk};
+ghost use Rattle.sy_select.specs.Truth.{Formula};
+ghost use Rattle.sy_select.specs.declared.condition.Test.{Test};
+ghost use Rattle.sy_rules.specs.Faults.{IsAnswered, no_memory};
+ghost use Rattle.sy_rules.specs.internal.ItemViews.{item};
+ghost use Rattle.sy_rules.specs.internal.Loading.{AreLists, IsGathered, faults_of_its_lists};
+ghost use Rattle.sy_rules.specs.internal.Numbering.{AreSingles};
+ghost use Rattle.sy_rules.specs.items.Outline.{items};
+ghost use Rattle.sy_rules.specs.parts.Plans.{default_ruleset};
+ghost use Rattle.sy_rules.specs.PlanValue.{AreExprs, lines_of, listed_from, test_of_item};
+ghost use Rattle.sy_rules.specs.check.ScriptFaults.{faults_after};
+ghost use Rattle.sy_rules.specs.lists.Body as body;
+ghost use Rattle.sy_rules.specs.internal.Tables.{lines_of_tables};
+
+use crate::check::among::DEFAULT_RULESET;
+use crate::fault::PlanFault;
+use crate::items::outline::Item;
+use crate::lists::build::build;
+use crate::lists::numbering::{list_occurrences, occurrences};
+use crate::lists::occurrence::Occurrence;
+use crate::lists::statement::Statement;
+use crate::lists::plan_tables::plan_tables;
+use crate::parameters::objects::{ActionParameters, RulesetParameters};
+use crate::parameters::settings::QueueParameters;
+use crate::parts::Input;
+use crate::parts::expressions::read_tests;
+use crate::parts::of_items::{actions, inputs, list_queues, queues, rulesets, workers};
+use std::alloc::{AllocError, Global};
+use sy_script::Items;
+use sy_script::tree::Script;
+use sy_select::Expr;
+
+/// What the items of a script give to its plan.
+#[derive(Drop)]
+pub struct Gathered {
+    pub rulesets: Vec<RulesetParameters>,
+    pub actions: Vec<ActionParameters>,
+    pub inputs: Vec<Input>,
+    pub queues: Vec<QueueParameters>,
+    pub workers: Vec<u32>,
+    pub list_queues: Vec<Option<u32>>,
+    pub tests: Vec<Expr>,
+}
+
+// Of items without faults, so that only memory may be missing.
+fn tests(alloc: Global, items: &[Item<'_>]) -> Result<Vec<Expr>, PlanFault>
+    ensures ok { IfOk result (λ tests. AreExprs (filter_map test_of_item (map item items.now)) tests.items) }
+    ensures err { IfErr result (λ f. f ≡ no_memory) }
+{
+    match read_tests(alloc, items) {
+        Ok(tests) => Ok(tests),
+        Err(_) => Err(PlanFault::no_memory(alloc)),
+    }
+}
+
+/// Gathers what the items of a script give to its plan.
+pub fn gather(alloc: Global, items: &[Item<'_>]) -> Result<Gathered, PlanFault>
+    requires clean { faults_after (map item items.now) [] (map item items.now) ≡ [] }
+    ensures ok { IfOk result (λ gathered. IsGathered (map item items.now) gathered) }
+    ensures err { IfErr result (λ f. f ≡ no_memory) }
+{
+    let rulesets = rulesets(alloc, items)?;
+    let actions = actions(alloc, items)?;
+    let queues = queues(alloc, items)?;
+    let workers = workers(alloc, queues.as_slice())?;
+    let list_queues = list_queues(alloc, items)?;
+    let inputs = inputs(alloc, items, rulesets.as_slice(), list_queues.as_slice())?;
+    let tests = tests(alloc, items)?;
+    Ok(Gathered {
+        rulesets,
+        actions,
+        inputs,
+        queues,
+        workers,
+        list_queues,
+        tests,
+    })
+}
+
+/// The lists of a plan.
+#[derive(Drop)]
+pub struct Lists {
+    pub tables: Vec<Items<Statement>>,
+    pub occurrences: Vec<Items<Occurrence>>,
+}
+
+// The names of the lists that have one.
+fn names_of_lists(alloc: Global, rulesets: &[RulesetParameters]) -> Result<Vec<&[u8]>, AllocError>
+    ensures { IfOk result (λ names. map (λ name. name.now) names.items ≡ default_ruleset
+        ∷ map (λ r. r.name) rulesets.now) }
+{
+    let mut names = Vec::new(alloc);
+    names.push(DEFAULT_RULESET)?;
+    let mut rest = rulesets;
+    while let [ruleset, after @ ..] = rest {
+        names.push(ruleset.name.as_slice())?;
+        rest = after;
+    }
+    Ok(names)
+}
+
+// What each list executes, where so many have or don't have a queue.
+fn occurrences_of_lists(
+    alloc: Global,
+    tables: &[Items<Statement>],
+    queues: &[Option<u32>],
+) -> Result<Vec<Items<Occurrence>>, AllocError>
+    requires few { length queues.now ≤ 513 }
+    ensures { IfOk result (λ found. (tests : List (Formula Test)) → found.items
+        ≡ map (λ l. body.occurrences l.body) (listed_from (lines_of_tables tests tables.now) 0 queues.now)) }
+{
+    let all = list_occurrences(alloc, tables)?;
+    let mut found = Vec::new(alloc);
+    let mut list = 0;
+    let mut rest = queues;
+    while let [_, after @ ..] = rest {
+        found.push(occurrences(alloc, all.as_slice(), list)?)?;
+        list += 1;
+        rest = after;
+    }
+    Ok(found)
+}
+
+// The tables of a script's lists, whose occurrences aren't numbered yet.
+fn tables(
+    alloc: Global,
+    script: &Script,
+    gathered: &Gathered,
+) -> Result<Vec<Vec<Statement>>, AllocError>
+    requires gathered { IsGathered (items script.now) gathered.now }
+    ensures lines { IfOk result (λ found. (tests : List (Formula Test))
+        → lines_of_tables tests (map (λ t. t.items) found.items)
+        ≡ lines_of script.now tests) }
+    ensures singles { IfOk result (λ found. AreSingles (drop (length gathered.now.rulesets.items + 1)
+        (map (λ t. t.items) found.items))) }
+{
+    let found = build(
+        alloc,
+        script,
+        gathered.rulesets.as_slice(),
+        gathered.actions.as_slice(),
+    )?;
+    Ok(found)
+}
+
+/// The lists of a script without other faults.
+pub fn expand_lists(alloc: Global, script: &Script, gathered: &Gathered) -> Result<Lists, PlanFault>
+    requires gathered { IsGathered (items script.now) gathered.now }
+    requires few { length gathered.now.list_queues.items ≤ 513 }
+    ensures found { IfOk result (λ lists. AreLists script.now gathered.now.tests.items
+        gathered.now.list_queues.items lists) }
+    ensures ok { OnOk result (faults_of_its_lists script.now ≡ []) }
+    ensures err { IfErr result (λ f. IsAnswered (faults_of_its_lists script.now) f) }
+{
+    let Ok(tables) = tables(alloc, script, gathered) else {
+        return Err(PlanFault::no_memory(alloc));
+    };
+    let Ok(names) = names_of_lists(alloc, gathered.rulesets.as_slice()) else {
+        return Err(PlanFault::no_memory(alloc));
+    };
+    let tables = plan_tables(alloc, tables.as_slice(), names.as_slice())?;
+    match occurrences_of_lists(alloc, tables.as_slice(), gathered.list_queues.as_slice()) {
+        Ok(occurrences) => Ok(Lists {
+            tables,
+            occurrences,
+        }),
+        Err(_) => Err(PlanFault::no_memory(alloc)),
+    }
+}
