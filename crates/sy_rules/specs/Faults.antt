@@ -1,8 +1,11 @@
 -- The faults of a script that is no plan, and which one is answered.
-use Rattle.std.specs.Prelude.{◌≡◌, ◌⊎◌, ℕ, Bool, if◌then◌else◌, List, [], ◌∷◌, Option, Some, None, codes}
+use Rattle.std.specs.Prelude.{◌≡◌, ◌⊎◌, ℕ, Bool, if◌then◌else◌, List, [], ◌∷◌, Option, Some, None, unwrap_or, codes}
+use Rattle.sy_script.specs.declared.tree.Span.{Span}
+use Rattle.sy_select.specs.Faults.{with_word}
 use Rattle.sy_rules.specs.declared.fault.FaultCode.{FaultCode}
 use Rattle.sy_rules.specs.declared.fault.FaultCode.TheVariants as code
 use Rattle.sy_rules.specs.declared.fault.PlanFault.{PlanFault}
+use Rattle.sy_rules.specs.declared.items.fault.ItemFault.{ItemFault}
 
 abbrev pub number : FaultCode → ℕ
 number code.Facility = 31
@@ -37,21 +40,53 @@ words code.SamePort = codes "47 SamePort"
 words code.NotLoaded = codes "48 NotLoaded"
 words code.NoMemory = codes "49 NoMemory"
 
-abbrev pub fault : FaultCode → List ℕ → PlanFault
-fault c word = record { code = c; word = word }
+-- the empty place, of what stands nowhere in the text
+abbrev pub nowhere : Span
+nowhere = record { start = 0; end = 0 }
+
+-- a fault at its place in the text
+abbrev pub fault_at : Span → FaultCode → List ℕ → PlanFault
+fault_at span c word = record { code = c; word = word; span = span }
 
 abbrev pub no_memory : PlanFault
-no_memory = fault code.NoMemory []
+no_memory = fault_at nowhere code.NoMemory []
+
+-- A fault in words, without its place: its number and name, and its word where it has one. It says nothing where the word is no text.
+abbrev pub fault_text : PlanFault → Option (List ℕ)
+fault_text f = with_word (words f.code) f.word
+
+-- ---- of an item: an object, an action, a call or a test of a script
+
+-- a fault whose place is that of the item
+abbrev pub fault : FaultCode → List ℕ → ItemFault
+fault c word = record { code = c; word = word; place = None }
+
+-- a fault of a part of the item that stands here
+abbrev pub fault_of_part : Span → FaultCode → List ℕ → ItemFault
+fault_of_part span c word = record { code = c; word = word; place = Some span }
+
+abbrev pub memory_fault : ItemFault
+memory_fault = fault_of_part nowhere code.NoMemory []
+
+-- in the text, where the item stands here
+abbrev pub in_text : Span → ItemFault → PlanFault
+in_text item f = fault_at (unwrap_or f.place item) f.code f.word
+
+-- ---- which one is answered
 
 -- a fault where it is there
-abbrev pub when : Bool → PlanFault → List PlanFault
+abbrev pub when : {A : Type 0} → Bool → A → List A
 when there f = if there then f ∷ [] else []
 
 -- Faults stand in the order of the text, and the first is the one to answer.
-abbrev pub first : List PlanFault → Option PlanFault
+abbrev pub first : {A : Type 0} → List A → Option A
 first [] = None
 first (f ∷ later) = Some f
 
 -- what is answered where these faults are there: the first, or that memory ran out
 abbrev pub IsAnswered : List PlanFault → PlanFault → Type 0
 IsAnswered faults answer = (answer ≡ no_memory) ⊎ (first faults ≡ Some answer)
+
+-- the same of an item
+abbrev pub IsFound : List ItemFault → ItemFault → Type 0
+IsFound faults answer = (answer ≡ memory_fault) ⊎ (first faults ≡ Some answer)

@@ -5,8 +5,9 @@ ghost use Rattle.sy_rules.specs.Faults as spec;
 
 use std::alloc::Global;
 use std::error::Error;
-use std::fmt;
+use std::{fmt, str};
 use sy_script::Items;
+use sy_script::tree::Span;
 
 /// The faults of a plan. Their numbers are those of `number`.
 #[derive(Clone, Copy, Debug, PartialEq, Eq)]
@@ -98,7 +99,10 @@ impl fmt::Display for FaultCode {
 
 impl Error for FaultCode {}
 
-/// A fault and its word. The word is, of
+/// The place of what stands nowhere in the text.
+pub(crate) const NOWHERE: Span = Span { start: 0, end: 0 };
+
+/// A fault with its word, and its place in the text of the script. The word is, of
 ///
 /// - `Facility`, `Severity`, `Shape`, `Operator`: the name, the whole selector, the operator;
 /// - `Missing`, `BadValue`, `Range`, and a parameter that is unknown or given twice: the parameter's name, as the script spells it
@@ -107,10 +111,20 @@ impl Error for FaultCode {}
 /// - `Range` of too many objects or workers: the object's word, or `queue.workerThreads`;
 /// - `CallDepth`, `TooManyDeeds`: the ruleset's name;
 /// - `SamePort`: the port; `NotLoaded`: `imtcp`; `NoMemory`: nothing.
+///
+/// The place is, of
+///
+/// - a parameter that is unknown, given twice, of a bad value or out of range: that of its name;
+/// - an expression: that of the property, the operator, or the string with its quotes (as `SelectFault` has it);
+/// - a call: that of the name in it;
+/// - all else that is said of an object, and a parameter that it misses: that of the object's word, as `input` or `ruleset`, and of the
+///   later one where it is said of two;
+/// - `CallDepth`, `TooManyDeeds`: that of the word `ruleset`; of the default ruleset, of too many workers and of `NoMemory` it is empty.
 #[derive(Debug, Drop)]
 pub struct PlanFault {
     pub code: FaultCode,
     pub word: Items<u8>,
+    pub span: Span,
 }
 
 impl PlanFault {
@@ -121,27 +135,36 @@ impl PlanFault {
         PlanFault {
             code: FaultCode::NoMemory,
             word: Items::new(alloc),
+            span: NOWHERE,
         }
     }
 
     /// A fault with a copy of its word, or the one of memory where the copy finds none.
-    pub(crate) fn new(alloc: Global, code: FaultCode, word: &[u8]) -> PlanFault
-        ensures { (result ≡ spec.no_memory) ⊎ (result ≡ spec.fault code word.now) }
+    pub(crate) fn new(alloc: Global, code: FaultCode, word: &[u8], span: Span) -> PlanFault
+        ensures { (result ≡ spec.no_memory) ⊎ (result ≡ spec.fault_at span code word.now) }
     {
         match Items::from_slice(alloc, word) {
-            Ok(word) => PlanFault { code, word },
+            Ok(word) => PlanFault { code, word, span },
             Err(_) => PlanFault::no_memory(alloc),
         }
     }
 }
 
-/// As `44 Range: queue.size`; without the word where that is no UTF-8, or memory ran out.
+/// As `44 Range: queue.size`, and `49 NoMemory` where there is no word. A word that is no text is escaped.
 impl fmt::Display for PlanFault {
+    ghost output = { spec.fault_text };
+
     fn fmt<W: fmt::Write>(&self, f: &mut fmt::Formatter<W>) -> fmt::Result {
         let words = self.code.words();
+        if self.word.is_empty() {
+            return write!(f, "{words}");
+        }
         match str::from_utf8(self.word.as_slice()) {
-            Ok(word) if !matches!(self.code, FaultCode::NoMemory) => write!(f, "{words}: {word}"),
-            _ => write!(f, "{words}"),
+            Ok(word) => write!(f, "{words}: {word}"),
+            Err(_) => {
+                let word = self.word.as_slice().escape_ascii();
+                write!(f, "{words}: {word}")
+            }
         }
     }
 }

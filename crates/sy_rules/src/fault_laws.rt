@@ -2,6 +2,7 @@
 ghost use Rattle.std.specs.Prelude.{◌≡◌, ◌≢◌, [], List, Some};
 ghost use Rattle.sy_script.specs.declared.tree.Script.{Script};
 ghost use Rattle.sy_rules.specs.declared.fault.PlanFault.{PlanFault};
+ghost use Rattle.sy_rules.specs.declared.items.fault.ItemFault.{ItemFault};
 ghost use Rattle.sy_script.specs.declared.tree.Param.{Param};
 ghost use Rattle.sy_rules.specs.declared.parameters.kind.Kind.{Kind};
 ghost use Rattle.sy_rules.specs.check.ObjectFaults.{HasParameterFault, IsWord};
@@ -20,9 +21,10 @@ pub fn a_fault_is_found()
     ensures { (script : Script) (f : PlanFault) → HasFault script f → faults_of script ≢ [] }
 {}
 
-/// The word of a fault of an object's parameters is the name of one of them, or of one that must be given.
+/// The word of a fault of an object's parameters is the name of one of them, and its place that of the name; or it is the name of one that must
+/// be given, and its place that of the object.
 pub fn words_are_names()
-    ensures { (k : Kind) (ps : List Param) (f : PlanFault) → HasParameterFault k ps f → IsWord k ps f }
+    ensures { (k : Kind) (ps : List Param) (f : ItemFault) → HasParameterFault k ps f → IsWord k ps f }
 {}
 
 /// A script without faults has a plan.

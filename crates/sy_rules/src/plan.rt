@@ -2,9 +2,9 @@
 ghost use Rattle.std.specs.Prelude.{◌≡◌, ◌<◌, ◌⊎◌, ◌∷◌, [], length, map, IfOk, IfErr, OnOk};
 ghost use Rattle.sy_rules.specs.Faults.{IsAnswered, no_memory};
 ghost use Rattle.sy_rules.specs.check.FaultsThere.{HasFault, HasNoFault};
-ghost use Rattle.sy_rules.specs.internal.ItemViews.{item};
+ghost use Rattle.sy_rules.specs.internal.ItemViews.{item, placed};
 ghost use Rattle.sy_rules.specs.internal.Loading.{faults_of_its_lists};
-ghost use Rattle.sy_rules.specs.items.Outline.{items};
+ghost use Rattle.sy_rules.specs.items.Outline.{items, placed_items};
 ghost use Rattle.sy_rules.specs.PassPlan as pass;
 ghost use Rattle.sy_rules.specs.PlanValue.{HasParts, IsPlan};
 ghost use Rattle.sy_rules.specs.check.ScriptFaults.{faults_after, faults_of, too_many_workers};
@@ -133,6 +133,7 @@ fn pass(alloc: Global) -> Result<Plan, AllocError>
 
 // The plan of a script that has these items, with which nothing is wrong but for its lists.
 fn assemble(alloc: Global, script: &Script, found: &[Item<'_>]) -> Result<Plan, PlanFault>
+    requires placed { map placed found.now ≡ placed_items script.now }
     requires items { map item found.now ≡ items script.now }
     requires clean { faults_after (items script.now) [] (items script.now) ≡ [] }
     requires workers { too_many_workers (items script.now) ≡ [] }
@@ -141,7 +142,7 @@ fn assemble(alloc: Global, script: &Script, found: &[Item<'_>]) -> Result<Plan, 
     ensures err { IfErr result (λ f. IsAnswered (faults_of_its_lists script.now) f) }
 {
     let gathered = gather(alloc, found)?;
-    let lists = expand_lists(alloc, script, &gathered)?;
+    let lists = expand_lists(alloc, script, found, &gathered)?;
     let names = list_names(
         alloc,
         gathered.rulesets.as_slice(),
@@ -163,6 +164,7 @@ fn assemble(alloc: Global, script: &Script, found: &[Item<'_>]) -> Result<Plan, 
 
 // The plan of a script that has these items.
 fn load_items(alloc: Global, script: &Script, found: &[Item<'_>]) -> Result<Plan, PlanFault>
+    requires placed { map placed found.now ≡ placed_items script.now }
     requires items { map item found.now ≡ items script.now }
     ensures plan { IfOk result (λ plan. HasParts script.now plan) }
     ensures ok { OnOk result (faults_of script.now ≡ []) }

@@ -1,4 +1,5 @@
 -- Items of a script.
 pub mod TextItems
+pub mod PlacedItems
 pub mod TestLaws
 pub mod RulesetItems

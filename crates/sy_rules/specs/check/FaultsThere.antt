@@ -1,25 +1,27 @@
--- That a script has a fault, with its word: each fault by itself, without the order in which faults are looked for. What is said of two objects,
--- or of an object and a name, is said of objects whose own parameters are without faults, so that each has the name or port that is read of it.
+-- That a script has a fault, with its word and its place: each fault by itself, without the order in which faults are looked for. What is said
+-- of two objects, or of an object and a name, is said of objects whose own parameters are without faults, so that each has the name or port that
+-- is read of it.
 -- Sources: the rsyslog manual's pages on the objects, on imtcp, rulesets, `call` and queue parameters; all limits are this profile's own.
-use Rattle.std.specs.Prelude.{◌≡◌, ◌<◌, ◌+◌, ℕ, List, ◌∷◌, ◌++◌, length, map, sum, slice_get, Contains, Some, codes}
+use Rattle.std.specs.Prelude.{◌≡◌, ◌≤◌, ◌<◌, ◌+◌, ℕ, List, ◌∷◌, ◌++◌, length, map, sum, slice_get, Contains, Some, codes}
 use Rattle.std.specs.Fmt.{decimal}
 use Rattle.sy_script.specs.declared.tree.ExprTree.{ExprTree}
 use Rattle.sy_script.specs.declared.tree.ObjectKind.TheVariants as object
+use Rattle.sy_script.specs.declared.tree.Param.{Param}
 use Rattle.sy_script.specs.declared.tree.Script.{Script}
 use Rattle.sy_select.specs.declared.fault.SelectFault.{SelectFault}
 use Rattle.sy_select.specs.Trees.{tree_faults}
 use Rattle.sy_rules.specs.Limits.{ACTIONS, CALL_DEPTH, INPUTS, OCCURRENCES, RULESETS, STATEMENTS, WORKERS}
 use Rattle.sy_rules.specs.declared.fault.FaultCode.TheVariants as code
 use Rattle.sy_rules.specs.declared.fault.PlanFault.{PlanFault}
-use Rattle.sy_rules.specs.check.Before.{IsBefore}
-use Rattle.sy_rules.specs.Faults.{fault}
+use Rattle.sy_rules.specs.declared.items.fault.ItemFault.{ItemFault}
+use Rattle.sy_rules.specs.Faults.{fault, fault_at, in_text, nowhere}
 use Rattle.sy_rules.specs.lists.Laws.{IsChain}
 use Rattle.sy_rules.specs.lists.Lines.{Lines, lists_of, statements_of, body_of}
 use Rattle.sy_rules.specs.check.ObjectFaults.{HasOwnFault, IsClean}
-use Rattle.sy_rules.specs.items.Outline.{Item, items}
+use Rattle.sy_rules.specs.items.Outline.{Item, Placed, items, items_of, placed_items}
 use Rattle.sy_rules.specs.parameters.Values.{decimal_value, given}
 use Rattle.sy_rules.specs.parts.Plans.{action_name, actions_of, default_ruleset, inputs_of, queues_of, rulesets_of}
-use Rattle.sy_rules.specs.check.ScriptFaults.{as_plan_fault, ruleset_names_of, untested}
+use Rattle.sy_rules.specs.check.ScriptFaults.{Head, as_item_fault, heads_of, untested}
 use Rattle.sy_rules.specs.lists.Body as body
 use Rattle.sy_rules.specs.lists.Texts.{parts}
 
@@ -65,42 +67,49 @@ NoneIs P all = (x : Item) → Contains all x → P x → ⊥
 
 -- ---- faults of the items
 
--- `all` are the items of the script, in the order of the text
-pub data HasItemFault (all : List Item) : PlanFault → Type 0 where
+-- `all` are the items of the script, in the order of the text, and `before` those before this one. The fault's place is that of the item, but for
+-- the parameters that are given and for expressions.
+pub data HasItemFault (all before : List Item) : Item → ItemFault → Type 0 where
   -- 31 to 34, and 42 with a property: the expression of an `if`, by the faults of selectors and tests
-  test : (tree : ExprTree) (f : SelectFault) → Contains all (Item.Test tree) → Contains (tree_faults tree) f → HasItemFault all (as_plan_fault f)
+  test : (tree : ExprTree) (f : SelectFault) → Contains (tree_faults tree) f → HasItemFault all before (Item.Test tree) (as_item_fault f)
   -- 40 to 44 with a parameter: one object
-  parameter : (x : Item) (f : PlanFault) → Contains all x → HasOwnFault x f → HasItemFault all f
+  parameter : (x : Item) (f : ItemFault) → HasOwnFault x f → HasItemFault all before x f
   -- 41: a second main_queue
-  main_queue : (x y : Item) → IsBefore x y all → IsMainQueue x → IsMainQueue y → HasItemFault all (fault code.Duplicate (codes "main_queue"))
-  -- two rulesets of one name
-  same_ruleset_name : (x y : Item) (name : List ℕ) → IsBefore x y all → IsClean x → IsClean y → IsRuleset name x → IsRuleset name y
-      → HasItemFault all (fault code.Duplicate name)
+  main_queue : (x y : Item) → Contains before x → IsMainQueue x → IsMainQueue y → HasItemFault all before y (fault code.Duplicate (codes "main_queue"))
+  -- the second of two rulesets of one name
+  same_ruleset_name : (x y : Item) (name : List ℕ) → Contains before x → IsClean x → IsClean y → IsRuleset name x → IsRuleset name y
+      → HasItemFault all before y (fault code.Duplicate name)
   -- a ruleset of the name of the default one
-  default_name : (x : Item) → Contains all x → IsClean x → IsRuleset default_ruleset x → HasItemFault all (fault code.Duplicate default_ruleset)
-  -- two actions of one name
-  same_action_name : (before between after : List Item) (x y : Item) (name : List ℕ) → all ≡ (before ++ x ∷ between) ++ y ∷ after → IsClean x → IsClean y
-      → IsAction before name x → IsAction (before ++ x ∷ between) name y → HasItemFault all (fault code.Duplicate name)
+  default_name : (x : Item) → IsClean x → IsRuleset default_ruleset x → HasItemFault all before x (fault code.Duplicate default_ruleset)
+  -- the second of two actions of one name
+  same_action_name : (front between : List Item) (x y : Item) (name : List ℕ) → before ≡ front ++ x ∷ between → IsClean x → IsClean y
+      → IsAction front name x → IsAction before name y → HasItemFault all before y (fault code.Duplicate name)
   -- 42: an input names a ruleset that isn't there
-  bound : (x : Item) (name : List ℕ) → Contains all x → IsBoundTo name x → (name ≡ default_ruleset → ⊥) → NoneIs (IsRuleset name) all
-      → HasItemFault all (fault code.Unknown name)
+  bound : (x : Item) (name : List ℕ) → IsBoundTo name x → (name ≡ default_ruleset → ⊥) → NoneIs (IsRuleset name) all
+      → HasItemFault all before x (fault code.Unknown name)
   -- a call of a ruleset that isn't there
-  called : (name : List ℕ) → Contains all (Item.Call name) → NoneIs (IsRuleset name) all → HasItemFault all (fault code.Unknown name)
+  called : (name : List ℕ) → NoneIs (IsRuleset name) all → HasItemFault all before (Item.Call name) (fault code.Unknown name)
   -- a call of the default ruleset
-  default_called : Contains all (Item.Call default_ruleset) → HasItemFault all (fault code.Unknown default_ruleset)
-  -- 44: too many objects of one kind
-  inputs : INPUTS < length (inputs_of all) → HasItemFault all (fault code.Range (codes "input"))
-  rulesets : RULESETS < length (rulesets_of all) → HasItemFault all (fault code.Range (codes "ruleset"))
-  actions : ACTIONS < length (actions_of all) → HasItemFault all (fault code.Range (codes "action"))
-  -- 47: two inputs of one port; the word is its number in decimal
-  same_port : (x y : Item) (port : ℕ) → IsBefore x y all → IsClean x → IsClean y → IsInputOfPort port x → IsInputOfPort port y → HasItemFault all (fault code.SamePort (decimal port))
+  default_called : HasItemFault all before (Item.Call default_ruleset) (fault code.Unknown default_ruleset)
+  -- 44: an object with as many of its kind before it as there may be
+  inputs : (ps : List Param) → INPUTS ≤ length (inputs_of before) → HasItemFault all before (Item.Object object.Input ps) (fault code.Range (codes "input"))
+  rulesets : (ps : List Param) → RULESETS ≤ length (rulesets_of before) → HasItemFault all before (Item.Ruleset ps) (fault code.Range (codes "ruleset"))
+  actions : (ps : List Param) → ACTIONS ≤ length (actions_of before) → HasItemFault all before (Item.Action ps) (fault code.Range (codes "action"))
+  -- 47: the second of two inputs of one port; the word is its number in decimal
+  same_port : (x y : Item) (port : ℕ) → Contains before x → IsClean x → IsClean y → IsInputOfPort port x → IsInputOfPort port y
+      → HasItemFault all before y (fault code.SamePort (decimal port))
   -- 48: an input, and imtcp loaded nowhere in the file
-  not_loaded : (x : Item) → Contains all x → IsClean x → IsInput x → NoneIs LoadsImtcp all → HasItemFault all (fault code.NotLoaded (codes "imtcp"))
+  not_loaded : (x : Item) → IsClean x → IsInput x → NoneIs LoadsImtcp all → HasItemFault all before x (fault code.NotLoaded (codes "imtcp"))
+
+-- it stands in the script, after these and before those
+abbrev pub StandsIn : Script → List Placed → Placed → List Placed → Type 0
+StandsIn script before x later = placed_items script ≡ before ++ x ∷ later
 
 -- ---- faults of the whole, of a script whose items have none
 
 abbrev pub HasCleanItems : Script → Type 0
-HasCleanItems script = (f : PlanFault) → HasItemFault (items script) f → ⊥
+HasCleanItems script =
+    (before later : List Placed) (x : Placed) (f : ItemFault) → StandsIn script before x later → HasItemFault (items script) (items_of before) x.item f → ⊥
 
 -- the workers of all queues (rsyslog manual, "General Queue Parameters": queue.workerThreads)
 abbrev pub worker_count : Script → ℕ
@@ -110,27 +119,29 @@ worker_count script = sum (map (λ q. q.workers) (queues_of (items script)))
 abbrev pub lists_in : Script → List Lines
 lists_in script = lists_of (untested (items script)) (parts script.tops)
 
--- The list of this number is that of the ruleset of this name: 0 that of the default one, then those of the others in the order of the text.
-abbrev pub IsListOf : Script → List ℕ → ℕ → Type 0
-IsListOf script name list = slice_get (default_ruleset ∷ ruleset_names_of (items script)) list ≡ Some name
+-- The list of this number is that of the ruleset of this head: 0 that of the default one, then those of the others in the order of the text.
+abbrev pub IsListOf : Script → Head → ℕ → Type 0
+IsListOf script head list = slice_get (heads_of (placed_items script)) list ≡ Some head
 
 -- calls made at once from this list lie in one another deeper than they may: a chain of one more call
 abbrev pub CallsTooDeep : Script → ℕ → Type 0
 CallsTooDeep script list = (callees : List ℕ) × (length callees ≡ CALL_DEPTH + 1) × IsChain (lists_in script) list callees
 
--- A script has a fault. Which list a call leads to, and what a queue is given, is read of items without faults.
+-- A script has a fault, at its place in the text. Which list a call leads to, and what a queue is given, is read of items without faults.
 pub data HasFault (script : Script) : PlanFault → Type 0 where
-  item : (f : PlanFault) → HasItemFault (items script) f → HasFault script f
+  -- of an item, at the item's place or at that of a part of it
+  item : (before later : List Placed) (x : Placed) (f : ItemFault) → StandsIn script before x later → HasItemFault (items script) (items_of before) x.item f
+      → HasFault script (in_text x.span f)
   -- 44: more workers than there may be, those of all queues together
-  workers : HasCleanItems script → WORKERS < worker_count script → HasFault script (fault code.Range (codes "queue.workerThreads"))
-  -- 45, with the name of the ruleset whose list is expanded
-  call_depth : (name : List ℕ) (list : ℕ) → HasCleanItems script → IsListOf script name list → CallsTooDeep script list → HasFault script (fault code.CallDepth name)
+  workers : HasCleanItems script → WORKERS < worker_count script → HasFault script (fault_at nowhere code.Range (codes "queue.workerThreads"))
+  -- 45, with the name and the place of the ruleset whose list is expanded
+  call_depth : (head : Head) (list : ℕ) → HasCleanItems script → IsListOf script head list → CallsTooDeep script list → HasFault script (fault_at head.span code.CallDepth head.name)
   -- 46, with the same: too many statements in the expanded text, calls and what replaces them among them
-  statements : (name : List ℕ) (list : ℕ) → HasCleanItems script → IsListOf script name list → (CallsTooDeep script list → ⊥) → STATEMENTS < statements_of (lists_in script) list
-      → HasFault script (fault code.TooManyDeeds name)
+  statements : (head : Head) (list : ℕ) → HasCleanItems script → IsListOf script head list → (CallsTooDeep script list → ⊥) → STATEMENTS < statements_of (lists_in script) list
+      → HasFault script (fault_at head.span code.TooManyDeeds head.name)
   -- too many occurrences
-  occurrences : (name : List ℕ) (list : ℕ) → HasCleanItems script → IsListOf script name list → (CallsTooDeep script list → ⊥) → OCCURRENCES < body.count (body_of (lists_in script) list)
-      → HasFault script (fault code.TooManyDeeds name)
+  occurrences : (head : Head) (list : ℕ) → HasCleanItems script → IsListOf script head list → (CallsTooDeep script list → ⊥) → OCCURRENCES < body.count (body_of (lists_in script) list)
+      → HasFault script (fault_at head.span code.TooManyDeeds head.name)
 
 abbrev pub HasNoFault : Script → Type 0
 HasNoFault script = (f : PlanFault) → HasFault script f → ⊥

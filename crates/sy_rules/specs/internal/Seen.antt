@@ -2,14 +2,14 @@
 use Rattle.std.specs.Prelude.{◌≡◌, ℕ, ◌||◌, List, [], ◌∷◌, ◌++◌, length, map, Option, Some, None}
 use Rattle.std.specs.List.{list_any}
 use Rattle.sy_script.specs.declared.tree.ObjectKind.TheVariants as object
-use Rattle.sy_rules.specs.declared.fault.PlanFault.{PlanFault}
+use Rattle.sy_rules.specs.declared.items.fault.ItemFault.{ItemFault}
 use Rattle.sy_rules.specs.declared.check.script.Seen.{Seen}
 use Rattle.sy_rules.specs.declared.check.script.Whole.{Whole}
 use Rattle.sy_rules.specs.declared.parameters.settings.QueueParameters.{QueueParameters}
 use Rattle.sy_rules.specs.parameters.Objects.{input_of, ruleset_of, kind_of_action, action_of}
 use Rattle.sy_rules.specs.items.Outline.{Item}
 use Rattle.sy_rules.specs.parts.Plans.{actions_of, action_name, action_names, names_from}
-use Rattle.sy_rules.specs.check.ScriptFaults.{is_main_queue, loads_imtcp, is_among, ports_of, ruleset_names_of, second_main_queue, input_faults, ruleset_faults, action_faults, call_faults, as_plan_fault}
+use Rattle.sy_rules.specs.check.ScriptFaults.{is_main_queue, loads_imtcp, is_among, ports_of, ruleset_names_of, second_main_queue, input_faults, ruleset_faults, action_faults, call_faults, as_item_fault}
 use Rattle.sy_select.specs.Trees.{tree_faults}
 
 -- how many workers a queue has, where there is one
@@ -41,7 +41,7 @@ pub record Adds (x : Item) (old new : Seen) : Type 0 where
   pub actions : new.actions.items ≡ old.actions.items ++ names_from (length old.actions.items) (actions_of (x ∷ []))
 
 -- what is wrong with the next item, by what is kept
-abbrev pub faults_by : Whole → Seen → Item → List PlanFault
+abbrev pub faults_by : Whole → Seen → Item → List ItemFault
 faults_by whole seen (Item.Object object.MainQueue params) = second_main_queue seen.main_queue
 faults_by whole seen (Item.Object object.Input params) = input_faults whole.imtcp whole.names seen.ports.items (input_of params)
 faults_by whole seen (Item.Object object.Module params) = []
@@ -49,4 +49,4 @@ faults_by whole seen (Item.Object object.Global params) = []
 faults_by whole seen (Item.Ruleset params) = ruleset_faults (map (λ n. n.now) seen.rulesets.items) (ruleset_of params).name
 faults_by whole seen (Item.Action params) = action_faults seen.actions.items (action_name (length seen.actions.items) (action_of (kind_of_action params) params).name)
 faults_by whole seen (Item.Call name) = call_faults whole.names name
-faults_by whole seen (Item.Test test) = map as_plan_fault (tree_faults test)
+faults_by whole seen (Item.Test test) = map as_item_fault (tree_faults test)

@@ -8,10 +8,12 @@ use Rattle.sy_rules.specs.declared.fault.FaultCode.TheVariants as code
 use Rattle.sy_rules.specs.declared.fault.PlanFault.{PlanFault}
 use Rattle.sy_rules.specs.declared.lists.occurrence.Occurrence.{Occurrence}
 use Rattle.sy_rules.specs.declared.lists.occurrence.Occurrence.TheVariants as occurrence
+use Rattle.sy_rules.specs.declared.lists.sizes.Head.{Head as CodeHead}
 use Rattle.sy_rules.specs.declared.lists.sizes.Size.{Size}
 use Rattle.sy_rules.specs.declared.lists.statement.Statement.{Statement}
 use Rattle.sy_rules.specs.declared.lists.statement.Statement.TheVariants as statement
-use Rattle.sy_rules.specs.Faults.{fault, when}
+use Rattle.sy_rules.specs.Faults.{fault_at, when}
+use Rattle.sy_rules.specs.check.ScriptFaults.{Head}
 use Rattle.sy_rules.specs.lists.Lines.{Lines, expanded, is_deeper, statements_within}
 use Rattle.sy_rules.specs.lists.Body.{count}
 use Rattle.sy_rules.specs.internal.Tables.{lines_of_tables}
@@ -110,11 +112,15 @@ AreSizes tables depth sizes = (tests : List (Formula Test)) (list : ℕ) → siz
 
 -- ---- faults by sizes
 
-abbrev pub size_faults : Size → List ℕ → List PlanFault
-size_faults size name =
-    when size.deeper (fault code.CallDepth name)
-    ++ when (nat_lt STATEMENTS size.statements || nat_lt OCCURRENCES size.occurrences) (fault code.TooManyDeeds name)
+-- the code's heads of lists, which borrow from the script, as heads
+abbrev pub head : CodeHead → Head
+head h = record { name = h.name.now; span = h.span }
 
-abbrev pub faults_by : List Size → ℕ → List (List ℕ) → List PlanFault
+abbrev pub size_faults : Size → Head → List PlanFault
+size_faults size h =
+    when size.deeper (fault_at h.span code.CallDepth h.name)
+    ++ when (nat_lt STATEMENTS size.statements || nat_lt OCCURRENCES size.occurrences) (fault_at h.span code.TooManyDeeds h.name)
+
+abbrev pub faults_by : List Size → ℕ → List Head → List PlanFault
 faults_by sizes list [] = []
-faults_by sizes list (name ∷ names) = size_faults (size_at sizes empty list) name ++ faults_by sizes (list + 1) names
+faults_by sizes list (h ∷ heads) = size_faults (size_at sizes empty list) h ++ faults_by sizes (list + 1) heads

@@ -7,8 +7,7 @@ use Rattle.sy_rules.specs.declared.parameters.rows.Shape.TheVariants as shape
 use Rattle.sy_rules.specs.declared.parameters.rows.Absent.{Absent}
 use Rattle.sy_rules.specs.declared.parameters.rows.Absent.TheVariants as absent
 use Rattle.sy_rules.specs.declared.parameters.flaws.Flaw.{Flaw}
-use Rattle.sy_rules.specs.declared.fault.PlanFault.{PlanFault}
-use Rattle.sy_rules.specs.Faults.{fault}
+use Rattle.sy_rules.specs.declared.items.fault.ItemFault.{ItemFault}
 use Rattle.sy_rules.specs.parameters.Rows as table
 
 abbrev pub shape_of : Shape → table.Shape
@@ -31,6 +30,6 @@ abbrev pub found : Option (Bor Row) → Option table.Row
 found None = None
 found (Some r) = Some (row_of r.now)
 
-abbrev pub flaw : Option Flaw → Option PlanFault
+abbrev pub flaw : Option Flaw → Option ItemFault
 flaw None = None
-flaw (Some f) = Some (fault f.code f.word.now)
+flaw (Some f) = Some (record { code = f.code; word = f.word.now; place = f.place })

@@ -10,6 +10,8 @@ use Rattle.sy_script.specs.declared.tree.Stmt.{Stmt}
 use Rattle.sy_script.specs.declared.tree.Top.{Top}
 use Rattle.sy_script.specs.declared.tree.Top.TheVariants as t
 use Rattle.sy_script.specs.declared.tree.Script.{Script}
+use Rattle.sy_script.specs.declared.tree.Span.{Span}
+use Rattle.sy_rules.specs.Faults.{nowhere}
 
 pub data Item : Type 0 where
   -- an object that stands alone
@@ -22,38 +24,58 @@ pub data Item : Type 0 where
   -- the test of an `if`, before its blocks
   Test : ExprTree → Item
 
+-- An item and its place in the text: that of the word of an object or an action, and of the name in a call. A test has none, since what is wrong
+-- with it stands at a part of it.
+pub record Placed : Type 0 where
+  pub span : Span
+  pub item : Item
+
+abbrev pub placed : Span → Item → Placed
+placed span item = record { span = span; item = item }
+
 -- lists one after another
 abbrev pub joined : {A : Type 0} → List (List A) → List A
 joined [] = []
 joined (xs ∷ xss) = xs ++ joined xss
 
-abbrev pub block_step : Block-F (List Item) (List Item) → List Item
+abbrev pub block_step : Block-F (List Placed) (List Placed) → List Placed
 block_step (Block-F.Single inner) = inner
 block_step (Block-F.Braced inner) = joined inner
 
-abbrev pub stmt_step : Stmt-F (List Item) (List Item) → List Item
-stmt_step (Stmt-F.Action span params) = Item.Action params ∷ []
-stmt_step (Stmt-F.Call name) = Item.Call name.text ∷ []
+abbrev pub stmt_step : Stmt-F (List Placed) (List Placed) → List Placed
+stmt_step (Stmt-F.Action span params) = placed span (Item.Action params) ∷ []
+stmt_step (Stmt-F.Call name) = placed name.span (Item.Call name.text) ∷ []
 stmt_step (Stmt-F.Stop span) = []
-stmt_step (Stmt-F.If test done None) = Item.Test test ∷ done
-stmt_step (Stmt-F.If test done (Some otherwise)) = Item.Test test ∷ (done ++ otherwise)
+stmt_step (Stmt-F.If test done None) = placed nowhere (Item.Test test) ∷ done
+stmt_step (Stmt-F.If test done (Some otherwise)) = placed nowhere (Item.Test test) ∷ (done ++ otherwise)
 
-abbrev pub items_of_block : Block → List Item
-items_of_block = fold-Block (List Item) (List Item) block_step stmt_step
+abbrev pub placed_in_block : Block → List Placed
+placed_in_block = fold-Block (List Placed) (List Placed) block_step stmt_step
 
-abbrev pub items_of_stmt : Stmt → List Item
-items_of_stmt = fold-Stmt (List Item) (List Item) block_step stmt_step
+abbrev pub placed_in_stmt : Stmt → List Placed
+placed_in_stmt = fold-Stmt (List Placed) (List Placed) block_step stmt_step
 
-abbrev pub items_of_body : List Stmt → List Item
-items_of_body body = joined (map items_of_stmt body)
+abbrev pub placed_in_body : List Stmt → List Placed
+placed_in_body body = joined (map placed_in_stmt body)
 
-abbrev pub items_of_top : Top → List Item
-items_of_top (t.Object found) = Item.Object found.kind found.params ∷ []
-items_of_top (t.Ruleset found) = Item.Ruleset found.params ∷ items_of_body found.body
-items_of_top (t.Stmt found) = items_of_stmt found
+abbrev pub placed_in_top : Top → List Placed
+placed_in_top (t.Object found) = placed found.span (Item.Object found.kind found.params) ∷ []
+placed_in_top (t.Ruleset found) = placed found.span (Item.Ruleset found.params) ∷ placed_in_body found.body
+placed_in_top (t.Stmt found) = placed_in_stmt found
+
+abbrev pub placed_in_tops : List Top → List Placed
+placed_in_tops tops = joined (map placed_in_top tops)
+
+-- the items of a script, with their places
+abbrev pub placed_items : Script → List Placed
+placed_items script = placed_in_tops script.tops
+
+-- and without them
+abbrev pub items_of : List Placed → List Item
+items_of all = map (λ x. x.item) all
 
 abbrev pub items_of_tops : List Top → List Item
-items_of_tops tops = joined (map items_of_top tops)
+items_of_tops tops = items_of (placed_in_tops tops)
 
 abbrev pub items : Script → List Item
 items script = items_of_tops script.tops

@@ -7,8 +7,8 @@ use Rattle.sy_script.specs.declared.tree.Param.{Param}
 use Rattle.sy_select.specs.Properties.{is_numeral}
 use Rattle.sy_rules.specs.declared.parameters.kind.Kind.{Kind}
 use Rattle.sy_rules.specs.declared.fault.FaultCode.TheVariants as code
-use Rattle.sy_rules.specs.declared.fault.PlanFault.{PlanFault}
-use Rattle.sy_rules.specs.Faults.{fault, when}
+use Rattle.sy_rules.specs.declared.items.fault.ItemFault.{ItemFault}
+use Rattle.sy_rules.specs.Faults.{fault, fault_of_part, when}
 use Rattle.sy_rules.specs.parameters.Rows.{Shape, Absent, Row, rows, lookup}
 
 -- ---- values
@@ -45,31 +45,31 @@ given name (p ∷ ps) = if str_eq_ignore_ascii_case name p.name.text then Some p
 abbrev pub is_given : List ℕ → List Param → Bool
 is_given name ps = is_some (given name ps)
 
--- ---- what is wrong with a parameter: each fault by itself, with the name as the script spells it
+-- ---- what is wrong with a parameter: each fault by itself, with the name as the script spells it, and the place of that name
 
 -- no such parameter
-abbrev pub unknown : Param → PlanFault
-unknown p = fault code.Unknown p.name.text
+abbrev pub unknown : Param → ItemFault
+unknown p = fault_of_part p.name.span code.Unknown p.name.text
 
 -- one of this name stands before it
-abbrev pub doubled : List Param → Param → List PlanFault
-doubled before p = when (is_given p.name.text before) (fault code.Duplicate p.name.text)
+abbrev pub doubled : List Param → Param → List ItemFault
+doubled before p = when (is_given p.name.text before) (fault_of_part p.name.span code.Duplicate p.name.text)
 
-abbrev pub bad_value : Shape → Param → List PlanFault
-bad_value shape p = when (not (has_shape shape p.value.bytes)) (fault code.BadValue p.name.text)
+abbrev pub bad_value : Shape → Param → List ItemFault
+bad_value shape p = when (not (has_shape shape p.value.bytes)) (fault_of_part p.name.span code.BadValue p.name.text)
 
-abbrev pub out_of_range : Shape → Param → List PlanFault
-out_of_range shape p = when (has_shape shape p.value.bytes && not (is_in_range shape p.value.bytes)) (fault code.Range p.name.text)
+abbrev pub out_of_range : Shape → Param → List ItemFault
+out_of_range shape p = when (has_shape shape p.value.bytes && not (is_in_range shape p.value.bytes)) (fault_of_part p.name.span code.Range p.name.text)
 
 -- ---- what is wrong with an object
 
 -- a parameter after others
-abbrev pub faults_at : Option Row → List Param → Param → List PlanFault
+abbrev pub faults_at : Option Row → List Param → Param → List ItemFault
 faults_at None before p = unknown p ∷ []
 faults_at (Some r) before p = doubled before p ++ (bad_value r.shape p ++ out_of_range r.shape p)
 
 -- parameters after others
-abbrev pub faults_of_given : List Row → List Param → List Param → List PlanFault
+abbrev pub faults_of_given : List Row → List Param → List Param → List ItemFault
 faults_of_given rs before [] = []
 faults_of_given rs before (p ∷ ps) = faults_at (lookup rs p.name.text) before p ++ faults_of_given rs (before ++ p ∷ []) ps
 
@@ -77,11 +77,11 @@ abbrev pub is_required : Absent → Bool
 is_required Absent.Required = true
 is_required _ = false
 
--- a parameter that must be given and is not, with its name as the manual spells it
-abbrev pub missing : List Row → List Param → List PlanFault
+-- a parameter that must be given and is not, with its name as the manual spells it; the place is the object's
+abbrev pub missing : List Row → List Param → List ItemFault
 missing [] ps = []
 missing (r ∷ rs) ps = when (is_required r.absent && not (is_given r.name ps)) (fault code.Missing r.name) ++ missing rs ps
 
 -- All faults of an object's parameters in the order of the text: from left to right, and what is missing after the last.
-unfoldable pub faults : Kind → List Param → List PlanFault
+unfoldable pub faults : Kind → List Param → List ItemFault
 faults k ps = faults_of_given (rows k) [] ps ++ missing (rows k) ps

@@ -1,11 +1,11 @@
 //! What is wrong with the items of a script by themselves.
 
 ghost use Rattle.std.specs.Prelude.{◌≡◌, [], OnOk, IfErr};
-ghost use Rattle.sy_rules.specs.Faults.{IsAnswered};
+ghost use Rattle.sy_rules.specs.Faults.{IsFound};
 ghost use Rattle.sy_rules.specs.items.ItemFaults as spec;
 ghost use Rattle.sy_rules.specs.internal.ItemViews.{item};
 
-use crate::fault::PlanFault;
+use crate::items::fault::ItemFault;
 use crate::items::outline::Item;
 use crate::parameters::flaws::check;
 use crate::parameters::kind::Kind;
@@ -25,14 +25,14 @@ fn kind_of_object(object: ObjectKind) -> Kind
 }
 
 /// Refuses an item for the first fault of its parameters.
-pub fn check_item(alloc: Global, next: &Item<'_>) -> Result<(), PlanFault>
+pub fn check_item(alloc: Global, next: &Item<'_>) -> Result<(), ItemFault>
     ensures ok { OnOk result (spec.object_faults (item next.now) ≡ []) }
-    ensures err { IfErr result (λ f. IsAnswered (spec.object_faults (item next.now)) f) }
+    ensures err { IfErr result (λ f. IsFound (spec.object_faults (item next.now)) f) }
 {
     match *next {
-        Item::Object(object, params) => check(alloc, kind_of_object(object), params),
-        Item::Ruleset(params) => check(alloc, Kind::Ruleset, params),
-        Item::Action(params) => check(alloc, kind_of_action(params), params),
-        Item::Call(_) | Item::Test(_) => Ok(()),
+        Item::Object(_, object, params) => check(alloc, kind_of_object(object), params),
+        Item::Ruleset(_, params) => check(alloc, Kind::Ruleset, params),
+        Item::Action(_, params) => check(alloc, kind_of_action(params), params),
+        Item::Call(_, _) | Item::Test(_) => Ok(()),
     }
 }

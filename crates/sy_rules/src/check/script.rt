@@ -5,9 +5,9 @@ ghost use Rattle.std.specs.List.{filter_map, list_any};
 ghost use Rattle.std.specs.Option.{option_copied};
 ghost use Rattle.sy_script.specs.declared.tree.ObjectKind.TheVariants.{Input};
 ghost use Rattle.sy_rules.specs.Limits as limits;
-ghost use Rattle.sy_rules.specs.Faults.{IsAnswered};
+ghost use Rattle.sy_rules.specs.Faults.{IsAnswered, IsFound, in_text};
 ghost use Rattle.sy_rules.specs.items.ItemFaults.{AreClean, object_faults};
-ghost use Rattle.sy_rules.specs.internal.ItemViews.{item};
+ghost use Rattle.sy_rules.specs.internal.ItemViews.{item, placed, span};
 ghost use Rattle.sy_rules.specs.parameters.Objects as objects;
 ghost use Rattle.sy_rules.specs.items.Outline as outline;
 ghost use Rattle.sy_rules.specs.parameters.Values.{faults};
@@ -16,14 +16,15 @@ ghost use Rattle.sy_rules.specs.check.ScriptFaults as spec;
 ghost use Rattle.sy_rules.specs.internal.Seen.{Adds, HasNames, Knows, Shows, faults_by, workers_in};
 
 use crate::check::among::{
-    check_action, check_call, check_input, check_main_queue, check_ruleset, check_test, refuse_if,
+    check_action, check_call, check_input, check_main_queue, check_ruleset, check_test,
 };
 use crate::check::item::check_item;
 use crate::check::names::Names;
-use crate::fault::{FaultCode, PlanFault};
+use crate::fault::{FaultCode, NOWHERE, PlanFault};
 use crate::items::borrowed::{
     given_name, loads_imtcp, main_queue_params, name_of_ruleset, port_of, workers_of,
 };
+use crate::items::fault::ItemFault;
 use crate::items::outline::Item;
 use crate::limits::WORKERS;
 use crate::parameters::kind::Kind;
@@ -72,7 +73,7 @@ fn is_imtcp(next: &Item<'_>) -> bool
     ensures { result ≡ spec.loads_imtcp (item next.now) }
 {
     match *next {
-        Item::Object(ObjectKind::Module, params) => loads_imtcp(params),
+        Item::Object(_, ObjectKind::Module, params) => loads_imtcp(params),
         _ => false,
     }
 }
@@ -93,7 +94,7 @@ fn put_name<'s>(names: &mut Names<'s>, next: &Item<'s>) -> Result<(), AllocError
         ≡ (spec.is_among name names.old || spec.is_among name (spec.ruleset_names_of (item next.now ∷ [])))) }
 {
     match *next {
-        Item::Ruleset(params) => names.put(name_of_ruleset(params)),
+        Item::Ruleset(_, params) => names.put(name_of_ruleset(params)),
         _ => Ok(()),
     }
 }
@@ -124,18 +125,18 @@ fn meet_input(
     whole: &Whole<'_>,
     seen: &mut Seen<'_>,
     params: &[Param],
-) -> Result<(), PlanFault>
+) -> Result<(), ItemFault>
     requires { faults Kind.Input params.now ≡ [] }
     ensures ok { OnOk result (spec.input_faults whole.now.imtcp whole.now.names seen.old.ports.items
         (objects.input_of params.now) ≡ []) }
     ensures adds { OnOk result (Adds (outline.Item.Object Input params.now) seen.old seen.new) }
-    ensures err { IfErr result (λ f. IsAnswered (spec.input_faults whole.now.imtcp whole.now.names seen.old.ports.items
+    ensures err { IfErr result (λ f. IsFound (spec.input_faults whole.now.imtcp whole.now.names seen.old.ports.items
         (objects.input_of params.now)) f) }
 {
     check_input(alloc, whole.imtcp, &whole.names, &seen.ports, params)?;
     match seen.ports.push(port_of(params)) {
         Ok(()) => Ok(()),
-        Err(_) => Err(PlanFault::no_memory(alloc)),
+        Err(_) => Err(ItemFault::no_memory(alloc)),
     }
 }
 
@@ -143,45 +144,45 @@ fn meet_ruleset<'s>(
     alloc: Global,
     seen: &mut Seen<'s>,
     params: &'s [Param],
-) -> Result<(), PlanFault>
+) -> Result<(), ItemFault>
     ensures ok { OnOk result (spec.ruleset_faults (map (λ n. n.now) seen.old.rulesets.items)
         (objects.ruleset_of params.now).name ≡ []) }
     ensures adds { OnOk result (Adds (outline.Item.Ruleset params.now) seen.old seen.new) }
-    ensures err { IfErr result (λ f. IsAnswered (spec.ruleset_faults (map (λ n. n.now) seen.old.rulesets.items)
+    ensures err { IfErr result (λ f. IsFound (spec.ruleset_faults (map (λ n. n.now) seen.old.rulesets.items)
         (objects.ruleset_of params.now).name) f) }
 {
     let name = name_of_ruleset(params);
     check_ruleset(alloc, &seen.rulesets, name)?;
     match seen.rulesets.push(name) {
         Ok(()) => Ok(()),
-        Err(_) => Err(PlanFault::no_memory(alloc)),
+        Err(_) => Err(ItemFault::no_memory(alloc)),
     }
 }
 
-fn put_action(alloc: Global, actions: &mut Vec<Items<u8>>, name: Items<u8>) -> Result<(), PlanFault>
+fn put_action(alloc: Global, actions: &mut Vec<Items<u8>>, name: Items<u8>) -> Result<(), ItemFault>
     ensures ok { OnOk result (spec.action_faults actions.old.items name ≡ []) }
     ensures new { OnOk result (actions.new.items ≡ actions.old.items ++ name ∷ []) }
-    ensures err { IfErr result (λ f. IsAnswered (spec.action_faults actions.old.items name) f) }
+    ensures err { IfErr result (λ f. IsFound (spec.action_faults actions.old.items name) f) }
 {
     check_action(alloc, actions, name.as_slice())?;
     match actions.push(name) {
         Ok(()) => Ok(()),
-        Err(_) => Err(PlanFault::no_memory(alloc)),
+        Err(_) => Err(ItemFault::no_memory(alloc)),
     }
 }
 
-fn meet_action(alloc: Global, seen: &mut Seen<'_>, params: &[Param]) -> Result<(), PlanFault>
+fn meet_action(alloc: Global, seen: &mut Seen<'_>, params: &[Param]) -> Result<(), ItemFault>
     ensures ok { OnOk result (spec.action_faults seen.old.actions.items
         (plan.action_name (length seen.old.actions.items)
         (objects.action_of (objects.kind_of_action params.now) params.now).name) ≡ []) }
     ensures adds { OnOk result (Adds (outline.Item.Action params.now) seen.old seen.new) }
-    ensures err { IfErr result (λ f. IsAnswered (spec.action_faults seen.old.actions.items
+    ensures err { IfErr result (λ f. IsFound (spec.action_faults seen.old.actions.items
         (plan.action_name (length seen.old.actions.items)
         (objects.action_of (objects.kind_of_action params.now) params.now).name)) f) }
 {
     match action_name(alloc, seen.actions.len(), given_name(params)) {
         Ok(name) => put_action(alloc, &mut seen.actions, name),
-        Err(_) => Err(PlanFault::no_memory(alloc)),
+        Err(_) => Err(ItemFault::no_memory(alloc)),
     }
 }
 
@@ -191,37 +192,71 @@ fn check_next<'s>(
     whole: &Whole<'_>,
     seen: &mut Seen<'s>,
     next: &Item<'s>,
-) -> Result<(), PlanFault>
+) -> Result<(), ItemFault>
     requires { object_faults (item next.now) ≡ [] }
     ensures ok { OnOk result (faults_by whole.now seen.old (item next.now) ≡ []) }
     ensures adds { OnOk result (Adds (item next.now) seen.old seen.new) }
-    ensures err { IfErr result (λ f. IsAnswered (faults_by whole.now seen.old (item next.now)) f) }
+    ensures err { IfErr result (λ f. IsFound (faults_by whole.now seen.old (item next.now)) f) }
 {
     match *next {
-        Item::Object(ObjectKind::MainQueue, _) => {
+        Item::Object(_, ObjectKind::MainQueue, _) => {
             check_main_queue(alloc, seen.main_queue)?;
             seen.main_queue = true;
             Ok(())
         }
-        Item::Object(ObjectKind::Input, params) => meet_input(alloc, whole, seen, params),
-        Item::Object(ObjectKind::Module | ObjectKind::Global, _) => Ok(()),
-        Item::Ruleset(params) => meet_ruleset(alloc, seen, params),
-        Item::Action(params) => meet_action(alloc, seen, params),
-        Item::Call(name) => check_call(alloc, &whole.names, name),
+        Item::Object(_, ObjectKind::Input, params) => meet_input(alloc, whole, seen, params),
+        Item::Object(_, ObjectKind::Module | ObjectKind::Global, _) => Ok(()),
+        Item::Ruleset(_, params) => meet_ruleset(alloc, seen, params),
+        Item::Action(_, params) => meet_action(alloc, seen, params),
+        Item::Call(_, name) => check_call(alloc, &whole.names, name),
         Item::Test(test) => check_test(alloc, test),
+    }
+}
+
+// Refuses the next item for its own faults, and then for those among the others.
+fn check_both<'s>(
+    alloc: Global,
+    whole: &Whole<'_>,
+    seen: &mut Seen<'s>,
+    next: &Item<'s>,
+) -> Result<(), ItemFault>
+    ensures own { OnOk result (object_faults (item next.now) ≡ []) }
+    ensures among { OnOk result (faults_by whole.now seen.old (item next.now) ≡ []) }
+    ensures adds { OnOk result (Adds (item next.now) seen.old seen.new) }
+    ensures err { IfErr result (λ f. IsFound (object_faults (item next.now) ++ faults_by whole.now seen.old (item next.now)) f) }
+{
+    check_item(alloc, next)?;
+    check_next(alloc, whole, seen, next)
+}
+
+// The same, where the fault has its place in the text.
+fn check_placed<'s>(
+    alloc: Global,
+    whole: &Whole<'_>,
+    seen: &mut Seen<'s>,
+    next: &Item<'s>,
+) -> Result<(), PlanFault>
+    ensures own { OnOk result (object_faults (item next.now) ≡ []) }
+    ensures among { OnOk result (faults_by whole.now seen.old (item next.now) ≡ []) }
+    ensures adds { OnOk result (Adds (item next.now) seen.old seen.new) }
+    ensures err { IfErr result (λ f. IsAnswered (map (in_text (span next.now))
+        (object_faults (item next.now) ++ faults_by whole.now seen.old (item next.now))) f) }
+{
+    match check_both(alloc, whole, seen, next) {
+        Ok(()) => Ok(()),
+        Err(fault) => Err(fault.in_text(next.span())),
     }
 }
 
 // In the order of the text.
 fn check_each(alloc: Global, whole: &Whole<'_>, items: &[Item<'_>]) -> Result<(), PlanFault>
     requires { Knows (map item items.now) whole.now }
-    ensures ok { OnOk result (spec.faults_after (map item items.now) [] (map item items.now) ≡ []) }
-    ensures err { IfErr result (λ f. IsAnswered (spec.faults_after (map item items.now) [] (map item items.now)) f) }
+    ensures ok { OnOk result (spec.faults_in_text (map item items.now) [] (map placed items.now) ≡ []) }
+    ensures err { IfErr result (λ f. IsAnswered (spec.faults_in_text (map item items.now) [] (map placed items.now)) f) }
 {
     let mut seen = Seen::new(alloc);
     for next in items {
-        check_item(alloc, next)?;
-        check_next(alloc, whole, &mut seen, next)?;
+        check_placed(alloc, whole, &mut seen, next)?;
     }
     Ok(())
 }
@@ -233,8 +268,8 @@ fn workers_at(next: &Item<'_>) -> u32
     ensures most { result ≤ 64 }
 {
     match *next {
-        Item::Ruleset(params) => workers_of(Kind::Ruleset, params),
-        Item::Action(params) => workers_of(kind_of_action(params), params),
+        Item::Ruleset(_, params) => workers_of(Kind::Ruleset, params),
+        Item::Action(_, params) => workers_of(kind_of_action(params), params),
         _ => 0,
     }
 }
@@ -260,15 +295,18 @@ fn check_workers(alloc: Global, items: &[Item<'_>]) -> Result<(), PlanFault>
     ensures ok { OnOk result (spec.too_many_workers (map item items.now) ≡ []) }
     ensures err { IfErr result (λ f. IsAnswered (spec.too_many_workers (map item items.now)) f) }
 {
-    let there = has_too_many_workers(items);
-    refuse_if(alloc, there, FaultCode::Range, b"queue.workerThreads")
+    if has_too_many_workers(items) {
+        let word = b"queue.workerThreads";
+        return Err(PlanFault::new(alloc, FaultCode::Range, word, NOWHERE));
+    }
+    Ok(())
 }
 
 /// Refuses a script for the first fault of its items in the order of the text, or for too many workers.
 pub fn check_script(alloc: Global, items: &[Item<'_>]) -> Result<(), PlanFault>
-    ensures ok { OnOk result (spec.faults_after (map item items.now) [] (map item items.now)
+    ensures ok { OnOk result (spec.faults_in_text (map item items.now) [] (map placed items.now)
         ++ spec.too_many_workers (map item items.now) ≡ []) }
-    ensures err { IfErr result (λ f. IsAnswered (spec.faults_after (map item items.now) [] (map item items.now)
+    ensures err { IfErr result (λ f. IsAnswered (spec.faults_in_text (map item items.now) [] (map placed items.now)
         ++ spec.too_many_workers (map item items.now)) f) }
 {
     match whole_of(alloc, items) {

@@ -80,7 +80,7 @@ pub fn main_queue_params<'s>(items: &[Item<'s>]) -> &'s [Param]
 {
     let mut rest = items;
     while let [next, after @ ..] = rest {
-        if let Item::Object(ObjectKind::MainQueue, params) = *next {
+        if let Item::Object(_, ObjectKind::MainQueue, params) = *next {
             return params;
         }
         rest = after;

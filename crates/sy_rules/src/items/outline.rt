@@ -1,28 +1,45 @@
 //! The items of a script that a plan is made of, in the order of the text.
 
 ghost use Rattle.std.specs.Prelude.{◌≡◌, ◌++◌, ◌∷◌, [], map, IfOk, OnOk};
-ghost use Rattle.sy_rules.specs.internal.ItemViews.{item};
+ghost use Rattle.sy_rules.specs.internal.ItemViews as view;
+ghost use Rattle.sy_rules.specs.internal.ItemViews.{item, placed};
 ghost use Rattle.sy_rules.specs.items.Outline as spec;
 
+use crate::fault::NOWHERE;
 use std::alloc::{AllocError, Global};
-use sy_script::tree::{Block, ExprTree, ObjectKind, Param, Script, Stmt, Top};
+use sy_script::tree::{Block, ExprTree, ObjectKind, Param, Script, Span, Stmt, Top};
 
-/// An item of a script.
+/// An item of a script, with the place of its word, or of the name in a call.
 #[derive(Clone, Copy)]
 pub enum Item<'s> {
     /// An object that stands alone.
-    Object(ObjectKind, &'s [Param]),
+    Object(Span, ObjectKind, &'s [Param]),
     /// The head of a ruleset, before its statements.
-    Ruleset(&'s [Param]),
-    Action(&'s [Param]),
+    Ruleset(Span, &'s [Param]),
+    Action(Span, &'s [Param]),
     /// A call of the ruleset of this name.
-    Call(&'s [u8]),
+    Call(Span, &'s [u8]),
     /// The test of an `if`, before its blocks.
     Test(&'s ExprTree),
 }
 
+impl<'s> Item<'s> {
+    /// The place of the item. A test has none, since what is wrong with it stands at a part of it.
+    pub fn span(&self) -> Span
+        ensures { result ≡ view.span self.now }
+    {
+        match *self {
+            Item::Object(span, _, _) => span,
+            Item::Ruleset(span, _) => span,
+            Item::Action(span, _) => span,
+            Item::Call(span, _) => span,
+            Item::Test(_) => NOWHERE,
+        }
+    }
+}
+
 fn put<'s>(found: &mut Vec<Item<'s>>, next: Item<'s>) -> Result<(), AllocError>
-    ensures { OnOk result (map item found.new.items ≡ map item found.old.items ++ item next.entry ∷ []) }
+    ensures { OnOk result (map placed found.new.items ≡ map placed found.old.items ++ placed next.entry ∷ []) }
 {
     found.push(next)?;
     Ok(())
@@ -30,11 +47,11 @@ fn put<'s>(found: &mut Vec<Item<'s>>, next: Item<'s>) -> Result<(), AllocError>
 
 #[cycle(items)]
 fn put_stmt<'s>(found: &mut Vec<Item<'s>>, stmt: &'s Stmt) -> Result<(), AllocError>
-    ensures { OnOk result (map item found.new.items ≡ map item found.old.items ++ spec.items_of_stmt stmt.now) }
+    ensures { OnOk result (map placed found.new.items ≡ map placed found.old.items ++ spec.placed_in_stmt stmt.now) }
 {
     match stmt {
-        Stmt::Action(_, params) => put(found, Item::Action(params.as_slice())),
-        Stmt::Call(name) => put(found, Item::Call(name.text.as_slice())),
+        Stmt::Action(span, params) => put(found, Item::Action(*span, params.as_slice())),
+        Stmt::Call(name) => put(found, Item::Call(name.span, name.text.as_slice())),
         Stmt::Stop(_) => Ok(()),
         Stmt::If(test, done, None) => {
             put(found, Item::Test(test))?;
@@ -50,7 +67,7 @@ fn put_stmt<'s>(found: &mut Vec<Item<'s>>, stmt: &'s Stmt) -> Result<(), AllocEr
 
 #[cycle(items)]
 fn put_block<'s>(found: &mut Vec<Item<'s>>, block: &'s Block) -> Result<(), AllocError>
-    ensures { OnOk result (map item found.new.items ≡ map item found.old.items ++ spec.items_of_block block.now) }
+    ensures { OnOk result (map placed found.new.items ≡ map placed found.old.items ++ spec.placed_in_block block.now) }
 {
     match block {
         Block::Single(stmt) => put_stmt(found, stmt.get()),
@@ -60,7 +77,7 @@ fn put_block<'s>(found: &mut Vec<Item<'s>>, block: &'s Block) -> Result<(), Allo
 
 #[cycle(items)]
 fn put_body<'s>(found: &mut Vec<Item<'s>>, body: &'s [Stmt]) -> Result<(), AllocError>
-    ensures { OnOk result (map item found.new.items ≡ map item found.old.items ++ spec.items_of_body body.now) }
+    ensures { OnOk result (map placed found.new.items ≡ map placed found.old.items ++ spec.placed_in_body body.now) }
 {
     for stmt in body {
         put_stmt(found, stmt)?;
@@ -69,21 +86,28 @@ fn put_body<'s>(found: &mut Vec<Item<'s>>, body: &'s [Stmt]) -> Result<(), Alloc
 }
 
 fn put_top<'s>(found: &mut Vec<Item<'s>>, top: &'s Top) -> Result<(), AllocError>
-    ensures { OnOk result (map item found.new.items ≡ map item found.old.items ++ spec.items_of_top top.now) }
+    ensures { OnOk result (map placed found.new.items ≡ map placed found.old.items ++ spec.placed_in_top top.now) }
 {
     match top {
-        Top::Object(object) => put(found, Item::Object(object.kind, object.params.as_slice())),
+        Top::Object(object) => {
+            let params = object.params.as_slice();
+            put(found, Item::Object(object.span, object.kind, params))
+        }
         Top::Ruleset(ruleset) => {
-            put(found, Item::Ruleset(ruleset.params.as_slice()))?;
+            put(
+                found,
+                Item::Ruleset(ruleset.span, ruleset.params.as_slice()),
+            )?;
             put_body(found, ruleset.body.as_slice())
         }
         Top::Stmt(stmt) => put_stmt(found, stmt),
     }
 }
 
-/// The items of a script, in the order of the text. It goes as deep as the script nests.
+/// The items of a script with their places, in the order of the text. It goes as deep as the script nests.
 pub fn outline(alloc: Global, script: &Script) -> Result<Vec<Item<'_>>, AllocError>
-    ensures { IfOk result (λ found. map item found.items ≡ spec.items script.now) }
+    ensures placed { IfOk result (λ found. map placed found.items ≡ spec.placed_items script.now) }
+    ensures items { IfOk result (λ found. map item found.items ≡ spec.items script.now) }
 {
     let mut found = Vec::new(alloc);
     let mut rest = script.tops.as_slice();

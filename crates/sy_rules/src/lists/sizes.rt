@@ -14,6 +14,14 @@ use crate::fault::{FaultCode, PlanFault};
 use crate::limits::{CALL_DEPTH, OCCURRENCES, STATEMENTS};
 use crate::lists::statement::Statement;
 use std::alloc::{AllocError, Global};
+use sy_script::tree::Span;
+
+/// The head of a list: the name of its ruleset, and the place of the word `ruleset`.
+#[derive(Clone, Copy)]
+pub struct Head<'s> {
+    pub name: &'s [u8],
+    pub span: Span,
+}
 
 /// The size of a list, as far as calls are expanded.
 #[derive(Clone, Copy)]
@@ -143,49 +151,50 @@ fn sizes_of(alloc: Global, tables: &[Vec<Statement>]) -> Result<Vec<Size>, Alloc
 }
 
 // Refuses a list for its first fault.
-fn check_size(alloc: Global, size: Size, name: &[u8]) -> Result<(), PlanFault>
-    ensures ok { OnOk result (spec.size_faults size name.now ≡ []) }
-    ensures err { IfErr result (λ f. IsAnswered (spec.size_faults size name.now) f) }
+fn check_size(alloc: Global, size: Size, head: &Head<'_>) -> Result<(), PlanFault>
+    ensures ok { OnOk result (spec.size_faults size (spec.head head.now) ≡ []) }
+    ensures err { IfErr result (λ f. IsAnswered (spec.size_faults size (spec.head head.now)) f) }
 {
-    if size.deeper {
-        return Err(PlanFault::new(alloc, FaultCode::CallDepth, name));
-    }
-    if size.statements > STATEMENTS || size.occurrences > OCCURRENCES {
-        return Err(PlanFault::new(alloc, FaultCode::TooManyDeeds, name));
+    let code = if size.deeper {
+        FaultCode::CallDepth
+    } else if size.statements > STATEMENTS || size.occurrences > OCCURRENCES {
+        FaultCode::TooManyDeeds
+    } else {
+        return Ok(());
+    };
+    Err(PlanFault::new(alloc, code, head.name, head.span))
+}
+
+// Refuses the first of the lists, which have these heads, that has a fault.
+fn check_sizes(alloc: Global, sizes: &[Size], heads: &[Head<'_>]) -> Result<(), PlanFault>
+    ensures ok { OnOk result (spec.faults_by sizes.now 0 (map spec.head heads.now) ≡ []) }
+    ensures err { IfErr result (λ f. IsAnswered (spec.faults_by sizes.now 0 (map spec.head heads.now)) f) }
+{
+    for (list, head) in heads.iter().enumerate() {
+        check_size(alloc, size_at(sizes, EMPTY, list), head)?;
     }
     Ok(())
 }
 
-// Refuses the first of the lists, which have these names, that has a fault.
-fn check_sizes(alloc: Global, sizes: &[Size], names: &[&[u8]]) -> Result<(), PlanFault>
-    ensures ok { OnOk result (spec.faults_by sizes.now 0 (map (λ name. name.now) names.now) ≡ []) }
-    ensures err { IfErr result (λ f. IsAnswered (spec.faults_by sizes.now 0 (map (λ name. name.now) names.now)) f) }
-{
-    for (list, name) in names.iter().enumerate() {
-        check_size(alloc, size_at(sizes, EMPTY, list), name)?;
-    }
-    Ok(())
-}
-
-/// The sizes of lists that have these tables and, as far as they have names, these names. Refuses the first list whose calls lie too deep in
+/// The sizes of lists that have these tables and, as far as they have names, these heads. Refuses the first list whose calls lie too deep in
 /// one another, or that has too many statements or occurrences. It takes memory for the sizes, and time linear in the tables.
 pub fn check_lists(
     alloc: Global,
     tables: &[Vec<Statement>],
-    names: &[&[u8]],
+    heads: &[Head<'_>],
 ) -> Result<Vec<Size>, PlanFault>
     ensures sizes { IfOk result (λ sizes. spec.AreSizes (map (λ table. table.items) tables.now) limits.CALL_DEPTH
         sizes.items) }
     ensures ok { OnOk result ((tests : List (Formula Test))
         → faults_of_lists (lines_of_tables tests (map (λ table. table.items) tables.now)) 0
-        (map (λ name. name.now) names.now) ≡ []) }
+        (map spec.head heads.now) ≡ []) }
     ensures err { IfErr result (λ f. (tests : List (Formula Test))
         → IsAnswered (faults_of_lists (lines_of_tables tests (map (λ table. table.items) tables.now)) 0
-        (map (λ name. name.now) names.now)) f) }
+        (map spec.head heads.now)) f) }
 {
     let Ok(sizes) = sizes_of(alloc, tables) else {
         return Err(PlanFault::no_memory(alloc));
     };
-    check_sizes(alloc, sizes.as_slice(), names)?;
+    check_sizes(alloc, sizes.as_slice(), heads)?;
     Ok(sizes)
 }

@@ -6,20 +6,22 @@ ghost use Rattle.sy_rules.specs.parameters.Values as spec;
 ghost use Rattle.sy_rules.specs.parameters.Rows as table;
 ghost use Rattle.sy_rules.specs.internal.Views as view;
 
-use crate::fault::{FaultCode, PlanFault};
+use crate::fault::FaultCode;
+use crate::items::fault::ItemFault;
 use crate::parameters::kind::Kind;
 use crate::parameters::rows::{
     Absent, Row, destination_rows, find, own_rows, queue_head_rows, queue_rest_rows,
 };
 use crate::parameters::values::{has_shape, is_given, is_in_range};
 use std::alloc::Global;
-use sy_script::tree::Param;
+use sy_script::tree::{Param, Span};
 
-/// A fault whose word lies in the script or in the table.
+/// A fault whose word lies in the script, where it has a place, or in the table.
 #[derive(Clone, Copy)]
 struct Flaw<'w> {
     code: FaultCode,
     word: &'w [u8],
+    place: Option<Span>,
 }
 
 // What is wrong with a parameter after others.
@@ -36,7 +38,8 @@ fn flaw_at<'p>(kind: Kind, before: &[Param], param: &'p Param) -> Option<Flaw<'p
         Some(row) if !is_in_range(row.shape, value) => FaultCode::Range,
         Some(_) => return None,
     };
-    Some(Flaw { code, word })
+    let place = Some(param.name.span);
+    Some(Flaw { code, word, place })
 }
 
 // The first of the rows that must be given and is not.
@@ -48,6 +51,7 @@ fn first_missing(mut rows: &'static [Row], params: &[Param]) -> Option<Flaw<'sta
             return Some(Flaw {
                 code: FaultCode::Missing,
                 word: row.name,
+                place: None,
             });
         }
         rows = rest;
@@ -108,12 +112,12 @@ fn first_flaw<'p>(kind: Kind, params: &'p [Param]) -> Option<Flaw<'p>>
 }
 
 /// Refuses an object for the first fault of its parameters.
-pub fn check(alloc: Global, kind: Kind, params: &[Param]) -> Result<(), PlanFault>
+pub fn check(alloc: Global, kind: Kind, params: &[Param]) -> Result<(), ItemFault>
     ensures ok { OnOk result (spec.faults kind params.now ≡ []) }
-    ensures err { IfErr result (λ f. fault.IsAnswered (spec.faults kind params.now) f) }
+    ensures err { IfErr result (λ f. fault.IsFound (spec.faults kind params.now) f) }
 {
     match first_flaw(kind, params) {
         None => Ok(()),
-        Some(flaw) => Err(PlanFault::new(alloc, flaw.code, flaw.word)),
+        Some(flaw) => Err(ItemFault::new(alloc, flaw.code, flaw.word, flaw.place)),
     }
 }

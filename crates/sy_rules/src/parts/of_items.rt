@@ -46,7 +46,7 @@ fn ruleset_at(alloc: Global, next: &Item<'_>) -> Result<Option<RulesetParameters
     ensures err { IfErr result (λ f. f ≡ no_memory) }
 {
     match *next {
-        Item::Ruleset(params) => Ok(Some(read_ruleset(alloc, params)?)),
+        Item::Ruleset(_, params) => Ok(Some(read_ruleset(alloc, params)?)),
         _ => Ok(None),
     }
 }
@@ -75,7 +75,7 @@ fn action_at(alloc: Global, next: &Item<'_>) -> Result<Option<ActionParameters>,
     ensures err { IfErr result (λ f. f ≡ no_memory) }
 {
     match *next {
-        Item::Action(params) => Ok(Some(read_action(alloc, params)?)),
+        Item::Action(_, params) => Ok(Some(read_action(alloc, params)?)),
         _ => Ok(None),
     }
 }
@@ -155,8 +155,8 @@ fn own_queue(next: &Item<'_>) -> Option<QueueParameters>
     ensures value { result ≡ plans.own_queue (item next.now) }
 {
     match *next {
-        Item::Ruleset(params) => queue_of(Kind::Ruleset, params),
-        Item::Action(params) => queue_of(kind_of_action(params), params),
+        Item::Ruleset(_, params) => queue_of(Kind::Ruleset, params),
+        Item::Action(_, params) => queue_of(kind_of_action(params), params),
         _ => None,
     }
 }
@@ -216,8 +216,8 @@ fn has_own_queue(next: &Item<'_>) -> bool
     ensures { result ≡ is_some (plans.own_queue (item next.now)) }
 {
     match *next {
-        Item::Ruleset(params) => has_queue(Kind::Ruleset, params),
-        Item::Action(params) => has_queue(kind_of_action(params), params),
+        Item::Ruleset(_, params) => has_queue(Kind::Ruleset, params),
+        Item::Action(_, params) => has_queue(kind_of_action(params), params),
         _ => false,
     }
 }
@@ -225,14 +225,14 @@ fn has_own_queue(next: &Item<'_>) -> bool
 fn is_ruleset(next: &Item<'_>) -> bool
     ensures { result ≡ plans.is_ruleset (item next.now) }
 {
-    matches!(next, Item::Ruleset(_))
+    matches!(next, Item::Ruleset(_, _))
 }
 
 fn is_queued_action(next: &Item<'_>) -> bool
     ensures { result ≡ plans.is_queued_action (item next.now) }
 {
     match next {
-        Item::Action(_) => has_own_queue(next),
+        Item::Action(_, _) => has_own_queue(next),
         _ => false,
     }
 }
@@ -324,7 +324,7 @@ fn input_at(alloc: Global, next: &Item<'_>) -> Result<Option<InputParameters>, P
     ensures err { IfErr result (λ f. f ≡ no_memory) }
 {
     match *next {
-        Item::Object(ObjectKind::Input, params) => Ok(Some(read_input(alloc, params)?)),
+        Item::Object(_, ObjectKind::Input, params) => Ok(Some(read_input(alloc, params)?)),
         _ => Ok(None),
     }
 }

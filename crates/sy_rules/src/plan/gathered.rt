@@ -1,25 +1,28 @@
 //! Loads the plan of a script, part by part.
 
-ghost use Rattle.std.specs.Prelude.{◌≡◌, ◌≤◌, ◌+◌, ◌∷◌, [], drop, filter_map, length, map, IfOk, IfErr, List, OnOk};
+ghost use Rattle.std.specs.Prelude.{◌≡◌, ◌≤◌, ◌+◌, ◌∷◌, [], drop, filter_map, length, map, option_map, IfOk, IfErr, List, OnOk};
 ghost use Rattle.sy_select.specs.Truth.{Formula};
 ghost use Rattle.sy_select.specs.declared.condition.Test.{Test};
 ghost use Rattle.sy_rules.specs.Faults.{IsAnswered, no_memory};
-ghost use Rattle.sy_rules.specs.internal.ItemViews.{item};
+ghost use Rattle.sy_rules.specs.internal.ItemViews.{item, placed};
 ghost use Rattle.sy_rules.specs.internal.Loading.{AreLists, IsGathered, faults_of_its_lists};
 ghost use Rattle.sy_rules.specs.internal.Numbering.{AreSingles};
-ghost use Rattle.sy_rules.specs.items.Outline.{items};
-ghost use Rattle.sy_rules.specs.parts.Plans.{default_ruleset};
+ghost use Rattle.sy_rules.specs.internal.TableSizes.{head};
+ghost use Rattle.sy_rules.specs.items.Outline.{items, placed_items};
 ghost use Rattle.sy_rules.specs.PlanValue.{AreExprs, lines_of, listed_from, test_of_item};
+ghost use Rattle.sy_rules.specs.check.ScriptFaults as spec;
 ghost use Rattle.sy_rules.specs.check.ScriptFaults.{faults_after};
 ghost use Rattle.sy_rules.specs.lists.Body as body;
 ghost use Rattle.sy_rules.specs.internal.Tables.{lines_of_tables};
 
 use crate::check::among::DEFAULT_RULESET;
-use crate::fault::PlanFault;
+use crate::fault::{NOWHERE, PlanFault};
+use crate::items::borrowed::name_of_ruleset;
 use crate::items::outline::Item;
 use crate::lists::build::build;
 use crate::lists::numbering::{list_occurrences, occurrences};
 use crate::lists::occurrence::Occurrence;
+use crate::lists::sizes::Head;
 use crate::lists::statement::Statement;
 use crate::lists::plan_tables::plan_tables;
 use crate::parameters::objects::{ActionParameters, RulesetParameters};
@@ -86,19 +89,35 @@ pub struct Lists {
     pub occurrences: Vec<Items<Occurrence>>,
 }
 
-// The names of the lists that have one.
-fn names_of_lists(alloc: Global, rulesets: &[RulesetParameters]) -> Result<Vec<&[u8]>, AllocError>
-    ensures { IfOk result (λ names. map (λ name. name.now) names.items ≡ default_ruleset
-        ∷ map (λ r. r.name) rulesets.now) }
+fn head_of<'s>(next: &Item<'s>) -> Option<Head<'s>>
+    ensures { option_map head result ≡ spec.head_of (placed next.now) }
 {
-    let mut names = Vec::new(alloc);
-    names.push(DEFAULT_RULESET)?;
-    let mut rest = rulesets;
-    while let [ruleset, after @ ..] = rest {
-        names.push(ruleset.name.as_slice())?;
+    match *next {
+        Item::Ruleset(span, params) => Some(Head {
+            name: name_of_ruleset(params),
+            span,
+        }),
+        _ => None,
+    }
+}
+
+// The heads of the lists that have one.
+fn heads_of_lists<'s>(alloc: Global, items: &[Item<'s>]) -> Result<Vec<Head<'s>>, AllocError>
+    ensures { IfOk result (λ heads. map head heads.items ≡ spec.heads_of (map placed items.now)) }
+{
+    let mut heads = Vec::new(alloc);
+    heads.push(Head {
+        name: DEFAULT_RULESET,
+        span: NOWHERE,
+    })?;
+    let mut rest = items;
+    while let [next, after @ ..] = rest {
+        if let Some(found) = head_of(next) {
+            heads.push(found)?;
+        }
         rest = after;
     }
-    Ok(names)
+    Ok(heads)
 }
 
 // What each list executes, where so many have or don't have a queue.
@@ -145,8 +164,14 @@ fn tables(
     Ok(found)
 }
 
-/// The lists of a script without other faults.
-pub fn expand_lists(alloc: Global, script: &Script, gathered: &Gathered) -> Result<Lists, PlanFault>
+/// The lists of a script that has these items, without other faults.
+pub fn expand_lists(
+    alloc: Global,
+    script: &Script,
+    found: &[Item<'_>],
+    gathered: &Gathered,
+) -> Result<Lists, PlanFault>
+    requires placed { map placed found.now ≡ placed_items script.now }
     requires gathered { IsGathered (items script.now) gathered.now }
     requires few { length gathered.now.list_queues.items ≤ 513 }
     ensures found { IfOk result (λ lists. AreLists script.now gathered.now.tests.items
@@ -157,10 +182,10 @@ pub fn expand_lists(alloc: Global, script: &Script, gathered: &Gathered) -> Resu
     let Ok(tables) = tables(alloc, script, gathered) else {
         return Err(PlanFault::no_memory(alloc));
     };
-    let Ok(names) = names_of_lists(alloc, gathered.rulesets.as_slice()) else {
+    let Ok(heads) = heads_of_lists(alloc, found) else {
         return Err(PlanFault::no_memory(alloc));
     };
-    let tables = plan_tables(alloc, tables.as_slice(), names.as_slice())?;
+    let tables = plan_tables(alloc, tables.as_slice(), heads.as_slice())?;
     match occurrences_of_lists(alloc, tables.as_slice(), gathered.list_queues.as_slice()) {
         Ok(occurrences) => Ok(Lists {
             tables,

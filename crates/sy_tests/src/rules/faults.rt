@@ -1,12 +1,13 @@
-//! Scripts that are no plan: each fault with its word, and which of several is answered; scripts that look like them
-//! and are plans; and scripts at the limits of a relay, and one above them. The expected values come from the rules of
-//! the profile, worked out by hand.
+//! Scripts that are no plan: each fault with its word, each kind of place, and which of several is answered; scripts
+//! that look like them and are plans; and scripts at the limits of a relay, and one above them. The expected values
+//! come from the rules of the profile, worked out by hand.
 
 use crate::rows::{Judge, cut, each_is_right, number};
 use std::alloc::{AllocError, Global};
 use std::test::Fail;
 use sy_rules::{Plan, PlanFault};
 use sy_script::read_script;
+use sy_script::tree::Span;
 
 /// The plan of a script, or its fault. Where the script isn't read, memory ran out.
 pub fn planned(alloc: Global, text: &[u8]) -> Result<Result<Plan, PlanFault>, AllocError> {
@@ -39,6 +40,38 @@ impl Judge for Scripts {
                 let is_own = found == number(Some(code))
                     && fault.word.as_slice() == word.as_bytes();
                 Ok(is_own || (found == self.memory && fault.word.is_empty()))
+            }
+        }
+    }
+}
+
+// What stands at the place, which begins there.
+fn stands(text: &[u8], place: Span, start: u32, there: &str) -> bool {
+    match text.get(place.start..place.end) {
+        Some(bytes) => place.start == start as usize && bytes == there.as_bytes(),
+        None => false,
+    }
+}
+
+/// A script that is no plan is wanted by its fault's number and place.
+#[derive(Drop)]
+struct Places;
+
+impl Judge for Places {
+    fn is_right(
+        &self,
+        alloc: Global,
+        text: &[u8],
+        _: &str,
+        wanted: &str,
+    ) -> Result<bool, AllocError> {
+        let (code, place) = cut(wanted, ' ');
+        let (start, there) = cut(place, ' ');
+        match planned(alloc, text)? {
+            Ok(_) => Ok(false),
+            Err(fault) => {
+                let is_own = u32::from(fault.code.number()) == number(Some(code));
+                Ok(is_own && stands(text, fault.span, number(Some(start)), there))
             }
         }
     }
@@ -227,6 +260,46 @@ const LIMITS: &str = r#"
 0 | call r1 call r1 if $msg == "a" then stop %[14]ruleset(name="r@") { call r^ call r^ } %[1]ruleset(name="r15") { }
 46 RSYSLOG_DefaultRuleset | call r1 call r1 if $msg == "a" then stop %[14]ruleset(name="r@") { call r^ call r^ } %[1]ruleset(name="r15") { } stop
 "#;
+
+// What is wanted is the number, the first byte of the place, and what stands there.
+const PLACES: &str = r#"
+// of a parameter, its name, and of two the second's
+41 26 Queue.SIZE | main_queue(queue.size="5" Queue.SIZE="6")
+42 7 x | global(x="1")
+43 12 load | stop module(load="imudp")
+44 40 port | module(load="imtcp") input(type="imtcp" port="65536")
+// of one that is missing, the object's word
+40 10 input | stop stop input(port="1")
+40 0 ruleset | ruleset() { stop }
+40 27 action | if $msg == "x" then { stop action(type="omfile") }
+// of an expression, the string of the selector, the operator, the property
+31 11 "foo.info" | if prifilt("foo.info") then stop
+34 8 > | if $msg > "x" then stop
+42 8 $foo | if not ($foo == "x") then stop
+// of a call, the name
+42 27 nowhere | if $msg == "x" then { call nowhere }
+// of an object among others its word, and of two the later's
+41 18 main_queue | main_queue() stop main_queue(queue.size="5")
+41 22 ruleset | ruleset(name="a") { } ruleset(name="a") { }
+41 5 ruleset | stop ruleset(name="RSYSLOG_DefaultRuleset") { }
+41 67 action | action(name="a" type="omfile" file="f") if $msg == "x" then { stop action(name="a" type="omfile" file="g") }
+42 21 input | module(load="imtcp") input(type="imtcp" port="1" ruleset="nowhere")
+47 50 input | module(load="imtcp") input(type="imtcp" port="1") input(type="imtcp" port="01")
+48 5 input | stop input(type="imtcp" port="1")
+// of the first that is too many
+44 1932 input | module(load="imtcp") %[64]input(type="imtcp" port="@") %[1]input(type="imtcp" port="65") input(type="imtcp" port="66")
+// of a list, the word of its ruleset; the default one has none, and the workers of all queues have none
+45 27 ruleset | ruleset(name="a") { stop } ruleset(name="b") { call b }
+45 0 | call a ruleset(name="a") { call a }
+46 31 ruleset | ruleset(name="small") { stop } ruleset(name="big") { %[65]action(type="omfile" file="f") %[1]}
+44 0 | stop %[5]ruleset(name="r@" queue.type="LinkedList" queue.workerThreads="64") { }
+"#;
+
+#[test]
+fn places_of_faults(rt: HostRuntime) -> Result<(), Fail> {
+    each_is_right(&rt, rt.alloc(), ("", "~"), PLACES, &Places)?;
+    Ok(())
+}
 
 #[test]
 fn faults_and_plans(rt: HostRuntime) -> Result<(), Fail> {

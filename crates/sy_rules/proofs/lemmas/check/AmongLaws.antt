@@ -4,7 +4,6 @@ use Rattle.std.specs.List.{Contains, cons_option, flat_map, list_any}
 use Rattle.std.proofs.lemmas.Bool.{or_cases}
 use Rattle.std.proofs.lemmas.List.Elements.{Contains-append_cases, Contains-append_right, Contains-push_cases}
 use Rattle.std.proofs.lemmas.Option.{same_Some}
-use Rattle.sy_rules.specs.declared.fault.PlanFault.{PlanFault}
 use Rattle.sy_rules.specs.Faults.{first, when}
 use Rattle.sy_rules.proofs.lemmas.parameters.Fits.{no_front, no_back}
 
@@ -99,40 +98,32 @@ any_map g p (x ∷ xs) = ap (λ b. p (g x) || b) (any_map g p xs)
 
 -- ---- the first fault
 
-pub first_of : (xs ys : List PlanFault) (f : PlanFault) → first (xs ++ ys) ≡ Some f → (first xs ≡ Some f) ⊎ ((xs ≡ []) × (first ys ≡ Some f))
+pub first_of : {A : Type 0} (xs ys : List A) (f : A) → first (xs ++ ys) ≡ Some f → (first xs ≡ Some f) ⊎ ((xs ≡ []) × (first ys ≡ Some f))
 first_of [] ys f e = inr (refl, e)
 first_of (x ∷ xs) ys f e = inl e
 
-pub first_when : (b : Bool) (g f : PlanFault) → first (when b g) ≡ Some f → (b ≡ true) × (g ≡ f)
+pub first_when : {A : Type 0} (b : Bool) (g f : A) → first (when b g) ≡ Some f → (b ≡ true) × (g ≡ f)
 first_when true g f e = (refl, cc)
 first_when false g f e = absurd cc
 
-pub none_when : (b : Bool) (g : PlanFault) → when b g ≡ [] → b ≡ true → ⊥
+pub none_when : {A : Type 0} (b : Bool) (g : A) → when b g ≡ [] → b ≡ true → ⊥
 none_when true g e met = cc
 none_when false g e met = cc
 
 -- what holds of the fault that is found holds of the answer
-pub move : (P : PlanFault → Type 0) {g f : PlanFault} → g ≡ f → P g → P f
+pub move : {A : Type 0} (P : A → Type 0) {g f : A} → g ≡ f → P g → P f
 move P e p = subst P e p
 
--- ---- the first of any list
+-- ---- of lists made of lists
 
-abbrev pub head : {A : Type 0} → List A → Option A
-head [] = None
-head (x ∷ xs) = Some x
-
-pub head_of : {A : Type 0} (xs ys : List A) (f : A) → head (xs ++ ys) ≡ Some f → (head xs ≡ Some f) ⊎ ((xs ≡ []) × (head ys ≡ Some f))
-head_of [] ys f e = inr (refl, e)
-head_of (x ∷ xs) ys f e = inl e
-
-pub head_flat : {A B : Type 0} (h : A → List B) (xs : List A) (f : B) → head (flat_map h xs) ≡ Some f → (x : A) × IsAmong x xs × (head (h x) ≡ Some f)
-head_flat h [] f e = absurd cc
-head_flat h (x ∷ xs) f e = elim (head_of (h x) (flat_map h xs) f e) [
+pub first_flat : {A B : Type 0} (h : A → List B) (xs : List A) (f : B) → first (flat_map h xs) ≡ Some f → (x : A) × IsAmong x xs × (first (h x) ≡ Some f)
+first_flat h [] f e = absurd cc
+first_flat h (x ∷ xs) f e = elim (first_of (h x) (flat_map h xs) f e) [
   | inl own ↦ (x, here x xs, own)
-  | inr later ↦ (let r = head_flat h xs f later.1 in (r.0, there r.0 x xs r.1, r.2))
+  | inr later ↦ (let r = first_flat h xs f later.1 in (r.0, there r.0 x xs r.1, r.2))
 ]
 
-pub first_map : {A : Type 0} (h : A → PlanFault) (xs : List A) (f : PlanFault) → first (map h xs) ≡ Some f → (x : A) × (head xs ≡ Some x) × (h x ≡ f)
+pub first_map : {A B : Type 0} (h : A → B) (xs : List A) (f : B) → first (map h xs) ≡ Some f → (x : A) × (first xs ≡ Some x) × (h x ≡ f)
 first_map h [] f e = absurd cc
 first_map h (x ∷ xs) f e = (x, refl, same_Some (h x) f e)
 

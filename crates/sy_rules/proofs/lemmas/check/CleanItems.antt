@@ -5,7 +5,6 @@ use Rattle.std.proofs.lemmas.List.{length-map}
 use Rattle.std.specs.List.{cons_option, list_any}
 use Rattle.sy_script.specs.declared.tree.ObjectKind.TheVariants as object
 use Rattle.sy_rules.specs.Limits.{ACTIONS, INPUTS, RULESETS}
-use Rattle.sy_rules.specs.declared.fault.PlanFault.{PlanFault}
 use Rattle.sy_rules.specs.declared.fault.FaultCode.TheVariants as code
 use Rattle.sy_rules.specs.declared.parameters.objects.ActionParameters.{ActionParameters}
 use Rattle.sy_rules.specs.Faults.{fault, when}
@@ -32,22 +31,22 @@ one_at_most : {X : Type 0} (o : Option X) (xs : List X) → length (cons_option 
 one_at_most None xs = omega arith
 one_at_most (Some x) xs = omega arith
 
-not_above : (most n : ℕ) (b : Bool) (f : PlanFault) → nat_lt most n ≡ b → when b f ≡ [] → n ≤ most
+not_above : {A : Type 0} (most n : ℕ) (b : Bool) (f : A) → nat_lt most n ≡ b → when b f ≡ [] → n ≤ most
 not_above most n true f is e = cc
 not_above most n false f is e = ltb-false most n is
 
-below : (most n : ℕ) (b : Bool) (f : PlanFault) → nat_le most n ≡ b → when b f ≡ [] → n < most
+below : {A : Type 0} (most n : ℕ) (b : Bool) (f : A) → nat_le most n ≡ b → when b f ≡ [] → n < most
 below most n true f is e = cc
 below most n false f is e = leb-false most n is
 
-few_enough : (most n : ℕ) (word : List ℕ) → too_many most n word ≡ [] → n < most
+pub few_enough : (most n : ℕ) (word : List ℕ) → too_many most n word ≡ [] → n < most
 few_enough most n word e = below most n (nat_le most n) (fault code.Range word) refl e
 
 length-cons : {X : Type 0} (o : Option X) (xs ys zs : List X) → length xs ≡ length ys + length zs → length (cons_option o xs) ≡ length (cons_option o ys) + length zs
 length-cons None xs ys zs e = e
 length-cons (Some y) xs ys zs e = omega (arith, e)
 
-pub length-filter_map-append : {X : Type 0} (f : Item → Option X) (xs ys : List Item) → length (filter_map f (xs ++ ys)) ≡ length (filter_map f xs) + length (filter_map f ys)
+length-filter_map-append : {X : Type 0} (f : Item → Option X) (xs ys : List Item) → length (filter_map f (xs ++ ys)) ≡ length (filter_map f xs) + length (filter_map f ys)
 length-filter_map-append f [] ys = omega arith
 length-filter_map-append f (x ∷ xs) ys = length-cons (f x) (filter_map f (xs ++ ys)) (filter_map f xs) (filter_map f ys) (length-filter_map-append f xs ys)
 

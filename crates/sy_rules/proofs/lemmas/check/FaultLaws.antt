@@ -1,6 +1,7 @@
 -- Which faults scripts have: the first that is found, and none where none is found. A script without faults has a plan.
 use Rattle.std.proofs.Common.{◌≡◌, ◌≢◌, ℕ, zero, suc, ◌+◌, ◌≤◌, inl, inr, ◌⊎◌, Bool, true, false, ◌||◌, nat_lt, List, [], ◌∷◌, ◌++◌, Some, Result, Ok, Err, IfErr, IfOk, OnOk, codes, filter_map, slice_get, refl, sym, ap, ◌∙◌, arith}
 use Rattle.std.proofs.lemmas.Bool.{ltb-false, ltb-true, or_cases}
+use Rattle.std.proofs.lemmas.List.{map-append}
 use Rattle.sy_script.specs.declared.tree.ObjectKind.TheVariants as object
 use Rattle.sy_script.specs.declared.tree.Script.{Script}
 use Rattle.sy_select.specs.declared.condition.Test.{Test}
@@ -10,14 +11,14 @@ use Rattle.sy_select.proofs.FoundExpr.{some_meaning}
 use Rattle.sy_rules.specs.Limits.{CALL_DEPTH, OCCURRENCES, STATEMENTS, WORKERS}
 use Rattle.sy_rules.specs.declared.fault.FaultCode.TheVariants as code
 use Rattle.sy_rules.specs.declared.fault.PlanFault.{PlanFault}
-use Rattle.sy_rules.specs.Faults.{IsAnswered, fault, first, no_memory, when}
-use Rattle.sy_rules.specs.check.FaultsThere.{CallsTooDeep, HasCleanItems, HasFault, HasNoFault, IsListOf, lists_in, worker_count}
+use Rattle.sy_rules.specs.declared.items.fault.ItemFault.{ItemFault}
+use Rattle.sy_rules.specs.Faults.{IsAnswered, fault_at, first, no_memory, nowhere, when}
+use Rattle.sy_rules.specs.check.FaultsThere.{CallsTooDeep, HasCleanItems, HasFault, HasItemFault, HasNoFault, IsListOf, StandsIn, lists_in, worker_count}
 use Rattle.sy_rules.specs.items.ItemFaults.{object_faults}
 use Rattle.sy_rules.specs.lists.Lines.{Lines, is_deeper, statements_of, body_of}
-use Rattle.sy_rules.specs.items.Outline.{Item, items}
-use Rattle.sy_rules.specs.parts.Plans.{default_ruleset}
+use Rattle.sy_rules.specs.items.Outline.{Item, Placed, items, items_of, placed_items}
 use Rattle.sy_rules.specs.PlanValue.{AreExprs, HasParts, IsGiven, IsPlan, Plan, lines_of, test_of_item}
-use Rattle.sy_rules.specs.check.ScriptFaults.{faults_among, faults_after, faults_of, faults_of_lists, list_faults, ruleset_names_of, too_many_workers}
+use Rattle.sy_rules.specs.check.ScriptFaults.{Head, faults_among, faults_after, faults_in_text, faults_of, faults_of_lists, heads_of, list_faults, too_many_workers}
 use Rattle.sy_rules.specs.lists.Body as body
 use Rattle.sy_rules.proofs.lemmas.check.AmongLaws.{first_of, first_when, move, none_when}
 use Rattle.sy_rules.proofs.lemmas.lists.CallLaws.{chain_of, deep_by}
@@ -25,55 +26,64 @@ use Rattle.sy_rules.proofs.lemmas.check.CleanItems.{few_workers}
 use Rattle.sy_rules.proofs.lemmas.parameters.Fits.{no_back, no_front}
 use Rattle.sy_rules.proofs.lemmas.parts.GivenPlans.{has_parts, is_given}
 use Rattle.sy_rules.proofs.lemmas.check.ItemsRefuted.{item_refuted}
-use Rattle.sy_rules.proofs.lemmas.check.ItemsThere.{behind_there}
+use Rattle.sy_rules.proofs.lemmas.check.ItemsThere.{behind_there, none_in_text}
 use Rattle.sy_rules.proofs.lemmas.check.TestFaultLaws.{tree_clean}
 use Rattle.sy_rules.proofs.lemmas.plan.WholePlans.{plan_from}
 
 -- ---- lists by their numbers
 
-record Listed (lists : List Lines) (number : ℕ) (names : List (List ℕ)) (f : PlanFault) : Type 0 where
+record Listed (lists : List Lines) (number : ℕ) (heads : List Head) (f : PlanFault) : Type 0 where
   place : ℕ
-  name : List ℕ
-  named : slice_get names place ≡ Some name
-  found : first (list_faults lists name (number + place)) ≡ Some f
+  head : Head
+  headed : slice_get heads place ≡ Some head
+  found : first (list_faults lists head (number + place)) ≡ Some f
 
-list_found : (lists : List Lines) (number : ℕ) (names : List (List ℕ)) (f : PlanFault) → first (faults_of_lists lists number names) ≡ Some f → Listed lists number names f
+list_found : (lists : List Lines) (number : ℕ) (heads : List Head) (f : PlanFault) → first (faults_of_lists lists number heads) ≡ Some f → Listed lists number heads f
 list_found lists number [] f e = absurd cc
-list_found lists number (name ∷ names) f e = elim (first_of (list_faults lists name number) (faults_of_lists lists (number + 1) names) f e) [
+list_found lists number (head ∷ heads) f e = elim (first_of (list_faults lists head number) (faults_of_lists lists (number + 1) heads) f e) [
   | inl own ↦
       let same : number + 0 ≡ number = omega arith in
-      record { place = 0; name = name; named = refl; found = rw same own }
+      record { place = 0; head = head; headed = refl; found = rw same own }
   | inr later ↦
-      let r = list_found lists (number + 1) names f later.1 in
+      let r = list_found lists (number + 1) heads f later.1 in
       let same : number + suc r.place ≡ (number + 1) + r.place = omega arith in
-      record { place = suc r.place; name = r.name; named = r.named; found = rw same r.found }
+      record { place = suc r.place; head = r.head; headed = r.headed; found = rw same r.found }
 ]
 
-list_clean : (lists : List Lines) (number : ℕ) (names : List (List ℕ)) (place : ℕ) (name : List ℕ) → slice_get names place ≡ Some name → faults_of_lists lists number names ≡ [] → list_faults lists name (number + place) ≡ []
-list_clean lists number [] place name is e = absurd cc
-list_clean lists number (n ∷ names) zero name is e =
+list_clean : (lists : List Lines) (number : ℕ) (heads : List Head) (place : ℕ) (head : Head) → slice_get heads place ≡ Some head → faults_of_lists lists number heads ≡ [] → list_faults lists head (number + place) ≡ []
+list_clean lists number [] place head is e = absurd cc
+list_clean lists number (h ∷ heads) zero head is e =
     let same : number + 0 ≡ number = omega arith in
-    let which : n ≡ name = cc in
-    rw (same, ← which) (no_front (list_faults lists n number) (faults_of_lists lists (number + 1) names) e)
-list_clean lists number (n ∷ names) (suc place) name is e =
+    let which : h ≡ head = cc in
+    rw (same, ← which) (no_front (list_faults lists h number) (faults_of_lists lists (number + 1) heads) e)
+list_clean lists number (h ∷ heads) (suc place) head is e =
     let same : number + suc place ≡ (number + 1) + place = omega arith in
-    rw same (list_clean lists (number + 1) names place name is (no_back (list_faults lists n number) (faults_of_lists lists (number + 1) names) e))
+    rw same (list_clean lists (number + 1) heads place head is (no_back (list_faults lists h number) (faults_of_lists lists (number + 1) heads) e))
 
 module _ (script : Script) where
   abbrev found_items : List Item
   found_items = items script
 
-  abbrev too_deep : List ℕ → ℕ → List PlanFault
-  too_deep name l = when (is_deeper (lists_in script) CALL_DEPTH l) (fault code.CallDepth name)
+  abbrev heads : List Head
+  heads = heads_of (placed_items script)
 
-  abbrev too_large : List ℕ → ℕ → List PlanFault
-  too_large name l = when (nat_lt STATEMENTS (statements_of (lists_in script) l) || nat_lt OCCURRENCES (body.count (body_of (lists_in script) l))) (fault code.TooManyDeeds name)
+  abbrev too_deep : Head → ℕ → List PlanFault
+  too_deep head l = when (is_deeper (lists_in script) CALL_DEPTH l) (fault_at head.span code.CallDepth head.name)
+
+  abbrev too_large : Head → ℕ → List PlanFault
+  too_large head l = when (nat_lt STATEMENTS (statements_of (lists_in script) l) || nat_lt OCCURRENCES (body.count (body_of (lists_in script) l))) (fault_at head.span code.TooManyDeeds head.name)
+
+  abbrev in_items : List PlanFault
+  in_items = faults_in_text found_items [] (placed_items script)
 
   abbrev in_lists : List PlanFault
-  in_lists = faults_of_lists (lists_in script) 0 (default_ruleset ∷ ruleset_names_of found_items)
+  in_lists = faults_of_lists (lists_in script) 0 heads
 
-  clean_as_found : faults_after found_items [] found_items ≡ [] → HasCleanItems script
-  clean_as_found e f is = item_refuted found_items e f is
+  refuted_in : (before later : List Placed) (x : Placed) (f : ItemFault) → faults_after found_items [] found_items ≡ [] → StandsIn script before x later → HasItemFault found_items (items_of before) x.item f → ⊥
+  refuted_in before later x f e split is = item_refuted found_items e (items_of before) (items_of later) x.item f (ap items_of split ∙ map-append (λ (y : Placed). y.item) before (x ∷ later)) is
+
+  clean_as_found : in_items ≡ [] → HasCleanItems script
+  clean_as_found e before later x f split is = refuted_in before later x f (none_in_text found_items [] (placed_items script) e) split is
 
   not_deep : (l : ℕ) (b : Bool) (g : PlanFault) → is_deeper (lists_in script) CALL_DEPTH l ≡ b → when b g ≡ [] → CallsTooDeep script l → ⊥
   not_deep l b g is e chain =
@@ -81,34 +91,39 @@ module _ (script : Script) where
 
   -- ---- what is found is there
 
-  list_there : (l : ℕ) (name : List ℕ) (f : PlanFault) → HasCleanItems script → IsListOf script name l → first (list_faults (lists_in script) name l) ≡ Some f → HasFault script f
-  list_there l name f right is e = elim (first_of (too_deep name l) (too_large name l) f e) [
+  list_there : (l : ℕ) (head : Head) (f : PlanFault) → HasCleanItems script → IsListOf script head l → first (list_faults (lists_in script) head l) ≡ Some f → HasFault script f
+  list_there l head f right is e = elim (first_of (too_deep head l) (too_large head l) f e) [
     | inl deep ↦
-        let w = first_when (is_deeper (lists_in script) CALL_DEPTH l) (fault code.CallDepth name) f deep in
-        move (HasFault script) w.1 (HasFault.call_depth name l right is (chain_of (lists_in script) CALL_DEPTH l w.0))
+        let w = first_when (is_deeper (lists_in script) CALL_DEPTH l) (fault_at head.span code.CallDepth head.name) f deep in
+        move (HasFault script) w.1 (HasFault.call_depth head l right is (chain_of (lists_in script) CALL_DEPTH l w.0))
     | inr large ↦
-        let flat = not_deep l (is_deeper (lists_in script) CALL_DEPTH l) (fault code.CallDepth name) refl large.0 in
-        let w = first_when (nat_lt STATEMENTS (statements_of (lists_in script) l) || nat_lt OCCURRENCES (body.count (body_of (lists_in script) l))) (fault code.TooManyDeeds name) f large.1 in
+        let flat = not_deep l (is_deeper (lists_in script) CALL_DEPTH l) (fault_at head.span code.CallDepth head.name) refl large.0 in
+        let w = first_when (nat_lt STATEMENTS (statements_of (lists_in script) l) || nat_lt OCCURRENCES (body.count (body_of (lists_in script) l))) (fault_at head.span code.TooManyDeeds head.name) f large.1 in
         move (HasFault script) w.1 (elim (or_cases (nat_lt STATEMENTS (statements_of (lists_in script) l)) (nat_lt OCCURRENCES (body.count (body_of (lists_in script) l))) w.0) [
-          | inl a ↦ HasFault.statements name l right is flat (ltb-true STATEMENTS (statements_of (lists_in script) l) a)
-          | inr b ↦ HasFault.occurrences name l right is flat (ltb-true OCCURRENCES (body.count (body_of (lists_in script) l)) b)
+          | inl a ↦ HasFault.statements head l right is flat (ltb-true STATEMENTS (statements_of (lists_in script) l) a)
+          | inr b ↦ HasFault.occurrences head l right is flat (ltb-true OCCURRENCES (body.count (body_of (lists_in script) l)) b)
         ])
   ]
 
   lists_there : (f : PlanFault) → HasCleanItems script → first in_lists ≡ Some f → HasFault script f
   lists_there f right e =
-      let r = list_found (lists_in script) 0 (default_ruleset ∷ ruleset_names_of found_items) f e in
+      let r = list_found (lists_in script) 0 heads f e in
       let same : 0 + r.place ≡ r.place = omega arith in
-      list_there r.place r.name f right r.named (rw same at r.found)
+      list_there r.place r.head f right r.headed (rw same at r.found)
 
   workers_there : (f : PlanFault) → HasCleanItems script → first (too_many_workers found_items) ≡ Some f → HasFault script f
   workers_there f right e =
-      let w = first_when (nat_lt WORKERS (worker_count script)) (fault code.Range (codes "queue.workerThreads")) f e in
+      let w = first_when (nat_lt WORKERS (worker_count script)) (fault_at nowhere code.Range (codes "queue.workerThreads")) f e in
       move (HasFault script) w.1 (HasFault.workers right (ltb-true WORKERS (worker_count script) w.0))
 
+  item_there : (f : PlanFault) → first in_items ≡ Some f → HasFault script f
+  item_there f e =
+      let i = behind_there (placed_items script) [] (placed_items script) f refl tt e in
+      move (HasFault script) i.same (HasFault.item i.before i.later i.x i.own i.split i.there)
+
   pub first_there : (f : PlanFault) → first (faults_of script) ≡ Some f → HasFault script f
-  first_there f e = elim (first_of (faults_after found_items [] found_items) (too_many_workers found_items ++ in_lists) f e) [
-    | inl own ↦ HasFault.item f (behind_there found_items [] found_items f refl tt own)
+  first_there f e = elim (first_of in_items (too_many_workers found_items ++ in_lists) f e) [
+    | inl own ↦ item_there f own
     | inr rest ↦ elim (first_of (too_many_workers found_items) in_lists f rest.1) [
       | inl many ↦ workers_there f (clean_as_found rest.0) many
       | inr lists ↦ lists_there f (clean_as_found rest.0) lists.1
@@ -119,32 +134,32 @@ module _ (script : Script) where
 
   module _ (clean : faults_of script ≡ []) where
     clean_items : faults_after found_items [] found_items ≡ []
-    clean_items = no_front (faults_after found_items [] found_items) (too_many_workers found_items ++ in_lists) clean
+    clean_items = none_in_text found_items [] (placed_items script) (no_front in_items (too_many_workers found_items ++ in_lists) clean)
 
     clean_rest : too_many_workers found_items ++ in_lists ≡ []
-    clean_rest = no_back (faults_after found_items [] found_items) (too_many_workers found_items ++ in_lists) clean
+    clean_rest = no_back in_items (too_many_workers found_items ++ in_lists) clean
 
-    clean_list : (name : List ℕ) (l : ℕ) → IsListOf script name l → too_deep name l ++ too_large name l ≡ []
-    clean_list name l is =
+    clean_list : (head : Head) (l : ℕ) → IsListOf script head l → too_deep head l ++ too_large head l ≡ []
+    clean_list head l is =
         let same : 0 + l ≡ l = omega arith in
-        rw same at (list_clean (lists_in script) 0 (default_ruleset ∷ ruleset_names_of found_items) l name is (no_back (too_many_workers found_items) in_lists clean_rest))
+        rw same at (list_clean (lists_in script) 0 heads l head is (no_back (too_many_workers found_items) in_lists clean_rest))
 
-    small_list : (name : List ℕ) (l : ℕ) → IsListOf script name l → (statements_of (lists_in script) l ≤ STATEMENTS) × (body.count (body_of (lists_in script) l) ≤ OCCURRENCES)
-    small_list name l is = smaller (nat_lt STATEMENTS (statements_of (lists_in script) l)) (nat_lt OCCURRENCES (body.count (body_of (lists_in script) l))) refl refl (no_back (too_deep name l) (too_large name l) (clean_list name l is))
+    small_list : (head : Head) (l : ℕ) → IsListOf script head l → (statements_of (lists_in script) l ≤ STATEMENTS) × (body.count (body_of (lists_in script) l) ≤ OCCURRENCES)
+    small_list head l is = smaller (nat_lt STATEMENTS (statements_of (lists_in script) l)) (nat_lt OCCURRENCES (body.count (body_of (lists_in script) l))) refl refl (no_back (too_deep head l) (too_large head l) (clean_list head l is))
       where
-        smaller : (a b : Bool) → nat_lt STATEMENTS (statements_of (lists_in script) l) ≡ a → nat_lt OCCURRENCES (body.count (body_of (lists_in script) l)) ≡ b → when (a || b) (fault code.TooManyDeeds name) ≡ []
+        smaller : (a b : Bool) → nat_lt STATEMENTS (statements_of (lists_in script) l) ≡ a → nat_lt OCCURRENCES (body.count (body_of (lists_in script) l)) ≡ b → when (a || b) (fault_at head.span code.TooManyDeeds head.name) ≡ []
             → (statements_of (lists_in script) l ≤ STATEMENTS) × (body.count (body_of (lists_in script) l) ≤ OCCURRENCES)
         smaller true b p q e = absurd cc
         smaller false true p q e = absurd cc
         smaller false false p q e = (ltb-false STATEMENTS (statements_of (lists_in script) l) p, ltb-false OCCURRENCES (body.count (body_of (lists_in script) l)) q)
 
     pub fault_refuted : (f : PlanFault) → HasFault script f → ⊥
-    fault_refuted f (HasFault.item g is) = item_refuted found_items clean_items g is
+    fault_refuted f (HasFault.item before later x g split is) = refuted_in before later x g clean_items split is
     fault_refuted f (HasFault.workers right many) = absurd (omega (arith, many, few_workers found_items (no_front (too_many_workers found_items) in_lists clean_rest)))
-    fault_refuted f (HasFault.call_depth name l right is deep) =
-        not_deep l (is_deeper (lists_in script) CALL_DEPTH l) (fault code.CallDepth name) refl (no_front (too_deep name l) (too_large name l) (clean_list name l is)) deep
-    fault_refuted f (HasFault.statements name l right is flat many) = absurd (omega (arith, many, (small_list name l is).0))
-    fault_refuted f (HasFault.occurrences name l right is flat many) = absurd (omega (arith, many, (small_list name l is).1))
+    fault_refuted f (HasFault.call_depth head l right is deep) =
+        not_deep l (is_deeper (lists_in script) CALL_DEPTH l) (fault_at head.span code.CallDepth head.name) refl (no_front (too_deep head l) (too_large head l) (clean_list head l is)) deep
+    fault_refuted f (HasFault.statements head l right is flat many) = absurd (omega (arith, many, (small_list head l is).0))
+    fault_refuted f (HasFault.occurrences head l right is flat many) = absurd (omega (arith, many, (small_list head l is).1))
 
 -- ---- a script without faults has a plan
 

@@ -1,28 +1,31 @@
 -- Where no fault is found in the items of a script, none is there.
-use Rattle.std.proofs.Common.{◌≡◌, ℕ, ◌+◌, ◌==◌, Bool, true, false, not, ◌||◌, List, [], ◌∷◌, ◌++◌, length, Some, codes, refl, sym, ap, ◌∙◌, subst, append_assoc, append-nil, arith, eq-eqb}
+use Rattle.std.proofs.Common.{◌≡◌, ℕ, ◌+◌, ◌<◌, ◌==◌, Bool, true, false, not, ◌||◌, List, [], ◌∷◌, ◌++◌, length, Some, codes, refl, sym, ap, ◌∙◌, subst, append_assoc, append-nil, arith, eq-eqb}
 use Rattle.std.specs.Fmt.{decimal}
-use Rattle.std.specs.List.{Contains, list_any}
+use Rattle.std.specs.List.{list_any}
 use Rattle.std.specs.Str.{bytes_eq}
+use Rattle.std.proofs.lemmas.List.{length-map}
 use Rattle.std.proofs.lemmas.List.Elements.{filter_map-append}
 use Rattle.sy_script.specs.declared.tree.ObjectKind.TheVariants as object
 use Rattle.sy_script.specs.declared.tree.Param.{Param}
 use Rattle.sy_rules.specs.Limits.{ACTIONS, INPUTS, RULESETS}
 use Rattle.sy_rules.specs.declared.fault.FaultCode.TheVariants as code
-use Rattle.sy_rules.specs.declared.fault.PlanFault.{PlanFault}
+use Rattle.sy_rules.specs.declared.items.fault.ItemFault.{ItemFault}
 use Rattle.sy_rules.specs.declared.parameters.objects.InputParameters.{InputParameters}
+use Rattle.sy_rules.specs.declared.parameters.objects.RulesetParameters.{RulesetParameters}
 use Rattle.sy_rules.specs.check.FaultsThere.{HasItemFault, IsInputOfPort, IsAction, IsBoundTo, IsInput, IsMainQueue, IsRuleset, LoadsImtcp, NoneIs}
 use Rattle.sy_rules.specs.Faults.{fault, when}
 use Rattle.sy_rules.specs.items.ItemFaults.{object_faults}
 use Rattle.sy_rules.specs.parameters.Objects.{action_of, input_of, kind_of_action, ruleset_of}
 use Rattle.sy_rules.specs.items.Outline.{Item}
 use Rattle.sy_rules.specs.parameters.Values.{given}
-use Rattle.sy_rules.specs.parts.Plans.{action_at, action_name, action_names, actions_of, default_ruleset, input_at, inputs_of, names_from}
+use Rattle.sy_rules.specs.parts.Plans.{action_at, action_name, action_names, actions_of, default_ruleset, input_at, inputs_of, names_from, rulesets_of}
 use Rattle.sy_rules.specs.check.ScriptFaults.{faults_among, faults_after, is_among, is_main_queue, loads_imtcp, not_loaded, ports_of, ruleset_names_of, same_port, too_many, unknown_ruleset}
 use Rattle.sy_rules.proofs.lemmas.check.AmongLaws.{IsAmong, among_by, any_found, any_map, any_of, contained, made_any, none_when}
-use Rattle.sy_rules.proofs.lemmas.check.CleanItems.{are_clean, few_actions, few_inputs, few_rulesets}
+use Rattle.sy_rules.proofs.lemmas.check.CleanItems.{are_clean, few_enough}
 use Rattle.sy_rules.proofs.lemmas.parameters.Fits.{no_back, no_front}
 use Rattle.sy_rules.proofs.lemmas.check.ItemFacts.{action_with, equal_bytes, found_action, found_name, input_with, loads, main_is, name_found, ruleset_with, same_bytes}
 use Rattle.sy_rules.proofs.lemmas.parameters.ParameterFaultLaws.{own_refuted}
+use Rattle.sy_rules.proofs.lemmas.check.ScriptLaws.{length-names}
 use Rattle.sy_rules.proofs.lemmas.check.TestFaultLaws.{tree_refuted}
 
 -- ---- an item at its place
@@ -44,19 +47,16 @@ right_at all front (b ∷ before) after x e =
     subst (λ xs. IsRight all xs x) (append_assoc front (b ∷ []) before) (right_at all (front ++ b ∷ []) before after x rest)
 
 module _ (all : List Item) (clean : faults_after all [] all ≡ []) where
-  placed : (x : Item) → Contains all x → IsAmong x all
-  placed x c = among_by x all c
-
   right : (before after : List Item) (x : Item) → all ≡ before ++ x ∷ after → IsRight all before x
   right before after x split = right_at all [] before after x (subst (λ xs. faults_after all [] xs ≡ []) split clean)
 
   -- ---- inputs
 
   module _ (ps : List Param) (before after : List Item) (split : all ≡ before ++ Item.Object object.Input ps ∷ after) where
-    abbrev known : List PlanFault
+    abbrev known : List ItemFault
     known = unknown_ruleset (ruleset_names_of all) (input_of ps).ruleset_name
 
-    abbrev taken : List PlanFault
+    abbrev taken : List ItemFault
     taken = same_port (ports_of before) (input_of ps).port
 
     behind_many : not_loaded (list_any loads_imtcp all) ++ (known ++ taken) ≡ []
@@ -179,20 +179,43 @@ module _ (all : List Item) (clean : faults_after all [] all ≡ []) where
   call_right : (name : List ℕ) → IsAmong (Item.Call name) all → (bytes_eq name default_ruleset ≡ false) × (is_among name (ruleset_names_of all) ≡ true)
   call_right name a = called_by name (bytes_eq name default_ruleset) (is_among name (ruleset_names_of all)) refl refl (right a.0 a.1 (Item.Call name) a.2).among
 
+  -- ---- how many
+
+  many_inputs : (ps : List Param) (before after : List Item) → all ≡ before ++ Item.Object object.Input ps ∷ after → length (inputs_of before) < INPUTS
+  many_inputs ps before after split =
+      let rest = not_loaded (list_any loads_imtcp all) ++ (known ps before after split ++ taken ps before after split) in
+      let few = few_enough INPUTS (length (ports_of before)) (codes "input") (no_front (too_many INPUTS (length (ports_of before)) (codes "input")) rest (right before after (Item.Object object.Input ps) split).among) in
+      omega (arith, few, length-map (inputs_of before) (λ (i : InputParameters). i.port))
+
+  many_rulesets : (ps : List Param) (before after : List Item) → all ≡ before ++ Item.Ruleset ps ∷ after → length (rulesets_of before) < RULESETS
+  many_rulesets ps before after split =
+      let name = (ruleset_of ps).name in
+      let names = ruleset_names_of before in
+      let few = few_enough RULESETS (length names) (codes "ruleset") (no_front (too_many RULESETS (length names) (codes "ruleset")) (when (is_among name (default_ruleset ∷ names)) (fault code.Duplicate name)) (right before after (Item.Ruleset ps) split).among) in
+      omega (arith, few, length-map (rulesets_of before) (λ (r : RulesetParameters). r.name))
+
+  many_actions : (ps : List Param) (before after : List Item) → all ≡ before ++ Item.Action ps ∷ after → length (actions_of before) < ACTIONS
+  many_actions ps before after split =
+      let name = action_name (length (actions_of before)) (action_of (kind_of_action ps) ps).name in
+      let names = action_names before in
+      let few = few_enough ACTIONS (length names) (codes "action") (no_front (too_many ACTIONS (length names) (codes "action")) (when (is_among name names) (fault code.Duplicate name)) (right before after (Item.Action ps) split).among) in
+      omega (arith, few, length-names 0 (actions_of before))
+
   -- ---- all of them
 
-  pub item_refuted : (f : PlanFault) → HasItemFault all f → ⊥
-  item_refuted f (HasItemFault.test tree g contains is) = let a = placed (Item.Test tree) contains in tree_refuted tree g is (right a.0 a.1 (Item.Test tree) a.2).among
-  item_refuted f (HasItemFault.parameter x g among is) = let a = placed x among in own_refuted x g is (right a.0 a.1 x a.2).own
-  item_refuted f (HasItemFault.main_queue x y before p q) = main_twice x y before.0 before.1 before.2 (among_by x before.0 before.3) p q
-  item_refuted f (HasItemFault.same_ruleset_name x y name before s t p q) = name_twice name x y before.0 before.1 before.2 (among_by x before.0 before.3) p q
-  item_refuted f (HasItemFault.default_name x among s is) = named_default x (placed x among) is
-  item_refuted f (HasItemFault.same_action_name before between after x y name split s t p q) = action_twice before between after x y name split p q
-  item_refuted f (HasItemFault.bound x name among is other none) = unbound name x (placed x among) is other none
-  item_refuted f (HasItemFault.called name among none) = there_is name true (call_right name (placed (Item.Call name) among)).1 refl none
-  item_refuted f (HasItemFault.default_called among) = let no = (call_right default_ruleset (placed (Item.Call default_ruleset) among)).0 in absurd cc
-  item_refuted f (HasItemFault.inputs many) = absurd (omega (arith, many, few_inputs all clean))
-  item_refuted f (HasItemFault.rulesets many) = absurd (omega (arith, many, few_rulesets all clean))
-  item_refuted f (HasItemFault.actions many) = absurd (omega (arith, many, few_actions all clean))
-  item_refuted f (HasItemFault.same_port x y port before s t p q) = port_twice port x y before.0 before.1 before.2 (among_by x before.0 before.3) p q
-  item_refuted f (HasItemFault.not_loaded x among s is none) = unloaded x (placed x among) is none
+  pub item_refuted : (before after : List Item) (x : Item) (f : ItemFault) → all ≡ before ++ x ∷ after → HasItemFault all before x f → ⊥
+  item_refuted before after y f split (HasItemFault.test tree g is) = tree_refuted tree g is (right before after (Item.Test tree) split).among
+  item_refuted before after y f split (HasItemFault.parameter x g is) = own_refuted x g is (right before after x split).own
+  item_refuted before after z f split (HasItemFault.main_queue x y there p q) = main_twice x y before after split (among_by x before there) p q
+  item_refuted before after z f split (HasItemFault.same_ruleset_name x y name there s t p q) = name_twice name x y before after split (among_by x before there) p q
+  item_refuted before after z f split (HasItemFault.default_name x s is) = named_default x (before, after, split) is
+  item_refuted before after z f split (HasItemFault.same_action_name front between x y name inside s t p q) =
+      action_twice front between after x y name (split ∙ ap (λ xs. xs ++ y ∷ after) inside) p (subst (λ xs. IsAction xs name y) inside q)
+  item_refuted before after z f split (HasItemFault.bound x name is other none) = unbound name x (before, after, split) is other none
+  item_refuted before after z f split (HasItemFault.called name none) = there_is name true (call_right name (before, after, split)).1 refl none
+  item_refuted before after z f split HasItemFault.default_called = let no = (call_right default_ruleset (before, after, split)).0 in absurd cc
+  item_refuted before after z f split (HasItemFault.inputs ps many) = absurd (omega (arith, many, many_inputs ps before after split))
+  item_refuted before after z f split (HasItemFault.rulesets ps many) = absurd (omega (arith, many, many_rulesets ps before after split))
+  item_refuted before after z f split (HasItemFault.actions ps many) = absurd (omega (arith, many, many_actions ps before after split))
+  item_refuted before after z f split (HasItemFault.same_port x y port there s t p q) = port_twice port x y before after split (among_by x before there) p q
+  item_refuted before after z f split (HasItemFault.not_loaded x s is none) = unloaded x (before, after, split) is none

@@ -14,28 +14,28 @@ use Rattle.sy_rules.specs.declared.items.outline.Item.{Item as CodeItem}
 use Rattle.sy_rules.specs.declared.parameters.settings.QueueParameters.{QueueParameters}
 use Rattle.sy_rules.specs.declared.check.script.Seen.{Seen}
 use Rattle.sy_rules.specs.declared.check.script.Whole.{Whole}
-use Rattle.sy_rules.specs.Faults.{IsAnswered, fault, when}
+use Rattle.sy_rules.specs.Faults.{IsAnswered, fault, in_text, when}
 use Rattle.sy_rules.specs.items.ItemFaults.{object_faults}
-use Rattle.sy_rules.specs.internal.ItemViews.{item}
 use Rattle.sy_rules.specs.parameters.Objects.{input_of, ruleset_of, kind_of_action, action_of}
-use Rattle.sy_rules.specs.items.Outline.{Item}
+use Rattle.sy_rules.specs.items.Outline.{Item, Placed}
 use Rattle.sy_rules.specs.parts.Plans.{action_name, action_names, actions_of, default_ruleset, input_at, inputs_of, names_from, ruleset_at, rulesets_of, action_at}
-use Rattle.sy_rules.specs.check.ScriptFaults.{action_faults, faults_among, faults_after, input_faults, is_main_queue, loads_imtcp, ports_of, ruleset_faults, ruleset_names_of, second_main_queue, unknown_ruleset}
+use Rattle.sy_rules.specs.check.ScriptFaults.{action_faults, faults_among, faults_in_text, input_faults, is_main_queue, loads_imtcp, ports_of, ruleset_faults, ruleset_names_of, second_main_queue, unknown_ruleset}
 use Rattle.sy_rules.specs.internal.Seen.{Adds, HasNames, Knows, Shows, faults_by, workers_in}
 
 -- ---- where an item stands
 
-pub record StandsAt (all : List Item) (k : ℕ) (x : Item) : Type 0 where
+pub record StandsAt {A : Type 0} (all : List A) (k : ℕ) (x : A) : Type 0 where
   pub taken : take (k + 1) all ≡ take k all ++ x ∷ []
   pub dropped : drop k all ≡ x ∷ drop (k + 1) all
 
-pub stands : (items : List CodeItem) (k : ℕ) (x : CodeItem) → k < length items → x ≡ get_or items k x → StandsAt (map item items) k (item x)
-stands items k x within is =
-    let at : get_or (map item items) k (item x) ≡ item x = get_or-map item items k x (item x) within ∙ ap item (sym is) in
-    let small : k < length (map item items) = simp length-map (omega arith) in
+-- of what the code's items are seen as
+pub stands : {A : Type 0} (view : CodeItem → A) (items : List CodeItem) (k : ℕ) (x : CodeItem) → k < length items → x ≡ get_or items k x → StandsAt (map view items) k (view x)
+stands view items k x within is =
+    let at : get_or (map view items) k (view x) ≡ view x = get_or-map view items k x (view x) within ∙ ap view (sym is) in
+    let small : k < length (map view items) = simp length-map (omega arith) in
     record {
-      taken = take_more (map item items) k (item x) small ∙ ap (λ y. take k (map item items) ++ y ∷ []) at;
-      dropped = drop_more (map item items) k (item x) small ∙ ap (λ y. y ∷ drop (k + 1) (map item items)) at;
+      taken = take_more (map view items) k (view x) small ∙ ap (λ y. take k (map view items) ++ y ∷ []) at;
+      dropped = drop_more (map view items) k (view x) small ∙ ap (λ y. y ∷ drop (k + 1) (map view items)) at;
     }
 
 -- ---- what is answered
@@ -45,29 +45,29 @@ front xs ys f (inl e) = inl e
 front [] ys f (inr e) = absurd cc
 front (x ∷ xs) ys f (inr e) = inr e
 
-behind : (xs ys : List PlanFault) (f : PlanFault) → xs ≡ [] → IsAnswered ys f → IsAnswered (xs ++ ys) f
-behind xs ys f e h = subst (λ zs. IsAnswered (zs ++ ys) f) (sym e) h
+-- what is wrong with an item after others, in the text
+abbrev here_in_text : List Item → List Item → Placed → List PlanFault
+here_in_text all before x = map (in_text x.span) (object_faults x.item ++ faults_among all before x.item)
 
 -- the faults of the next item and of those after it are those of all
-next_is : (all before : List Item) (k : ℕ) (x : Item) (total : List PlanFault) → StandsAt all k x → faults_after all before (drop k all) ≡ total
-    → object_faults x ++ (faults_among all before x ++ faults_after all (before ++ x ∷ []) (drop (k + 1) all)) ≡ total
-next_is all before k x total here left = sym (ap (faults_after all before) here.dropped) ∙ left
+next_is : (all before : List Item) (ps : List Placed) (k : ℕ) (x : Placed) (total : List PlanFault) → StandsAt ps k x → faults_in_text all before (drop k ps) ≡ total
+    → here_in_text all before x ++ faults_in_text all (before ++ x.item ∷ []) (drop (k + 1) ps) ≡ total
+next_is all before ps k x total here left = sym (ap (faults_in_text all before) here.dropped) ∙ left
 
-pub own_answered : (all before : List Item) (k : ℕ) (x : Item) (total : List PlanFault) (f : PlanFault) → StandsAt all k x → faults_after all before (drop k all) ≡ total
-    → IsAnswered (object_faults x) f → IsAnswered total f
-own_answered all before k x total f here left answer = subst (λ t. IsAnswered t f) (next_is all before k x total here left) (front (object_faults x) _ f answer)
+pub next_answered : (all before : List Item) (ps : List Placed) (k : ℕ) (x : Placed) (total : List PlanFault) (f : PlanFault) → StandsAt ps k x → faults_in_text all before (drop k ps) ≡ total
+    → IsAnswered (here_in_text all before x) f → IsAnswered total f
+next_answered all before ps k x total f here left answer =
+    subst (λ t. IsAnswered t f) (next_is all before ps k x total here left) (front (here_in_text all before x) _ f answer)
 
-pub among_answered : (all before : List Item) (k : ℕ) (x : Item) (total : List PlanFault) (f : PlanFault) → StandsAt all k x → faults_after all before (drop k all) ≡ total
-    → object_faults x ≡ [] → IsAnswered (faults_among all before x) f → IsAnswered total f
-among_answered all before k x total f here left own answer =
-    subst (λ t. IsAnswered t f) (next_is all before k x total here left) (behind (object_faults x) _ f own (front (faults_among all before x) _ f answer))
+none_here : (all before : List Item) (x : Placed) → object_faults x.item ≡ [] → faults_among all before x.item ≡ [] → here_in_text all before x ≡ []
+none_here all before x own among = rw (own, among) refl
 
-pub left_behind : (all : List Item) (k : ℕ) (x : Item) (total : List PlanFault) → StandsAt all k x → faults_after all (take k all) (drop k all) ≡ total
-    → object_faults x ≡ [] → faults_among all (take k all) x ≡ [] → faults_after all (take (k + 1) all) (drop (k + 1) all) ≡ total
-left_behind all k x total here left own among =
-    ap (λ before. faults_after all before (drop (k + 1) all)) here.taken
-    ∙ sym (ap (λ fs. fs ++ (faults_among all (take k all) x ++ faults_after all (take k all ++ x ∷ []) (drop (k + 1) all))) own ∙ ap (λ fs. fs ++ faults_after all (take k all ++ x ∷ []) (drop (k + 1) all)) among)
-    ∙ next_is all (take k all) k x total here left
+pub left_behind : (all : List Item) (ps : List Placed) (k : ℕ) (x : Placed) (total : List PlanFault) → StandsAt all k x.item → StandsAt ps k x → faults_in_text all (take k all) (drop k ps) ≡ total
+    → object_faults x.item ≡ [] → faults_among all (take k all) x.item ≡ [] → faults_in_text all (take (k + 1) all) (drop (k + 1) ps) ≡ total
+left_behind all ps k x total there here left own among =
+    ap (λ before. faults_in_text all before (drop (k + 1) ps)) there.taken
+    ∙ sym (ap (λ fs. fs ++ faults_in_text all (take k all ++ x.item ∷ []) (drop (k + 1) ps)) (none_here all (take k all) x own among))
+    ∙ next_is all (take k all) ps k x total here left
 
 -- ---- what is kept
 

@@ -11,7 +11,7 @@ use Rattle.sy_rules.specs.declared.lists.statement.Statement.TheVariants as stat
 use Rattle.sy_rules.specs.Faults.{when}
 use Rattle.sy_rules.specs.lists.Lines.{Lines, list_at, expand, expanded, is_deeper, statements_of}
 use Rattle.sy_rules.specs.internal.Numbering.{count_in, AreFew, IsSingle, AreSingles}
-use Rattle.sy_rules.specs.check.ScriptFaults.{list_faults, faults_of_lists}
+use Rattle.sy_rules.specs.check.ScriptFaults.{Head, list_faults, faults_of_lists}
 use Rattle.sy_rules.specs.lists.Body.{count}
 use Rattle.sy_rules.specs.internal.Tables.{lines_of_table, lines_of_tables, table_at, count_of, AreNumbered, AreTables}
 use Rattle.sy_rules.specs.internal.TableSizes.{AreSizes, occurrences_in, up_to}
@@ -45,8 +45,8 @@ or_right : (a b : Bool) → (a || b) ≡ false → b ≡ false
 or_right true b h = cc
 or_right false b h = h
 
-no_fault_fits : (lists : List Lines) (name : List ℕ) (l : ℕ) → list_faults lists name l ≡ [] → Fits lists l
-no_fault_fits lists name l none =
+no_fault_fits : (lists : List Lines) (head : Head) (l : ℕ) → list_faults lists head l ≡ [] → Fits lists l
+no_fault_fits lists head l none =
     let many = nat_lt STATEMENTS (statements_of lists l) || nat_lt OCCURRENCES (count_of lists l) in
     record {
       not_deeper = not_there _ _ (front_none _ _ none);
@@ -55,11 +55,11 @@ no_fault_fits lists name l none =
     }
 
 -- lists without a fault fit
-pub named_fit : (lists : List Lines) (l : ℕ) (names : List (List ℕ)) (k : ℕ) → faults_of_lists lists l names ≡ [] → k < length names → Fits lists (l + k)
-named_fit lists l [] k none within = absurd (omega arith)
-named_fit lists l (name ∷ names) zero none within = let e : l ≡ l + 0 = omega arith in subst (Fits lists) e (no_fault_fits lists name l (front_none _ _ none))
-named_fit lists l (name ∷ names) (suc k) none within =
-    let e : l + 1 + k ≡ l + suc k = omega arith in subst (Fits lists) e (named_fit lists (l + 1) names k (behind_none _ _ none) (omega arith))
+pub headed_fit : (lists : List Lines) (l : ℕ) (heads : List Head) (k : ℕ) → faults_of_lists lists l heads ≡ [] → k < length heads → Fits lists (l + k)
+headed_fit lists l [] k none within = absurd (omega arith)
+headed_fit lists l (head ∷ heads) zero none within = let e : l ≡ l + 0 = omega arith in subst (Fits lists) e (no_fault_fits lists head l (front_none _ _ none))
+headed_fit lists l (head ∷ heads) (suc k) none within =
+    let e : l + 1 + k ≡ l + suc k = omega arith in subst (Fits lists) e (headed_fit lists (l + 1) heads k (behind_none _ _ none) (omega arith))
 
 -- a list that runs one action and no more
 pub single_fits : (lists : List Lines) (l a : ℕ) → list_at lists l ≡ Lines.Run a Lines.End → Fits lists l
@@ -97,11 +97,11 @@ singles_fit tests tables n are l h =
       | inr none ↦ none_fits (lines_of_tables tests tables) l (list_is tests tables l ∙ ap (lines_of_table tests) none)
     ]
 
--- where the lists with names have no fault, and the others fit, all fit
-pub all_fit : (lists : List Lines) (names : List (List ℕ)) → faults_of_lists lists 0 names ≡ [] → ((l : ℕ) → length names ≤ l → Fits lists l) → (l : ℕ) → Fits lists l
-all_fit lists names none others l =
-    elim (cases_lt l (length names)) [
-      | inl named ↦ let e : 0 + l ≡ l = omega arith in subst (Fits lists) e (named_fit lists 0 names l none named)
+-- where the lists with heads have no fault, and the others fit, all fit
+pub all_fit : (lists : List Lines) (heads : List Head) → faults_of_lists lists 0 heads ≡ [] → ((l : ℕ) → length heads ≤ l → Fits lists l) → (l : ℕ) → Fits lists l
+all_fit lists heads none others l =
+    elim (cases_lt l (length heads)) [
+      | inl headed ↦ let e : 0 + l ≡ l = omega arith in subst (Fits lists) e (headed_fit lists 0 heads l none headed)
       | inr other ↦ others l other
     ]
 
@@ -157,7 +157,7 @@ module _ (tests : List (Formula Test)) (tables : List (List Statement)) (sizes :
         (same_numbers (count_in sizes) (count_of (lines_of_tables tests tables)) counts 0 (table_at numbered l) (numbers l));
   }
 
--- the lists of a plan: those with names have no fault, and those after them run one action each
-pub plan_fits : (tests : List (Formula Test)) (tables : List (List Statement)) (names : List (List ℕ)) → faults_of_lists (lines_of_tables tests tables) 0 names ≡ [] → AreSingles (drop (length names) tables)
+-- the lists of a plan: those with heads have no fault, and those after them run one action each
+pub plan_fits : (tests : List (Formula Test)) (tables : List (List Statement)) (heads : List Head) → faults_of_lists (lines_of_tables tests tables) 0 heads ≡ [] → AreSingles (drop (length heads) tables)
     → (l : ℕ) → Fits (lines_of_tables tests tables) l
-plan_fits tests tables names none singles = all_fit (lines_of_tables tests tables) names none (singles_fit tests tables (length names) singles)
+plan_fits tests tables heads none singles = all_fit (lines_of_tables tests tables) heads none (singles_fit tests tables (length heads) singles)

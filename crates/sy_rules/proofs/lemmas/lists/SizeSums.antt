@@ -11,9 +11,9 @@ use Rattle.sy_rules.specs.declared.fault.FaultCode.TheVariants as code
 use Rattle.sy_rules.specs.declared.lists.sizes.Size.{Size}
 use Rattle.sy_rules.specs.declared.lists.statement.Statement.{Statement}
 use Rattle.sy_rules.specs.declared.lists.statement.Statement.TheVariants as statement
-use Rattle.sy_rules.specs.Faults.{fault, when}
+use Rattle.sy_rules.specs.Faults.{fault_at, when}
 use Rattle.sy_rules.specs.lists.Lines.{Lines, calls, expand, expanded, is_deeper, list_at, statement_count, statements_within, statements_of, body_of}
-use Rattle.sy_rules.specs.check.ScriptFaults.{list_faults, faults_of_lists}
+use Rattle.sy_rules.specs.check.ScriptFaults.{Head, list_faults, faults_of_lists}
 use Rattle.sy_rules.specs.lists.Body.{Body, count}
 use Rattle.sy_rules.specs.internal.Tables.{lines_of_tables, table_at}
 use Rattle.sy_rules.specs.internal.TableSizes.{called, occurrences_in, statements_in, up_to, empty, too_deep, size_at, size_of, size_of_statement, plus, size_within, AreSizes, size_faults, faults_by}
@@ -178,17 +178,17 @@ over limit n =
       | inr few ↦ rw (le-ltb limit n few, le-ltb limit (up_to limit n) (omega arith)) refl
     ]
 
-same_faults : (lists : List Lines) (name : List ℕ) (l : ℕ) → size_faults (size_within lists CALL_DEPTH l) name ≡ list_faults lists name l
-same_faults lists name l =
+same_faults : (lists : List Lines) (h : Head) (l : ℕ) → size_faults (size_within lists CALL_DEPTH l) h ≡ list_faults lists h l
+same_faults lists h l =
     let statements = over STATEMENTS (statements_of lists l) in
     let occurrences = over OCCURRENCES (count (body_of lists l)) in
-    ap (λ b. when (is_deeper lists CALL_DEPTH l) (fault code.CallDepth name) ++ when (b || nat_lt OCCURRENCES (up_to OCCURRENCES (count (body_of lists l)))) (fault code.TooManyDeeds name)) statements
-    ∙ ap (λ b. when (is_deeper lists CALL_DEPTH l) (fault code.CallDepth name) ++ when (nat_lt STATEMENTS (statements_of lists l) || b) (fault code.TooManyDeeds name)) occurrences
+    ap (λ b. when (is_deeper lists CALL_DEPTH l) (fault_at h.span code.CallDepth h.name) ++ when (b || nat_lt OCCURRENCES (up_to OCCURRENCES (count (body_of lists l)))) (fault_at h.span code.TooManyDeeds h.name)) statements
+    ∙ ap (λ b. when (is_deeper lists CALL_DEPTH l) (fault_at h.span code.CallDepth h.name) ++ when (nat_lt STATEMENTS (statements_of lists l) || b) (fault_at h.span code.TooManyDeeds h.name)) occurrences
 
-pub faults_are : (tables : List (List Statement)) (sizes : List Size) → AreSizes tables CALL_DEPTH sizes → (tests : List (Formula Test)) (l : ℕ) (names : List (List ℕ))
-    → faults_by sizes l names ≡ faults_of_lists (lines_of_tables tests tables) l names
+pub faults_are : (tables : List (List Statement)) (sizes : List Size) → AreSizes tables CALL_DEPTH sizes → (tests : List (Formula Test)) (l : ℕ) (heads : List Head)
+    → faults_by sizes l heads ≡ faults_of_lists (lines_of_tables tests tables) l heads
 faults_are tables sizes are tests l [] = refl
-faults_are tables sizes are tests l (name ∷ names) =
+faults_are tables sizes are tests l (h ∷ heads) =
     let lists = lines_of_tables tests tables in
-    ap (λ fs. fs ++ faults_by sizes (l + 1) names) (ap (λ (s : Size). size_faults s name) (are tests l) ∙ same_faults lists name l)
-    ∙ ap (λ fs. list_faults lists name l ++ fs) (faults_are tables sizes are tests (l + 1) names)
+    ap (λ fs. fs ++ faults_by sizes (l + 1) heads) (ap (λ (s : Size). size_faults s h) (are tests l) ∙ same_faults lists h l)
+    ∙ ap (λ fs. list_faults lists h l ++ fs) (faults_are tables sizes are tests (l + 1) heads)

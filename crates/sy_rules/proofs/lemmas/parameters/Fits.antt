@@ -5,7 +5,7 @@ use Rattle.std.proofs.lemmas.Option.{same_Some}
 use Rattle.std.proofs.lemmas.Slice.Eq.{bytes_eq-Decides}
 use Rattle.sy_script.specs.declared.tree.Param.{Param}
 use Rattle.sy_rules.specs.declared.fault.FaultCode.TheVariants as code
-use Rattle.sy_rules.specs.declared.fault.PlanFault.{PlanFault}
+use Rattle.sy_rules.specs.declared.items.fault.ItemFault.{ItemFault}
 use Rattle.sy_rules.specs.declared.parameters.kind.Kind.{Kind}
 use Rattle.sy_rules.specs.Faults.{fault, when}
 use Rattle.sy_rules.specs.parameters.Values.{given, is_given, is_required, has_shape, is_in_range, doubled, bad_value, out_of_range, faults_at, faults_of_given, missing, faults}
@@ -25,11 +25,11 @@ pub no_back : {A : Type 0} (xs ys : List A) → xs ++ ys ≡ [] → ys ≡ []
 no_back [] ys e = e
 no_back (x ∷ xs) ys e = cc
 
-holds : (b : Bool) (f : PlanFault) → when (not b) f ≡ [] → b ≡ true
+holds : (b : Bool) (f : ItemFault) → when (not b) f ≡ [] → b ≡ true
 holds true f e = refl
 holds false f e = cc
 
-holds_too : (a b : Bool) (f : PlanFault) → a ≡ true → when (a && not b) f ≡ [] → b ≡ true
+holds_too : (a b : Bool) (f : ItemFault) → a ≡ true → when (a && not b) f ≡ [] → b ≡ true
 holds_too true true f h e = refl
 holds_too true false f h e = cc
 holds_too false b f h e = cc

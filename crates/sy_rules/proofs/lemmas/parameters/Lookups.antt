@@ -2,7 +2,7 @@
 use Rattle.std.proofs.Common.{◌≡◌, ℕ, Bool, true, false, cond, List, [], ◌∷◌, ◌++◌, Option, Some, None, refl, append_assoc}
 use Rattle.std.specs.Str.{str_eq_ignore_ascii_case}
 use Rattle.sy_script.specs.declared.tree.Param.{Param}
-use Rattle.sy_rules.specs.declared.fault.PlanFault.{PlanFault}
+use Rattle.sy_rules.specs.declared.items.fault.ItemFault.{ItemFault}
 use Rattle.sy_rules.specs.Faults.{first}
 use Rattle.sy_rules.specs.parameters.Values.{missing}
 use Rattle.sy_rules.specs.parameters.Rows.{Row, lookup}
@@ -22,7 +22,7 @@ lookup-append (x ∷ xs) ys name = rw (lookup-append xs ys name) (choose (str_eq
 
 -- ---- the first fault of lists one after another
 
-pub first-append : (xs ys : List PlanFault) → first (xs ++ ys) ≡ or_else (first xs) (first ys)
+pub first-append : (xs ys : List ItemFault) → first (xs ++ ys) ≡ or_else (first xs) (first ys)
 first-append [] ys = refl
 first-append (x ∷ xs) ys = refl
 

@@ -4,10 +4,10 @@ use Rattle.std.specs.Str.{str_eq_ignore_ascii_case}
 use Rattle.std.proofs.lemmas.Option.{same_Some}
 use Rattle.sy_script.specs.declared.tree.Param.{Param}
 use Rattle.sy_rules.specs.declared.fault.FaultCode.TheVariants as code
-use Rattle.sy_rules.specs.declared.fault.PlanFault.{PlanFault}
+use Rattle.sy_rules.specs.declared.items.fault.ItemFault.{ItemFault}
 use Rattle.sy_rules.specs.declared.parameters.kind.Kind.{Kind}
 use Rattle.sy_rules.specs.declared.parameters.kind.Kind.TheVariants as kind
-use Rattle.sy_rules.specs.Faults.{fault, first, when}
+use Rattle.sy_rules.specs.Faults.{fault, fault_of_part, first, when}
 use Rattle.sy_rules.specs.items.ItemFaults.{kind_of_object, object_faults}
 use Rattle.sy_rules.specs.check.ObjectFaults.{HasOwnFault, HasParameterFault, IsClean, IsWord}
 use Rattle.sy_rules.specs.parameters.Objects.{kind_of_action}
@@ -62,14 +62,14 @@ must_be (Absent.Word word) e = absurd cc
 must_be (Absent.Amount n) e = absurd cc
 must_be (Absent.Hundredths n) e = absurd cc
 
-record Misses (ps : List Param) (rs : List Row) (f : PlanFault) : Type 0 where
+record Misses (ps : List Param) (rs : List Row) (f : ItemFault) : Type 0 where
   r : Row
   among : IsAmong r rs
   required : r.absent ≡ Absent.Required
   absent : given r.name ps ≡ None
   is : fault code.Missing r.name ≡ f
 
-misses : (ps : List Param) (rs : List Row) (f : PlanFault) → first (missing rs ps) ≡ Some f → Misses ps rs f
+misses : (ps : List Param) (rs : List Row) (f : ItemFault) → first (missing rs ps) ≡ Some f → Misses ps rs f
 misses ps [] f e = absurd cc
 misses ps (r ∷ rs) f e = elim (first_of (when (is_required r.absent && not (is_given r.name ps)) (fault code.Missing r.name)) (missing rs ps) f e) [
   | inl own ↦
@@ -82,36 +82,36 @@ misses ps (r ∷ rs) f e = elim (first_of (when (is_required r.absent && not (is
 ]
 
 module _ (k : Kind) (ps : List Param) where
-  found_at : (r : Row) (before later : List Param) (p : Param) (f : PlanFault) → ps ≡ before ++ p ∷ later → lookup (rows k) p.name.text ≡ Some r
+  found_at : (r : Row) (before later : List Param) (p : Param) (f : ItemFault) → ps ≡ before ++ p ∷ later → lookup (rows k) p.name.text ≡ Some r
       → first (doubled before p ++ (bad_value r.shape p ++ out_of_range r.shape p)) ≡ Some f → HasParameterFault k ps f
   found_at r before later p f split known e = elim (first_of (doubled before p) (bad_value r.shape p ++ out_of_range r.shape p) f e) [
     | inl twice ↦
-        let w = first_when (is_given p.name.text before) (fault code.Duplicate p.name.text) f twice in
+        let w = first_when (is_given p.name.text before) (fault_of_part p.name.span code.Duplicate p.name.text) f twice in
         let q = given_found p.name.text before w.0 in
         move (HasParameterFault k ps) w.1 (HasParameterFault.twice q.0 p (before, later, split, contained q.0 before q.1) q.2)
     | inr rest ↦ elim (first_of (bad_value r.shape p) (out_of_range r.shape p) f rest.1) [
       | inl bad ↦
-          let w = first_when (not (has_shape r.shape p.value.bytes)) (fault code.BadValue p.name.text) f bad in
+          let w = first_when (not (has_shape r.shape p.value.bytes)) (fault_of_part p.name.span code.BadValue p.name.text) f bad in
           move (HasParameterFault k ps) w.1 (HasParameterFault.bad_value p r (contained p ps (before, later, split)) known (not_true (has_shape r.shape p.value.bytes) w.0))
       | inr out ↦
-          let w = first_when (has_shape r.shape p.value.bytes && not (is_in_range r.shape p.value.bytes)) (fault code.Range p.name.text) f out.1 in
+          let w = first_when (has_shape r.shape p.value.bytes && not (is_in_range r.shape p.value.bytes)) (fault_of_part p.name.span code.Range p.name.text) f out.1 in
           let both = both_true (has_shape r.shape p.value.bytes) (is_in_range r.shape p.value.bytes) w.0 in
           move (HasParameterFault k ps) w.1 (HasParameterFault.out_of_range p r (contained p ps (before, later, split)) known both.0 both.1)
     ]
   ]
 
-  there_at : (o : Option Row) (before later : List Param) (p : Param) (f : PlanFault) → ps ≡ before ++ p ∷ later → lookup (rows k) p.name.text ≡ o → first (faults_at o before p) ≡ Some f → HasParameterFault k ps f
+  there_at : (o : Option Row) (before later : List Param) (p : Param) (f : ItemFault) → ps ≡ before ++ p ∷ later → lookup (rows k) p.name.text ≡ o → first (faults_at o before p) ≡ Some f → HasParameterFault k ps f
   there_at None before later p f split known e = move (HasParameterFault k ps) (same_Some (unknown p) f e) (HasParameterFault.unknown p (contained p ps (before, later, split)) known)
   there_at (Some r) before later p f split known e = found_at r before later p f split known e
 
-  given_there : (before later : List Param) (f : PlanFault) → ps ≡ before ++ later → first (faults_of_given (rows k) before later) ≡ Some f → HasParameterFault k ps f
+  given_there : (before later : List Param) (f : ItemFault) → ps ≡ before ++ later → first (faults_of_given (rows k) before later) ≡ Some f → HasParameterFault k ps f
   given_there before [] f split e = absurd cc
   given_there before (p ∷ later) f split e = elim (first_of (faults_at (lookup (rows k) p.name.text) before p) (faults_of_given (rows k) (before ++ p ∷ []) later) f e) [
     | inl own ↦ there_at (lookup (rows k) p.name.text) before later p f split refl own
     | inr rest ↦ given_there (before ++ p ∷ []) later f (split ∙ sym (append_assoc before (p ∷ []) later)) rest.1
   ]
 
-  parameter_there : (f : PlanFault) → first (faults k ps) ≡ Some f → HasParameterFault k ps f
+  parameter_there : (f : ItemFault) → first (faults k ps) ≡ Some f → HasParameterFault k ps f
   unfolding faults
   parameter_there f e = elim (first_of (faults_of_given (rows k) [] ps) (missing (rows k) ps) f e) [
     | inl own ↦ given_there [] ps f refl own
@@ -138,9 +138,9 @@ missing_at (b ∷ before) after r ps e = missing_at before after r ps (no_back (
 twice_refuted : (o : Option Row) (before : List Param) (q : Param) → is_given q.name.text before ≡ true → faults_at o before q ≡ [] → ⊥
 twice_refuted None before q there e = absurd cc
 twice_refuted (Some r) before q there e =
-    none_when (is_given q.name.text before) (fault code.Duplicate q.name.text) (no_front (doubled before q) (bad_value r.shape q ++ out_of_range r.shape q) e) there
+    none_when (is_given q.name.text before) (fault_of_part q.name.span code.Duplicate q.name.text) (no_front (doubled before q) (bad_value r.shape q ++ out_of_range r.shape q) e) there
 
-given_refuted : (k : Kind) (ps : List Param) (f : PlanFault) → HasParameterFault k ps f → faults_of_given (rows k) [] ps ≡ [] → missing (rows k) ps ≡ [] → ⊥
+given_refuted : (k : Kind) (ps : List Param) (f : ItemFault) → HasParameterFault k ps f → faults_of_given (rows k) [] ps ≡ [] → missing (rows k) ps ≡ [] → ⊥
 given_refuted k ps f (HasParameterFault.missing r contains required absent) e m =
     let among = among_by r (rows k) contains in
     let bad = missing_at among.0 among.1 r ps (subst (λ rs. missing rs ps ≡ []) among.2 m) in
@@ -155,36 +155,36 @@ given_refuted k ps f (HasParameterFault.bad_value p r contains known wrong) e m 
     let among = among_by p ps contains in
     let clean : doubled among.0 p ++ (bad_value r.shape p ++ out_of_range r.shape p) ≡ [] = rw known at (clean_parameter (rows k) ps among.0 among.1 p among.2 e) in
     let bad = no_front (bad_value r.shape p) (out_of_range r.shape p) (no_back (doubled among.0 p) (bad_value r.shape p ++ out_of_range r.shape p) clean) in
-    none_when (not (has_shape r.shape p.value.bytes)) (fault code.BadValue p.name.text) bad (rw wrong refl)
+    none_when (not (has_shape r.shape p.value.bytes)) (fault_of_part p.name.span code.BadValue p.name.text) bad (rw wrong refl)
 given_refuted k ps f (HasParameterFault.out_of_range p r contains known right out) e m =
     let among = among_by p ps contains in
     let clean : doubled among.0 p ++ (bad_value r.shape p ++ out_of_range r.shape p) ≡ [] = rw known at (clean_parameter (rows k) ps among.0 among.1 p among.2 e) in
     let bad = no_back (bad_value r.shape p) (out_of_range r.shape p) (no_back (doubled among.0 p) (bad_value r.shape p ++ out_of_range r.shape p) clean) in
-    none_when (has_shape r.shape p.value.bytes && not (is_in_range r.shape p.value.bytes)) (fault code.Range p.name.text) bad (rw (right, out) refl)
+    none_when (has_shape r.shape p.value.bytes && not (is_in_range r.shape p.value.bytes)) (fault_of_part p.name.span code.Range p.name.text) bad (rw (right, out) refl)
 
-parameter_refuted : (k : Kind) (ps : List Param) (f : PlanFault) → HasParameterFault k ps f → faults k ps ≡ [] → ⊥
+parameter_refuted : (k : Kind) (ps : List Param) (f : ItemFault) → HasParameterFault k ps f → faults k ps ≡ [] → ⊥
 unfolding faults
 parameter_refuted k ps f is e = given_refuted k ps f is (no_front (faults_of_given (rows k) [] ps) (missing (rows k) ps) e) (no_back (faults_of_given (rows k) [] ps) (missing (rows k) ps) e)
 
 -- ---- words
 
-pub word_is_a_name : (k : Kind) (ps : List Param) (f : PlanFault) → HasParameterFault k ps f → IsWord k ps f
-word_is_a_name k ps f (HasParameterFault.missing r contains required absent) = inl (refl, r, contains, required, refl)
-word_is_a_name k ps f (HasParameterFault.twice p q before same) = inr (q, contained q ps (before.0, before.1, before.2), refl)
-word_is_a_name k ps f (HasParameterFault.unknown p contains none) = inr (p, contains, refl)
-word_is_a_name k ps f (HasParameterFault.bad_value p r contains known wrong) = inr (p, contains, refl)
-word_is_a_name k ps f (HasParameterFault.out_of_range p r contains known right out) = inr (p, contains, refl)
+pub word_is_a_name : (k : Kind) (ps : List Param) (f : ItemFault) → HasParameterFault k ps f → IsWord k ps f
+word_is_a_name k ps f (HasParameterFault.missing r contains required absent) = inl (refl, r, contains, required, refl, refl)
+word_is_a_name k ps f (HasParameterFault.twice p q before same) = inr (q, contained q ps (before.0, before.1, before.2), refl, refl)
+word_is_a_name k ps f (HasParameterFault.unknown p contains none) = inr (p, contains, refl, refl)
+word_is_a_name k ps f (HasParameterFault.bad_value p r contains known wrong) = inr (p, contains, refl, refl)
+word_is_a_name k ps f (HasParameterFault.out_of_range p r contains known right out) = inr (p, contains, refl, refl)
 
 -- ---- items
 
-pub own_there : (x : Item) (f : PlanFault) → first (object_faults x) ≡ Some f → HasOwnFault x f
+pub own_there : (x : Item) (f : ItemFault) → first (object_faults x) ≡ Some f → HasOwnFault x f
 own_there (Item.Object found ps) f e = parameter_there (kind_of_object found) ps f e
 own_there (Item.Ruleset ps) f e = parameter_there kind.Ruleset ps f e
 own_there (Item.Action ps) f e = parameter_there (kind_of_action ps) ps f e
 own_there (Item.Call name) f e = absurd cc
 own_there (Item.Test test) f e = absurd cc
 
-pub own_refuted : (x : Item) (f : PlanFault) → HasOwnFault x f → object_faults x ≡ [] → ⊥
+pub own_refuted : (x : Item) (f : ItemFault) → HasOwnFault x f → object_faults x ≡ [] → ⊥
 own_refuted (Item.Object found ps) f is e = parameter_refuted (kind_of_object found) ps f is e
 own_refuted (Item.Ruleset ps) f is e = parameter_refuted kind.Ruleset ps f is e
 own_refuted (Item.Action ps) f is e = parameter_refuted (kind_of_action ps) ps f is e

@@ -9,7 +9,7 @@ use Rattle.std.specs.List.{list_any}
 use Rattle.std.specs.Str.{bytes_eq}
 use Rattle.sy_script.specs.declared.tree.ObjectKind.TheVariants as object
 use Rattle.sy_rules.specs.Limits.{ACTIONS, INPUTS}
-use Rattle.sy_rules.specs.declared.fault.PlanFault.{PlanFault}
+use Rattle.sy_rules.specs.declared.items.fault.ItemFault.{ItemFault}
 use Rattle.sy_rules.specs.declared.fault.FaultCode.TheVariants as code
 use Rattle.sy_rules.specs.declared.parameters.objects.ActionParameters.{ActionParameters}
 use Rattle.sy_rules.specs.Faults.{fault, when}
@@ -43,7 +43,7 @@ not_both : (b : Bool) → b ≡ false → b ≡ true → ⊥
 not_both true e h = cc
 not_both false e h = cc
 
-not_there : (b : Bool) (f : PlanFault) → when b f ≡ [] → b ≡ false
+not_there : (b : Bool) (f : ItemFault) → when b f ≡ [] → b ≡ false
 not_there true f e = cc
 not_there false f e = refl
 

@@ -1,5 +1,7 @@
 -- The way to a loaded plan, over plain variables.
-use Rattle.std.proofs.Common.{◌≡◌, ℕ, ◌<◌, ◌∷◌, inl, inr, List, [], ◌++◌, Option, length, slice_get, sym, ap, ◌∙◌, subst, arith}
+use Rattle.std.proofs.Common.{◌≡◌, ℕ, suc, ◌+◌, ◌<◌, ◌∷◌, inl, inr, List, [], ◌++◌, Option, length, slice_get, refl, sym, ap, ◌∙◌, subst, arith}
+use Rattle.std.specs.List.{cons_option, filter_map}
+use Rattle.sy_script.specs.declared.tree.Span.{Span}
 use Rattle.sy_select.specs.declared.condition.Test.{Test}
 use Rattle.sy_select.specs.Truth.{Formula}
 use Rattle.sy_rules.specs.declared.fault.PlanFault.{PlanFault}
@@ -9,7 +11,9 @@ use Rattle.sy_rules.specs.declared.lists.statement.Statement.{Statement}
 use Rattle.sy_rules.specs.Faults.{IsAnswered}
 use Rattle.sy_rules.specs.lists.Lines.{Lines, lists_of, body_of}
 use Rattle.sy_rules.specs.PlanValue.{Listed, listed_from}
-use Rattle.sy_rules.specs.check.ScriptFaults.{faults_of_lists}
+use Rattle.sy_rules.specs.check.ScriptFaults.{Head, faults_of_lists, head_at, head_of, heads_of}
+use Rattle.sy_rules.specs.items.Outline.{Item, Placed, items_of}
+use Rattle.sy_rules.specs.parts.Plans.{ruleset_at, rulesets_of}
 use Rattle.sy_rules.specs.lists.Texts.{Part}
 use Rattle.sy_rules.specs.lists.Sets.{Bits}
 use Rattle.sy_rules.specs.lists.Body.{Body}
@@ -31,9 +35,24 @@ pub same_lists : (rulesets rulesets2 : List RulesetParameters) (actions actions2
 same_lists rulesets rulesets2 actions actions2 tests ps e f =
     ap (λ rs. lists_of (record { rulesets = rs; actions = actions; tests = tests }) ps) e ∙ ap (λ xs. lists_of (record { rulesets = rulesets2; actions = xs; tests = tests }) ps) f
 
--- the faults of the same lists by the same names
-pub same_faults : (lists lists2 : List Lines) (names names2 : List (List ℕ)) → lists ≡ lists2 → names ≡ names2 → faults_of_lists lists 0 names ≡ faults_of_lists lists2 0 names2
-same_faults lists lists2 names names2 e f = ap (λ l. faults_of_lists l 0 names) e ∙ ap (λ n. faults_of_lists lists2 0 n) f
+-- the faults of the same lists by the same heads
+pub same_faults : (lists lists2 : List Lines) (heads heads2 : List Head) → lists ≡ lists2 → heads ≡ heads2 → faults_of_lists lists 0 heads ≡ faults_of_lists lists2 0 heads2
+same_faults lists lists2 heads heads2 e f = ap (λ l. faults_of_lists l 0 heads) e ∙ ap (λ h. faults_of_lists lists2 0 h) f
+
+-- There are as many heads as rulesets, with the default one.
+one_head_each : (span : Span) (x : Item) (heads : List Head) (rulesets : List RulesetParameters) → length heads ≡ length rulesets → length (cons_option (head_at span x) heads) ≡ length (cons_option (ruleset_at x) rulesets)
+one_head_each span (Item.Ruleset ps) heads rulesets e = ap suc e
+one_head_each span (Item.Object found ps) heads rulesets e = e
+one_head_each span (Item.Action ps) heads rulesets e = e
+one_head_each span (Item.Call name) heads rulesets e = e
+one_head_each span (Item.Test test) heads rulesets e = e
+
+as_many_heads : (all : List Placed) → length (filter_map head_of all) ≡ length (rulesets_of (items_of all))
+as_many_heads [] = refl
+as_many_heads (x ∷ all) = one_head_each x.span x.item (filter_map head_of all) (rulesets_of (items_of all)) (as_many_heads all)
+
+pub length-heads : (all : List Placed) → length (heads_of all) ≡ length (rulesets_of (items_of all)) + 1
+length-heads all = omega (arith, as_many_heads all)
 
 pub same_answer : (faults faults2 : List PlanFault) (f : PlanFault) → faults ≡ faults2 → IsAnswered faults f → IsAnswered faults2 f
 same_answer faults faults2 f e h = subst (λ fs. IsAnswered fs f) e h

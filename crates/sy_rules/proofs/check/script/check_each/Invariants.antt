@@ -1,6 +1,6 @@
 use Rattle.std.proofs.Common.{◌≡◌, [], take, drop, map}
-use Rattle.sy_rules.specs.internal.ItemViews.{item}
-use Rattle.sy_rules.specs.check.ScriptFaults.{faults_after}
+use Rattle.sy_rules.specs.internal.ItemViews.{item, placed}
+use Rattle.sy_rules.specs.check.ScriptFaults.{faults_in_text}
 use Rattle.sy_rules.specs.internal.Seen.{Shows}
 use Rattle.sy_rules.proofs.check.script.check_each.Given as goal
 
@@ -8,5 +8,5 @@ use Rattle.sy_rules.proofs.check.script.check_each.Given as goal
 abbrev pub invariant-loop-next : goal.invariant-loop-next
 invariant-loop-next l = record {
   shows : Shows (take l.next-index (map item l.items)) l.seen;
-  left : faults_after (map item l.items) (take l.next-index (map item l.items)) (drop l.next-index (map item l.items)) ≡ faults_after (map item l.items) [] (map item l.items);
+  left : faults_in_text (map item l.items) (take l.next-index (map item l.items)) (drop l.next-index (map placed l.items)) ≡ faults_in_text (map item l.items) [] (map placed l.items);
 }
