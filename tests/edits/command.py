@@ -54,25 +54,25 @@ def edits_of(top, crate, wanted):
     return good, bad
 
 
-def control_of(top, crate):
+def controls_of(top, crate):
     """The crate's control, and what is to be said where there is none."""
     file, label = f"{top}/tests/edits/controls/{crate}.edit", f"{crate}/control"
     if not os.path.isfile(file):
-        return None, [rounds.Tried(label, False, f"there is no control tests/edits/controls/{crate}.edit")]
+        return [], [rounds.Tried(label, False, f"there is no control tests/edits/controls/{crate}.edit")]
     try:
         control = edits.read_edit(crate, file)
     except edits.BadEdit as why:
-        return None, [rounds.Tried(label, False, f"BAD EDIT: {why}")]
+        return [], [rounds.Tried(label, False, f"BAD EDIT: {why}")]
     control.name = "control"
-    return control, []
+    return [control], []
 
 
 def try_one(top, crate, wanted):
     """Tries a crate's edits and its control: what came of each, what that took, and the time."""
     began = time.monotonic()
     good, bad = edits_of(top, crate.name, wanted)
-    control, lacking = control_of(top, crate.name)
-    tried, cost = rounds.try_crate(crate, good, control) if good or control else ([], "no check")
+    controls, lacking = controls_of(top, crate.name)
+    tried, cost = rounds.try_crate(crate, good, controls) if good or controls else ([], "no check")
     return crate.name, [*bad, *lacking, *tried], cost, time.monotonic() - began
 
 

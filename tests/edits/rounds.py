@@ -31,11 +31,10 @@ class Round:
 class Trial:
     """The edits of one crate, tried in checks over the same kept work."""
 
-    def __init__(self, crate, given, control, room):
+    def __init__(self, crate, given, controls, room):
         self.crate, self.room, self.kept = crate, f"{room}/source", f"{room}/kept"
         self.sources = edits.Crate(crate.folder)
-        self.controls = [control] if control else []
-        self.given, self.checks, self.seconds, self.found = given, 0, 0.0, {}
+        self.controls, self.given, self.checks, self.seconds, self.found = controls, given, 0, 0.0, {}
         os.makedirs(self.room)
 
     def run(self):
@@ -70,7 +69,7 @@ class Trial:
 
     def add(self, chosen, edit):
         """Adds an edit to a round where no other edit there changes its function, its cycle of calls, or a constant
-        that it uses."""
+        that it uses, and it changes none of another's."""
         try:
             sources, places = chosen.sources.with_edit(edit)
         except edits.BadEdit:
@@ -78,7 +77,8 @@ class Trial:
         functions, constants = self.sources.touched(places)
         _, users = self.sources.using(constants) if constants else (set(), [])
         groups = {self.sources.cycle(edit.function)}
-        names = {(it.file, it.name, it.owner) for it in [*functions, *users]}
+        changed = [*functions, *users, *self.sources.named(edit.function)]
+        names = {(it.file, it.name, it.owner) for it in changed}
         if groups & chosen.groups or names & chosen.names:
             return False
         chosen.sources, chosen.groups, chosen.names = sources, chosen.groups | groups, chosen.names | names
@@ -177,8 +177,8 @@ class Trial:
         self.found[edit.name] = Tried(edit.label, is_well, text)
 
 
-def try_crate(crate, given, control):
-    """Tries a crate's edits and its control; returns what came of each, and what that took."""
+def try_crate(crate, given, controls):
+    """Tries a crate's edits and its controls; returns what came of each, and what that took."""
     with tempfile.TemporaryDirectory(prefix="syc-edits-") as room:
-        trial = Trial(crate, given, control, room)
+        trial = Trial(crate, given, controls, room)
         return trial.run(), f"{trial.checks} checks, {trial.seconds:.0f} processor seconds"

@@ -59,6 +59,16 @@ impl Chain {
         }
     }
 
+    /// The chain of these nodes, front first. It takes no memory.
+    pub fn from_nodes(nodes: VecDeque<Node>) -> Chain
+        ensures { result ≡ nodes.items }
+    {
+        Chain {
+            alloc: *nodes.allocator(),
+            nodes,
+        }
+    }
+
     pub fn len(&self) -> usize
         ensures { result ≡ length self.now }
     {

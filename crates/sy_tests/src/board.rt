@@ -1,41 +1,47 @@
-//! A board at work.
+//! Boards at work: calls of one board, each with its answer.
+
 use super::chain::{RAW, node};
-use std::alloc::Global;
-use std::process::Abort;
+use crate::rows::{Judge, cut, each_is_right, number};
+use std::alloc::{AllocError, Global};
+use std::str;
 use std::test::Fail;
-use sy_board::{Board, BoardFault, Entry, Hold, Job, Taken};
+use sy_board::{Board, Entry, Hold, Job, Taken};
 
-// The board has taken so many messages; so many are in hands, so many in queues, so many were grabbed.
-fn counts(board: &Board) -> [u64; 4] {
-    let accounts = board.accounts();
-    [
-        accounts.taken,
-        accounts.in_hands,
-        accounts.in_queues,
-        accounts.grabbed,
-    ]
-}
+const WRONG: u64 = u64::MAX;
 
-fn is_taken(alloc: Global, board: &mut Board, tag: u64) -> bool {
-    match node(alloc, tag) {
-        Some(node) => matches!(board.take(0, 0, node), Ok(Taken::InHand)),
-        None => false,
+// A fault is answered by its number. What goes well is answered by 0, by how many were grabbed or by the tag of the
+// entry; a message that is held by 1, and no job by 0. Tags count from 1.
+fn take(alloc: Global, board: &mut Board, tag: u64) -> Option<u64> {
+    match board.take(0, 0, node(alloc, tag)?) {
+        Ok(Taken::InHand) => Some(0),
+        Ok(Taken::Discarded(_)) => None,
+        Err((_, fault)) => Some(u64::from(fault.number())),
     }
 }
 
-fn is_refused(alloc: Global, board: &mut Board, tag: u64) -> bool {
-    match node(alloc, tag) {
-        Some(node) => matches!(board.take(0, 0, node), Err((_, BoardFault::HandTaken))),
-        None => false,
+fn enter(board: &mut Board) -> u64 {
+    match board.enter(0, 0) {
+        Ok(Entry::Entered) => 0,
+        Ok(Entry::Held(Hold::Full)) => 1,
+        Err(fault) => u64::from(fault.number()),
     }
 }
 
-fn is_entered(board: &mut Board) -> bool {
-    matches!(board.enter(0, 0), Ok(Entry::Entered))
+fn grab(board: &mut Board) -> u64 {
+    match board.grab(0) {
+        Ok((count, lost)) => { if lost.is_empty() { count as u64 } else { WRONG } }
+        Err(fault) => u64::from(fault.number()),
+    }
 }
 
-// The worker has the message with this tag.
-fn is_next(board: &Board, wanted: u64) -> bool {
+fn grab_all(board: &mut Board) -> u64 {
+    match board.grab_all(0) {
+        Ok(count) => count as u64,
+        Err(fault) => u64::from(fault.number()),
+    }
+}
+
+fn job(board: &Board) -> u64 {
     match board.job(0) {
         Some(
             Job::Run {
@@ -43,87 +49,83 @@ fn is_next(board: &Board, wanted: u64) -> bool {
                 message,
                 tag,
             },
-        ) => action == 0 && message.raw() == RAW && tag == wanted,
-        _ => false,
+        ) => {
+            if action == 0 && message.raw() == RAW {
+                tag
+            } else {
+                WRONG
+            }
+        }
+        None => 0,
     }
 }
 
-// How many the worker took from the queue; none were lost.
-fn grabbed(board: &mut Board) -> Option<usize> {
-    match board.grab(0) {
-        Ok((count, lost)) if lost.is_empty() => Some(count),
-        _ => None,
+fn settle(board: &mut Board) -> u64 {
+    match board.settle(0) {
+        Ok(()) => 0,
+        Err(fault) => u64::from(fault.number()),
     }
 }
 
-fn has_nothing(board: &mut Board) -> bool {
-    matches!(board.enter(0, 0), Err(BoardFault::HandEmpty))
-        && matches!(board.settle(0), Err(BoardFault::NoJob))
-        && matches!(board.settle_out(0), Err(BoardFault::NoJob))
-        && matches!(board.grab_all(0), Ok(0))
-        && board.job(0).is_none()
-}
-
-// From the input's hand through the queue to the worker.
-fn carries(alloc: Global, board: &mut Board) -> bool {
-    is_taken(alloc, board, 7)
-        && counts(board) == [1, 1, 0, 0]
-        && is_refused(alloc, board, 8)
-        && is_entered(board)
-        && counts(board) == [1, 0, 1, 0]
-        && grabbed(board) == Some(1)
-        && counts(board) == [1, 0, 0, 1]
-        && matches!(board.grab_all(0), Err(BoardFault::SlotBusy))
-        && is_next(board, 7)
-        && board.settle(0).is_ok()
-}
-
-#[test]
-fn carries_a_message(rt: HostRuntime) -> Result<(), Fail> {
-    let mut board = Board::single(rt.alloc())?;
-    assert!(rt; has_nothing(&mut board));
-    assert!(rt; carries(rt.alloc(), &mut board));
-    assert!(rt; has_nothing(&mut board));
-    Ok(())
-}
-
-// Each message comes into the queue, then one is held.
-fn fill(rt: &impl Abort, alloc: Global, board: &mut Board, count: u64) {
-    for tag in 0..count {
-        assert!(rt; is_taken(alloc, board, tag) && is_entered(board));
-    }
-    assert!(rt; is_taken(alloc, board, count));
-    assert!(rt; matches!(board.enter(0, 0), Ok(Entry::Held(Hold::Full))));
-}
-
-fn settled(board: &mut Board) -> Option<u64> {
+fn settle_out(board: &mut Board) -> u64 {
     match board.settle_out(0) {
-        Ok(node) => Some(node.tag()),
-        Err(_) => None,
+        Ok(node) => node.tag(),
+        Err(fault) => u64::from(fault.number()),
     }
 }
 
-// The worker has the messages in order.
-fn empty(rt: &impl Abort, board: &mut Board, count: u64) {
-    for tag in 0..count {
-        assert!(rt; is_next(board, tag) && settled(board) == Some(tag));
+fn total(board: &Board, name: &str) -> u64 {
+    let accounts = board.accounts();
+    match name {
+        "taken" => accounts.taken,
+        "in_hands" => accounts.in_hands,
+        "in_queues" => accounts.in_queues,
+        "grabbed" => accounts.grabbed,
+        _ => WRONG,
     }
 }
 
-// What the worker grabs makes room for the message that is held.
-fn makes_room(board: &mut Board) -> bool {
-    counts(board) == [50_001, 1, 50_000, 0]
-        && grabbed(board) == Some(1_024)
-        && counts(board) == [50_001, 1, 48_976, 1_024]
-        && is_entered(board)
+fn answer(alloc: Global, board: &mut Board, call: &str, tag: u64) -> Option<u64> {
+    match call {
+        "take" => take(alloc, board, tag),
+        "enter" => Some(enter(board)),
+        "grab" => Some(grab(board)),
+        "grab_all" => Some(grab_all(board)),
+        "job" => Some(job(board)),
+        "settle" => Some(settle(board)),
+        "settle_out" => Some(settle_out(board)),
+        name => Some(total(board, name)),
+    }
 }
+
+#[derive(Drop)]
+struct Calls;
+
+impl Judge for Calls {
+    fn is_right(&self, alloc: Global, text: &[u8], _: &str, _: &str) -> Result<bool, AllocError> {
+        let mut board = Board::single(alloc)?;
+        let mut tag = 0u64;
+        let mut is_right = true;
+        for word in str::from_utf8(text).unwrap_or("").split_whitespace() {
+            let (call, wanted) = cut(word, '=');
+            tag = tag.saturating_add(u64::from(call == "take"));
+            let answer = answer(alloc, &mut board, call, tag);
+            is_right = is_right && answer == Some(u64::from(number(Some(wanted))));
+        }
+        Ok(is_right)
+    }
+}
+
+const CALLS: &str = "
+// From the input's hand through the queue to the worker.
+enter=82 settle=84 settle_out=84 grab_all=0 job=0
+take=0 taken=1 in_hands=1 in_queues=0 grabbed=0 take=81 enter=0 in_hands=0 in_queues=1 grab=1 in_queues=0 grabbed=1 grab_all=83 job=1 settle=0 job=0 enter=82 settle=84 settle_out=84 grab_all=0
+// While the queue is full a message is held; what the worker grabs makes room for it. The worker has the messages in order.
+%[50000]take=0 enter=0 %[1]take=0 enter=1 taken=50001 in_hands=1 in_queues=50000 grabbed=0 grab=1024 in_hands=1 in_queues=48976 grabbed=1024 enter=0 %[1024]job=@ settle_out=@ %[1]grab=1024 job=1025
+";
 
 #[test]
-fn holds_a_message_while_the_queue_is_full(rt: HostRuntime) -> Result<(), Fail> {
-    let mut board = Board::single(rt.alloc())?;
-    fill(&rt, rt.alloc(), &mut board, 50_000);
-    assert!(rt; makes_room(&mut board));
-    empty(&rt, &mut board, 1_024);
-    assert!(rt; grabbed(&mut board) == Some(1_024) && is_next(&board, 1_024));
+fn calls_with_their_answers(rt: HostRuntime) -> Result<(), Fail> {
+    each_is_right(&rt, rt.alloc(), ("", "~"), CALLS, &Calls)?;
     Ok(())
 }

@@ -1,9 +1,10 @@
-//! Chains of nodes.
-ghost use Rattle.std.specs.Prelude.{IfSome};
+//! Nodes, and chains of them.
+ghost use Rattle.std.specs.Prelude.{◌≡◌, IfSome};
 ghost use Rattle.sy_board.specs.States.{IsOfList};
 
-use std::alloc::Global;
-use std::process::Abort;
+use crate::rows::{Judge, cut, each_is_right, number};
+use std::alloc::{AllocError, Global};
+use std::str;
 use std::sync::Arc;
 use std::test::Fail;
 use sy_chain::{Chain, Node, RenewFault};
@@ -11,18 +12,25 @@ use sy_wire::Message;
 
 pub(super) const RAW: &[u8] = b"<34>1 - - - - - -";
 
-fn message(alloc: Global) -> Option<Arc<Message>> {
-    match Message::read(RAW.to_vec(alloc).ok()?) {
+fn message(alloc: Global, raw: &[u8]) -> Option<Arc<Message>> {
+    match Message::read(raw.to_vec(alloc).ok()?) {
         Ok(message) => Arc::new(alloc, message).ok(),
         Err(_) => None,
     }
+}
+
+// A node of this message, with this due set, of the first list and input.
+pub(super) fn entry(alloc: Global, raw: &[u8], due: u64, tag: u64) -> Option<Node>
+    ensures { IfSome result (λ n. (n.list ≡ 0) × (n.input ≡ 0) × (n.due ≡ due)) }
+{
+    Node::new(alloc, message(alloc, raw)?, 0, 0, due, tag).ok()
 }
 
 // A node of a board's list.
 pub(super) fn node(alloc: Global, tag: u64) -> Option<Node>
     ensures { IfSome result (λ n. IsOfList 0 n) }
 {
-    Node::new(alloc, message(alloc)?, 0, 0, 1, tag).ok()
+    entry(alloc, RAW, 1, tag)
 }
 
 const OTHER: &[u8] = b"<35>1 - - - - - - b";
@@ -62,41 +70,15 @@ fn carries_another_message(rt: HostRuntime) -> Result<(), Fail> {
 }
 
 // Puts nodes with these tags at the end.
-fn push(alloc: Global, chain: &mut Chain, tags: &[u64]) -> Option<()> {
-    for tag in tags {
-        chain.push_back(node(alloc, *tag)?).ok()?;
+fn push(alloc: Global, chain: &mut Chain, tags: &str) -> Option<()> {
+    for tag in tags.split_whitespace() {
+        let tag = u64::from(number(Some(tag)));
+        chain.push_back(node(alloc, tag)?).ok()?;
     }
     Some(())
 }
 
-fn next_tag(chain: &mut Chain) -> Option<u64> {
-    match chain.pop_front() {
-        Some(node) => Some(node.tag()),
-        None => None,
-    }
-}
-
-// The nodes have these tags, while the chain empties.
-fn has_tags(rt: &impl Abort, chain: &mut Chain, tags: &[u64]) {
-    assert!(rt; chain.len() == tags.len());
-    for tag in tags {
-        assert!(rt; next_tag(chain) == Some(*tag));
-    }
-    assert!(rt; chain.is_empty());
-}
-
-/// What is appended to what, how many nodes are then cut off, these, and what is left.
-const ROWS: [(&[u64], &[u64], usize, &[u64], &[u64]); 7] = [
-    (&[], &[], 0, &[], &[]),
-    (&[1, 2], &[], 0, &[], &[1, 2]),
-    (&[], &[3], 1, &[3], &[]),
-    (&[1, 2], &[3, 4, 5], 0, &[], &[1, 2, 3, 4, 5]),
-    (&[1, 2], &[3, 4, 5], 1, &[1], &[2, 3, 4, 5]),
-    (&[1, 2], &[3, 4, 5], 4, &[1, 2, 3, 4], &[5]),
-    (&[1, 2], &[3, 4, 5], 5, &[1, 2, 3, 4, 5], &[]),
-];
-
-fn joined(alloc: Global, first: &[u64], second: &[u64]) -> Option<Chain> {
+fn joined(alloc: Global, first: &str, second: &str) -> Option<Chain> {
     let (mut chain, mut other) = (Chain::new(alloc), Chain::new(alloc));
     push(alloc, &mut chain, first)?;
     push(alloc, &mut other, second)?;
@@ -104,43 +86,73 @@ fn joined(alloc: Global, first: &[u64], second: &[u64]) -> Option<Chain> {
     Some(chain)
 }
 
-fn is_cut(rt: &impl Abort, chain: &mut Chain, count: usize, front: &[u64], rest: &[u64]) {
-    assert!(rt; count <= chain.len());
-    match chain.cut_front(count) {
-        Ok(mut cut) => has_tags(rt, &mut cut, front),
-        Err(_) => panic!(rt; "no memory"),
+// Whether the next node has this tag, and the due set that it is given.
+fn is_next(chain: &mut Chain, tag: &str) -> bool {
+    if chain.is_empty() {
+        return false;
     }
-    has_tags(rt, chain, rest);
-}
-
-fn each_joins_and_cuts(
-    rt: &impl Abort,
-    alloc: Global,
-    rows: &[(&[u64], &[u64], usize, &[u64], &[u64])],
-) -> Option<()> {
-    for (first, second, count, front, rest) in rows {
-        is_cut(rt, &mut joined(alloc, first, second)?, *count, front, rest);
-    }
-    Some(())
-}
-
-#[test]
-fn joins_and_cuts(rt: HostRuntime) {
-    assert!(rt; each_joins_and_cuts(&rt, rt.alloc(), &ROWS).is_some());
-}
-
-fn front_due(chain: &Chain) -> Option<u64> {
-    match chain.front() {
-        Some(node) => Some(node.due()),
-        None => None,
-    }
-}
-
-#[test]
-fn changes_the_first_due_set(rt: HostRuntime) {
-    let mut chain = Chain::new(rt.alloc());
-    assert!(rt; push(rt.alloc(), &mut chain, &[1, 2]).is_some());
-    assert!(rt; 0 < chain.len());
     chain.set_due(7);
-    assert!(rt; front_due(&chain) == Some(7));
+    let is_due = match chain.front() {
+        Some(node) => node.due() == 7,
+        None => false,
+    };
+    match chain.pop_front() {
+        Some(node) => is_due && node.tag() == u64::from(number(Some(tag))),
+        None => false,
+    }
+}
+
+// The nodes have these tags, while the chain empties.
+fn has_tags(chain: &mut Chain, tags: &str) -> bool {
+    let mut is_right = true;
+    for tag in tags.split_whitespace() {
+        is_right = is_right && is_next(chain, tag);
+    }
+    is_right && chain.len() == 0
+}
+
+// The tags of a chain and of one that is appended to it; how many nodes are then cut off, their tags, and those that
+// are left.
+#[derive(Drop)]
+struct Chains;
+
+impl Judge for Chains {
+    fn is_right(
+        &self,
+        alloc: Global,
+        text: &[u8],
+        _: &str,
+        wanted: &str,
+    ) -> Result<bool, AllocError> {
+        let (first, second) = cut(str::from_utf8(text).unwrap_or(""), '+');
+        let Some(mut chain) = joined(alloc, first, second) else {
+            return Err(AllocError);
+        };
+        let (count, tags) = cut(wanted, ':');
+        let (front, rest) = cut(tags, '/');
+        let count = number(Some(count)) as usize;
+        if chain.len() < count {
+            return Ok(false);
+        }
+        match chain.cut_front(count) {
+            Ok(mut cut) => Ok(has_tags(&mut cut, front) && has_tags(&mut chain, rest)),
+            Err(_) => Err(AllocError),
+        }
+    }
+}
+
+const CHAINS: &str = "
+0: / | +
+0: / 1 2 | 1 2 +
+1: 3 / | + 3
+0: / 1 2 3 4 5 | 1 2 + 3 4 5
+1: 1 / 2 3 4 5 | 1 2 + 3 4 5
+4: 1 2 3 4 / 5 | 1 2 + 3 4 5
+5: 1 2 3 4 5 / | 1 2 + 3 4 5
+";
+
+#[test]
+fn joins_and_cuts(rt: HostRuntime) -> Result<(), Fail> {
+    each_is_right(&rt, rt.alloc(), ("", "~"), CHAINS, &Chains)?;
+    Ok(())
 }

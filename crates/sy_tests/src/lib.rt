@@ -9,6 +9,8 @@ mod board;
 #[cfg(test)]
 mod chain;
 #[cfg(test)]
+mod marks;
+#[cfg(test)]
 mod rows;
 #[cfg(test)]
 mod rules;

@@ -105,6 +105,15 @@ fn is_right(
     judge.is_right(alloc, text.as_slice(), usual, wanted.trim())
 }
 
+fn is_row(line: &str) -> bool {
+    !line.is_empty() && !line.starts_with("//")
+}
+
+// Ends the test with a row that isn't right.
+fn hold(rt: &impl Abort, is_right: bool, row: &str) {
+    assert!(rt; is_right, "{row}");
+}
+
 /// What is wanted of each row holds. The frame is a text around that of each row, which stands in it for `~`.
 pub fn each_is_right(
     rt: &impl Abort,
@@ -114,16 +123,15 @@ pub fn each_is_right(
     judge: &impl Judge,
 ) -> Result<(), AllocError> {
     for row in rows.lines() {
-        if !row.is_empty() && !row.starts_with("//") {
-            let is_right = is_right(alloc, form, row, judge)?;
-            assert!(rt; is_right, "{row}");
+        if is_row(row) {
+            hold(rt, is_right(alloc, form, row, judge)?, row);
         }
     }
     Ok(())
 }
 
-/// What is wanted of each row holds, in each frame of a table: what is usual in it, ` | `, and the frame.
-pub fn each_is_right_in(
+// The same in each frame of a text: what is usual in it, ` | `, and the frame.
+fn each_is_right_in_frames(
     rt: &impl Abort,
     alloc: Global,
     frames: &str,
@@ -131,10 +139,23 @@ pub fn each_is_right_in(
     judge: &impl Judge,
 ) -> Result<(), AllocError> {
     for line in frames.lines() {
-        if !line.is_empty() && !line.starts_with("//") {
+        if is_row(line) {
             let (usual, frame) = cut(line, '|');
             each_is_right(rt, alloc, (usual.trim(), frame.trim()), rows, judge)?;
         }
+    }
+    Ok(())
+}
+
+/// What is wanted of each row holds in each frame, in tables of frames and of rows.
+pub fn each_is_right_in(
+    rt: &impl Abort,
+    alloc: Global,
+    tables: &[(&str, &str)],
+    judge: &impl Judge,
+) -> Result<(), AllocError> {
+    for (frames, rows) in tables {
+        each_is_right_in_frames(rt, alloc, frames, rows, judge)?;
     }
     Ok(())
 }

@@ -5,6 +5,7 @@ use super::faults::planned;
 use super::flows::set;
 use crate::rows::{Judge, cut, each_is_right, number};
 use std::alloc::{AllocError, Global};
+use std::process::Abort;
 use std::test::Fail;
 use sy_rules::Plan;
 use sy_wire::Message;
@@ -242,7 +243,7 @@ const ALL: &str = r#"
 0 1111111111111111111111111111111111111111111111111111111111111111 | <13>1 - - - - - -
 "#;
 
-const DUE: [(&str, &str); 9] = [
+static DUE: [(&str, &str); 9] = [
     (COLLECTOR, COLLECTED),
     (EDGE, KEPT),
     (HUB, QUEUED),
@@ -254,10 +255,19 @@ const DUE: [(&str, &str); 9] = [
     (MOST, ALL),
 ];
 
+fn each_is_due(
+    rt: &impl Abort,
+    alloc: Global,
+    configurations: &[(&str, &str)],
+) -> Result<(), AllocError> {
+    for (text, rows) in configurations {
+        each_is_right(rt, alloc, (text, "~"), rows, &Due)?;
+    }
+    Ok(())
+}
+
 #[test]
 fn what_messages_execute(rt: HostRuntime) -> Result<(), Fail> {
-    for (text, rows) in DUE {
-        each_is_right(&rt, rt.alloc(), (text, "~"), rows, &Due)?;
-    }
+    each_is_due(&rt, rt.alloc(), &DUE)?;
     Ok(())
 }

@@ -187,9 +187,7 @@ const FAULTS: &str = r#"
 // too many workers before the faults of lists, and of those the earlier list's
 44 queue.workerThreads | ruleset(name="a") { call a } main_queue(queue.workerThreads="64") ruleset(name="b" queue.type="LinkedList" queue.workerThreads="64") { } ruleset(name="c" queue.type="LinkedList" queue.workerThreads="64") { } ruleset(name="d" queue.type="LinkedList" queue.workerThreads="64") { } ruleset(name="e" queue.type="LinkedList") { }
 45 RSYSLOG_DefaultRuleset | ruleset(name="a") { call a } call b ruleset(name="b") { call b }
-"#;
-
-const PLANS: &str = r#"
+// scripts that look like them, and are plans
 0 |
 0 | main_queue()
 0 | global()
@@ -222,9 +220,7 @@ const PLANS: &str = r#"
 0 | stop stop stop
 0 | ruleset(name="a" queue.type="LinkedList") { call a }
 0 | ruleset(name="a") { call b } ruleset(name="b" queue.type="LinkedList") { call a }
-"#;
-
-const LIMITS: &str = r#"
+// at the limits of a relay, and one above them
 // 64 inputs; the one more has other faults after this one
 0 | module(load="imtcp") %[64]input(type="imtcp" port="@")
 44 input | module(load="imtcp") %[64]input(type="imtcp" port="@") %[1]input(type="imtcp" port="64" ruleset="nowhere")
@@ -303,9 +299,6 @@ fn places_of_faults(rt: HostRuntime) -> Result<(), Fail> {
 
 #[test]
 fn faults_and_plans(rt: HostRuntime) -> Result<(), Fail> {
-    let judge = Scripts { memory: 0 };
-    each_is_right(&rt, rt.alloc(), ("", "~"), FAULTS, &judge)?;
-    each_is_right(&rt, rt.alloc(), ("", "~"), PLANS, &judge)?;
-    each_is_right(&rt, rt.alloc(), ("", "~"), LIMITS, &judge)?;
+    each_is_right(&rt, rt.alloc(), ("", "~"), FAULTS, &Scripts { memory: 0 })?;
     Ok(())
 }

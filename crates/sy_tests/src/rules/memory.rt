@@ -47,24 +47,11 @@ const REFUSED: &str = r#"
 45 a | ruleset(name="a") { call a }
 47 12 | module(load="imtcp") input(type="imtcp" port="12") input(type="imtcp" port="12")
 48 imtcp | input(type="imtcp" port="1")
+46 RSYSLOG_DefaultRuleset | %[65]action(type="omfile" file="f")
 "#;
 
 #[test]
 fn a_fault_where_memory_is_refused(rt: HostRuntime) -> Result<(), Fail> {
     each_is_right(&rt, rt.alloc(), ("", "~"), REFUSED, &Scripts { memory: 49 })?;
-    Ok(())
-}
-
-const TOO_LARGE: &str = "46 RSYSLOG_DefaultRuleset | %[65]action(type=\"omfile\" file=\"f\")";
-
-#[test]
-fn a_list_too_large_where_memory_is_refused(rt: HostRuntime) -> Result<(), Fail> {
-    each_is_right(
-        &rt,
-        rt.alloc(),
-        ("", "~"),
-        TOO_LARGE,
-        &Scripts { memory: 49 },
-    )?;
     Ok(())
 }

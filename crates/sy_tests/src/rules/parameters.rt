@@ -177,7 +177,7 @@ const NUMBERS: &str = r#"
 44 queue.timeoutWorkerThreadShutdown | queue.timeoutWorkerThreadShutdown="2147483648"
 "#;
 
-const PARAMETERS: [(&str, &str); 8] = [
+static PARAMETERS: [(&str, &str); 8] = [
     ("|~", WORDS),
     (SAVED, SAVING),
     (WITH_A_TYPE, TYPES),
@@ -190,9 +190,6 @@ const PARAMETERS: [(&str, &str); 8] = [
 
 #[test]
 fn words_and_values(rt: HostRuntime) -> Result<(), Fail> {
-    let judge = Scripts { memory: 0 };
-    for (frames, rows) in PARAMETERS {
-        each_is_right_in(&rt, rt.alloc(), frames, rows, &judge)?;
-    }
+    each_is_right_in(&rt, rt.alloc(), &PARAMETERS, &Scripts { memory: 0 })?;
     Ok(())
 }

@@ -137,9 +137,10 @@ const OTHERS: &str = r#"
 4 none | module(load="imtcp") main_queue(queue.size="101" queue.workerThreads="3") input(type="imtcp" port="1" ruleset="b") ruleset(name="a" queue.type="LinkedList" queue.size="1" queue.workerThreads="2") { action(name="x" type="omfile" file="x" queue.type="FixedArray" queue.size="7" action.resumeInterval="5" action.resumeRetryCount="3") } input(type="imtcp" port="2" flowControl="off" ruleset="a") ruleset(name="b" queue.type="LinkedList" queue.size="9") { call a } action(type="omfile" file="y")
 "#;
 
+static QUEUES: [(&str, &str); 2] = [(OBJECTS, NUMBERS), (OTHERS, "|")];
+
 #[test]
 fn numbers_of_queues(rt: HostRuntime) -> Result<(), Fail> {
-    each_is_right_in(&rt, rt.alloc(), OBJECTS, NUMBERS, &Queues)?;
-    each_is_right_in(&rt, rt.alloc(), OTHERS, "|", &Queues)?;
+    each_is_right_in(&rt, rt.alloc(), &QUEUES, &Queues)?;
     Ok(())
 }

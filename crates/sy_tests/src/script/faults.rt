@@ -1,15 +1,24 @@
 //! Each fault with its place, and depth and size.
 
-use crate::rows::{Judge, each_is_right, number};
+use crate::rows::{Judge, cut, each_is_right, number};
 use std::alloc::{AllocError, Global};
 use std::test::Fail;
-use sy_script::read_script;
+use sy_script::{ScriptFault, read_script};
 
-/// A fault is wanted by its number, line, column and word, and a script by 0 and how many statements and objects it
-/// has. A fault with the number `memory` in line 1 and column 1, without a word, may stand in place of either.
+/// A fault is wanted by its number, line, column and word, or by its words after `shown`, and a script by 0 and how
+/// many statements and objects it has. A fault with the number, line and column `memory`, without a word, may stand in
+/// place of either.
 #[derive(Drop)]
 pub struct Scripts {
-    pub memory: u32,
+    pub memory: &'static str,
+}
+
+fn is_fault(fault: &ScriptFault, wanted: &str) -> bool {
+    let mut fields = wanted.split_whitespace();
+    u32::from(fault.code.number()) == number(fields.next())
+        && fault.line == number(fields.next()) as usize
+        && fault.column == number(fields.next()) as usize
+        && fault.word.as_slice() == fields.next().unwrap_or("").as_bytes()
 }
 
 impl Judge for Scripts {
@@ -20,19 +29,15 @@ impl Judge for Scripts {
         _: &str,
         wanted: &str,
     ) -> Result<bool, AllocError> {
-        let mut fields = wanted.split_whitespace();
-        let code = number(fields.next());
-        let line = number(fields.next());
         match read_script(alloc, text) {
-            Ok(script) => Ok(code == 0 && script.tops.len() == line as usize),
-            Err(fault) => {
-                let found = u32::from(fault.code.number());
-                let is_first = fault.line == 1 && fault.column == 1 && fault.word.is_empty();
-                let is_place = fault.line == line as usize
-                    && fault.column == number(fields.next()) as usize
-                    && fault.word.as_slice() == fields.next().unwrap_or("").as_bytes();
-                Ok((found == code && is_place) || (found == self.memory && is_first))
+            Ok(script) => {
+                let (code, count) = cut(wanted, ' ');
+                Ok(code == "0" && script.tops.len() == number(Some(count)) as usize)
             }
+            Err(fault) => match wanted.strip_prefix("shown ") {
+                Some(words) => Ok(format!(in alloc; "{fault}")?.as_str() == words),
+                None => Ok(is_fault(&fault, wanted) || is_fault(&fault, self.memory)),
+            },
         }
     }
 }
@@ -98,11 +103,7 @@ const FAULTS: &str = r#"
 // The innermost opening, also where its closing could not stand there.
 22 1 24 | ruleset(name="a") { if ($a
 23 1 18 | ruleset(name="a" {
-"#;
-
-// What RainerScript has and this profile leaves out.
-const LEFT_OUT: &str = r#"
-// Statements.
+// What RainerScript has and this profile leaves out: statements,
 26 1 6 include | stop include(file="a")
 26 1 1 set | set $!x = 1;
 26 1 1 unset | unset $!x;
@@ -113,7 +114,7 @@ const LEFT_OUT: &str = r#"
 26 1 1 template | template(name="t" type="list") { }
 26 1 1 Lookup_Table | Lookup_Table(name="a" file="b")
 26 1 1 $WorkDirectory | $WorkDirectory /var/spool%0a
-// Variables, arithmetic, functions, arrays and comparisons of other things.
+// variables, arithmetic, functions, arrays and comparisons of other things.
 21 1 4 | if $!x == 1 then stop
 21 1 4 | if $.x == 1 then stop
 21 1 14 | if $msg == 1 + 2 then stop
@@ -141,9 +142,7 @@ const LEFT_OUT: &str = r#"
 26 2 1 $template | stop%0a$template t,"%25msg%25"
 26 1 1 template | template(name="t" type="string" string="%25msg%25")
 26 1 21 include | ruleset(name="a") { include(file="b") }
-"#;
-
-const LIMITS: &str = r#"
+// The limits.
 // 32 parentheses; the statement's block is beside them.
 0 1 | if %[32](%[1]$msg==1%[32])%[1] then stop
 24 1 36 | if %[33](%[1]$msg==1%[33])%[1] then stop
@@ -164,44 +163,20 @@ const LIMITS: &str = r#"
 // 65,536 lines of 16 bytes are 1 MiB, and one more byte is too much, whatever it is.
 0 65536 | %[65536]stop /* 01234 */
 25 1 1 | %[65536]stop /* 01234 */%ff
+// In words.
+shown 23 Unexpected at 1:6 | stop else
+shown 26 LeftOut at 2:3 | stop%0a  set $.x = 1;
+shown 21 Byte at 1:15 | module(load="\1")
 "#;
 
 #[test]
 fn faults_with_their_places(rt: HostRuntime) -> Result<(), Fail> {
-    let judge = Scripts { memory: 0 };
-    each_is_right(&rt, rt.alloc(), ("", "~"), FAULTS, &judge)?;
-    each_is_right(&rt, rt.alloc(), ("", "~"), LEFT_OUT, &judge)?;
-    each_is_right(&rt, rt.alloc(), ("", "~"), LIMITS, &judge)?;
-    Ok(())
-}
-
-// A fault in words.
-#[derive(Drop)]
-struct Shown;
-
-impl Judge for Shown {
-    fn is_right(
-        &self,
-        alloc: Global,
-        text: &[u8],
-        _: &str,
-        wanted: &str,
-    ) -> Result<bool, AllocError> {
-        match read_script(alloc, text) {
-            Ok(_) => Ok(false),
-            Err(fault) => Ok(format!(in alloc; "{fault}")?.as_str() == wanted),
-        }
-    }
-}
-
-const SHOWN: &str = r#"
-23 Unexpected at 1:6 | stop else
-26 LeftOut at 2:3 | stop%0a  set $.x = 1;
-21 Byte at 1:15 | module(load="\1")
-"#;
-
-#[test]
-fn faults_in_words(rt: HostRuntime) -> Result<(), Fail> {
-    each_is_right(&rt, rt.alloc(), ("", "~"), SHOWN, &Shown)?;
+    each_is_right(
+        &rt,
+        rt.alloc(),
+        ("", "~"),
+        FAULTS,
+        &Scripts { memory: "0 1 1" },
+    )?;
     Ok(())
 }

@@ -4,10 +4,6 @@ use super::faults::Scripts;
 use crate::rows::Judge;
 use std::test::Fail;
 
-const NESTED: &[u8] = b"module(load=\"imtcp\")
-ruleset(name=\"a\") { if not ($msg contains 'x' or $msg == 1) then { stop } else call b }
-if prifilt(\"mail.*\") and $hostname == \"h\" then action(type=\"omfile\" file=\"f\")";
-
 // Every construct: each object, rulesets, calls, actions, both kinds of blocks, `else`, both chains, `not`,
 // parentheses, `prifilt`, each operator, both operands, escapes and comments.
 const WHOLE: &[u8] = b"# all of it
@@ -26,8 +22,7 @@ action(type=\"omfwd\")";
 // is that fault, or 27.
 #[test]
 fn runs_out(rt: HostRuntime) -> Result<(), Fail> {
-    let judge = Scripts { memory: 27 };
-    assert!(&rt; judge.is_right(rt.alloc(), NESTED, "", "0 3")?);
+    let judge = Scripts { memory: "27 1 1" };
     assert!(&rt; judge.is_right(rt.alloc(), WHOLE, "", "0 8")?);
     assert!(&rt; judge.is_right(rt.alloc(), b"stop set $.x = 1;", "", "26 1 6 set")?);
     Ok(())

@@ -41,12 +41,8 @@ const TREES: &str = r##"
 [stop][stop] | stop/* } */stop
 [module a=<# no /* comment>] | module(a="# no /* comment")
 [module a=<%00%fe%0a>] | module(a="%00%fe%0a")
-"##;
-
 // These are words, numbers and strings to the grammar. What reads rules out of the tree refuses them, by its tables of
-// operators, properties and parameters.
-const LEFT_TO_THE_RULES: &str = r#"
-// Operators that aren't known: as an operator of expressions.
+// operators, properties and parameters. Operators that aren't known: as an operator of expressions.
 [if $msg contains_i <a> [stop]] | if $msg contains_i 'a' then stop
 [if $msg startswith_i <a> [stop]] | if $msg startswith_i 'a' then stop
 [if $msg regex <^a> [stop]] | if $msg regex '^a' then stop
@@ -61,7 +57,7 @@ const LEFT_TO_THE_RULES: &str = r#"
 // Parameters that aren't known: rate limits, files by template, actions that wait for another to fail.
 [input type=<imtcp> RateLimit.Interval=<5>] | input(type="imtcp" RateLimit.Interval="5")
 [action dynaFile=<t> action.execOnlyWhenPreviousIsSuspended=<on>] | action(dynaFile="t" action.execOnlyWhenPreviousIsSuspended="on")
-"#;
+"##;
 
 // The text, and what of the tree that is wanted isn't shown yet; none where something else was shown, or where a word,
 // a string or an object doesn't stand at its place in the text: from its first byte up to, and without, its end, a
@@ -260,6 +256,5 @@ impl Judge for Trees {
 #[test]
 fn texts_with_their_trees(rt: HostRuntime) -> Result<(), Fail> {
     each_is_right(&rt, rt.alloc(), ("", "~"), TREES, &Trees)?;
-    each_is_right(&rt, rt.alloc(), ("", "~"), LEFT_TO_THE_RULES, &Trees)?;
     Ok(())
 }

@@ -1,11 +1,11 @@
-//! Expressions that are refused, and which fault is answered.
+//! Expressions that are refused, and which fault is answered; each property with each operator and operand.
 
 use super::refused::is_fault;
-use crate::rows::{Judge, each_is_right, each_is_right_in, number};
+use crate::rows::{Judge, cut, each_is_right_in, number};
 use std::alloc::{AllocError, Global};
 use std::test::Fail;
 use sy_script::read_script;
-use sy_script::tree::{Stmt, Top};
+use sy_script::tree::{Span, Stmt, Top};
 use sy_select::{Expr, SelectFault};
 
 /// The expression of a text, in a script of its own. Where that isn't read, memory ran out.
@@ -22,8 +22,14 @@ pub fn read(alloc: Global, text: &[u8]) -> Result<Result<Expr, SelectFault>, All
     }
 }
 
-/// A text that is refused is wanted by its fault, and one that is read by 0. A fault with the number `memory`, without
-/// a word, may stand in place of either.
+// Where a fault is: its first byte, and its end.
+fn is_at(span: Span, wanted: &str) -> bool {
+    let (start, end) = cut(wanted, ' ');
+    span.start == number(Some(start)) as usize && span.end == number(Some(end)) as usize
+}
+
+/// A text that is refused is wanted by its fault, or by the place of that after `at`, and one that is read by 0. A fault
+/// with the number `memory`, without a word, may stand in place of either.
 #[derive(Drop)]
 pub struct Expressions {
     pub memory: u32,
@@ -39,7 +45,10 @@ impl Judge for Expressions {
     ) -> Result<bool, AllocError> {
         match read(alloc, text)? {
             Ok(_) => Ok(wanted == "0"),
-            Err(fault) => is_fault(alloc, &fault, wanted, self.memory),
+            Err(fault) => match wanted.strip_prefix("at ") {
+                Some(place) => Ok(is_at(fault.span, place)),
+                None => is_fault(alloc, &fault, wanted, self.memory),
+            },
         }
     }
 }
@@ -71,19 +80,12 @@ const FAULTS: &str = r#"
 31 4 | prifilt('4.info') or $foo == 1
 32 loud | not prifilt('auth.loud') and $msg < 1
 34 < | $msg < 1 and not prifilt('auth.loud')
+// Where a fault stands in its script, in which the expression comes after `if `: its first byte and its end.
+at 3 7 | $foo == "x"
+at 18 22 | $msg == "x" or $foo == "x"
+at 8 12 | $msg Then "x"
+at 15 26 | not prifilt('auth.loud')
 "#;
-
-#[test]
-fn faults_of_expressions(rt: HostRuntime) -> Result<(), Fail> {
-    each_is_right(
-        &rt,
-        rt.alloc(),
-        ("", "~"),
-        FAULTS,
-        &Expressions { memory: 0 },
-    )?;
-    Ok(())
-}
 
 const TEXTS: &str = r#"
 | $msg ~
@@ -239,47 +241,16 @@ const AFTER_NUMBERS: &str = r#"
 34 eq | eq "5"
 "#;
 
-// Each property with each operator and operand: the pairs that go together, and those that are refused for the
+// Of each property with each operator and operand: the pairs that go together, and those that are refused for the
 // operator.
-#[test]
-fn operators_and_operands(rt: HostRuntime) -> Result<(), Fail> {
-    let judge = Expressions { memory: 0 };
-    each_is_right_in(&rt, rt.alloc(), TEXTS, AFTER_TEXTS, &judge)?;
-    each_is_right_in(&rt, rt.alloc(), NUMBERS, AFTER_NUMBERS, &judge)?;
-    Ok(())
-}
-
-// Where the fault stands in its script, in which the expression comes after `if `: its first byte and its end.
-#[derive(Drop)]
-struct Places;
-
-impl Judge for Places {
-    fn is_right(
-        &self,
-        alloc: Global,
-        text: &[u8],
-        _: &str,
-        wanted: &str,
-    ) -> Result<bool, AllocError> {
-        let mut fields = wanted.split_whitespace();
-        let start = number(fields.next()) as usize;
-        let end = number(fields.next()) as usize;
-        match read(alloc, text)? {
-            Ok(_) => Ok(false),
-            Err(fault) => Ok(fault.span.start == start && fault.span.end == end),
-        }
-    }
-}
-
-const PLACES: &str = r#"
-3 7 | $foo == "x"
-18 22 | $msg == "x" or $foo == "x"
-8 12 | $msg Then "x"
-15 26 | not prifilt('auth.loud')
-"#;
+static EXPRESSIONS: [(&str, &str); 3] = [
+    ("|~", FAULTS),
+    (TEXTS, AFTER_TEXTS),
+    (NUMBERS, AFTER_NUMBERS),
+];
 
 #[test]
-fn places_of_faults(rt: HostRuntime) -> Result<(), Fail> {
-    each_is_right(&rt, rt.alloc(), ("", "~"), PLACES, &Places)?;
+fn faults_of_expressions(rt: HostRuntime) -> Result<(), Fail> {
+    each_is_right_in(&rt, rt.alloc(), &EXPRESSIONS, &Expressions { memory: 0 })?;
     Ok(())
 }

@@ -5,13 +5,17 @@ use std::alloc::{AllocError, Global};
 use std::test::Fail;
 use sy_select::{SelectFault, Selector};
 
-/// Whether a fault is the one that is wanted by its number and its word, or has the number `memory` and no word.
+/// Whether a fault is the one that is wanted by its number and its word, or by its words after `shown`, or has the
+/// number `memory` and no word.
 pub fn is_fault(
     alloc: Global,
     fault: &SelectFault,
     wanted: &str,
     memory: u32,
 ) -> Result<bool, AllocError> {
+    if let Some(words) = wanted.strip_prefix("shown ") {
+        return Ok(format!(in alloc; "{fault}")?.as_str() == words);
+    }
     let (code, shown) = cut(wanted, ' ');
     let found = u32::from(fault.code.number());
     if found == memory {
@@ -22,8 +26,8 @@ pub fn is_fault(
     Ok(found == number(Some(code)) && fault.word.as_slice() == word.as_slice())
 }
 
-/// A text that is no selector is wanted by its fault. One with the number `memory`, without a word, may stand in its
-/// place.
+/// A text that is no selector is wanted by its fault, and one that is by 0. A fault with the number `memory`, without a
+/// word, may stand in the place of one.
 #[derive(Drop)]
 pub struct NoSelectors {
     pub memory: u32,
@@ -38,7 +42,7 @@ impl Judge for NoSelectors {
         wanted: &str,
     ) -> Result<bool, AllocError> {
         match Selector::read(alloc, text) {
-            Ok(_) => Ok(false),
+            Ok(_) => Ok(wanted == "0"),
             Err(fault) => is_fault(alloc, &fault, wanted, self.memory),
         }
     }
@@ -182,6 +186,11 @@ const REFUSED: &str = r#"
 32 bar | kern.bar;
 32 bar | kern.=bar;*,foo
 32 bar | *.info;mail.bar;
+// In words.
+shown 31 Facility: foo | kern,foo.info
+shown 32 Severity: foo | kern.!=foo
+shown 33 Shape: kern.m\xe9 | kern.m%e9
+shown 33 Shape |
 "#;
 
 #[test]
@@ -193,37 +202,5 @@ fn texts_that_are_no_selectors(rt: HostRuntime) -> Result<(), Fail> {
         REFUSED,
         &NoSelectors { memory: 0 },
     )?;
-    Ok(())
-}
-
-// A fault in words.
-#[derive(Drop)]
-struct Shown;
-
-impl Judge for Shown {
-    fn is_right(
-        &self,
-        alloc: Global,
-        text: &[u8],
-        _: &str,
-        wanted: &str,
-    ) -> Result<bool, AllocError> {
-        match Selector::read(alloc, text) {
-            Ok(_) => Ok(false),
-            Err(fault) => Ok(format!(in alloc; "{fault}")?.as_str() == wanted),
-        }
-    }
-}
-
-const SHOWN: &str = r#"
-31 Facility: foo | kern,foo.info
-32 Severity: foo | kern.!=foo
-33 Shape: kern.m\xe9 | kern.m%e9
-33 Shape |
-"#;
-
-#[test]
-fn faults_in_words(rt: HostRuntime) -> Result<(), Fail> {
-    each_is_right(&rt, rt.alloc(), ("", "~"), SHOWN, &Shown)?;
     Ok(())
 }

@@ -2,10 +2,10 @@
 //! hand from the description in the rsyslog manual ("Filter Conditions", selectors).
 
 use super::expressions::read;
-use crate::rows::{Judge, each_is_right, number};
+use crate::rows::{Judge, each_is_right_in, number};
 use std::alloc::{AllocError, Global};
 use std::test::Fail;
-use sy_select::{Selector, Verdict, eval_class};
+use sy_select::{Verdict, eval_class};
 use sy_wire::Class;
 
 // A set is wanted by the severities of all facilities, and those of the facilities that have others: from debug, the
@@ -23,29 +23,6 @@ fn is_in(sets: &str, class: Class) -> bool {
         }
     }
     set.get(7usize.saturating_sub(usize::from(class.severity))) == Some(&b'1')
-}
-
-#[derive(Drop)]
-struct Selectors;
-
-impl Judge for Selectors {
-    fn is_right(
-        &self,
-        alloc: Global,
-        text: &[u8],
-        _: &str,
-        wanted: &str,
-    ) -> Result<bool, AllocError> {
-        let Ok(selector) = Selector::read(alloc, text) else {
-            return Ok(false);
-        };
-        let mut is_right = true;
-        for number in 0u8..192 {
-            let class = Class::of_number(number);
-            is_right = is_right && selector.matches(class) == is_in(wanted, class);
-        }
-        Ok(is_right)
-    }
 }
 
 // A test that the class decides: yes for the classes of the set, and no for all others.
@@ -223,15 +200,12 @@ const TEXTS: &str = r#"
 10000000 | $syslogseverity-text == "debug"
 "#;
 
-#[test]
-fn selectors_with_their_sets(rt: HostRuntime) -> Result<(), Fail> {
-    each_is_right(&rt, rt.alloc(), ("", "~"), SETS, &Selectors)?;
-    each_is_right(&rt, rt.alloc(), ("", "~"), NAMES, &Selectors)?;
-    Ok(())
-}
+const SELECTOR: &str = r#"| prifilt("~")"#;
+
+static SETS_OF_TESTS: [(&str, &str); 3] = [(SELECTOR, SETS), (SELECTOR, NAMES), ("|~", TEXTS)];
 
 #[test]
-fn texts_of_classes(rt: HostRuntime) -> Result<(), Fail> {
-    each_is_right(&rt, rt.alloc(), ("", "~"), TEXTS, &Tests)?;
+fn tests_with_their_sets(rt: HostRuntime) -> Result<(), Fail> {
+    each_is_right_in(&rt, rt.alloc(), &SETS_OF_TESTS, &Tests)?;
     Ok(())
 }

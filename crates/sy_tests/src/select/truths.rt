@@ -2,7 +2,7 @@
 //! manual's properties and filter conditions, with this profile's table.
 
 use super::expressions::read;
-use crate::rows::{Judge, cut, each_is_right, put_text};
+use crate::rows::{Judge, cut, each_is_right_in, put_text};
 use std::alloc::{AllocError, Global};
 use std::test::Fail;
 use sy_select::{Expr, Verdict, eval, eval_class};
@@ -33,9 +33,9 @@ fn verdict_of(word: &str) -> Verdict {
     }
 }
 
-fn is_said(expr: &Expr, message: &Message, truth: &str, verdict: &str) -> bool {
-    let is_true = eval(expr, message) == (truth == "true");
-    is_true && eval_class(expr, message.class()) == verdict_of(verdict)
+fn is_said(expr: &Expr, message: &Message, wanted: (&str, &str)) -> bool {
+    let is_true = eval(expr, message) == (wanted.0 == "true");
+    is_true && eval_class(expr, message.class()) == verdict_of(wanted.1)
 }
 
 impl Judge for Truths {
@@ -49,15 +49,15 @@ impl Judge for Truths {
         let (truth, says) = cut(wanted, ' ');
         let (verdict, own) = cut(says, ' ');
         let message = message(alloc, if own.is_empty() { usual } else { own })?;
-        match read(alloc, text)? {
-            Ok(expr) => Ok(is_said(&expr, &message, truth, verdict)),
+        match &read(alloc, text)? {
+            Ok(expr) => Ok(is_said(expr, &message, (truth, verdict))),
             Err(fault) => Ok(fault.code.number() == self.memory && fault.word.is_empty()),
         }
     }
 }
 
 // auth.crit, with another text in each field.
-const MESSAGE: &str = "<34>1 2003-10-11T22:14:15Z host su 77 ID47 - body of text";
+const MESSAGE: &str = "<34>1 2003-10-11T22:14:15Z host su 77 ID47 - body of text | ~";
 
 const OF_A_MESSAGE: &str = r#"
 // Equal texts.
@@ -171,7 +171,7 @@ true either | %[16]not (%[1]$msg == "body of text"%[16])
 "#;
 
 // No field is given.
-const NIL: &str = "<34>1 - - - - - -";
+const NIL: &str = "<34>1 - - - - - - | ~";
 
 // A field that isn't given is `-`; a message without a text has the empty one, which each text contains and starts
 // with.
@@ -196,7 +196,7 @@ true either | $rawmsg == "<34>1 - - - - - -"
 "#;
 
 // The text is `caf`, the two bytes of an e with an acute accent, a space and the byte 255.
-const LATIN: &str = "<34>1 - - - - - - caf%c3%a9 %ff";
+const LATIN: &str = "<34>1 - - - - - - caf%c3%a9 %ff | ~";
 
 const OF_LATIN: &str = r#"
 true either | $msg == "caf%c3%a9 %ff"
@@ -218,7 +218,7 @@ false either | $hostname contains "%ff"
 "#;
 
 // A NUL ends no text: neither the message's nor the one it is compared with.
-const NULS: &str = "<34>1 - - - - - - a%00b%00";
+const NULS: &str = "<34>1 - - - - - - a%00b%00 | ~";
 
 const OF_NULS: &str = r#"
 true either | $msg == "a%00b%00"
@@ -356,13 +356,16 @@ false no <18>1 - - - - - - | prifilt('auth.*') and $msg startswith 'body'
 true yes <34>1 - - - - - - | not prifilt('auth.*') or $syslogseverity == 2
 "#;
 
+static TRUTHS: [(&str, &str); 5] = [
+    (MESSAGE, OF_A_MESSAGE),
+    (NIL, OF_NIL),
+    (LATIN, OF_LATIN),
+    (NULS, OF_NULS),
+    ("|~", OF_OTHERS),
+];
+
 #[test]
 fn what_messages_and_classes_say(rt: HostRuntime) -> Result<(), Fail> {
-    let judge = Truths { memory: 0 };
-    each_is_right(&rt, rt.alloc(), (MESSAGE, "~"), OF_A_MESSAGE, &judge)?;
-    each_is_right(&rt, rt.alloc(), (NIL, "~"), OF_NIL, &judge)?;
-    each_is_right(&rt, rt.alloc(), (LATIN, "~"), OF_LATIN, &judge)?;
-    each_is_right(&rt, rt.alloc(), (NULS, "~"), OF_NULS, &judge)?;
-    each_is_right(&rt, rt.alloc(), ("", "~"), OF_OTHERS, &judge)?;
+    each_is_right_in(&rt, rt.alloc(), &TRUTHS, &Truths { memory: 0 })?;
     Ok(())
 }

@@ -1,8 +1,9 @@
 //! Frames of one stream however it is cut, fed and read. Lengths and faults are cases of the command line
 //! (`tests/messages`, `tests/rows`).
-use super::streams::{NEVER, Pieces};
+use super::streams::Pieces;
+use crate::rows::{Judge, cut, each_is_right, number};
 use std::alloc::{AllocError, Global};
-use std::process::Abort;
+use std::str;
 use std::test::Fail;
 use sy_wire::{FillFault, Framer, FromRead, Source};
 
@@ -48,21 +49,6 @@ fn is_fed(alloc: Global, size: usize) -> Result<bool, AllocError> {
     Ok(is_at_end(&mut framer) && frames.as_slice() == FRAMES)
 }
 
-const SIZES: [usize; 6] = [1, 2, 3, 7, 47, 100];
-
-fn each_is_fed(rt: &impl Abort, alloc: Global, sizes: &[usize]) -> Result<(), AllocError> {
-    for size in sizes {
-        assert!(rt; is_fed(alloc, *size)?);
-    }
-    Ok(())
-}
-
-#[test]
-fn gives_the_same_frames_for_every_cutting(rt: HostRuntime) -> Result<(), Fail> {
-    each_is_fed(&rt, rt.alloc(), &SIZES)?;
-    Ok(())
-}
-
 // Reads to the end of the stream and takes its frames, and goes on where a read fails; how often that was.
 fn read_all<S: Source>(
     alloc: Global,
@@ -80,40 +66,66 @@ fn read_all<S: Source>(
     Ok(failures)
 }
 
-/// The bytes that a read gives at most, the read that fails, and how many do.
-const READS: [(usize, usize, usize); 10] = [
-    (1, NEVER, 0),
-    (2, NEVER, 0),
-    (3, NEVER, 0),
-    (7, NEVER, 0),
-    (47, NEVER, 0),
-    (100, NEVER, 0),
-    (1, 0, 1),
-    (1, 20, 1),
-    (7, 3, 1),
-    (100, 1, 1),
-];
-
-fn each_is_read(
-    rt: &impl Abort,
+// The same for the stream read in pieces of this size, where the read of one number fails.
+fn is_read(
     alloc: Global,
-    rows: &[(usize, usize, usize)],
-) -> Result<(), AllocError> {
-    for (size, failing, failures) in rows {
-        let mut source = FromRead::new(Pieces {
-            rest: STREAM,
-            size: *size,
-            failing: *failing,
-        });
-        let mut frames = Vec::new(alloc);
-        assert!(rt; read_all(alloc, &mut source, &mut frames)? == *failures);
-        assert!(rt; frames.as_slice() == FRAMES);
-    }
-    Ok(())
+    size: usize,
+    failing: usize,
+    failures: usize,
+) -> Result<bool, AllocError> {
+    let mut source = FromRead::new(Pieces {
+        rest: STREAM,
+        size,
+        failing,
+    });
+    let mut frames = Vec::new(alloc);
+    let failed = read_all(alloc, &mut source, &mut frames)?;
+    Ok(failed == failures && frames.as_slice() == FRAMES)
 }
 
+// The stream in pieces of a size, `fed` or read: then it is wanted which read fails, from 0, and how many do.
+#[derive(Drop)]
+struct Cuttings;
+
+impl Judge for Cuttings {
+    fn is_right(
+        &self,
+        alloc: Global,
+        text: &[u8],
+        _: &str,
+        wanted: &str,
+    ) -> Result<bool, AllocError> {
+        let size = number(str::from_utf8(text).ok()) as usize;
+        if wanted == "fed" {
+            return is_fed(alloc, size);
+        }
+        let (failing, failures) = cut(wanted, ' ');
+        let failing = number(Some(failing)) as usize;
+        is_read(alloc, size, failing, number(Some(failures)) as usize)
+    }
+}
+
+const CUTTINGS: &str = "
+fed | 1
+fed | 2
+fed | 3
+fed | 7
+fed | 47
+fed | 100
+never 0 | 1
+never 0 | 2
+never 0 | 3
+never 0 | 7
+never 0 | 47
+never 0 | 100
+0 1 | 1
+20 1 | 1
+3 1 | 7
+1 1 | 100
+";
+
 #[test]
-fn reads_the_same_frames_for_every_cutting(rt: HostRuntime) -> Result<(), Fail> {
-    each_is_read(&rt, rt.alloc(), &READS)?;
+fn gives_the_same_frames_for_every_cutting(rt: HostRuntime) -> Result<(), Fail> {
+    each_is_right(&rt, rt.alloc(), ("", "~"), CUTTINGS, &Cuttings)?;
     Ok(())
 }

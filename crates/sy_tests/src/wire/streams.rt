@@ -1,12 +1,10 @@
 //! The adapters over readers and writers of std, and the buffer.
+use crate::rows::{Judge, cut, each_is_right, number};
 use std::alloc::{AllocError, Global};
 use std::io::{self, ErrorKind, Read, Write};
-use std::process::Abort;
+use std::str;
 use std::test::Fail;
 use sy_wire::{Buffered, FromRead, FromWrite, Sink, Source};
-
-// No call fails.
-pub(super) const NEVER: usize = usize::MAX;
 
 // Whether the call of this number, counted from 0, is the present one; it is one call nearer then.
 fn fails(failing: &mut usize) -> bool {
@@ -63,14 +61,6 @@ impl Write for Room {
     }
 }
 
-/// The read that fails, and what each read gives.
-const READS: [(usize, [Option<u8>; 5]); 4] = [
-    (0, [None, Some(b'a'), Some(b'b'), Some(b'c'), None]),
-    (1, [Some(b'a'), None, Some(b'b'), Some(b'c'), None]),
-    (2, [Some(b'a'), Some(b'b'), None, Some(b'c'), None]),
-    (NEVER, [Some(b'a'), Some(b'b'), Some(b'c'), None, None]),
-];
-
 fn next_byte<S: Source>(source: &mut S) -> Option<u8> {
     let mut buffer = [0u8; 4];
     match source.read(&mut buffer) {
@@ -79,158 +69,133 @@ fn next_byte<S: Source>(source: &mut S) -> Option<u8> {
     }
 }
 
-fn gives_each<S: Source>(rt: &impl Abort, source: &mut S, bytes: &[Option<u8>]) {
-    for byte in bytes {
-        assert!(rt; next_byte(source) == *byte);
+// What each read of `abc` gives, a byte at a time, and `-` where it gives none; the read is wanted that fails.
+#[derive(Drop)]
+struct Reads;
+
+impl Judge for Reads {
+    fn is_right(&self, _: Global, text: &[u8], _: &str, wanted: &str) -> Result<bool, AllocError> {
+        let mut source = FromRead::new(Pieces {
+            rest: b"abc",
+            size: 1,
+            failing: number(Some(wanted)) as usize,
+        });
+        let mut is_right = true;
+        for byte in text {
+            is_right = is_right && next_byte(&mut source).unwrap_or(b'-') == *byte;
+        }
+        Ok(is_right)
     }
 }
 
 // A read that fails is answered so, not tried again unseen, and takes nothing.
-fn each_reads(rt: &impl Abort, rows: &[(usize, [Option<u8>; 5])]) {
-    for (failing, bytes) in rows {
-        let pieces = Pieces {
-            rest: b"abc",
-            size: 1,
-            failing: *failing,
-        };
-        gives_each(rt, &mut FromRead::new(pieces), bytes);
-    }
-}
+const READS: &str = "
+0 | -abc-
+1 | a-bc-
+2 | ab-c-
+never | abc--
+";
 
 #[test]
-fn reads_through_a_reader(rt: HostRuntime) {
-    each_reads(&rt, &READS);
-}
-
-/// The bytes of a write, or none for a flush, and how many it takes, or none where it fails each time.
-type Call = (Option<&'static [u8]>, Option<usize>);
-
-fn answer_of<S: Sink>(sink: &mut S, bytes: Option<&[u8]>) -> Option<usize> {
-    match bytes {
-        Some(bytes) => sink.write(bytes).ok(),
-        None => match sink.flush() {
-            Ok(()) => Some(0),
-            Err(_) => None,
-        },
-    }
-}
-
-// Makes each call, and again where it fails; the number of the first that fails.
-fn first_failure<S: Sink>(rt: &impl Abort, sink: &mut S, calls: &[Call]) -> Option<usize> {
-    let mut first = None;
-    let mut count = 0usize;
-    for (bytes, wanted) in calls {
-        let mut answer = answer_of(sink, *bytes);
-        if answer.is_none() {
-            first = first.or(Some(count));
-            answer = answer_of(sink, *bytes);
-        }
-        assert!(rt; answer == *wanted);
-        count = count.saturating_add(1);
-    }
-    first
-}
-
-/// Byte by byte into a room of two; a write that takes nothing of something is a fault.
-const BYTE_BY_BYTE: [Call; 6] = [
-    (Some(b"ab"), Some(1)),
-    (None, Some(0)),
-    (Some(b""), Some(0)),
-    (Some(b"b"), Some(1)),
-    (Some(b"c"), None),
-    (None, None),
-];
-
-const AT_ONCE: [Call; 4] = [
-    (Some(b"ab"), Some(2)),
-    (None, Some(0)),
-    (Some(b"c"), Some(1)),
-    (None, Some(0)),
-];
-
-/// The bytes at a write, the room, the call that fails, the calls, and the first of these that fails.
-const WRITES: [(usize, usize, usize, &[Call], Option<usize>); 6] = [
-    (1, 2, NEVER, &BYTE_BY_BYTE, Some(4)),
-    (9, 9, 0, &AT_ONCE, Some(0)),
-    (9, 9, 1, &AT_ONCE, Some(1)),
-    (9, 9, 2, &AT_ONCE, Some(2)),
-    (9, 9, 3, &AT_ONCE, Some(3)),
-    (9, 9, NEVER, &AT_ONCE, None),
-];
-
-fn each_writes(rt: &impl Abort, rows: &[(usize, usize, usize, &[Call], Option<usize>)]) {
-    for (size, left, failing, calls, failure) in rows {
-        let mut sink = FromWrite::new(Room {
-            size: *size,
-            left: *left,
-            failing: *failing,
-        });
-        assert!(rt; first_failure(rt, &mut sink, calls) == *failure);
-        assert!(rt; sink.into_inner().left <= 6);
-    }
-}
-
-#[test]
-fn writes_through_a_writer(rt: HostRuntime) {
-    each_writes(&rt, &WRITES);
-}
-
-/// What has room is held back, and goes on before what has none, or at a flush.
-const HELD_BACK: [Call; 6] = [
-    (None, Some(0)),
-    (Some(b"abc"), Some(3)),
-    (Some(b"de"), Some(2)),
-    (None, None),
-    (Some(b"f"), Some(1)),
-    (Some(b"gh"), None),
-];
-
-/// What is longer than the buffer goes past it.
-const PAST_THE_BUFFER: [Call; 4] = [
-    (Some(b"a"), Some(1)),
-    (Some(b"bcd"), Some(1)),
-    (Some(b"cd"), Some(2)),
-    (None, None),
-];
-
-/// What is held back goes on at the write that has no room, and at the flush, which flushes too.
-const FLUSHED_TWICE: [Call; 4] = [
-    (Some(b"abc"), Some(3)),
-    (Some(b"de"), Some(2)),
-    (None, Some(0)),
-    (None, Some(0)),
-];
-
-/// The bytes of the buffer before the rest, which is as above.
-const BUFFERED: [(usize, usize, usize, usize, &[Call], Option<usize>); 7] = [
-    (4, 1, 3, NEVER, &HELD_BACK, Some(3)),
-    (2, 1, 2, NEVER, &PAST_THE_BUFFER, Some(3)),
-    (4, 9, 9, 0, &FLUSHED_TWICE, Some(1)),
-    (4, 9, 9, 1, &FLUSHED_TWICE, Some(2)),
-    (4, 9, 9, 2, &FLUSHED_TWICE, Some(2)),
-    (4, 9, 9, 3, &FLUSHED_TWICE, Some(3)),
-    (4, 9, 9, NEVER, &FLUSHED_TWICE, None),
-];
-
-fn each_buffered(
-    rt: &impl Abort,
-    alloc: Global,
-    rows: &[(usize, usize, usize, usize, &[Call], Option<usize>)],
-) -> Result<(), AllocError> {
-    for (capacity, size, left, failing, calls, failure) in rows {
-        let inner = FromWrite::new(Room {
-            size: *size,
-            left: *left,
-            failing: *failing,
-        });
-        let mut sink = Buffered::with_capacity(alloc, *capacity, inner)?;
-        assert!(rt; first_failure(rt, &mut sink, calls) == *failure);
-    }
+fn reads_through_a_reader(rt: HostRuntime) -> Result<(), Fail> {
+    each_is_right(&rt, rt.alloc(), ("", "~"), READS, &Reads)?;
     Ok(())
 }
 
+// How many bytes a write takes; 0 for a flush.
+fn answer_of<S: Sink>(sink: &mut S, call: &str) -> Option<usize> {
+    if call == "flush" {
+        match sink.flush() {
+            Ok(()) => Some(0),
+            Err(_) => None,
+        }
+    } else {
+        sink.write(call.as_bytes()).ok()
+    }
+}
+
+// Whether the call takes so many, where `-` is none; a call that fails is made again.
+fn is_answered<S: Sink>(sink: &mut S, call: &str, wanted: &str) -> (bool, bool) {
+    let first = answer_of(sink, call);
+    let answer = match first {
+        Some(count) => Some(count),
+        None => answer_of(sink, call),
+    };
+    let is_right = match answer {
+        Some(count) => count == number(Some(wanted)) as usize,
+        None => wanted == "-",
+    };
+    (is_right, first.is_some())
+}
+
+// Makes each call; the first that fails has this number.
+fn are_answered<S: Sink>(sink: &mut S, calls: &str, failure: u32) -> bool {
+    let mut is_right = true;
+    let mut has_failed = false;
+    let mut at = 0u32;
+    for field in calls.split_whitespace() {
+        let (call, wanted) = cut(field, '=');
+        let (is_answer, is_first) = is_answered(sink, call, wanted);
+        is_right = is_right && is_answer && (is_first || has_failed || at == failure);
+        has_failed = has_failed || !is_first;
+        at = at.saturating_add(1);
+    }
+    is_right && has_failed == (failure < at)
+}
+
+// The calls with how many bytes each takes. It is wanted how many bytes the buffer has, or `none`, how many bytes a
+// write takes and all writes together, which write or flush behind it fails, and the first call that does.
+#[derive(Drop)]
+struct Writes;
+
+impl Judge for Writes {
+    fn is_right(
+        &self,
+        alloc: Global,
+        text: &[u8],
+        _: &str,
+        wanted: &str,
+    ) -> Result<bool, AllocError> {
+        let calls = str::from_utf8(text).unwrap_or("");
+        let (buffer, numbers) = cut(wanted, ' ');
+        let mut numbers = numbers.split_whitespace();
+        let mut sink = FromWrite::new(Room {
+            size: number(numbers.next()) as usize,
+            left: number(numbers.next()) as usize,
+            failing: number(numbers.next()) as usize,
+        });
+        let failure = number(numbers.next());
+        if buffer == "none" {
+            return Ok(are_answered(&mut sink, calls, failure) && sink.into_inner().left <= 6);
+        }
+        let capacity = number(Some(buffer)) as usize;
+        let mut sink = Buffered::with_capacity(alloc, capacity, sink)?;
+        Ok(are_answered(&mut sink, calls, failure))
+    }
+}
+
+const WRITES: &str = "
+// Byte by byte into a room of two; a write that takes nothing of something is a fault.
+none 1 2 never 4 | ab=1 flush=0 =0 b=1 c=- flush=-
+none 9 9 0 0 | ab=2 flush=0 c=1 flush=0
+none 9 9 1 1 | ab=2 flush=0 c=1 flush=0
+none 9 9 2 2 | ab=2 flush=0 c=1 flush=0
+none 9 9 3 3 | ab=2 flush=0 c=1 flush=0
+none 9 9 never never | ab=2 flush=0 c=1 flush=0
+// What has room is held back, and goes on before what has none, or at a flush.
+4 1 3 never 3 | flush=0 abc=3 de=2 flush=- f=1 gh=-
+// What is longer than the buffer goes past it.
+2 1 2 never 3 | a=1 bcd=1 cd=2 flush=-
+// What is held back goes on at the write that has no room, and at the flush, which flushes too.
+4 9 9 0 1 | abc=3 de=2 flush=0 flush=0
+4 9 9 1 2 | abc=3 de=2 flush=0 flush=0
+4 9 9 2 2 | abc=3 de=2 flush=0 flush=0
+4 9 9 3 3 | abc=3 de=2 flush=0 flush=0
+4 9 9 never never | abc=3 de=2 flush=0 flush=0
+";
+
 #[test]
-fn holds_bytes_back(rt: HostRuntime) -> Result<(), Fail> {
-    each_buffered(&rt, rt.alloc(), &BUFFERED)?;
+fn writes_through_a_writer(rt: HostRuntime) -> Result<(), Fail> {
+    each_is_right(&rt, rt.alloc(), ("", "~"), WRITES, &Writes)?;
     Ok(())
 }
