@@ -110,7 +110,7 @@ def items_of(file, text):
         function = FUNCTION.match(line)
         if function:
             indent, name = function.groups()
-            last = end_of(lines, at, indent)
+            last = end_of_function(lines, at, indent)
             head = head_of(lines, at)
             cycle = CYCLE.search("\n".join(lines[head:at]))
             found.append(Item(file, name, head, at, last, True, owner if indent else "", cycle[1] if cycle else ""))
@@ -128,8 +128,22 @@ def head_of(lines, at):
     return at
 
 
+def end_of_function(lines, at, indent):
+    """The last line of the function that begins at a line: the bracket that closes its body, or, where it has none, the
+    semicolon after its contract."""
+    has_body = False
+    for later in range(at, len(lines)):
+        line = lines[later].rstrip()
+        if has_body and line == indent + "}" or not has_body and line.endswith((";", "{}")):
+            return later
+        if later == at and line.endswith("}"):
+            return at
+        has_body = has_body or line.endswith("{")
+    return len(lines) - 1
+
+
 def end_of(lines, at, indent):
-    """The last line of the item that begins at a line: the one that ends it, or a closing bracket below its head."""
+    """The last line of the constant or table that begins at a line: the one that ends it, or a closing bracket below its head."""
     for later in range(at, len(lines)):
         line = lines[later]
         if later == at and line.rstrip().endswith((";", "}")):

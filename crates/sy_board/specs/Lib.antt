@@ -1,3 +1,4 @@
+pub mod relay
 pub mod States
 pub mod Steps
 pub mod Faults

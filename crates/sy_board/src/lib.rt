@@ -11,6 +11,7 @@ pub mod board;
 pub mod fault;
 pub mod laws;
 mod limits;
+pub mod relay;
 
 pub use accounts::Accounts;
 pub use answers::{Entry, Hold, Job, Taken};

@@ -1,0 +1,5 @@
+use Rattle.sy_board.proofs.relay.Accounts.{laws_counted}
+use Rattle.sy_board.proofs.relay.accounts_balance.Goals as goal
+
+pub returns : goal.returns
+returns c = laws_counted

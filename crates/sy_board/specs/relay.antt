@@ -1,0 +1,6 @@
+-- What a relay holds, its nine steps, and what they count. All of it is about one relay; a set of relays is made of these.
+pub mod Plans
+pub mod Cells
+pub mod Steps
+pub mod Totals
+pub mod Moves

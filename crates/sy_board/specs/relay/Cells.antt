@@ -1,0 +1,60 @@
+-- What a relay holds: entries, each at one place.
+use Rattle.std.specs.Prelude.{◌≡◌, ℕ, ◌+◌, ◌*◌, List, [], length, replicate, slice_index_or, slice_set}
+use Rattle.sy_chain.specs.Entries.{Entry}
+use Rattle.sy_rules.specs.PlanValue.{Plan}
+
+-- A place that holds entries: one of the 64 hands of an input, a queue, or the batch of a worker.
+pub data Cell : Type 0 where
+  Hand : (number : ℕ) → Cell
+  Queue : (number : ℕ) → Cell
+  Worker : (number : ℕ) → Cell
+
+-- What a relay holds, by numbers. A hand has one entry or none; of a worker's entries the first is worked on, and `failures` counts how often
+-- its present occurrence has failed.
+pub record RelayState : Type 0 where
+  pub hands : List (List Entry)
+  pub queues : List (List Entry)
+  pub workers : List (List Entry)
+  pub failures : List ℕ
+
+-- the entries at a place, in order
+abbrev pub at : RelayState → Cell → List Entry
+at part (Cell.Hand k) = slice_index_or part.hands k []
+at part (Cell.Queue k) = slice_index_or part.queues k []
+at part (Cell.Worker k) = slice_index_or part.workers k []
+
+-- the same, but these entries at that place
+abbrev pub put : RelayState → Cell → List Entry → RelayState
+put part (Cell.Hand k) entries = record part { hands = slice_set part.hands k entries }
+put part (Cell.Queue k) entries = record part { queues = slice_set part.queues k entries }
+put part (Cell.Worker k) entries = record part { workers = slice_set part.workers k entries }
+
+abbrev pub failures_at : RelayState → ℕ → ℕ
+failures_at part worker = slice_index_or part.failures worker 0
+
+abbrev pub put_failures : RelayState → ℕ → ℕ → RelayState
+put_failures part worker count = record part { failures = slice_set part.failures worker count }
+
+-- a hand of an input
+abbrev pub hand : ℕ → ℕ → Cell
+hand input number = Cell.Hand (64 * input + number)
+
+-- How many entries wait in a queue; that those in workers' batches don't count is this profile's own.
+abbrev pub waiting : RelayState → ℕ → ℕ
+waiting part queue = length (at part (Cell.Queue queue))
+
+-- The relay has the places of its plan.
+pub record IsShaped (plan : Plan) (state : RelayState) : Type 0 where
+  pub hands : length state.hands ≡ 64 * length plan.inputs
+  pub queues : length state.queues ≡ length plan.queues
+  pub workers : length state.workers ≡ length plan.workers
+  pub failures : length state.failures ≡ length plan.workers
+
+-- before the first message
+abbrev pub opening : Plan → RelayState
+opening plan = record {
+  hands = replicate (64 * length plan.inputs) [];
+  queues = replicate (length plan.queues) [];
+  workers = replicate (length plan.workers) [];
+  failures = replicate (length plan.workers) 0;
+}
