@@ -5,7 +5,7 @@ pub mod flow;
 pub mod list_names;
 pub mod numbering;
 pub mod occurrence;
+pub mod plan_tables;
 pub mod sizes;
 pub mod statement;
-pub mod plan_tables;
 pub mod walk;

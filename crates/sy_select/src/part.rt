@@ -7,9 +7,9 @@ ghost use Rattle.sy_select.specs.internal.Reading.{Applies, Lists, ReadsFaciliti
 ghost use Rattle.sy_select.specs.Selectors.{comma};
 
 use crate::fault::FaultCode;
-use crate::read_level::{Refusal, no_name, read_level, shape};
 use crate::names::facility_of;
 use crate::pieces::{cut, same_bytes};
+use crate::read_level::{Refusal, no_name, read_level, shape};
 use crate::severities::{Level, Severities};
 
 /// The facilities of a part, and its level.

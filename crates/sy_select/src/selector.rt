@@ -7,9 +7,9 @@ ghost use Rattle.sy_select.specs.internal.Reading.{Refuses};
 ghost use Rattle.sy_select.specs.Selectors.{Part, IsSelector, IsSetOf, holds, semicolon};
 
 use crate::fault::SelectFault;
-use crate::read_level::Refusal;
 use crate::part::read_part;
 use crate::pieces::cut;
+use crate::read_level::Refusal;
 use crate::severities::Severities;
 use bitflags::Flags;
 use std::alloc::Global;

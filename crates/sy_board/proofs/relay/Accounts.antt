@@ -220,7 +220,7 @@ laws_lose_post plan old new w l memory e t there laws loses =
       entries = laws.entries;
       posts = let z = more is_post in let p = laws.posts in omega (arith, z, p);
       actions = laws.actions;
-          runs = λ b k. let z = more (is_run_of b) in let p = laws.runs b k in omega (arith, z, p);
+      runs = λ b k. let z = more (is_run_of b) in let p = laws.runs b k in omega (arith, z, p);
     })
 
 pub laws_post : (plan : Plan) (old new : RelayState) (w l : ℕ) (node : Entry) (lost : Bool) (t : Totals) → w < length old.workers → queue_for plan l < length old.queues → Laws plan old t → (posts : Posts plan old w l node lost new)

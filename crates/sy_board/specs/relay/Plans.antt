@@ -31,7 +31,14 @@ queue_of_worker plan worker = slice_index_or plan.workers worker 0
 -- the parameters of a queue
 abbrev pub parameters_at : Plan → ℕ → QueueParameters
 parameters_at plan queue = slice_index_or plan.queues queue (record {
-  size = 0; batch = 0; full_delay_mark = 0; light_delay_mark = 0; discard_mark = 0; discard_severity = 0; timeout_enqueue = 0; workers = 0;
+  size = 0;
+  batch = 0;
+  full_delay_mark = 0;
+  light_delay_mark = 0;
+  discard_mark = 0;
+  discard_severity = 0;
+  timeout_enqueue = 0;
+  workers = 0;
 })
 
 -- what a list executes, by number

@@ -65,10 +65,10 @@ pub record Grabs (plan : Plan) (old : RelayState) (worker : ℕ) (lost : List En
       (parameters_at plan (queue_of_worker plan worker)).batch (at old (Cell.Queue (queue_of_worker plan worker)))
   pub after : new ≡ put
       (put old (Cell.Queue (queue_of_worker plan worker))
-          (drop (parameters_at plan (queue_of_worker plan worker)).batch (at old (Cell.Queue (queue_of_worker plan worker)))))
+      (drop (parameters_at plan (queue_of_worker plan worker)).batch (at old (Cell.Queue (queue_of_worker plan worker)))))
       (Cell.Worker worker)
       (kept_of (marks_at plan (queue_of_worker plan worker))
-          (parameters_at plan (queue_of_worker plan worker)).batch (at old (Cell.Queue (queue_of_worker plan worker))))
+      (parameters_at plan (queue_of_worker plan worker)).batch (at old (Cell.Queue (queue_of_worker plan worker))))
 
 -- ---- a worker's job
 
@@ -138,7 +138,7 @@ pub record Posts (plan : Plan) (old : RelayState) (worker list : ℕ) (node : En
   pub room : (lost ≡ true) ⊎ (waiting old (queue_for plan list) < (parameters_at plan (queue_for plan list)).size)
   pub after : new ≡ if lost then advanced plan old worker (occurrence.Post list) job
       else put (advanced plan old worker (occurrence.Post list) job)
-          (Cell.Queue (queue_for plan list)) (at old (Cell.Queue (queue_for plan list)) ++ node ∷ [])
+      (Cell.Queue (queue_for plan list)) (at old (Cell.Queue (queue_for plan list)) ++ node ∷ [])
 
 -- Post lost: the list's queue is full, or there was no memory for a new entry; the occurrence is lost.
 pub record LosesPost (plan : Plan) (old : RelayState) (worker list : ℕ) (no_memory : Bool) (entry : Entry) (new : RelayState) : Type 0 where

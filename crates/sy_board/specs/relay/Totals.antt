@@ -139,7 +139,14 @@ counted plan pairs old event new outs t =
 -- before the first step
 abbrev pub nothing_counted : Plan → Totals
 nothing_counted plan = record {
-  taken = 0; lost_in = 0; posted = 0; lost_post = 0; grabbed = 0; lost_out = 0; posts_due = 0; guarded_lost = 0;
+  taken = 0;
+  lost_in = 0;
+  posted = 0;
+  lost_post = 0;
+  grabbed = 0;
+  lost_out = 0;
+  posts_due = 0;
+  guarded_lost = 0;
   actions = replicate (length plan.actions) no_counts;
 }
 
