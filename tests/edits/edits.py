@@ -176,8 +176,11 @@ class Crate:
             if not item.is_function or item.name != name:
                 continue
             if item.owner:
-                words = re.findall(r"\w+", item.owner.partition(" where ")[0])
+                heads = item.owner.partition(" where ")[0].partition(" for ")
+                words, of_box = re.findall(r"\w+", " ".join(heads)), re.findall(r"\w+", heads[2] + heads[0])
                 fits = any(owner == it for it in words) or owner and owner in {a + b for a in words for b in words}
+                # `impl Tr for Box<dyn Tr + Send>` is called BoxDynTrSendTr
+                fits = fits or owner == "".join(it[0].upper() + it[1:] for it in of_box)
             else:
                 stem = re.sub(r"/(lib|main)$", "", item.file[len("src") : -len(".rt")])
                 fits = stem.split("/")[1:] == above

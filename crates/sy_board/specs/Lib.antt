@@ -1,5 +1,3 @@
 pub mod relay
-pub mod States
-pub mod Steps
 pub mod Faults
-pub mod Answers
+pub mod internal

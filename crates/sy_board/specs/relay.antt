@@ -4,3 +4,5 @@ pub mod Cells
 pub mod Steps
 pub mod Totals
 pub mod Moves
+pub mod Boards
+pub mod Patience

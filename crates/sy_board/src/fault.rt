@@ -15,16 +15,21 @@ pub enum BoardFault {
     HandEmpty,
     /// The worker still has entries.
     SlotBusy,
-    /// The worker has no job.
+    /// The worker has no job, or one of the other kind.
     NoJob,
+    /// The receipt, or the failure, isn't of the worker's job: it is another device's, or of another message; or the failure is of a message that
+    /// was not offered.
+    WrongReceipt,
     /// A total would pass its limit.
     TotalsFull,
+    /// The hand's message hasn't expired: the full-delay mark holds it, or its queue isn't full. Or the queue of a post isn't full.
+    NotExpired,
     /// Memory ran out.
     NoMemory,
 }
 
 impl BoardFault {
-    /// The number of the fault: 81 for `HandTaken` to 88 for `NoMemory`, without 85 and 87.
+    /// The number of the fault: 81 for `HandTaken` to 88 for `NoMemory`.
     pub fn number(self) -> u8
         ensures { result ≡ fault_number self }
     {
@@ -33,7 +38,9 @@ impl BoardFault {
             BoardFault::HandEmpty => 82,
             BoardFault::SlotBusy => 83,
             BoardFault::NoJob => 84,
+            BoardFault::WrongReceipt => 85,
             BoardFault::TotalsFull => 86,
+            BoardFault::NotExpired => 87,
             BoardFault::NoMemory => 88,
         }
     }
@@ -47,7 +54,9 @@ impl BoardFault {
             BoardFault::HandEmpty => "82 HandEmpty",
             BoardFault::SlotBusy => "83 SlotBusy",
             BoardFault::NoJob => "84 NoJob",
+            BoardFault::WrongReceipt => "85 WrongReceipt",
             BoardFault::TotalsFull => "86 TotalsFull",
+            BoardFault::NotExpired => "87 NotExpired",
             BoardFault::NoMemory => "88 NoMemory",
         }
     }

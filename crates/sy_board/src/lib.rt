@@ -5,15 +5,11 @@
 //! and the totals that [`Accounts`] keeps balance after each.
 #![tactic(auto)]
 
-pub mod accounts;
-pub mod answers;
-pub mod board;
 pub mod fault;
-pub mod laws;
-mod limits;
 pub mod relay;
 
-pub use accounts::Accounts;
-pub use answers::{Entry, Hold, Job, Taken};
-pub use board::{Board, DUE, LIST};
 pub use fault::BoardFault;
+pub use relay::accounts::{Accounts, ActionCounts};
+pub use relay::answers::{Entry, Job, PostCause, Posted, Retry, Taken};
+pub use relay::board::Board;
+pub use relay::guard::Guard;

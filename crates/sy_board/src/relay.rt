@@ -1,13 +1,30 @@
 //! The nine steps of a whole relay: laws that every step keeps. The steps are definitions (`specs/relay`), which a set of relays is made of too.
 //! Each function does nothing; its contract is the law.
-ghost use Rattle.std.specs.Prelude.{◌≡◌, ◌≢◌, ℕ, ◌+◌, List, Some};
+ghost use Rattle.std.specs.Prelude.{◌≡◌, ◌≢◌, ◌⊎◌, ℕ, ◌+◌, ◌<◌, Bool, List, Some, false};
 ghost use Rattle.sy_chain.specs.Entries.{Entry};
+ghost use Rattle.sy_actions.specs.Devices.{Delivered, Refused};
 ghost use Rattle.sy_rules.specs.PlanValue.{Plan};
 ghost use Rattle.sy_rules.specs.Whole.{IsWhole};
 ghost use Rattle.sy_board.specs.relay.Cells.{IsShaped, RelayState, opening, waiting};
-ghost use Rattle.sy_board.specs.relay.Steps.{Event, Out, Step};
+ghost use Rattle.sy_board.specs.relay.Steps.{Enters, Event, Expires, Fails, GivesUp, Grabs, IsOfInput, IsPosted, Job, LosesPost, Out, Posts, Step};
+ghost use Rattle.sy_board.specs.relay.Plans.{queue_of_worker};
+ghost use Rattle.sy_board.specs.relay.Boards.{BoardState, EnterIs, ExpireIs, FailIs, GrabIs, IsHeldBy, Made, PostIs, PostLostIs, SettleIs, TakeIs, is_no_memory};
+ghost use Rattle.sy_marks.specs.declared.marks.Hold.TheVariants as Hold;
+ghost use Rattle.sy_rules.specs.declared.lists.occurrence.Occurrence.{Occurrence};
+ghost use Rattle.sy_board.specs.declared.relay.answers.Taken.{Taken};
+ghost use Rattle.sy_board.specs.declared.relay.answers.PostCause.{PostCause};
+ghost use Rattle.sy_board.specs.declared.relay.answers.Entry.TheVariants as EnterAnswer;
+ghost use Rattle.sy_board.specs.declared.relay.answers.Retry.TheVariants as Retry;
+ghost use Rattle.sy_board.specs.declared.relay.answers.Posted.TheVariants as Posted;
+ghost use Rattle.sy_board.specs.relay.Patience.{IsPatient};
 ghost use Rattle.sy_board.specs.relay.Totals.{Laws, Pairs, Totals, counted, nothing_counted, total};
 ghost use Rattle.sy_board.specs.relay.Moves.{IsLeftAlone, added, came, over, removed, went, worker_of};
+
+pub mod accounts;
+pub mod answers;
+pub mod board;
+pub mod guard;
+mod reading;
 
 /// Before the first message a relay has its places, and the laws of accounts hold.
 pub fn it_opens_lawfully()
@@ -47,4 +64,74 @@ pub fn accounts_balance()
     ensures { (plan : Plan) → (pairs : Pairs) → (old : RelayState) → (event : Event) → (new : RelayState) → (outs : List Out) → (totals : Totals)
         → IsWhole plan → IsShaped plan old → Laws plan old totals → Step plan old event new outs
         → Laws plan new (counted plan pairs old event new outs totals) }
+{}
+
+/// No job fails more often than it may be tried again: not before the first message, and no step changes it.
+pub fn patience_stays()
+    ensures opening { (plan : Plan) → IsPatient plan (opening plan) }
+    ensures step { (plan : Plan) → (old : RelayState) → (event : Event) → (new : RelayState) → (outs : List Out)
+        → IsPatient plan old → Step plan old event new outs → IsPatient plan new }
+{}
+
+/// Where a hand's message may enter it doesn't expire; a job that may be tried again isn't given up; and a post that may be put isn't lost to a
+/// full queue.
+pub fn steps_exclude()
+    ensures hand { (plan : Plan) → (old : RelayState) → (input number : ℕ) → (one other : Entry) → (new after : RelayState)
+        → Enters plan old input number one new → Expires plan old input number other after → ⊥ }
+    ensures failure { (plan : Plan) → (old : RelayState) → (worker a b : ℕ) → (one other : Entry) → (new after : RelayState)
+        → Fails plan old worker a one new → GivesUp plan old worker b other after → ⊥ }
+    ensures post { (plan : Plan) → (old : RelayState) → (worker k l : ℕ) → (one other : Entry) → (new after : RelayState)
+        → Posts plan old worker k one false new → LosesPost plan old worker l false other after → ⊥ }
+    // The full-delay mark holds a message: it neither enters nor expires.
+    ensures held_enters { (plan : Plan) → (old : RelayState) → (input number : ℕ) → (node : Entry) → (new : RelayState)
+        → IsHeldBy Hold.FullDelay plan old input → Enters plan old input number node new → ⊥ }
+    ensures held_expires { (plan : Plan) → (old : RelayState) → (input number : ℕ) → (node : Entry) → (new : RelayState)
+        → IsHeldBy Hold.FullDelay plan old input → Expires plan old input number node new → ⊥ }
+    // A grab takes something.
+    ensures grab { (plan : Plan) → (old : RelayState) → (worker : ℕ) → (lost : List Entry) → (new : RelayState)
+        → Grabs plan old worker lost new → 0 < waiting old (queue_of_worker plan worker) }
+{}
+
+/// A worker has one job at most: one occurrence of one entry, and what is left due without it.
+pub fn one_job()
+    ensures { (plan : Plan) → (state : RelayState) → (worker : ℕ) → (a b : Occurrence) → (one : Job plan state worker a) → (other : Job plan state worker b)
+        → (a ≡ b) × (one.entry ≡ other.entry) × (one.left ≡ other.left) }
+{}
+
+/// The entry that an input makes of a message is one, but for its tag; and so is the one that a post makes of an entry.
+pub fn one_entry()
+    ensures taken { (plan : Plan) → (input : ℕ) → (one other : Entry) → IsOfInput plan input one → IsOfInput plan input other
+        → one.message ≡ other.message → one.tag ≡ other.tag → one ≡ other }
+    ensures posted { (plan : Plan) → (entry : Entry) → (list : ℕ) → (one other : Entry) → IsPosted plan entry list one
+        → IsPosted plan entry list other → one ≡ other }
+{}
+
+/// What a board's methods answer as a step is that step.
+pub fn answers_are_steps()
+    ensures take { (old new : BoardState) → (input number : ℕ) → (node : Entry) → (taken : Taken)
+        → TakeIs taken old input number node new → Made old (Event.Take input number node) new }
+    ensures enter { (old new : BoardState) → (input number : ℕ)
+        → EnterIs EnterAnswer.Entered old input number new → Made old (Event.Enter input number) new }
+    ensures expire { (old new : BoardState) → (input number : ℕ) → (node : Entry)
+        → ExpireIs node old input number new → Made old (Event.Expire input number) new }
+    ensures grab { (old new : BoardState) → (worker count : ℕ) → (lost : List Entry)
+        → GrabIs count lost old worker new → (new ≡ old) ⊎ Made old (Event.Grab worker) new }
+    ensures settle { (old new : BoardState) → (worker : ℕ) → (receipt : Delivered)
+        → SettleIs old worker receipt new → Made old (Event.Done worker) new }
+    ensures again { (old new : BoardState) → (worker : ℕ) → (failure : Refused) → (took : Bool)
+        → FailIs Retry.Again old worker failure new → Made old (Event.Fail worker took) new }
+    ensures gave_up { (old new : BoardState) → (worker : ℕ) → (failure : Refused) → (took : Bool)
+        → FailIs Retry.GaveUp old worker failure new → Made old (Event.GiveUp worker took) new }
+    ensures posted { (old new : BoardState) → (worker : ℕ) → (node : Entry)
+        → PostIs Posted.Done old worker node new → Made old (Event.Post worker) new }
+    ensures discarded { (old new : BoardState) → (worker : ℕ) → (node lost : Entry)
+        → PostIs (Posted.Discarded lost) old worker node new → Made old (Event.Post worker) new }
+    ensures post_lost { (old new : BoardState) → (worker : ℕ) → (why : PostCause)
+        → PostLostIs why old worker new → Made old (Event.PostLost worker (is_no_memory why)) new }
+{}
+
+/// From one state an event has one outcome, with what it lets out.
+pub fn one_outcome()
+    ensures { (plan : Plan) → (old : RelayState) → (event : Event) → (one other : RelayState) → (outs others : List Out)
+        → Step plan old event one outs → Step plan old event other others → (one ≡ other) × (outs ≡ others) }
 {}

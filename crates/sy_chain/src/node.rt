@@ -160,7 +160,8 @@ impl Node {
         self.fields.tag
     }
 
-    pub(crate) fn set_due(&mut self, due: u64)
+    /// Replaces the due set.
+    pub fn set_due(&mut self, due: u64)
         ensures { self.new ≡ record self.old { due = due } }
     {
         self.fields.due = due;

@@ -77,7 +77,8 @@ impl Marks {
         }
     }
 
-    fn is_full(self, waiting: usize) -> bool
+    /// Whether a queue where so many wait has no room.
+    pub(crate) fn is_full(self, waiting: usize) -> bool
         ensures { result ≡ nat_le self.size waiting }
     {
         waiting >= self.size as usize

@@ -1,5 +1,6 @@
 //! A queue with its marks.
-ghost use Rattle.std.specs.Prelude.{◌≡◌, ◌+◌, ◌<◌, ◌≤◌, ◌∷◌, ◌++◌, [], ◌==◌, not, true, drop, length, IfErr, IfOk, IsTrue, ◌↔◌, OnErr, OnOk};
+ghost use Rattle.std.specs.Prelude.{◌≡◌, ◌+◌, ◌-◌, ◌<◌, ◌≤◌, ◌∷◌, ◌++◌, [], ◌==◌, None, not, true, false, drop, length, nat_le, option_to_list, IfErr, IfNone, IfOk, IfSome, IsTrue, ◌↔◌, OnErr, OnOk};
+ghost use Rattle.sy_chain.specs.Entries.{Entry};
 ghost use Rattle.std.specs.VecDeque.{deque_capacity, deque_len};
 ghost use Rattle.sy_marks.specs.Marks as spec;
 
@@ -47,17 +48,6 @@ fn has_work(node: &Node) -> bool
 
 type Nodes = VecDeque<Node>;
 
-// Room for as many entries that are kept, and for as many that are lost, if any may be.
-fn rooms(alloc: Global, count: usize, may_lose: bool) -> Result<(Nodes, Nodes), AllocError>
-    ensures kept { IfOk result (λ rooms. (rooms.0.items ≡ []) × (deque_len rooms.0 + count ≤ deque_capacity rooms.0)) }
-    ensures lost { IfOk result (λ rooms. rooms.1.items ≡ []) }
-    ensures lost_room { may_lose ≡ true → IfOk result (λ rooms. deque_len rooms.1 + count ≤ deque_capacity rooms.1) }
-{
-    let kept = VecDeque::with_capacity(alloc, count)?;
-    let lost = VecDeque::with_capacity(alloc, if may_lose { count } else { 0 })?;
-    Ok((kept, lost))
-}
-
 // Takes so many entries from the front, one after the other, into those kept and those lost, which have room. What
 // it costs doesn't grow with the entries that stay.
 fn sort_out(marks: Marks, count: usize, nodes: &mut Nodes, kept: &mut Nodes, lost: &mut Nodes)
@@ -81,6 +71,27 @@ fn sort_out(marks: Marks, count: usize, nodes: &mut Nodes, kept: &mut Nodes, los
             kept.push_back_reserved(node);
         }
     }
+}
+
+// Makes room for one entry more where there is none.
+#[inline(never)]
+fn grow(nodes: &mut Nodes) -> Result<(), AllocError>
+    ensures room { OnOk result (deque_len nodes.new < deque_capacity nodes.new) }
+    ensures items { nodes.new.items ≡ nodes.old.items }
+{
+    nodes.reserve(1)
+}
+
+// Makes room for one entry more. Mostly there is room, which costs no call.
+#[inline(always)]
+fn make_room(nodes: &mut Nodes) -> Result<(), AllocError>
+    ensures room { OnOk result (deque_len nodes.new < deque_capacity nodes.new) }
+    ensures items { nodes.new.items ≡ nodes.old.items }
+{
+    if nodes.len() < nodes.capacity() {
+        return Ok(());
+    }
+    grow(nodes)
 }
 
 impl MarkQueue {
@@ -145,6 +156,90 @@ impl MarkQueue {
         }
     }
 
+    /// Whether so many wait as it has room for.
+    pub fn is_full(&self) -> bool
+        ensures { result ≡ nat_le self.now.marks.size (length self.now.entries) }
+    {
+        self.marks.is_full(self.nodes.len())
+    }
+
+    /// Makes room for one entry more, so that the next one put at the end takes no memory.
+    pub fn reserve(&mut self) -> Result<(), AllocError>
+        ensures { self.new ≡ self.old }
+    {
+        make_room(&mut self.nodes)
+    }
+
+    /// Moves the entry of a place, if there is one, to the end.
+    pub fn push_from(&mut self, place: &mut Option<Node>) -> Result<(), AllocError>
+        requires { length self.old.entries < self.old.marks.size }
+        ensures ok { OnOk result (self.new ≡ record self.old { entries = self.old.entries ++ option_to_list place.old }) }
+        ensures empty { OnOk result (place.new ≡ None) }
+        ensures err { OnErr result ((self.new ≡ self.old) × (place.new ≡ place.old)) }
+    {
+        make_room(&mut self.nodes)?;
+        if let Some(node) = place.take() {
+            self.nodes.push_back_reserved(node);
+        }
+        Ok(())
+    }
+
+    /// Takes the entry at the front, if there is one, without a look at the discard mark.
+    pub fn pop_front(&mut self) -> Option<Node>
+        ensures some { IfSome result (λ n. self.old.entries ≡ n ∷ self.new.entries) }
+        ensures none { IfNone result (self.old.entries ≡ []) }
+        ensures marks { self.new.marks ≡ self.old.marks }
+    {
+        self.nodes.pop_front()
+    }
+
+    /// Whether an entry that is taken now may be lost: only where the discard mark is reached.
+    pub fn may_lose(&self) -> bool
+        ensures { result ≡ spec.is_reached self.now.marks.discard_mark (length self.now.entries) }
+    {
+        is_reached(self.marks.discard_mark, self.nodes.len())
+    }
+
+    /// The entry at a place, counted from 0 at the front, if it would be lost to who takes it: those before it are
+    /// gone then.
+    pub fn lost_at(&self, place: usize) -> Option<&Node>
+        requires { place < length self.now.entries }
+        ensures some { IfSome result (λ n. spec.IsEntryAt self.now.entries place n.now
+            × (spec.is_lost self.now.marks n.now (length self.now.entries - place - 1) ≡ true)) }
+        ensures none { IfNone result ((e : Entry) → spec.IsEntryAt self.now.entries place e
+            → spec.is_lost self.now.marks e (length self.now.entries - place - 1) ≡ false) }
+    {
+        let node = &self.nodes[place];
+        if is_lost(self.marks, node, self.nodes.len() - place - 1) {
+            Some(node)
+        } else {
+            None
+        }
+    }
+
+    /// Room for as many entries that are lost now. It takes no memory where none may be.
+    pub fn room_for_lost(&self, count: usize) -> Result<VecDeque<Node>, AllocError>
+        ensures none { IfOk result (λ lost. lost.items ≡ []) }
+        ensures room { spec.is_reached self.now.marks.discard_mark (length self.now.entries) ≡ true →
+            IfOk result (λ lost. deque_len lost + count ≤ deque_capacity lost) }
+    {
+        VecDeque::with_capacity(self.alloc, if self.may_lose() { count } else { 0 })
+    }
+
+    /// Takes n entries from the front, one after the other: it puts those that are kept, and those that are lost, to
+    /// the ends of these two, which have room for them. An entry that is neither is finished, and is dropped.
+    pub fn grab_into(&mut self, n: usize, kept: &mut VecDeque<Node>, lost: &mut VecDeque<Node>)
+        requires there { n ≤ length self.old.entries }
+        requires kept_room { deque_len kept.old + n ≤ deque_capacity kept.old }
+        requires lost_room { spec.is_reached self.old.marks.discard_mark (length self.old.entries) ≡ true
+            → deque_len lost.old + n ≤ deque_capacity lost.old }
+        ensures kept { kept.new.items ≡ kept.old.items ++ spec.kept_of self.old.marks n self.old.entries }
+        ensures lost { lost.new.items ≡ lost.old.items ++ spec.lost_of self.old.marks n self.old.entries }
+        ensures rest { self.new ≡ record self.old { entries = drop n self.old.entries } }
+    {
+        sort_out(self.marks, n, &mut self.nodes, kept, lost);
+    }
+
     /// Takes n entries from the front, or all where fewer wait, one after the other: those that are kept, and those
     /// that are lost. An entry is lost where it is discarded at the length that remains without it. One that isn't
     /// and has nothing due is finished: it is in neither chain, and is dropped.
@@ -154,12 +249,11 @@ impl MarkQueue {
         ensures rest { OnOk result (self.new ≡ record self.old { entries = drop n self.old.entries }) }
         ensures err { OnErr result (self.new ≡ self.old) }
     {
-        let (marks, waiting) = (self.marks, self.nodes.len());
-        let count = n.min(waiting);
-        let may_lose = is_reached(marks.discard_mark, waiting);
+        let count = n.min(self.nodes.len());
         // all the room that is needed, before anything moves
-        let (mut kept, mut lost) = rooms(self.alloc, count, may_lose)?;
-        sort_out(marks, count, &mut self.nodes, &mut kept, &mut lost);
+        let mut kept = VecDeque::with_capacity(self.alloc, count)?;
+        let mut lost = self.room_for_lost(count)?;
+        self.grab_into(count, &mut kept, &mut lost);
         Ok((Chain::from_nodes(kept), Chain::from_nodes(lost)))
     }
 }

@@ -1,6 +1,5 @@
 //! Nodes, and chains of them.
 ghost use Rattle.std.specs.Prelude.{◌≡◌, IfSome};
-ghost use Rattle.sy_board.specs.States.{IsOfList};
 
 use crate::rows::{Judge, cut, each_is_right, number};
 use std::alloc::{AllocError, Global};
@@ -12,7 +11,7 @@ use sy_wire::Message;
 
 pub(super) const RAW: &[u8] = b"<34>1 - - - - - -";
 
-fn message(alloc: Global, raw: &[u8]) -> Option<Arc<Message>> {
+pub(super) fn message(alloc: Global, raw: &[u8]) -> Option<Arc<Message>> {
     match Message::read(raw.to_vec(alloc).ok()?) {
         Ok(message) => Arc::new(alloc, message).ok(),
         Err(_) => None,
@@ -26,10 +25,7 @@ pub(super) fn entry(alloc: Global, raw: &[u8], due: u64, tag: u64) -> Option<Nod
     Node::new(alloc, message(alloc, raw)?, 0, 0, due, tag).ok()
 }
 
-// A node of a board's list.
-pub(super) fn node(alloc: Global, tag: u64) -> Option<Node>
-    ensures { IfSome result (λ n. IsOfList 0 n) }
-{
+fn node(alloc: Global, tag: u64) -> Option<Node> {
     entry(alloc, RAW, 1, tag)
 }
 

@@ -5,11 +5,13 @@
 #![tactic(auto)]
 
 #[cfg(test)]
-mod board;
+mod actions;
 #[cfg(test)]
 mod chain;
 #[cfg(test)]
 mod marks;
+#[cfg(test)]
+mod relay;
 #[cfg(test)]
 mod rows;
 #[cfg(test)]

@@ -2,7 +2,7 @@
 //! and must, and each range at its ends.
 
 mod configurations;
-mod faults;
+pub mod faults;
 mod flows;
 mod memory;
 mod parameters;

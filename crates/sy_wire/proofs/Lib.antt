@@ -2,6 +2,7 @@ pub mod AnswerLaws
 pub mod CuttingLaws
 pub mod Digits
 pub mod Elements
+pub mod FrameHeads
 pub mod Held
 pub mod Moments
 pub mod Names

@@ -1,25 +1,31 @@
 //! A message's way over the board, from its frame to its line.
-ghost use Rattle.std.specs.Prelude.{◌≡◌, ◌+◌, ◌<◌, ◌≤◌, ◌^◌, Err, IfErr, IfOk, OnOk};
+ghost use Rattle.std.specs.Prelude.{◌≡◌, ◌+◌, ◌<◌, ◌≤◌, ◌^◌, ℕ, List, Err, IfErr, IfOk, OnOk};
 ghost use Rattle.std.specs.Io.KnownBytes.{Appends};
-ghost use Rattle.sy_board.specs.States.{IsOfList};
+ghost use Rattle.sy_board.specs.declared.fault.BoardFault.TheVariants as fault;
 ghost use Rattle.syc.specs.Pass.{line};
 ghost use Rattle.syc.specs.internal.Stops.{Carries, CarryCause, CarryFails, EntryFails, IsIdle, IsReady};
+ghost use Rattle.syc.specs.internal.Ways.{IsCarryFault, IsEntry, IsReceiptOf, IsWhole};
 
-use crate::output::write_line;
 use crate::stop::Stop;
 use std::alloc::{AllocError, Global};
 use std::mem;
 use std::sync::Arc;
-use sy_board::{Board, BoardFault, DUE, Entry, Job, LIST};
+use sy_actions::{DeviceFault, Failure, Hatch, LineSink, Receipt};
+use sy_board::{Board, BoardFault, Entry, Job, Taken};
 use sy_chain::{Node, RenewFault};
 use sy_wire::{Message, Sink};
 
-// The only input, hand and worker that a pass uses, and the tag that it doesn't look at.
+// The only input, hand and worker that a pass uses.
 const INPUT: u32 = 0;
 
 const HAND: u32 = 0;
 
 const WORKER: u32 = 0;
+
+// The only list, whose one occurrence is due of every message; and the tag, which a pass doesn't look at.
+const LIST: u32 = 0;
+
+const DUE: u64 = 1;
 
 const TAG: u64 = 0;
 
@@ -68,57 +74,123 @@ pub fn entry(alloc: Global, used: Option<Node>, raw: &mut Vec<u8>) -> Result<Nod
     }
 }
 
+// A board's refusal of a step, where nothing but memory can be missing.
+fn only_for_memory(refusal: BoardFault) -> AllocError
+    requires { refusal ≡ fault.NoMemory }
+{
+    let _ = refusal;
+    AllocError
+}
+
 // Brings an entry through its hand and the queue to the worker.
 fn put(board: &mut Board, node: Node) -> Result<(), AllocError>
     requires idle { IsIdle board.old }
-    requires room { board.old.taken + 1 < 2 ^ 64 }
-    requires node { IsOfList 0 node }
+    requires room { board.old.totals.taken + 1 < 2 ^ 64 }
+    requires node { IsEntry node }
     ensures ok { OnOk result (IsReady board.new node.message.raw) }
-    ensures taken { OnOk result (board.new.taken ≡ board.old.taken + 1) }
-    ensures bound { board.new.taken ≤ board.old.taken + 1 }
+    ensures taken { OnOk result (board.new.totals.taken ≡ board.old.totals.taken + 1) }
+    ensures bound { board.new.totals.taken ≤ board.old.totals.taken + 1 }
 {
-    let Ok(_in_hand) = board.take(INPUT, HAND, node) else {
+    let Ok(Taken::InHand) = board.take(INPUT, HAND, node) else {
         unreachable!()
     };
     match board.enter(INPUT, HAND) {
         Ok(Entry::Entered) => {}
         Ok(Entry::Held(_)) => unreachable!(),
-        Err(BoardFault::NoMemory) => return Err(AllocError),
-        Err(_) => unreachable!(),
+        Err(refusal) => return Err(only_for_memory(refusal)),
     }
-    let Ok(_count) = board.grab_all(WORKER) else {
-        unreachable!()
+    match board.grab_out(WORKER) {
+        Ok(_count) => Ok(()),
+        Err(refusal) => Err(only_for_memory(refusal)),
+    }
+}
+
+// What a refusal of the line sink stops a pass with.
+fn carry_fault(failure: Failure) -> CarryFault
+    ensures { IsCarryFault failure.fault result }
+{
+    let fault = failure.fault();
+    let _message = failure.into_message();
+    match fault {
+        DeviceFault::NoMemory => CarryFault::NoMemory,
+        DeviceFault::Write | DeviceFault::Broken | DeviceFault::CountFull => {
+            CarryFault::WriteFailed
+        }
+    }
+}
+
+// Offers the worker's message to the line sink.
+fn offer<W: Sink + Drop>(
+    board: &Board,
+    hatch: &mut Hatch<LineSink<W>>,
+) -> Result<Receipt, CarryFault>
+    requires ready { (raw : List ℕ) × IsReady board.now raw }
+    requires whole { IsWhole hatch.old hatch.old.made }
+    requires room { hatch.old.made + 1 < 2 ^ 64 }
+    ensures receipt { IfOk result (λ receipt. IsReceiptOf board.now receipt) }
+    ensures whole { OnOk result (IsWhole hatch.new (hatch.old.made + 1)) }
+    ensures ok { (raw : List ℕ) → IsReady board.now raw →
+        OnOk result (Appends (W.contents hatch.old.device.writer) (W.contents hatch.new.device.writer) (line raw)) }
+    ensures err { (raw : List ℕ) → IsReady board.now raw → IfErr result (λ e. CarryFails e
+        (W.contents hatch.old.device.writer) (W.contents hatch.new.device.writer) (line raw)) }
+    ensures lent { W.lent hatch.new.device.writer ≡ W.lent hatch.old.device.writer }
+    ensures count { W.faults hatch.old.device.writer ≤ W.faults hatch.new.device.writer }
+    ensures same { OnOk result (W.faults hatch.new.device.writer ≡ W.faults hatch.old.device.writer) }
+    ensures cause { IfErr result (λ e. CarryCause e (W.faults hatch.old.device.writer)
+        (W.faults hatch.new.device.writer)) }
+{
+    let message = match board.job(WORKER) {
+        Some(Job::Run { message, .. }) => message,
+        Some(Job::Post { .. }) => unreachable!(),
+        None => unreachable!(),
     };
-    Ok(())
+    let Ok(message) = Arc::try_clone(message) else {
+        return Err(CarryFault::NoMemory);
+    };
+    match hatch.deliver(message) {
+        Ok(receipt) => Ok(receipt),
+        Err(failure) => Err(carry_fault(failure)),
+    }
 }
 
 /// Takes a message over the board to its line, and hands out the entry that carried it.
-pub fn carry<W: Sink>(board: &mut Board, writer: &mut W, node: Node) -> Result<Node, CarryFault>
+pub fn carry<W: Sink + Drop>(
+    board: &mut Board,
+    hatch: &mut Hatch<LineSink<W>>,
+    node: Node,
+) -> Result<Node, CarryFault>
     requires idle { IsIdle board.old }
-    requires room { board.old.taken + 1 < 2 ^ 64 }
-    requires node { IsOfList 0 node }
+    requires room { board.old.totals.taken + 1 < 2 ^ 64 }
+    requires node { IsEntry node }
+    requires whole { IsWhole hatch.old board.old.totals.taken }
     ensures idle { OnOk result (IsIdle board.new) }
-    ensures ok { OnOk result (Appends (W.contents writer.old) (W.contents writer.new) (line node.message.raw)) }
-    ensures taken { OnOk result (board.new.taken ≡ board.old.taken + 1) }
-    ensures bound { board.new.taken ≤ board.old.taken + 1 }
-    ensures err { IfErr result (λ e. CarryFails e (W.contents writer.old) (W.contents writer.new)
+    ensures whole { OnOk result (IsWhole hatch.new board.new.totals.taken) }
+    ensures ok { OnOk result (Appends (W.contents hatch.old.device.writer) (W.contents hatch.new.device.writer)
         (line node.message.raw)) }
+    ensures taken { OnOk result (board.new.totals.taken ≡ board.old.totals.taken + 1) }
+    ensures bound { board.new.totals.taken ≤ board.old.totals.taken + 1 }
+    ensures err { IfErr result (λ e. CarryFails e (W.contents hatch.old.device.writer)
+        (W.contents hatch.new.device.writer) (line node.message.raw)) }
     ensures held { result ≡ Err CarryFault.WriteFailed → IsReady board.new node.message.raw }
-    ensures count { W.faults writer.old ≤ W.faults writer.new }
-    ensures same { OnOk result (W.faults writer.new ≡ W.faults writer.old) }
-    ensures cause { IfErr result (λ e. CarryCause e (W.faults writer.old) (W.faults writer.new)) }
+    ensures lent { W.lent hatch.new.device.writer ≡ W.lent hatch.old.device.writer }
+    ensures count { W.faults hatch.old.device.writer ≤ W.faults hatch.new.device.writer }
+    ensures same { OnOk result (W.faults hatch.new.device.writer ≡ W.faults hatch.old.device.writer) }
+    ensures cause { IfErr result (λ e. CarryCause e (W.faults hatch.old.device.writer)
+        (W.faults hatch.new.device.writer)) }
 {
     let Ok(()) = put(board, node) else {
         return Err(CarryFault::NoMemory);
     };
-    let Some(Job::Run { message, .. }) = board.job(WORKER) else {
-        unreachable!()
+    let receipt = match offer(board, hatch) {
+        Ok(receipt) => receipt,
+        Err(fault) => return Err(fault),
     };
-    let Ok(()) = write_line(writer, message.raw()) else {
-        return Err(CarryFault::WriteFailed);
-    };
-    let Ok(node) = board.settle_out(WORKER) else {
-        unreachable!()
-    };
-    Ok(node)
+    match board.settle_out(WORKER, receipt) {
+        Ok(Some(node)) => Ok(node),
+        Ok(None) => unreachable!(),
+        Err((receipt, _)) => {
+            receipt.discard();
+            unreachable!()
+        }
+    }
 }

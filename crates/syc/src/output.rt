@@ -3,7 +3,6 @@ ghost use Rattle.std.specs.Prelude.{◌≡◌, ◌≤◌, OnErr, OnOk};
 ghost use Rattle.std.specs.Fmt.{decimal};
 ghost use Rattle.std.specs.Io.KnownBytes.{Appends};
 ghost use Rattle.sy_wire.specs.Streams.{Rose};
-ghost use Rattle.syc.specs.Pass.{line};
 ghost use Rattle.syc.specs.Reports.{Torn};
 
 use sy_wire::{Sink, WriteFault};
@@ -23,19 +22,6 @@ pub fn write_all<W: Sink>(writer: &mut W, bytes: &[u8]) -> Result<(), WriteFault
         let count = writer.write(rest)?;
         at += count;
     }
-    Ok(())
-}
-
-/// Writes a message and a line feed.
-pub fn write_line<W: Sink>(writer: &mut W, message: &[u8]) -> Result<(), WriteFault>
-    ensures ok { OnOk result (Appends (W.contents writer.old) (W.contents writer.new) (line message.now)) }
-    ensures torn { OnErr result (Torn (W.contents writer.old) (W.contents writer.new) (line message.now)) }
-    ensures same { OnOk result (W.faults writer.new ≡ W.faults writer.old) }
-    ensures count { W.faults writer.old ≤ W.faults writer.new }
-    ensures err { OnErr result (Rose (W.faults writer.old) (W.faults writer.new)) }
-{
-    write_all(writer, message)?;
-    write_all(writer, b"\n")?;
     Ok(())
 }
 

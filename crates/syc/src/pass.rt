@@ -6,36 +6,46 @@ ghost use Rattle.std.specs.Io.KnownBytes.{Keeps};
 ghost use Rattle.syc.specs.Pass.{EndsWhole, GivesUpFailing, HasFailed, IsStatus, NoneFailed, PassIs, counts};
 ghost use Rattle.syc.specs.Reports.{Reported, seen, status_shown};
 ghost use Rattle.syc.specs.internal.Stops.{Advances, DrainFails, FailCause, IsBetween, IsIdle, PassCause, StopIs, StopsIn, TurnIs, WriteCause};
+ghost use Rattle.syc.specs.internal.Ways.{IsWhole, idle};
 
 use crate::carry::{CarryFault, carry, entry};
 use crate::stop::{Stop, status_of, tell};
-use std::alloc::Global;
+use std::alloc::{AllocError, Global};
+use std::sync::Arc;
+use sy_actions::{Hatch, LineSink};
 use sy_board::Board;
+use sy_rules::Plan;
 use sy_wire::{FillFault, FrameFault, Framer, PIECE, Sink, Source};
+
+// The only action of a pass's plan.
+const ARCHIVE: u32 = 0;
 
 /// How many reads a pass makes at most.
 pub const READS: u64 = 1_000_000_000_000;
 
 // Passes all whole frames that the framer holds.
-fn drain<W: Sink>(
+fn drain<W: Sink + Drop>(
     alloc: Global,
     board: &mut Board,
     framer: &mut Framer,
-    writer: &mut W,
+    hatch: &mut Hatch<LineSink<W>>,
 ) -> Result<(), Stop>
     requires idle { IsIdle board.old }
     requires good { framer.old.has_failed ≡ false }
-    requires room { board.old.taken + length framer.old.left < 2 ^ 64 }
+    requires whole { IsWhole hatch.old board.old.totals.taken }
+    requires room { board.old.totals.taken + length framer.old.left < 2 ^ 64 }
     ensures between { OnOk result (IsBetween board.new framer.new) }
+    ensures whole { OnOk result (IsWhole hatch.new board.new.totals.taken) }
     ensures ok { OnOk result (Advances framer.old.left
-        (W.contents writer.old) (W.contents writer.new) framer.new.left board.old.taken board.new.taken) }
-    ensures room { OnOk result (board.new.taken + length framer.new.left ≤ board.old.taken + length framer.old.left) }
-    ensures bound { board.new.taken ≤ board.old.taken + length framer.old.left }
+        (W.contents hatch.old.device.writer) (W.contents hatch.new.device.writer) framer.new.left board.old.totals.taken board.new.totals.taken) }
+    ensures room { OnOk result (board.new.totals.taken + length framer.new.left ≤ board.old.totals.taken + length framer.old.left) }
+    ensures bound { board.new.totals.taken ≤ board.old.totals.taken + length framer.old.left }
     ensures err { IfErr result (λ e. DrainFails e framer.old.left
-        (W.contents writer.old) (W.contents writer.new) board.old.taken board.new.taken) }
-    ensures same { OnOk result (W.faults writer.new ≡ W.faults writer.old) }
-    ensures count { W.faults writer.old ≤ W.faults writer.new }
-    ensures cause { IfErr result (λ e. WriteCause e (W.faults writer.old) (W.faults writer.new)) }
+        (W.contents hatch.old.device.writer) (W.contents hatch.new.device.writer) board.old.totals.taken board.new.totals.taken) }
+    ensures same { OnOk result (W.faults hatch.new.device.writer ≡ W.faults hatch.old.device.writer) }
+    ensures lent { W.lent hatch.new.device.writer ≡ W.lent hatch.old.device.writer }
+    ensures count { W.faults hatch.old.device.writer ≤ W.faults hatch.new.device.writer }
+    ensures cause { IfErr result (λ e. WriteCause e (W.faults hatch.old.device.writer) (W.faults hatch.new.device.writer)) }
 {
     let mut used = None;
     let mut raw = Vec::new(alloc);
@@ -43,7 +53,7 @@ fn drain<W: Sink>(
         match framer.next_into(&mut raw) {
             Ok(true) => {
                 let node = entry(alloc, used, &mut raw)?;
-                match carry(board, writer, node) {
+                match carry(board, hatch, node) {
                     Ok(node) => used = Some(node),
                     Err(CarryFault::NoMemory) => return Err(Stop::NoMemory),
                     Err(CarryFault::WriteFailed) => return Err(Stop::WriteFailed),
@@ -57,35 +67,38 @@ fn drain<W: Sink>(
 }
 
 // Hands on the lines so far, reads once, and passes what is whole then. It answers whether more may come.
-fn turn<R: Source, W: Sink>(
+fn turn<R: Source, W: Sink + Drop>(
     alloc: Global,
     reader: &mut R,
     board: &mut Board,
     framer: &mut Framer,
-    writer: &mut W,
+    hatch: &mut Hatch<LineSink<W>>,
 ) -> Result<bool, Stop>
     requires between { IsBetween board.old framer.old }
-    requires room { board.old.taken + length framer.old.left + PIECE < 2 ^ 64 }
+    requires whole { IsWhole hatch.old board.old.totals.taken }
+    requires room { board.old.totals.taken + length framer.old.left + PIECE < 2 ^ 64 }
     ensures between { result ≡ Ok true → IsBetween board.new framer.new }
-    ensures room { result ≡ Ok true → board.new.taken + length framer.new.left ≤ board.old.taken + length
+    ensures whole { result ≡ Ok true → IsWhole hatch.new board.new.totals.taken }
+    ensures room { result ≡ Ok true → board.new.totals.taken + length framer.new.left ≤ board.old.totals.taken + length
         framer.old.left + PIECE }
-    ensures bound { board.new.taken ≤ board.old.taken + length framer.old.left + PIECE }
+    ensures bound { board.new.totals.taken ≤ board.old.totals.taken + length framer.old.left + PIECE }
     ensures turned { (ahead : List ℕ) → R.remaining reader.old ≡ Some ahead →
         TurnIs result (framer.old.left ++ ahead) framer.new.left (R.remaining reader.new)
-        (W.contents writer.old) (W.contents writer.new) board.old.taken board.new.taken }
-    ensures flushed { result ≡ Ok false → W.is_flushed writer.new ≡ true }
+        (W.contents hatch.old.device.writer) (W.contents hatch.new.device.writer) board.old.totals.taken board.new.totals.taken }
+    ensures flushed { result ≡ Ok false → W.is_flushed hatch.new.device.writer ≡ true }
     ensures call { result ≡ Ok true → R.calls reader.new ≡ count_after (R.calls reader.old) 1 }
     ensures calls { R.calls reader.new ≤ R.calls reader.old + 1 }
     ensures reads { R.faults reader.old ≤ R.faults reader.new }
-    ensures writes { W.faults writer.old ≤ W.faults writer.new }
+    ensures lent { W.lent hatch.new.device.writer ≡ W.lent hatch.old.device.writer }
+    ensures writes { W.faults hatch.old.device.writer ≤ W.faults hatch.new.device.writer }
     ensures none_failed { IfOk result (λ _. NoneFailed
-        (counts R.faults R.calls W.faults reader.old writer.old)
-        (counts R.faults R.calls W.faults reader.new writer.new)) }
+        (counts R.faults R.calls W.faults reader.old hatch.old.device.writer)
+        (counts R.faults R.calls W.faults reader.new hatch.new.device.writer)) }
     ensures cause { IfErr result (λ e. FailCause e
-        (counts R.faults R.calls W.faults reader.old writer.old)
-        (counts R.faults R.calls W.faults reader.new writer.new)) }
+        (counts R.faults R.calls W.faults reader.old hatch.old.device.writer)
+        (counts R.faults R.calls W.faults reader.new hatch.new.device.writer)) }
 {
-    let Ok(()) = writer.flush() else {
+    let Ok(()) = hatch.flush() else {
         return Err(Stop::WriteFailed);
     };
     let count = match framer.fill(reader) {
@@ -100,26 +113,79 @@ fn turn<R: Source, W: Sink>(
         };
         return Ok(false);
     }
-    drain(alloc, board, framer, writer)?;
+    drain(alloc, board, framer, hatch)?;
     Ok(true)
 }
 
 // Passes the whole input, piece by piece.
-fn turns<R: Source, W: Sink>(
+fn turns<R: Source, W: Sink + Drop>(
     alloc: Global,
     reader: &mut R,
     board: &mut Board,
     framer: &mut Framer,
-    writer: &mut W,
+    hatch: &mut Hatch<LineSink<W>>,
 ) -> Result<(), Stop>
     requires between { IsBetween board.old framer.old }
+    requires whole { IsWhole hatch.old board.old.totals.taken }
     requires new { framer.old.left ≡ [] }
-    requires first { board.old.taken ≡ 0 }
-    ensures bound { board.new.taken + 1 < 2 ^ 64 }
+    requires first { board.old.totals.taken ≡ 0 }
+    ensures bound { board.new.totals.taken + 1 < 2 ^ 64 }
     ensures ok { (input : List ℕ) → R.remaining reader.old ≡ Some input →
-        OnOk result (Advances input (W.contents writer.old) (W.contents writer.new) [] 0 board.new.taken) }
+        OnOk result (Advances input (W.contents hatch.old.device.writer) (W.contents hatch.new.device.writer) [] 0 board.new.totals.taken) }
     ensures err { (input : List ℕ) → R.remaining reader.old ≡ Some input →
-        IfErr result (λ e. StopIs e input (W.contents writer.old) (W.contents writer.new) 0 board.new.taken) }
+        IfErr result (λ e. StopIs e input (W.contents hatch.old.device.writer) (W.contents hatch.new.device.writer) 0 board.new.totals.taken) }
+    ensures flushed { OnOk result (W.is_flushed hatch.new.device.writer ≡ true) }
+    ensures calls { R.calls reader.new ≤ R.calls reader.old + READS }
+    ensures lent { W.lent hatch.new.device.writer ≡ W.lent hatch.old.device.writer }
+    ensures writes { W.faults hatch.old.device.writer ≤ W.faults hatch.new.device.writer }
+    ensures none_failed { OnOk result (NoneFailed
+        (counts R.faults R.calls W.faults reader.old hatch.old.device.writer)
+        (counts R.faults R.calls W.faults reader.new hatch.new.device.writer)) }
+    ensures cause { IfErr result (λ e. PassCause e
+        (counts R.faults R.calls W.faults reader.old hatch.old.device.writer)
+        (counts R.faults R.calls W.faults reader.new hatch.new.device.writer)) }
+{
+    for _ in 0..READS {
+        if !turn(alloc, reader, board, framer, hatch)? {
+            return Ok(());
+        }
+    }
+    Err(Stop::ReadFailed)
+}
+
+// The board that takes messages in and writes them all, before the first message.
+fn new_board(alloc: Global) -> Result<Board, AllocError>
+    ensures { IfOk result (λ board. board ≡ idle 0) }
+{
+    let Ok(plan) = Plan::pass(alloc) else {
+        return Err(AllocError);
+    };
+    let Ok(plan) = Arc::new(alloc, plan) else {
+        return Err(AllocError);
+    };
+    Board::new(alloc, plan, None)
+}
+
+// Why a pass stopped, and in which frame, counted from 1.
+#[derive(Clone, Copy)]
+struct Stopped {
+    stop: Stop,
+    frame: u64,
+}
+
+// Passes the whole input over a board, each line through the hatch of the one action.
+fn pass_lines<R: Source, W: Sink>(
+    alloc: Global,
+    reader: &mut R,
+    board: &mut Board,
+    writer: &mut W,
+) -> Result<(), Stop>
+    requires { board.old ≡ idle 0 }
+    ensures ok { (input : List ℕ) → R.remaining reader.old ≡ Some input →
+        OnOk result (Advances input (W.contents writer.old) (W.contents writer.new) [] 0 board.new.totals.taken) }
+    ensures err { (input : List ℕ) → R.remaining reader.old ≡ Some input →
+        IfErr result (λ e. StopIs e input (W.contents writer.old) (W.contents writer.new) 0 board.new.totals.taken) }
+    ensures bound { board.new.totals.taken + 1 < 2 ^ 64 }
     ensures flushed { OnOk result (W.is_flushed writer.new ≡ true) }
     ensures calls { R.calls reader.new ≤ R.calls reader.old + READS }
     ensures writes { W.faults writer.old ≤ W.faults writer.new }
@@ -130,19 +196,11 @@ fn turns<R: Source, W: Sink>(
         (counts R.faults R.calls W.faults reader.old writer.old)
         (counts R.faults R.calls W.faults reader.new writer.new)) }
 {
-    for _ in 0..READS {
-        if !turn(alloc, reader, board, framer, writer)? {
-            return Ok(());
-        }
-    }
-    Err(Stop::ReadFailed)
-}
-
-// Why a pass stopped, and in which frame, counted from 1.
-#[derive(Clone, Copy)]
-struct Stopped {
-    stop: Stop,
-    frame: u64,
+    let mut framer = Framer::new(alloc);
+    let mut hatch = Hatch::new(ARCHIVE, LineSink::new(alloc, writer));
+    let ended = turns(alloc, reader, board, &mut framer, &mut hatch);
+    let _writer = hatch.into_device().into_writer();
+    ended
 }
 
 // Passes the whole input over a new board.
@@ -165,18 +223,17 @@ fn pass_all<R: Source, W: Sink>(
         (counts R.faults R.calls W.faults reader.old writer.old)
         (counts R.faults R.calls W.faults reader.new writer.new)) }
 {
-    let Ok(mut board) = Board::single(alloc) else {
+    let Ok(mut board) = new_board(alloc) else {
         return Err(Stopped {
             stop: Stop::NoMemory,
             frame: 1,
         });
     };
-    let mut framer = Framer::new(alloc);
-    match turns(alloc, reader, &mut board, &mut framer, writer) {
+    match pass_lines(alloc, reader, &mut board, writer) {
         Ok(()) => Ok(()),
         Err(stop) => Err(Stopped {
             stop,
-            frame: board.accounts().taken + 1,
+            frame: board.accounts().taken() + 1,
         }),
     }
 }

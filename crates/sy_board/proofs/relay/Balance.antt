@@ -13,9 +13,8 @@ use Rattle.sy_board.specs.relay.Plans.{marks_at, parameters_at, queue_of_input, 
 use Rattle.sy_board.specs.relay.Steps.{Event, Job, Out, Step, advanced, if_so, still}
 use Rattle.sy_board.specs.relay.Totals.{total}
 use Rattle.sy_board.specs.relay.Moves.{came, over, rest, went}
-use Rattle.sy_board.proofs.relay.Accounts.{total_set}
+use Rattle.sy_board.proofs.relay.AccountLaws.{total_set}
 use Rattle.sy_board.proofs.relay.There.{hand_there, input_queue_there, list_queue_there, worker_queue_there, worker_there}
-use Rattle.sy_board.proofs.relay.Put.{at_put_other}
 
 total_append : (f : Entry → ℕ) (xs ys : List Entry) → total f (xs ++ ys) ≡ total f xs + total f ys
 total_append f [] ys = omega arith

@@ -1,5 +1,5 @@
 -- What a step does to the lengths of queues, and to workers that it isn't about.
-use Rattle.std.proofs.Common.{◌≡◌, ℕ, ◌+◌, ◌<◌, ◌==◌, Bool, true, false, if◌then◌else◌, List, [], ◌∷◌, ◌++◌, length, drop, refl, sym, subst, ap, arith, length-append, length-drop, ◌∙◌, Some}
+use Rattle.std.proofs.Common.{◌≡◌, ℕ, ◌+◌, ◌<◌, ◌==◌, Bool, true, false, if◌then◌else◌, List, [], ◌∷◌, ◌++◌, length, drop, refl, sym, subst, ap, arith, length-append, length-drop, Some}
 use Rattle.std.specs.Prelude.{◌≢◌, min}
 use Rattle.std.proofs.lemmas.Bool.{eqb-true, eqb-false}
 use Rattle.sy_chain.specs.Entries.{Entry}
@@ -7,7 +7,7 @@ use Rattle.sy_rules.specs.declared.lists.occurrence.Occurrence.{Occurrence}
 use Rattle.sy_rules.specs.declared.lists.occurrence.Occurrence.TheVariants as occurrence
 use Rattle.sy_rules.specs.PlanValue.{Plan}
 use Rattle.sy_rules.specs.Whole.{IsWhole, queue_for}
-use Rattle.sy_board.specs.relay.Cells.{Cell, IsShaped, RelayState, at, failures_at, put, hand, waiting}
+use Rattle.sy_board.specs.relay.Cells.{Cell, IsShaped, RelayState, at, put, hand, waiting}
 use Rattle.sy_board.specs.relay.Plans.{parameters_at, queue_of_input, queue_of_worker}
 use Rattle.sy_board.specs.relay.Steps.{Event, Job, Out, Step, advanced, still}
 use Rattle.sy_board.specs.relay.Moves.{IsLeftAlone, added, removed, worker_of}

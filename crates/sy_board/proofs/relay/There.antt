@@ -1,10 +1,10 @@
 -- The places that a step names are there.
-use Rattle.std.proofs.Common.{◌≡◌, ℕ, ◌+◌, ◌*◌, ◌<◌, ◌≤◌, List, [], ◌∷◌, length, refl, sym, subst, arith, Some, None, Option, get_or, All, ap}
+use Rattle.std.proofs.Common.{ℕ, ◌+◌, ◌*◌, ◌<◌, ◌≤◌, List, [], ◌∷◌, length, arith, Some, None, Option, get_or, All}
 use Rattle.std.specs.Prelude.{slice_get, unwrap_or, IfSome}
 use Rattle.sy_rules.specs.PlanValue.{Plan, Listed}
-use Rattle.sy_rules.specs.Whole.{IsWhole, queue_at, queue_for, queue_in}
+use Rattle.sy_rules.specs.Whole.{IsWhole, queue_for, queue_in}
 use Rattle.sy_board.specs.relay.Cells.{IsShaped, RelayState}
-use Rattle.sy_board.specs.relay.Plans.{input_at, queue_of_input, queue_of_worker}
+use Rattle.sy_board.specs.relay.Plans.{queue_of_input, queue_of_worker}
 use Rattle.sy_board.specs.relay.Steps.{IsHand}
 
 -- an element at a place that is there

@@ -1,5 +1,5 @@
 -- What each step brings into a relay and takes out of it: said once more of the steps as a whole, for the laws that they keep.
-use Rattle.std.specs.Prelude.{◌≡◌, ℕ, ◌+◌, ◌==◌, Bool, if◌then◌else◌, List, [], ◌∷◌, ◌++◌, Option, Some, None, min, not}
+use Rattle.std.specs.Prelude.{◌≡◌, ℕ, ◌+◌, ◌==◌, if◌then◌else◌, List, [], ◌∷◌, ◌++◌, Option, Some, None, min, not}
 use Rattle.sy_chain.specs.Entries.{Entry}
 use Rattle.sy_marks.specs.Marks.{finished_of}
 use Rattle.sy_rules.specs.declared.lists.occurrence.Occurrence.{Occurrence}

@@ -72,9 +72,12 @@ pub record Totals : Type 0 where
 abbrev pub Pairs : Type 0
 Pairs = List (ℕ × Class)
 
+abbrev pub guards : Pairs → ℕ → Class → Bool
+guards pairs input class =
+    list_any (λ pair. pair.0 == input && (pair.1.facility == class.facility && pair.1.severity == class.severity)) pairs
+
 abbrev pub is_guarded : Pairs → Entry → Bool
-is_guarded pairs e =
-    list_any (λ pair. pair.0 == e.input && (pair.1.facility == e.message.class.facility && pair.1.severity == e.message.class.severity)) pairs
+is_guarded pairs e = guards pairs e.input e.message.class
 
 abbrev pub guarded_losses : Pairs → List Out → ℕ
 guarded_losses pairs [] = 0

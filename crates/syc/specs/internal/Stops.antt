@@ -1,22 +1,19 @@
 -- How far a pass has come between its calls, and what they leave when it stops.
-use Rattle.std.specs.Prelude.{◌≡◌, ℕ, ◌+◌, Bool, true, false, Result, Ok, Err, List, [], ◌∷◌, ◌++◌, ◌⊎◌, Option, Some, None, slice_get}
-use Rattle.std.specs.Io.KnownBytes.{Appends, Keeps}
+use Rattle.std.specs.Prelude.{◌≡◌, ℕ, ◌+◌, Bool, true, false, Result, Ok, Err, List, [], ◌++◌, ◌⊎◌, Option, Some}
+use Rattle.std.specs.Io.KnownBytes.{Keeps}
 use Rattle.sy_wire.specs.Frames.{Held, IsOpen}
 use Rattle.sy_wire.specs.Messages.{IsFault, IsMessage, Said}
 use Rattle.sy_wire.specs.Streams.{Rose}
 use Rattle.sy_wire.specs.declared.framer.FrameFault.TheVariants.{BadLength, TooLong}
 use Rattle.sy_chain.specs.Entries.{Entry}
-use Rattle.sy_board.specs.States.{BoardState}
+use Rattle.sy_board.specs.relay.Boards.{BoardState}
+use Rattle.syc.specs.internal.Ways.{entry_of, idle, ready}
 use Rattle.syc.specs.Pass.{AreReadsUsed, BeginsWith, Counts, NoneFailed, PartPassed, Passed}
 use Rattle.syc.specs.Reports.{Torn}
 use Rattle.syc.specs.declared.carry.CarryFault.{CarryFault}
 use Rattle.syc.specs.declared.carry.CarryFault.TheVariants.{NoMemory as OutOfRoom, WriteFailed as IsTorn}
 use Rattle.syc.specs.declared.stop.Stop.{Stop}
 use Rattle.syc.specs.declared.stop.Stop.TheVariants.{Frame, Message, NoMemory, ReadFailed, WriteFailed}
-
--- a message's entry, as it enters a pass's board: of the one list, from the one input, its one occurrence due
-abbrev pub entry_of : Said → Entry
-entry_of message = record { message = message; list = 0; input = 0; due = 1; tag = 0 }
 
 -- the entry of the message with this text
 pub record Carries (node : Entry) (raw : List ℕ) : Type 0 where
@@ -31,18 +28,15 @@ EntryFails NoMemory raw = Unit {0}
 EntryFails _ raw = ⊥
 
 -- no message is on the board where the next one comes
-pub record IsIdle (b : BoardState) : Type 0 where
-  pub hand : slice_get b.hands 0 ≡ Some None
-  pub queue : b.queue ≡ []
-  pub batch : b.batch ≡ []
+abbrev pub IsIdle : BoardState → Type 0
+IsIdle b = b ≡ idle b.totals.taken
 
 -- the message with this text waits to be written
 pub record IsReady (b : BoardState) (raw : List ℕ) : Type 0 where
-  pub entry : Entry
-  pub hand : slice_get b.hands 0 ≡ Some None
-  pub queue : b.queue ≡ []
-  pub batch : b.batch ≡ entry ∷ []
-  pub text : entry.message.raw ≡ raw
+  pub before : ℕ
+  pub message : Said
+  pub board : b ≡ ready before message
+  pub text : message.raw ≡ raw
 
 -- a message's line was not, or not wholly, written
 abbrev pub CarryFails : CarryFault → Option (List ℕ) → Option (List ℕ) → List ℕ → Type 0

@@ -1,4 +1,4 @@
-use Rattle.sy_board.proofs.relay.Accounts.{laws_counted}
+use Rattle.sy_board.proofs.relay.AccountLaws.{laws_counted}
 use Rattle.sy_board.proofs.relay.accounts_balance.Goals as goal
 
 pub returns : goal.returns

@@ -1,4 +1,4 @@
-use Rattle.sy_board.proofs.relay.Accounts.{opens}
+use Rattle.sy_board.proofs.relay.AccountLaws.{opens}
 use Rattle.sy_board.proofs.relay.it_opens_lawfully.Goals as goal
 
 pub returns-clause-places : goal.returns-clause-places

@@ -11,6 +11,8 @@ frames-preserved g c =
     let one = c.in-Ok.ensures.taken in
     record {
       idle = c.in-Ok.ensures.idle;
+      lent = c.in-Ok.ensures.lent ∙ c.frames.invariant.lent;
+      whole = c.in-Ok.ensures.whole;
       good = gives.stays_good;
       room = omega (arith, less, one, c.frames.invariant.room);
       small = c.frames.invariant.small;

@@ -7,6 +7,8 @@ use Rattle.syc.proofs.pass.turns.Goals as goal
 pub loop-init : goal.loop-init
 loop-init g c = record {
   between = c.requires.between;
+  lent = refl;
+  whole = c.requires.whole;
   room = let none : length c.args.framer.now.left ≡ 0 = ap length c.requires.new in omega (arith, none, c.requires.first);
   first = λ _. refl;
   calls = λ later. absurd (omega (arith, later));
@@ -32,6 +34,8 @@ loop-preserved g c =
     let more = rw c.if-not-branch.false at c.in_ok-turn.ensures in
     record {
       between = more.between refl;
+      lent = more.lent ∙ c.loop.invariant.lent;
+      whole = more.whole refl;
       room = omega (arith, more.room refl, c.loop.invariant.room);
       first = λ none. absurd (omega (arith, none));
       calls = λ later. calls_next _ _ _ _ c.loop.invariant.first c.loop.invariant.calls (more.call refl);

@@ -1,0 +1,5 @@
+pub mod SameDevice
+pub mod Writes
+pub mod LineLaws
+pub mod LineSteps
+pub mod FrameLaws

@@ -1,0 +1,8 @@
+use Rattle.sy_actions.proofs.LineLaws.{offer_keeps, offer_takes}
+use Rattle.sy_actions.proofs.line_sink.LineSinkDevice.offer.Goals as goal
+
+pub returns-clause-taken : goal.returns-clause-taken
+returns-clause-taken g c = offer_takes _ _ _ _ _ c.write_line-answer.result c.is_torn.ensures c.is_torn-2.ensures (rw c.deref.ensures at c.write_line-answer.ensures.offered)
+
+pub returns-clause-kept : goal.returns-clause-kept
+returns-clause-kept g c = offer_keeps _ _ _ _ _ c.write_line-answer.result c.is_torn.ensures c.is_torn-2.ensures (rw c.deref.ensures at c.write_line-answer.ensures.offered)

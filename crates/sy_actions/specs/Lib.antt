@@ -1,0 +1,6 @@
+pub mod Devices
+pub mod Faults
+pub mod Memory
+pub mod Lines
+pub mod FrameSinks
+pub mod internal

@@ -1,0 +1,186 @@
+//! The state of a relay.
+ghost use Rattle.std.specs.Prelude.{◌≡◌, ◌+◌, ◌*◌, ◌<◌, ◌≤◌, [], None, length, map, replicate, Some, IfNone, IfOk, IfSome, unwrap_or};
+ghost use Rattle.std.specs.Arc.{arc_value};
+ghost use Rattle.sy_marks.specs.Marks.{HoldIs, discards};
+ghost use Rattle.sy_board.specs.internal.Kept.{empty_queue};
+ghost use Rattle.sy_board.specs.relay.Boards.{account_of, opened};
+ghost use Rattle.sy_board.specs.relay.Cells.{IsShaped, waiting};
+ghost use Rattle.sy_board.specs.relay.Patience.{IsPatient};
+ghost use Rattle.sy_board.specs.relay.Plans.{flow_at, marks_at, queue_of_input};
+ghost use Rattle.sy_board.specs.relay.Totals.{Laws};
+ghost use Rattle.sy_board.specs.relay.Totals as spec;
+
+mod grabbing;
+mod inputs;
+mod jobs;
+mod posts;
+
+use super::accounts::Accounts;
+use super::guard::Guard;
+use super::reading::{marks_of, way_of};
+use std::alloc::{AllocError, Global};
+use std::collections::VecDeque;
+use std::marker::Model;
+use std::sync::Arc;
+use sy_chain::Node;
+use sy_marks::{Hold, MarkQueue};
+use sy_rules::Plan;
+use sy_rules::laws::plans_are_whole;
+
+/// How many messages an input can have in hand at once.
+const HANDS: usize = 64;
+
+// A worker's entries, and how often the present occurrence of the first has failed.
+#[derive(Drop)]
+struct Worker {
+    entries: VecDeque<Node>,
+    failures: u32,
+}
+
+/// The state of one relay: the hands of its inputs, its queues, the batches of its workers, and the totals.
+///
+/// Each call is one step of the relay, or changes nothing.
+#[derive(Drop)]
+pub struct Board {
+    alloc: Global,
+    plan: Arc<Plan>,
+    guard: Option<Guard>,
+    hands: Vec<Option<Node>>,
+    queues: Vec<MarkQueue>,
+    workers: Vec<Worker>,
+    accounts: Accounts,
+}
+
+impl Model for Board {
+    ghost use Rattle.sy_board.specs.relay.Boards.{BoardState};
+    ghost use Rattle.std.specs.Coded.{codes};
+    ghost use Rattle.sy_rules.specs.internal.PlanCodes.{plan_code};
+    ghost use Rattle.sy_board.specs.internal.Kept.{IsKept, board_inside};
+
+    ghost Value = { BoardState };
+
+    ghost coded = { Prim.hlevel (codes, plan_code) };
+
+    ghost view = { board_inside };
+
+    ghost invariant = { IsKept };
+}
+
+fn empty_hands(alloc: Global, inputs: usize) -> Result<Vec<Option<Node>>, AllocError>
+    requires { inputs ≤ 64 }
+    ensures { IfOk result (λ hands. hands.items ≡ replicate (64 * inputs) None) }
+{
+    let mut hands = Vec::with_capacity(alloc, HANDS * inputs)?;
+    for _ in 0..HANDS * inputs {
+        hands.push(None)?;
+    }
+    Ok(hands)
+}
+
+fn empty_queues(alloc: Global, plan: &Plan) -> Result<Vec<MarkQueue>, AllocError>
+    ensures { IfOk result (λ queues. queues.items ≡ map empty_queue plan.now.queues) }
+{
+    let mut queues = Vec::with_capacity(alloc, plan.queues().len())?;
+    for parameters in plan.queues() {
+        queues.push(MarkQueue::new(alloc, marks_of(parameters)))?;
+    }
+    Ok(queues)
+}
+
+fn idle_workers(alloc: Global, count: usize) -> Result<Vec<Worker>, AllocError>
+    ensures entries { IfOk result (λ workers. map (λ w. w.entries.items) workers.items ≡ replicate count []) }
+    ensures failures { IfOk result (λ workers. map (λ w. w.failures) workers.items ≡ replicate count 0) }
+{
+    let mut workers = Vec::with_capacity(alloc, count)?;
+    for _ in 0..count {
+        workers.push(Worker {
+            entries: VecDeque::new(alloc),
+            failures: 0,
+        })?;
+    }
+    Ok(workers)
+}
+
+// Where an input's hand is.
+fn place(input: u32, hand: u32) -> usize
+    ensures { result ≡ 64 * input + hand }
+{
+    HANDS * input as usize + hand as usize
+}
+
+// Whether an entry is discarded at the length of a queue.
+fn is_discarded(queue: &MarkQueue, node: &Node) -> bool
+    ensures { result ≡ discards queue.now.marks node.now.message.class.severity (length queue.now.entries) }
+{
+    // mostly the mark isn't reached, and the message isn't looked at
+    queue.may_lose() && queue.discards(node.message().class().severity)
+}
+
+// Whether the losses of an entry are counted apart.
+fn is_guarded(guard: &Option<Guard>, node: &Node) -> bool
+    ensures { result ≡ spec.is_guarded (unwrap_or guard.now []) node.now }
+{
+    match guard {
+        Some(guard) => guard.guards(node.input(), node.message().class()),
+        None => false,
+    }
+}
+
+impl Board {
+    /// The board of a relay with this plan. It holds no message yet. Losses of entries whose input and class the guard has are
+    /// counted apart.
+    pub fn new(alloc: Global, plan: Arc<Plan>, guard: Option<Guard>) -> Result<Board, AllocError>
+        ensures { IfOk result (λ board. board ≡ opened (arc_value plan) guard) }
+    {
+        plans_are_whole(&plan);
+        let hands = empty_hands(alloc, plan.inputs().len())?;
+        let queues = empty_queues(alloc, &plan)?;
+        let workers = idle_workers(alloc, plan.workers().len())?;
+        let accounts = Accounts::new(alloc, plan.actions().len())?;
+        Ok(Board {
+            alloc,
+            plan,
+            guard,
+            hands,
+            queues,
+            workers,
+            accounts,
+        })
+    }
+
+    /// The plan of the relay.
+    pub fn plan(&self) -> &Arc<Plan>
+        ensures { arc_value result.now ≡ self.now.plan }
+    {
+        &self.plan
+    }
+
+    /// The guard, where there is one.
+    pub fn guard(&self) -> Option<&Guard>
+        ensures some { IfSome result (λ guard. self.now.guard ≡ Some guard.now) }
+        ensures none { IfNone result (self.now.guard ≡ None) }
+    {
+        self.guard.as_ref()
+    }
+
+    /// The totals. The laws of accounts hold for them and what the board holds, which has the places of its plan; and no job has failed more often
+    /// than it may be tried again.
+    pub fn accounts(&self) -> &Accounts
+        ensures value { result.now ≡ account_of self.now }
+        ensures laws { Laws self.now.plan self.now.state self.now.totals }
+        ensures shaped { IsShaped self.now.plan self.now.state }
+        ensures patient { IsPatient self.now.plan self.now.state }
+    {
+        &self.accounts
+    }
+
+    /// What holds a message of an input now: first the full-delay mark, then a full queue, then the light-delay mark.
+    pub fn gate(&self, input: u32) -> Hold
+        requires { input < length self.now.plan.inputs }
+        ensures { HoldIs result (flow_at self.now.plan input) (marks_at self.now.plan (queue_of_input self.now.plan input))
+            (waiting self.now.state (queue_of_input self.now.plan input)) }
+    {
+        let (flow, queue) = way_of(&self.plan, input);
+        self.queues[queue].gate(flow)
+    }
+}

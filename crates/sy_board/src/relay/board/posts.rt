@@ -1,0 +1,94 @@
+//! The steps of a worker's job that is a post.
+ghost use Rattle.std.specs.Prelude.{◌≡◌, ℕ, ◌<◌, IfErr, IfNone, IfOk, IfSome, OnErr, OnOk, length};
+ghost use Rattle.sy_rules.specs.declared.lists.occurrence.Occurrence.TheVariants as occurrence;
+ghost use Rattle.sy_board.specs.relay.Boards.{IsForPost, PostFails, PostIs, PostLostFails, PostLostIs};
+ghost use Rattle.sy_board.specs.internal.Jobs.{IsNext};
+
+use super::jobs::{advance, next_of};
+use super::{Board, is_guarded};
+use crate::fault::BoardFault;
+use crate::relay::answers::{PostCause, Posted};
+use crate::relay::reading::queue_of_list;
+use std::collections::VecDeque;
+use sy_chain::Node;
+use sy_rules::{Occurrence, Plan};
+
+// The list of the post that is next for a worker with these entries, and the set that is left without it.
+fn post_of(plan: &Plan, entries: &VecDeque<Node>) -> Option<(u32, u64)>
+    ensures some { IfSome result (λ post. IsNext plan.now entries.now.items (occurrence.Post post.0) post.1) }
+    ensures none { IfNone result ((list left : ℕ) → IsNext plan.now entries.now.items (occurrence.Post list) left → ⊥) }
+{
+    match next_of(plan, entries)? {
+        (Occurrence::Post(list), left) => Some((list, left)),
+        (Occurrence::Run(_), _) => None,
+    }
+}
+
+impl Board {
+    /// Puts the entry that a worker's post makes to the end of the list's queue. Where it is discarded at that queue's length, the post is
+    /// lost; where it isn't and the queue is full, the entry comes back and the post is still to be done.
+    pub fn post(&mut self, worker: u32, node: Node) -> Result<Posted, (Node, BoardFault)>
+        requires there { worker < length self.old.plan.workers }
+        requires made { IsForPost self.old worker node }
+        ensures ok { IfOk result (λ posted. PostIs posted self.old worker node self.new) }
+        ensures err { IfErr result (λ e. PostFails e.1 self.old worker node) }
+        ensures back { IfErr result (λ e. e.0 ≡ node) }
+        ensures unchanged { OnErr result (self.new ≡ self.old) }
+    {
+        let slot = &mut self.workers[worker as usize];
+        let Some((list, left)) = post_of(&self.plan, &slot.entries) else {
+            return Err((node, BoardFault::NoJob));
+        };
+        let queue = &mut self.queues[queue_of_list(&self.plan, list)];
+        if queue.discards(node.message().class().severity) {
+            let guarded = is_guarded(&self.guard, &node);
+            let Ok(()) = self.accounts.count_lost_post(guarded) else {
+                return Err((node, BoardFault::TotalsFull));
+            };
+            advance(slot, left);
+            return Ok(Posted::Discarded(node));
+        }
+        if queue.is_full() {
+            return Ok(Posted::Held(node));
+        }
+        let Ok(()) = queue.reserve() else {
+            return Err((node, BoardFault::NoMemory));
+        };
+        if !self.accounts.has_room_for_post() {
+            return Err((node, BoardFault::TotalsFull));
+        }
+        if let Err(node) = queue.push(node) {
+            return Err((node, BoardFault::NoMemory));
+        }
+        self.accounts.count_post();
+        advance(slot, left);
+        Ok(Posted::Done)
+    }
+
+    /// A worker's post is lost: the list's queue is full, or there was no memory for an entry, which is the caller's word and is taken where the
+    /// queue has room too.
+    pub fn post_lost(&mut self, worker: u32, cause: PostCause) -> Result<(), BoardFault>
+        requires { worker < length self.old.plan.workers }
+        ensures ok { OnOk result (PostLostIs cause self.old worker self.new) }
+        ensures err { IfErr result (λ fault. PostLostFails fault cause self.old worker) }
+        ensures unchanged { OnErr result (self.new ≡ self.old) }
+    {
+        let slot = &mut self.workers[worker as usize];
+        let Some((list, left)) = post_of(&self.plan, &slot.entries) else {
+            return Err(BoardFault::NoJob);
+        };
+        let full = self.queues[queue_of_list(&self.plan, list)].is_full();
+        if cause == PostCause::Full && !full {
+            return Err(BoardFault::NotExpired);
+        }
+        let Some(node) = slot.entries.front() else {
+            return Err(BoardFault::NoJob);
+        };
+        let guarded = is_guarded(&self.guard, node);
+        let Ok(()) = self.accounts.count_lost_post(guarded) else {
+            return Err(BoardFault::TotalsFull);
+        };
+        advance(slot, left);
+        Ok(())
+    }
+}

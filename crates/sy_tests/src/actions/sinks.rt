@@ -1,0 +1,261 @@
+//! Sinks whose writer fails.
+use crate::chain::message;
+use std::alloc::{AllocError, Global};
+use std::io::{self, ErrorKind, Write};
+use std::process::Abort;
+use std::test::Fail;
+use sy_actions::{Device, FrameSink, LineSink};
+use sy_wire::FromWrite;
+
+const A: &[u8] = b"<34>1 - - - - - -";
+
+const B: &[u8] = b"<35>1 - - - - - -";
+
+const C: &[u8] = b"<191>1 - - - - - - c";
+
+const LINES: &[u8] = b"<34>1 - - - - - -\n<35>1 - - - - - -\n<191>1 - - - - - - c\n";
+
+const FRAMES: &[u8] = b"17 <34>1 - - - - - -17 <35>1 - - - - - -20 <191>1 - - - - - - c";
+
+/// Where the second and the third line begin, and where the third ends.
+const LINE_ENDS: [usize; 3] = [18, 36, 57];
+
+const FRAME_ENDS: [usize; 3] = [20, 40, 63];
+
+// Takes so many bytes, then fails at so many writes, then takes all.
+#[derive(Drop)]
+struct Torn {
+    bytes: Vec<u8>,
+    room: usize,
+    failing: u32,
+}
+
+impl Torn {
+    fn new(alloc: Global, room: usize, failing: u32) -> FromWrite<Torn> {
+        FromWrite::new(Torn {
+            bytes: Vec::new(alloc),
+            room,
+            failing,
+        })
+    }
+}
+
+impl Write for Torn {
+    fn write(&mut self, buf: &[u8]) -> io::Result<usize> {
+        let most = if self.failing == 0 {
+            buf.len()
+        } else {
+            self.room.min(buf.len())
+        };
+        if most == 0 {
+            self.failing = self.failing.saturating_sub(1);
+            return Err(io::Error::from(ErrorKind::Other));
+        }
+        self.bytes.extend_from_slice(&buf[..most])?;
+        self.room = self.room.saturating_sub(most);
+        Ok(most)
+    }
+
+    fn flush(&mut self) -> io::Result<()> {
+        Ok(())
+    }
+}
+
+// The bytes that a writer took.
+fn taken(writer: FromWrite<Torn>) -> Vec<u8> {
+    let Torn {
+        bytes,
+        room: _,
+        failing: _,
+    } = writer.into_inner();
+    bytes
+}
+
+// The number of the fault that a message is answered, 0 where it is taken.
+fn answer(alloc: Global, device: &mut impl Device, raw: &[u8]) -> Result<u8, AllocError> {
+    let Some(message) = message(alloc, raw) else {
+        return Err(AllocError);
+    };
+    Ok(match device.offer(&message) {
+        Ok(()) => 0,
+        Err(fault) => fault.number(),
+    })
+}
+
+/// Messages that are offered, each with the number of its fault, 0 where it is taken.
+type Offers<'a> = &'a [(&'a [u8], u8)];
+
+fn are_answered(
+    rt: &impl Abort,
+    alloc: Global,
+    device: &mut impl Device,
+    offers: Offers,
+) -> Result<(), AllocError> {
+    for (raw, wanted) in offers {
+        assert_eq!(rt; answer(alloc, device, raw)?, *wanted);
+    }
+    Ok(())
+}
+
+/// After how many bytes the writer fails, at how many writes, what is offered, and the bytes in the end.
+type Row<'a> = (usize, u32, Offers<'a>, &'a [u8]);
+
+static LINE_ROWS: [Row; 8] = [
+    (10, 1, &[(A, 91), (A, 0)], b"<34>1 - - - - - -\n"),
+    (
+        10,
+        1,
+        &[(A, 91), (B, 0)],
+        b"<34>1 - - \n<35>1 - - - - - -\n",
+    ),
+    (0, 1, &[(A, 91), (B, 0)], b"<35>1 - - - - - -\n"),
+    (17, 1, &[(A, 91), (A, 0)], b"<34>1 - - - - - -\n"),
+    (
+        17,
+        1,
+        &[(A, 91), (B, 0)],
+        b"<34>1 - - - - - -\n<35>1 - - - - - -\n",
+    ),
+    // the line feed that is to end the torn line fails, and the line can go on
+    (10, 2, &[(A, 91), (B, 91), (A, 0)], b"<34>1 - - - - - -\n"),
+    (
+        10,
+        3,
+        &[(A, 91), (B, 91), (A, 91), (B, 0)],
+        b"<34>1 - - \n<35>1 - - - - - -\n",
+    ),
+    (
+        18,
+        1,
+        &[(A, 0), (A, 91), (A, 0)],
+        b"<34>1 - - - - - -\n<34>1 - - - - - -\n",
+    ),
+];
+
+fn each_line_is_written(rt: &impl Abort, alloc: Global, rows: &[Row]) -> Result<(), AllocError> {
+    for row in rows {
+        let mut sink = LineSink::new(alloc, Torn::new(alloc, row.0, row.1));
+        are_answered(rt, alloc, &mut sink, row.2)?;
+        assert_eq!(rt; taken(sink.into_writer()).as_slice(), row.3);
+    }
+    Ok(())
+}
+
+#[test]
+fn lines_that_were_torn(rt: HostRuntime) -> Result<(), Fail> {
+    each_line_is_written(&rt, rt.alloc(), &LINE_ROWS)?;
+    Ok(())
+}
+
+// Offers a message until it is taken, twice at most.
+fn insist(
+    rt: &impl Abort,
+    alloc: Global,
+    device: &mut impl Device,
+    raw: &[u8],
+) -> Result<(), AllocError> {
+    let first = answer(alloc, device, raw)?;
+    assert!(rt; first == 0 || answer(alloc, device, raw)? == 0);
+    Ok(())
+}
+
+// The end of the line or frame in which so many bytes end, and whether they end within it.
+fn end_after(ends: &[usize], count: usize) -> (usize, bool) {
+    let mut start = 0;
+    for end in ends {
+        if count < *end {
+            return (*end, start < count);
+        }
+        start = *end;
+    }
+    (start, false)
+}
+
+// Writes the three lines with the fault after so many bytes, each message offered until it is taken.
+fn insists(rt: &impl Abort, alloc: Global, count: usize) -> Result<(), AllocError> {
+    let mut sink = LineSink::new(alloc, Torn::new(alloc, count, 1));
+    for raw in [A, B, C] {
+        insist(rt, alloc, &mut sink, raw)?;
+    }
+    assert_eq!(rt; taken(sink.into_writer()).as_slice(), LINES);
+    Ok(())
+}
+
+// Writes them with each message offered once: the line in which the fault falls ends there.
+fn goes_on(rt: &impl Abort, alloc: Global, count: usize) -> Result<(), AllocError> {
+    let mut sink = LineSink::new(alloc, Torn::new(alloc, count, 1));
+    for raw in [A, B, C] {
+        let _answer = answer(alloc, &mut sink, raw)?;
+    }
+    let (end, is_within) = end_after(&LINE_ENDS, count);
+    assert!(rt; count <= LINES.len() && end <= LINES.len());
+    let mut wanted = LINES[..count].to_vec(alloc)?;
+    if is_within && end < LINES.len() {
+        wanted.push(b'\n')?;
+    }
+    wanted.extend_from_slice(&LINES[end..])?;
+    assert_eq!(rt; taken(sink.into_writer()).as_slice(), wanted.as_slice());
+    Ok(())
+}
+
+#[test]
+fn lines_that_are_torn_at_each_byte(rt: HostRuntime) -> Result<(), Fail> {
+    for count in 0..LINES.len() {
+        insists(&rt, rt.alloc(), count)?;
+        goes_on(&rt, rt.alloc(), count)?;
+    }
+    Ok(())
+}
+
+// Writes the three frames with the fault after so many bytes: nothing comes after it, and all after a new writer has
+// come.
+fn breaks(rt: &impl Abort, alloc: Global, count: usize) -> Result<(), AllocError> {
+    assert!(rt; count <= FRAMES.len());
+    let mut sink = FrameSink::new(alloc, Torn::new(alloc, count, 1));
+    let mut broken = false;
+    for (raw, end) in [(A, FRAME_ENDS[0]), (B, FRAME_ENDS[1]), (C, FRAME_ENDS[2])] {
+        let wanted = if broken {
+            92
+        } else if count < end {
+            91
+        } else {
+            0
+        };
+        broken = broken || wanted > 0;
+        assert_eq!(rt; answer(alloc, &mut sink, raw)?, wanted);
+    }
+    let old = sink.renew(Torn::new(alloc, 0, 0));
+    assert_eq!(rt; taken(old).as_slice(), &FRAMES[..count]);
+    are_answered(rt, alloc, &mut sink, &[(A, 0), (B, 0), (C, 0)])?;
+    assert_eq!(rt;
+        taken(sink.renew(Torn::new(alloc, 0, 0))).as_slice(),
+        FRAMES
+    );
+    Ok(())
+}
+
+#[test]
+fn frames_that_are_torn_at_each_byte(rt: HostRuntime) -> Result<(), Fail> {
+    for count in 0..FRAMES.len() {
+        breaks(&rt, rt.alloc(), count)?;
+    }
+    Ok(())
+}
+
+// A message longer than a frame may carry is refused, with nothing written, and the next one is taken.
+#[test]
+fn a_frame_that_is_too_long(rt: HostRuntime) -> Result<(), Fail> {
+    let alloc = rt.alloc();
+    let mut raw = b"<34>1 - - - - - - ".to_vec(alloc)?;
+    for _ in raw.len()..65536 {
+        raw.push(b'x')?;
+    }
+    let mut sink = FrameSink::new(alloc, Torn::new(alloc, 0, 0));
+    assert_eq!(&rt; answer(alloc, &mut sink, raw.as_slice())?, 0);
+    raw.push(b'x')?;
+    assert_eq!(&rt; answer(alloc, &mut sink, raw.as_slice())?, 91);
+    assert_eq!(&rt; answer(alloc, &mut sink, A)?, 0);
+    let bytes = taken(sink.renew(Torn::new(alloc, 0, 0)));
+    assert_eq!(&rt; bytes.len(), 6 + 65536 + 20);
+    Ok(())
+}
