@@ -1,0 +1,93 @@
+-- A site as a value: the relays of one site file, the inputs that messages of its policy enter by, and what of them is to come to which archive.
+use Rattle.std.specs.Prelude.{ℕ, Bool, ◌==◌, ◌&&◌, not, if◌then◌else◌, List, [], ◌∷◌, Option, Some, None, option_and_then, option_map, slice_get}
+use Rattle.std.specs.List.{list_any, position}
+use Rattle.std.specs.Str.{bytes_eq}
+use Rattle.sy_wire.specs.declared.class.Class.{Class}
+use Rattle.sy_select.specs.Selectors.{holds}
+use Rattle.sy_rules.specs.declared.parameters.objects.Destination.{Destination}
+use Rattle.sy_rules.specs.declared.parameters.objects.Destination.TheVariants as destination
+use Rattle.sy_rules.specs.declared.parts.Action.{Action}
+use Rattle.sy_rules.specs.PlanValue.{Plan}
+
+-- an input of a relay, both by number
+pub record SiteInput : Type 0 where
+  pub relay : ℕ
+  pub input : ℕ
+
+-- an action of a relay, both by number: a forward, or an archive
+pub record SiteAction : Type 0 where
+  pub relay : ℕ
+  pub action : ℕ
+
+-- a relay: the bytes of its name, the four numbers of its address, and its plan
+pub record Relay : Type 0 where
+  pub name : List ℕ
+  pub address : List ℕ
+  pub plan : Plan
+
+-- what a protect line says: messages of the classes of a selector (by facility, the set of its severities) come to an archive
+pub record Protection : Type 0 where
+  pub selector : List ℕ
+  pub archive : SiteAction
+
+pub record Site : Type 0 where
+  pub relays : List Relay
+  pub entries : List SiteInput
+  pub protections : List Protection
+
+-- ---- plans and names
+
+-- of a relay that isn't there
+abbrev pub no_plan : Plan
+no_plan = record { inputs = []; queues = []; workers = []; actions = []; lists = []; names = [] }
+
+abbrev pub plan_in : Option Relay → Plan
+plan_in None = no_plan
+plan_in (Some relay) = relay.plan
+
+abbrev pub plan_at : Site → ℕ → Plan
+plan_at site relay = plan_in (slice_get site.relays relay)
+
+-- the relay of a name
+abbrev pub relay_named : List Relay → List ℕ → Option ℕ
+relay_named relays name = position (λ r. bytes_eq r.name name) relays
+
+-- the input of a relay that has this port
+abbrev pub input_at_port : Site → ℕ → ℕ → Option SiteInput
+input_at_port site relay port = option_map (λ i. record { relay = relay; input = i }) (position (λ i. i.port == port) (plan_at site relay).inputs)
+
+-- ---- what actions lead to
+
+-- where a forward leads: to the relay that it names, and there to the input of its port
+abbrev pub target_of : Site → Option Action → Option SiteInput
+target_of site None = None
+target_of site (Some action) = leads action.destination where
+  leads : Destination → Option SiteInput
+  leads (destination.Archive file) = None
+  leads (destination.Forward name port) = option_and_then (λ relay. input_at_port site relay port) (relay_named site.relays name)
+
+abbrev pub target : Site → SiteAction → Option SiteInput
+target site action = target_of site (slice_get (plan_at site action.relay).actions action.action)
+
+-- ---- what is protected
+
+abbrev pub same_action : SiteAction → SiteAction → Bool
+same_action a b = a.relay == b.relay && a.action == b.action
+
+abbrev pub asks_for : Protection → Class → Bool
+asks_for protection class = holds protection.selector class.facility class.severity
+
+abbrev pub is_protected : Site → Class → Bool
+is_protected site class = list_any (λ p. asks_for p class) site.protections
+
+-- the archives of these lines for a class, each once, those left out that came before
+abbrev pub archives_from : List SiteAction → List Protection → Class → List SiteAction
+archives_from before [] class = []
+archives_from before (p ∷ later) class =
+    if asks_for p class && not (list_any (same_action p.archive) before)
+    then p.archive ∷ archives_from (p.archive ∷ before) later class
+    else archives_from before later class
+
+-- the archives that are named for a class, in the order of the file
+abbrev pub archives : Site → Class → List SiteAction
+archives site class = archives_from [] site.protections class
