@@ -67,12 +67,13 @@ def controls_of(top, crate):
     return [control], []
 
 
-def try_one(top, crate, wanted):
-    """Tries a crate's edits and its control: what came of each, what that took, and the time."""
+def try_one(top, crate, wanted, share):
+    """Tries a crate's edits and its control, each check with as many jobs as `share` says by then: what came of each,
+    what that took, and the time."""
     began = time.monotonic()
     good, bad = edits_of(top, crate.name, wanted)
     controls, lacking = controls_of(top, crate.name)
-    tried, cost = rounds.try_crate(crate, good, controls) if good or controls else ([], "no check")
+    tried, cost = rounds.try_crate(crate, good, controls, share) if good or controls else ([], "no check")
     return crate.name, [*bad, *lacking, *tried], cost, time.monotonic() - began
 
 
@@ -139,12 +140,21 @@ def main(top, argv, usage):
         if not is_there:
             stop(f"the libraries below {name} are not built")
     toolchain.rtlib.guarded()
+    running = set()
+
+    def share():
+        """The jobs for a check: the processors that no other crate's checks use, once no gate runs beside them."""
+        return 1 if log and not proved_in(log)[1] else max(1, jobs // max(1, len(running)))
 
     def work(name, state):
         if state is None:
             lacking = [rounds.Tried(f"{name}", False, "the gate has not proved the libraries below")]
             return name, lacking, "no check", 0
-        return try_one(top, crates[name], wanted[name])
+        running.add(name)
+        try:
+            return try_one(top, crates[name], wanted[name], share)
+        finally:
+            running.discard(name)
 
     passed = failed = 0
     largest_first = sorted(wanted, key=lambda it: -len(edits_of(top, it, wanted[it])[0]))

@@ -29,10 +29,15 @@ class Round:
 
 
 class Trial:
-    """The edits of one crate, tried in checks over the same kept work."""
+    """The edits of one crate, tried in checks over the same kept work.
 
-    def __init__(self, crate, given, controls, room):
-        self.crate, self.room, self.kept = crate, f"{room}/source", f"{room}/kept"
+    What a check said of a function is kept with its text, also where it was refused. So a round leaves the edits of the
+    rounds before in the functions that it doesn't edit itself, where nothing is proved anew: a function is judged by
+    what it calls promises, and an edit of a body changes no promise."""
+
+    def __init__(self, crate, given, controls, jobs, room):
+        self.crate, self.room, self.kept, self.jobs = crate, f"{room}/source", f"{room}/kept", jobs
+        self.standing = []
         self.sources = edits.Crate(crate.folder)
         self.controls, self.given, self.checks, self.seconds, self.found = controls, given, 0, 0.0, {}
         os.makedirs(self.room)
@@ -85,25 +90,38 @@ class Trial:
         chosen.taken.append(edit)
         return True
 
+    def over_earlier(self, chosen):
+        """The round, and with it the edits of earlier rounds that it leaves where they stand; both stand then."""
+        together = Round(chosen.sources, list(chosen.taken), set(chosen.groups), set(chosen.names))
+        left = [it for it in self.standing if self.add(together, it)]
+        self.standing = left + [it for it in chosen.taken if it not in self.controls and self.is_of_a_body(it)]
+        return together, left
+
+    def is_of_a_body(self, edit):
+        """Whether an edit changes functions alone: no constant, no definition and no proof."""
+        _, places = edits.Sources(self.crate.folder).with_edit(edit)
+        functions, constants = self.sources.touched(places)
+        return bool(functions) and not constants and all(path.startswith("src/") for path, _ in places)
+
     def check(self, sources, functions):
         """Checks these functions in a copy of the crate with these sources."""
         self.checks += 1
         toolchain.copy_of(self.crate, self.room)
         sources.write(self.room)
-        status, lines, seconds = toolchain.check(self.crate, self.room, self.kept, functions)
+        status, lines, seconds = toolchain.check(self.crate, self.room, self.kept, functions, self.jobs())
         self.seconds += seconds
         return status, lines
 
     def try_round(self, chosen):
         """Tries a round; returns the edits to try in another one, and those to try alone."""
-        if len(chosen.taken) == 1:
-            self.try_alone(chosen.taken[0])
-            return [], []
-        status, lines = self.check(chosen.sources, [it.function for it in chosen.taken])
+        together, left = self.over_earlier(chosen)
+        status, lines = self.check(together.sources, [it.function for it in chosen.taken])
         said = judge.judged(self.sources, lines) if status in (0, 1, 3) else None
         if said is None:
-            return self.halved(chosen)
-        if self.stray(chosen.taken, said):
+            self.standing = []
+            return self.halved(chosen) if len(chosen.taken) > 1 else ([], chosen.taken)
+        if self.stray([*chosen.taken, *left], said):
+            self.standing = []
             return [], chosen.taken
         again = []
         for edit in chosen.taken:
@@ -177,8 +195,9 @@ class Trial:
         self.found[edit.name] = Tried(edit.label, is_well, text)
 
 
-def try_crate(crate, given, controls):
-    """Tries a crate's edits and its controls; returns what came of each, and what that took."""
+def try_crate(crate, given, controls, jobs=lambda: 1):
+    """Tries a crate's edits and its controls, each check with as many jobs as there are by then; returns what came of
+    each, and what that took."""
     with tempfile.TemporaryDirectory(prefix="syc-edits-") as room:
-        trial = Trial(crate, given, controls, room)
+        trial = Trial(crate, given, controls, jobs, room)
         return trial.run(), f"{trial.checks} checks, {trial.seconds:.0f} processor seconds"

@@ -42,11 +42,11 @@ def are_built(crate):
     return all(os.path.isdir(it.rlib) for it in crate.below())
 
 
-def check(crate, room, kept, functions, tests=False):
+def check(crate, room, kept, functions, jobs=1, tests=False):
     """What a check of the crate in `room`, with its tests or without, says of these functions and those that they
     call (where none is named, of all); `kept` has what earlier checks proved. Returns its status, its lines and its
-    processor seconds."""
-    words = [*crate.words(["--jobs", "1"], tests=tests, keeps=False), "--incremental", kept]
+    processor seconds, those of its other jobs with them."""
+    words = [*crate.words(["--jobs", str(jobs)], tests=tests, keeps=False), "--incremental", kept]
     for it in functions:
         words += ["--only", it]
     how = {"cwd": room, "stdin": subprocess.DEVNULL, "stdout": subprocess.PIPE, "stderr": subprocess.STDOUT}
