@@ -15,7 +15,7 @@ use Rattle.sy_wire.specs.declared.framer.FrameFault.TheVariants.{BadLength, TooL
 use Rattle.sy_wire.specs.declared.message.MsgFault.{MsgFault}
 use Rattle.syc.specs.Pass.{BeginsWith, CarriesFault, IsFramed, IsPart, PartPassed, Passed, line, lines}
 use Rattle.syc.specs.Reports.{Torn}
-use Rattle.syc.specs.internal.Stops.{Advances, DrainFails, EntryFails, StopIs, StopsAt}
+use Rattle.syc.specs.internal.Stops.{Advances, DrainFails, EntryFails, ReadCause, StopIs, StopsAt}
 use Rattle.syc.specs.declared.stop.Stop.{Stop}
 use Rattle.syc.specs.declared.stop.Stop.TheVariants.{Frame, Message, NoMemory, ReadFailed, WriteFailed}
 use Rattle.sy_wire.proofs.CuttingLaws.{bad_more, long_more}
@@ -194,6 +194,14 @@ stop_kept : (e : Stop) (bytes : List ℕ) (a b c : Option (List ℕ)) (i j : ℕ
 stop_kept e bytes a b c i j kept h = stop_after e bytes bytes a b c i i j (advances_nothing bytes a b i kept) h
 
 -- a turn whose frames are passed up to a stop
+-- a turn that can't read has passed nothing
+pub read_stops : (e : Stop) (before after : ℕ) (bytes : List ℕ) (a b : Option (List ℕ)) (i : ℕ) → Keeps a b → ReadCause e before after → StopIs e bytes a b i i
+read_stops ReadFailed before after bytes a b i kept h = part_of_passed bytes bytes 0 a b (passed_nothing bytes a b kept)
+read_stops NoMemory before after bytes a b i kept h = (bytes, 0, passed_nothing bytes a b kept)
+read_stops WriteFailed before after bytes a b i kept h = absurd h
+read_stops (Frame fault) before after bytes a b i kept h = absurd h
+read_stops (Message fault) before after bytes a b i kept h = absurd h
+
 pub turn_stops : (e : Stop) (left ahead next bytes held : List ℕ) (a b c : Option (List ℕ)) (i j : ℕ) → Keeps a b → ahead ≡ bytes ++ next → held ≡ left ++ bytes → DrainFails e held b c i j → StopIs e (left ++ ahead) a c i j
 turn_stops e left ahead next bytes held a b c i j kept split is h =
     let whole : (left ++ bytes) ++ next ≡ left ++ ahead = append_assoc left bytes next ∙ ap (λ x. left ++ x) (sym split) in

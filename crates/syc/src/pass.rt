@@ -1,11 +1,12 @@
 //! Standard input as frames, one line a message on standard output.
 ghost use Rattle.std.specs.Prelude.{◌≡◌, ◌≢◌, ◌+◌, ◌*◌, ◌<◌, ◌≤◌, ◌^◌, ◌⊎◌, ◌++◌, ℕ, [], List, Option, false, true, IfErr, IfOk, OnOk, Ok, Some, length};
 ghost use Rattle.sy_wire.specs.Frames.{IsOpen};
+ghost use Rattle.sy_wire.specs.Steps.{Fills};
 ghost use Rattle.sy_wire.specs.Streams.{Rose, count_after};
 ghost use Rattle.std.specs.Io.KnownBytes.{Keeps};
 ghost use Rattle.syc.specs.Pass.{EndsWhole, GivesUpFailing, HasFailed, IsStatus, NoneFailed, PassIs, counts};
 ghost use Rattle.syc.specs.Reports.{Reported, seen, status_shown};
-ghost use Rattle.syc.specs.internal.Stops.{Advances, DrainFails, FailCause, IsBetween, IsIdle, PassCause, StopIs, StopsIn, TurnIs, WriteCause};
+ghost use Rattle.syc.specs.internal.Stops.{Advances, DrainFails, FailCause, IsBetween, IsIdle, PassCause, ReadCause, StopIs, StopsIn, TurnIs, WriteCause};
 ghost use Rattle.syc.specs.internal.Ways.{IsWhole, idle};
 
 use crate::carry::{CarryFault, carry, entry};
@@ -66,6 +67,26 @@ fn drain<W: Sink + Drop>(
     }
 }
 
+// Reads once, into the framer.
+fn read_piece<R: Source>(reader: &mut R, framer: &mut Framer) -> Result<usize, Stop>
+    requires { framer.old.has_failed ≡ false }
+    ensures ok { IfOk result (λ count. Fills framer.old count framer.new (R.remaining reader.old) (R.remaining reader.new)) }
+    ensures bound { IfOk result (λ count. count ≤ PIECE) }
+    ensures none { IfOk result (λ count. count ≡ 0 → framer.new ≡ framer.old) }
+    ensures call { OnOk result (R.calls reader.new ≡ count_after (R.calls reader.old) 1) }
+    ensures calls { R.calls reader.new ≤ R.calls reader.old + 1 }
+    ensures same { OnOk result (R.faults reader.new ≡ R.faults reader.old) }
+    ensures count { R.faults reader.old ≤ R.faults reader.new }
+    ensures cause { IfErr result (λ e. ReadCause e (R.faults reader.old) (R.faults reader.new)) }
+{
+    match framer.fill(reader) {
+        Ok(count) => Ok(count),
+        Err(FillFault::ReadFailed) => Err(Stop::ReadFailed),
+        Err(FillFault::NoMemory) => Err(Stop::NoMemory),
+        Err(FillFault::Failed) => unreachable!(),
+    }
+}
+
 // Hands on the lines so far, reads once, and passes what is whole then. It answers whether more may come.
 fn turn<R: Source, W: Sink + Drop>(
     alloc: Global,
@@ -101,13 +122,7 @@ fn turn<R: Source, W: Sink + Drop>(
     let Ok(()) = hatch.flush() else {
         return Err(Stop::WriteFailed);
     };
-    let count = match framer.fill(reader) {
-        Ok(count) => count,
-        Err(FillFault::ReadFailed) => return Err(Stop::ReadFailed),
-        Err(FillFault::NoMemory) => return Err(Stop::NoMemory),
-        Err(FillFault::Failed) => unreachable!(),
-    };
-    if count == 0 {
+    if read_piece(reader, framer)? == 0 {
         let Ok(()) = framer.end() else {
             return Err(Stop::Frame(FrameFault::Truncated));
         };

@@ -94,6 +94,12 @@ TurnIs (Ok true) bytes left ahead old new before after = (next : List ℕ) × (a
 TurnIs (Ok false) bytes left ahead old new before after = Advances bytes old new [] before after
 TurnIs (Err stop) bytes left ahead old new before after = StopIs stop bytes old new before after
 
+-- a failed read has its cause; where memory runs out before it, none failed; and nothing else stops a read
+abbrev pub ReadCause : Stop → ℕ → ℕ → Type 0
+ReadCause ReadFailed before after = Rose before after
+ReadCause NoMemory before after = after ≡ before
+ReadCause _ before after = ⊥
+
 -- a failed write has its cause, and at any other stop none failed
 abbrev pub WriteCause : Stop → ℕ → ℕ → Type 0
 WriteCause WriteFailed before after = Rose before after
