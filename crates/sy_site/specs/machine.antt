@@ -2,3 +2,8 @@
 pub mod States
 pub mod Steps
 pub mod Lengths
+pub mod Reach
+pub mod Findings
+pub mod Soundness
+pub mod Naming
+pub mod Safety

@@ -18,7 +18,7 @@ use Rattle.sy_board.specs.relay.Steps.{Event, Job, Out, Step, advanced, still}
 use Rattle.sy_board.proofs.relay.Put.{put_elim, if_elim}
 use Rattle.sy_site.specs.Sites.{Site, SiteAction, plan_at}
 use Rattle.sy_site.specs.machine.States.{SiteState, opening, put_outs, with_passed, with_relay}
-use Rattle.sy_site.specs.machine.Steps.{Leads, RelaySteps, Runs, SiteEvent, SiteStep}
+use Rattle.sy_site.specs.machine.Steps.{SiteSteps, RelaySteps, Runs, SiteEvent, SiteStep}
 use Rattle.sy_site.specs.machine.Lengths.{Feeder, IsWithinMarks, OnlyFullDelay}
 
 -- a hand that its mark doesn't hold
@@ -119,7 +119,7 @@ module _ (site : Site) where
   site_marks old (SiteEvent.TakeFrom input h link place) new a st = relay_marks _ input.relay _ new a st.takes.step
   site_marks old (SiteEvent.Inside r event) new a st = relay_marks old r event new a st.1
 
-  marks_lead : (old : SiteState) (es : List SiteEvent) (new : SiteState) → AllMarks old.relays → Leads site old es new → AllMarks new.relays
+  marks_lead : (old : SiteState) (es : List SiteEvent) (new : SiteState) → AllMarks old.relays → SiteSteps site old es new → AllMarks new.relays
   marks_lead old [] new a is = subst (λ (s : SiteState). AllMarks s.relays) (sym is) a
   marks_lead old (e ∷ es) new a (mid, st, more) = marks_lead mid es new (site_marks old e mid a st) more
 

@@ -63,10 +63,10 @@ SiteStep site old (SiteEvent.TakeFrom input hand link place) new = TakesFrom sit
 SiteStep site old (SiteEvent.Inside relay event) new = (IsTake event → ⊥) × RelaySteps site old relay event new
 
 -- These events lead from the old state to the new one, one after the other.
-abbrev pub Leads : Site → SiteState → List SiteEvent → SiteState → Type 0
-Leads site old [] new = new ≡ old
-Leads site old (event ∷ events) new = (between : SiteState) × SiteStep site old event between × Leads site between events new
+abbrev pub SiteSteps : Site → SiteState → List SiteEvent → SiteState → Type 0
+SiteSteps site old [] new = new ≡ old
+SiteSteps site old (event ∷ events) new = (between : SiteState) × SiteStep site old event between × SiteSteps site between events new
 
 -- A run: any finite list of steps from the state in which all is empty.
 abbrev pub Runs : Site → List SiteEvent → SiteState → Type 0
-Runs site events new = Leads site (opening site) events new
+Runs site events new = SiteSteps site (opening site) events new
