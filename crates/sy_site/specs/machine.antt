@@ -7,3 +7,4 @@ pub mod Findings
 pub mod Soundness
 pub mod Naming
 pub mod Safety
+pub mod Examples

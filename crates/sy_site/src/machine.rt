@@ -1,10 +1,13 @@
 //! The machine of a whole site: laws of its runs. Steps and runs are definitions (`specs/machine`). Each function does nothing; its contract is
 //! the law.
 ghost use Rattle.std.specs.Prelude.{List};
+ghost use Rattle.sy_wire.specs.declared.class.Class.{Class};
 ghost use Rattle.sy_site.specs.Sites.{Site};
 ghost use Rattle.sy_site.specs.machine.States.{SiteState};
 ghost use Rattle.sy_site.specs.machine.Steps.{Runs, SiteEvent};
 ghost use Rattle.sy_site.specs.machine.Lengths.{IsWithinMarks};
+ghost use Rattle.sy_site.specs.machine.Safety.{IsWritten};
+ghost use Rattle.sy_site.specs.machine.Examples.{audit, example_events, example_site, narrow_events, narrow_site};
 ghost use Rattle.sy_site.specs.machine.Naming.{AreShaped, NumbersName, TagsName};
 
 /// The length bound: a queue whose feeders are all full-delay inputs, with a full-delay mark of at least 1, is never longer than that mark. It holds
@@ -26,4 +29,15 @@ pub fn tags_name_copies()
 /// After every run each relay has the places of its plan.
 pub fn relays_keep_their_places()
     ensures { (site : Site) → (events : List SiteEvent) → (state : SiteState) → Runs site events state → AreShaped site state }
+{}
+
+/// The definitions are not empty: a run of a site of two relays, in which a message of any class comes to the first one and is written by the second.
+pub fn a_message_is_written()
+    ensures { (class : Class) → (state : SiteState) × Runs example_site (example_events class) state × IsWritten state audit 0 }
+{}
+
+/// A run of another site, of a relay with two small queues, with the steps that aren't in that one: a post, and the ways in which a message is lost
+/// where nothing is discarded, which are Expire, Give up and Post lost.
+pub fn each_step_is_made()
+    ensures { (class : Class) → (state : SiteState) × Runs narrow_site (narrow_events class) state }
 {}
