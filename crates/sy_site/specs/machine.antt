@@ -6,5 +6,6 @@ pub mod Reach
 pub mod Findings
 pub mod Soundness
 pub mod Naming
+pub mod Confinement
 pub mod Safety
 pub mod Examples

@@ -6,6 +6,8 @@ ghost use Rattle.sy_site.specs.Sites.{Site};
 ghost use Rattle.sy_site.specs.machine.States.{SiteState};
 ghost use Rattle.sy_site.specs.machine.Steps.{Runs, SiteEvent};
 ghost use Rattle.sy_site.specs.machine.Lengths.{IsWithinMarks};
+ghost use Rattle.sy_site.specs.machine.Soundness.{IsSoundFor};
+ghost use Rattle.sy_site.specs.machine.Confinement.{AreConfined};
 ghost use Rattle.sy_site.specs.machine.Safety.{IsWritten};
 ghost use Rattle.sy_site.specs.machine.Examples.{audit, example_events, example_site, narrow_events, narrow_site};
 ghost use Rattle.sy_site.specs.machine.Naming.{AreShaped, NumbersName, TagsName};
@@ -40,4 +42,11 @@ pub fn a_message_is_written()
 /// where nothing is discarded, which are Expire, Give up and Post lost.
 pub fn each_step_is_made()
     ensures { (class : Class) → (state : SiteState) × Runs narrow_site (narrow_events class) state }
+{}
+
+/// Where a site is sound for a class, its copies that came in at entries are held within the class's reach alone, and none is lost; and along the trail
+/// of each the ranks fall, so that it comes to no relay twice.
+pub fn copies_are_confined()
+    ensures { (site : Site) → (class : Class) → (sound : IsSoundFor site class) → (events : List SiteEvent) → (state : SiteState)
+        → Runs site events state → AreConfined site class sound.rank state }
 {}
