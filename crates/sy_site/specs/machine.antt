@@ -7,5 +7,6 @@ pub mod Findings
 pub mod Soundness
 pub mod Naming
 pub mod Confinement
+pub mod Lawful
 pub mod Safety
 pub mod Examples
