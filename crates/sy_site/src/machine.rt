@@ -6,9 +6,10 @@ ghost use Rattle.sy_site.specs.Sites.{Site};
 ghost use Rattle.sy_site.specs.machine.States.{SiteState};
 ghost use Rattle.sy_site.specs.machine.Steps.{Runs, SiteEvent};
 ghost use Rattle.sy_site.specs.machine.Lengths.{IsWithinMarks};
-ghost use Rattle.sy_site.specs.machine.Soundness.{IsSoundFor};
+ghost use Rattle.sy_site.specs.machine.Soundness.{IsSound, IsSoundFor};
 ghost use Rattle.sy_site.specs.machine.Confinement.{AreConfined};
-ghost use Rattle.sy_site.specs.machine.Safety.{IsWritten};
+ghost use Rattle.sy_site.specs.machine.Lawful.{IsLawful};
+ghost use Rattle.sy_site.specs.machine.Safety.{AreSafe, IsWritten};
 ghost use Rattle.sy_site.specs.machine.Examples.{audit, example_events, example_site, narrow_events, narrow_site};
 ghost use Rattle.sy_site.specs.machine.Naming.{AreShaped, NumbersName, TagsName};
 
@@ -49,4 +50,12 @@ pub fn each_step_is_made()
 pub fn copies_are_confined()
     ensures { (site : Site) → (class : Class) → (sound : IsSoundFor site class) → (events : List SiteEvent) → (state : SiteState)
         → Runs site events state → AreConfined site class sound.rank state }
+{}
+
+/// No loss: after every run of a sound site each message of a protected class that came from outside at an entry is, for each archive that is named for
+/// its class, written there, or held where it heads there; no copy of it was lost, and none came to a relay twice. Nothing is said of when a
+/// message moves, of other classes, or of messages that came in elsewhere; and there may be several copies.
+pub fn sound_sites_are_safe()
+    ensures { (site : Site) → IsLawful site → IsSound site → (events : List SiteEvent) → (state : SiteState)
+        → Runs site events state → AreSafe site state }
 {}
