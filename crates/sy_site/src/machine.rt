@@ -1,5 +1,5 @@
-//! The machine of a whole site: laws of its runs. Steps and runs are definitions (`specs/machine`). Each function does nothing; its contract is
-//! the law.
+//! The machine of a whole site: laws of its runs. Steps and runs are definitions (`specs/machine`). Each function
+//! does nothing; its contract is the law.
 ghost use Rattle.std.specs.Prelude.{List};
 ghost use Rattle.sy_wire.specs.declared.class.Class.{Class};
 ghost use Rattle.sy_site.specs.Sites.{Site};
@@ -13,49 +13,56 @@ ghost use Rattle.sy_site.specs.machine.Safety.{AreSafe, IsWritten};
 ghost use Rattle.sy_site.specs.machine.Examples.{audit, example_events, example_site, narrow_events, narrow_site};
 ghost use Rattle.sy_site.specs.machine.Naming.{AreShaped, NumbersName, TagsName};
 
-/// The length bound: a queue whose feeders are all full-delay inputs, with a full-delay mark of at least 1, is never longer than that mark. It holds
-/// of every site and after every run, whatever comes from outside.
+/// The length bound: a queue whose feeders are all full-delay inputs, with a full-delay mark of at least 1, is never
+/// longer than that mark. It holds of every site and after every run, whatever comes from outside.
 pub fn queues_stay_within_marks()
-    ensures { (site : Site) → (events : List SiteEvent) → (state : SiteState) → Runs site events state → IsWithinMarks site state }
+    ensures { (site : Site) → (events : List SiteEvent) → (state : SiteState)
+        → Runs site events state → IsWithinMarks site state }
 {}
 
 /// A number names its message: each copy is of the message that came from outside under its number, by the same input.
 pub fn numbers_name_messages()
-    ensures { (site : Site) → (events : List SiteEvent) → (state : SiteState) → Runs site events state → NumbersName state }
+    ensures { (site : Site) → (events : List SiteEvent) → (state : SiteState)
+        → Runs site events state → NumbersName state }
 {}
 
-/// Each tag that a run leaves, at a place, on a link, in a file or among the losses, names a copy, and an entry has its copy's message.
+/// Each tag that a run leaves, at a place, on a link, in a file or among the losses, names a copy, and an entry has its
+/// copy's message.
 pub fn tags_name_copies()
     ensures { (site : Site) → (events : List SiteEvent) → (state : SiteState) → Runs site events state → TagsName state }
 {}
 
 /// After every run each relay has the places of its plan.
 pub fn relays_keep_their_places()
-    ensures { (site : Site) → (events : List SiteEvent) → (state : SiteState) → Runs site events state → AreShaped site state }
+    ensures { (site : Site) → (events : List SiteEvent) → (state : SiteState)
+        → Runs site events state → AreShaped site state }
 {}
 
-/// The definitions are not empty: a run of a site of two relays, in which a message of any class comes to the first one and is written by the second.
-pub fn a_message_is_written()
-    ensures { (class : Class) → (state : SiteState) × Runs example_site (example_events class) state × IsWritten state audit 0 }
-{}
-
-/// A run of another site, of a relay with two small queues, with the steps that aren't in that one: a post, and the ways in which a message is lost
-/// where nothing is discarded, which are Expire, Give up and Post lost.
-pub fn each_step_is_made()
-    ensures { (class : Class) → (state : SiteState) × Runs narrow_site (narrow_events class) state }
-{}
-
-/// Where a site is sound for a class, its copies that came in at entries are held within the class's reach alone, and none is lost; and along the trail
-/// of each the ranks fall, so that it comes to no relay twice.
+/// Where a site is sound for a class, its copies that came in at entries are held within the class's reach alone, and
+/// none is lost; and along the trail of each the ranks fall, so that it comes to no relay twice.
 pub fn copies_are_confined()
-    ensures { (site : Site) → (class : Class) → (sound : IsSoundFor site class) → (events : List SiteEvent) → (state : SiteState)
-        → Runs site events state → AreConfined site class sound.rank state }
+    ensures { (site : Site) → (class : Class) → (sound : IsSoundFor site class) → (events : List SiteEvent)
+        → (state : SiteState) → Runs site events state → AreConfined site class sound.rank state }
 {}
 
-/// No loss: after every run of a sound site each message of a protected class that came from outside at an entry is, for each archive that is named for
-/// its class, written there, or held where it heads there; no copy of it was lost, and none came to a relay twice. Nothing is said of when a
-/// message moves, of other classes, or of messages that came in elsewhere; and there may be several copies.
+/// No loss: after every run of a sound site each message of a protected class that came from outside at an entry is,
+/// for each archive that is named for its class, written there, or held where it heads there; no copy of it was lost,
+/// and none came to a relay twice. Nothing is said of when a message moves, of other classes, or of messages that came
+/// in elsewhere; and there may be several copies.
 pub fn sound_sites_are_safe()
     ensures { (site : Site) → IsLawful site → IsSound site → (events : List SiteEvent) → (state : SiteState)
         → Runs site events state → AreSafe site state }
+{}
+
+/// The definitions are not empty: a run of a site of two relays, in which a message of any class comes to the first
+/// one and is written by the second.
+pub fn a_message_is_written()
+    ensures { (class : Class) → (state : SiteState)
+        × Runs example_site (example_events class) state × IsWritten state audit 0 }
+{}
+
+/// A run of another site, of a relay with two small queues, with the steps that aren't in that one: a post, and the
+/// ways in which a message is lost where nothing is discarded, which are Expire, Give up and Post lost.
+pub fn each_step_is_made()
+    ensures { (class : Class) → (state : SiteState) × Runs narrow_site (narrow_events class) state }
 {}

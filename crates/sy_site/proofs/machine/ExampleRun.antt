@@ -1,8 +1,7 @@
 -- A run of the example that writes a message.
-use Rattle.std.proofs.Common.{◌≡◌, ℕ, ◌==◌, Bool, true, false, List, [], ◌∷◌, ◌++◌, refl, sym, subst, arith, inl, inr, None}
+use Rattle.std.proofs.Common.{◌≡◌, ℕ, ◌==◌, Bool, true, false, [], ◌∷◌, ◌++◌, refl, subst, arith}
 use Rattle.std.specs.Prelude.{◌||◌}
 use Rattle.std.specs.Int.{bit_at}
-use Rattle.std.specs.List.{list_any}
 use Rattle.std.proofs.lemmas.Nat.Bits.{bit_at-zero, bit_at-pow_same, bit_at-pow_other}
 use Rattle.std.proofs.lemmas.Bool.{eqb-true, eqb-false}
 use Rattle.sy_wire.specs.declared.class.Class.{Class}
@@ -11,10 +10,9 @@ use Rattle.sy_rules.specs.lists.Body.{is_in}
 use Rattle.sy_rules.specs.lists.Sets.{Bits, IsLowest}
 use Rattle.sy_board.specs.relay.Cells as cells
 use Rattle.sy_board.specs.relay.Cells.{Cell, RelayState, put, put_failures, hand}
-use Rattle.sy_board.specs.relay.Plans.{IsDue}
 use Rattle.sy_board.specs.relay.Steps.{Enters, Event, Fails, Grabs, Settles, Takes}
 use Rattle.sy_site.specs.Sites.{SiteAction}
-use Rattle.sy_site.specs.machine.States.{Copy, SiteState, copy_of_new, opening, taken_by, with_passed, with_relay}
+use Rattle.sy_site.specs.machine.States.{Copy, SiteState, opening, taken_by, with_passed, with_relay}
 use Rattle.sy_site.specs.machine.Steps.{Runs, SiteEvent, SiteStep}
 use Rattle.sy_site.specs.machine.Safety.{IsWritten}
 use Rattle.sy_site.specs.machine.Examples.{audit, edge_input, edge_plan, example_events, example_message, example_site, hub_input, hub_plan, up}

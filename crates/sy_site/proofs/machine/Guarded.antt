@@ -1,6 +1,6 @@
 -- A copy of a class that came in at an entry: where it is, that it is never lost, and that the ranks fall along its trail.
 use Rattle.std.proofs.Common.{◌≡◌, ℕ, ◌+◌, ◌*◌, ◌<◌, ◌≤◌, ◌==◌, Bool, true, false, List, [], ◌∷◌, ◌++◌, length, refl, sym, subst, ap, arith, inl, inr, Some, ◌∙◌, get_or}
-use Rattle.std.specs.Prelude.{◌≢◌, ◌⊎◌, slice_get, AllPairs}
+use Rattle.std.specs.Prelude.{◌≢◌, slice_get}
 use Rattle.std.specs.Int.{bit_at}
 use Rattle.std.specs.List.{Contains}
 use Rattle.std.proofs.lemmas.Bool.Decides.{nat_tests}
@@ -19,17 +19,17 @@ use Rattle.sy_rules.specs.lists.Work.{Due, May}
 use Rattle.sy_rules.specs.PlanValue.{Plan}
 use Rattle.sy_rules.specs.Whole.{AreDifferent, body_at}
 use Rattle.sy_rules.proofs.lemmas.lists.WorkLaws.{work_may}
-use Rattle.sy_board.specs.relay.Cells.{Cell, at, hand, waiting}
-use Rattle.sy_board.specs.relay.Plans.{flow_at, input_at, marks_at, occurrences_at, parameters_at, queue_of_input}
+use Rattle.sy_board.specs.relay.Cells.{Cell, hand, waiting}
+use Rattle.sy_board.specs.relay.Plans.{flow_at, input_at, marks_at, occurrences_at, queue_of_input}
 use Rattle.sy_board.specs.relay.Steps.{Cause, IsHand, IsOfInput}
 use Rattle.sy_site.specs.Sites.{Site, SiteInput, SiteAction, plan_at, target}
-use Rattle.sy_site.specs.machine.States.{Copy, Loss, SiteState, opening, taken_by}
+use Rattle.sy_site.specs.machine.States.{Copy, SiteState, opening, taken_by}
 use Rattle.sy_site.specs.machine.Steps.{Runs, SiteEvent}
-use Rattle.sy_site.specs.machine.Lengths.{Feeder, Feeds, IsFullDelay, OnlyFullDelay}
-use Rattle.sy_site.specs.machine.Reach.{Forwards, MayAt, Reach, entry, list_of, occurrence_of, onward}
-use Rattle.sy_site.specs.machine.Findings.{HoldsAt, IsFedFreely, Kind, queue_of}
+use Rattle.sy_site.specs.machine.Lengths.{Feeder, OnlyFullDelay}
+use Rattle.sy_site.specs.machine.Reach.{Forwards, MayAt, Reach, entry, occurrence_of, onward}
+use Rattle.sy_site.specs.machine.Findings.{IsFedFreely, Kind, queue_of}
 use Rattle.sy_site.specs.machine.Confinement.{AreConfined, Falls, IsFollowed, IsWithinReach}
-use Rattle.sy_site.specs.machine.Soundness.{AreRanks, IsSoundFor}
+use Rattle.sy_site.specs.machine.Soundness.{IsSoundFor}
 use Rattle.sy_site.proofs.machine.Keeps.{Each, Kept, Owes, each_append, each_weaker}
 use Rattle.sy_site.proofs.machine.Marks.{AllMarks, InMarks, marks_start, not_delayed, site_marks}
 use Rattle.sy_site.proofs.machine.Spread.{Grows, Moves, Of, OutOf, run_keeps, start_keeps}
@@ -188,9 +188,10 @@ module _ (site : Site) (class : Class) (sound : IsSoundFor site class) where
         record {
           once = g.tracked.once;
           next = λ q t.
-              let goes : Forwards site (input_on r e.input) o.number q = record { action = a; runs = is; leads = t } in
-              (onward o.number g.reach may goes,
-              each_weaker _ _ (λ z y. (let f = sound.ranks.falls (input_on r e.input) q o.number g.reach may goes in omega (arith, f, y))) x.trail g.tracked.above);
+              let goes : Forwards site (input_on r e.input) o.number q = record { action = a; runs = is; leads = t } in (
+                onward o.number g.reach may goes,
+                each_weaker _ _ (λ z y. (let f = sound.ranks.falls (input_on r e.input) q o.number g.reach may goes in omega (arith, f, y))) x.trail g.tracked.above,
+              );
         };
     posts = λ w e l node p o m of. absurd (no_post r x (Cell.Worker w) e l of (p of) o);
     lost_take = λ old i h e g p there t of.
@@ -206,7 +207,7 @@ module _ (site : Site) (class : Class) (sound : IsSoundFor site class) where
         let same = same_input (plan_at site r) i h e.input good.belongs.0 leaves.there good.belongs.1 good.belongs.2 in
         let reach = subst (λ j. Reach site class (record { relay = r; input = j })) same good.reach in
         let below = not_delayed (flow_at (plan_at site r) i) (marks_at (plan_at site r) (queue_of_input (plan_at site r) i))
-            (waiting old (queue_of_input (plan_at site r) i)) (is_full (input_on r i) reach) (has_mark (input_on r i) reach) leaves.not_held in
+        (waiting old (queue_of_input (plan_at site r) i)) (is_full (input_on r i) reach) (has_mark (input_on r i) reach) leaves.not_held in
         sound.clean (input_on r i) reach Kind.MarkAboveSize (omega (arith, below, full));
     lost_grab = λ old q n e g p l t of.
         let good = p of in

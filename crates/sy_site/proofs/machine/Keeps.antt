@@ -1,10 +1,10 @@
 -- What holds of every entry of a relay, wherever it is, and of all that leaves it, by how entries move.
-use Rattle.std.proofs.Common.{◌≡◌, ℕ, ◌<◌, ◌≤◌, ◌==◌, Bool, true, false, if◌then◌else◌, List, [], ◌∷◌, ◌++◌, length, map, drop, refl, sym, subst, arith, Some, ◌∙◌}
+use Rattle.std.proofs.Common.{◌≡◌, ℕ, ◌<◌, ◌≤◌, ◌==◌, Bool, true, false, List, [], ◌∷◌, ◌++◌, length, map, drop, refl, sym, subst, arith, Some, ◌∙◌}
 use Rattle.std.specs.Prelude.{slice_get}
 use Rattle.std.specs.Int.{bit_at}
 use Rattle.sy_chain.specs.Entries.{Entry}
 use Rattle.sy_marks.specs.declared.marks.Marks.{Marks}
-use Rattle.sy_marks.specs.Marks.{discards, front_where, is_kept, is_lost, kept_of, lost_of}
+use Rattle.sy_marks.specs.Marks.{discards, is_kept, is_lost, kept_of, lost_of}
 use Rattle.sy_rules.specs.declared.lists.occurrence.Occurrence.{Occurrence}
 use Rattle.sy_rules.specs.declared.lists.occurrence.Occurrence.TheVariants as occurrence
 use Rattle.sy_rules.specs.lists.Sets.{IsLowest}

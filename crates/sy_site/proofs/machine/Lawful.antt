@@ -1,5 +1,5 @@
 -- What lawful sites have: whole plans where something happens, and archives that lead nowhere.
-use Rattle.std.proofs.Common.{◌≡◌, ℕ, ◌<◌, Bool, true, false, if◌then◌else◌, List, [], ◌∷◌, refl, sym, subst, ap, arith, inl, inr, ◌∙◌, Some, None, Option, All}
+use Rattle.std.proofs.Common.{◌≡◌, ℕ, Bool, true, false, if◌then◌else◌, List, [], ◌∷◌, refl, sym, subst, arith, Some, None, Option, All}
 use Rattle.std.specs.Prelude.{slice_get, IfSome, ◌&&◌, not}
 use Rattle.std.specs.List.{Contains, list_any}
 use Rattle.sy_wire.specs.declared.class.Class.{Class}

@@ -1,10 +1,9 @@
 -- Each copy is of the message that came under its number; each tag names a copy, and an entry has its copy's message; each relay keeps its places.
-use Rattle.std.proofs.Common.{◌≡◌, ℕ, ◌*◌, ◌<◌, List, [], ◌∷◌, ◌++◌, length, refl, sym, subst, ap, inl, inr, arith, ◌∙◌, Some, get_or}
+use Rattle.std.proofs.Common.{◌≡◌, ℕ, ◌*◌, List, [], ◌∷◌, ◌++◌, length, refl, sym, subst, ap, inl, inr, arith, ◌∙◌, Some}
 use Rattle.std.specs.Prelude.{◌⊎◌, slice_get}
 use Rattle.std.specs.List.{Contains}
 use Rattle.std.proofs.lemmas.List.{length-replicate}
 use Rattle.sy_chain.specs.Entries.{Entry}
-use Rattle.sy_board.specs.relay.Cells as cells
 use Rattle.sy_board.specs.relay.Cells.{Cell, IsShaped, RelayState}
 use Rattle.sy_board.specs.relay.Steps.{Cause, Event, Out}
 use Rattle.sy_board.proofs.relay.Shapes.{shape_step}

@@ -1,13 +1,12 @@
 -- A run with the steps by which messages are lost, and a post.
-use Rattle.std.proofs.Common.{◌≡◌, ℕ, true, false, [], ◌∷◌, ◌++◌, refl, arith, inl, inr}
+use Rattle.std.proofs.Common.{ℕ, false, [], ◌∷◌, ◌++◌, refl, arith, inr}
 use Rattle.sy_wire.specs.declared.class.Class.{Class}
 use Rattle.sy_chain.specs.Entries.{Entry}
-use Rattle.sy_rules.specs.declared.lists.occurrence.Occurrence.{Occurrence}
 use Rattle.sy_rules.specs.declared.lists.occurrence.Occurrence.TheVariants as occurrence
 use Rattle.sy_board.specs.relay.Cells as cells
 use Rattle.sy_board.specs.relay.Cells.{Cell, RelayState, put, put_failures, hand}
 use Rattle.sy_board.specs.relay.Steps.{Cause, Enters, Event, Expires, Fails, GivesUp, Grabs, Job, LosesPost, Posts, Takes}
-use Rattle.sy_site.specs.machine.States.{Copy, Loss, SiteState, opening, taken_by, with_relay}
+use Rattle.sy_site.specs.machine.States.{Copy, SiteState, opening, with_relay}
 use Rattle.sy_site.specs.machine.Steps.{Runs, SiteEvent, SiteStep}
 use Rattle.sy_site.specs.machine.Examples.{edge_input, example_message, narrow_events, narrow_plan, narrow_site}
 use Rattle.sy_site.proofs.machine.ExampleRun.{first_due, lowest}
@@ -234,6 +233,45 @@ module _ (class : Class) where
   pub narrow_run : (state : SiteState) × Runs narrow_site (narrow_events class) state
   narrow_run = (
     s13,
-    (s1, step1, (s2, step2, (s3, step3, (s4, step4, (s5, step5, (s6, step6, (s7, step7, (s8, step8, (s9, step9, (s10, step10,
-    (s11, step11, (s12, step12, (s13, step13, refl))))))))))))),
+    (
+      s1,
+      step1,
+      (
+        s2,
+        step2,
+        (
+          s3,
+          step3,
+          (
+            s4,
+            step4,
+            (
+              s5,
+              step5,
+              (
+                s6,
+                step6,
+                (
+                  s7,
+                  step7,
+                  (
+                    s8,
+                    step8,
+                    (
+                      s9,
+                      step9,
+                      (
+                        s10,
+                        step10,
+                        (s11, step11, (s12, step12, (s13, step13, refl))),
+                      ),
+                    ),
+                  ),
+                ),
+              ),
+            ),
+          ),
+        ),
+      ),
+    ),
   )

@@ -1,14 +1,13 @@
 -- Each run of a sound site ends in a safe state.
-use Rattle.std.proofs.Common.{◌≡◌, ℕ, ◌<◌, true, List, [], ◌∷◌, ◌++◌, length, refl, sym, subst, ap, arith, inl, inr, Some, ◌∙◌, get_or}
+use Rattle.std.proofs.Common.{◌≡◌, ℕ, true, List, [], ◌∷◌, ◌++◌, refl, sym, subst, ap, arith, inl, inr, Some}
 use Rattle.std.specs.Prelude.{◌⊎◌, slice_get}
 use Rattle.std.specs.List.{Contains}
-use Rattle.sy_wire.specs.declared.class.Class.{Class}
 use Rattle.sy_wire.specs.Messages.{Said}
 use Rattle.sy_rules.proofs.lemmas.lists.WorkLaws.{must_work}
 use Rattle.sy_rules.specs.Whole.{body_at}
 use Rattle.sy_board.specs.relay.Cells.{at}
 use Rattle.sy_board.specs.relay.Steps.{Event}
-use Rattle.sy_site.specs.Sites.{Site, SiteInput, SiteAction, archives, is_protected, plan_at, target}
+use Rattle.sy_site.specs.Sites.{Site, SiteInput, SiteAction, archives, is_protected, plan_at}
 use Rattle.sy_site.specs.machine.States.{Arrival, Copy, Loss, SiteState, copy_of_new, opening, taken_by}
 use Rattle.sy_site.specs.machine.Steps.{Runs, SiteEvent, SiteStep, SiteSteps}
 use Rattle.sy_site.specs.machine.Reach.{LeadsTo, leads_on, list_of, writes}
@@ -63,7 +62,7 @@ module _ (site : Site) (law : IsLawful site) (sound : IsSound site) where
   followed s es run n a at p t x is number =
       let known = named_run site es s run t x is in
       let e : slice_get s.arrivals n ≡ Some (record { message = x.message; origin = x.origin }) =
-          subst (λ z. slice_get s.arrivals z ≡ Some (record { message = x.message; origin = x.origin })) number known in
+      subst (λ z. slice_get s.arrivals z ≡ Some (record { message = x.message; origin = x.origin })) number known in
       let f : a ≡ record { message = x.message; origin = x.origin } = cc in
       record {
         is = is;
@@ -134,14 +133,14 @@ module _ (site : Site) (law : IsLawful site) (sound : IsSound site) where
       elim f.2.1 [
         | inl is ↦ inl (record { tag = f.0; there = subst (λ z. Contains (s.passed z) f.0) is f.1; copy = copy_of s n m f.0 f.2.0 })
         | inr to ↦ inr (inr (record {
-            link = h.0;
-            to = to.0;
-            leads = to.1;
-            tag = f.0;
-            there = f.1;
-            copy = copy_of s n m f.0 f.2.0;
-            heads = subst (λ z. Heads site d z to.0.relay (list_of site to.0) Left.All) (sym f.2.0.message) to.2;
-          }))
+          link = h.0;
+          to = to.0;
+          leads = to.1;
+          tag = f.0;
+          there = f.1;
+          copy = copy_of s n m f.0 f.2.0;
+          heads = subst (λ z. Heads site d z to.0.relay (list_of site to.0) Left.All) (sym f.2.0.message) to.2;
+        }))
       ]
 
   pub safe_run : (es : List SiteEvent) (s : SiteState) → Runs site es s → AreSafe site s
@@ -150,7 +149,7 @@ module _ (site : Site) (law : IsLawful site) (sound : IsSound site) where
       let good = sound a.message.class protected in
       let never = confined_run site a.message.class good es s run in
       let ours : (t : ℕ) (c : IsCopyOf s.copies n t) → IsFollowed site s a.message.class t c.copy
-          = λ t c. followed s es run n a at (protected, entered) t c.copy c.is c.numbered in
+      = λ t c. followed s es run n a at (protected, entered) t c.copy c.is c.numbered in
       record {
         kept = λ d k. met_says s d n a.message (w.met n a at (protected, entered) d k);
         not_lost = λ l k c. never.not_lost l k c.copy (ours l.copy c);

@@ -10,7 +10,7 @@ use Rattle.sy_board.specs.relay.Steps.{Cause, Event, IsHand, IsOfInput, Out}
 use Rattle.sy_board.proofs.relay.Put.{if_elim}
 use Rattle.sy_site.specs.Sites.{Site, SiteInput, SiteAction, plan_at, same_action, target}
 use Rattle.sy_site.specs.machine.States.{Arrival, Copy, Loss, SiteState, copy_of_new, opening, put_outs, taken_by, with_passed, with_relay}
-use Rattle.sy_site.specs.machine.Steps.{IsTake, RelaySteps, Runs, SiteEvent, SiteStep, SiteSteps, TakesCopy}
+use Rattle.sy_site.specs.machine.Steps.{IsTake, RelaySteps, SiteEvent, SiteStep, SiteSteps, TakesCopy}
 use Rattle.sy_site.proofs.machine.Keeps.{Comes, Each, Everywhere, Kept, each_append, each_left, each_right, each_weaker, step_keeps}
 use Rattle.sy_site.proofs.machine.Marks.{empty_everywhere, relay_elim}
 

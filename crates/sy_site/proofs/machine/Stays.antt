@@ -1,6 +1,6 @@
 -- An entry that heads somewhere stays, or leaves the relay in sight.
-use Rattle.std.proofs.Common.{◌≡◌, ℕ, ◌<◌, ◌==◌, Bool, true, false, if◌then◌else◌, List, [], ◌∷◌, ◌++◌, length, map, drop, refl, sym, subst, arith, inl, inr, get_or, Some}
-use Rattle.std.specs.Prelude.{◌⊎◌, ◌&&◌, not, slice_get}
+use Rattle.std.proofs.Common.{◌≡◌, ℕ, ◌<◌, ◌==◌, Bool, true, false, if◌then◌else◌, List, [], ◌∷◌, ◌++◌, length, map, drop, refl, sym, subst, arith, inl, inr, get_or}
+use Rattle.std.specs.Prelude.{◌⊎◌, ◌&&◌, not}
 use Rattle.std.proofs.lemmas.Bool.{eqb-true}
 use Rattle.sy_chain.specs.Entries.{Entry}
 use Rattle.sy_marks.specs.declared.marks.Marks.{Marks}

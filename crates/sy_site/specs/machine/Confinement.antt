@@ -5,7 +5,7 @@ use Rattle.std.specs.List.{Contains}
 use Rattle.sy_wire.specs.declared.class.Class.{Class}
 use Rattle.sy_chain.specs.Entries.{Entry}
 use Rattle.sy_board.specs.relay.Cells.{Cell, at}
-use Rattle.sy_site.specs.Sites.{Site, SiteInput, SiteAction}
+use Rattle.sy_site.specs.Sites.{Site, SiteAction}
 use Rattle.sy_site.specs.machine.States.{Copy, Loss, SiteState}
 use Rattle.sy_site.specs.machine.Reach.{MayAt, Reach, list_of}
 
@@ -25,8 +25,8 @@ pub record IsWithinReach (site : Site) (class : Class) (relay : ℕ) (entry : En
 abbrev pub Falls : (ℕ → ℕ) → List ℕ → Type 0
 Falls rank trail = AllPairs (λ earlier later. rank later < rank earlier) trail
 
--- The copies of the class that came in at entries are confined: they are held within its reach alone, none is lost, and the ranks fall along the trail
--- of each, at a place, on a link or in a file.
+-- The copies of the class that came in at entries are confined: they are held within its reach alone, none is lost, and the ranks fall along the
+-- trail of each, at a place, on a link or in a file.
 pub record AreConfined (site : Site) (class : Class) (rank : ℕ → ℕ) (state : SiteState) : Type 0 where
   pub held : (relay : ℕ) (cell : Cell) (entry : Entry) → Contains (at (state.relays relay) cell) entry
       → (copy : Copy) → IsFollowed site state class entry.tag copy → IsWithinReach site class relay entry

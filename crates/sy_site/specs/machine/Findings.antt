@@ -101,8 +101,8 @@ pub record IsWay (site : Site) (class : Class) (way : List WayRow) (end : SiteIn
   pub is_entry : Contains site.entries entry
   pub follows : IsWayFrom site class entry way end
 
--- From relay to relay: each row's input is reached, and its occurrence is a forward that may be executed, to the next row's relay; the last row's leads
--- to the end.
+-- From relay to relay: each row's input is reached, and its occurrence is a forward that may be executed, to the next row's relay; the last
+-- row's leads to the end.
 abbrev pub IsChain : Site → Class → List WayRow → SiteInput → Type 0
 IsChain site class [] end = ⊥
 IsChain site class (row ∷ []) end = Reach site class row.input × MayAt site class row.input row.number × Forwards site row.input row.number end

@@ -1,5 +1,5 @@
 -- What every site that was read keeps.
-use Rattle.std.specs.Prelude.{◌≡◌, ℕ, List, Option, Some, All, slice_get}
+use Rattle.std.specs.Prelude.{◌≡◌, ℕ, List, Some, All, slice_get}
 use Rattle.sy_rules.specs.declared.parameters.objects.Destination.TheVariants as destination
 use Rattle.sy_rules.specs.declared.parts.Action.{Action}
 use Rattle.sy_rules.specs.Whole.{IsWhole}

@@ -1,5 +1,5 @@
 -- What is promised of each message of a protected class that an entry took.
-use Rattle.std.specs.Prelude.{◌≡◌, ◌≢◌, ℕ, true, List, Some, ◌⊎◌, AllPairs, slice_get}
+use Rattle.std.specs.Prelude.{◌≡◌, ℕ, true, List, Some, ◌⊎◌, slice_get}
 use Rattle.std.specs.Int.{bit_at}
 use Rattle.std.specs.List.{Contains}
 use Rattle.sy_wire.specs.declared.class.Class.{Class}
