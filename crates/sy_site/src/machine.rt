@@ -5,7 +5,7 @@ ghost use Rattle.sy_wire.specs.declared.class.Class.{Class};
 ghost use Rattle.sy_site.specs.Sites.{Site};
 ghost use Rattle.sy_site.specs.machine.States.{SiteState};
 ghost use Rattle.sy_site.specs.machine.Steps.{Runs, SiteEvent};
-ghost use Rattle.sy_site.specs.machine.Lengths.{IsWithinMarks};
+ghost use Rattle.sy_site.specs.machine.Lengths.{IsWithinMarks, IsWithinSizes};
 ghost use Rattle.sy_site.specs.machine.Soundness.{IsSound, IsSoundFor};
 ghost use Rattle.sy_site.specs.machine.Confinement.{AreConfined};
 ghost use Rattle.sy_site.specs.machine.Lawful.{IsLawful};
@@ -18,6 +18,12 @@ ghost use Rattle.sy_site.specs.machine.Naming.{AreShaped, NumbersName, TagsName}
 pub fn queues_stay_within_marks()
     ensures { (site : Site) → (events : List SiteEvent) → (state : SiteState)
         → Runs site events state → IsWithinMarks site state }
+{}
+
+/// No queue is ever longer than its size.
+pub fn queues_stay_within_sizes()
+    ensures { (site : Site) → (events : List SiteEvent) → (state : SiteState)
+        → Runs site events state → IsWithinSizes site state }
 {}
 
 /// A number names its message: each copy is of the message that came from outside under its number, by the same input.

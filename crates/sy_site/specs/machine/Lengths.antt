@@ -34,3 +34,8 @@ abbrev pub IsWithinMarks : Site → SiteState → Type 0
 IsWithinMarks site state = (relay queue : ℕ) → OnlyFullDelay (plan_at site relay) queue
     → 1 ≤ (parameters_at (plan_at site relay) queue).full_delay_mark
     → waiting (state.relays relay) queue ≤ (parameters_at (plan_at site relay) queue).full_delay_mark
+
+-- No queue is longer than its size.
+abbrev pub IsWithinSizes : Site → SiteState → Type 0
+IsWithinSizes site state = (relay queue : ℕ)
+    → waiting (state.relays relay) queue ≤ (parameters_at (plan_at site relay) queue).size
