@@ -1,8 +1,8 @@
 //! The machine of a whole site: laws of its runs. Steps and runs are definitions (`specs/machine`). Each function
 //! does nothing; its contract is the law.
-ghost use Rattle.std.specs.Prelude.{List};
+ghost use Rattle.std.specs.Prelude.{◌≡◌, List, true};
 ghost use Rattle.sy_wire.specs.declared.class.Class.{Class};
-ghost use Rattle.sy_site.specs.Sites.{Site};
+ghost use Rattle.sy_site.specs.Sites.{Site, is_protected};
 ghost use Rattle.sy_site.specs.machine.States.{SiteState};
 ghost use Rattle.sy_site.specs.machine.Steps.{Runs, SiteEvent};
 ghost use Rattle.sy_site.specs.machine.Lengths.{IsWithinMarks, IsWithinSizes};
@@ -65,6 +65,14 @@ pub fn sound_sites_are_safe()
 pub fn a_message_is_written()
     ensures { (class : Class) → (state : SiteState)
         × Runs example_site (example_events class) state × IsWritten state audit 0 }
+{}
+
+/// That site is lawful and sound, and protects messages: so the law of no loss speaks of some site.
+pub fn the_example_is_sound()
+    ensures lawful { IsLawful example_site }
+    ensures sound { IsSound example_site }
+    ensures protects { (class : Class) → class.facility ≡ 4 → class.severity ≡ 2
+        → is_protected example_site class ≡ true }
 {}
 
 /// A run of another site, of a relay with two small queues, with the steps that aren't in that one: a post, and the

@@ -54,7 +54,7 @@ archive_leads : (site : Site) (action : SiteAction) → IsArchive site action �
 archive_leads site action a = subst (λ f. target_of site f ≡ None) (sym a.found) (leads_nowhere site a.parts a.file a.writes)
 
 -- what is named for a class, is named by a protect line
-named_by : (P : SiteAction → Type 0) (before : List SiteAction) (ps : List Protection) (class : Class) → All (λ p. P p.archive) ps
+pub named_by : (P : SiteAction → Type 0) (before : List SiteAction) (ps : List Protection) (class : Class) → All (λ p. P p.archive) ps
     → (a : SiteAction) → Contains (archives_from before ps class) a → P a
 named_by P before [] class all a (k, l, is) = absurd (omega arith)
 named_by P before (p ∷ ps) class all a c =
