@@ -2,10 +2,11 @@
 //! does nothing; its contract is the law.
 ghost use Rattle.std.specs.Prelude.{◌≡◌, List, true};
 ghost use Rattle.sy_wire.specs.declared.class.Class.{Class};
-ghost use Rattle.sy_site.specs.Sites.{Site, is_protected};
+ghost use Rattle.sy_site.specs.Sites.{Site, SiteInput, is_protected};
 ghost use Rattle.sy_site.specs.machine.States.{SiteState};
 ghost use Rattle.sy_site.specs.machine.Steps.{Runs, SiteEvent};
 ghost use Rattle.sy_site.specs.machine.Lengths.{IsWithinMarks, IsWithinSizes};
+ghost use Rattle.sy_site.specs.machine.Findings.{IsFinding, Kind, WayRow};
 ghost use Rattle.sy_site.specs.machine.Soundness.{IsSound, IsSoundFor};
 ghost use Rattle.sy_site.specs.machine.Confinement.{AreConfined};
 ghost use Rattle.sy_site.specs.machine.Lawful.{IsLawful};
@@ -58,6 +59,12 @@ pub fn copies_are_confined()
 pub fn sound_sites_are_safe()
     ensures { (site : Site) → IsLawful site → IsSound site → (events : List SiteEvent) → (state : SiteState)
         → Runs site events state → AreSafe site state }
+{}
+
+/// A sound site has no true finding of any kind.
+pub fn sound_sites_have_no_finding()
+    ensures { (site : Site) → IsSound site → (class : Class) → (way : List WayRow) → (input : SiteInput)
+        → (kind : Kind) → IsFinding site class way input kind → ⊥ }
 {}
 
 /// The definitions are not empty: a run of a site of two relays, in which a message of any class comes to the first
