@@ -72,7 +72,14 @@ module _ (class : Class) where
   edge5 = put_failures (put edge4 (Cell.Worker 1) []) 1 0
 
   edge_takes : Takes edge_plan edge0 0 0 (node 1 0) false edge1
-  edge_takes = record { there = (omega arith, omega arith); made = record { input_is = refl; list = refl; due = first_due }; free = refl; discarded = refl; after = refl }
+  edge_takes = record {
+    there =
+        (omega arith, omega arith);
+    made = record { input_is = refl; list = refl; due = first_due };
+    free = refl;
+    discarded = refl;
+    after = refl;
+  }
 
   edge_enters : Enters edge_plan edge1 0 0 (node 1 0) edge2
   edge_enters = record { leaves = record { there = (omega arith, omega arith); held = refl; not_held = refl }; room = omega arith; after = refl }
@@ -113,7 +120,14 @@ module _ (class : Class) where
   hub4 = put_failures (put hub3 (Cell.Worker 0) []) 0 0
 
   hub_takes : Takes hub_plan hub0 0 0 (node 0 1) false hub1
-  hub_takes = record { there = (omega arith, omega arith); made = record { input_is = refl; list = refl; due = first_due }; free = refl; discarded = refl; after = refl }
+  hub_takes = record {
+    there =
+        (omega arith, omega arith);
+    made = record { input_is = refl; list = refl; due = first_due };
+    free = refl;
+    discarded = refl;
+    after = refl;
+  }
 
   hub_enters : Enters hub_plan hub1 0 0 (node 0 1) hub2
   hub_enters = record { leaves = record { there = (omega arith, omega arith); held = refl; not_held = refl }; room = omega arith; after = refl }
@@ -176,7 +190,18 @@ module _ (class : Class) where
   s9 = sent (on_relay s8 1 hub4) audit 1
 
   step1 : SiteStep example_site s0 (SiteEvent.TakeNew edge_input 0 (example_message class)) s1
-  step1 = record { node = node 1 0; message = refl; tag = refl; step = record { state = edge1; outs = []; step = (false, edge_takes, refl); after = refl } }
+  step1 = record {
+    node = node 1 0;
+    message = refl;
+    tag = refl;
+    step = record {
+      state = edge1;
+      outs = [];
+      step =
+          (false, edge_takes, refl);
+      after = refl;
+    };
+  }
 
   step2 : SiteStep example_site s1 (SiteEvent.Inside 0 (Event.Enter 0 0)) s2
   step2 = ((λ h. h), record { state = edge2; outs = []; step = (node 1 0, edge_enters, refl); after = refl })
@@ -200,7 +225,18 @@ module _ (class : Class) where
     stands = refl;
     copy = taken_by 0 came;
     is = refl;
-    takes = record { node = node 0 1; message = refl; tag = refl; step = record { state = hub1; outs = []; step = (false, hub_takes, refl); after = refl } };
+    takes = record {
+      node = node 0 1;
+      message = refl;
+      tag = refl;
+      step = record {
+        state = hub1;
+        outs = [];
+        step =
+            (false, hub_takes, refl);
+        after = refl;
+      };
+    };
   }
 
   step7 : SiteStep example_site s6 (SiteEvent.Inside 1 (Event.Enter 0 0)) s7

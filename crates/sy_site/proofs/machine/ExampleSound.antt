@@ -1,23 +1,21 @@
 -- The example's site is lawful and sound.
-use Rattle.std.proofs.Common.{◌≡◌, ℕ, ◌<◌, ◌≤◌, Bool, true, false, List, [], ◌∷◌, refl, sym, subst, ap, arith, inl, inr, Some, None, ◌∙◌, map}
-use Rattle.std.specs.Prelude.{◌≢◌, ◌⊎◌, slice_get, IfSome}
-use Rattle.std.specs.List.{All, AllPairs, Contains}
+use Rattle.std.proofs.Common.{◌≡◌, ℕ, ◌<◌, ◌≤◌, true, [], ◌∷◌, refl, sym, subst, ap, arith, inl, inr, Some, None}
+use Rattle.std.specs.Prelude.{◌⊎◌, slice_get, IfSome}
+use Rattle.std.specs.List.{All, Contains}
 use Rattle.std.proofs.lemmas.List.Elements.{All-from_recursion}
 use Rattle.sy_wire.specs.declared.class.Class.{Class}
-use Rattle.sy_marks.specs.declared.marks.Flow.TheVariants as flow
 use Rattle.sy_rules.specs.declared.lists.occurrence.Occurrence.TheVariants as occurrence
 use Rattle.sy_rules.specs.lists.Body.{Body, count, occurrences, size}
 use Rattle.sy_rules.specs.parameters.Objects.{AreInRange, HasPort}
-use Rattle.sy_rules.specs.PlanValue.{Plan}
 use Rattle.sy_rules.specs.Whole.{IsLed, IsWhole, Leads, queue_at, queue_for}
 use Rattle.sy_rules.proofs.lemmas.plan.Different.{one_differs}
-use Rattle.sy_board.specs.relay.Plans.{flow_at, retry_at}
-use Rattle.sy_site.specs.Sites.{Site, SiteInput, SiteAction, archives, is_protected, target}
+use Rattle.sy_board.specs.relay.Plans.{retry_at}
+use Rattle.sy_site.specs.Sites.{SiteInput, is_protected, target}
 use Rattle.sy_site.specs.machine.Examples.{audit, edge_input, edge_plan, example_queue, example_site, hub_input, hub_plan, up}
-use Rattle.sy_site.specs.machine.Findings.{HoldsAt, IsFedFreely, Kind, MayDiscard, MayPost, MayRun, IsForward}
+use Rattle.sy_site.specs.machine.Findings.{HoldsAt, Kind, IsForward}
 use Rattle.sy_site.specs.machine.Lawful.{IsArchive, IsLawful}
 use Rattle.sy_site.specs.machine.Reach.{Forwards, LeadsTo, MustAt, Reach, entry, leads_on, onward, writes}
-use Rattle.sy_site.specs.machine.Soundness.{AreRanks, IsSound, IsSoundFor}
+use Rattle.sy_site.specs.machine.Soundness.{IsSound, IsSoundFor}
 use Rattle.sy_site.proofs.machine.Lawful.{named_by}
 use Rattle.sy_site.proofs.machine.Spread.{some_same}
 
@@ -130,13 +128,13 @@ no_post (ℕ.suc k) list e = cc
 forwards_edge : (number : ℕ) (to : SiteInput) → Forwards example_site edge_input number to → to ≡ hub_input
 forwards_edge number to f =
     let at : target example_site up ≡ Some to =
-        subst (λ a. target example_site (record { relay = 0; action = a }) ≡ Some to) (only_run number f.action f.runs) f.leads in
+    subst (λ a. target example_site (record { relay = 0; action = a }) ≡ Some to) (only_run number f.action f.runs) f.leads in
     sym (some_same at)
 
 forwards_hub : (number : ℕ) (to : SiteInput) → Forwards example_site hub_input number to → ⊥
 forwards_hub number to f =
     let at : target example_site audit ≡ Some to =
-        subst (λ a. target example_site (record { relay = 1; action = a }) ≡ Some to) (only_run number f.action f.runs) f.leads in
+    subst (λ a. target example_site (record { relay = 1; action = a }) ≡ Some to) (only_run number f.action f.runs) f.leads in
     cc
 
 the_entry : (p : SiteInput) → Contains (edge_input ∷ []) p → p ≡ edge_input
@@ -173,7 +171,7 @@ module _ (class : Class) where
   edge_clean Kind.GivesUp (a, may, retry, e) = no_retry a retry e
   edge_clean Kind.NoTarget (a, may, forward, none) =
       let at : target example_site up ≡ None =
-          subst (λ a. target example_site (record { relay = 0; action = a }) ≡ None) (only_run may.number a may.runs) none in
+      subst (λ a. target example_site (record { relay = 0; action = a }) ≡ None) (only_run may.number a may.runs) none in
       cc
   edge_clean Kind.Loop h = h
   edge_clean (Kind.Unmet archive) h = h
@@ -218,7 +216,8 @@ module _ (class : Class) where
     ranks = record { falls = λ from to number k may goes. falls from to (onward_from from to number (reached from k) goes) };
     leads = λ p is a named.
         subst (λ z. LeadsTo example_site class z p)
-        (sym (named_by (λ z. z ≡ audit) [] example_site.protections class (All-from_recursion (λ p. p.archive ≡ audit) example_site.protections (refl, tt)) a named))
+        (sym (named_by (λ z. z ≡ audit) [] example_site.protections class
+        (All-from_recursion (λ p. p.archive ≡ audit) example_site.protections (refl, tt)) a named))
         (subst (LeadsTo example_site class audit) (sym (the_entry p is)) edge_leads);
   }
 

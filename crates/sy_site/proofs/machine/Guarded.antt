@@ -149,12 +149,14 @@ module _ (site : Site) (class : Class) (sound : IsSoundFor site class) where
       → occurrence_of site (input_on r e.input) w.number ≡ Some o
   owes_at r x p e o g w = subst (λ l. slice_get (occurrences_at (plan_at site r) l) w.number ≡ Some o) g.at_list w.is
 
-  no_post : (r : ℕ) (x : Copy) (p : Cell) (e : Entry) (l : ℕ) → IsOurs site class x → GoodEntry r x p e → Owes (plan_at site r) e (occurrence.Post l) → ⊥
+  no_post : (r : ℕ) (x : Copy) (p : Cell) (e : Entry) (l : ℕ) → IsOurs site class x → GoodEntry r x p e
+      → Owes (plan_at site r) e (occurrence.Post l) → ⊥
   no_post r x p e l of g w =
       sound.clean (input_on r e.input) g.reach Kind.InnerQueue
       (record { number = w.number; may = owes_may r x p e (occurrence.Post l) of g w; list = l; posts = owes_at r x p e (occurrence.Post l) g w })
 
-  fresh_entry : (to : SiteInput) (h : ℕ) (x : Copy) (node : Entry) → IsHand (plan_at site to.relay) to.input h → IsOfInput (plan_at site to.relay) to.input node
+  fresh_entry : (to : SiteInput) (h : ℕ) (x : Copy) (node : Entry) → IsHand (plan_at site to.relay) to.input h
+      → IsOfInput (plan_at site to.relay) to.input node
       → node.message ≡ x.message → Reach site class to → Tracked to.relay x → GoodEntry to.relay x (hand to.input h) node
   fresh_entry to h x node there made m reach t = record {
     message = m;
@@ -174,13 +176,29 @@ module _ (site : Site) (class : Class) (sound : IsSoundFor site class) where
     enters = λ i h e there p of.
         let g = p of in
         let same = same_input (plan_at site r) i h e.input g.belongs.0 there g.belongs.1 g.belongs.2 in
-        record { message = g.message; reach = g.reach; at_list = g.at_list; due = g.due; tracked = g.tracked; belongs = ap (queue_of_input (plan_at site r)) same };
+        record {
+          message = g.message;
+          reach = g.reach;
+          at_list = g.at_list;
+          due = g.due;
+          tracked = g.tracked;
+          belongs = ap
+              (queue_of_input (plan_at site r)) same;
+        };
     grabs = λ w e p of.
         let g = p of in
         record { message = g.message; reach = g.reach; at_list = g.at_list; due = g.due; tracked = g.tracked; belongs = tt };
     advances = λ w e number left p l of.
         let g = p of in
-        record { message = g.message; reach = g.reach; at_list = g.at_list; tracked = g.tracked; belongs = tt; due = λ k b. g.due k (left_in e.due number left k l b) };
+        record {
+          message = g.message;
+          reach = g.reach;
+          at_list = g.at_list;
+          tracked = g.tracked;
+          belongs = tt;
+          due = λ k b. g.due k
+              (left_in e.due number left k l b);
+        };
     runs = λ w e a p o of.
         let g = p of in
         let may = owes_may r x (Cell.Worker w) e (occurrence.Run a) of g o in
@@ -190,7 +208,8 @@ module _ (site : Site) (class : Class) (sound : IsSoundFor site class) where
           next = λ q t.
               let goes : Forwards site (input_on r e.input) o.number q = record { action = a; runs = is; leads = t } in (
                 onward o.number g.reach may goes,
-                each_weaker _ _ (λ z y. (let f = sound.ranks.falls (input_on r e.input) q o.number g.reach may goes in omega (arith, f, y))) x.trail g.tracked.above,
+                each_weaker _ _ (λ z y.
+                    (let f = sound.ranks.falls (input_on r e.input) q o.number g.reach may goes in omega (arith, f, y))) x.trail g.tracked.above,
               );
         };
     posts = λ w e l node p o m of. absurd (no_post r x (Cell.Worker w) e l of (p of) o);
@@ -200,7 +219,8 @@ module _ (site : Site) (class : Class) (sound : IsSoundFor site class) where
         let reach = subst (λ j. Reach site class (record { relay = r; input = j })) same good.reach in
         never_discards (input_on r i) reach (waiting old (queue_of_input (plan_at site r) i))
         (λ only. g (Cell.Queue (queue_of_input (plan_at site r) i)) only (has_mark (input_on r i) reach))
-        (subst (λ (c : Class). discards (marks_at (plan_at site r) (queue_of_input (plan_at site r) i)) c.severity (waiting old (queue_of_input (plan_at site r) i)) ≡ true)
+        (subst (λ (c : Class). discards (marks_at (plan_at site r) (queue_of_input (plan_at site r) i)) c.severity
+        (waiting old (queue_of_input (plan_at site r) i)) ≡ true)
         (ap (λ m. m.class) good.message ∙ of.class_is) t);
     lost_expire = λ old i h e p leaves full of.
         let good = p of in
@@ -220,8 +240,17 @@ module _ (site : Site) (class : Class) (sound : IsSoundFor site class) where
         (subst (λ (c : Class). discards (marks_at plan q) c.severity n ≡ true) (ap (λ m. m.class) good.message ∙ of.class_is) t));
     lost_run = λ w n e a p o t of.
         let g = p of in
-        sound.clean (input_on r e.input) g.reach Kind.GivesUp
-        (a, record { number = o.number; may = owes_may r x (Cell.Worker w) e (occurrence.Run a) of g o; runs = owes_at r x (Cell.Worker w) e (occurrence.Run a) g o }, n, t);
+        sound.clean (input_on r e.input) g.reach Kind.GivesUp (
+          a,
+          record {
+            number = o.number;
+            may = owes_may r x (Cell.Worker w) e (occurrence.Run a) of g o;
+            runs = owes_at r x (Cell.Worker w) e
+                (occurrence.Run a) g o;
+          },
+          n,
+          t,
+        );
     lost_post = λ w e l p o of. no_post r x (Cell.Worker w) e l of (p of) o;
     lost_node = λ w e l p o of. no_post r x (Cell.Worker w) e l of (p of) o;
   }
@@ -273,6 +302,7 @@ module _ (site : Site) (class : Class) (sound : IsSoundFor site class) where
             let of = ours new e.tag x f in
             within_reach r x k e of (of_that new.copies (λ y. P r y k e) e.tag x (each_in _ _ (all.held r k) e i) f.is of);
         not_lost = λ l k x f. of_that new.copies (L l.relay l.cause) l.copy x (each_in _ new.losses all.losses l k) f.is (ours new l.copy x f);
-        held_falls = λ r k e i x f. (of_that new.copies (λ y. P r y k e) e.tag x (each_in _ _ (all.held r k) e i) f.is (ours new e.tag x f)).tracked.once;
+        held_falls = λ r k e i x f.
+            (of_that new.copies (λ y. P r y k e) e.tag x (each_in _ _ (all.held r k) e i) f.is (ours new e.tag x f)).tracked.once;
         passed_falls = λ d t i x f. (of_that new.copies (D d) t x (each_in _ (new.passed d) (all.passed d) t i) f.is (ours new t x f)).once;
       }

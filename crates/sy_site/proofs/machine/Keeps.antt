@@ -58,12 +58,14 @@ Everywhere P state = (c : Cell) → Each (P c) (at state c)
 pub record Kept (plan : Plan) (P : Cell → Entry → Type 0) (O : Out → Type 0) (G : RelayState → Type 0) : Type 0 where
   pub enters : (i h : ℕ) (e : Entry) → IsHand plan i h → P (hand i h) e → P (Cell.Queue (queue_of_input plan i)) e
   pub grabs : (w : ℕ) (e : Entry) → P (Cell.Queue (queue_of_worker plan w)) e → P (Cell.Worker w) e
-  pub advances : (w : ℕ) (e : Entry) (number left : ℕ) → P (Cell.Worker w) e → IsLowest e.due number left → P (Cell.Worker w) (record e { due = left })
+  pub advances : (w : ℕ) (e : Entry) (number left : ℕ) → P (Cell.Worker w) e → IsLowest e.due number left
+      → P (Cell.Worker w) (record e { due = left })
   pub runs : (w : ℕ) (e : Entry) (a : ℕ) → P (Cell.Worker w) e → Owes plan e (occurrence.Run a) → O (Out.Passed a e)
   pub posts : (w : ℕ) (e : Entry) (l : ℕ) (node : Entry) → P (Cell.Worker w) e → Owes plan e (occurrence.Post l) → IsPosted plan e l node
       → P (Cell.Queue (queue_for plan l)) node
   pub lost_take : (old : RelayState) (i h : ℕ) (e : Entry) → G old → P (hand i h) e → IsHand plan i h
-      → discards (marks_at plan (queue_of_input plan i)) e.message.class.severity (waiting old (queue_of_input plan i)) ≡ true → O (Out.Lost Cause.Take e)
+      → discards (marks_at plan (queue_of_input plan i)) e.message.class.severity (waiting old (queue_of_input plan i)) ≡ true → O
+      (Out.Lost Cause.Take e)
   pub lost_expire : (old : RelayState) (i h : ℕ) (e : Entry) → P (hand i h) e → MayLeave plan old i h e
       → (parameters_at plan (queue_of_input plan i)).size ≤ waiting old (queue_of_input plan i) → O (Out.Lost Cause.Expire e)
   pub lost_grab : (old : RelayState) (q n : ℕ) (e : Entry) → G old → P (Cell.Queue q) e → n < waiting old q
@@ -74,7 +76,8 @@ pub record Kept (plan : Plan) (P : Cell → Entry → Type 0) (O : Out → Type 
   pub lost_node : (w : ℕ) (e : Entry) (l : ℕ) → P (Cell.Worker w) e → Owes plan e (occurrence.Post l) → O (Out.Lost (Cause.Post l) e)
 
 -- what a worker keeps of a queue's front, and what is lost of it
-pub each_kept : (P Q : Entry → Type 0) → ((e : Entry) → P e → Q e) → (marks : Marks) (n : ℕ) (es : List Entry) → Each P es → Each Q (kept_of marks n es)
+pub each_kept : (P Q : Entry → Type 0) → ((e : Entry) → P e → Q e) → (marks : Marks) (n : ℕ) (es : List Entry) → Each P es
+    → Each Q (kept_of marks n es)
 each_kept P Q f marks ℕ.zero es a = tt
 each_kept P Q f marks (ℕ.suc n) [] a = tt
 each_kept P Q f marks (ℕ.suc n) (e ∷ es) a =
@@ -100,7 +103,8 @@ module _ (plan : Plan) (P : Cell → Entry → Type 0) (O : Out → Type 0) (G :
       → P (Cell.Worker w) job.entry × Each (P (Cell.Worker w)) job.others
   working old w o a job = subst (Each (P (Cell.Worker w))) job.held (a (Cell.Worker w))
 
-  advanced_keeps : (old : RelayState) (w : ℕ) (o : Occurrence) → Everywhere P old → (job : Job plan old w o) → Everywhere P (advanced plan old w o job)
+  advanced_keeps : (old : RelayState) (w : ℕ) (o : Occurrence) → Everywhere P old → (job : Job plan old w o)
+      → Everywhere P (advanced plan old w o job)
   advanced_keeps old w o a job c =
       let f = working old w o a job in
       put_elim (λ x. Each (P x)) old (Cell.Worker w) (still job.entry job.left job.others)
@@ -146,12 +150,14 @@ module _ (plan : Plan) (P : Cell → Entry → Type 0) (O : Out → Type 0) (G :
             (each_kept (P (Cell.Queue q)) (P (Cell.Worker w)) (kept.grabs w) (marks_at plan q) n (at old (Cell.Queue q)) (a (Cell.Queue q)))
             (put_elim (λ x. Each (P x)) old (Cell.Queue q) _ (each_drop (P (Cell.Queue q)) n (at old (Cell.Queue q)) (a (Cell.Queue q))) a)),
         subst (Each O) (sym is) (subst (λ xs. Each O (map (Out.Lost Cause.Grab) xs)) (sym grabs.lost_are)
-            (each_lost (P (Cell.Queue q)) (marks_at plan q) O (waiting old q) (λ e k x l t. kept.lost_grab old q k e g x l t) n (at old (Cell.Queue q)) (omega arith) (a (Cell.Queue q)))),
+            (each_lost (P (Cell.Queue q)) (marks_at plan q) O (waiting old q) (λ e k x l t. kept.lost_grab old q k e g x l t) n
+            (at old (Cell.Queue q)) (omega arith) (a (Cell.Queue q)))),
       )
   step_keeps old (Event.Done w) new outs g p a (x, e, does, is) =
       let f = working old w (occurrence.Run x) a does.job in (
         subst (Everywhere P) (sym does.after) (advanced_keeps old w (occurrence.Run x) a does.job),
-        subst (Each O) (sym is) (subst (λ z. O (Out.Passed x z)) does.its (kept.runs w does.job.entry x f.0 (owed plan old w (occurrence.Run x) does.job)), tt),
+        subst (Each O) (sym is)
+            (subst (λ z. O (Out.Passed x z)) does.its (kept.runs w does.job.entry x f.0 (owed plan old w (occurrence.Run x) does.job)), tt),
       )
   step_keeps old (Event.Fail w took) new outs g p a (x, e, fails, is) =
       let f = working old w (occurrence.Run x) a fails.job in (
@@ -178,11 +184,16 @@ module _ (plan : Plan) (P : Cell → Entry → Type 0) (O : Out → Type 0) (G :
             (put (advanced plan old w (occurrence.Post l) posts.job) (Cell.Queue q) (at old (Cell.Queue q) ++ node ∷ []))
             (λ t. b)
             (λ t. put_elim (λ x. Each (P x)) (advanced plan old w (occurrence.Post l) posts.job) (Cell.Queue q) (at old (Cell.Queue q) ++ node ∷ [])
-            (each_append (P (Cell.Queue q)) (at old (Cell.Queue q)) (node ∷ []) (a (Cell.Queue q)) (kept.posts w posts.job.entry l node f.0 o posts.made, tt)) b)),
+            (each_append (P (Cell.Queue q)) (at old (Cell.Queue q)) (node ∷ []) (a (Cell.Queue q))
+            (kept.posts w posts.job.entry l node f.0 o posts.made, tt)) b)),
         subst (Each O) (sym is) (if_so_keeps lost (Out.Lost (Cause.Post l) posts.job.entry) (λ t. kept.lost_node w posts.job.entry l f.0 o)),
       )
   step_keeps old (Event.PostLost w no_memory) new outs g p a (l, e, loses, is) =
       let f = working old w (occurrence.Post l) a loses.job in (
         subst (Everywhere P) (sym loses.after) (advanced_keeps old w (occurrence.Post l) a loses.job),
-        subst (Each O) (sym is) (subst (λ z. O (Out.Lost (Cause.PostLost l) z)) loses.its (kept.lost_post w loses.job.entry l f.0 (owed plan old w (occurrence.Post l) loses.job)), tt),
+        subst (Each O) (sym is) (
+          subst (λ z. O (Out.Lost (Cause.PostLost l) z)) loses.its
+              (kept.lost_post w loses.job.entry l f.0 (owed plan old w (occurrence.Post l) loses.job)),
+          tt,
+        ),
       )

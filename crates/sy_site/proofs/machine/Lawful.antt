@@ -32,7 +32,8 @@ whole_in [] r all = tt
 whole_in (x ∷ relays) ℕ.zero all = all_first (λ (relay : Relay). IsWhole relay.plan) x relays all
 whole_in (x ∷ relays) (ℕ.suc r) all = whole_in relays r (all_later (λ (relay : Relay). IsWhole relay.plan) x relays all)
 
-whole_found : (found : Option Relay) → IfSome found (λ relay. IsWhole relay.plan) → (old : RelayState) (e : Event) (new : RelayState) (outs : List Out)
+whole_found : (found : Option Relay) → IfSome found (λ relay. IsWhole relay.plan)
+    → (old : RelayState) (e : Event) (new : RelayState) (outs : List Out)
     → Step (plan_in found) old e new outs → IsWhole (plan_in found)
 whole_found None w old e new outs st = absurd (no_step old e new outs st)
 whole_found (Some relay) w old e new outs st = w
@@ -46,7 +47,8 @@ whole_at site law r old e new outs st = whole_found (slice_get site.relays r) (w
 leads_nowhere : (site : Site) (found : Action) (file : List ℕ) → found.destination ≡ destination.Archive file → target_of site (Some found) ≡ None
 leads_nowhere site found file e = go found.destination e
   where
-    go : (d : Destination) → d ≡ destination.Archive file → target_of site (Some (record { name = found.name; destination = d; retry = found.retry; resume_interval = found.resume_interval })) ≡ None
+    go : (d : Destination) → d ≡ destination.Archive file
+        → target_of site (Some (record { name = found.name; destination = d; retry = found.retry; resume_interval = found.resume_interval })) ≡ None
     go (destination.Archive f) e = refl
     go (destination.Forward name port) e = cc
 

@@ -22,7 +22,8 @@ use Rattle.sy_site.specs.machine.Steps.{SiteSteps, RelaySteps, Runs, SiteEvent, 
 use Rattle.sy_site.specs.machine.Lengths.{Feeder, IsWithinMarks, OnlyFullDelay}
 
 -- a hand that its mark doesn't hold
-pub not_delayed : (f : Flow) (marks : Marks) (n : ℕ) → f ≡ flow.Full → 1 ≤ marks.full_delay_mark → is_delayed f marks n ≡ false → n < marks.full_delay_mark
+pub not_delayed : (f : Flow) (marks : Marks) (n : ℕ) → f ≡ flow.Full → 1 ≤ marks.full_delay_mark → is_delayed f marks n ≡ false
+    → n < marks.full_delay_mark
 not_delayed flow.Full marks n f m e = grind (arith, nat_tests)
 not_delayed flow.Light marks n f m e = cc
 not_delayed flow.NoWait marks n f m e = cc
@@ -51,7 +52,8 @@ module _ (plan : Plan) where
       subst InMarks (sym enters.after)
       (put_elim MarkAt (put old (hand i h) []) (Cell.Queue q) (at old (Cell.Queue q) ++ node ∷ [])
       (λ only mark.
-      let below = not_delayed (flow_at plan i) (marks_at plan q) (waiting old q) (only (Feeder.Input i) (enters.leaves.there.0, refl)) mark enters.leaves.not_held in
+      let below = not_delayed (flow_at plan i) (marks_at plan q) (waiting old q)
+      (only (Feeder.Input i) (enters.leaves.there.0, refl)) mark enters.leaves.not_held in
       omega (arith, length-append (at old (Cell.Queue q)) (node ∷ [])))
       (put_elim MarkAt old (hand i h) [] tt a))
   marks_step old (Event.Expire i h) new outs a (node, expires, is) = subst InMarks (sym expires.after) (put_elim MarkAt old (hand i h) [] tt a)
@@ -112,7 +114,8 @@ module _ (site : Site) where
   relay_marks old r e new a st =
       subst (λ (s : SiteState). AllMarks s.relays) (sym st.after)
       (subst AllMarks (sym (put_outs_relays (record old { relays = with_relay old.relays r st.state }) r st.outs))
-      (relay_elim (λ x. InMarks (plan_at site x)) old.relays r st.state (marks_step (plan_at site r) (old.relays r) e st.state st.outs (a r) st.step) a))
+      (relay_elim (λ x. InMarks (plan_at site x)) old.relays r st.state
+      (marks_step (plan_at site r) (old.relays r) e st.state st.outs (a r) st.step) a))
 
   pub site_marks : (old : SiteState) (e : SiteEvent) (new : SiteState) → AllMarks old.relays → SiteStep site old e new → AllMarks new.relays
   site_marks old (SiteEvent.TakeNew input h m) new a st = relay_marks _ input.relay _ new a st.step

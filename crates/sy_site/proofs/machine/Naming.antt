@@ -15,7 +15,8 @@ use Rattle.sy_site.proofs.machine.Keeps.{Each, Kept}
 use Rattle.sy_site.proofs.machine.Marks.{put_outs_relays, relay_elim}
 use Rattle.sy_site.proofs.machine.Spread.{Grows, Moves, OutOf, get_last, get_more, run_keeps, start_keeps}
 
-pub get_cases : {A : Type 0} (xs : List A) (n : ℕ) (a x : A) → slice_get (xs ++ x ∷ []) n ≡ Some a → (slice_get xs n ≡ Some a) ⊎ ((n ≡ length xs) × (x ≡ a))
+pub get_cases : {A : Type 0} (xs : List A) (n : ℕ) (a x : A) → slice_get (xs ++ x ∷ []) n ≡ Some a
+    → (slice_get xs n ≡ Some a) ⊎ ((n ≡ length xs) × (x ≡ a))
 get_cases [] ℕ.zero a x e = inr (refl, cc)
 get_cases [] (ℕ.suc n) a x e = absurd (cc)
 get_cases (y ∷ ys) ℕ.zero a x e = inl e
@@ -60,8 +61,10 @@ module _ (site : Site) where
   copy_named s to h c new a is st t x e =
       let mid : SiteState = record s { copies = s.copies ++ taken_by to.relay c ∷ [] } in
       let event = Event.Take to.input h st.node in
-      let f : slice_get (s.copies ++ taken_by to.relay c ∷ []) t ≡ Some x = subst (λ z. slice_get z t ≡ Some x) (relay_copies mid to.relay event new st.step) e in
-      subst (λ z. slice_get z x.number ≡ Some (record { message = x.message; origin = x.origin })) (sym (relay_arrivals mid to.relay event new st.step))
+      let f : slice_get (s.copies ++ taken_by to.relay c ∷ []) t ≡ Some x = subst (λ z. slice_get z t ≡ Some x)
+      (relay_copies mid to.relay event new st.step) e in
+      subst (λ z. slice_get z x.number ≡ Some (record { message = x.message; origin = x.origin }))
+      (sym (relay_arrivals mid to.relay event new st.step))
       (elim (get_cases s.copies t x (taken_by to.relay c) f) [
         | inl before ↦ a t x before
         | inr here ↦ subst (λ (z : Copy). slice_get s.arrivals z.number ≡ Some (record { message = z.message; origin = z.origin })) here.1 is

@@ -69,13 +69,27 @@ module _ (class : Class) where
   r13 = put_failures (put r12 (w 1) []) 1 0
 
   takes1 : Takes narrow_plan r0 0 0 (node 0 0) false r1
-  takes1 = record { there = (omega arith, omega arith); made = record { input_is = refl; list = refl; due = first_due }; free = refl; discarded = refl; after = refl }
+  takes1 = record {
+    there =
+        (omega arith, omega arith);
+    made = record { input_is = refl; list = refl; due = first_due };
+    free = refl;
+    discarded = refl;
+    after = refl;
+  }
 
   enters2 : Enters narrow_plan r1 0 0 (node 0 0) r2
   enters2 = record { leaves = record { there = (omega arith, omega arith); held = refl; not_held = refl }; room = omega arith; after = refl }
 
   takes3 : Takes narrow_plan r2 0 1 (node 0 1) false r3
-  takes3 = record { there = (omega arith, omega arith); made = record { input_is = refl; list = refl; due = first_due }; free = refl; discarded = refl; after = refl }
+  takes3 = record {
+    there =
+        (omega arith, omega arith);
+    made = record { input_is = refl; list = refl; due = first_due };
+    free = refl;
+    discarded = refl;
+    after = refl;
+  }
 
   expires4 : Expires narrow_plan r3 0 1 (node 0 1) r4
   expires4 = record { leaves = record { there = (omega arith, omega arith); held = refl; not_held = refl }; full = omega arith; after = refl }
@@ -96,7 +110,14 @@ module _ (class : Class) where
   }
 
   takes7 : Takes narrow_plan r6 0 0 (node 0 2) false r7
-  takes7 = record { there = (omega arith, omega arith); made = record { input_is = refl; list = refl; due = first_due }; free = refl; discarded = refl; after = refl }
+  takes7 = record {
+    there =
+        (omega arith, omega arith);
+    made = record { input_is = refl; list = refl; due = first_due };
+    free = refl;
+    discarded = refl;
+    after = refl;
+  }
 
   enters8 : Enters narrow_plan r7 0 0 (node 0 2) r8
   enters8 = record { leaves = record { there = (omega arith, omega arith); held = refl; not_held = refl }; room = omega arith; after = refl }

@@ -1,6 +1,5 @@
 -- In a sound site there is no true finding.
-use Rattle.std.proofs.Common.{◌≡◌, ℕ, ◌<◌, List, [], ◌∷◌, subst, sym, ap, arith, map, length}
-use Rattle.std.specs.List.{Contains}
+use Rattle.std.proofs.Common.{ℕ, ◌<◌, List, [], ◌∷◌, subst, ap, arith, map}
 use Rattle.sy_wire.specs.declared.class.Class.{Class}
 use Rattle.sy_site.specs.Sites.{Site, SiteInput}
 use Rattle.sy_site.specs.machine.Findings.{HoldsAt, IsChain, IsFinding, IsFound, IsWay, IsWayFrom, Kind, WayRow}
@@ -15,7 +14,8 @@ way_reaches site class from [] end reach is = subst (Reach site class) is reach
 way_reaches site class from (row ∷ way) end reach (here, may, to, goes, more) =
     way_reaches site class to way end (onward row.number reach may goes) more
 
-each_map : (P : ℕ → Type 0) (way : List WayRow) → Each (λ (row : WayRow). P row.input.relay) way → Each P (map (λ (row : WayRow). row.input.relay) way)
+each_map : (P : ℕ → Type 0) (way : List WayRow) → Each (λ (row : WayRow). P row.input.relay) way
+    → Each P (map (λ (row : WayRow). row.input.relay) way)
 each_map P [] a = tt
 each_map P (row ∷ way) a = (a.0, each_map P way a.1)
 
@@ -47,10 +47,11 @@ module _ (site : Site) (class : Class) (sound : IsSoundFor site class) where
   none_found way input Kind.Loop loop =
       let relays = map (λ (row : WayRow). row.input.relay) way in
       let below : sound.rank input.relay < sound.rank input.relay =
-          each_in (λ r. sound.rank input.relay < sound.rank r) relays
-          (each_map (λ r. sound.rank input.relay < sound.rank r) way (chain_falls way input loop.chain)) input.relay loop.met_before in
+      each_in (λ r. sound.rank input.relay < sound.rank r) relays
+      (each_map (λ r. sound.rank input.relay < sound.rank r) way (chain_falls way input loop.chain)) input.relay loop.met_before in
       omega (arith, below)
   none_found way input (Kind.Unmet archive) (none, unmet) = unmet.leads_not (sound.leads input unmet.is_entry archive unmet.named)
 
-pub no_finding : (site : Site) → IsSound site → (class : Class) (way : List WayRow) (input : SiteInput) (kind : Kind) → IsFinding site class way input kind → ⊥
+pub no_finding : (site : Site) → IsSound site → (class : Class) (way : List WayRow) (input : SiteInput) (kind : Kind)
+    → IsFinding site class way input kind → ⊥
 no_finding site sound class way input kind found = none_found site class (sound class found.protected) way input kind found.found

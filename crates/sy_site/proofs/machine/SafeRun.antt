@@ -25,13 +25,18 @@ use Rattle.sy_site.proofs.machine.Stays.{SomeOf}
 
 some_in : {A : Type 0} (P : A → Type 0) (xs : List A) → SomeOf P xs → (x : A) × Contains xs x × P x
 some_in P [] h = absurd h
-some_in P (x ∷ xs) h = elim h [ inl p ↦ (x, (0, omega arith, refl), p) | inr t ↦ let f = some_in P xs t in (f.0, (ℕ.suc f.1.0, (let l = f.1.1 in omega (arith, l)), f.1.2), f.2) ]
+some_in P (x ∷ xs) h = elim h [
+  | inl p ↦ (x, (0, omega arith, refl), p)
+  | inr t ↦ let f = some_in P xs t in
+      (f.0, (ℕ.suc f.1.0, (let l = f.1.1 in omega (arith, l)), f.1.2), f.2)
+]
 
 each_from : {A : Type 0} (P : A → Type 0) (xs : List A) → ((x : A) → Contains xs x → P x) → Each P xs
 each_from P [] f = tt
 each_from P (y ∷ ys) f = (f y (0, omega arith, refl), each_from P ys (λ x h. f x (ℕ.suc h.0, (let l = h.1 in omega (arith, l)), h.2)))
 
-steps_on : (site : Site) (s : SiteState) (es : List SiteEvent) (mid : SiteState) (e : SiteEvent) (new : SiteState) → SiteSteps site s es mid → SiteStep site mid e new
+steps_on : (site : Site) (s : SiteState) (es : List SiteEvent) (mid : SiteState) (e : SiteEvent) (new : SiteState) → SiteSteps site s es mid
+    → SiteStep site mid e new
     → SiteSteps site s (es ++ e ∷ []) new
 steps_on site s [] mid e new is st = (new, subst (λ z. SiteStep site z e new) is st, refl)
 steps_on site s (x ∷ es) mid e new (next, first, more) st = (next, first, steps_on site next es mid e new more st)
@@ -39,7 +44,12 @@ steps_on site s (x ∷ es) mid e new (next, first, more) st = (next, first, step
 -- what must come to an archive heads there
 leads_heads : (site : Site) (d : SiteAction) (m : Said) (p : SiteInput) → LeadsTo site m.class d p → Heads site d m p.relay (list_of site p) Left.All
 leads_heads site d m p (writes number a must is e) =
-    safety.writes a (record { number = number; member = must_work (body_at (plan_at site p.relay) (list_of site p)) m m.class number refl must; found = is }) e
+    safety.writes a (record {
+      number = number;
+      member = must_work
+          (body_at (plan_at site p.relay) (list_of site p)) m m.class number refl must;
+      found = is;
+    }) e
 leads_heads site d m p (leads_on {to = q} number must goes more) =
     forwards goes.action q
     (record { number = number; member = must_work (body_at (plan_at site p.relay) (list_of site p)) m m.class number refl must; found = goes.runs })
@@ -77,15 +87,19 @@ module _ (site : Site) (law : IsLawful site) (sound : IsSound site) where
       each_from (λ (l : Loss). IsCopied s.copies n a.message l.copy → ⊥) s.losses
       (λ l k copy. never.not_lost l k copy.copy (followed s es run n a at p l.copy copy.copy copy.is copy.number))
 
-  met_on : (s : SiteState) (e : SiteEvent) (new : SiteState) → Kept s → SiteStep site s e new → (n : ℕ) (a : Arrival) → slice_get new.arrivals n ≡ Some a
+  met_on : (s : SiteState) (e : SiteEvent) (new : SiteState) → Kept s → SiteStep site s e new → (n : ℕ) (a : Arrival)
+      → slice_get new.arrivals n ≡ Some a
       → IsProtected a → (d : SiteAction) → Contains (archives site a.message.class) d → NoLoss site d n a.message new → Met site d n a.message new
   met_on s (SiteEvent.TakeNew to h m) new w st n a at p d k safe =
       let x : Arrival = record { message = m; origin = to } in
       let mid : SiteState = record s { arrivals = s.arrivals ++ x ∷ [] } in
-      let same = relay_arrivals site (record mid { copies = s.copies ++ taken_by to.relay (copy_of_new s to m) ∷ [] }) to.relay (Event.Take to.input h st.node) new st.step in
+      let same = relay_arrivals site (record mid { copies = s.copies ++ taken_by to.relay (copy_of_new s to m) ∷ [] }) to.relay
+      (Event.Take to.input h st.node) new st.step in
       elim (get_cases s.arrivals n a x (subst (λ z. slice_get z n ≡ Some a) same at)) [
-        | inl before ↦ met_step site d n a.message law s (SiteEvent.TakeNew to h m) new w.shaped (archives_lead_nowhere site law a.message.class d k) safe (w.met n a before p d k) st
-        | inr here ↦ arrives_new site d n a.message mid to h (copy_of_new s to m) new w.shaped safe (sym here.0) (ap (λ (z : Arrival). z.message) here.1)
+        | inl before ↦ met_step site d n a.message law s (SiteEvent.TakeNew to h m) new w.shaped
+            (archives_lead_nowhere site law a.message.class d k) safe (w.met n a before p d k) st
+        | inr here ↦ arrives_new site d n a.message mid to h (copy_of_new s to m) new w.shaped safe (sym here.0)
+            (ap (λ (z : Arrival). z.message) here.1)
             (subst (λ (z : SiteInput). Heads site d a.message z.relay (list_of site z) Left.All) (sym (ap (λ (z : Arrival). z.origin) here.1))
             (leads_heads site d a.message a.origin ((sound a.message.class p.0).leads a.origin p.1 d k))) st
       ]

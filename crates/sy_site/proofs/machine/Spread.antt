@@ -84,13 +84,16 @@ OutOf D L r x (Out.Passed a e) = D (record { relay = r; action = a }) x
 OutOf D L r x (Out.Lost cause e) = L r cause x
 
 -- what the moves of a site keep
-pub record Moves (site : Site) (P : ℕ → Copy → Cell → Entry → Type 0) (D : SiteAction → Copy → Type 0) (L : ℕ → Cause → Copy → Type 0) (G : ℕ → RelayState → Type 0) : Type 0 where
+pub record Moves (site : Site) (P : ℕ → Copy → Cell → Entry → Type 0) (D : SiteAction → Copy → Type 0) (L : ℕ → Cause → Copy → Type 0)
+    (G : ℕ → RelayState → Type 0) : Type 0 where
   pub inside : (r : ℕ) (x : Copy) → Kept (plan_at site r) (P r x) (OutOf D L r x) (G r)
-  pub over : (d : SiteAction) (to : SiteInput) (h : ℕ) (x : Copy) (node : Entry) → D d x → target site d ≡ Some to → IsHand (plan_at site to.relay) to.input h
+  pub over : (d : SiteAction) (to : SiteInput) (h : ℕ) (x : Copy) (node : Entry) → D d x → target site d ≡ Some to
+      → IsHand (plan_at site to.relay) to.input h
       → IsOfInput (plan_at site to.relay) to.input node → node.message ≡ x.message → P to.relay (taken_by to.relay x) (hand to.input h) node
 
 -- what goes on holding once one more message came, and of that message
-pub record Grows (site : Site) (P : List Arrival → ℕ → Copy → Cell → Entry → Type 0) (D : List Arrival → SiteAction → Copy → Type 0) (L : List Arrival → ℕ → Cause → Copy → Type 0) : Type 0 where
+pub record Grows (site : Site) (P : List Arrival → ℕ → Copy → Cell → Entry → Type 0) (D : List Arrival → SiteAction → Copy → Type 0)
+    (L : List Arrival → ℕ → Cause → Copy → Type 0) : Type 0 where
   pub of_entry : (t : List Arrival) (a : Arrival) (r : ℕ) (x : Copy) (c : Cell) (e : Entry) → P t r x c e → P (t ++ a ∷ []) r x c e
   pub of_copy : (t : List Arrival) (a : Arrival) (d : SiteAction) (x : Copy) → D t d x → D (t ++ a ∷ []) d x
   pub of_loss : (t : List Arrival) (a : Arrival) (r : ℕ) (cause : Cause) (x : Copy) → L t r cause x → L (t ++ a ∷ []) r cause x
@@ -99,7 +102,8 @@ pub record Grows (site : Site) (P : List Arrival → ℕ → Copy → Cell → E
       → P (t ++ record { message = m; origin = to } ∷ []) to.relay
       (record { number = length t; message = m; origin = to; trail = to.relay ∷ [] }) (hand to.input h) node
 
-pub record Spread (copies : List Copy) (P : ℕ → Copy → Cell → Entry → Type 0) (D : SiteAction → Copy → Type 0) (L : ℕ → Cause → Copy → Type 0) (s : SiteState) : Type 0 where
+pub record Spread (copies : List Copy) (P : ℕ → Copy → Cell → Entry → Type 0) (D : SiteAction → Copy → Type 0) (L : ℕ → Cause → Copy → Type 0)
+    (s : SiteState) : Type 0 where
   pub held : (r : ℕ) → Everywhere (λ c e. Of copies (λ x. P r x c e) e.tag) (s.relays r)
   pub passed : (d : SiteAction) → Each (Of copies (D d)) (s.passed d)
   pub losses : Each (λ l. Of copies (L l.relay l.cause) l.copy) s.losses
@@ -178,19 +182,22 @@ module _ (site : Site) (P : List Arrival → ℕ → Copy → Cell → Entry →
       let x : Arrival = record { message = m; origin = to } in
       copy_keeps (record s { arrivals = s.arrivals ++ x ∷ [] }) to h (copy_of_new s to m) new (g to.relay)
       (record {
-        held = λ z k. each_weaker _ _ (λ (e : Entry). of_weaker s.copies _ _ (λ y. grows.of_entry s.arrivals x z y k e) e.tag) (at (s.relays z) k) (a.held z k);
+        held = λ z k. each_weaker _ _ (λ (e : Entry). of_weaker s.copies _ _ (λ y. grows.of_entry s.arrivals x z y k e) e.tag) (at (s.relays z) k)
+            (a.held z k);
         passed = λ d. each_weaker _ _ (of_weaker s.copies _ _ (grows.of_copy s.arrivals x d)) (s.passed d) (a.passed d);
         losses = each_weaker _ _ (λ (l : Loss). of_weaker s.copies _ _ (grows.of_loss s.arrivals x l.relay l.cause) l.copy) s.losses a.losses;
       })
       (λ node there made is. grows.comes s.arrivals to h m node there made is) st
   site_keeps s (SiteEvent.TakeFrom to h link place) new g a st =
-      let all : Each (Of s.copies (D s.arrivals link)) (st.before ++ st.tag ∷ st.behind) = subst (Each (Of s.copies (D s.arrivals link))) st.on_link (a.passed link) in
+      let all : Each (Of s.copies (D s.arrivals link)) (st.before ++ st.tag ∷ st.behind) = subst
+      (Each (Of s.copies (D s.arrivals link))) st.on_link (a.passed link) in
       let rest = each_right (Of s.copies (D s.arrivals link)) st.before (st.tag ∷ st.behind) all in
       copy_keeps (record s { passed = with_passed s.passed link (st.before ++ st.behind) }) to h st.copy new (g to.relay)
       (record {
         held = a.held;
         passed = action_elim (λ z. Each (Of s.copies (D s.arrivals z))) s.passed link _
-            (each_append (Of s.copies (D s.arrivals link)) st.before st.behind (each_left (Of s.copies (D s.arrivals link)) st.before (st.tag ∷ st.behind) all) rest.1) a.passed;
+            (each_append (Of s.copies (D s.arrivals link)) st.before st.behind
+            (each_left (Of s.copies (D s.arrivals link)) st.before (st.tag ∷ st.behind) all) rest.1) a.passed;
         losses = a.losses;
       })
       (λ node there made is.
@@ -219,7 +226,8 @@ module _ (site : Site) (P : List Arrival → ℕ → Copy → Cell → Entry →
     losses = tt;
   }
 
-  pub run_keeps : (invariant : SiteState → Type 0) → ((s : SiteState) (e : SiteEvent) (new : SiteState) → invariant s → SiteStep site s e new → invariant new)
+  pub run_keeps : (invariant : SiteState → Type 0)
+      → ((s : SiteState) (e : SiteEvent) (new : SiteState) → invariant s → SiteStep site s e new → invariant new)
       → ((s : SiteState) → invariant s → (r : ℕ) → G r (s.relays r))
       → (s : SiteState) (es : List SiteEvent) (new : SiteState) → invariant s → Sp s → SiteSteps site s es new → Sp new
   run_keeps I on says s [] new i a is = subst Sp (sym is) a

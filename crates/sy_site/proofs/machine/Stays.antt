@@ -51,8 +51,10 @@ grab_cases Q w q ℕ.zero es h = inr (inr h)
 grab_cases Q w q (ℕ.suc n) [] h = absurd h
 grab_cases Q w q (ℕ.suc n) (e ∷ es) h = go (grab_cases Q w q n es) (is_lost q e (length es)) (e.due == 0) refl h
   where
-    go : (SomeOf Q es → SomeOf Q (kept_of q n es) ⊎ SomeOf Q (lost_of q n es) ⊎ SomeOf Q (drop n es)) → (b d : Bool) → e.due == 0 ≡ d → Q e ⊎ SomeOf Q es
-        → SomeOf Q (if not b && not d then e ∷ kept_of q n es else kept_of q n es) ⊎ SomeOf Q (if b then e ∷ lost_of q n es else lost_of q n es) ⊎ SomeOf Q (drop n es)
+    go : (SomeOf Q es → SomeOf Q (kept_of q n es) ⊎ SomeOf Q (lost_of q n es) ⊎ SomeOf Q (drop n es)) → (b d : Bool) → e.due == 0 ≡ d
+        → Q e ⊎ SomeOf Q es
+        → SomeOf Q (if not b && not d then e ∷ kept_of q n es else kept_of q n es) ⊎ SomeOf Q
+        (if b then e ∷ lost_of q n es else lost_of q n es) ⊎ SomeOf Q (drop n es)
     go more true d z (inl here) = inr (inl (inl here))
     go more true d z (inr later) = elim (more later) [ inl k ↦ inl k | inr o ↦ elim o [ inl l ↦ inr (inl (inr l)) | inr r ↦ inr (inr r) ] ]
     go more false true z (inl here) = absurd (w e here (eqb-true e.due 0 z))
@@ -75,7 +77,8 @@ module _ (plan : Plan) (Q : Entry → Type 0) (Through : Entry → Occurrence �
   -- what a move keeps
   pub record Keeps : Type 0 where
     pub busy : (e : Entry) → Q e → e.due ≡ 0 → ⊥
-    pub on : (e : Entry) (o : Occurrence) (left : ℕ) → (w : Owes plan e o) → IsLowest e.due w.number left → Q e → Q (record e { due = left }) ⊎ Through e o
+    pub on : (e : Entry) (o : Occurrence) (left : ℕ) → (w : Owes plan e o) → IsLowest e.due w.number left → Q e
+        → Q (record e { due = left }) ⊎ Through e o
     pub posts : (e : Entry) (l : ℕ) (node : Entry) → Through e (occurrence.Post l) → IsPosted plan e l node → Q node
 
   abbrev pub NotLost : Out → Type 0
@@ -93,10 +96,12 @@ module _ (plan : Plan) (Q : Entry → Type 0) (Through : Entry → Occurrence �
     not_lost_all (e ∷ es) a h = elim h [ inl q ↦ a.0 q | inr t ↦ not_lost_all es a.1 t ]
 
     -- a worker that deals with its occurrence
-    advance : (old : RelayState) (w : ℕ) (o : Occurrence) → Fitting plan old → (job : Job plan old w o) → Held Q old → Held Q (advanced plan old w o job) ⊎ (Q job.entry × Through job.entry o)
+    advance : (old : RelayState) (w : ℕ) (o : Occurrence) → Fitting plan old → (job : Job plan old w o) → Held Q old
+        → Held Q (advanced plan old w o job) ⊎ (Q job.entry × Through job.entry o)
     advance old w o fits job h =
         let has : w < length old.workers = worker_there plan old w fits.shaped job.there in
-        put_held Q old (Cell.Worker w) (still job.entry job.left job.others) (Held Q (advanced plan old w o job) ⊎ (Q job.entry × Through job.entry o))
+        put_held Q old (Cell.Worker w) (still job.entry job.left job.others)
+        (Held Q (advanced plan old w o job) ⊎ (Q job.entry × Through job.entry o))
         (λ k. inl k)
         (λ s. elim (subst (SomeOf Q) job.held s) [
           | inl q ↦ elim (keeps.on job.entry o job.left (owed plan old w o job) job.first q) [
@@ -108,15 +113,18 @@ module _ (plan : Plan) (Q : Entry → Type 0) (Through : Entry → Occurrence �
         h
       where
         here : (left : ℕ) → Q (record job.entry { due = left }) → SomeOf Q (still job.entry left job.others)
-        here left p = if_elim (SomeOf Q) (left == 0) job.others (record job.entry { due = left } ∷ job.others) (λ t. absurd (keeps.busy _ p (eqb-true left 0 t))) (λ t. inl p)
+        here left p = if_elim (SomeOf Q) (left == 0) job.others (record job.entry { due = left } ∷ job.others)
+            (λ t. absurd (keeps.busy _ p (eqb-true left 0 t))) (λ t. inl p)
 
         behind : (left : ℕ) → SomeOf Q job.others → SomeOf Q (still job.entry left job.others)
         behind left p = if_elim (SomeOf Q) (left == 0) job.others (record job.entry { due = left } ∷ job.others) (λ t. p) (λ t. inr p)
 
-    pub stays : (old : RelayState) (e : Event) (new : RelayState) (outs : List Out) → Fitting plan old → Each NotLost outs → Step plan old e new outs → Held Q old → Held Q new ⊎ SomeOf PassedOn outs
+    pub stays : (old : RelayState) (e : Event) (new : RelayState) (outs : List Out) → Fitting plan old → Each NotLost outs
+        → Step plan old e new outs → Held Q old → Held Q new ⊎ SomeOf PassedOn outs
     stays old (Event.Take i h node) new outs fits safe (lost, takes, is) k =
         inl (subst (Held Q) (sym takes.after) (if_elim (Held Q) lost old (put old (hand i h) (node ∷ [])) (λ t. k)
-        (λ t. put_held Q old (hand i h) (node ∷ []) (Held Q (put old (hand i h) (node ∷ []))) (λ z. z) (λ s. absurd (subst (SomeOf Q) takes.free s)) k)))
+        (λ t. put_held Q old (hand i h) (node ∷ []) (Held Q (put old (hand i h) (node ∷ []))) (λ z. z)
+        (λ s. absurd (subst (SomeOf Q) takes.free s)) k)))
     stays old (Event.Enter i h) new outs fits safe (node, enters, is) k =
         let q = queue_of_input plan i in
         let has : q < length old.queues = input_queue_there plan old i fits.whole fits.shaped enters.leaves.there.0 in
@@ -124,7 +132,8 @@ module _ (plan : Plan) (Q : Entry → Type 0) (Through : Entry → Occurrence �
         let all = at old (Cell.Queue q) ++ node ∷ [] in
         inl (subst (Held Q) (sym enters.after)
         (put_held Q old (hand i h) [] (Held Q (put mid (Cell.Queue q) all))
-        (λ m. put_held Q mid (Cell.Queue q) all (Held Q (put mid (Cell.Queue q) all)) (λ z. z) (λ s. put_here Q mid (Cell.Queue q) all has (some_left Q (at old (Cell.Queue q)) (node ∷ []) s)) m)
+        (λ m. put_held Q mid (Cell.Queue q) all (Held Q (put mid (Cell.Queue q) all)) (λ z. z)
+        (λ s. put_here Q mid (Cell.Queue q) all has (some_left Q (at old (Cell.Queue q)) (node ∷ []) s)) m)
         (λ s. put_here Q mid (Cell.Queue q) all has (some_right Q (at old (Cell.Queue q)) (node ∷ []) (subst (SomeOf Q) enters.leaves.held s))) k))
     stays old (Event.Expire i h) new outs fits safe (node, expires, is) k =
         let none : (Q node → ⊥) × Unit {0} = subst (Each NotLost) is safe in
@@ -137,14 +146,20 @@ module _ (plan : Plan) (Q : Entry → Type 0) (Through : Entry → Occurrence �
         let mid = put old (Cell.Queue q) (drop n (at old (Cell.Queue q))) in
         let kept = kept_of l n (at old (Cell.Queue q)) in
         let has : w < length old.workers = worker_there plan old w fits.shaped grabs.there in
-        let none : Each NotLost (map (Out.Lost Cause.Grab) (lost_of l n (at old (Cell.Queue q)))) = subst (λ xs. Each NotLost (map (Out.Lost Cause.Grab) xs)) grabs.lost_are (subst (Each NotLost) is safe) in
+        let none : Each NotLost (map (Out.Lost Cause.Grab) (lost_of l n (at old (Cell.Queue q)))) = subst
+        (λ xs. Each NotLost (map (Out.Lost Cause.Grab) xs)) grabs.lost_are (subst (Each NotLost) is safe) in
         let there : q < length old.queues = some_there old.queues q grabs.some in
-        let from_mid : Held Q mid → Held Q (put mid (Cell.Worker w) kept) = λ m. put_held Q mid (Cell.Worker w) kept (Held Q (put mid (Cell.Worker w) kept)) (λ z. z) (λ s. absurd (subst (SomeOf Q) grabs.idle s)) m in
+        let from_mid : Held Q mid → Held Q (put mid (Cell.Worker w) kept) = λ m. put_held Q mid (Cell.Worker w) kept
+        (Held Q (put mid (Cell.Worker w) kept)) (λ z. z) (λ s. absurd (subst (SomeOf Q) grabs.idle s)) m in
         inl (subst (Held Q) (sym grabs.after)
         (put_held Q old (Cell.Queue q) (drop n (at old (Cell.Queue q))) (Held Q (put mid (Cell.Worker w) kept)) from_mid
         (λ s. elim (grab_cases Q keeps.busy l n (at old (Cell.Queue q)) s) [
           | inl a ↦ put_here Q mid (Cell.Worker w) kept has a
-          | inr o ↦ elim o [ inl b ↦ absurd (not_lost_all (lost_of l n (at old (Cell.Queue q))) none b) | inr c ↦ from_mid (put_here Q old (Cell.Queue q) (drop n (at old (Cell.Queue q))) there c) ]
+          | inr o ↦ elim o [
+            | inl b ↦ absurd (not_lost_all (lost_of l n (at old (Cell.Queue q))) none b)
+            | inr c ↦ from_mid
+                (put_here Q old (Cell.Queue q) (drop n (at old (Cell.Queue q))) there c)
+          ]
         ]) k))
     stays old (Event.Done w) new outs fits safe (a, e, does, is) k =
         elim (advance old w (occurrence.Run a) fits does.job k) [
@@ -161,13 +176,21 @@ module _ (plan : Plan) (Q : Entry → Type 0) (Through : Entry → Occurrence �
     stays old (Event.Post w) new outs fits safe (l, node, lost, posts, is) k =
         inl (subst (Held Q) (sym posts.after) (go lost (subst (Each NotLost) is safe)))
       where
-        go : (b : Bool) → Each NotLost (if_so b (Out.Lost (Cause.Post l) posts.job.entry)) → Held Q (if b then advanced plan old w (occurrence.Post l) posts.job else (put (advanced plan old w (occurrence.Post l) posts.job) (Cell.Queue (queue_for plan l)) (at old (Cell.Queue (queue_for plan l)) ++ node ∷ [])))
+        go : (b : Bool) → Each NotLost (if_so b (Out.Lost (Cause.Post l) posts.job.entry))
+            → Held Q (if b then advanced plan old w (occurrence.Post l) posts.job else
+            (put (advanced plan old w (occurrence.Post l) posts.job) (Cell.Queue (queue_for plan l))
+            (at old (Cell.Queue (queue_for plan l)) ++ node ∷ [])))
         go true none = elim (advance old w (occurrence.Post l) fits posts.job k) [ inl h ↦ h | inr t ↦ absurd (none.0 t.0) ]
         go false none = elim (advance old w (occurrence.Post l) fits posts.job k) [
-          | inl h ↦ put_held Q (advanced plan old w (occurrence.Post l) posts.job) (Cell.Queue (queue_for plan l)) (at old (Cell.Queue (queue_for plan l)) ++ node ∷ [])
-              (Held Q (put (advanced plan old w (occurrence.Post l) posts.job) (Cell.Queue (queue_for plan l)) (at old (Cell.Queue (queue_for plan l)) ++ node ∷ []))) (λ z. z)
-              (λ s. put_here Q (advanced plan old w (occurrence.Post l) posts.job) (Cell.Queue (queue_for plan l)) (at old (Cell.Queue (queue_for plan l)) ++ node ∷ []) (list_queue_there plan old l fits.whole fits.shaped) (some_left Q (at old (Cell.Queue (queue_for plan l))) (node ∷ []) s)) h
-          | inr t ↦ put_here Q (advanced plan old w (occurrence.Post l) posts.job) (Cell.Queue (queue_for plan l)) (at old (Cell.Queue (queue_for plan l)) ++ node ∷ []) (list_queue_there plan old l fits.whole fits.shaped)
+          | inl h ↦ put_held Q (advanced plan old w (occurrence.Post l) posts.job) (Cell.Queue (queue_for plan l))
+              (at old (Cell.Queue (queue_for plan l)) ++ node ∷ [])
+              (Held Q (put (advanced plan old w (occurrence.Post l) posts.job) (Cell.Queue (queue_for plan l))
+              (at old (Cell.Queue (queue_for plan l)) ++ node ∷ []))) (λ z. z)
+              (λ s. put_here Q (advanced plan old w (occurrence.Post l) posts.job) (Cell.Queue (queue_for plan l))
+              (at old (Cell.Queue (queue_for plan l)) ++ node ∷ []) (list_queue_there plan old l fits.whole fits.shaped)
+              (some_left Q (at old (Cell.Queue (queue_for plan l))) (node ∷ []) s)) h
+          | inr t ↦ put_here Q (advanced plan old w (occurrence.Post l) posts.job) (Cell.Queue (queue_for plan l))
+              (at old (Cell.Queue (queue_for plan l)) ++ node ∷ []) (list_queue_there plan old l fits.whole fits.shaped)
               (some_right Q (at old (Cell.Queue (queue_for plan l))) (node ∷ []) (inl (keeps.posts posts.job.entry l node t.1 posts.made)))
         ]
     stays old (Event.PostLost w no_memory) new outs fits safe (l, e, loses, is) k =
