@@ -102,7 +102,7 @@ module _ (class : Class) where
     after = refl;
   }
 
-  -- at hub: the second copy, with the third tag
+  -- at hub: the second copy, with the second tag
 
   abbrev hub0 : RelayState
   hub0 = cells.opening hub_plan

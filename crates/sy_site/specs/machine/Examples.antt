@@ -84,8 +84,8 @@ example_site = record {
   } ∷ [];
 }
 
--- It comes to a hand of edge, into the queue, to the worker; the link breaks, but took it all the same, and takes it once more; hub takes the second
--- copy, and writes it.
+-- It comes to a hand of edge, into the queue, to the worker; the link fails, but took it all the same, and takes it once more; hub takes it from the
+-- second place of the link, and writes it.
 abbrev pub example_events : Class → List SiteEvent
 example_events class =
     SiteEvent.TakeNew edge_input 0 (example_message class)
