@@ -1,12 +1,14 @@
 //! The machine of a whole site: laws of its runs. Steps and runs are definitions (`specs/machine`). Each function
 //! does nothing; its contract is the law.
-ghost use Rattle.std.specs.Prelude.{◌≡◌, List, true};
+ghost use Rattle.std.specs.Prelude.{◌≡◌, ℕ, Bool, List, true};
+ghost use Rattle.std.specs.List.{Contains};
 ghost use Rattle.sy_wire.specs.declared.class.Class.{Class};
 ghost use Rattle.sy_site.specs.Sites.{Site, SiteInput, is_protected};
 ghost use Rattle.sy_site.specs.machine.States.{SiteState};
 ghost use Rattle.sy_site.specs.machine.Steps.{Runs, SiteEvent};
 ghost use Rattle.sy_site.specs.machine.Lengths.{IsWithinMarks, IsWithinSizes};
-ghost use Rattle.sy_site.specs.machine.Findings.{IsFinding, Kind, WayRow};
+ghost use Rattle.sy_site.specs.machine.Findings.{IsFinding, IsWay, Kind, WayRow};
+ghost use Rattle.sy_site.specs.machine.Reach.{Forwards, MayAt, Reach};
 ghost use Rattle.sy_site.specs.machine.Soundness.{IsSound, IsSoundFor};
 ghost use Rattle.sy_site.specs.machine.Confinement.{AreConfined};
 ghost use Rattle.sy_site.specs.machine.Lawful.{IsLawful};
@@ -59,6 +61,20 @@ pub fn copies_are_confined()
 pub fn sound_sites_are_safe()
     ensures { (site : Site) → IsLawful site → IsSound site → (events : List SiteEvent) → (state : SiteState)
         → Runs site events state → AreSafe site state }
+{}
+
+/// The reached inputs of a class are those that ways of forwards from entries lead to; and each set of inputs that has
+/// the entries, and what the forwards lead to that may be executed in it, has them all.
+pub fn reached_inputs()
+    ensures by_ways { (site : Site) → (class : Class) → (way : List WayRow) → (input : SiteInput)
+        → IsWay site class way input → Reach site class input }
+    ensures have_ways { (site : Site) → (class : Class) → (input : SiteInput) → Reach site class input
+        → (way : List WayRow) × IsWay site class way input }
+    ensures least { (site : Site) → (class : Class) → (inside : SiteInput → Bool)
+        → ((input : SiteInput) → Contains site.entries input → inside input ≡ true)
+        → ((from to : SiteInput) → (number : ℕ) → inside from ≡ true → MayAt site class from number
+        → Forwards site from number to → inside to ≡ true)
+        → (input : SiteInput) → Reach site class input → inside input ≡ true }
 {}
 
 /// A sound site has no true finding of any kind.

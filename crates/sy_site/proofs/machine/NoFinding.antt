@@ -8,7 +8,7 @@ use Rattle.sy_site.specs.machine.Soundness.{IsSound, IsSoundFor}
 use Rattle.sy_site.proofs.machine.Keeps.{Each}
 use Rattle.sy_site.proofs.machine.Naming.{each_in}
 
-way_reaches : (site : Site) (class : Class) (from : SiteInput) (way : List WayRow) (end : SiteInput) → Reach site class from
+pub way_reaches : (site : Site) (class : Class) (from : SiteInput) (way : List WayRow) (end : SiteInput) → Reach site class from
     → IsWayFrom site class from way end → Reach site class end
 way_reaches site class from [] end reach is = subst (Reach site class) is reach
 way_reaches site class from (row ∷ way) end reach (here, may, to, goes, more) =
