@@ -1,2 +1,4 @@
 //! A set of relays: the site that one site file and the relays' scripts describe, and its machine of nine steps.
 #![tactic(auto)]
+
+pub mod machine;

@@ -1,0 +1,37 @@
+-- Where the copies of a class are that came in at entries.
+use Rattle.std.specs.Prelude.{◌≡◌, ℕ, ◌<◌, List, Some, AllPairs, slice_get}
+use Rattle.std.specs.Int.{bit_at}
+use Rattle.std.specs.List.{Contains}
+use Rattle.sy_wire.specs.declared.class.Class.{Class}
+use Rattle.sy_chain.specs.Entries.{Entry}
+use Rattle.sy_board.specs.relay.Cells.{Cell, at}
+use Rattle.sy_site.specs.Sites.{Site, SiteAction}
+use Rattle.sy_site.specs.machine.States.{Copy, Loss, SiteState}
+use Rattle.sy_site.specs.machine.Reach.{MayAt, Reach, list_of}
+
+-- a copy, known by its tag, of a message of the class that came from outside at an entry
+pub record IsFollowed (site : Site) (state : SiteState) (class : Class) (tag : ℕ) (copy : Copy) : Type 0 where
+  pub is : slice_get state.copies tag ≡ Some copy
+  pub class_is : copy.message.class ≡ class
+  pub entered : Contains site.entries copy.origin
+
+-- An entry of a relay stands for an input that the class reaches: it follows that input's list, and what is due of it the class may execute.
+pub record IsWithinReach (site : Site) (class : Class) (relay : ℕ) (entry : Entry) : Type 0 where
+  pub reached : Reach site class (record { relay = relay; input = entry.input })
+  pub follows : entry.list ≡ list_of site (record { relay = relay; input = entry.input })
+  pub due : (number : ℕ) → bit_at entry.due number ≡ 1 → MayAt site class (record { relay = relay; input = entry.input }) number
+
+-- Along a trail the ranks fall.
+abbrev pub Falls : (ℕ → ℕ) → List ℕ → Type 0
+Falls rank trail = AllPairs (λ earlier later. rank later < rank earlier) trail
+
+-- The copies of the class that came in at entries are confined: they are held within its reach alone, none is lost, and the ranks fall along the
+-- trail of each, at a place, on a link or in a file.
+pub record AreConfined (site : Site) (class : Class) (rank : ℕ → ℕ) (state : SiteState) : Type 0 where
+  pub held : (relay : ℕ) (cell : Cell) (entry : Entry) → Contains (at (state.relays relay) cell) entry
+      → (copy : Copy) → IsFollowed site state class entry.tag copy → IsWithinReach site class relay entry
+  pub not_lost : (loss : Loss) → Contains state.losses loss → (copy : Copy) → IsFollowed site state class loss.copy copy → ⊥
+  pub held_falls : (relay : ℕ) (cell : Cell) (entry : Entry) → Contains (at (state.relays relay) cell) entry
+      → (copy : Copy) → IsFollowed site state class entry.tag copy → Falls rank copy.trail
+  pub passed_falls : (action : SiteAction) (tag : ℕ) → Contains (state.passed action) tag
+      → (copy : Copy) → IsFollowed site state class tag copy → Falls rank copy.trail

@@ -1,0 +1,138 @@
+-- Two small sites with runs, so that it is seen that the definitions are not empty.
+use Rattle.std.specs.Prelude.{ℕ, true, false, List, [], ◌∷◌, Some, None, codes}
+use Rattle.sy_wire.specs.declared.class.Class.{Class}
+use Rattle.sy_wire.specs.Messages.{Said}
+use Rattle.sy_rules.specs.declared.parameters.objects.Destination.TheVariants as destination
+use Rattle.sy_rules.specs.declared.parameters.settings.FlowControl.TheVariants as control
+use Rattle.sy_rules.specs.declared.parameters.settings.QueueParameters.{QueueParameters}
+use Rattle.sy_rules.specs.lists.Body.{Body}
+use Rattle.sy_rules.specs.PlanValue.{Plan}
+use Rattle.sy_board.specs.relay.Steps.{Event}
+use Rattle.sy_site.specs.Sites.{Site, SiteInput, SiteAction}
+use Rattle.sy_site.specs.machine.Steps.{SiteEvent}
+
+-- a message of a class
+abbrev pub example_message : Class → Said
+example_message class = record {
+  raw = codes "<34>1 - - - - - -";
+  class = class;
+  hostname = [];
+  app_name = [];
+  procid = [];
+  msgid = [];
+  msg = [];
+}
+
+-- a queue of this size, with this full-delay mark
+abbrev pub example_queue : ℕ → ℕ → QueueParameters
+example_queue size mark = record {
+  size = size;
+  batch = 1024;
+  full_delay_mark = mark;
+  light_delay_mark = 0;
+  discard_mark = 0;
+  discard_severity = 8;
+  timeout_enqueue = 2000;
+  workers = 1;
+}
+
+-- ---- a message comes to its archive
+
+-- edge forwards what comes to its port 6514 to hub: through the queue of the ruleset `out`
+abbrev pub edge_plan : Plan
+edge_plan = record {
+  inputs = record { port = 6514; flow = control.Full; list = 1; queue = 1 } ∷ [];
+  queues = example_queue 50000 48500 ∷ example_queue 100 90 ∷ [];
+  workers = 0 ∷ 1 ∷ [];
+  actions = record { name = codes "up"; destination = destination.Forward (codes "hub") 6515; retry = None; resume_interval = 30 } ∷ [];
+  lists = record { body = Body.End; queue = None } ∷ record { body = Body.Run 0 Body.End; queue = Some 1 } ∷ [];
+  names = codes "RSYSLOG_DefaultRuleset" ∷ codes "out" ∷ [];
+}
+
+-- hub writes what comes to its port 6515 into a file
+abbrev pub hub_plan : Plan
+hub_plan = record {
+  inputs = record { port = 6515; flow = control.Full; list = 0; queue = 0 } ∷ [];
+  queues = example_queue 50000 48500 ∷ [];
+  workers = 0 ∷ [];
+  actions = record { name = codes "audit"; destination = destination.Archive (codes "audit.log"); retry = None; resume_interval = 30 } ∷ [];
+  lists = record { body = Body.Run 0 Body.End; queue = None } ∷ [];
+  names = codes "RSYSLOG_DefaultRuleset" ∷ [];
+}
+
+abbrev pub edge_input : SiteInput
+edge_input = record { relay = 0; input = 0 }
+
+abbrev pub hub_input : SiteInput
+hub_input = record { relay = 1; input = 0 }
+
+abbrev pub up : SiteAction
+up = record { relay = 0; action = 0 }
+
+abbrev pub audit : SiteAction
+audit = record { relay = 1; action = 0 }
+
+-- messages of facility auth enter at edge and are to come to the archive of hub
+abbrev pub example_site : Site
+example_site = record {
+  relays = record { name = codes "edge"; address = 127 ∷ 0 ∷ 0 ∷ 1 ∷ []; plan = edge_plan }
+      ∷ record { name = codes "hub"; address = 127 ∷ 0 ∷ 0 ∷ 1 ∷ []; plan = hub_plan } ∷ [];
+  entries = edge_input ∷ [];
+  protections = record {
+    selector = 0 ∷ 0 ∷ 0 ∷ 0 ∷ 255 ∷ 0 ∷ 0 ∷ 0 ∷ 0 ∷ 0 ∷ 0 ∷ 0 ∷ 0 ∷ 0 ∷ 0 ∷ 0 ∷ 0 ∷ 0 ∷ 0 ∷ 0 ∷ 0 ∷ 0 ∷ 0 ∷ 0 ∷ [];
+    archive = audit;
+  } ∷ [];
+}
+
+-- It comes to a hand of edge, into the queue, to the worker; the link fails, but took it all the same, and takes it once more; hub takes it from the
+-- second place of the link, and writes it.
+abbrev pub example_events : Class → List SiteEvent
+example_events class =
+    SiteEvent.TakeNew edge_input 0 (example_message class)
+    ∷ SiteEvent.Inside 0 (Event.Enter 0 0)
+    ∷ SiteEvent.Inside 0 (Event.Grab 1)
+    ∷ SiteEvent.Inside 0 (Event.Fail 1 true)
+    ∷ SiteEvent.Inside 0 (Event.Done 1)
+    ∷ SiteEvent.TakeFrom hub_input 0 up 1
+    ∷ SiteEvent.Inside 1 (Event.Enter 0 0)
+    ∷ SiteEvent.Inside 1 (Event.Grab 0)
+    ∷ SiteEvent.Inside 1 (Event.Done 0)
+    ∷ []
+
+-- ---- a relay that loses messages
+
+-- Two queues of size 1: what comes to port 6514 is put into the second one, from which an action is tried twice.
+abbrev pub narrow_plan : Plan
+narrow_plan = record {
+  inputs = record { port = 6514; flow = control.Off; list = 0; queue = 0 } ∷ [];
+  queues = example_queue 1 0 ∷ example_queue 1 0 ∷ [];
+  workers = 0 ∷ 1 ∷ [];
+  actions = record { name = codes "log"; destination = destination.Archive (codes "a.log"); retry = Some 1; resume_interval = 30 } ∷ [];
+  lists = record { body = Body.Post 1 Body.End; queue = None } ∷ record { body = Body.Run 0 Body.End; queue = Some 1 } ∷ [];
+  names = codes "RSYSLOG_DefaultRuleset" ∷ codes "log" ∷ [];
+}
+
+abbrev pub narrow_site : Site
+narrow_site = record {
+  relays = record { name = codes "edge"; address = 127 ∷ 0 ∷ 0 ∷ 1 ∷ []; plan = narrow_plan } ∷ [];
+  entries = edge_input ∷ [];
+  protections = [];
+}
+
+-- The second message finds the first queue full, the third the second one; the first one is given up after two failures.
+abbrev pub narrow_events : Class → List SiteEvent
+narrow_events class =
+    SiteEvent.TakeNew edge_input 0 (example_message class)
+    ∷ SiteEvent.Inside 0 (Event.Enter 0 0)
+    ∷ SiteEvent.TakeNew edge_input 1 (example_message class)
+    ∷ SiteEvent.Inside 0 (Event.Expire 0 1)
+    ∷ SiteEvent.Inside 0 (Event.Grab 0)
+    ∷ SiteEvent.Inside 0 (Event.Post 0)
+    ∷ SiteEvent.TakeNew edge_input 0 (example_message class)
+    ∷ SiteEvent.Inside 0 (Event.Enter 0 0)
+    ∷ SiteEvent.Inside 0 (Event.Grab 0)
+    ∷ SiteEvent.Inside 0 (Event.PostLost 0 false)
+    ∷ SiteEvent.Inside 0 (Event.Grab 1)
+    ∷ SiteEvent.Inside 0 (Event.Fail 1 false)
+    ∷ SiteEvent.Inside 0 (Event.GiveUp 1 false)
+    ∷ []

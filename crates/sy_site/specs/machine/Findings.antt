@@ -1,0 +1,138 @@
+-- What the checker may find in a site: nine kinds, by number, each a condition on plans alone.
+use Rattle.std.specs.Prelude.{◌≡◌, ◌≢◌, ℕ, ◌<◌, ◌≤◌, ◌⊎◌, true, List, [], ◌∷◌, Option, Some, None, map, slice_get}
+use Rattle.std.specs.List.{Contains}
+use Rattle.sy_wire.specs.declared.class.Class.{Class}
+use Rattle.sy_marks.specs.declared.marks.Flow.TheVariants as flow
+use Rattle.sy_rules.specs.declared.lists.occurrence.Occurrence.TheVariants as occurrence
+use Rattle.sy_rules.specs.declared.parameters.objects.Destination.{Destination}
+use Rattle.sy_rules.specs.declared.parameters.objects.Destination.TheVariants as destination
+use Rattle.sy_rules.specs.declared.parameters.settings.QueueParameters.{QueueParameters}
+use Rattle.sy_rules.specs.declared.parts.Action.{Action}
+use Rattle.sy_board.specs.relay.Plans.{flow_at, parameters_at, queue_of_input, retry_at}
+use Rattle.sy_site.specs.Sites.{Site, SiteInput, SiteAction, archives, is_protected, plan_at, target}
+use Rattle.sy_site.specs.machine.Lengths.{Feeder, Feeds, IsFullDelay}
+use Rattle.sy_site.specs.machine.Reach.{Forwards, LeadsTo, MayAt, Reach, action_of, occurrence_of}
+
+pub data Kind : Type 0 where
+  NotFull MarkOff MarkAboveSize Discards InnerQueue GivesUp NoTarget Loop : Kind
+  -- which archive isn't led to
+  Unmet : SiteAction → Kind
+
+abbrev pub kind_number : Kind → ℕ
+kind_number Kind.NotFull = 1
+kind_number Kind.MarkOff = 2
+kind_number Kind.MarkAboveSize = 3
+kind_number Kind.Discards = 4
+kind_number Kind.InnerQueue = 5
+kind_number Kind.GivesUp = 6
+kind_number Kind.NoTarget = 7
+kind_number Kind.Loop = 8
+kind_number (Kind.Unmet archive) = 9
+
+-- ---- kinds 1 to 7: what may be wrong at one input
+
+-- the parameters of the input's queue
+abbrev pub queue_of : Site → SiteInput → QueueParameters
+queue_of site input = parameters_at (plan_at site input.relay) (queue_of_input (plan_at site input.relay) input.input)
+
+-- some feeder of the queue, of any class, isn't a full-delay input
+pub record IsFedFreely (site : Site) (relay queue : ℕ) : Type 0 where
+  pub feeder : Feeder
+  pub feeds : Feeds (plan_at site relay) queue feeder
+  pub is_free : IsFullDelay (plan_at site relay) feeder → ⊥
+
+-- A message of the class can be discarded: the queue discards its severity at some mark, and other feeders, or the input itself, fill it so far.
+pub record MayDiscard (site : Site) (class : Class) (input : SiteInput) : Type 0 where
+  pub severe : (queue_of site input).discard_severity ≤ class.severity
+  pub on : 0 < (queue_of site input).discard_mark
+  pub reached : IsFedFreely site input.relay (queue_of_input (plan_at site input.relay) input.input)
+      ⊎ ((queue_of site input).discard_mark ≤ (queue_of site input).full_delay_mark)
+
+-- it may be put into another queue of the relay
+pub record MayPost (site : Site) (class : Class) (input : SiteInput) : Type 0 where
+  pub number : ℕ
+  pub may : MayAt site class input number
+  pub list : ℕ
+  pub posts : occurrence_of site input number ≡ Some (occurrence.Post list)
+
+-- an action that it may execute, with its number
+pub record MayRun (site : Site) (class : Class) (input : SiteInput) (action : ℕ) : Type 0 where
+  pub number : ℕ
+  pub may : MayAt site class input number
+  pub runs : occurrence_of site input number ≡ Some (occurrence.Run action)
+
+abbrev pub IsForward : Option Action → Type 0
+IsForward None = ⊥
+IsForward (Some action) = sends action.destination where
+  sends : Destination → Type 0
+  sends (destination.Archive file) = ⊥
+  sends (destination.Forward name port) = Unit {0}
+
+-- The kind's condition on an input, for a class; of kinds 8 and 9 see below.
+abbrev pub HoldsAt : Site → Class → SiteInput → Kind → Type 0
+HoldsAt site class input Kind.NotFull = flow_at (plan_at site input.relay) input.input ≢ flow.Full
+HoldsAt site class input Kind.MarkOff = (queue_of site input).full_delay_mark ≡ 0
+HoldsAt site class input Kind.MarkAboveSize = (queue_of site input).size < (queue_of site input).full_delay_mark
+HoldsAt site class input Kind.Discards = MayDiscard site class input
+HoldsAt site class input Kind.InnerQueue = MayPost site class input
+HoldsAt site class input Kind.GivesUp =
+    (action : ℕ) × MayRun site class input action × (retry : ℕ) × (retry_at (plan_at site input.relay) action ≡ Some retry)
+HoldsAt site class input Kind.NoTarget =
+    (action : ℕ) × MayRun site class input action × IsForward (slice_get (plan_at site input.relay).actions action)
+    × (target site (action_of input action) ≡ None)
+HoldsAt site class input _ = ⊥
+
+-- ---- ways
+
+-- a part of a way: an occurrence of an input's list
+pub record WayRow : Type 0 where
+  pub input : SiteInput
+  pub number : ℕ
+
+-- From an input each row's occurrence is a forward that may be executed, to the next row's input, and the last row's to the end.
+abbrev pub IsWayFrom : Site → Class → SiteInput → List WayRow → SiteInput → Type 0
+IsWayFrom site class from [] end = from ≡ end
+IsWayFrom site class from (row ∷ way) end =
+    (row.input ≡ from) × MayAt site class from row.number × (to : SiteInput) × Forwards site from row.number to × IsWayFrom site class to way end
+
+-- A way from some entry; without rows the input itself is an entry.
+pub record IsWay (site : Site) (class : Class) (way : List WayRow) (end : SiteInput) : Type 0 where
+  pub entry : SiteInput
+  pub is_entry : Contains site.entries entry
+  pub follows : IsWayFrom site class entry way end
+
+-- From relay to relay: each row's input is reached, and its occurrence is a forward that may be executed, to the next row's relay; the last
+-- row's leads to the end.
+abbrev pub IsChain : Site → Class → List WayRow → SiteInput → Type 0
+IsChain site class [] end = ⊥
+IsChain site class (row ∷ []) end = Reach site class row.input × MayAt site class row.input row.number × Forwards site row.input row.number end
+IsChain site class (row ∷ next ∷ way) end =
+    Reach site class row.input × MayAt site class row.input row.number
+    × (to : SiteInput) × Forwards site row.input row.number to × (to.relay ≡ next.input.relay) × IsChain site class (next ∷ way) end
+
+abbrev pub first_is_entry : Site → List WayRow → Type 0
+first_is_entry site [] = ⊥
+first_is_entry site (row ∷ way) = Contains site.entries row.input
+
+-- a relay is met twice
+pub record IsLoop (site : Site) (class : Class) (way : List WayRow) (end : SiteInput) : Type 0 where
+  pub starts : first_is_entry site way
+  pub chain : IsChain site class way end
+  pub met_before : Contains (map (λ row. row.input.relay) way) end.relay
+
+-- an archive that the policy names isn't led to from the entry
+pub record IsUnmet (site : Site) (class : Class) (archive : SiteAction) (input : SiteInput) : Type 0 where
+  pub named : Contains (archives site class) archive
+  pub is_entry : Contains site.entries input
+  pub leads_not : LeadsTo site class archive input → ⊥
+
+-- ---- a true finding
+
+abbrev pub IsFound : Site → Class → List WayRow → SiteInput → Kind → Type 0
+IsFound site class way input Kind.Loop = IsLoop site class way input
+IsFound site class way input (Kind.Unmet archive) = (way ≡ []) × IsUnmet site class archive input
+IsFound site class way input kind = IsWay site class way input × HoldsAt site class input kind
+
+pub record IsFinding (site : Site) (class : Class) (way : List WayRow) (input : SiteInput) (kind : Kind) : Type 0 where
+  pub protected : is_protected site class ≡ true
+  pub found : IsFound site class way input kind
