@@ -181,6 +181,8 @@ class Crate:
                 fits = any(owner == it for it in words) or owner and owner in {a + b for a in words for b in words}
                 # `impl Tr for Box<dyn Tr + Send>` is called BoxDynTrSendTr
                 fits = fits or owner == "".join(it[0].upper() + it[1:] for it in of_box)
+                # the second `impl` of methods of one name, `impl<T> A<B<T>>`, is called A+B+T
+                fits = fits or "+" in owner and set(owner.split("+")) <= set(words)
             else:
                 stem = re.sub(r"/(lib|main)$", "", item.file[len("src") : -len(".rt")])
                 fits = stem.split("/")[1:] == above

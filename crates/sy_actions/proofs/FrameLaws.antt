@@ -1,15 +1,16 @@
 -- What a sink of frames writes, from the writes of its writer.
-use Rattle.std.proofs.Common.{◌≡◌, ℕ, ◌<◌, ◌≤◌, Bool, false, true, inl, inr, List, [], ◌∷◌, ◌++◌, length, take, drop, length-append, length-drop, sym, ap, ◌∙◌, arith}
+use Rattle.std.proofs.Common.{◌≡◌, ℕ, ◌<◌, ◌≤◌, Bool, false, true, inl, inr, List, [], ◌∷◌, ◌++◌, length, take, drop, length-append, length-drop, sym, ap, ◌∙◌, subst, arith}
 use Rattle.std.specs.Prelude.{Option, Some, None, Result, Ok, Err, OnErr, ⊤}
 use Rattle.std.specs.Io.KnownBytes.{Appends, Keeps}
 use Rattle.std.proofs.KnownBytes.{Appends-kept, Appends-trans}
 use Rattle.std.proofs.lemmas.List.{append-nil, append_assoc, take_all, take-append-drop}
+use Rattle.std.proofs.lemmas.List.Folds.{flat_map-map}
 use Rattle.sy_wire.specs.Frames.{IsSize, frame}
 use Rattle.sy_wire.specs.Messages.{IsMessage, Said}
 use Rattle.sy_actions.specs.declared.device.DeviceFault.{DeviceFault}
 use Rattle.sy_actions.specs.declared.device.DeviceFault.TheVariants.{Write, Broken, NoMemory, CountFull}
-use Rattle.sy_actions.specs.Devices.{MayTake, Takes}
-use Rattle.sy_actions.specs.FrameSinks.{AppendsFront, Framing, HasFramesTaken, Offers, OffersFrame, begun, flushed, offered, StandsForFrames, frames_of, taken as of_answer}
+use Rattle.sy_actions.specs.Devices.{MayTake, Takes, taken as of_answer}
+use Rattle.sy_actions.specs.FrameSinks.{AppendsFront, Framing, HasFramesOfAll, HasFramesTaken, Offers, OffersFrame, begun, flushed, offered, StandsForFrames, frames_of}
 
 -- the rest is not empty
 some_left : (bytes : List ℕ) (at : ℕ) → at < length bytes → drop at bytes ≡ [] → ⊥
@@ -129,3 +130,13 @@ module _ {W : Type 0} (contents : W → Option (List ℕ)) (faults : W → ℕ) 
   pub has_frames : HasFramesTaken contents faults
   has_frames first last told messages whole tells run =
       run_stands first last told messages (rw (whole, tells) (sym (append-nil told))) run
+
+  tells_frames : (a : Option (List ℕ)) (told : List ℕ) (messages : List Said) → StandsForFrames a false told messages → a ≡ Some (told ++ frames_of messages)
+  tells_frames None told messages stands = absurd stands
+  tells_frames (Some now) told messages stands = ap Some stands
+
+  pub has_frames_of_all : HasFramesOfAll contents faults
+  has_frames_of_all first last told messages whole tells run unbroken =
+      tells_frames (contents last.writer) told messages
+      (subst (λ broken. StandsForFrames (contents last.writer) broken told messages) unbroken (has_frames first last told messages whole tells run))
+      ∙ ap (λ x. Some (told ++ x)) (flat_map-map frame (λ (m : Said). m.raw) messages)

@@ -1,5 +1,5 @@
 -- What an offer does to what a device stands for, and what proofs of it say.
-use Rattle.std.specs.Prelude.{ℕ, ◌⊎◌, List, [], ◌∷◌, ◌++◌}
+use Rattle.std.specs.Prelude.{◌≡◌, ℕ, ◌⊎◌, List, [], ◌∷◌, ◌++◌, Result, Ok, Err, ⊤}
 use Rattle.sy_wire.specs.Messages.{Said}
 use Rattle.sy_actions.specs.declared.device.DeviceFault.{DeviceFault}
 
@@ -32,3 +32,17 @@ pub record Hatched (D : Type 0) : Type 0 where
   pub number : ℕ
   pub made : ℕ
   pub device : D
+
+-- an offer: the message, and what the device answered
+pub record Offer : Type 0 where
+  pub message : Said
+  pub answer : Result ⊤ DeviceFault
+
+-- it was answered with a fault
+abbrev pub HasFailed : Offer → Type 0
+HasFailed offer = (fault : DeviceFault) × (offer.answer ≡ Err fault)
+
+-- the message of an offer, where it was taken
+abbrev pub taken : Result ⊤ DeviceFault → Said → List Said
+taken (Ok _) message = message ∷ []
+taken (Err _) message = []

@@ -1,9 +1,12 @@
 -- What a sink of frames writes, and what it stands for.
 use Rattle.std.specs.Prelude.{◌≡◌, ◌≢◌, ℕ, ◌<◌, ◌⊎◌, Bool, true, false, List, [], ◌∷◌, ◌++◌, length, map, Option, None, Some, Result, Ok, Err, ⊤}
+use Rattle.std.specs.List.{flat_map}
+use Rattle.std.specs.Fmt.{decimal}
 use Rattle.std.specs.Io.KnownBytes.{Appends, Keeps}
 use Rattle.sy_wire.specs.Frames.{IsSize, MAX_FRAME, frame, stream}
 use Rattle.sy_wire.specs.Messages.{Said}
 use Rattle.sy_wire.specs.Streams.{Rose, count_after}
+use Rattle.sy_actions.specs.Devices.{taken}
 use Rattle.sy_actions.specs.declared.device.DeviceFault.{DeviceFault}
 use Rattle.sy_actions.specs.declared.device.DeviceFault.TheVariants.{Write, Broken, NoMemory, CountFull}
 
@@ -40,11 +43,6 @@ abbrev pub StandsForFrames : Option (List ℕ) → Bool → List ℕ → List Sa
 StandsForFrames None is_broken bytes messages = ⊥
 StandsForFrames (Some told) false bytes messages = told ≡ bytes ++ frames_of messages
 StandsForFrames (Some told) true bytes messages = (torn : List ℕ) × IsTornFrame torn × (told ≡ bytes ++ frames_of messages ++ torn)
-
--- the message of an offer, where it was taken
-abbrev pub taken : Result ⊤ DeviceFault → Said → List Said
-taken (Ok _) message = message ∷ []
-taken (Err _) message = []
 
 module _ {W : Type 0} (contents : W → Option (List ℕ)) (faults : W → ℕ) where
   -- the whole frame was written, and no write failed
@@ -98,3 +96,10 @@ module _ {W : Type 0} (contents : W → Option (List ℕ)) (faults : W → ℕ) 
   HasFramesTaken =
       (first last : Framing W) (told : List ℕ) (messages : List Said) → first.is_broken ≡ false → contents first.writer ≡ Some told
       → Offers first messages last → StandsForFrames (contents last.writer) last.is_broken told messages
+
+  -- Where no write failed, that is for each message its length in decimal digits, a space and its bytes.
+  abbrev pub HasFramesOfAll : Type 0
+  HasFramesOfAll =
+      (first last : Framing W) (told : List ℕ) (messages : List Said) → first.is_broken ≡ false → contents first.writer ≡ Some told
+      → Offers first messages last → last.is_broken ≡ false
+      → contents last.writer ≡ Some (told ++ flat_map (λ m. decimal (length m.raw) ++ 32 ∷ m.raw) messages)

@@ -1,5 +1,5 @@
 //! What takes messages, and why it may not.
-ghost use Rattle.std.specs.Prelude.{◌≡◌, ◌≤◌, ℕ, List, Result, ⊤, Some, OnOk, OnErr};
+ghost use Rattle.std.specs.Prelude.{◌≡◌, ◌≢◌, ◌≤◌, ℕ, List, Result, ⊤, Some, IfErr, OnOk, OnErr};
 ghost use Rattle.std.specs.Arc.{arc_value};
 ghost use Rattle.sy_wire.specs.Messages.{Said};
 ghost use Rattle.sy_wire.specs.Streams.{Rose};
@@ -21,7 +21,7 @@ pub enum DeviceFault {
     Broken,
     /// Memory ran out.
     NoMemory,
-    /// As many receipts were made as can be counted. Nothing was offered.
+    /// As many receipts were made as can be counted. Nothing was offered: a hatch says it, and no device.
     CountFull,
 }
 
@@ -80,7 +80,8 @@ pub trait Device: Drop {
         ensures kept { OnErr result (MayTake (stands_for self.old) (stands_for self.new) (arc_value message.now)) }
         ensures cause { OnErr result (Rose (faults self.old) (faults self.new)) }
         ensures count { faults self.old ≤ faults self.new }
-        ensures offered { offered self.old (arc_value message.now) result self.new };
+        ensures offered { offered self.old (arc_value message.now) result self.new }
+        ensures own { IfErr result (λ f. f ≢ DeviceFault.CountFull) };
 }
 
 impl Device for Box<dyn Device + Send> {

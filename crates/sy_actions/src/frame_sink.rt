@@ -3,7 +3,8 @@ ghost use Rattle.std.specs.Prelude.{◌≡◌, ◌≤◌, ◌++◌, false, true,
 ghost use Rattle.std.specs.Io.KnownBytes.{Appends, Keeps};
 ghost use Rattle.sy_wire.specs.Frames.{IsSize, frame};
 ghost use Rattle.sy_wire.specs.Streams.{Rose, count_after};
-ghost use Rattle.sy_actions.specs.FrameSinks.{AppendsFront, HasFramesTaken, OffersFrame, StandsForFrames};
+ghost use Rattle.sy_actions.specs.FrameSinks.{AppendsFront, OffersFrame, StandsForFrames};
+ghost use Rattle.sy_actions.specs.FrameSinks.{HasFramesOfAll, HasFramesTaken};
 
 use crate::device::{Device, DeviceFault};
 use std::alloc::{AllocError, Global};
@@ -167,7 +168,9 @@ impl<W: Sink + Drop> Device for FrameSink<W> {
 }
 
 /// Since its writer came, a sink has written the frames of the messages that were taken, in order, and after a write
-/// that failed a proper prefix of one more. The function does nothing, and its contract is the law.
+/// that failed a proper prefix of one more; where none failed, that is for each message its length in decimal digits, a
+/// space and its bytes. The function does nothing, and its contract is the law.
 pub fn frames_are_those_taken<W: Sink>()
-    ensures { HasFramesTaken W.contents W.faults }
+    ensures frames { HasFramesTaken W.contents W.faults }
+    ensures of_all { HasFramesOfAll W.contents W.faults }
 {}

@@ -64,7 +64,7 @@ impl<D: Device> Hatch<D> {
     }
 
     /// Offers a message to the device: a receipt where it took it, else a failure with the device's fault. Where no
-    /// more receipts can be counted the fault is `CountFull`, and nothing was offered.
+    /// more receipts can be counted, and only there, the fault is `CountFull`, and nothing was offered.
     pub fn deliver(&mut self, message: Arc<Message>) -> Result<Receipt, Failure>
         ensures number { self.new.number ≡ self.old.number }
         ensures receipt { IfOk result (λ r. r ≡ record { device = self.old.number; message = arc_value message }) }
@@ -78,6 +78,9 @@ impl<D: Device> Hatch<D> {
             × MayTake (D.stands_for self.old.device) (D.stands_for self.new.device) (arc_value message)
             × D.offered self.old.device (arc_value message) (Err f.fault) self.new.device)
             ⊎ ((f.fault ≡ DeviceFault.CountFull) × (self.old.made + 1 ≡ 2 ^ 64) × (self.new ≡ self.old))) }
+        ensures full { self.old.made + 1 ≡ 2 ^ 64 →
+            IfErr result (λ f. f.fault ≡ DeviceFault.CountFull) × (self.new ≡ self.old) }
+        ensures full_only { IfErr result (λ f. f.fault ≡ DeviceFault.CountFull → self.old.made + 1 ≡ 2 ^ 64) }
         ensures count { D.faults self.old.device ≤ D.faults self.new.device }
     {
         if self.made == u64::MAX {

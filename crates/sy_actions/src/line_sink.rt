@@ -4,6 +4,7 @@ ghost use Rattle.std.specs.Arc.{arc_value};
 ghost use Rattle.std.specs.Io.KnownBytes.{Appends, Keeps};
 ghost use Rattle.sy_wire.specs.Streams.{Rose, count_after};
 ghost use Rattle.sy_actions.specs.Lines.{IsTorn, NotEnded, Offered, StandsFor, line};
+ghost use Rattle.sy_actions.specs.LineTexts.{HasLinesOfAll, HasLinesTaken, StandsForOffers};
 ghost use Rattle.sy_actions.specs.internal.Ready.{Ready};
 
 use crate::device::{Device, DeviceFault};
@@ -199,3 +200,18 @@ impl<W: Sink + Drop> Device for LineSink<W> {
         answer
     }
 }
+
+/// Since it was made, a sink has written whole lines of the messages that were taken, in order; between them beginnings
+/// of lines, neither empty nor whole, each ended by one line feed, only where a write failed and another message was
+/// offered next; and at the end at most one such beginning. Where each message was taken, that is the bytes of each and
+/// a line feed. The function does nothing, and its contract is the law.
+pub fn lines_are_those_taken<W: Sink>()
+    ensures lines { HasLinesTaken W.contents W.faults }
+    ensures of_all { HasLinesOfAll W.contents W.faults }
+{}
+
+/// What a sink stands for is what such offers write of which just those messages were taken: so a sink that is known by
+/// its device's clauses alone has written that. The function does nothing, and its contract is the law.
+pub fn lines_stand_for_offers()
+    ensures { StandsForOffers }
+{}

@@ -3,9 +3,10 @@ use crate::chain::message;
 use std::alloc::{AllocError, Global};
 use std::io::{self, ErrorKind, Write};
 use std::process::Abort;
+use std::sync::Arc;
 use std::test::Fail;
 use sy_actions::{Device, FrameSink, LineSink};
-use sy_wire::FromWrite;
+use sy_wire::{Buffered, FromWrite, Message};
 
 const A: &[u8] = b"<34>1 - - - - - -";
 
@@ -28,14 +29,24 @@ struct Torn {
     bytes: Vec<u8>,
     room: usize,
     failing: u32,
+    // the writes that took bytes, and the flushes
+    writes: u32,
+    flushes: u32,
 }
 
 impl Torn {
     fn new(alloc: Global, room: usize, failing: u32) -> FromWrite<Torn> {
+        Torn::into(Vec::new(alloc), room, failing)
+    }
+
+    // The same with its memory.
+    fn into(bytes: Vec<u8>, room: usize, failing: u32) -> FromWrite<Torn> {
         FromWrite::new(Torn {
-            bytes: Vec::new(alloc),
+            bytes,
             room,
             failing,
+            writes: 0,
+            flushes: 0,
         })
     }
 }
@@ -53,10 +64,12 @@ impl Write for Torn {
         }
         self.bytes.extend_from_slice(&buf[..most])?;
         self.room = self.room.saturating_sub(most);
+        self.writes = self.writes.saturating_add(1);
         Ok(most)
     }
 
     fn flush(&mut self) -> io::Result<()> {
+        self.flushes = self.flushes.saturating_add(1);
         Ok(())
     }
 }
@@ -67,19 +80,35 @@ fn taken(writer: FromWrite<Torn>) -> Vec<u8> {
         bytes,
         room: _,
         failing: _,
+        writes: _,
+        flushes: _,
     } = writer.into_inner();
     bytes
 }
 
-// The number of the fault that a message is answered, 0 where it is taken.
-fn answer(alloc: Global, device: &mut impl Device, raw: &[u8]) -> Result<u8, AllocError> {
-    let Some(message) = message(alloc, raw) else {
-        return Err(AllocError);
-    };
-    Ok(match device.offer(&message) {
+// How many writes took bytes, and how many flushes came.
+fn calls(writer: FromWrite<Torn>) -> (u32, u32) {
+    let inner = writer.into_inner();
+    (inner.writes, inner.flushes)
+}
+
+fn read(alloc: Global, raw: &[u8]) -> Result<Arc<Message>, AllocError> {
+    match message(alloc, raw) {
+        Some(message) => Ok(message),
+        None => Err(AllocError),
+    }
+}
+
+fn offered(device: &mut impl Device, message: &Arc<Message>) -> u8 {
+    match device.offer(message) {
         Ok(()) => 0,
         Err(fault) => fault.number(),
-    })
+    }
+}
+
+// The number of the fault that a message is answered, 0 where it is taken.
+fn answer(alloc: Global, device: &mut impl Device, raw: &[u8]) -> Result<u8, AllocError> {
+    Ok(offered(device, &read(alloc, raw)?))
 }
 
 /// Messages that are offered, each with the number of its fault, 0 where it is taken.
@@ -181,12 +210,21 @@ fn insists(rt: &impl Abort, alloc: Global, count: usize) -> Result<(), AllocErro
     Ok(())
 }
 
+// The answer to a message whose line goes from there to there, where a write fails after so many bytes.
+fn answer_at(count: usize, start: usize, end: usize) -> u8 {
+    if start <= count && count < end { 91 } else { 0 }
+}
+
 // Writes them with each message offered once: the line in which the fault falls ends there.
 fn goes_on(rt: &impl Abort, alloc: Global, count: usize) -> Result<(), AllocError> {
     let mut sink = LineSink::new(alloc, Torn::new(alloc, count, 1));
-    for raw in [A, B, C] {
-        let _answer = answer(alloc, &mut sink, raw)?;
-    }
+    let [first, second, third] = LINE_ENDS;
+    let offers = [
+        (A, answer_at(count, 0, first)),
+        (B, answer_at(count, first, second)),
+        (C, answer_at(count, second, third)),
+    ];
+    are_answered(rt, alloc, &mut sink, &offers)?;
     let (end, is_within) = end_after(&LINE_ENDS, count);
     assert!(rt; count <= LINES.len() && end <= LINES.len());
     let mut wanted = LINES[..count].to_vec(alloc)?;
@@ -257,5 +295,121 @@ fn a_frame_that_is_too_long(rt: HostRuntime) -> Result<(), Fail> {
     assert_eq!(&rt; answer(alloc, &mut sink, A)?, 0);
     let bytes = taken(sink.renew(Torn::new(alloc, 0, 0)));
     assert_eq!(&rt; bytes.len(), 6 + 65536 + 20);
+    Ok(())
+}
+
+const ALL: Offers<'static> = &[(A, 0), (B, 0), (C, 0)];
+
+// A line and a frame each go out in one write where the writer takes all, and a flush reaches it.
+#[test]
+fn each_message_in_one_write(rt: HostRuntime) -> Result<(), Fail> {
+    let alloc = rt.alloc();
+    let mut lines = LineSink::new(alloc, Torn::new(alloc, 0, 0));
+    are_answered(&rt, alloc, &mut lines, ALL)?;
+    assert!(rt; lines.flush().is_ok() && calls(lines.into_writer()) == (3, 1));
+    let mut frames = FrameSink::new(alloc, Torn::new(alloc, 0, 0));
+    are_answered(&rt, alloc, &mut frames, ALL)?;
+    assert!(rt; frames.flush().is_ok() && calls(frames.renew(Torn::new(alloc, 0, 0))) == (3, 1));
+    Ok(())
+}
+
+/// After how many bytes the writer below a buffer fails, at how many writes; whether two flushes succeed; and the bytes
+/// in the end.
+type Flushes<'a> = (usize, u32, [bool; 2], &'a [u8]);
+
+static LINE_FLUSHES: [Flushes; 3] = [
+    (0, 0, [true, true], LINES),
+    (10, 1, [false, true], LINES),
+    (10, 2, [false, false], b"<34>1 - - "),
+];
+
+static FRAME_FLUSHES: [Flushes; 3] = [
+    (0, 0, [true, true], FRAMES),
+    (10, 1, [false, true], FRAMES),
+    (10, 2, [false, false], b"17 <34>1 -"),
+];
+
+// Lines are taken by a buffer whose writer fails, and what a flush hands on reaches the writer.
+fn flushes_lines(rt: &impl Abort, alloc: Global, row: &Flushes) -> Result<(), AllocError> {
+    let mut writer = Torn::new(alloc, row.0, row.1);
+    let mut sink = LineSink::new(alloc, Buffered::with_capacity(alloc, 100, &mut writer)?);
+    are_answered(rt, alloc, &mut sink, ALL)?;
+    let answers = [sink.flush().is_ok(), sink.flush().is_ok()];
+    drop(sink);
+    assert!(rt; answers == row.2 && taken(writer).as_slice() == row.3);
+    Ok(())
+}
+
+fn flushes_frames(rt: &impl Abort, alloc: Global, row: &Flushes) -> Result<(), AllocError> {
+    let mut writer = Torn::new(alloc, row.0, row.1);
+    let mut sink = FrameSink::new(alloc, Buffered::with_capacity(alloc, 100, &mut writer)?);
+    are_answered(rt, alloc, &mut sink, ALL)?;
+    let answers = [sink.flush().is_ok(), sink.flush().is_ok()];
+    drop(sink);
+    assert!(rt; answers == row.2 && taken(writer).as_slice() == row.3);
+    Ok(())
+}
+
+#[test]
+fn flushes_of_a_buffer_below(rt: HostRuntime) -> Result<(), Fail> {
+    for row in &LINE_FLUSHES {
+        flushes_lines(&rt, rt.alloc(), row)?;
+    }
+    for row in &FRAME_FLUSHES {
+        flushes_frames(&rt, rt.alloc(), row)?;
+    }
+    Ok(())
+}
+
+// Offers a message, and again where memory was refused. Whether the last answer is this one: 0, or the fault's number.
+fn ends_with(device: &mut impl Device, message: &Arc<Message>, wanted: u8) -> bool {
+    let first = offered(device, message);
+    if first == 93 {
+        offered(device, message) == wanted
+    } else {
+        first == wanted
+    }
+}
+
+#[test]
+fn lines_where_memory_is_refused(rt: HostRuntime) -> Result<(), Fail> {
+    let alloc = rt.alloc();
+    let (a, b, c) = (read(alloc, A)?, read(alloc, B)?, read(alloc, C)?);
+    let mut sink = LineSink::new(alloc, Torn::into(Vec::with_capacity(alloc, 100)?, 0, 0));
+    assert!(rt;
+        ends_with(&mut sink, &a, 0) && ends_with(&mut sink, &b, 0) && ends_with(&mut sink, &c, 0)
+    );
+    assert_eq!(rt; taken(sink.into_writer()).as_slice(), LINES);
+    Ok(())
+}
+
+// Where the sink finds no memory for a line, another that was torn is ended, and the message that it was of begins anew.
+#[test]
+fn a_line_after_a_torn_one_where_memory_is_refused(rt: HostRuntime) -> Result<(), Fail> {
+    let alloc = rt.alloc();
+    let (a, c) = (read(alloc, A)?, read(alloc, C)?);
+    let mut sink = LineSink::new(alloc, Torn::into(Vec::with_capacity(alloc, 100)?, 10, 1));
+    assert!(rt; ends_with(&mut sink, &a, 91));
+    let wanted: &[u8] = if offered(&mut sink, &c) == 93 {
+        b"<34>1 - - \n<34>1 - - - - - -\n"
+    } else {
+        b"<34>1 - - \n<191>1 - - - - - - c\n<34>1 - - - - - -\n"
+    };
+    assert!(rt; ends_with(&mut sink, &a, 0));
+    assert_eq!(rt; taken(sink.into_writer()).as_slice(), wanted);
+    Ok(())
+}
+
+// A sink of frames finds another way where there is no memory, and takes each message all the same.
+#[test]
+fn frames_where_memory_is_refused(rt: HostRuntime) -> Result<(), Fail> {
+    let alloc = rt.alloc();
+    let (a, b, c) = (read(alloc, A)?, read(alloc, B)?, read(alloc, C)?);
+    let mut sink = FrameSink::new(alloc, Torn::into(Vec::with_capacity(alloc, 100)?, 0, 0));
+    assert!(rt;
+        offered(&mut sink, &a) == 0 && offered(&mut sink, &b) == 0 && offered(&mut sink, &c) == 0
+    );
+    let old = sink.renew(Torn::new(alloc, 0, 0));
+    assert_eq!(rt; taken(old).as_slice(), FRAMES);
     Ok(())
 }
