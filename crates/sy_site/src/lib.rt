@@ -1,2 +1,8 @@
 //! A set of relays: the site that one site file and the relays' scripts describe, and its machine of nine steps.
 #![tactic(auto)]
+
+pub mod fault;
+mod texts;
+
+pub use fault::{RelayFault, SiteFault};
+pub use texts::names::file_names;

@@ -1,0 +1,2 @@
+-- What private functions say.
+pub mod Lines

@@ -1,0 +1,5 @@
+//! The text of a site file.
+
+pub mod lines;
+pub mod names;
+pub mod shapes;
