@@ -2,4 +2,5 @@
 pub mod Lines
 pub mod Shapes
 pub mod Files
+pub mod Describes
 pub mod Faults

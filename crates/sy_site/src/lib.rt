@@ -2,6 +2,7 @@
 #![tactic(auto)]
 
 pub mod fault;
+pub mod laws;
 mod texts;
 
 pub use fault::{RelayFault, SiteFault};

@@ -1,3 +1,4 @@
 pub mod Cutting
 pub mod Addresses
 pub mod Noted
+pub mod OneSite

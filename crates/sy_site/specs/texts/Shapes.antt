@@ -74,11 +74,11 @@ pub record IsProtectLine (line : List (List ℕ)) (it : ProtectLine) : Type 0 wh
   pub selector : IsSetOf selector_word it.selector
 
 pub data Line : Type 0 where
-  relay : RelayLine → Line
-  entry : EntryLine → Line
-  protect : ProtectLine → Line
+  Relay : RelayLine → Line
+  Entry : EntryLine → Line
+  Protect : ProtectLine → Line
 
 abbrev pub IsLine : List (List ℕ) → Line → Type 0
-IsLine line (relay it) = IsRelayLine line it
-IsLine line (entry it) = IsEntryLine line it
-IsLine line (protect it) = IsProtectLine line it
+IsLine line (Relay it) = IsRelayLine line it
+IsLine line (Entry it) = IsEntryLine line it
+IsLine line (Protect it) = IsProtectLine line it
