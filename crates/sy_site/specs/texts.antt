@@ -3,4 +3,5 @@ pub mod Lines
 pub mod Shapes
 pub mod Files
 pub mod Describes
+pub mod HasFault
 pub mod Faults

@@ -1,4 +1,4 @@
 pub mod Cutting
-pub mod Addresses
+pub mod Shaped
 pub mod Noted
 pub mod OneSite

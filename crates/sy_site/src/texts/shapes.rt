@@ -1,18 +1,24 @@
 //! The shapes of lines.
 
-ghost use Rattle.std.specs.Prelude.{◌≡◌, ◌∷◌, ℕ, List, IfSome, IfNone, codes};
+ghost use Rattle.std.specs.Prelude.{◌≡◌, ◌∷◌, [], ℕ, List, IfSome, IfNone, codes};
 ghost use Rattle.std.specs.List.{list_all};
 ghost use Rattle.std.specs.Net.Addr.{ipv4_octets};
+ghost use Rattle.sy_select.specs.Selectors.{IsSetOf};
 ghost use Rattle.sy_site.specs.texts.Lines.{words};
 ghost use Rattle.sy_site.specs.texts.Shapes as spec;
-ghost use Rattle.sy_site.specs.internal.Lines.{relay_line_of};
+ghost use Rattle.sy_site.specs.internal.Lines.{entry_line_of, protect_line_of, relay_line_of};
 
 use crate::texts::lines::next_word;
+use std::alloc::Global;
 use std::net::Ipv4Addr;
 use std::str;
+use sy_select::Selector;
 
 /// The most bytes of a relay's name.
 const NAME_BYTES: usize = 64;
+
+/// The most digits of a port.
+const PORT_DIGITS: usize = 10;
 
 /// What a relay line says.
 #[derive(Clone, Copy)]
@@ -20,6 +26,29 @@ pub struct RelayLine<'t> {
     pub name: &'t [u8],
     pub file: &'t str,
     pub address: Ipv4Addr,
+}
+
+/// What an entry line says.
+#[derive(Clone, Copy)]
+pub struct EntryLine<'t> {
+    pub relay: &'t [u8],
+    pub port: u64,
+}
+
+/// What a protect line says.
+#[derive(Drop)]
+pub struct ProtectLine<'t> {
+    pub selector: Selector,
+    pub relay: &'t [u8],
+    pub action: &'t [u8],
+}
+
+/// A line of one of the three shapes.
+#[derive(Drop)]
+pub enum Line<'t> {
+    Relay(RelayLine<'t>),
+    Entry(EntryLine<'t>),
+    Protect(ProtectLine<'t>),
 }
 
 fn is_name_byte(byte: u8) -> bool
@@ -76,5 +105,76 @@ pub fn relay_line(behind: &[u8]) -> Option<RelayLine<'_>>
         })
     } else {
         None
+    }
+}
+
+#[tactic(auto, unfolding(crate::specs::texts::Shapes::port_of))]
+fn port(word: &[u8]) -> Option<u64>
+    ensures { result ≡ spec.port_of word.now }
+{
+    if word.is_empty() || word.len() > PORT_DIGITS || word[0] == b'0' {
+        return None;
+    }
+    let mut number = 0;
+    for digit in word {
+        if !digit.is_ascii_digit() {
+            return None;
+        }
+        number = number * 10 + u64::from(*digit - b'0');
+    }
+    Some(number)
+}
+
+// The two words that a text is.
+fn two_words(text: &[u8]) -> Option<(&[u8], &[u8])>
+    ensures some { IfSome result (λ r. words text.now ≡ r.0.now ∷ r.1.now ∷ []) }
+    ensures none { IfNone result ((a b : List ℕ) → words text.now ≡ a ∷ b ∷ [] → ⊥) }
+{
+    let (first, rest) = next_word(text)?;
+    let (second, rest) = next_word(rest)?;
+    match next_word(rest) {
+        Some(_) => None,
+        None => Some((first, second)),
+    }
+}
+
+/// What an entry line says, of the text behind its first word.
+pub fn entry_line(behind: &[u8]) -> Option<EntryLine<'_>>
+    ensures some { IfSome result (λ it. spec.IsEntryLine (codes "entry" ∷ words behind.now) (entry_line_of it)) }
+    ensures none { IfNone result ((it : spec.EntryLine) → spec.IsEntryLine (codes "entry" ∷ words behind.now) it
+        → ⊥) }
+{
+    let (relay, word) = two_words(behind)?;
+    let port = port(word)?;
+    Some(EntryLine { relay, port })
+}
+
+// The selector that a word is.
+fn selector(alloc: Global, word: &[u8]) -> Option<Selector>
+    ensures some { IfSome result (λ sets. IsSetOf word.now sets) }
+    ensures none { IfNone result ((sets : List ℕ) → IsSetOf word.now sets → ⊥) }
+{
+    match Selector::read(alloc, word) {
+        Ok(selector) => Some(selector),
+        Err(_fault) => None,
+    }
+}
+
+/// What a protect line says, of the text behind its first word. Memory that is missing is no refusal: it would only be for a fault's word.
+pub fn protect_line(alloc: Global, behind: &[u8]) -> Option<ProtectLine<'_>>
+    ensures some { IfSome result (λ it. spec.IsProtectLine (codes "protect" ∷ words behind.now)
+        (protect_line_of it)) }
+    ensures none { IfNone result ((it : spec.ProtectLine) → spec.IsProtectLine (codes "protect" ∷ words behind.now) it
+        → ⊥) }
+{
+    let (word, behind) = next_word(behind)?;
+    let (relay, action) = two_words(behind)?;
+    match selector(alloc, word) {
+        Some(selector) => Some(ProtectLine {
+            selector,
+            relay,
+            action,
+        }),
+        None => None,
     }
 }

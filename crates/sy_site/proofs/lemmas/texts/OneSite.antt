@@ -7,6 +7,7 @@ use Rattle.std.proofs.lemmas.Bool.{false≢true}
 use Rattle.sy_script.proofs.ReadBackStmt as script
 use Rattle.sy_select.proofs.OneExpr.{one_set}
 use Rattle.sy_rules.proofs.lemmas.parts.OnePlan.{one_plan}
+use Rattle.sy_site.proofs.lemmas.texts.Shaped.{behind_first, first_same}
 use Rattle.sy_site.specs.Sites.{Site, Relay, Protection}
 use Rattle.sy_site.specs.texts.Shapes.{Line, RelayLine, EntryLine, ProtectLine, IsLine, IsAddress, IsRelayLine, IsEntryLine, IsProtectLine}
 use Rattle.sy_site.specs.texts.Describes.{AllPaired, AreLines, Describes, File, IsEntry, IsProtection, IsRelay, archive_of, entry_of}
@@ -27,12 +28,6 @@ one_address : (behind : List (List ℕ)) (a b : List ℕ) → IsAddress behind a
 one_address [] a b is_a is_b = is_a ∙ sym is_b
 one_address (word ∷ []) a b is_a is_b = one_dotted word a b is_a is_b
 one_address (word ∷ next ∷ later) a b is_a is_b = absurd is_a
-
-behind_first : {x y : List ℕ} {xs ys : List (List ℕ)} → x ∷ xs ≡ y ∷ ys → xs ≡ ys
-behind_first e = cc
-
-first_same : {x y : List ℕ} {xs ys : List (List ℕ)} → x ∷ xs ≡ y ∷ ys → x ≡ y
-first_same e = cc
 
 one_relay_line : (words : List (List ℕ)) (a b : RelayLine) → IsRelayLine words a → IsRelayLine words b → a ≡ b
 one_relay_line words a b is_a is_b = same a b parts.0 parts.1 (one_address is_a.behind a.address b.address is_a.address (rw parts.2 is_b.address))

@@ -1,5 +1,5 @@
 use Rattle.std.proofs.Common.{◌∙◌, ap, ◌∷◌}
-use Rattle.sy_site.proofs.lemmas.texts.Addresses.{no_address}
+use Rattle.sy_site.proofs.lemmas.texts.Shaped.{no_address}
 use Rattle.sy_site.proofs.texts.shapes.address.Goals as goal
 
 pub returns-in-Err-clause-none : goal.returns-in-Err-clause-none
