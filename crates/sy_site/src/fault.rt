@@ -15,10 +15,12 @@ pub enum RelayFault {
     Plan(PlanFault),
 }
 
-/// The faults of a site file and its relays' files, with the line of the site file, counted from 1. Their numbers are those of `number`.
+/// The faults of a site file and its relays' files, with the line of the site file, counted from 1. Their numbers
+/// are those of `number`.
 #[derive(Debug, Drop)]
 pub enum SiteFault {
-    /// A line of no shape, one more than the most of its kind, or one with a relay that isn't there. A text that is too long is one in line 1.
+    /// A line of no shape, one more than the most of its kind, or one with a relay that isn't there. A text that is
+    /// too long is one in line 1.
     Line(usize),
     /// A relay's name, or an entry or protect line, given a second time.
     Duplicate(usize),

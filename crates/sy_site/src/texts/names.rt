@@ -32,8 +32,8 @@ fn is_among(names: &[String], name: &str) -> bool
 
 // Puts a name behind the others, where it isn't one of them.
 fn put(alloc: Global, names: &mut Vec<String>, name: &str) -> Result<(), AllocError>
-    ensures { OnOk result (map string_bytes names.new.items ≡ (if spec.is_among name.now (map string_bytes names.old.items)
-        then map string_bytes names.old.items else map string_bytes names.old.items ++ name.now ∷ [])) }
+    ensures { OnOk result (map string_bytes names.new.items
+        ≡ spec.with_names (map string_bytes names.old.items) (name.now ∷ [])) }
 {
     if is_among(names.as_slice(), name) {
         return Ok(());
@@ -91,9 +91,9 @@ fn note(alloc: Global, names: &mut Vec<String>, relays: usize, line: &[u8]) -> R
     }
 }
 
-/// The files that the relay lines of a site file name, each once in the order of their first mention. Refuses a text that is too long, or
-/// else the first relay line that has not its shape or is one too many; a fault of any other line is none here. It takes time linear in the
-/// text, and for each relay line a look at the names before it.
+/// The files that the relay lines of a site file name, each once in the order of their first mention. Refuses a text
+/// that is too long, or else the first relay line that has not its shape or is one too many; a fault of any other
+/// line is none here. It takes time linear in the text, and for each relay line a look at the names before it.
 pub fn file_names(alloc: Global, text: &[u8]) -> Result<Vec<String>, SiteFault>
     ensures names { IfOk result (λ names. map string_bytes names.items ≡ spec.file_names text.now) }
     ensures clean { OnOk result ((n : ℕ) → spec.HasRelayFault text.now n → ⊥) }

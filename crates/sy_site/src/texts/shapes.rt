@@ -4,11 +4,12 @@ ghost use Rattle.std.specs.Prelude.{◌≡◌, ◌∷◌, [], ℕ, List, IfSome,
 ghost use Rattle.std.specs.List.{list_all};
 ghost use Rattle.std.specs.Net.Addr.{ipv4_octets};
 ghost use Rattle.sy_select.specs.Selectors.{IsSetOf};
+ghost use Rattle.sy_site.specs.texts.Lines as lines;
 ghost use Rattle.sy_site.specs.texts.Lines.{words};
 ghost use Rattle.sy_site.specs.texts.Shapes as spec;
-ghost use Rattle.sy_site.specs.internal.Lines.{entry_line_of, protect_line_of, relay_line_of};
+ghost use Rattle.sy_site.specs.internal.Lines.{entry_line_of, line_of, protect_line_of, relay_line_of};
 
-use crate::texts::lines::next_word;
+use crate::texts::lines::{behind_word, next_word};
 use std::alloc::Global;
 use std::net::Ipv4Addr;
 use std::str;
@@ -160,7 +161,8 @@ fn selector(alloc: Global, word: &[u8]) -> Option<Selector>
     }
 }
 
-/// What a protect line says, of the text behind its first word. Memory that is missing is no refusal: it would only be for a fault's word.
+/// What a protect line says, of the text behind its first word. Memory that is missing is no refusal: it would only be
+/// for the word of a fault.
 pub fn protect_line(alloc: Global, behind: &[u8]) -> Option<ProtectLine<'_>>
     ensures some { IfSome result (λ it. spec.IsProtectLine (codes "protect" ∷ words behind.now)
         (protect_line_of it)) }
@@ -177,4 +179,64 @@ pub fn protect_line(alloc: Global, behind: &[u8]) -> Option<ProtectLine<'_>>
         }),
         None => None,
     }
+}
+
+// The line that begins with `relay`.
+fn relay(behind: &[u8]) -> Option<Line<'_>>
+    ensures some { IfSome result (λ it. spec.IsLine (codes "relay" ∷ words behind.now) (line_of it)) }
+    ensures none { IfNone result ((it : spec.Line) → spec.IsLine (codes "relay" ∷ words behind.now) it → ⊥) }
+{
+    match relay_line(behind) {
+        Some(it) => Some(Line::Relay(it)),
+        None => None,
+    }
+}
+
+// The line that begins with `entry`.
+fn entry(behind: &[u8]) -> Option<Line<'_>>
+    ensures some { IfSome result (λ it. spec.IsLine (codes "entry" ∷ words behind.now) (line_of it)) }
+    ensures none { IfNone result ((it : spec.Line) → spec.IsLine (codes "entry" ∷ words behind.now) it → ⊥) }
+{
+    match entry_line(behind) {
+        Some(it) => Some(Line::Entry(it)),
+        None => None,
+    }
+}
+
+// The line that begins with `protect`.
+fn protect(alloc: Global, behind: &[u8]) -> Option<Line<'_>>
+    ensures some { IfSome result (λ it. spec.IsLine (codes "protect" ∷ words behind.now) (line_of it)) }
+    ensures none { IfNone result ((it : spec.Line) → spec.IsLine (codes "protect" ∷ words behind.now) it → ⊥) }
+{
+    match protect_line(alloc, behind) {
+        Some(it) => Some(Line::Protect(it)),
+        None => None,
+    }
+}
+
+/// Whether a line is skipped: it has no words, or is a comment.
+pub fn is_skipped(line: &[u8]) -> bool
+    ensures { result ≡ lines.is_skipped (words line.now) }
+{
+    match next_word(line) {
+        Some((word, _)) => word.first() == Some(&b'#'),
+        None => true,
+    }
+}
+
+/// The line of one of the three shapes that a text is.
+pub fn read_line(alloc: Global, line: &[u8]) -> Option<Line<'_>>
+    ensures some { IfSome result (λ it. spec.IsLine (words line.now) (line_of it)) }
+    ensures none { IfNone result ((it : spec.Line) → spec.IsLine (words line.now) it → ⊥) }
+{
+    if let Some(behind) = behind_word(line, b"relay") {
+        return relay(behind);
+    }
+    if let Some(behind) = behind_word(line, b"entry") {
+        return entry(behind);
+    }
+    if let Some(behind) = behind_word(line, b"protect") {
+        return protect(alloc, behind);
+    }
+    None
 }

@@ -34,8 +34,10 @@ one_relay_line words a b is_a is_b = same a b parts.0 parts.1 (one_address is_a.
   where
     both : codes "relay" ∷ a.name ∷ a.file ∷ is_a.behind ≡ codes "relay" ∷ b.name ∷ b.file ∷ is_b.behind
     both = sym is_a.whole ∙ is_b.whole
+
     parts : (a.name ≡ b.name) × (a.file ≡ b.file) × (is_a.behind ≡ is_b.behind)
     parts = (first_same (behind_first both), first_same (behind_first (behind_first both)), behind_first (behind_first (behind_first both)))
+
     same : (p q : RelayLine) → p.name ≡ q.name → p.file ≡ q.file → p.address ≡ q.address → p ≡ q
     same p q n f d = λ i. record { name = n i; file = f i; address = d i }
 
@@ -44,10 +46,13 @@ one_entry_line words a b is_a is_b = λ i. record { relay = relay i; port = port
   where
     both : codes "entry" ∷ a.relay ∷ is_a.port_word ∷ [] ≡ codes "entry" ∷ b.relay ∷ is_b.port_word ∷ []
     both = sym is_a.whole ∙ is_b.whole
+
     relay : a.relay ≡ b.relay
     relay = first_same (behind_first both)
+
     word : is_a.port_word ≡ is_b.port_word
     word = first_same (behind_first (behind_first both))
+
     port : a.port ≡ b.port
     port = one_value is_a.port (rw word is_b.port)
 
@@ -56,12 +61,16 @@ one_protect_line words a b is_a is_b = λ i. record { selector = selector i; rel
   where
     both : codes "protect" ∷ is_a.selector_word ∷ a.relay ∷ a.action ∷ [] ≡ codes "protect" ∷ is_b.selector_word ∷ b.relay ∷ b.action ∷ []
     both = sym is_a.whole ∙ is_b.whole
+
     word : is_a.selector_word ≡ is_b.selector_word
     word = first_same (behind_first both)
+
     relay : a.relay ≡ b.relay
     relay = first_same (behind_first (behind_first both))
+
     action : a.action ≡ b.action
     action = first_same (behind_first (behind_first (behind_first both)))
+
     selector : a.selector ≡ b.selector
     selector = one_set is_a.selector_word a.selector b.selector is_a.selector (rw word is_b.selector)
 
@@ -115,12 +124,16 @@ one_relay files it a b is_a is_b = λ i. record { name = name i; address = addre
   where
     name : a.name ≡ b.name
     name = is_a.name ∙ sym is_b.name
+
     address : a.address ≡ b.address
     address = is_a.address ∙ sym is_b.address
+
     bytes : is_a.bytes ≡ is_b.bytes
     bytes = one_value is_a.given is_b.given
+
     tree : is_a.script ≡ is_b.script
     tree = script.one_tree is_a.bytes is_a.script is_b.script is_a.is_script (rw bytes is_b.is_script)
+
     plan : a.plan ≡ b.plan
     plan = one_plan is_a.script a.plan b.plan is_a.is_plan (rw tree is_b.is_plan)
 
@@ -135,14 +148,18 @@ one_site text files a b is_a is_b = λ i. record { relays = relays i; entries = 
   where
     same_lines : is_a.lines ≡ is_b.lines
     same_lines = one_lines is_a.are_lines is_b.are_lines
+
     relays : a.relays ≡ b.relays
     relays = one_pairing (one_relay files) is_a.relays (rw same_lines is_b.relays)
+
     entries : a.entries ≡ b.entries
     entries = one_pairing {P = IsEntry a} {Q = IsEntry b} (λ it e f is_e is_f. one_value is_e (same_entries a b relays it ∙ is_f)) is_a.entries (rw same_lines is_b.entries)
+
     one_protection : (it : ProtectLine) (p q : Protection) → IsProtection a it p → IsProtection b it q → p ≡ q
     one_protection it p q is_p is_q =
         let selector = is_p.selector ∙ sym is_q.selector in
         let archive = one_value is_p.archive (same_archives a b relays it ∙ is_q.archive) in
         λ i. record { selector = selector i; archive = archive i }
+
     protections : a.protections ≡ b.protections
     protections = one_pairing one_protection is_a.protections (rw same_lines is_b.protections)
