@@ -3,15 +3,14 @@
 use Rattle.std.specs.Prelude.{◌≡◌, ℕ, ◌+◌, ◌<◌, ◌≤◌, List, ◌∷◌, ◌++◌, length, filter, Contains, Some, None, true, false, ◌&&◌, ◌==◌, codes}
 use Rattle.std.specs.List.{position}
 use Rattle.std.specs.Str.{bytes_eq}
-use Rattle.sy_script.specs.declared.fault.ScriptFault.{ScriptFault}
 use Rattle.sy_script.specs.declared.fault.FaultCode.TheVariants as script_code
 use Rattle.sy_script.specs.declared.tree.Script.{Script}
 use Rattle.sy_script.specs.Faults as script
 use Rattle.sy_script.specs.Grammar.{IsScript}
 use Rattle.sy_select.specs.Selectors.{holds}
-use Rattle.sy_rules.specs.declared.fault.PlanFault.{PlanFault}
 use Rattle.sy_rules.specs.check.FaultsThere as plan
 use Rattle.sy_rules.specs.PlanValue.{Plan, IsPlan}
+use Rattle.sy_site.specs.declared.fault.RelayFault.{RelayFault}
 use Rattle.sy_site.specs.declared.fault.RelayFault.TheVariants as why
 use Rattle.sy_site.specs.declared.fault.SiteFault.{SiteFault}
 use Rattle.sy_site.specs.declared.fault.SiteFault.TheVariants as fault
@@ -59,6 +58,11 @@ pub data IsOf : List (List ℕ) → List ℕ → Type 0 where
 abbrev pub IsEmpty : List ℕ → Type 0
 IsEmpty sets = (f s : ℕ) → f < 24 → s < 8 → holds sets f s ≡ false
 
+-- A relay's file is no script, or a script without a plan, with this fault. (That memory ran out is no fault of a file.)
+abbrev pub IsFileFault : List ℕ → RelayFault → Type 0
+IsFileFault bytes (why.Script f) = script.Stands bytes f × (f.code ≡ script_code.NoMemory → ⊥)
+IsFileFault bytes (why.Plan f) = (s : Script) × IsScript bytes s × plan.HasFault s f
+
 pub data HasFault (text : List ℕ) (files : List File) : SiteFault → Type 0 where
   -- 51: the text is too long
   too_long : BYTES < length text → HasFault text files (fault.Line 1)
@@ -87,8 +91,6 @@ pub data HasFault (text : List ℕ) (files : List File) : SiteFault → Type 0 w
   not_entered : ((line : List (List ℕ)) → Contains (word_lines text) line → is_kind (codes "entry") line ≡ false) → HasFault text files fault.NothingProtected
   not_protected : ((line : List (List ℕ)) (it : ProtectLine) → Contains (word_lines text) line → IsProtectLine line it → IsEmpty it.selector)
       → HasFault text files fault.NothingProtected
-  -- 57: a relay's file is no script, or a script without a plan
-  no_script : (before : List (List (List ℕ))) (line : List (List ℕ)) (it : RelayLine) (bytes : List ℕ) (f : ScriptFault) → Stands text before line → IsRelayLine line it
-      → file_named files it.file ≡ Some bytes → script.Stands bytes f → (f.code ≡ script_code.NoMemory → ⊥) → HasFault text files (fault.Relay (number before) it.name (why.Script f))
-  no_plan : (before : List (List (List ℕ))) (line : List (List ℕ)) (it : RelayLine) (bytes : List ℕ) (s : Script) (f : PlanFault) → Stands text before line
-      → IsRelayLine line it → file_named files it.file ≡ Some bytes → IsScript bytes s → plan.HasFault s f → HasFault text files (fault.Relay (number before) it.name (why.Plan f))
+  -- 57
+  no_plan : (before : List (List (List ℕ))) (line : List (List ℕ)) (it : RelayLine) (bytes : List ℕ) (f : RelayFault) → Stands text before line
+      → IsRelayLine line it → file_named files it.file ≡ Some bytes → IsFileFault bytes f → HasFault text files (fault.Relay (number before) it.name f)
