@@ -26,8 +26,10 @@ PROTECTIONS = 256
 -- Each line that is not skipped has a shape, and these are the lines in their order.
 pub data AreLines : List (List (List ℕ)) → List Line → Type 0 where
   none : AreLines [] []
-  skip : {words : List (List ℕ)} {later : List (List (List ℕ))} {lines : List Line} → is_skipped words ≡ true → AreLines later lines → AreLines (words ∷ later) lines
-  shaped : {words : List (List ℕ)} {later : List (List (List ℕ))} {it : Line} {lines : List Line} → is_skipped words ≡ false → IsLine words it → AreLines later lines
+  skip : {words : List (List ℕ)} {later : List (List (List ℕ))} {lines : List Line} → is_skipped words ≡ true → AreLines later lines
+      → AreLines (words ∷ later) lines
+  shaped : {words : List (List ℕ)} {later : List (List (List ℕ))} {it : Line} {lines : List Line} → is_skipped words ≡ false → IsLine words it
+      → AreLines later lines
       → AreLines (words ∷ later) (it ∷ lines)
 
 abbrev pub relay_lines : List Line → List RelayLine
@@ -88,7 +90,9 @@ is_archive (destination.Forward name port) = false
 
 -- the action of this name, where it writes a file
 abbrev pub archive_at : Site → List ℕ → ℕ → Option SiteAction
-archive_at site name relay = option_map (λ a. record { relay = relay; action = a }) (position (λ a. is_archive a.destination && bytes_eq a.name name) (plan_at site relay).actions)
+archive_at site name relay =
+    option_map (λ a. record { relay = relay; action = a })
+    (position (λ a. is_archive a.destination && bytes_eq a.name name) (plan_at site relay).actions)
 
 -- the archive of a protect line
 abbrev pub archive_of : Site → ProtectLine → Option SiteAction

@@ -55,7 +55,8 @@ pub record IsFaultyRelayLine (relays : ℕ) (line : List (List ℕ)) : Type 0 wh
 -- The text is too long, which is a fault of line 1, or has a faulty relay line. The number is that of the line, from 1.
 pub data HasRelayFault (text : List ℕ) : ℕ → Type 0 where
   too_long : BYTES < length text → HasRelayFault text 1
-  in_line : (before later : List (List (List ℕ))) {line : List (List ℕ)} → word_lines text ≡ before ++ line ∷ later → IsFaultyRelayLine (how_many before) line
+  in_line : (before later : List (List (List ℕ))) {line : List (List ℕ)} → word_lines text ≡ before ++ line ∷ later
+      → IsFaultyRelayLine (how_many before) line
       → HasRelayFault text (length before + 1)
 
 -- no earlier line has one

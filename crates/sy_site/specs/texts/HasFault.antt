@@ -67,30 +67,38 @@ pub data HasFault (text : List ℕ) (files : List File) : SiteFault → Type 0 w
   -- 51: the text is too long
   too_long : BYTES < length text → HasFault text files (fault.Line 1)
   -- a line has none of the three shapes
-  no_shape : (before : List (List (List ℕ))) (line : List (List ℕ)) → Stands text before line → is_skipped line ≡ false → ((it : Line) → IsLine line it → ⊥)
+  no_shape : (before : List (List (List ℕ))) (line : List (List ℕ)) → Stands text before line → is_skipped line ≡ false → ((it : Line)
+      → IsLine line it → ⊥)
       → HasFault text files (fault.Line (number before))
   -- a line is one more than the most of its kind
-  too_many : (before : List (List (List ℕ))) (line : List (List ℕ)) (kind : List ℕ) (most : ℕ) → Stands text before line → IsLimit kind most → is_kind kind line ≡ true
+  too_many : (before : List (List (List ℕ))) (line : List (List ℕ)) (kind : List ℕ) (most : ℕ) → Stands text before line → IsLimit kind most
+      → is_kind kind line ≡ true
       → most ≤ length (filter (is_kind kind) before) → HasFault text files (fault.Line (number before))
   -- an entry or a protect line names a relay that is not there
-  unknown : (before : List (List (List ℕ))) (line : List (List ℕ)) (name : List ℕ) → Stands text before line → IsOf line name → ((it : RelayLine) → Names text name it → ⊥)
+  unknown : (before : List (List (List ℕ))) (line : List (List ℕ)) (name : List ℕ) → Stands text before line → IsOf line name
+      → ((it : RelayLine) → Names text name it → ⊥)
       → HasFault text files (fault.Line (number before))
   -- 52
-  duplicate : (before : List (List (List ℕ))) (line : List (List ℕ)) → Stands text before line → IsDuplicate before line → HasFault text files (fault.Duplicate (number before))
+  duplicate : (before : List (List (List ℕ))) (line : List (List ℕ)) → Stands text before line → IsDuplicate before line
+      → HasFault text files (fault.Duplicate (number before))
   -- 53
-  no_file : (before : List (List (List ℕ))) (line : List (List ℕ)) (it : RelayLine) → Stands text before line → IsRelayLine line it → file_named files it.file ≡ None
+  no_file : (before : List (List (List ℕ))) (line : List (List ℕ)) (it : RelayLine) → Stands text before line → IsRelayLine line it
+      → file_named files it.file ≡ None
       → HasFault text files (fault.NoFile (number before))
   -- 54
-  no_entry : (before : List (List (List ℕ))) (line : List (List ℕ)) (it : EntryLine) (p : Plan) → Stands text before line → IsEntryLine line it → HasPlan text files it.relay p
+  no_entry : (before : List (List (List ℕ))) (line : List (List ℕ)) (it : EntryLine) (p : Plan) → Stands text before line
+      → IsEntryLine line it → HasPlan text files it.relay p
       → position (λ i. i.port == it.port) p.inputs ≡ None → HasFault text files (fault.NoSuchEntry (number before))
   -- 55
   no_archive : (before : List (List (List ℕ))) (line : List (List ℕ)) (it : ProtectLine) (p : Plan) → Stands text before line → IsProtectLine line it
       → HasPlan text files it.relay p → position (λ a. is_archive a.destination && bytes_eq a.name it.action) p.actions ≡ None
       → HasFault text files (fault.NoSuchArchive (number before))
   -- 56: there is no entry line, or no protect line's selector has a class
-  not_entered : ((line : List (List ℕ)) → Contains (word_lines text) line → is_kind (codes "entry") line ≡ false) → HasFault text files fault.NothingProtected
+  not_entered : ((line : List (List ℕ)) → Contains (word_lines text) line → is_kind (codes "entry") line ≡ false)
+      → HasFault text files fault.NothingProtected
   not_protected : ((line : List (List ℕ)) (it : ProtectLine) → Contains (word_lines text) line → IsProtectLine line it → IsEmpty it.selector)
       → HasFault text files fault.NothingProtected
   -- 57
   no_plan : (before : List (List (List ℕ))) (line : List (List ℕ)) (it : RelayLine) (bytes : List ℕ) (f : RelayFault) → Stands text before line
-      → IsRelayLine line it → file_named files it.file ≡ Some bytes → IsFileFault bytes f → HasFault text files (fault.Relay (number before) it.name f)
+      → IsRelayLine line it → file_named files it.file ≡ Some bytes → IsFileFault bytes f
+      → HasFault text files (fault.Relay (number before) it.name f)

@@ -1,19 +1,35 @@
 //! The files of relays, and the plans that they are.
 
-ghost use Rattle.std.specs.Prelude.{◌≡◌, ◌⊎◌, ℕ, List, IfOk, IfErr};
+ghost use Rattle.std.specs.Prelude.{◌≡◌, ◌⊎◌, ℕ, List, map, IfOk, IfErr};
+ghost use Rattle.std.specs.Option.{option_copied};
 ghost use Rattle.sy_script.specs.declared.tree.Script.{Script as Tree};
 ghost use Rattle.sy_script.specs.Grammar.{IsScript};
 ghost use Rattle.sy_script.specs.Faults.{Stands};
 ghost use Rattle.sy_rules.specs.check.FaultsThere.{HasFault};
 ghost use Rattle.sy_rules.specs.Faults.{no_memory};
 ghost use Rattle.sy_rules.specs.PlanValue.{IsPlan};
-ghost use Rattle.sy_site.specs.internal.Given.{IsRefused};
+ghost use Rattle.sy_site.specs.internal.Given.{IsRefused, file};
+ghost use Rattle.sy_site.specs.texts.Describes.{file_named};
 
 use crate::fault::RelayFault;
 use std::alloc::Global;
 use sy_rules::{FaultCode as PlanCode, Plan, PlanFault};
 use sy_script::tree::Script;
 use sy_script::{FaultCode as ScriptCode, ScriptFault, read_script};
+
+/// The bytes of the first file of a name.
+pub fn bytes_of<'f>(files: &[(&str, &'f [u8])], name: &str) -> Option<&'f [u8]>
+    ensures { option_copied result ≡ file_named (map (λ f. file f.0.now f.1.now) files.now) name.now }
+{
+    let mut rest = files;
+    while let [(first, bytes), behind @ ..] = rest {
+        if *first == name {
+            return Some(*bytes);
+        }
+        rest = behind;
+    }
+    None
+}
 
 /// Why a file is no plan, or that memory ran out.
 #[derive(Drop)]

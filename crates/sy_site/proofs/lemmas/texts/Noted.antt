@@ -86,14 +86,17 @@ no_words : (rest : List ℕ) → lines rest ≡ [] → word_lines rest ≡ []
 unfolding word_lines
 no_words rest e = ap (map words) e
 
-names_more : (names new : List (List ℕ)) (files later : List (List ℕ)) → new ≡ with_names names files → with_names new later ≡ with_names names (files ++ later)
+names_more : (names new : List (List ℕ)) (files later : List (List ℕ)) → new ≡ with_names names files
+    → with_names new later ≡ with_names names (files ++ later)
 names_more names new [] later e = rw e refl
 names_more names new (file ∷ files) later e = names_more (if is_among file names then names else names ++ file ∷ []) new files later e
 
-split : (text rest line behind : List ℕ) (done : List Words) → word_lines text ≡ done ++ word_lines rest → lines rest ≡ line ∷ lines behind → word_lines text ≡ done ++ words line ∷ word_lines behind
+split : (text rest line behind : List ℕ) (done : List Words) → word_lines text ≡ done ++ word_lines rest → lines rest ≡ line ∷ lines behind
+    → word_lines text ≡ done ++ words line ∷ word_lines behind
 split text rest line behind done whole next = whole ∙ ap (λ x. done ++ x) (next_words rest line behind next)
 
-module _ {text rest : List ℕ} (line behind : List ℕ) {names : List (List ℕ)} {relays number : ℕ} (so_far : Noted text rest names relays number) (next : lines rest ≡ line ∷ lines behind) where
+module _ {text rest : List ℕ} (line behind : List ℕ) {names : List (List ℕ)} {relays number : ℕ} (so_far : Noted text rest names relays number)
+    (next : lines rest ≡ line ∷ lines behind) where
   pub noted_more : {new : List (List ℕ)} {n : ℕ} → n ≡ relays + how_many (words line ∷ []) → new ≡ with_names names (file_of (words line))
       → (IsFaultyRelayLine relays (words line) → ⊥) → Noted text behind new n (number + 1)
   noted_more {new} {n} count are sound = record {
@@ -102,26 +105,33 @@ module _ {text rest : List ℕ} (line behind : List ℕ) {names : List (List ℕ
     clean = clean_more so_far.done (words line) so_far.clean (rw so_far.relays_is at sound);
     relays_is = count ∙ (ap (λ x. x + how_many (words line ∷ [])) so_far.relays_is ∙ counted so_far.done (words line ∷ []));
     number_is = omega (arith, so_far.number_is, length-append so_far.done (words line ∷ []));
-    names_are = names_more names new (file_of (words line)) (files_of (word_lines behind)) are ∙ rw (next_words rest line behind next) at so_far.names_are;
+    names_are =
+        names_more names new (file_of (words line)) (files_of (word_lines behind)) are ∙ rw (next_words rest line behind next) at so_far.names_are;
   }
 
   -- the line is faulty
   pub first_fault : length text ≤ BYTES → IsFaultyRelayLine relays (words line) → IsFirstRelayFault text number
   first_fault small faulty = record {
-    there = rw so_far.number_is (HasRelayFault.in_line so_far.done (word_lines behind) (split text rest line behind so_far.done so_far.whole next) (rw so_far.relays_is at faulty));
+    there =
+        rw so_far.number_is (HasRelayFault.in_line so_far.done (word_lines behind) (split text rest line behind so_far.done so_far.whole next)
+        (rw so_far.relays_is at faulty));
     first = before_it;
   } where
     before_it : (n : ℕ) → n < number → HasRelayFault text n → ⊥
     before_it n less (HasRelayFault.too_long long) = omega (arith, long, small)
     before_it n less (HasRelayFault.in_line before later {line = l} e f) =
-        let h = within so_far.done (words line ∷ word_lines behind) before later l (sym (split text rest line behind so_far.done so_far.whole next) ∙ e) (omega (arith, less, so_far.number_is)) in
+        let h =
+        within so_far.done (words line ∷ word_lines behind) before later l (sym (split text rest line behind so_far.done so_far.whole next) ∙ e)
+        (omega (arith, less, so_far.number_is)) in
         so_far.clean before h.0 l h.1 f
 
 -- the text is at its end
-pub noted_all : {text rest : List ℕ} {names : List (List ℕ)} {relays number : ℕ} → Noted text rest names relays number → lines rest ≡ [] → names ≡ file_names text
+pub noted_all : {text rest : List ℕ} {names : List (List ℕ)} {relays number : ℕ} → Noted text rest names relays number → lines rest ≡ []
+    → names ≡ file_names text
 noted_all {text} {rest} {names} so_far end = rw (no_words rest end) at so_far.names_are
 
-pub no_fault : {text rest : List ℕ} {names : List (List ℕ)} {relays number : ℕ} → Noted text rest names relays number → lines rest ≡ [] → length text ≤ BYTES
+pub no_fault : {text rest : List ℕ} {names : List (List ℕ)} {relays number : ℕ} → Noted text rest names relays number → lines rest ≡ []
+    → length text ≤ BYTES
     → (n : ℕ) → HasRelayFault text n → ⊥
 no_fault {text} {rest} so_far end small n (HasRelayFault.too_long long) = omega (arith, long, small)
 no_fault {text} {rest} so_far end small n (HasRelayFault.in_line before later {line = l} e f) =

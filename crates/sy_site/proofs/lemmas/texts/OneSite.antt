@@ -96,12 +96,18 @@ one_line : (words : List (List ℕ)) (a b : Line) → IsLine words a → IsLine 
 one_line words (Line.Relay a) (Line.Relay b) is_a is_b = ap Line.Relay (one_relay_line words a b is_a is_b)
 one_line words (Line.Entry a) (Line.Entry b) is_a is_b = ap Line.Entry (one_entry_line words a b is_a is_b)
 one_line words (Line.Protect a) (Line.Protect b) is_a is_b = ap Line.Protect (one_protect_line words a b is_a is_b)
-one_line words (Line.Relay a) (Line.Entry b) is_a is_b = let e : 114 ≡ 101 = same_letter words (Line.Relay a) (Line.Entry b) is_a is_b in absurd (omega (arith, e))
-one_line words (Line.Relay a) (Line.Protect b) is_a is_b = let e : 114 ≡ 112 = same_letter words (Line.Relay a) (Line.Protect b) is_a is_b in absurd (omega (arith, e))
-one_line words (Line.Entry a) (Line.Relay b) is_a is_b = let e : 101 ≡ 114 = same_letter words (Line.Entry a) (Line.Relay b) is_a is_b in absurd (omega (arith, e))
-one_line words (Line.Entry a) (Line.Protect b) is_a is_b = let e : 101 ≡ 112 = same_letter words (Line.Entry a) (Line.Protect b) is_a is_b in absurd (omega (arith, e))
-one_line words (Line.Protect a) (Line.Relay b) is_a is_b = let e : 112 ≡ 114 = same_letter words (Line.Protect a) (Line.Relay b) is_a is_b in absurd (omega (arith, e))
-one_line words (Line.Protect a) (Line.Entry b) is_a is_b = let e : 112 ≡ 101 = same_letter words (Line.Protect a) (Line.Entry b) is_a is_b in absurd (omega (arith, e))
+one_line words (Line.Relay a) (Line.Entry b) is_a is_b =
+    let e : 114 ≡ 101 = same_letter words (Line.Relay a) (Line.Entry b) is_a is_b in absurd (omega (arith, e))
+one_line words (Line.Relay a) (Line.Protect b) is_a is_b =
+    let e : 114 ≡ 112 = same_letter words (Line.Relay a) (Line.Protect b) is_a is_b in absurd (omega (arith, e))
+one_line words (Line.Entry a) (Line.Relay b) is_a is_b =
+    let e : 101 ≡ 114 = same_letter words (Line.Entry a) (Line.Relay b) is_a is_b in absurd (omega (arith, e))
+one_line words (Line.Entry a) (Line.Protect b) is_a is_b =
+    let e : 101 ≡ 112 = same_letter words (Line.Entry a) (Line.Protect b) is_a is_b in absurd (omega (arith, e))
+one_line words (Line.Protect a) (Line.Relay b) is_a is_b =
+    let e : 112 ≡ 114 = same_letter words (Line.Protect a) (Line.Relay b) is_a is_b in absurd (omega (arith, e))
+one_line words (Line.Protect a) (Line.Entry b) is_a is_b =
+    let e : 112 ≡ 101 = same_letter words (Line.Protect a) (Line.Entry b) is_a is_b in absurd (omega (arith, e))
 
 one_lines : {all : List (List (List ℕ))} {a b : List Line} → AreLines all a → AreLines all b → a ≡ b
 one_lines AreLines.none AreLines.none = refl
@@ -115,9 +121,11 @@ one_lines (AreLines.shaped e is h) (AreLines.shaped f js g) = same (one_line _ _
 
 -- ---- the site
 
-one_pairing : {A B : Type 0} {P Q : A → B → Type 0} → ((x : A) (y z : B) → P x y → Q x z → y ≡ z) → {xs : List A} {ys zs : List B} → AllPaired P xs ys → AllPaired Q xs zs → ys ≡ zs
+one_pairing : {A B : Type 0} {P Q : A → B → Type 0} → ((x : A) (y z : B) → P x y → Q x z → y ≡ z) → {xs : List A} {ys zs : List B}
+    → AllPaired P xs ys → AllPaired Q xs zs → ys ≡ zs
 one_pairing single AllPaired.none AllPaired.none = refl
-one_pairing single (AllPaired.more p ps) (AllPaired.more q qs) = let first = single _ _ _ p q in let later = one_pairing single ps qs in λ i. first i ∷ later i
+one_pairing single (AllPaired.more p ps) (AllPaired.more q qs) =
+    let first = single _ _ _ p q in let later = one_pairing single ps qs in λ i. first i ∷ later i
 
 one_relay : (files : List File) (line : RelayLine) (a b : Relay) → IsRelay files line a → IsRelay files line b → a ≡ b
 one_relay files it a b is_a is_b = λ i. record { name = name i; address = address i; plan = plan i }
@@ -153,7 +161,9 @@ one_site text files a b is_a is_b = λ i. record { relays = relays i; entries = 
     relays = one_pairing (one_relay files) is_a.relays (rw same_lines is_b.relays)
 
     entries : a.entries ≡ b.entries
-    entries = one_pairing {P = IsEntry a} {Q = IsEntry b} (λ it e f is_e is_f. one_value is_e (same_entries a b relays it ∙ is_f)) is_a.entries (rw same_lines is_b.entries)
+    entries =
+        one_pairing {P = IsEntry a} {Q = IsEntry b} (λ it e f is_e is_f. one_value is_e (same_entries a b relays it
+        ∙ is_f)) is_a.entries (rw same_lines is_b.entries)
 
     one_protection : (it : ProtectLine) (p q : Protection) → IsProtection a it p → IsProtection b it q → p ≡ q
     one_protection it p q is_p is_q =

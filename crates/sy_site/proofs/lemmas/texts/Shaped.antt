@@ -6,7 +6,8 @@ use Rattle.std.specs.Prelude.{codes}
 use Rattle.sy_select.specs.Selectors.{IsSetOf}
 use Rattle.sy_site.specs.texts.Shapes.{IsAddress, IsProtectLine, ProtectLine}
 
-pub no_address : (behind : List (List ℕ)) (word : List ℕ) → behind ≡ word ∷ [] → ((a : Ipv4Addr) → IsIpv4Text word a → ⊥) → (octets : List ℕ) → IsAddress behind octets → ⊥
+pub no_address : (behind : List (List ℕ)) (word : List ℕ) → behind ≡ word ∷ [] → ((a : Ipv4Addr) → IsIpv4Text word a → ⊥) → (octets : List ℕ)
+    → IsAddress behind octets → ⊥
 no_address behind word one never octets h =
     let dotted : IsDotted word octets = rw one at h in
     never (record { octets = octets }) dotted

@@ -18,11 +18,17 @@ loop-line-init c = (rw c.new-names.ensures.items (noted_start c.args.text.now), 
 pub returns-in-Err-Faulty-clause-err : goal.returns-in-Err-Faulty-clause-err
 returns-in-Err-Faulty-clause-err c =
     let faulty = it_is_faulty c.in-Err-Faulty.field-0 c.in-Err-Faulty.field-0-is c.in-Err-Faulty.ensures.err in
-    inr (c.loop-line.number, refl, first_fault c.in-Some.line.now c.in-Some.behind.now c.loop-line.invariant.0 c.in-Some.ensures.some (omega (arith, c.if-text-gt-MOST_BYTES.false)) faulty)
+    inr (
+      c.loop-line.number,
+      refl,
+      first_fault c.in-Some.line.now c.in-Some.behind.now c.loop-line.invariant.0 c.in-Some.ensures.some
+          (omega (arith, c.if-text-gt-MOST_BYTES.false)) faulty,
+    )
 
 pub loop-line-preserved : goal.loop-line-preserved
 loop-line-preserved c = (
-  noted_more c.in-Some.line.now c.in-Some.behind.now c.loop-line.invariant.0 c.in-Some.ensures.some c.in-Ok.ensures.relays c.in-Ok.ensures.names c.in-Ok.ensures.clean,
+  noted_more c.in-Some.line.now c.in-Some.behind.now c.loop-line.invariant.0 c.in-Some.ensures.some c.in-Ok.ensures.relays
+      c.in-Ok.ensures.names c.in-Ok.ensures.clean,
   omega (arith, c.loop-line.invariant.1, c.in-Some.ensures.shorter),
 )
 

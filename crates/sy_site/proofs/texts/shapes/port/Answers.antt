@@ -20,6 +20,7 @@ loop-digit-preserved c =
     let digit = digit_value_digit (get_or value i 0) (is.0, is.1) in
     let yes : is_ascii_digit (get_or value i 0) ≡ true = sym c.is_ascii_digit.ensures.value ∙ c.if-not-is_ascii_digit.false in (
       omega (arith, c.from.ensures, more, digit, c.loop-digit.invariant.0),
-      c.loop-digit.invariant.1 ∙ at_drop_more (list_all is_ascii_digit) value i 0 c.loop-digit-test.true ∙ ap (λ b. b && list_all is_ascii_digit (drop (i + 1) value)) yes,
+      c.loop-digit.invariant.1 ∙ at_drop_more (list_all is_ascii_digit) value i 0 c.loop-digit-test.true
+          ∙ ap (λ b. b && list_all is_ascii_digit (drop (i + 1) value)) yes,
       one_more c.loop-digit.number c.from.result i c.loop-digit.invariant.2 (omega (arith, c.from.ensures, is.1)),
     )
