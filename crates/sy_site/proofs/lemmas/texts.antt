@@ -2,3 +2,4 @@ pub mod Cutting
 pub mod Shaped
 pub mod Noted
 pub mod OneSite
+pub mod Once

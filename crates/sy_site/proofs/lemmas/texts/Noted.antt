@@ -11,12 +11,12 @@ use Rattle.sy_site.specs.texts.Files.{BYTES, how_many, is_among, is_relay, file_
 abbrev pub Words : Type 0
 Words = List (List ℕ)
 
-cons_same : {d b : Words} {xs ys : List Words} → d ≡ b → xs ≡ ys → d ∷ xs ≡ b ∷ ys
+cons_same : {A : Type 0} {d b : A} {xs ys : List A} → d ≡ b → xs ≡ ys → d ∷ xs ≡ b ∷ ys
 cons_same same others = rw (same, others) refl
 
 -- where one more stands at the end
-one_behind : (done : List Words) (line : Words) (before later : List Words) (l : Words) → done ++ line ∷ [] ≡ before ++ l ∷ later
-    → ((done ≡ before) × (line ≡ l)) ⊎ ((more : List Words) × (done ≡ before ++ l ∷ more))
+pub one_behind : {A : Type 0} (done : List A) (line : A) (before later : List A) (l : A) → done ++ line ∷ [] ≡ before ++ l ∷ later
+    → ((done ≡ before) × (line ≡ l)) ⊎ ((more : List A) × (done ≡ before ++ l ∷ more))
 one_behind [] line [] later l e = inl (refl, cc)
 one_behind [] line (b ∷ []) later l e = let rest : [] ≡ l ∷ later = cc in cc
 one_behind [] line (b ∷ next ∷ before) later l e = let rest : [] ≡ next ∷ (before ++ l ∷ later) = cc in cc
