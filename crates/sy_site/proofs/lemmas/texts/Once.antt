@@ -30,7 +30,8 @@ one_more : (x file : List ℕ) (names : List (List ℕ)) → is_among x (if is_a
 one_more x file names =
     elim (cases_Bool (is_among file names)) [
       | inl there ↦ rw there (same_test x file names there)
-      | inr new ↦ rw new (list_any-append (λ o. bytes_eq o x) names (file ∷ []) ∙ ap (λ b. is_among x names || b) (or_false (bytes_eq file x)))
+      | inr new ↦
+          rw new (list_any-append (λ o. bytes_eq o x) names (file ∷ []) ∙ ap (λ b. is_among x names || b) (or_false (bytes_eq file x)))
     ]
 
 pub among_all : (x : List ℕ) (names files : List (List ℕ)) → is_among x (with_names names files) ≡ (is_among x names || is_among x files)
