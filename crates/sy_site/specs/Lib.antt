@@ -1,2 +1,4 @@
 pub mod Sites
 pub mod machine
+pub mod texts
+pub mod internal

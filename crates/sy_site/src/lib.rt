@@ -1,4 +1,10 @@
 //! A set of relays: the site that one site file and the relays' scripts describe, and its machine of nine steps.
 #![tactic(auto)]
 
+pub mod fault;
+pub mod laws;
 pub mod machine;
+mod texts;
+
+pub use fault::{RelayFault, SiteFault};
+pub use texts::names::file_names;

@@ -21,4 +21,6 @@ mod script;
 #[cfg(test)]
 mod select;
 #[cfg(test)]
+mod site;
+#[cfg(test)]
 mod wire;

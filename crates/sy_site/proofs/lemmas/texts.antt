@@ -1,0 +1,5 @@
+pub mod Cutting
+pub mod Shaped
+pub mod Noted
+pub mod OneSite
+pub mod Once

@@ -1,0 +1,3 @@
+-- What private functions say.
+pub mod Lines
+pub mod Given

@@ -1,0 +1,22 @@
+-- Lines of the code, as the definitions have them.
+use Rattle.std.specs.Net.Addr.{ipv4_octets}
+use Rattle.sy_site.specs.declared.texts.shapes.RelayLine.{RelayLine as ReadRelay}
+use Rattle.sy_site.specs.declared.texts.shapes.EntryLine.{EntryLine as ReadEntry}
+use Rattle.sy_site.specs.declared.texts.shapes.ProtectLine.{ProtectLine as ReadProtect}
+use Rattle.sy_site.specs.declared.texts.shapes.Line.{Line as Read}
+use Rattle.sy_site.specs.declared.texts.shapes.Line.TheVariants as read
+use Rattle.sy_site.specs.texts.Shapes.{Line, RelayLine, EntryLine, ProtectLine}
+
+abbrev pub relay_line_of : ReadRelay → RelayLine
+relay_line_of it = record { name = it.name.now; file = it.file.now; address = ipv4_octets it.address }
+
+abbrev pub entry_line_of : ReadEntry → EntryLine
+entry_line_of it = record { relay = it.relay.now; port = it.port }
+
+abbrev pub protect_line_of : ReadProtect → ProtectLine
+protect_line_of it = record { selector = it.selector; relay = it.relay.now; action = it.action.now }
+
+abbrev pub line_of : Read → Line
+line_of (read.Relay it) = Line.Relay (relay_line_of it)
+line_of (read.Entry it) = Line.Entry (entry_line_of it)
+line_of (read.Protect it) = Line.Protect (protect_line_of it)

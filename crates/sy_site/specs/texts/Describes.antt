@@ -1,0 +1,130 @@
+-- The site that a text and the files of its relays describe (this profile's own).
+use Rattle.std.specs.Prelude.{◌≡◌, ℕ, Bool, true, false, ◌&&◌, ◌<◌, ◌≤◌, List, [], ◌∷◌, ◌++◌, length, Contains, Option, Some, None, option_and_then, option_map, if◌then◌else◌, codes}
+use Rattle.std.specs.List.{position}
+use Rattle.std.specs.Str.{bytes_eq}
+use Rattle.sy_script.specs.declared.tree.Script.{Script}
+use Rattle.sy_script.specs.Grammar.{IsScript}
+use Rattle.sy_rules.specs.declared.parameters.objects.Destination.{Destination}
+use Rattle.sy_rules.specs.declared.parameters.objects.Destination.TheVariants as destination
+use Rattle.sy_rules.specs.PlanValue.{IsPlan}
+use Rattle.sy_wire.specs.declared.class.Class.{Class}
+use Rattle.sy_site.specs.Sites.{Site, Relay, SiteInput, SiteAction, Protection, input_at_port, is_protected, plan_at, relay_named}
+use Rattle.sy_site.specs.texts.Lines.{is_skipped, word_lines}
+use Rattle.sy_site.specs.texts.Shapes.{Line, RelayLine, EntryLine, ProtectLine, IsLine}
+use Rattle.sy_site.specs.texts.Files.{BYTES, RELAYS}
+
+-- the most entry lines
+abbrev pub ENTRIES : ℕ
+ENTRIES = 256
+
+-- the most protect lines
+abbrev pub PROTECTIONS : ℕ
+PROTECTIONS = 256
+
+-- ---- the lines of a text
+
+-- Each line that is not skipped has a shape, and these are the lines in their order.
+pub data AreLines : List (List (List ℕ)) → List Line → Type 0 where
+  none : AreLines [] []
+  skip : {words : List (List ℕ)} {later : List (List (List ℕ))} {lines : List Line} → is_skipped words ≡ true → AreLines later lines
+      → AreLines (words ∷ later) lines
+  shaped : {words : List (List ℕ)} {later : List (List (List ℕ))} {it : Line} {lines : List Line} → is_skipped words ≡ false → IsLine words it
+      → AreLines later lines
+      → AreLines (words ∷ later) (it ∷ lines)
+
+abbrev pub relay_lines : List Line → List RelayLine
+relay_lines [] = []
+relay_lines (Line.Relay it ∷ later) = it ∷ relay_lines later
+relay_lines (_ ∷ later) = relay_lines later
+
+abbrev pub entry_lines : List Line → List EntryLine
+entry_lines [] = []
+entry_lines (Line.Entry it ∷ later) = it ∷ entry_lines later
+entry_lines (_ ∷ later) = entry_lines later
+
+abbrev pub protect_lines : List Line → List ProtectLine
+protect_lines [] = []
+protect_lines (Line.Protect it ∷ later) = it ∷ protect_lines later
+protect_lines (_ ∷ later) = protect_lines later
+
+-- One line gives again what another gave: a relay's name, or an entry or protect line word for word.
+pub data Repeats : List (List ℕ) → List (List ℕ) → Type 0 where
+  same_name : (name : List ℕ) (first second : List (List ℕ)) → Repeats (codes "relay" ∷ name ∷ first) (codes "relay" ∷ name ∷ second)
+  same_entry : (words : List (List ℕ)) → Repeats (codes "entry" ∷ words) (codes "entry" ∷ words)
+  same_protection : (words : List (List ℕ)) → Repeats (codes "protect" ∷ words) (codes "protect" ∷ words)
+
+-- a line behind these lines gives again what one of them gave
+abbrev pub IsDuplicate : List (List (List ℕ)) → List (List ℕ) → Type 0
+IsDuplicate before line = (other : List (List ℕ)) × Contains before other × Repeats other line
+
+-- ---- the files of the relays
+
+pub record File : Type 0 where
+  pub name : List ℕ
+  pub bytes : List ℕ
+
+-- the bytes of the first file of this name
+abbrev pub file_named : List File → List ℕ → Option (List ℕ)
+file_named [] name = None
+file_named (file ∷ later) name = if bytes_eq file.name name then Some file.bytes else file_named later name
+
+-- The relay of a line: its file is a script that has this plan.
+pub record IsRelay (files : List File) (line : RelayLine) (relay : Relay) : Type 0 where
+  pub bytes : List ℕ
+  pub given : file_named files line.file ≡ Some bytes
+  pub script : Script
+  pub is_script : IsScript bytes script
+  pub is_plan : IsPlan script relay.plan
+  pub name : relay.name ≡ line.name
+  pub address : relay.address ≡ line.address
+
+-- ---- entries and archives
+
+-- the input of an entry line
+abbrev pub entry_of : Site → EntryLine → Option SiteInput
+entry_of site line = option_and_then (λ relay. input_at_port site relay line.port) (relay_named site.relays line.relay)
+
+abbrev pub is_archive : Destination → Bool
+is_archive (destination.Archive file) = true
+is_archive (destination.Forward name port) = false
+
+-- the action of this name, where it writes a file
+abbrev pub archive_at : Site → List ℕ → ℕ → Option SiteAction
+archive_at site name relay =
+    option_map (λ a. record { relay = relay; action = a })
+    (position (λ a. is_archive a.destination && bytes_eq a.name name) (plan_at site relay).actions)
+
+-- the archive of a protect line
+abbrev pub archive_of : Site → ProtectLine → Option SiteAction
+archive_of site line = option_and_then (archive_at site line.action) (relay_named site.relays line.relay)
+
+abbrev pub IsEntry : Site → EntryLine → SiteInput → Type 0
+IsEntry site line entry = entry_of site line ≡ Some entry
+
+pub record IsProtection (site : Site) (line : ProtectLine) (protection : Protection) : Type 0 where
+  pub selector : protection.selector ≡ line.selector
+  pub archive : archive_of site line ≡ Some protection.archive
+
+-- ---- the site
+
+-- the lists are of one length, and what stands at one place belongs together
+pub data AllPaired {A B : Type 0} (P : A → B → Type 0) : List A → List B → Type 0 where
+  none : AllPaired P [] []
+  more : {x : A} {y : B} {xs : List A} {ys : List B} → P x y → AllPaired P xs ys → AllPaired P (x ∷ xs) (y ∷ ys)
+
+-- This text and these files describe this site.
+pub record Describes (text : List ℕ) (files : List File) (site : Site) : Type 0 where
+  pub small : length text ≤ BYTES
+  pub lines : List Line
+  pub are_lines : AreLines (word_lines text) lines
+  pub once : (before later : List (List (List ℕ))) (line : List (List ℕ)) → word_lines text ≡ before ++ line ∷ later → IsDuplicate before line → ⊥
+  pub few_relays : length (relay_lines lines) ≤ RELAYS
+  pub few_entries : length (entry_lines lines) ≤ ENTRIES
+  pub few_protections : length (protect_lines lines) ≤ PROTECTIONS
+  pub relays : AllPaired (IsRelay files) (relay_lines lines) site.relays
+  pub entries : AllPaired (IsEntry site) (entry_lines lines) site.entries
+  pub protections : AllPaired (IsProtection site) (protect_lines lines) site.protections
+  -- there is an entry, and a class that is protected
+  pub entered : 0 < length site.entries
+  pub class : Class
+  pub protected : is_protected site class ≡ true

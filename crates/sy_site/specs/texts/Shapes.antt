@@ -1,0 +1,84 @@
+-- The three shapes of a line (this profile's own).
+--   relay NAME FILE [ADDRESS]
+--   entry RELAY PORT
+--   protect SELECTOR RELAY ACTION
+use Rattle.std.specs.Prelude.{◌≡◌, ℕ, Bool, true, not, ◌||◌, ◌&&◌, if◌then◌else◌, nat_le, ◌==◌, List, [], ◌∷◌, length, Option, Some, None, codes}
+use Rattle.std.specs.Char.{is_ascii_alphanumeric}
+use Rattle.std.specs.List.{list_all, slice_index}
+use Rattle.std.specs.Net.Grammar.{IsDotted}
+use Rattle.std.specs.Prelude.{IsUtf8}
+use Rattle.std.specs.Str.Parse.{digits_value}
+use Rattle.sy_select.specs.Properties.{is_numeral}
+use Rattle.sy_select.specs.Selectors.{IsSetOf}
+
+-- ---- words
+
+-- a letter, a digit, `-`, `_` or `.`
+abbrev pub is_name_byte : ℕ → Bool
+is_name_byte b = is_ascii_alphanumeric b || (b == 45 || (b == 95 || b == 46))
+
+-- the name of a relay: 1 to 64 such bytes
+unfoldable pub is_name : List ℕ → Bool
+is_name word = not (length word == 0) && (nat_le (length word) 64 && list_all is_name_byte word)
+
+-- the port that 1 to 10 digits write, the first of which is not 0
+unfoldable pub port_of : List ℕ → Option ℕ
+port_of word = if is_numeral word && (nat_le (length word) 10 && not (slice_index word 0 == 48)) then Some (digits_value 10 word) else None
+
+-- 127.0.0.1
+abbrev pub loopback : List ℕ
+loopback = 127 ∷ 0 ∷ 0 ∷ 1 ∷ []
+
+-- The address that the words behind a relay's file give: four numbers of 0 to 255 without leading zeros, with dots between them. Without a word it
+-- is the loopback address.
+abbrev pub IsAddress : List (List ℕ) → List ℕ → Type 0
+IsAddress [] address = address ≡ loopback
+IsAddress (word ∷ []) address = IsDotted word address
+IsAddress (word ∷ next ∷ later) address = ⊥
+
+-- ---- lines
+
+pub record RelayLine : Type 0 where
+  pub name : List ℕ
+  pub file : List ℕ
+  pub address : List ℕ
+
+pub record EntryLine : Type 0 where
+  pub relay : List ℕ
+  pub port : ℕ
+
+-- the selector as the severity sets of its facilities
+pub record ProtectLine : Type 0 where
+  pub selector : List ℕ
+  pub relay : List ℕ
+  pub action : List ℕ
+
+-- relay NAME FILE [ADDRESS]
+pub record IsRelayLine (line : List (List ℕ)) (it : RelayLine) : Type 0 where
+  pub behind : List (List ℕ)
+  pub whole : line ≡ codes "relay" ∷ it.name ∷ it.file ∷ behind
+  pub name : is_name it.name ≡ true
+  pub file : IsUtf8 it.file
+  pub address : IsAddress behind it.address
+
+-- entry RELAY PORT
+pub record IsEntryLine (line : List (List ℕ)) (it : EntryLine) : Type 0 where
+  pub port_word : List ℕ
+  pub whole : line ≡ codes "entry" ∷ it.relay ∷ port_word ∷ []
+  pub port : port_of port_word ≡ Some it.port
+
+-- protect SELECTOR RELAY ACTION
+pub record IsProtectLine (line : List (List ℕ)) (it : ProtectLine) : Type 0 where
+  pub selector_word : List ℕ
+  pub whole : line ≡ codes "protect" ∷ selector_word ∷ it.relay ∷ it.action ∷ []
+  pub selector : IsSetOf selector_word it.selector
+
+pub data Line : Type 0 where
+  Relay : RelayLine → Line
+  Entry : EntryLine → Line
+  Protect : ProtectLine → Line
+
+abbrev pub IsLine : List (List ℕ) → Line → Type 0
+IsLine line (Relay it) = IsRelayLine line it
+IsLine line (Entry it) = IsEntryLine line it
+IsLine line (Protect it) = IsProtectLine line it

@@ -1,0 +1,73 @@
+//! What may be wrong with a site file.
+
+ghost use Rattle.std.specs.Prelude.{◌≡◌};
+ghost use Rattle.sy_site.specs.texts.Faults as spec;
+
+use sy_rules::PlanFault;
+use sy_script::{Items, ScriptFault};
+
+/// Why the file of a relay is no plan.
+#[derive(Debug, Drop)]
+pub enum RelayFault {
+    /// It is no script.
+    Script(ScriptFault),
+    /// It is a script without a plan.
+    Plan(PlanFault),
+}
+
+/// The faults of a site file and its relays' files, with the line of the site file, counted from 1. Their numbers
+/// are those of `number`.
+#[derive(Debug, Drop)]
+pub enum SiteFault {
+    /// A line of no shape, one more than the most of its kind, or one with a relay that isn't there. A text that is
+    /// too long is one in line 1.
+    Line(usize),
+    /// A relay's name, or an entry or protect line, given a second time.
+    Duplicate(usize),
+    /// A relay line whose file isn't given.
+    NoFile(usize),
+    /// An entry line whose relay has no input of that port.
+    NoSuchEntry(usize),
+    /// A protect line whose relay has no omfile action of that name.
+    NoSuchArchive(usize),
+    /// No entry, or no class that is protected. Its line is 1.
+    NothingProtected,
+    /// A relay line whose file is no plan: the relay's name, and what is wrong with the file.
+    Relay(usize, Items<u8>, RelayFault),
+    /// Memory ran out.
+    NoMemory,
+}
+
+impl SiteFault {
+    /// The number of the fault: 51 for `Line` to 58 for `NoMemory`.
+    pub fn number(&self) -> u8
+        ensures { result ≡ spec.number self.now }
+    {
+        match self {
+            SiteFault::Line(_) => 51,
+            SiteFault::Duplicate(_) => 52,
+            SiteFault::NoFile(_) => 53,
+            SiteFault::NoSuchEntry(_) => 54,
+            SiteFault::NoSuchArchive(_) => 55,
+            SiteFault::NothingProtected => 56,
+            SiteFault::Relay(_, _, _) => 57,
+            SiteFault::NoMemory => 58,
+        }
+    }
+
+    /// The number and the name of the fault, as `51 Line`.
+    pub fn words(&self) -> &'static str
+        ensures { result.now ≡ spec.words self.now }
+    {
+        match self {
+            SiteFault::Line(_) => "51 Line",
+            SiteFault::Duplicate(_) => "52 Duplicate",
+            SiteFault::NoFile(_) => "53 NoFile",
+            SiteFault::NoSuchEntry(_) => "54 NoSuchEntry",
+            SiteFault::NoSuchArchive(_) => "55 NoSuchArchive",
+            SiteFault::NothingProtected => "56 NothingProtected",
+            SiteFault::Relay(_, _, _) => "57 Relay",
+            SiteFault::NoMemory => "58 NoMemory",
+        }
+    }
+}

@@ -1,0 +1,6 @@
+//! The text of a site file.
+
+pub mod files;
+pub mod lines;
+pub mod names;
+pub mod shapes;

@@ -1,0 +1,242 @@
+//! The shapes of lines.
+
+ghost use Rattle.std.specs.Prelude.{◌≡◌, ◌∷◌, [], ℕ, List, IfSome, IfNone, codes};
+ghost use Rattle.std.specs.List.{list_all};
+ghost use Rattle.std.specs.Net.Addr.{ipv4_octets};
+ghost use Rattle.sy_select.specs.Selectors.{IsSetOf};
+ghost use Rattle.sy_site.specs.texts.Lines as lines;
+ghost use Rattle.sy_site.specs.texts.Lines.{words};
+ghost use Rattle.sy_site.specs.texts.Shapes as spec;
+ghost use Rattle.sy_site.specs.internal.Lines.{entry_line_of, line_of, protect_line_of, relay_line_of};
+
+use crate::texts::lines::{behind_word, next_word};
+use std::alloc::Global;
+use std::net::Ipv4Addr;
+use std::str;
+use sy_select::Selector;
+
+/// The most bytes of a relay's name.
+const NAME_BYTES: usize = 64;
+
+/// The most digits of a port.
+const PORT_DIGITS: usize = 10;
+
+/// What a relay line says.
+#[derive(Clone, Copy)]
+pub struct RelayLine<'t> {
+    pub name: &'t [u8],
+    pub file: &'t str,
+    pub address: Ipv4Addr,
+}
+
+/// What an entry line says.
+#[derive(Clone, Copy)]
+pub struct EntryLine<'t> {
+    pub relay: &'t [u8],
+    pub port: u64,
+}
+
+/// What a protect line says.
+#[derive(Drop)]
+pub struct ProtectLine<'t> {
+    pub selector: Selector,
+    pub relay: &'t [u8],
+    pub action: &'t [u8],
+}
+
+/// A line of one of the three shapes.
+#[derive(Drop)]
+pub enum Line<'t> {
+    Relay(RelayLine<'t>),
+    Entry(EntryLine<'t>),
+    Protect(ProtectLine<'t>),
+}
+
+fn is_name_byte(byte: u8) -> bool
+    ensures { result ≡ spec.is_name_byte byte }
+{
+    byte.is_ascii_alphanumeric() || byte == b'-' || byte == b'_' || byte == b'.'
+}
+
+fn all_name_bytes(word: &[u8]) -> bool
+    ensures { result ≡ list_all spec.is_name_byte word.now }
+{
+    word.iter().all(|b| is_name_byte(*b))
+}
+
+#[tactic(auto, unfolding(crate::specs::texts::Shapes::is_name))]
+fn is_name(word: &[u8]) -> bool
+    ensures { result ≡ spec.is_name word.now }
+{
+    !word.is_empty() && word.len() <= NAME_BYTES && all_name_bytes(word)
+}
+
+// The address that the words behind a relay's file give.
+fn address(behind: &[u8]) -> Option<Ipv4Addr>
+    ensures some { IfSome result (λ a. spec.IsAddress (words behind.now) (ipv4_octets a)) }
+    ensures none { IfNone result ((a : List ℕ) → spec.IsAddress (words behind.now) a → ⊥) }
+{
+    match next_word(behind) {
+        Some((word, rest)) => match next_word(rest) {
+            Some(_) => None,
+            None => match Ipv4Addr::parse_ascii(word) {
+                Ok(address) => Some(address),
+                Err(_) => None,
+            },
+        },
+        None => Some(Ipv4Addr::LOCALHOST),
+    }
+}
+
+/// What a relay line says, of the text behind its first word.
+pub fn relay_line(behind: &[u8]) -> Option<RelayLine<'_>>
+    ensures some { IfSome result (λ it. spec.IsRelayLine (codes "relay" ∷ words behind.now) (relay_line_of it)) }
+    ensures none { IfNone result ((it : spec.RelayLine) → spec.IsRelayLine (codes "relay" ∷ words behind.now) it
+        → ⊥) }
+{
+    let (name, behind) = next_word(behind)?;
+    let (file, behind) = next_word(behind)?;
+    let address = address(behind)?;
+    let file = str::from_utf8(file).ok()?;
+    if is_name(name) {
+        Some(RelayLine {
+            name,
+            file,
+            address,
+        })
+    } else {
+        None
+    }
+}
+
+#[tactic(auto, unfolding(crate::specs::texts::Shapes::port_of))]
+fn port(word: &[u8]) -> Option<u64>
+    ensures { result ≡ spec.port_of word.now }
+{
+    if word.is_empty() || word.len() > PORT_DIGITS || word[0] == b'0' {
+        return None;
+    }
+    let mut number = 0;
+    for digit in word {
+        if !digit.is_ascii_digit() {
+            return None;
+        }
+        number = number * 10 + u64::from(*digit - b'0');
+    }
+    Some(number)
+}
+
+// The two words that a text is.
+fn two_words(text: &[u8]) -> Option<(&[u8], &[u8])>
+    ensures some { IfSome result (λ r. words text.now ≡ r.0.now ∷ r.1.now ∷ []) }
+    ensures none { IfNone result ((a b : List ℕ) → words text.now ≡ a ∷ b ∷ [] → ⊥) }
+{
+    let (first, rest) = next_word(text)?;
+    let (second, rest) = next_word(rest)?;
+    match next_word(rest) {
+        Some(_) => None,
+        None => Some((first, second)),
+    }
+}
+
+/// What an entry line says, of the text behind its first word.
+pub fn entry_line(behind: &[u8]) -> Option<EntryLine<'_>>
+    ensures some { IfSome result (λ it. spec.IsEntryLine (codes "entry" ∷ words behind.now) (entry_line_of it)) }
+    ensures none { IfNone result ((it : spec.EntryLine) → spec.IsEntryLine (codes "entry" ∷ words behind.now) it
+        → ⊥) }
+{
+    let (relay, word) = two_words(behind)?;
+    let port = port(word)?;
+    Some(EntryLine { relay, port })
+}
+
+// The selector that a word is.
+fn selector(alloc: Global, word: &[u8]) -> Option<Selector>
+    ensures some { IfSome result (λ sets. IsSetOf word.now sets) }
+    ensures none { IfNone result ((sets : List ℕ) → IsSetOf word.now sets → ⊥) }
+{
+    match Selector::read(alloc, word) {
+        Ok(selector) => Some(selector),
+        Err(_fault) => None,
+    }
+}
+
+/// What a protect line says, of the text behind its first word. Memory that is missing is no refusal: it would only be
+/// for the word of a fault.
+pub fn protect_line(alloc: Global, behind: &[u8]) -> Option<ProtectLine<'_>>
+    ensures some { IfSome result (λ it. spec.IsProtectLine (codes "protect" ∷ words behind.now)
+        (protect_line_of it)) }
+    ensures none { IfNone result ((it : spec.ProtectLine) → spec.IsProtectLine (codes "protect" ∷ words behind.now) it
+        → ⊥) }
+{
+    let (word, behind) = next_word(behind)?;
+    let (relay, action) = two_words(behind)?;
+    match selector(alloc, word) {
+        Some(selector) => Some(ProtectLine {
+            selector,
+            relay,
+            action,
+        }),
+        None => None,
+    }
+}
+
+// The line that begins with `relay`.
+fn relay(behind: &[u8]) -> Option<Line<'_>>
+    ensures some { IfSome result (λ it. spec.IsLine (codes "relay" ∷ words behind.now) (line_of it)) }
+    ensures none { IfNone result ((it : spec.Line) → spec.IsLine (codes "relay" ∷ words behind.now) it → ⊥) }
+{
+    match relay_line(behind) {
+        Some(it) => Some(Line::Relay(it)),
+        None => None,
+    }
+}
+
+// The line that begins with `entry`.
+fn entry(behind: &[u8]) -> Option<Line<'_>>
+    ensures some { IfSome result (λ it. spec.IsLine (codes "entry" ∷ words behind.now) (line_of it)) }
+    ensures none { IfNone result ((it : spec.Line) → spec.IsLine (codes "entry" ∷ words behind.now) it → ⊥) }
+{
+    match entry_line(behind) {
+        Some(it) => Some(Line::Entry(it)),
+        None => None,
+    }
+}
+
+// The line that begins with `protect`.
+fn protect(alloc: Global, behind: &[u8]) -> Option<Line<'_>>
+    ensures some { IfSome result (λ it. spec.IsLine (codes "protect" ∷ words behind.now) (line_of it)) }
+    ensures none { IfNone result ((it : spec.Line) → spec.IsLine (codes "protect" ∷ words behind.now) it → ⊥) }
+{
+    match protect_line(alloc, behind) {
+        Some(it) => Some(Line::Protect(it)),
+        None => None,
+    }
+}
+
+/// Whether a line is skipped: it has no words, or is a comment.
+pub fn is_skipped(line: &[u8]) -> bool
+    ensures { result ≡ lines.is_skipped (words line.now) }
+{
+    match next_word(line) {
+        Some((word, _)) => word.first() == Some(&b'#'),
+        None => true,
+    }
+}
+
+/// The line of one of the three shapes that a text is.
+pub fn read_line(alloc: Global, line: &[u8]) -> Option<Line<'_>>
+    ensures some { IfSome result (λ it. spec.IsLine (words line.now) (line_of it)) }
+    ensures none { IfNone result ((it : spec.Line) → spec.IsLine (words line.now) it → ⊥) }
+{
+    if let Some(behind) = behind_word(line, b"relay") {
+        return relay(behind);
+    }
+    if let Some(behind) = behind_word(line, b"entry") {
+        return entry(behind);
+    }
+    if let Some(behind) = behind_word(line, b"protect") {
+        return protect(alloc, behind);
+    }
+    None
+}
