@@ -1,0 +1,69 @@
+//! A certificate as a value.
+ghost use Rattle.std.specs.Prelude.{◌≡◌, ◌++◌, [], ◌∷◌, true, OnErr, OnOk};
+ghost use Rattle.sy_cert.specs.CertificateValue as value;
+ghost use Rattle.sy_cert.specs.Rows.{IsRow, Kind, kind, last_kind, may_follow};
+
+use crate::row::Row;
+use std::alloc::{AllocError, Global};
+use std::marker::Model;
+
+/// A certificate: its version, which is 1, and its rows in the order of the text.
+///
+/// Each row has its shape with its numbers in range, and each kind of row may follow the one before.
+#[derive(Drop)]
+pub struct Certificate {
+    version: u32,
+    rows: Vec<Row>,
+}
+
+impl Model for Certificate {
+    ghost use Rattle.std.specs.Prelude.{◌≡◌};
+    ghost use Rattle.sy_cert.specs.CertificateValue as value;
+    ghost use Rattle.sy_cert.specs.Rows.{AreRows, Kind};
+
+    ghost Value = { value.Certificate };
+
+    ghost view = { λ c. record { version = c.version; rows = c.rows.items } };
+
+    ghost invariant = { λ c. (c.version ≡ 1) × AreRows Kind.Cert c.rows.items };
+}
+
+impl Certificate {
+    /// A certificate without rows. The version is 1. It takes no memory.
+    pub fn new(alloc: Global, version: u32) -> Certificate
+        requires { version ≡ 1 }
+        ensures version { result.version ≡ version }
+        ensures rows { result.rows ≡ [] }
+    {
+        Certificate {
+            version,
+            rows: Vec::new(alloc),
+        }
+    }
+
+    /// Puts a row after the last. It has its shape with its numbers in range, and may follow the last row. Without memory nothing is put.
+    pub fn push(&mut self, row: Row) -> Result<(), AllocError>
+        requires shape { IsRow row }
+        requires place { may_follow (last_kind self.old.rows) (kind row) ≡ true }
+        ensures version { self.new.version ≡ self.old.version }
+        ensures ok { OnOk result (self.new.rows ≡ self.old.rows ++ row ∷ []) }
+        ensures err { OnErr result (self.new.rows ≡ self.old.rows) }
+    {
+        self.rows.push(row)?;
+        Ok(())
+    }
+
+    /// The version of its format.
+    pub fn version(&self) -> u32
+        ensures { result ≡ self.now.version }
+    {
+        self.version
+    }
+
+    /// The rows, in the order of the text.
+    pub fn rows(&self) -> &[Row]
+        ensures { result.now ≡ self.now.rows }
+    {
+        self.rows.as_slice()
+    }
+}
