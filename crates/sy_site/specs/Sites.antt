@@ -8,27 +8,16 @@ use Rattle.sy_rules.specs.declared.parameters.objects.Destination.{Destination}
 use Rattle.sy_rules.specs.declared.parameters.objects.Destination.TheVariants as destination
 use Rattle.sy_rules.specs.declared.parts.Action.{Action}
 use Rattle.sy_rules.specs.PlanValue.{Plan}
-
--- an input of a relay, both by number
-pub record SiteInput : Type 0 where
-  pub relay : ℕ
-  pub input : ℕ
-
--- an action of a relay, both by number: a forward, or an archive
-pub record SiteAction : Type 0 where
-  pub relay : ℕ
-  pub action : ℕ
+-- an input and an action of a relay, each by its number, and what a protect line says, as the code has them
+pub use Rattle.sy_site.specs.declared.site.Protection.{Protection}
+pub use Rattle.sy_site.specs.declared.site.SiteAction.{SiteAction}
+pub use Rattle.sy_site.specs.declared.site.SiteInput.{SiteInput}
 
 -- a relay: the bytes of its name, the four numbers of its address, and its plan
 pub record Relay : Type 0 where
   pub name : List ℕ
   pub address : List ℕ
   pub plan : Plan
-
--- what a protect line says: messages of the classes of a selector (by facility, the set of its severities) come to an archive
-pub record Protection : Type 0 where
-  pub selector : List ℕ
-  pub archive : SiteAction
 
 pub record Site : Type 0 where
   pub relays : List Relay

@@ -4,7 +4,9 @@
 pub mod fault;
 pub mod laws;
 pub mod machine;
+mod site;
 mod texts;
 
 pub use fault::{RelayFault, SiteFault};
+pub use site::{Protection, Site, SiteAction, SiteInput};
 pub use texts::names::file_names;

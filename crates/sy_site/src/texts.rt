@@ -3,4 +3,7 @@
 pub mod files;
 pub mod lines;
 pub mod names;
+pub mod reading;
+pub mod references;
+pub mod relays;
 pub mod shapes;

@@ -94,9 +94,13 @@ archive_at site name relay =
     option_map (λ a. record { relay = relay; action = a })
     (position (λ a. is_archive a.destination && bytes_eq a.name name) (plan_at site relay).actions)
 
+-- the archive of these names
+abbrev pub archive_named : Site → List ℕ → List ℕ → Option SiteAction
+archive_named site relay action = option_and_then (archive_at site action) (relay_named site.relays relay)
+
 -- the archive of a protect line
 abbrev pub archive_of : Site → ProtectLine → Option SiteAction
-archive_of site line = option_and_then (archive_at site line.action) (relay_named site.relays line.relay)
+archive_of site line = archive_named site line.relay line.action
 
 abbrev pub IsEntry : Site → EntryLine → SiteInput → Type 0
 IsEntry site line entry = entry_of site line ≡ Some entry

@@ -1,0 +1,74 @@
+-- What belongs to lines, list after list.
+use Rattle.std.proofs.Common.{◌≡◌, ℕ, zero, suc, ◌<◌, List, [], ◌∷◌, ◌++◌, length, map, refl, sym, ap, ◌∙◌, arith, append_assoc, append-nil}
+use Rattle.std.specs.Prelude.{All, Contains}
+use Rattle.std.proofs.lemmas.List.{length-map}
+use Rattle.sy_site.specs.texts.Describes.{AllPaired, entry_lines, protect_lines, relay_lines}
+use Rattle.sy_site.specs.texts.Shapes.{Line, EntryLine, ProtectLine, RelayLine}
+use Rattle.sy_site.specs.internal.Relays.{HasMore}
+
+module _ {A B : Type 0} (P : A → B → Type 0) where
+  pub more_none : (old : List B) → HasMore P [] old old
+  more_none old = record { more = []; new_is = sym (append-nil old); paired = AllPaired.none }
+
+  pub more_one : (x : A) (y : B) (old new : List B) → new ≡ old ++ y ∷ [] → P x y → HasMore P (x ∷ []) old new
+  more_one x y old new is belongs = record { more = y ∷ []; new_is = is; paired = AllPaired.more belongs AllPaired.none }
+
+  both_paired : {xs zs : List A} {ys ws : List B} → AllPaired P xs ys → AllPaired P zs ws → AllPaired P (xs ++ zs) (ys ++ ws)
+  both_paired AllPaired.none q = q
+  both_paired (AllPaired.more p ps) q = AllPaired.more p (both_paired ps q)
+
+  pub more_both : (xs zs : List A) (old mid new : List B) → HasMore P xs old mid → HasMore P zs mid new → HasMore P (xs ++ zs) old new
+  more_both xs zs old mid new first second = record {
+    more = first.more ++ second.more;
+    new_is = second.new_is ∙ ap (λ l. l ++ second.more) first.new_is ∙ append_assoc old first.more second.more;
+    paired = both_paired first.paired second.paired;
+  }
+
+  -- all that belongs to the lines
+  pub all_paired : (xs : List A) (new : List B) → HasMore P xs [] new → AllPaired P xs new
+  all_paired xs new h = subst (λ l. AllPaired P xs l) (sym h.new_is) h.paired
+
+  pub paired_lengths : {xs : List A} {ys : List B} → AllPaired P xs ys → length xs ≡ length ys
+  paired_lengths AllPaired.none = refl
+  paired_lengths (AllPaired.more p ps) = ap suc (paired_lengths ps)
+
+  -- what belongs to an element
+  pub partner : {xs : List A} {ys : List B} → AllPaired P xs ys → (x : A) → Contains xs x → (y : B) × Contains ys y × P x y
+  partner AllPaired.none x (k, l, is) = absurd (omega (arith, l))
+  partner (AllPaired.more {y = y} p ps) x (ℕ.zero, l, is) = (y, (0, omega arith, refl), subst (λ z. P z y) is p)
+  partner (AllPaired.more p ps) x (ℕ.suc k, l, is) =
+      let found = partner ps x (k, omega (arith, l), is) in
+      (found.0, (suc found.1.0, omega (arith, found.1.1), found.1.2), found.2)
+
+  pub partner_back : {xs : List A} {ys : List B} → AllPaired P xs ys → (y : B) → Contains ys y → (x : A) × Contains xs x × P x y
+  partner_back AllPaired.none y (k, l, is) = absurd (omega (arith, l))
+  partner_back (AllPaired.more {x = x} p ps) y (ℕ.zero, l, is) = (x, (0, omega arith, refl), subst (λ z. P x z) is p)
+  partner_back (AllPaired.more p ps) y (ℕ.suc k, l, is) =
+      let found = partner_back ps y (k, omega (arith, l), is) in
+      (found.0, (suc found.1.0, omega (arith, found.1.1), found.1.2), found.2)
+
+  pub all_right : (Q : B → Type 0) → ((x : A) (y : B) → P x y → Q y) → {xs : List A} {ys : List B} → AllPaired P xs ys → All Q ys
+  all_right Q each AllPaired.none = tt
+  all_right Q each (AllPaired.more p ps) = (each _ _ p, all_right Q each ps)
+
+  pub paired_map : {C : Type 0} (f : B → C) (R : A → C → Type 0) → ((x : A) (y : B) → P x y → R x (f y)) → {xs : List A} {ys : List B}
+      → AllPaired P xs ys → AllPaired R xs (map f ys)
+  paired_map f R each AllPaired.none = AllPaired.none
+  paired_map f R each (AllPaired.more p ps) = AllPaired.more (each _ _ p) (paired_map f R each ps)
+
+-- ---- lines of a kind
+
+pub relay_first : (line : Line) (lines : List Line) → relay_lines (line ∷ lines) ≡ relay_lines (line ∷ []) ++ relay_lines lines
+relay_first (Line.Relay it) lines = refl
+relay_first (Line.Entry it) lines = refl
+relay_first (Line.Protect it) lines = refl
+
+pub entry_first : (line : Line) (lines : List Line) → entry_lines (line ∷ lines) ≡ entry_lines (line ∷ []) ++ entry_lines lines
+entry_first (Line.Relay it) lines = refl
+entry_first (Line.Entry it) lines = refl
+entry_first (Line.Protect it) lines = refl
+
+pub protect_first : (line : Line) (lines : List Line) → protect_lines (line ∷ lines) ≡ protect_lines (line ∷ []) ++ protect_lines lines
+protect_first (Line.Relay it) lines = refl
+protect_first (Line.Entry it) lines = refl
+protect_first (Line.Protect it) lines = refl

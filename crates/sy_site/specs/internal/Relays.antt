@@ -1,0 +1,45 @@
+-- The relays of a text's lines, and what is refused of a line.
+use Rattle.std.specs.Prelude.{◌≡◌, ℕ, List, ◌++◌, Option, Some, None, map}
+use Rattle.std.specs.Arc.{arc_value}
+use Rattle.sy_rules.specs.PlanValue.{Plan}
+use Rattle.sy_rules.specs.Whole.{IsWhole}
+use Rattle.sy_site.specs.declared.fault.RelayFault.{RelayFault}
+use Rattle.sy_site.specs.declared.fault.SiteFault.{SiteFault}
+use Rattle.sy_site.specs.declared.fault.SiteFault.TheVariants as fault
+use Rattle.sy_site.specs.declared.site.lookup.Missing.{Missing}
+use Rattle.sy_site.specs.declared.site.lookup.Missing.TheVariants as missing
+use Rattle.sy_site.specs.declared.site.relay.Relay.{Relay as Kept}
+use Rattle.sy_site.specs.internal.SiteInside.{relay_of, site_with}
+use Rattle.sy_site.specs.Sites.{Site, plan_at, relay_named}
+use Rattle.sy_site.specs.texts.Describes.{AllPaired, AreLines, File, IsRelay, file_named, relay_lines}
+use Rattle.sy_site.specs.texts.HasFault.{IsFileFault}
+use Rattle.sy_site.specs.texts.Lines.{word_lines}
+use Rattle.sy_site.specs.texts.Shapes.{Line, RelayLine}
+
+-- The relay line of this number has no file, or one that is no plan.
+pub data IsRefusedRelay (files : List File) (line : RelayLine) (number : ℕ) : SiteFault → Type 0 where
+  no_file : file_named files line.file ≡ None → IsRefusedRelay files line number (fault.NoFile number)
+  no_plan : (bytes : List ℕ) (why : RelayFault) → file_named files line.file ≡ Some bytes → IsFileFault bytes why
+      → IsRefusedRelay files line number (fault.Relay number line.name why)
+
+-- these are the relays of the relay lines of a text
+pub record AreRelays (text : List ℕ) (files : List File) (relays : List Kept) : Type 0 where
+  pub lines : List Line
+  pub are_lines : AreLines (word_lines text) lines
+  pub paired : AllPaired (IsRelay files) (relay_lines lines) (map relay_of relays)
+
+-- a relay of a line, with a whole plan
+pub record IsWholeRelay (files : List File) (line : RelayLine) (relay : Kept) : Type 0 where
+  pub is_relay : IsRelay files line (relay_of relay)
+  pub whole : IsWhole (arc_value relay.plan)
+
+-- Behind the earlier ones stands what belongs to these lines.
+pub record HasMore {A B : Type 0} (P : A → B → Type 0) (lines : List A) (old new : List B) : Type 0 where
+  pub more : List B
+  pub new_is : new ≡ old ++ more
+  pub paired : AllPaired P lines more
+
+-- No relay has a name, or the one that has it hasn't what is asked of its plan.
+abbrev pub IsMissing : Site → List ℕ → (Plan → Option ℕ) → Missing → Type 0
+IsMissing site name part missing.Relay = relay_named site.relays name ≡ None
+IsMissing site name part missing.Part = (relay : ℕ) × (relay_named site.relays name ≡ Some relay) × (part (plan_at site relay) ≡ None)

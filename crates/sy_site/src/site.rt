@@ -1,0 +1,149 @@
+//! A site: a set of relays, as one site file and the relays' scripts describe it.
+
+ghost use Rattle.std.specs.Prelude.{◌≡◌, ◌<◌, ℕ, List, Some, length, map, option_map, slice_get};
+ghost use Rattle.std.specs.Option.{option_copied};
+ghost use Rattle.std.specs.Arc.{arc_value};
+ghost use Rattle.std.specs.Net.Addr.{ipv4_octets};
+ghost use Rattle.sy_rules.specs.Whole.{IsWhole};
+ghost use Rattle.sy_site.specs.Sites as spec;
+ghost use Rattle.sy_site.specs.machine.Lawful.{IsLawful};
+
+pub mod lookup;
+mod protected;
+pub mod relay;
+
+use lookup::{input_at_port, relay_named};
+use relay::Relay;
+use std::marker::Model;
+use std::net::Ipv4Addr;
+use std::sync::Arc;
+use sy_rules::{Destination, Plan};
+use sy_select::Selector;
+
+/// An input of a relay, both by number.
+#[derive(Clone, Copy, PartialEq, Eq)]
+pub struct SiteInput {
+    pub relay: u32,
+    pub input: u32,
+}
+
+/// An action of a relay, both by number: a forward, or an archive.
+#[derive(Clone, Copy, PartialEq, Eq)]
+pub struct SiteAction {
+    pub relay: u32,
+    pub action: u32,
+}
+
+/// What a protect line says: messages of the classes of a selector come to an archive.
+#[derive(Drop)]
+pub struct Protection {
+    pub selector: Selector,
+    pub archive: SiteAction,
+}
+
+/// The relays of a site, the inputs that messages of its policy enter by, and what of them is to come to which
+/// archive.
+///
+/// Each plan is whole, each entry and each archive is there, and there are at most 64 relays.
+#[derive(Drop)]
+pub struct Site {
+    relays: Vec<Relay>,
+    entries: Vec<SiteInput>,
+    protections: Vec<Protection>,
+}
+
+impl Model for Site {
+    ghost use Rattle.sy_site.specs.Sites as value;
+    ghost use Rattle.std.specs.Coded.{codes};
+    ghost use Rattle.sy_rules.specs.internal.PlanCodes.{plan_code};
+    ghost use Rattle.sy_site.specs.internal.SiteInside.{IsKept, site_of};
+
+    ghost Value = { value.Site };
+
+    ghost coded = { Prim.hlevel (codes, plan_code) };
+
+    ghost view = { site_of };
+
+    ghost invariant = { IsKept };
+}
+
+impl Site {
+    /// Each plan of a site is whole, its entries and archives are there, and it has no more relays than may be.
+    pub fn is_lawful(&self)
+        ensures { IsLawful self.now }
+    {
+        let _ = &self.entries;
+    }
+
+    /// How many relays there are. Their numbers are those below it.
+    pub fn relays(&self) -> u32
+        ensures { result ≡ length self.now.relays }
+    {
+        self.relays.len() as u32
+    }
+
+    /// The name of a relay.
+    pub fn name(&self, relay: u32) -> &[u8]
+        requires exists { relay < length self.now.relays }
+        ensures { Some result.now ≡ option_map (λ r. r.name) (slice_get self.now.relays relay) }
+    {
+        self.relays[relay as usize].name.as_slice()
+    }
+
+    /// The address that a relay listens at, 127.0.0.1 where its line gives none.
+    pub fn address(&self, relay: u32) -> Ipv4Addr
+        requires exists { relay < length self.now.relays }
+        ensures { Some (ipv4_octets result) ≡ option_map (λ r. r.address) (slice_get self.now.relays relay) }
+    {
+        self.relays[relay as usize].address
+    }
+
+    /// The plan of a relay.
+    pub fn plan(&self, relay: u32) -> &Arc<Plan>
+        requires exists { relay < length self.now.relays }
+        ensures { arc_value result.now ≡ spec.plan_at self.now relay }
+    {
+        &self.relays[relay as usize].plan
+    }
+
+    /// The relay of a name.
+    pub fn relay_named(&self, name: &[u8]) -> Option<u32>
+        ensures { result ≡ spec.relay_named self.now.relays name.now }
+    {
+        relay_named(self.relays.as_slice(), name)
+    }
+
+    /// The inputs that messages of the site's policy enter by, in the order of the file.
+    pub fn entries(&self) -> &[SiteInput]
+        ensures { result.now ≡ self.now.entries }
+    {
+        self.entries.as_slice()
+    }
+
+    /// What is protected, in the order of the file.
+    pub fn protections(&self) -> &[Protection]
+        ensures { result.now ≡ self.now.protections }
+    {
+        self.protections.as_slice()
+    }
+
+    /// The input that an action of a relay forwards to: of the relay that it names, the one at its port. None for an
+    /// archive, for a forward that leads to no input of the site, and for an action that isn't there.
+    pub fn target(&self, relay: u32, action: u32) -> Option<SiteInput>
+        ensures { result ≡ spec.target self.now (record { relay = relay; action = action }) }
+    {
+        let action = self
+            .relays
+            .get(relay as usize)?
+            .plan
+            .actions()
+            .get(action as usize)?;
+        match &action.destination {
+            Destination::Archive(_) => None,
+            Destination::Forward(name, port) => {
+                let relay = relay_named(self.relays.as_slice(), name.as_slice())?;
+                input_at_port(self.relays.as_slice(), relay, u64::from(*port))
+            }
+        }
+    }
+}

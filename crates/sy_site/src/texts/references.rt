@@ -1,0 +1,131 @@
+//! The inputs and archives that the lines of a site file name.
+
+ghost use Rattle.std.specs.Prelude.{◌≡◌, ◌≤◌, ◌⊎◌, ◌∷◌, [], All, List, ℕ, length, map, IfOk, IfErr, OnOk};
+ghost use Rattle.sy_site.specs.internal.Lines.{protect_line_of};
+ghost use Rattle.sy_site.specs.internal.Reading.{IsLineAt, IsPlaced, line_given};
+ghost use Rattle.sy_site.specs.internal.Relays.{AreRelays, HasMore};
+ghost use Rattle.sy_site.specs.internal.SiteInside.{site_with};
+ghost use Rattle.sy_site.specs.texts.Describes.{File, IsEntry, IsProtection, entry_lines, protect_lines};
+ghost use Rattle.sy_site.specs.texts.Files.{RELAYS};
+ghost use Rattle.sy_site.specs.texts.HasFault.{HasFault};
+ghost use Rattle.sy_site.specs.texts.Shapes as shapes;
+
+use crate::fault::SiteFault;
+use crate::site::lookup::{Missing, archive, entry};
+use crate::site::relay::Relay;
+use crate::site::{Protection, SiteInput};
+use crate::texts::reading::Given;
+use crate::texts::shapes::{Line, ProtectLine};
+use std::alloc::Global;
+
+// Puts the input of a line behind the others, where it is an entry line.
+fn put_entry(
+    entries: &mut Vec<SiteInput>,
+    given: &Given<'_>,
+    relays: &[Relay],
+) -> Result<(), SiteFault>
+    requires few { length relays.now ≤ RELAYS }
+    ensures entries { OnOk result (HasMore (IsEntry (site_with relays.now)) (entry_lines (line_given given.now ∷ []))
+        entries.old.items entries.new.items) }
+    ensures err { IfErr result (λ fault. (text : List ℕ) (files : List File) → IsPlaced text given.now
+        → AreRelays text files relays.now → (fault ≡ SiteFault.NoMemory) ⊎ HasFault text files fault) }
+{
+    let Line::Entry(line) = &given.line else {
+        return Ok(());
+    };
+    match entry(relays, line) {
+        Ok(input) => match entries.push(input) {
+            Ok(()) => Ok(()),
+            Err(_) => Err(SiteFault::NoMemory),
+        },
+        Err(Missing::Relay) => Err(SiteFault::Line(given.number)),
+        Err(Missing::Part) => Err(SiteFault::NoSuchEntry(given.number)),
+    }
+}
+
+/// The inputs of the entry lines of a text.
+pub fn entries(
+    alloc: Global,
+    found: &[Given<'_>],
+    relays: &[Relay],
+) -> Result<Vec<SiteInput>, SiteFault>
+    requires few { length relays.now ≤ RELAYS }
+    ensures entries { IfOk result (λ entries. HasMore (IsEntry (site_with relays.now)) (entry_lines (map line_given found.now))
+        [] entries.items) }
+    ensures err { IfErr result (λ fault. (text : List ℕ) (files : List File) → All (IsPlaced text) found.now
+        → AreRelays text files relays.now → (fault ≡ SiteFault.NoMemory) ⊎ HasFault text files fault) }
+{
+    let mut entries = Vec::new(alloc);
+    for given in found {
+        put_entry(&mut entries, given, relays)?;
+    }
+    Ok(entries)
+}
+
+// Puts what a protect line of this number says behind the others.
+fn protect(
+    protections: &mut Vec<Protection>,
+    line: ProtectLine<'_>,
+    number: usize,
+    relays: &[Relay],
+) -> Result<(), SiteFault>
+    requires few { length relays.now ≤ RELAYS }
+    ensures protections { OnOk result (HasMore (IsProtection (site_with relays.now)) (protect_line_of line.entry ∷ [])
+        protections.old.items protections.new.items) }
+    ensures err { IfErr result (λ fault. (text : List ℕ) (files : List File) → IsLineAt text number (shapes.Line.Protect (protect_line_of line.entry))
+        → AreRelays text files relays.now → (fault ≡ SiteFault.NoMemory) ⊎ HasFault text files fault) }
+{
+    match archive(relays, line.relay, line.action) {
+        Ok(archive) => {
+            let selector = line.selector;
+            match protections.push(Protection { selector, archive }) {
+                Ok(()) => Ok(()),
+                Err(_) => Err(SiteFault::NoMemory),
+            }
+        }
+        Err(Missing::Relay) => Err(SiteFault::Line(number)),
+        Err(Missing::Part) => Err(SiteFault::NoSuchArchive(number)),
+    }
+}
+
+// Puts what a line says behind the others, where it is a protect line.
+fn put_protection(
+    protections: &mut Vec<Protection>,
+    given: Given<'_>,
+    relays: &[Relay],
+) -> Result<(), SiteFault>
+    requires few { length relays.now ≤ RELAYS }
+    ensures protections { OnOk result (HasMore (IsProtection (site_with relays.now)) (protect_lines (line_given given.entry ∷ []))
+        protections.old.items protections.new.items) }
+    ensures err { IfErr result (λ fault. (text : List ℕ) (files : List File) → IsPlaced text given.entry
+        → AreRelays text files relays.now → (fault ≡ SiteFault.NoMemory) ⊎ HasFault text files fault) }
+{
+    let Given {
+        number,
+        line,
+        behind: _,
+    } = given;
+    match line {
+        Line::Protect(line) => protect(protections, line, number, relays),
+        _ => Ok(()),
+    }
+}
+
+/// What the protect lines of a text say.
+pub fn protections(
+    alloc: Global,
+    found: Vec<Given<'_>>,
+    relays: &[Relay],
+) -> Result<Vec<Protection>, SiteFault>
+    requires few { length relays.now ≤ RELAYS }
+    ensures protections { IfOk result (λ protections. HasMore (IsProtection (site_with relays.now))
+        (protect_lines (map line_given found.entry.items)) [] protections.items) }
+    ensures err { IfErr result (λ fault. (text : List ℕ) (files : List File) → All (IsPlaced text) found.entry.items
+        → AreRelays text files relays.now → (fault ≡ SiteFault.NoMemory) ⊎ HasFault text files fault) }
+{
+    let mut protections = Vec::new(alloc);
+    for given in found {
+        put_protection(&mut protections, given, relays)?;
+    }
+    Ok(protections)
+}
