@@ -1,3 +1,4 @@
 -- What private functions say.
 pub mod Lines
 pub mod Given
+pub mod Reading

@@ -3,4 +3,5 @@
 pub mod files;
 pub mod lines;
 pub mod names;
+pub mod reading;
 pub mod shapes;
