@@ -10,6 +10,7 @@ ghost use Rattle.sy_site.specs.machine.Lawful.{IsLawful};
 
 pub mod lookup;
 mod protected;
+mod read;
 pub mod relay;
 
 use lookup::{input_at_port, relay_named};

@@ -3,3 +3,4 @@ pub mod Shaped
 pub mod Noted
 pub mod OneSite
 pub mod Once
+pub mod Found

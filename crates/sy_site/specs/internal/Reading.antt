@@ -1,21 +1,81 @@
--- The lines of a text that were read.
-use Rattle.std.specs.Prelude.{◌≡◌, ℕ, List}
+-- The lines of a text that were read so far, and why reading stops at one.
+use Rattle.std.specs.Prelude.{◌≡◌, ℕ, ◌<◌, ◌≤◌, ◌⊎◌, true, false, List, [], ◌∷◌, ◌++◌, length, map, filter, codes}
 use Rattle.sy_site.specs.declared.texts.reading.Given.{Given}
-use Rattle.sy_site.specs.texts.HasFault.{Stands, number}
-use Rattle.sy_site.specs.texts.Shapes.{Line, IsLine}
+use Rattle.sy_site.specs.declared.texts.reading.Halt.{Halt}
+use Rattle.sy_site.specs.declared.texts.reading.Halt.TheVariants as halt
 use Rattle.sy_site.specs.internal.Lines.{line_of}
+use Rattle.sy_site.specs.texts.Lines.{is_kind, is_skipped, words}
+use Rattle.sy_site.specs.texts.Shapes.{Line, IsLine}
+use Rattle.sy_site.specs.texts.Files.{RELAYS}
+use Rattle.sy_site.specs.texts.Describes.{ENTRIES, PROTECTIONS, IsDuplicate}
+use Rattle.sy_site.specs.texts.HasFault.{Stands, number}
+
+-- the first word of a line
+abbrev pub kind : Line → List ℕ
+kind (Line.Relay it) = codes "relay"
+kind (Line.Entry it) = codes "entry"
+kind (Line.Protect it) = codes "protect"
+
+-- the most lines of its kind
+abbrev pub most : Line → ℕ
+most (Line.Relay it) = RELAYS
+most (Line.Entry it) = ENTRIES
+most (Line.Protect it) = PROTECTIONS
 
 abbrev pub line_given : Given → Line
-line_given g = line_of g.line
+line_given given = line_of given.line
 
--- the line of this number is this one
-pub record IsLineAt (text : List ℕ) (place : ℕ) (line : Line) : Type 0 where
+-- the words of a line that was read
+abbrev pub words_given : Given → List (List ℕ)
+words_given given = kind (line_given given) ∷ words given.behind.now
+
+-- both have a first word, and it is the same
+pub data BeginAlike : List (List ℕ) → List (List ℕ) → Type 0 where
+  alike : (word : List ℕ) (first second : List (List ℕ)) → BeginAlike (word ∷ first) (word ∷ second)
+
+-- This is what was read of the line of this number and these words.
+pub record IsGiven (given : Given) (place : ℕ) (line : List (List ℕ)) : Type 0 where
+  pub number_is : given.number ≡ place
+  pub words_are : words_given given ≡ line
+  pub shaped : IsLine line (line_given given)
+
+-- behind these lines stands less than the most of the line's kind
+abbrev pub HasRoom : List (List (List ℕ)) → Line → Type 0
+HasRoom before line = length (filter (is_kind (kind line)) before) < most line
+
+-- the line is one more than the most of its kind
+pub record IsTooMany (before : List (List (List ℕ))) (line : List (List ℕ)) : Type 0 where
+  pub of : Line
+  pub is_of : is_kind (kind of) line ≡ true
+  pub many : most of ≤ length (filter (is_kind (kind of)) before)
+
+-- a line that is not skipped has no shape
+pub record IsShapeless (line : List (List ℕ)) : Type 0 where
+  pub there : is_skipped line ≡ false
+  pub never : (it : Line) → IsLine line it → ⊥
+
+-- Behind these lines that were read, reading stops at this one.
+abbrev pub IsStopped : List (List (List ℕ)) → List (List ℕ) → Halt → Type 0
+IsStopped before line halt.Line = IsShapeless line ⊎ IsTooMany before line
+IsStopped before line halt.Duplicate = IsDuplicate before line
+IsStopped before line halt.NoMemory = Unit {0}
+
+-- The line of this number and these words was put behind the others.
+pub record IsAdded (old new : List Given) (place : ℕ) (line : List (List ℕ)) : Type 0 where
+  pub given : Given
+  pub is_given : IsGiven given place line
+  pub behind : new ≡ old ++ given ∷ []
+  pub room : HasRoom (map words_given old) (line_given given)
+  pub single : IsDuplicate (map words_given old) line → ⊥
+
+-- The line of this number is this one.
+pub record IsLineAt (text : List ℕ) (place : ℕ) (it : Line) : Type 0 where
   pub before : List (List (List ℕ))
-  pub words : List (List ℕ)
-  pub stands : Stands text before words
+  pub line : List (List ℕ)
+  pub stands : Stands text before line
   pub number_is : place ≡ number before
-  pub shape : IsLine words line
+  pub shaped : IsLine line it
 
--- the line stands at its number
+-- The line stands in the text, at its number.
 abbrev pub IsPlaced : List ℕ → Given → Type 0
-IsPlaced text g = IsLineAt text g.number (line_given g)
+IsPlaced text given = IsLineAt text given.number (line_given given)

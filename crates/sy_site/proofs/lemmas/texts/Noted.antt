@@ -82,7 +82,7 @@ next_words : (rest line behind : List ℕ) → lines rest ≡ line ∷ lines beh
 unfolding word_lines
 next_words rest line behind e = ap (map words) e
 
-no_words : (rest : List ℕ) → lines rest ≡ [] → word_lines rest ≡ []
+pub no_words : (rest : List ℕ) → lines rest ≡ [] → word_lines rest ≡ []
 unfolding word_lines
 no_words rest e = ap (map words) e
 
@@ -91,7 +91,7 @@ names_more : (names new : List (List ℕ)) (files later : List (List ℕ)) → n
 names_more names new [] later e = rw e refl
 names_more names new (file ∷ files) later e = names_more (if is_among file names then names else names ++ file ∷ []) new files later e
 
-split : (text rest line behind : List ℕ) (done : List Words) → word_lines text ≡ done ++ word_lines rest → lines rest ≡ line ∷ lines behind
+pub split : (text rest line behind : List ℕ) (done : List Words) → word_lines text ≡ done ++ word_lines rest → lines rest ≡ line ∷ lines behind
     → word_lines text ≡ done ++ words line ∷ word_lines behind
 split text rest line behind done whole next = whole ∙ ap (λ x. done ++ x) (next_words rest line behind next)
 

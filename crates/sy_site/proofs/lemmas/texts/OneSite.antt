@@ -92,7 +92,7 @@ letter_first words (Line.Protect it) h = ap first_letter h.whole
 same_letter : (words : List (List ℕ)) (a b : Line) → IsLine words a → IsLine words b → letter a ≡ letter b
 same_letter words a b is_a is_b = sym (letter_first words a is_a) ∙ letter_first words b is_b
 
-one_line : (words : List (List ℕ)) (a b : Line) → IsLine words a → IsLine words b → a ≡ b
+pub one_line : (words : List (List ℕ)) (a b : Line) → IsLine words a → IsLine words b → a ≡ b
 one_line words (Line.Relay a) (Line.Relay b) is_a is_b = ap Line.Relay (one_relay_line words a b is_a is_b)
 one_line words (Line.Entry a) (Line.Entry b) is_a is_b = ap Line.Entry (one_entry_line words a b is_a is_b)
 one_line words (Line.Protect a) (Line.Protect b) is_a is_b = ap Line.Protect (one_protect_line words a b is_a is_b)

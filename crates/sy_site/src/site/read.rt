@@ -1,0 +1,41 @@
+//! The site that texts describe.
+
+ghost use Rattle.std.specs.Prelude.{◌≡◌, ◌⊎◌, map, IfOk, IfErr};
+ghost use Rattle.sy_site.specs.internal.Given.{file};
+ghost use Rattle.sy_site.specs.texts.Describes.{Describes};
+ghost use Rattle.sy_site.specs.texts.HasFault.{HasFault};
+
+use super::Site;
+use super::protected::protects;
+use crate::fault::SiteFault;
+use crate::texts::reading::read_lines;
+use crate::texts::references::{entries, protections};
+use crate::texts::relays::relays;
+use std::alloc::Global;
+
+impl Site {
+    /// The site that a site file and the files of its relays describe. Of two files of one name the first counts.
+    ///
+    /// Refuses a text with a fault, for the first of these: of its lines by themselves (51, 52), of the relays' files
+    /// (53, 57), of the entry lines (51, 54), of the protect lines (51, 55), and where nothing is protected (56); of
+    /// those of one kind, for the first in the text.
+    pub fn read(alloc: Global, text: &[u8], files: &[(&str, &[u8])]) -> Result<Site, SiteFault>
+        ensures site { IfOk result (λ site. Describes text.now (map (λ f. file f.0.now f.1.now) files.now) site) }
+        // What is refused is there, or memory ran out.
+        ensures err { IfErr result (λ fault. (fault ≡ SiteFault.NoMemory)
+            ⊎ HasFault text.now (map (λ f. file f.0.now f.1.now) files.now) fault) }
+    {
+        let found = read_lines(alloc, text)?;
+        let relays = relays(alloc, found.as_slice(), files)?;
+        let entries = entries(alloc, found.as_slice(), relays.as_slice())?;
+        let protections = protections(alloc, found, relays.as_slice())?;
+        if entries.is_empty() || !protects(protections.as_slice()) {
+            return Err(SiteFault::NothingProtected);
+        }
+        Ok(Site {
+            relays,
+            entries,
+            protections,
+        })
+    }
+}
