@@ -4,3 +4,5 @@ pub mod Noted
 pub mod OneSite
 pub mod Once
 pub mod Found
+pub mod Described
+pub mod FaultsFound

@@ -15,6 +15,7 @@ use crate::site::lookup::{Missing, archive, entry};
 use crate::site::relay::Relay;
 use crate::site::{Protection, SiteInput};
 use crate::texts::reading::Given;
+use crate::texts::relays::put;
 use crate::texts::shapes::{Line, ProtectLine};
 use std::alloc::Global;
 
@@ -34,10 +35,7 @@ fn put_entry(
         return Ok(());
     };
     match entry(relays, line) {
-        Ok(input) => match entries.push(input) {
-            Ok(()) => Ok(()),
-            Err(_) => Err(SiteFault::NoMemory),
-        },
+        Ok(input) => put(entries, input),
         Err(Missing::Relay) => Err(SiteFault::Line(given.number)),
         Err(Missing::Part) => Err(SiteFault::NoSuchEntry(given.number)),
     }
@@ -78,10 +76,7 @@ fn protect(
     match archive(relays, line.relay, line.action) {
         Ok(archive) => {
             let selector = line.selector;
-            match protections.push(Protection { selector, archive }) {
-                Ok(()) => Ok(()),
-                Err(_) => Err(SiteFault::NoMemory),
-            }
+            put(protections, Protection { selector, archive })
         }
         Err(Missing::Relay) => Err(SiteFault::Line(number)),
         Err(Missing::Part) => Err(SiteFault::NoSuchArchive(number)),

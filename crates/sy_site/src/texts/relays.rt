@@ -1,6 +1,6 @@
 //! The relays of a site file's lines: the file of each, read as a plan.
 
-ghost use Rattle.std.specs.Prelude.{◌≡◌, ◌⊎◌, ◌∷◌, [], All, List, ℕ, Some, map, IfOk, IfErr, OnOk};
+ghost use Rattle.std.specs.Prelude.{◌≡◌, ◌⊎◌, ◌∷◌, ◌++◌, [], All, List, ℕ, Some, map, IfOk, IfErr, OnOk};
 ghost use Rattle.std.specs.Arc.{arc_value};
 ghost use Rattle.sy_site.specs.internal.Given.{IsRefused, file};
 ghost use Rattle.sy_site.specs.internal.Lines.{relay_line_of};
@@ -19,6 +19,17 @@ use std::sync::Arc;
 use sy_rules::Plan;
 use sy_rules::laws::plans_are_whole;
 use sy_script::Items;
+
+/// Puts one more behind the others.
+pub fn put<T: Drop>(items: &mut Vec<T>, item: T) -> Result<(), SiteFault>
+    ensures ok { OnOk result (items.new.items ≡ items.old.items ++ item ∷ []) }
+    ensures err { IfErr result (λ fault. fault ≡ SiteFault.NoMemory) }
+{
+    match items.push(item) {
+        Ok(()) => Ok(()),
+        Err(_) => Err(SiteFault::NoMemory),
+    }
+}
 
 // The fault of a relay line whose file is refused.
 fn fault_of(alloc: Global, line: &RelayLine<'_>, number: usize, refusal: Refusal) -> SiteFault
@@ -90,10 +101,9 @@ fn put_relay(
     let Line::Relay(line) = &given.line else {
         return Ok(());
     };
-    let relay = relay(alloc, line, given.number, files)?;
-    match relays.push(relay) {
-        Ok(()) => Ok(()),
-        Err(_) => Err(SiteFault::NoMemory),
+    match relay(alloc, line, given.number, files) {
+        Ok(relay) => put(relays, relay),
+        Err(fault) => Err(fault),
     }
 }
 

@@ -1,9 +1,18 @@
 -- What belongs to lines, list after list.
-use Rattle.std.proofs.Common.{◌≡◌, ℕ, zero, suc, ◌<◌, List, [], ◌∷◌, ◌++◌, length, map, refl, sym, ap, ◌∙◌, arith, append_assoc, append-nil}
-use Rattle.std.specs.Prelude.{All, Contains}
-use Rattle.std.proofs.lemmas.List.{length-map}
+use Rattle.std.proofs.Common.{◌≡◌, ℕ, zero, suc, ◌<◌, List, [], ◌∷◌, ◌++◌, length, map, get_or, drop, ◌+◌, ◌≤◌, Result, Ok, Err, refl, sym, ap, subst, ◌∙◌, arith, append_assoc, append-nil}
+use Rattle.std.specs.Prelude.{All, Contains, OnOk}
+use Rattle.std.proofs.lemmas.List.{drop_all, drop_more}
+use Rattle.std.proofs.lemmas.List.Elements.{All-cons}
 use Rattle.sy_site.specs.texts.Describes.{AllPaired, entry_lines, protect_lines, relay_lines}
 use Rattle.sy_site.specs.texts.Shapes.{Line, EntryLine, ProtectLine, RelayLine}
+use Rattle.sy_site.specs.declared.texts.reading.Given.{Given}
+use Rattle.sy_site.specs.declared.texts.shapes.RelayLine.{RelayLine as ReadRelay}
+use Rattle.sy_site.specs.declared.texts.shapes.EntryLine.{EntryLine as ReadEntry}
+use Rattle.sy_site.specs.declared.texts.shapes.ProtectLine.{ProtectLine as ReadProtect}
+use Rattle.sy_site.specs.declared.texts.shapes.Line.{Line as Read}
+use Rattle.sy_site.specs.declared.texts.shapes.Line.TheVariants as read
+use Rattle.sy_site.specs.internal.Lines.{line_of}
+use Rattle.sy_site.specs.internal.Reading.{line_given}
 use Rattle.sy_site.specs.internal.Relays.{HasMore}
 
 module _ {A B : Type 0} (P : A → B → Type 0) where
@@ -48,13 +57,17 @@ module _ {A B : Type 0} (P : A → B → Type 0) where
       (found.0, (suc found.1.0, omega (arith, found.1.1), found.1.2), found.2)
 
   pub all_right : (Q : B → Type 0) → ((x : A) (y : B) → P x y → Q y) → {xs : List A} {ys : List B} → AllPaired P xs ys → All Q ys
-  all_right Q each AllPaired.none = tt
-  all_right Q each (AllPaired.more p ps) = (each _ _ p, all_right Q each ps)
+  all_right Q each AllPaired.none = λ k d l. absurd (omega (arith, l))
+  all_right Q each (AllPaired.more {y = y} {ys = ys} p ps) = All-cons Q y ys (each _ _ p) (all_right Q each ps)
 
   pub paired_map : {C : Type 0} (f : B → C) (R : A → C → Type 0) → ((x : A) (y : B) → P x y → R x (f y)) → {xs : List A} {ys : List B}
       → AllPaired P xs ys → AllPaired R xs (map f ys)
   paired_map f R each AllPaired.none = AllPaired.none
   paired_map f R each (AllPaired.more p ps) = AllPaired.more (each _ _ p) (paired_map f R each ps)
+
+pub paired_as : {A B : Type 0} (P Q : A → B → Type 0) → ((x : A) (y : B) → P x y → Q x y) → {xs : List A} {ys : List B} → AllPaired P xs ys → AllPaired Q xs ys
+paired_as P Q each AllPaired.none = AllPaired.none
+paired_as P Q each (AllPaired.more p ps) = AllPaired.more (each _ _ p) (paired_as P Q each ps)
 
 -- ---- lines of a kind
 
@@ -72,3 +85,56 @@ pub protect_first : (line : Line) (lines : List Line) → protect_lines (line �
 protect_first (Line.Relay it) lines = refl
 protect_first (Line.Entry it) lines = refl
 protect_first (Line.Protect it) lines = refl
+
+-- ---- lines that were read, one after the other
+
+module _ {X B : Type 0} (P : X → B → Type 0) (kind : List Line → List X)
+    (first : (line : Line) (lines : List Line) → kind (line ∷ lines) ≡ kind (line ∷ []) ++ kind lines) where
+  pub next_line : (next : Given) (rest : List Given) (old mid final : List B) → HasMore P (kind (line_given next ∷ [])) old mid
+      → HasMore P (kind (map line_given rest)) mid final → HasMore P (kind (map line_given (next ∷ rest))) old final
+  next_line next rest old mid final one others =
+      subst (λ l. HasMore P l old final) (sym (first (line_given next) (map line_given rest)))
+      (more_both P (kind (line_given next ∷ [])) (kind (map line_given rest)) old mid final one others)
+
+  pub next_at : (found : List Given) (i : ℕ) (next : Given) (old mid final : List B) → i < length found → next ≡ get_or found i next
+      → HasMore P (kind (line_given next ∷ [])) old mid → HasMore P (kind (map line_given (drop (i + 1) found))) mid final
+      → HasMore P (kind (map line_given (drop i found))) old final
+  next_at found i next old mid final within is one others =
+      subst (λ l. HasMore P (kind (map line_given l)) old final) (sym cut) (next_line next (drop (i + 1) found) old mid final one others)
+    where
+      cut : drop i found ≡ next ∷ drop (i + 1) found
+      cut = drop_more found i next within ∙ ap (λ g. g ∷ drop (i + 1) found) (sym is)
+
+pub not_relay : (line : Read) → ((it : ReadRelay) → line ≡ read.Relay it → ⊥) → relay_lines (line_of line ∷ []) ≡ []
+not_relay (read.Relay it) never = absurd (never it refl)
+not_relay (read.Entry it) never = refl
+not_relay (read.Protect it) never = refl
+
+pub not_entry : (line : Read) → ((it : ReadEntry) → line ≡ read.Entry it → ⊥) → entry_lines (line_of line ∷ []) ≡ []
+not_entry (read.Relay it) never = refl
+not_entry (read.Entry it) never = absurd (never it refl)
+not_entry (read.Protect it) never = refl
+
+pub not_protect : (line : Read) → ((it : ReadProtect) → line ≡ read.Protect it → ⊥) → protect_lines (line_of line ∷ []) ≡ []
+not_protect (read.Relay it) never = refl
+not_protect (read.Entry it) never = refl
+not_protect (read.Protect it) never = absurd (never it refl)
+
+pub none_of : {X B : Type 0} (P : X → B → Type 0) (lines : List X) (old : List B) → lines ≡ [] → HasMore P lines old old
+none_of P lines old none = subst (λ l. HasMore P l old old) (sym none) (more_none P old)
+
+-- where putting one was answered Ok, it is what belongs to the line
+pub put_one : {A B E : Type 0} (P : A → B → Type 0) (x : A) (y : B) (old new : List B) (r : Result (Unit {0}) E) → P x y
+    → OnOk r (new ≡ old ++ y ∷ []) → OnOk r (HasMore P (x ∷ []) old new)
+put_one P x y old new (Ok u) belongs is = more_one P x y old new is belongs
+put_one P x y old new (Err e) belongs is = tt
+
+-- at the end of the lines
+pub at_end : {X B : Type 0} (P : X → B → Type 0) (kind : List Line → List X) (found : List Given) (i : ℕ) (old : List B) → kind [] ≡ [] → length found ≤ i
+    → HasMore P (kind (map line_given (drop i found))) old old
+at_end P kind found i old none past =
+    none_of P (kind (map line_given (drop i found))) old (ap (λ l. kind (map line_given l)) (drop_all i found past) ∙ none)
+
+pub nothing : {A : Type 0} (xs : List A) → length xs ≡ 0 → xs ≡ []
+nothing [] none = refl
+nothing (x ∷ xs) none = absurd (omega (arith, none))

@@ -148,7 +148,7 @@ one_relay files it a b is_a is_b = λ i. record { name = name i; address = addre
 same_entries : (a b : Site) → a.relays ≡ b.relays → (it : EntryLine) → entry_of a it ≡ entry_of b it
 same_entries a b same it = ap (λ rs. entry_of (record { relays = rs; entries = []; protections = [] }) it) same
 
-same_archives : (a b : Site) → a.relays ≡ b.relays → (it : ProtectLine) → archive_of a it ≡ archive_of b it
+pub same_archives : (a b : Site) → a.relays ≡ b.relays → (it : ProtectLine) → archive_of a it ≡ archive_of b it
 same_archives a b same it = ap (λ rs. archive_of (record { relays = rs; entries = []; protections = [] }) it) same
 
 pub one_site : (text : List ℕ) (files : List File) (a b : Site) → Describes text files a → Describes text files b → a ≡ b
