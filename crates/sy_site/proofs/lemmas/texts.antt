@@ -4,3 +4,4 @@ pub mod Noted
 pub mod OneSite
 pub mod Once
 pub mod Found
+pub mod NoFault

@@ -87,26 +87,39 @@ other_same (read.Protect x) never a b e = e
 
 -- ---- duplicates
 
-none_in : {A : Type 0} (x : A) → Contains [] x → ⊥
+pub none_in : {A : Type 0} (x : A) → Contains [] x → ⊥
 none_in x c = omega (arith, c.1)
+
+pub among_first : {A : Type 0} (x : A) (xs : List A) → Contains (x ∷ xs) x
+among_first x xs = Contains-append_left (x ∷ []) xs x (Contains-push [] x)
+
+pub among_later : {A : Type 0} (x : A) (xs : List A) (y : A) → Contains xs y → Contains (x ∷ xs) y
+among_later x xs y c = Contains-append_right (x ∷ []) xs y c
+
+pub among_cases : {A : Type 0} (x : A) (xs : List A) (y : A) → Contains (x ∷ xs) y → (x ≡ y) ⊎ Contains xs y
+among_cases x xs y c =
+    elim (Contains-append_cases (x ∷ []) xs y c) [
+      | inl one ↦
+          elim (Contains-push_cases [] x y one) [
+            | inl nothing ↦ absurd (none_in y nothing)
+            | inr same ↦ inl same
+          ]
+      | inr behind ↦ inr behind
+    ]
 
 single_first : (w : Words) → IsDuplicate [] w → ⊥
 single_first w d = none_in d.0 d.1
 
-again_first : (o : Words) (later : List Words) (w : Words) → Repeats o w → IsDuplicate (o ∷ later) w
-again_first o later w r = (o, Contains-append_left (o ∷ []) later o (Contains-push [] o), r)
+pub again_first : (o : Words) (later : List Words) (w : Words) → Repeats o w → IsDuplicate (o ∷ later) w
+again_first o later w r = (o, among_first o later, r)
 
-again_later : (o : Words) (later : List Words) (w : Words) → IsDuplicate later w → IsDuplicate (o ∷ later) w
-again_later o later w d = (d.0, Contains-append_right (o ∷ []) later d.0 d.1, d.2)
+pub again_later : (o : Words) (later : List Words) (w : Words) → IsDuplicate later w → IsDuplicate (o ∷ later) w
+again_later o later w d = (d.0, among_later o later d.0 d.1, d.2)
 
 again_cases : (o : Words) (later : List Words) (w : Words) → IsDuplicate (o ∷ later) w → Repeats o w ⊎ IsDuplicate later w
 again_cases o later w d =
-    elim (Contains-append_cases (o ∷ []) later d.0 d.1) [
-      | inl one ↦
-          elim (Contains-push_cases [] o d.0 one) [
-            | inl nothing ↦ absurd (none_in d.0 nothing)
-            | inr same ↦ inl (rw same d.2)
-          ]
+    elim (among_cases o later d.0 d.1) [
+      | inl same ↦ inl (rw same d.2)
       | inr behind ↦ inr (d.0, behind, d.2)
     ]
 
@@ -167,19 +180,19 @@ limit_of (Line.Protect it) = IsLimit.protections
 abbrev pub is_kept : Words → Bool
 is_kept w = not (is_skipped w)
 
-again_kept : (o w : Words) → Repeats o w → (is_skipped o ≡ false) × (is_skipped w ≡ false)
+pub again_kept : (o w : Words) → Repeats o w → (is_skipped o ≡ false) × (is_skipped w ≡ false)
 again_kept o w (Repeats.same_name name first second) = (refl, refl)
 again_kept o w (Repeats.same_entry ws) = (refl, refl)
 again_kept o w (Repeats.same_protection ws) = (refl, refl)
 
-skipped_kind : (it : Line) (w : Words) → is_skipped w ≡ true → is_kind (kind it) w ≡ false
+pub skipped_kind : (it : Line) (w : Words) → is_skipped w ≡ true → is_kind (kind it) w ≡ false
 skipped_kind it [] h = refl
 skipped_kind it ([] ∷ later) h = absurd (false≢true h)
 skipped_kind (Line.Relay it) ((b ∷ word) ∷ later) h = let e : b ≡ 35 = eqb-true b 35 h in rw e refl
 skipped_kind (Line.Entry it) ((b ∷ word) ∷ later) h = let e : b ≡ 35 = eqb-true b 35 h in rw e refl
 skipped_kind (Line.Protect it) ((b ∷ word) ∷ later) h = let e : b ≡ 35 = eqb-true b 35 h in rw e refl
 
-filter_yes : {A : Type 0} (p : A → Bool) (x : A) (xs : List A) → p x ≡ true → filter p (x ∷ xs) ≡ x ∷ filter p xs
+pub filter_yes : {A : Type 0} (p : A → Bool) (x : A) (xs : List A) → p x ≡ true → filter p (x ∷ xs) ≡ x ∷ filter p xs
 filter_yes p x xs e = rw e refl
 
 filter_no : {A : Type 0} (p : A → Bool) (x : A) (xs : List A) → p x ≡ false → filter p (x ∷ xs) ≡ filter p xs
