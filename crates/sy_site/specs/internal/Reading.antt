@@ -68,10 +68,11 @@ pub record IsAdded (old new : List Given) (place : ℕ) (line : List (List ℕ))
   pub room : HasRoom (map words_given old) (line_given given)
   pub single : IsDuplicate (map words_given old) line → ⊥
 
--- The line stands in the text, at its number.
+-- The line stands in the text, at its number, and in these words.
 pub record IsPlaced (text : List ℕ) (given : Given) : Type 0 where
   pub before : List (List (List ℕ))
   pub line : List (List ℕ)
   pub stands : Stands text before line
   pub number_is : given.number ≡ number before
+  pub words_are : words_given given ≡ line
   pub shaped : IsLine line (line_given given)

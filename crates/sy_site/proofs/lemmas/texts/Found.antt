@@ -389,6 +389,7 @@ module _ {text rest : List ℕ} {found : List Given} {place : ℕ} (so_far : Fou
       line = words line;
       stands = (word_lines behind, here);
       number_is = added.is_given.number_is ∙ so_far.place_is;
+      words_are = added.is_given.words_are;
       shaped = added.is_given.shaped;
     }
 
