@@ -12,14 +12,9 @@ ghost use Rattle.sy_site.specs.texts.Shapes.{IsLine, Line as Shape};
 
 use crate::fault::SiteFault;
 use crate::texts::lines::{behind_word, next_line, next_word};
+use crate::texts::names::{MOST_BYTES, MOST_RELAYS};
 use crate::texts::shapes::{Line, is_skipped, read_line};
 use std::alloc::Global;
-
-/// The most bytes of a site file.
-const MOST_BYTES: usize = 1_048_576;
-
-/// The most relay lines.
-const MOST_RELAYS: usize = 64;
 
 /// The most entry lines.
 const MOST_ENTRIES: usize = 256;
