@@ -1,7 +1,6 @@
 -- A text that describes a site has no fault.
-use Rattle.std.proofs.Common.{◌≡◌, ℕ, Bool, true, false, ◌+◌, ◌<◌, ◌≤◌, ◌==◌, ◌&&◌, zero, suc, List, [], ◌∷◌, ◌++◌, length, get_or, Option, Some, None, refl, sym, ap, subst, ◌∙◌, arith, inl, inr, length-append, filter}
+use Rattle.std.proofs.Common.{◌≡◌, ℕ, true, false, ◌<◌, ◌≤◌, ◌==◌, ◌&&◌, zero, suc, List, [], ◌∷◌, ◌++◌, length, get_or, Option, Some, None, refl, sym, ap, subst, ◌∙◌, arith, inl, inr, filter}
 use Rattle.std.proofs.lemmas.Bool.{false≢true}
-use Rattle.std.proofs.lemmas.List.Elements.{Contains-append_right, filter-append}
 use Rattle.std.proofs.lemmas.List.Folds.{Any-from_list_any}
 use Rattle.std.proofs.lemmas.List.Quantifiers.{position-Some}
 use Rattle.std.proofs.lemmas.Option.{option_and_then_some, slice_get-get_or}
@@ -24,16 +23,11 @@ use Rattle.sy_site.specs.texts.Lines.{is_kind, is_skipped, word_lines}
 use Rattle.sy_site.specs.texts.Shapes.{Line, RelayLine, EntryLine, ProtectLine, IsLine, IsRelayLine, IsEntryLine, IsProtectLine}
 use Rattle.sy_site.specs.texts.Describes.{AllPaired, AreLines, Describes, File, IsProtection, IsRelay, Repeats, archive_at, archive_of, entry_lines, entry_of, file_named, is_archive, protect_lines, relay_lines}
 use Rattle.sy_site.specs.texts.HasFault.{HasFault, HasPlan, IsEmpty, IsFileFault, IsLimit, IsOf, Names}
-use Rattle.sy_site.proofs.lemmas.texts.Found.{Single, again_first, again_later, among_cases, among_first, among_later, filter_yes, none_in, skipped_kind}
+use Rattle.sy_site.proofs.lemmas.texts.Found.{Single, again_first, again_later, among_cases, among_first, among_later, begins, count_no, count_yes, counted_in, line_there, none_in, of_kind, skipped_kind, stands_among}
 use Rattle.sy_site.proofs.lemmas.texts.Noted.{Words}
 use Rattle.sy_site.proofs.lemmas.texts.OneSite.{one_line, one_relay, one_relay_line, one_value}
 
 -- ---- a line and its words
-
-of_kind : (line : Words) (it : Line) → IsLine line it → (behind : Words) × (line ≡ kind it ∷ behind)
-of_kind line (Line.Relay it) h = (it.name ∷ it.file ∷ h.behind, h.whole)
-of_kind line (Line.Entry it) h = (it.relay ∷ h.port_word ∷ [], h.whole)
-of_kind line (Line.Protect it) h = (h.selector_word ∷ it.relay ∷ it.action ∷ [], h.whole)
 
 kind_kept : (it : Line) (behind : Words) → is_skipped (kind it ∷ behind) ≡ false
 kind_kept (Line.Relay it) behind = refl
@@ -44,25 +38,6 @@ shaped_kept : (line : Words) (it : Line) → IsLine line it → is_skipped line 
 shaped_kept line it h = let k = of_kind line it h in ap is_skipped k.1 ∙ kind_kept it k.0
 
 -- ---- the lines of a text
-
-stands_among : (all before later : List Words) (line : Words) → all ≡ before ++ line ∷ later → Contains all line
-stands_among all before later line e =
-    subst (λ ws. Contains ws line) (sym e) (Contains-append_right before (line ∷ later) line (among_first line later))
-
--- a line that is not skipped has a shape, and is there
-line_there : {all : List Words} {found : List Line} → AreLines all found → (line : Words) → Contains all line → is_skipped line ≡ false
-    → (it : Line) × IsLine line it × Contains found it
-line_there AreLines.none line c kept = absurd (none_in line c)
-line_there (AreLines.skip {words = w} {later = ws} {lines = found} e h) line c kept =
-    elim (among_cases w ws line c) [
-      | inl same ↦ absurd (false≢true (sym kept ∙ ap is_skipped (sym same) ∙ e))
-      | inr behind ↦ line_there h line behind kept
-    ]
-line_there (AreLines.shaped {words = w} {later = ws} {it = x} {lines = found} e is h) line c kept =
-    elim (among_cases w ws line c) [
-      | inl same ↦ (x, subst (λ v. IsLine v x) same is, among_first x found)
-      | inr behind ↦ let r = line_there h line behind kept in (r.0, r.1, among_later x found r.0 r.2)
-    ]
 
 line_among : {all : List Words} {found : List Line} → AreLines all found → (line : Words) (it : Line) → Contains all line → IsLine line it
     → Contains found it
@@ -175,13 +150,6 @@ of_protections (Line.Protect x ∷ found) it c =
 of_protections (Line.Relay x ∷ found) it c = among_later (Line.Relay x) found (Line.Protect it) (of_protections found it c)
 of_protections (Line.Entry x ∷ found) it c = among_later (Line.Entry x) found (Line.Protect it) (of_protections found it c)
 
--- how many begin with a word
-count_no : (p : Words → Bool) (w : Words) (ws : List Words) → p w ≡ false → length (filter p (w ∷ ws)) ≡ length (filter p ws)
-count_no p w ws e = rw e refl
-
-count_yes : (p : Words → Bool) (w : Words) (ws : List Words) → p w ≡ true → length (filter p (w ∷ ws)) ≡ length (filter p ws) + 1
-count_yes p w ws e = let first = ap length (filter_yes p w ws e) in omega (arith, first)
-
 no_relay : RelayLine
 no_relay = record { name = []; file = []; address = [] }
 
@@ -190,9 +158,6 @@ no_entry = record { relay = []; port = 0 }
 
 no_protect : ProtectLine
 no_protect = record { selector = []; relay = []; action = [] }
-
-begins : (word : List ℕ) (line : Words) (it : Line) → IsLine line it → is_kind word line ≡ bytes_eq (kind it) word
-begins word line it is = ap (is_kind word) (of_kind line it is).1
 
 count_relays : {all : List Words} {found : List Line} → AreLines all found → length (filter (is_kind (codes "relay")) all) ≡ length (relay_lines found)
 count_relays AreLines.none = refl
@@ -227,15 +192,6 @@ count_protections (AreLines.shaped {words = w} {later = ws} {it = Line.Relay x} 
     count_no (is_kind (codes "protect")) w ws (begins (codes "protect") w (Line.Relay x) is) ∙ count_protections h
 count_protections (AreLines.shaped {words = w} {later = ws} {it = Line.Entry x} e is h) =
     count_no (is_kind (codes "protect")) w ws (begins (codes "protect") w (Line.Entry x) is) ∙ count_protections h
-
--- one more than those before it
-counted_in : (word : List ℕ) (all before later : List Words) (line : Words) → all ≡ before ++ line ∷ later → is_kind word line ≡ true
-    → length (filter (is_kind word) before) < length (filter (is_kind word) all)
-counted_in word all before later line e is =
-    let whole : length (filter (is_kind word) all) ≡ length (filter (is_kind word) before) + length (filter (is_kind word) (line ∷ later)) =
-    ap (λ ws. length (filter (is_kind word) ws)) e ∙ ap length (filter-append (is_kind word) before (line ∷ later))
-    ∙ length-append (filter (is_kind word) before) (filter (is_kind word) (line ∷ later)) in
-    omega (arith, whole, count_yes (is_kind word) line later is)
 
 -- ---- lists side by side
 
