@@ -85,8 +85,8 @@ IsWrongAt text place =
     (before : List (List (List ℕ))) × (later : List (List (List ℕ))) × (line : List (List ℕ)) × (word_lines text ≡ before ++ line ∷ later)
     × (number before ≡ place) × IsWrong before line
 
--- Of what may be wrong with the lines of a text by themselves this is the first: no earlier line is refused, and one that is a duplicate not
--- for another reason.
+-- Of what may be wrong with the lines of a text by themselves this is the first: no earlier line is refused, and the line of a duplicate isn't
+-- also wrong for another reason.
 abbrev pub IsFirst : List ℕ → SiteFault → Type 0
 IsFirst text (fault.Line place) = NoneBefore text place
 IsFirst text (fault.Duplicate place) = NoneBefore text place × (IsWrongAt text place → ⊥)
