@@ -5,11 +5,19 @@ ghost use Rattle.sy_site.specs.Sites.{Site};
 ghost use Rattle.sy_site.specs.texts.Files as files;
 ghost use Rattle.sy_site.specs.texts.Lines.{word_lines};
 ghost use Rattle.sy_site.specs.texts.Describes.{Describes, File};
+ghost use Rattle.sy_site.specs.texts.HasFault.{HasFault};
+ghost use Rattle.sy_site.specs.declared.fault.SiteFault.{SiteFault};
 
 /// One text, with one list of files, describes one site at most.
 pub fn one_site()
     ensures { (text : List ℕ) (files : List File) (a b : Site) → Describes text files a → Describes text files b
         → a ≡ b }
+{}
+
+/// A text that describes a site has no fault.
+pub fn no_fault()
+    ensures { (text : List ℕ) (files : List File) (site : Site) (fault : SiteFault) → Describes text files site
+        → HasFault text files fault → ⊥ }
 {}
 
 /// The files of a text are those that its relay lines name, and none of them stands behind itself.

@@ -6,3 +6,4 @@ pub mod Once
 pub mod Found
 pub mod Described
 pub mod FaultsFound
+pub mod NoFault

@@ -13,7 +13,7 @@ use Rattle.sy_board.specs.relay.Plans.{retry_at}
 use Rattle.sy_site.specs.Sites.{SiteInput, is_protected, target}
 use Rattle.sy_site.specs.machine.Examples.{audit, edge_input, edge_plan, example_queue, example_site, hub_input, hub_plan, up}
 use Rattle.sy_site.specs.machine.Findings.{HoldsAt, Kind, IsForward}
-use Rattle.sy_site.specs.machine.Lawful.{IsArchive, IsLawful}
+use Rattle.sy_site.specs.machine.Lawful.{IsArchive, IsInput, IsLawful}
 use Rattle.sy_site.specs.machine.Reach.{Forwards, LeadsTo, MustAt, Reach, entry, leads_on, onward, writes}
 use Rattle.sy_site.specs.machine.Soundness.{IsSound, IsSoundFor}
 use Rattle.sy_site.proofs.machine.Lawful.{named_by}
@@ -108,6 +108,8 @@ audit_is_archive = record { parts = _; found = refl; file = _; writes = refl }
 
 pub example_is_lawful : IsLawful example_site
 example_is_lawful = record {
+  few = omega arith;
+  entries = All-from_recursion (IsInput example_site) example_site.entries (record { parts = _; found = refl }, tt);
   plans = All-from_recursion (λ relay. IsWhole relay.plan) example_site.relays (edge_is_whole, (hub_is_whole, tt));
   archives = All-from_recursion (λ p. IsArchive example_site p.archive) example_site.protections (audit_is_archive, tt);
 }

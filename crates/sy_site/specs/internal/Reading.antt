@@ -3,8 +3,10 @@ use Rattle.std.specs.Prelude.{◌≡◌, ℕ, ◌<◌, ◌≤◌, ◌⊎◌, tru
 use Rattle.sy_site.specs.declared.texts.reading.Given.{Given}
 use Rattle.sy_site.specs.declared.texts.reading.Halt.{Halt}
 use Rattle.sy_site.specs.declared.texts.reading.Halt.TheVariants as halt
+use Rattle.sy_site.specs.declared.fault.SiteFault.{SiteFault}
+use Rattle.sy_site.specs.declared.fault.SiteFault.TheVariants as fault
 use Rattle.sy_site.specs.internal.Lines.{line_of}
-use Rattle.sy_site.specs.texts.Lines.{is_kind, is_skipped, words}
+use Rattle.sy_site.specs.texts.Lines.{is_kind, is_skipped, word_lines, words}
 use Rattle.sy_site.specs.texts.Shapes.{Line, IsLine}
 use Rattle.sy_site.specs.texts.Files.{RELAYS}
 use Rattle.sy_site.specs.texts.Describes.{ENTRIES, PROTECTIONS, IsDuplicate}
@@ -54,11 +56,41 @@ pub record IsShapeless (line : List (List ℕ)) : Type 0 where
   pub there : is_skipped line ≡ false
   pub never : (it : Line) → IsLine line it → ⊥
 
+-- a line that has a shape, and is none too many, gives again what an earlier one gave
+pub record IsAgain (before : List (List (List ℕ))) (line : List (List ℕ)) : Type 0 where
+  pub of : Line
+  pub shaped : IsLine line of
+  pub room : HasRoom before of
+  pub again : IsDuplicate before line
+
+-- A line behind these is refused as one of no shape, or as one too many.
+abbrev pub IsWrong : List (List (List ℕ)) → List (List ℕ) → Type 0
+IsWrong before line = IsShapeless line ⊎ IsTooMany before line
+
 -- Behind these lines that were read, reading stops at this one.
 abbrev pub IsStopped : List (List (List ℕ)) → List (List ℕ) → Halt → Type 0
-IsStopped before line halt.Line = IsShapeless line ⊎ IsTooMany before line
-IsStopped before line halt.Duplicate = IsDuplicate before line
+IsStopped before line halt.Line = IsWrong before line
+IsStopped before line halt.Duplicate = IsAgain before line
 IsStopped before line halt.NoMemory = Unit {0}
+
+-- no line before the one of this number is refused
+abbrev pub NoneBefore : List ℕ → ℕ → Type 0
+NoneBefore text place =
+    (before later : List (List (List ℕ))) (line : List (List ℕ)) → word_lines text ≡ before ++ line ∷ later → number before < place
+    → IsWrong before line ⊎ IsDuplicate before line → ⊥
+
+-- the line of this number is wrong
+abbrev pub IsWrongAt : List ℕ → ℕ → Type 0
+IsWrongAt text place =
+    (before : List (List (List ℕ))) × (later : List (List (List ℕ))) × (line : List (List ℕ)) × (word_lines text ≡ before ++ line ∷ later)
+    × (number before ≡ place) × IsWrong before line
+
+-- Of what may be wrong with the lines of a text by themselves this is the first: no earlier line is refused, and the line of a duplicate isn't
+-- also wrong for another reason.
+abbrev pub IsFirst : List ℕ → SiteFault → Type 0
+IsFirst text (fault.Line place) = NoneBefore text place
+IsFirst text (fault.Duplicate place) = NoneBefore text place × (IsWrongAt text place → ⊥)
+IsFirst text _ = Unit {0}
 
 -- The line of this number and these words was put behind the others.
 pub record IsAdded (old new : List Given) (place : ℕ) (line : List (List ℕ)) : Type 0 where
@@ -68,6 +100,15 @@ pub record IsAdded (old new : List Given) (place : ℕ) (line : List (List ℕ))
   pub room : HasRoom (map words_given old) (line_given given)
   pub single : IsDuplicate (map words_given old) line → ⊥
 
+-- The line stands in the text, at its number, and in these words.
+pub record IsPlaced (text : List ℕ) (given : Given) : Type 0 where
+  pub before : List (List (List ℕ))
+  pub line : List (List ℕ)
+  pub stands : Stands text before line
+  pub number_is : given.number ≡ number before
+  pub words_are : words_given given ≡ line
+  pub shaped : IsLine line (line_given given)
+
 -- The line of this number is this one.
 pub record IsLineAt (text : List ℕ) (place : ℕ) (it : Line) : Type 0 where
   pub before : List (List (List ℕ))
@@ -76,6 +117,6 @@ pub record IsLineAt (text : List ℕ) (place : ℕ) (it : Line) : Type 0 where
   pub number_is : place ≡ number before
   pub shaped : IsLine line it
 
--- The line stands in the text, at its number.
-abbrev pub IsPlaced : List ℕ → Given → Type 0
-IsPlaced text given = IsLineAt text given.number (line_given given)
+-- What was read is the line of its number.
+abbrev pub IsFound : List ℕ → Given → Type 0
+IsFound text given = IsLineAt text given.number (line_given given)

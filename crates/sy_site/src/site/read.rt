@@ -2,6 +2,7 @@
 
 ghost use Rattle.std.specs.Prelude.{◌≡◌, ◌⊎◌, map, IfOk, IfErr};
 ghost use Rattle.sy_site.specs.internal.Given.{file};
+ghost use Rattle.sy_site.specs.Sites as spec;
 ghost use Rattle.sy_site.specs.texts.Describes.{Describes};
 ghost use Rattle.sy_site.specs.texts.HasFault.{HasFault};
 
@@ -14,14 +15,9 @@ use crate::texts::relays::relays;
 use std::alloc::Global;
 
 impl Site {
-    /// The site that a site file and the files of its relays describe. Of two files of one name the first counts.
-    ///
-    /// Refuses a text with a fault, for the first of these: of its lines by themselves (51, 52), of the relays' files
-    /// (53, 57), of the entry lines (51, 54), of the protect lines (51, 55), and where nothing is protected (56); of
-    /// those of one kind, for the first in the text.
-    pub fn read(alloc: Global, text: &[u8], files: &[(&str, &[u8])]) -> Result<Site, SiteFault>
+    // The site of these texts, or a fault that is there.
+    fn of_texts(alloc: Global, text: &[u8], files: &[(&str, &[u8])]) -> Result<Site, SiteFault>
         ensures site { IfOk result (λ site. Describes text.now (map (λ f. file f.0.now f.1.now) files.now) site) }
-        // What is refused is there, or memory ran out.
         ensures err { IfErr result (λ fault. (fault ≡ SiteFault.NoMemory)
             ⊎ HasFault text.now (map (λ f. file f.0.now f.1.now) files.now) fault) }
     {
@@ -37,5 +33,26 @@ impl Site {
             entries,
             protections,
         })
+    }
+
+    /// The site that a site file and the files of its relays describe. Of two files of one name the first counts.
+    ///
+    /// Refuses texts with a fault, for the first of these: of the lines by themselves (51, 52), of the relays' files
+    /// (53, 57), of the entry lines (51, 54), of the protect lines (51, 55), and where nothing is protected (56); of
+    /// those of one kind, for the first in the text. It takes time linear in the text and the files, but for the
+    /// look-up of names among at most 64 relays and of ports and names in their plans.
+    pub fn read(alloc: Global, text: &[u8], files: &[(&str, &[u8])]) -> Result<Site, SiteFault>
+        ensures site { IfOk result (λ site. Describes text.now (map (λ f. file f.0.now f.1.now) files.now) site) }
+        // What is refused is there, or memory ran out.
+        ensures err { IfErr result (λ fault. (fault ≡ SiteFault.NoMemory)
+            ⊎ HasFault text.now (map (λ f. file f.0.now f.1.now) files.now) fault) }
+        // Texts that describe a site are refused for memory alone.
+        ensures only { (site : spec.Site) → Describes text.now (map (λ f. file f.0.now f.1.now) files.now) site
+            → IfErr result (λ fault. fault ≡ SiteFault.NoMemory) }
+    {
+        match Site::of_texts(alloc, text, files) {
+            Ok(site) => Ok(site),
+            Err(fault) => Err(fault),
+        }
     }
 }

@@ -12,10 +12,10 @@ use crate::texts::shapes::relay_line;
 use std::alloc::{AllocError, Global};
 
 /// The most bytes of a site file.
-const MOST_BYTES: usize = 1_048_576;
+pub const MOST_BYTES: usize = 1_048_576;
 
 /// The most relay lines.
-const MOST_RELAYS: usize = 64;
+pub const MOST_RELAYS: usize = 64;
 
 fn is_among(names: &[String], name: &str) -> bool
     ensures { result ≡ spec.is_among name.now (map string_bytes names.now) }

@@ -12,14 +12,9 @@ ghost use Rattle.sy_site.specs.texts.Shapes.{IsLine, Line as Shape};
 
 use crate::fault::SiteFault;
 use crate::texts::lines::{behind_word, next_line, next_word};
+use crate::texts::names::{MOST_BYTES, MOST_RELAYS};
 use crate::texts::shapes::{Line, is_skipped, read_line};
 use std::alloc::Global;
-
-/// The most bytes of a site file.
-const MOST_BYTES: usize = 1_048_576;
-
-/// The most relay lines.
-const MOST_RELAYS: usize = 64;
 
 /// The most entry lines.
 const MOST_ENTRIES: usize = 256;
@@ -155,8 +150,8 @@ fn put<'t>(found: &mut Vec<Given<'t>>, line: Given<'t>) -> Result<(), Halt>
     ensures found { OnOk result (found.new.items ≡ found.old.items ++ line.entry ∷ []) }
     ensures few { OnOk result (spec.HasRoom (map words_given found.old.items) (line_given line.entry)) }
     ensures new { OnOk result (IsDuplicate (map words_given found.old.items) (words_given line.entry) → ⊥) }
-    ensures err { IfErr result (λ halt. spec.IsStopped (map words_given found.old.items) (words_given line.entry)
-        halt) }
+    ensures err { IfErr result (λ halt. IsLine (words_given line.entry) (line_given line.entry)
+        → spec.IsStopped (map words_given found.old.items) (words_given line.entry) halt) }
 {
     if how_many(found.as_slice(), kind(&line.line)) >= most(&line.line) {
         return Err(Halt::Line);
@@ -191,10 +186,10 @@ fn note<'t>(
     }
 }
 
-/// The lines of a text that are not skipped, in their order. Refuses a text that is too long, and the first line that
-/// has none of the three shapes, is one more than the most of its kind (51), or gives again what an earlier one gave
-/// (52); of these it answers the first in this order. It takes time linear in the text, and for each line a look at
-/// the lines before it, of which there are 576 at most.
+/// The lines of a text that are not skipped, in their order. Refuses a text that is too long, and a line that has none
+/// of the three shapes, or else is one more than the most of its kind (51), or else gives again what an earlier one
+/// gave (52); the first such line is answered. It takes time linear in the text, and for each line a look at the lines
+/// before it, of which there are 576 at most.
 pub fn read_lines(alloc: Global, text: &[u8]) -> Result<Vec<Given<'_>>, SiteFault>
     ensures small { OnOk result (length text.now ≤ BYTES) }
     ensures lines { IfOk result (λ found. AreLines (word_lines text.now) (map line_given found.items)) }
@@ -207,6 +202,7 @@ pub fn read_lines(alloc: Global, text: &[u8]) -> Result<Vec<Given<'_>>, SiteFaul
         ≤ PROTECTIONS) }
     ensures err { IfErr result (λ fault. (fault ≡ SiteFault.NoMemory)
         ⊎ ((files : List File) → HasFault text.now files fault)) }
+    ensures first { IfErr result (λ fault. spec.IsFirst text.now fault) }
 {
     if text.len() > MOST_BYTES {
         return Err(SiteFault::Line(1));

@@ -2,7 +2,7 @@
 
 ghost use Rattle.std.specs.Prelude.{◌≡◌, ◌≤◌, ◌⊎◌, ◌∷◌, [], All, List, ℕ, length, map, IfOk, IfErr, OnOk};
 ghost use Rattle.sy_site.specs.internal.Lines.{protect_line_of};
-ghost use Rattle.sy_site.specs.internal.Reading.{IsLineAt, IsPlaced, line_given};
+ghost use Rattle.sy_site.specs.internal.Reading.{IsFound, IsLineAt, line_given};
 ghost use Rattle.sy_site.specs.internal.Relays.{AreRelays, HasMore};
 ghost use Rattle.sy_site.specs.internal.SiteInside.{site_with};
 ghost use Rattle.sy_site.specs.texts.Describes.{File, IsEntry, IsProtection, entry_lines, protect_lines};
@@ -28,7 +28,7 @@ fn put_entry(
     requires few { length relays.now ≤ RELAYS }
     ensures entries { OnOk result (HasMore (IsEntry (site_with relays.now)) (entry_lines (line_given given.now ∷ []))
         entries.old.items entries.new.items) }
-    ensures err { IfErr result (λ fault. (text : List ℕ) (files : List File) → IsPlaced text given.now
+    ensures err { IfErr result (λ fault. (text : List ℕ) (files : List File) → IsFound text given.now
         → AreRelays text files relays.now → (fault ≡ SiteFault.NoMemory) ⊎ HasFault text files fault) }
 {
     let Line::Entry(line) = &given.line else {
@@ -50,7 +50,7 @@ pub fn entries(
     requires few { length relays.now ≤ RELAYS }
     ensures entries { IfOk result (λ entries. HasMore (IsEntry (site_with relays.now)) (entry_lines (map line_given found.now))
         [] entries.items) }
-    ensures err { IfErr result (λ fault. (text : List ℕ) (files : List File) → All (IsPlaced text) found.now
+    ensures err { IfErr result (λ fault. (text : List ℕ) (files : List File) → All (IsFound text) found.now
         → AreRelays text files relays.now → (fault ≡ SiteFault.NoMemory) ⊎ HasFault text files fault) }
 {
     let mut entries = Vec::new(alloc);
@@ -92,7 +92,7 @@ fn put_protection(
     requires few { length relays.now ≤ RELAYS }
     ensures protections { OnOk result (HasMore (IsProtection (site_with relays.now)) (protect_lines (line_given given.entry ∷ []))
         protections.old.items protections.new.items) }
-    ensures err { IfErr result (λ fault. (text : List ℕ) (files : List File) → IsPlaced text given.entry
+    ensures err { IfErr result (λ fault. (text : List ℕ) (files : List File) → IsFound text given.entry
         → AreRelays text files relays.now → (fault ≡ SiteFault.NoMemory) ⊎ HasFault text files fault) }
 {
     let Given {
@@ -115,7 +115,7 @@ pub fn protections(
     requires few { length relays.now ≤ RELAYS }
     ensures protections { IfOk result (λ protections. HasMore (IsProtection (site_with relays.now))
         (protect_lines (map line_given found.entry.items)) [] protections.items) }
-    ensures err { IfErr result (λ fault. (text : List ℕ) (files : List File) → All (IsPlaced text) found.entry.items
+    ensures err { IfErr result (λ fault. (text : List ℕ) (files : List File) → All (IsFound text) found.entry.items
         → AreRelays text files relays.now → (fault ≡ SiteFault.NoMemory) ⊎ HasFault text files fault) }
 {
     let mut protections = Vec::new(alloc);

@@ -4,7 +4,7 @@ ghost use Rattle.std.specs.Prelude.{◌≡◌, ◌⊎◌, ◌∷◌, ◌++◌, [
 ghost use Rattle.std.specs.Arc.{arc_value};
 ghost use Rattle.sy_site.specs.internal.Given.{IsRefused, file};
 ghost use Rattle.sy_site.specs.internal.Lines.{relay_line_of};
-ghost use Rattle.sy_site.specs.internal.Reading.{IsPlaced, line_given};
+ghost use Rattle.sy_site.specs.internal.Reading.{IsFound, line_given};
 ghost use Rattle.sy_site.specs.internal.Relays.{HasMore, IsRefusedRelay, IsWholeRelay};
 ghost use Rattle.sy_site.specs.texts.Describes.{File, file_named, relay_lines};
 ghost use Rattle.sy_site.specs.texts.HasFault.{HasFault};
@@ -95,7 +95,7 @@ fn put_relay(
 ) -> Result<(), SiteFault>
     ensures relays { OnOk result (HasMore (IsWholeRelay (map (λ f. file f.0.now f.1.now) files.now))
         (relay_lines (line_given given.now ∷ [])) relays.old.items relays.new.items) }
-    ensures err { IfErr result (λ fault. (text : List ℕ) → IsPlaced text given.now
+    ensures err { IfErr result (λ fault. (text : List ℕ) → IsFound text given.now
         → (fault ≡ SiteFault.NoMemory) ⊎ HasFault text (map (λ f. file f.0.now f.1.now) files.now) fault) }
 {
     let Line::Relay(line) = &given.line else {
@@ -115,7 +115,7 @@ pub fn relays(
 ) -> Result<Vec<Relay>, SiteFault>
     ensures relays { IfOk result (λ relays. HasMore (IsWholeRelay (map (λ f. file f.0.now f.1.now) files.now))
         (relay_lines (map line_given found.now)) [] relays.items) }
-    ensures err { IfErr result (λ fault. (text : List ℕ) → All (IsPlaced text) found.now
+    ensures err { IfErr result (λ fault. (text : List ℕ) → All (IsFound text) found.now
         → (fault ≡ SiteFault.NoMemory) ⊎ HasFault text (map (λ f. file f.0.now f.1.now) files.now) fault) }
 {
     let mut relays = Vec::new(alloc);

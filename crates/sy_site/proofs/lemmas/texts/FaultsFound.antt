@@ -1,5 +1,6 @@
 -- Faults that are there, since a line's file, relay, input or archive is missing.
 use Rattle.std.proofs.Common.{◌≡◌, ℕ, ◌==◌, ◌&&◌, List, map, Some, None, refl, sym, ap, subst, ◌∙◌}
+use Rattle.std.specs.Prelude.{All}
 use Rattle.std.specs.List.{position}
 use Rattle.std.specs.Str.{bytes_eq}
 use Rattle.sy_site.specs.declared.fault.RelayFault.{RelayFault}
@@ -9,10 +10,16 @@ use Rattle.sy_site.specs.Sites.{plan_at, relay_named}
 use Rattle.sy_site.specs.texts.Shapes.{Line, RelayLine, EntryLine, ProtectLine}
 use Rattle.sy_site.specs.texts.Describes.{File, file_named, is_archive}
 use Rattle.sy_site.specs.texts.HasFault.{HasFault, IsFileFault, IsOf}
-use Rattle.sy_site.specs.internal.Reading.{IsLineAt}
+use Rattle.sy_site.specs.declared.texts.reading.Given.{Given}
+use Rattle.sy_site.specs.internal.Reading.{IsFound, IsLineAt, IsPlaced}
 use Rattle.sy_site.specs.internal.Relays.{AreRelays, IsRefusedRelay}
 use Rattle.sy_site.specs.internal.SiteInside.{site_with, relay_of}
 use Rattle.sy_site.proofs.lemmas.texts.Described.{has_plan, unknown_relay}
+
+-- each line that was read is the one of its number
+pub all_found : (text : List ℕ) (found : List Given) → All (IsPlaced text) found → All (IsFound text) found
+all_found text found placed = λ k d l.
+    let p = placed k d l in record { before = p.before; line = p.line; stands = p.stands; number_is = p.number_is; shaped = p.shaped }
 
 pub file_refused : (files : List File) (line : RelayLine) (place : ℕ) (bytes : List ℕ) (why : RelayFault) (name : List ℕ) → name ≡ line.name
     → file_named files line.file ≡ Some bytes → IsFileFault bytes why → IsRefusedRelay files line place (fault.Relay place name why)

@@ -14,14 +14,14 @@ use Rattle.sy_site.specs.declared.texts.shapes.Line.{Line as Read}
 use Rattle.sy_site.specs.declared.texts.shapes.Line.TheVariants as read
 use Rattle.sy_site.specs.declared.texts.shapes.RelayLine.{RelayLine as ReadRelay}
 use Rattle.sy_site.specs.internal.Lines.{line_of}
-use Rattle.sy_site.specs.internal.Reading.{kind, most, line_given, words_given, BeginAlike, IsAdded, IsPlaced, IsShapeless, IsTooMany, HasRoom}
+use Rattle.sy_site.specs.internal.Reading.{kind, most, line_given, words_given, BeginAlike, HasRoom, IsAdded, IsAgain, IsPlaced, IsShapeless, IsTooMany, IsWrong, IsWrongAt, NoneBefore}
 use Rattle.sy_site.specs.texts.Lines.{is_kind, is_skipped, words, word_lines}
 use Rattle.sy_site.specs.texts.Shapes.{Line, IsLine}
 use Rattle.sy_site.specs.texts.Files.{RELAYS}
 use Rattle.sy_site.specs.texts.Describes.{ENTRIES, PROTECTIONS, AreLines, File, IsDuplicate, Repeats, entry_lines, protect_lines, relay_lines}
 use Rattle.sy_site.specs.texts.HasFault.{HasFault, IsLimit}
 use Rattle.sy_site.proofs.lemmas.texts.Shaped.{behind_first, first_same}
-use Rattle.sy_site.proofs.lemmas.texts.Noted.{Words, one_behind, no_words, split}
+use Rattle.sy_site.proofs.lemmas.texts.Noted.{Words, one_behind, no_words, split, within}
 
 -- ---- the same words
 
@@ -87,26 +87,39 @@ other_same (read.Protect x) never a b e = e
 
 -- ---- duplicates
 
-none_in : {A : Type 0} (x : A) → Contains [] x → ⊥
+pub none_in : {A : Type 0} (x : A) → Contains [] x → ⊥
 none_in x c = omega (arith, c.1)
+
+pub among_first : {A : Type 0} (x : A) (xs : List A) → Contains (x ∷ xs) x
+among_first x xs = Contains-append_left (x ∷ []) xs x (Contains-push [] x)
+
+pub among_later : {A : Type 0} (x : A) (xs : List A) (y : A) → Contains xs y → Contains (x ∷ xs) y
+among_later x xs y c = Contains-append_right (x ∷ []) xs y c
+
+pub among_cases : {A : Type 0} (x : A) (xs : List A) (y : A) → Contains (x ∷ xs) y → (x ≡ y) ⊎ Contains xs y
+among_cases x xs y c =
+    elim (Contains-append_cases (x ∷ []) xs y c) [
+      | inl one ↦
+          elim (Contains-push_cases [] x y one) [
+            | inl nothing ↦ absurd (none_in y nothing)
+            | inr same ↦ inl same
+          ]
+      | inr behind ↦ inr behind
+    ]
 
 single_first : (w : Words) → IsDuplicate [] w → ⊥
 single_first w d = none_in d.0 d.1
 
-again_first : (o : Words) (later : List Words) (w : Words) → Repeats o w → IsDuplicate (o ∷ later) w
-again_first o later w r = (o, Contains-append_left (o ∷ []) later o (Contains-push [] o), r)
+pub again_first : (o : Words) (later : List Words) (w : Words) → Repeats o w → IsDuplicate (o ∷ later) w
+again_first o later w r = (o, among_first o later, r)
 
-again_later : (o : Words) (later : List Words) (w : Words) → IsDuplicate later w → IsDuplicate (o ∷ later) w
-again_later o later w d = (d.0, Contains-append_right (o ∷ []) later d.0 d.1, d.2)
+pub again_later : (o : Words) (later : List Words) (w : Words) → IsDuplicate later w → IsDuplicate (o ∷ later) w
+again_later o later w d = (d.0, among_later o later d.0 d.1, d.2)
 
 again_cases : (o : Words) (later : List Words) (w : Words) → IsDuplicate (o ∷ later) w → Repeats o w ⊎ IsDuplicate later w
 again_cases o later w d =
-    elim (Contains-append_cases (o ∷ []) later d.0 d.1) [
-      | inl one ↦
-          elim (Contains-push_cases [] o d.0 one) [
-            | inl nothing ↦ absurd (none_in d.0 nothing)
-            | inr same ↦ inl (rw same d.2)
-          ]
+    elim (among_cases o later d.0 d.1) [
+      | inl same ↦ inl (rw same d.2)
       | inr behind ↦ inr (d.0, behind, d.2)
     ]
 
@@ -162,17 +175,43 @@ limit_of (Line.Relay it) = IsLimit.relays
 limit_of (Line.Entry it) = IsLimit.entries
 limit_of (Line.Protect it) = IsLimit.protections
 
+pub of_kind : (line : Words) (it : Line) → IsLine line it → (behind : Words) × (line ≡ kind it ∷ behind)
+of_kind line (Line.Relay it) h = (it.name ∷ it.file ∷ h.behind, h.whole)
+of_kind line (Line.Entry it) h = (it.relay ∷ h.port_word ∷ [], h.whole)
+of_kind line (Line.Protect it) h = (h.selector_word ∷ it.relay ∷ it.action ∷ [], h.whole)
+
+pub begins : (word : List ℕ) (line : Words) (it : Line) → IsLine line it → is_kind word line ≡ bytes_eq (kind it) word
+begins word line it is = ap (is_kind word) (of_kind line it is).1
+
+same_most : (a b : Line) → kind a ≡ kind b → most a ≡ most b
+same_most (Line.Relay a) (Line.Relay b) e = refl
+same_most (Line.Entry a) (Line.Entry b) e = refl
+same_most (Line.Protect a) (Line.Protect b) e = refl
+same_most (Line.Relay a) (Line.Entry b) e = let h : 114 ≡ 101 = same_letter _ _ _ _ e in absurd (omega (arith, h))
+same_most (Line.Relay a) (Line.Protect b) e = let h : 114 ≡ 112 = same_letter _ _ _ _ e in absurd (omega (arith, h))
+same_most (Line.Entry a) (Line.Relay b) e = let h : 101 ≡ 114 = same_letter _ _ _ _ e in absurd (omega (arith, h))
+same_most (Line.Entry a) (Line.Protect b) e = let h : 101 ≡ 112 = same_letter _ _ _ _ e in absurd (omega (arith, h))
+same_most (Line.Protect a) (Line.Relay b) e = let h : 112 ≡ 114 = same_letter _ _ _ _ e in absurd (omega (arith, h))
+same_most (Line.Protect a) (Line.Entry b) e = let h : 112 ≡ 101 = same_letter _ _ _ _ e in absurd (omega (arith, h))
+
+-- a line of a kind with room is not one too many
+room_left : (before : List Words) (line : Words) (it : Line) → IsLine line it → HasRoom before it → IsTooMany before line → ⊥
+room_left before line it is room many =
+    let same : kind it ≡ kind many.of = (bytes_eq-Decides (kind it) (kind many.of)).0 (sym (begins (kind many.of) line it is) ∙ many.is_of) in
+    let counts = ap (λ word. length (filter (is_kind word) before)) same in
+    omega (arith, counts, same_most it many.of same, room, many.many)
+
 -- ---- lines that are skipped
 
 abbrev pub is_kept : Words → Bool
 is_kept w = not (is_skipped w)
 
-again_kept : (o w : Words) → Repeats o w → (is_skipped o ≡ false) × (is_skipped w ≡ false)
+pub again_kept : (o w : Words) → Repeats o w → (is_skipped o ≡ false) × (is_skipped w ≡ false)
 again_kept o w (Repeats.same_name name first second) = (refl, refl)
 again_kept o w (Repeats.same_entry ws) = (refl, refl)
 again_kept o w (Repeats.same_protection ws) = (refl, refl)
 
-skipped_kind : (it : Line) (w : Words) → is_skipped w ≡ true → is_kind (kind it) w ≡ false
+pub skipped_kind : (it : Line) (w : Words) → is_skipped w ≡ true → is_kind (kind it) w ≡ false
 skipped_kind it [] h = refl
 skipped_kind it ([] ∷ later) h = absurd (false≢true h)
 skipped_kind (Line.Relay it) ((b ∷ word) ∷ later) h = let e : b ≡ 35 = eqb-true b 35 h in rw e refl
@@ -296,6 +335,58 @@ few_more (Line.Protect it) behind done few room word limit IsLimit.protections =
     let one : length (filter (is_kind (codes "protect")) ((codes "protect" ∷ behind) ∷ [])) ≡ 1 = refl in
     omega (arith, counted (codes "protect") done (codes "protect" ∷ behind), one, room)
 
+-- ---- the lines of a text
+
+pub stands_among : (all before later : List Words) (line : Words) → all ≡ before ++ line ∷ later → Contains all line
+stands_among all before later line e =
+    subst (λ ws. Contains ws line) (sym e) (Contains-append_right before (line ∷ later) line (among_first line later))
+
+-- a line that is not skipped has a shape, and is there
+pub line_there : {all : List Words} {found : List Line} → AreLines all found → (line : Words) → Contains all line → is_skipped line ≡ false
+    → (it : Line) × IsLine line it × Contains found it
+line_there AreLines.none line c kept = absurd (none_in line c)
+line_there (AreLines.skip {words = w} {later = ws} {lines = found} e h) line c kept =
+    elim (among_cases w ws line c) [
+      | inl same ↦ absurd (false≢true (sym kept ∙ ap is_skipped (sym same) ∙ e))
+      | inr behind ↦ line_there h line behind kept
+    ]
+line_there (AreLines.shaped {words = w} {later = ws} {it = x} {lines = found} e is h) line c kept =
+    elim (among_cases w ws line c) [
+      | inl same ↦ (x, subst (λ v. IsLine v x) same is, among_first x found)
+      | inr behind ↦ let r = line_there h line behind kept in (r.0, r.1, among_later x found r.0 r.2)
+    ]
+
+-- how many begin with a word
+pub count_no : (p : Words → Bool) (w : Words) (ws : List Words) → p w ≡ false → length (filter p (w ∷ ws)) ≡ length (filter p ws)
+count_no p w ws e = rw e refl
+
+pub count_yes : (p : Words → Bool) (w : Words) (ws : List Words) → p w ≡ true → length (filter p (w ∷ ws)) ≡ length (filter p ws) + 1
+count_yes p w ws e = let first = ap length (filter_yes p w ws e) in omega (arith, first)
+
+-- one more than those before it
+pub counted_in : (word : List ℕ) (all before later : List Words) (line : Words) → all ≡ before ++ line ∷ later → is_kind word line ≡ true
+    → length (filter (is_kind word) before) < length (filter (is_kind word) all)
+counted_in word all before later line e is =
+    let whole : length (filter (is_kind word) all) ≡ length (filter (is_kind word) before) + length (filter (is_kind word) (line ∷ later)) =
+    ap (λ ws. length (filter (is_kind word) ws)) e ∙ ap length (filter-append (is_kind word) before (line ∷ later))
+    ∙ length-append (filter (is_kind word) before) (filter (is_kind word) (line ∷ later)) in
+    omega (arith, whole, count_yes (is_kind word) line later is)
+
+same_cut : (done : List Words) (line : Words) (rest before : List Words) (l : Words) (later : List Words) → done ++ line ∷ rest ≡ before ++ l ∷ later
+    → length before ≡ length done
+    → (done ≡ before) × (line ≡ l)
+same_cut [] line rest [] l later e n = (refl, cc)
+same_cut [] line rest (b ∷ before) l later e n = absurd (omega (arith, n))
+same_cut (d ∷ done) line rest [] l later e n = absurd (omega (arith, n))
+same_cut (d ∷ done) line rest (b ∷ before) l later e n =
+    let head : d ≡ b = cc in
+    let tail : done ++ line ∷ rest ≡ before ++ l ∷ later = cc in
+    let h = same_cut done line rest before l later tail (omega (arith, n)) in (rw (head, h.0) refl, h.1)
+
+-- no line stands before line 1
+pub long_first : (text : List ℕ) → NoneBefore text 1
+long_first text before later l e less refused = omega (arith, less)
+
 -- ---- the lines so far
 
 pub record Found (text rest : List ℕ) (found : List Given) (place : ℕ) : Type 0 where
@@ -322,6 +413,24 @@ found_start text = record {
   none : Single []
   none [] later l e f = cc
   none (b ∷ before) later l e f = cc
+
+module _ {text rest : List ℕ} {found : List Given} {place : ℕ} (so_far : Found text rest found place) where
+  count_kept : (it : Line) → length (filter (is_kind (kind it)) (map words_given found)) ≡ length (filter (is_kind (kind it)) so_far.done)
+  count_kept it = ap (λ ws. length (filter (is_kind (kind it)) ws)) (sym so_far.kept) ∙ same_count it so_far.done
+
+  not_within : (before later : List Words) (l : Words) → so_far.done ≡ before ++ l ∷ later → IsWrong before l ⊎ IsDuplicate before l → ⊥
+  not_within before later l e (inl (inl h)) =
+      let r = line_there so_far.shaped l (stands_among so_far.done before later l e) h.there in h.never r.0 r.1
+  not_within before later l e (inl (inr h)) =
+      let less = counted_in (kind h.of) so_far.done before later l e h.is_of in
+      let few = so_far.few (kind h.of) (most h.of) (limit_of h.of) in
+      let kept = count_kept h.of in let many = h.many in omega (arith, less, few, kept, many)
+  not_within before later l e (inr d) = so_far.single before later l e d
+
+  pub none_before : NoneBefore text place
+  none_before before later l e less refused =
+      let cut = within so_far.done (word_lines rest) before later l (sym so_far.whole ∙ e) (omega (arith, less, so_far.place_is)) in
+      not_within before cut.0 l cut.1 refused
 
 module _ {text rest : List ℕ} {found : List Given} {place : ℕ} (so_far : Found text rest found place) (line behind : List ℕ)
     (next : lines rest ≡ line ∷ lines behind) where
@@ -376,6 +485,7 @@ module _ {text rest : List ℕ} {found : List Given} {place : ℕ} (so_far : Fou
       line = words line;
       stands = (word_lines behind, here);
       number_is = added.is_given.number_is ∙ so_far.place_is;
+      words_are = added.is_given.words_are;
       shaped = added.is_given.shaped;
     }
 
@@ -391,14 +501,22 @@ module _ {text rest : List ℕ} {found : List Given} {place : ℕ} (so_far : Fou
     where
       many : most h.of ≤ length (filter (is_kind (kind h.of)) so_far.done)
       many =
-          let kept : length (filter (is_kind (kind h.of)) (map words_given found)) ≡ length (filter (is_kind (kind h.of)) so_far.done) =
-          ap (λ ws. length (filter (is_kind (kind h.of)) ws)) (sym so_far.kept) ∙ same_count h.of so_far.done in
-          omega (arith, kept, h.many)
+          let kept = count_kept so_far h.of in omega (arith, kept, h.many)
 
-  pub duplicate_fault : IsDuplicate (map words_given found) (words line) → (files : List File) → HasFault text files (fault.Duplicate place)
-  duplicate_fault d files =
+  pub not_wrong : IsAgain (map words_given found) (words line) → IsWrongAt text place → ⊥
+  not_wrong a (before, later, l, e, at, wrong) =
+      let same = same_cut so_far.done (words line) (word_lines behind) before l later (sym here ∙ e) (omega (arith, at, so_far.place_is)) in
+      elim (subst (λ ws. IsWrong ws l) (sym same.0) wrong) [
+        | inl shapeless ↦ shapeless.never a.of (subst (λ w. IsLine w a.of) same.1 a.shaped)
+        | inr many ↦
+            room_left so_far.done l a.of (subst (λ w. IsLine w a.of) same.1 a.shaped)
+            (let kept = count_kept so_far a.of in let room = a.room in omega (arith, kept, room)) many
+      ]
+
+  pub duplicate_fault : IsAgain (map words_given found) (words line) → (files : List File) → HasFault text files (fault.Duplicate place)
+  duplicate_fault a files =
       rw so_far.place_is (HasFault.duplicate so_far.done (words line) (word_lines behind, here)
-      (among_all so_far.done (words line) (subst (λ ws. IsDuplicate ws (words line)) (sym so_far.kept) d)))
+      (among_all so_far.done (words line) (subst (λ ws. IsDuplicate ws (words line)) (sym so_far.kept) a.again)))
 
 -- ---- the text is at its end
 

@@ -30,7 +30,7 @@ one_behind (d ∷ done) line (b ∷ before) later l e =
     ]
 
 -- where it stands before the end of the first part
-within : (done : List Words) (rest before later : List Words) (l : Words) → done ++ rest ≡ before ++ l ∷ later → length before < length done
+pub within : (done : List Words) (rest before later : List Words) (l : Words) → done ++ rest ≡ before ++ l ∷ later → length before < length done
     → (more : List Words) × (done ≡ before ++ l ∷ more)
 within [] rest before later l e less = absurd (omega arith)
 within (d ∷ done) rest [] later l e less = let same : d ≡ l = cc in (done, rw same refl)

@@ -15,7 +15,7 @@ use Rattle.sy_site.specs.texts.Describes.{AllPaired, AreLines, Describes, File, 
 -- ---- lines
 
 -- what is one value is no other
-one_value : {A : Type 0} {o : Option A} {a b : A} → o ≡ Some a → o ≡ Some b → a ≡ b
+pub one_value : {A : Type 0} {o : Option A} {a b : A} → o ≡ Some a → o ≡ Some b → a ≡ b
 one_value first second = cc
 
 only : {A B : Type 0} {o : Option (A × B)} {a b : A} {r : B} → o ≡ Some (a, r) → o ≡ Some (b, r) → a ≡ b
@@ -29,7 +29,7 @@ one_address [] a b is_a is_b = is_a ∙ sym is_b
 one_address (word ∷ []) a b is_a is_b = one_dotted word a b is_a is_b
 one_address (word ∷ next ∷ later) a b is_a is_b = absurd is_a
 
-one_relay_line : (words : List (List ℕ)) (a b : RelayLine) → IsRelayLine words a → IsRelayLine words b → a ≡ b
+pub one_relay_line : (words : List (List ℕ)) (a b : RelayLine) → IsRelayLine words a → IsRelayLine words b → a ≡ b
 one_relay_line words a b is_a is_b = same a b parts.0 parts.1 (one_address is_a.behind a.address b.address is_a.address (rw parts.2 is_b.address))
   where
     both : codes "relay" ∷ a.name ∷ a.file ∷ is_a.behind ≡ codes "relay" ∷ b.name ∷ b.file ∷ is_b.behind
@@ -127,7 +127,7 @@ one_pairing single AllPaired.none AllPaired.none = refl
 one_pairing single (AllPaired.more p ps) (AllPaired.more q qs) =
     let first = single _ _ _ p q in let later = one_pairing single ps qs in λ i. first i ∷ later i
 
-one_relay : (files : List File) (line : RelayLine) (a b : Relay) → IsRelay files line a → IsRelay files line b → a ≡ b
+pub one_relay : (files : List File) (line : RelayLine) (a b : Relay) → IsRelay files line a → IsRelay files line b → a ≡ b
 one_relay files it a b is_a is_b = λ i. record { name = name i; address = address i; plan = plan i }
   where
     name : a.name ≡ b.name

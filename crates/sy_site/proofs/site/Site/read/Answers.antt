@@ -1,86 +1,11 @@
-use Rattle.std.proofs.Common.{rules, ◌≡◌, ◌<◌, List, [], inl, inr, map, length, refl, sym, ap, ◌∙◌, arith, eqb-true, true, false}
-use Rattle.std.proofs.lemmas.Grind.{common_steps}
+use Rattle.std.proofs.Common.{inl, inr, map}
 use Rattle.sy_site.specs.internal.Given.{file}
-use Rattle.sy_site.specs.internal.Reading.{line_given}
-use Rattle.sy_site.specs.internal.Relays.{AreRelays, IsWholeRelay}
-use Rattle.sy_site.specs.internal.SiteInside.{site_of, site_with}
-use Rattle.sy_site.specs.texts.Describes.{IsEntry, IsProtection, IsRelay, entry_lines, protect_lines, relay_lines}
-use Rattle.sy_site.specs.texts.HasFault.{HasFault}
-use Rattle.sy_site.proofs.lemmas.sites.Kept.{few_relays, lawful, protections_of}
-use Rattle.sy_site.proofs.lemmas.sites.More.{all_paired, nothing, paired_lengths}
-use Rattle.sy_site.proofs.lemmas.texts.Described.{all_empty, are_relays, no_entry_line, paired_relays}
+use Rattle.sy_site.proofs.lemmas.texts.NoFault.{no_fault}
 use Rattle.sy_site.proofs.site.Site.read.Goals as goal
-use Rattle.sy_site.proofs.site.Site.read.Goals.{then-is_empty-via-then-is_empty, then-is_empty-via-else-is_empty+then-not-protects}
 
-pub entries-requires : goal.entries-requires
-entries-requires c =
-    let relays = rw c.as_slice.ensures.value at c.in_ok-relays.ensures.relays in
-    record { few = rw c.as_slice-3.ensures.value (few_relays _ _ c.in_ok-relays.relays.items relays c.in_ok-found.ensures.few_relays) }
-
-pub protections-requires : goal.protections-requires
-protections-requires c =
-    let relays = rw c.as_slice.ensures.value at c.in_ok-relays.ensures.relays in
-    record { few = rw c.as_slice-4.ensures.value (few_relays _ _ c.in_ok-relays.relays.items relays c.in_ok-found.ensures.few_relays) }
-
-pub returns-in_err-entries-clause-err : goal.returns-in_err-entries-clause-err
-returns-in_err-entries-clause-err c =
-    let files = map (λ f. file f.0.now f.1.now) c.args.files.now in
-    let relays = rw c.as_slice.ensures.value at c.in_ok-relays.ensures.relays in
-    let are = are_relays c.args.text.now files (map line_given c.in_ok-found.found.items) c.in_ok-relays.relays.items c.in_ok-found.ensures.lines relays in
-    let refused = rw (c.as_slice-2.ensures.value, c.as_slice-3.ensures.value) at c.in_err-entries.ensures.err in
-    let err = refused c.args.text.now files c.in_ok-found.ensures.placed are in
-    search rules
-
-pub returns-in_err-protections-clause-err : goal.returns-in_err-protections-clause-err
-returns-in_err-protections-clause-err c =
-    let files = map (λ f. file f.0.now f.1.now) c.args.files.now in
-    let relays = rw c.as_slice.ensures.value at c.in_ok-relays.ensures.relays in
-    let are = are_relays c.args.text.now files (map line_given c.in_ok-found.found.items) c.in_ok-relays.relays.items c.in_ok-found.ensures.lines relays in
-    let refused = rw c.as_slice-4.ensures.value at c.in_err-protections.ensures.err in
-    let err = refused c.args.text.now files c.in_ok-found.ensures.placed are in
-    search rules
-
-pub returns-then-is_empty-clause-err : goal.returns-then-is_empty-clause-err
-returns-then-is_empty-clause-err c =
-    let entries = all_paired (IsEntry (site_with c.in_ok-relays.relays.items)) _ c.in_ok-entries.entries.items (rw (c.as_slice-2.ensures.value, c.as_slice-3.ensures.value) at c.in_ok-entries.ensures.entries) in
-    let site = site_of (record { relays = c.in_ok-relays.relays; entries = c.in_ok-entries.entries; protections = c.in_ok-protections.protections }) in
-    let protections = protections_of (site_with c.in_ok-relays.relays.items) site refl _ c.in_ok-protections.protections.items (rw c.as_slice-4.ensures.value at c.in_ok-protections.ensures.protections) in
-    elim c.then-is_empty.branch [
-      | then-is_empty-via-then-is_empty w ↦
-          let none : length c.in_ok-entries.entries.items ≡ 0 = omega (arith, eqb-true _ _ (sym w.if-is_empty.ensures), c.in_ok-entries.entries.ok) in
-          inr (HasFault.not_entered (no_entry_line c.in_ok-found.ensures.lines (nothing _ (paired_lengths (IsEntry (site_with c.in_ok-relays.relays.items)) entries ∙ none))))
-      | then-is_empty-via-else-is_empty+then-not-protects w ↦
-          inr (HasFault.not_protected (all_empty site c.in_ok-found.ensures.lines protections (rw w.as_slice-else-is_empty.ensures.value at (w.protects.ensures.no w.if-not-protects.true))))
+pub returns-in-Err-clause-only : goal.returns-in-Err-clause-only
+returns-in-Err-clause-only c = λ site described.
+    elim c.in-Err.ensures.err [
+      | inl full ↦ full
+      | inr there ↦ absurd (no_fault c.args.text.now (map (λ f. file f.0.now f.1.now) c.args.files.now) site c.in-Err.fault described there)
     ]
-
-pub invariant_of-result : goal.invariant_of-result
-invariant_of-result c =
-    let site = site_of (record { relays = c.in_ok-relays.relays; entries = c.in_ok-entries.entries; protections = c.in_ok-protections.protections }) in
-    let relays = rw c.as_slice.ensures.value at c.in_ok-relays.ensures.relays in
-    let entries = rw (c.as_slice-2.ensures.value, c.as_slice-3.ensures.value) at c.in_ok-entries.ensures.entries in
-    lawful (map (λ f. file f.0.now f.1.now) c.args.files.now) _ _ _ c.in_ok-relays.relays.items site refl relays c.in_ok-found.ensures.few_relays
-    (all_paired (IsEntry site) _ c.in_ok-entries.entries.items entries)
-    (protections_of (site_with c.in_ok-relays.relays.items) site refl _ c.in_ok-protections.protections.items (rw c.as_slice-4.ensures.value at c.in_ok-protections.ensures.protections))
-
-pub returns-clause-site : goal.returns-clause-site
-returns-clause-site c =
-    let files = map (λ f. file f.0.now f.1.now) c.args.files.now in
-    let site = site_of (record { relays = c.in_ok-relays.relays; entries = c.in_ok-entries.entries; protections = c.in_ok-protections.protections }) in
-    let relays = rw c.as_slice.ensures.value at c.in_ok-relays.ensures.relays in
-    let entries = rw (c.as_slice-2.ensures.value, c.as_slice-3.ensures.value) at c.in_ok-entries.ensures.entries in
-    let protected = c.protects.ensures.yes c.if-not-protects.false in
-    record {
-      small = c.in_ok-found.ensures.small;
-      lines = map line_given c.in_ok-found.found.items;
-      are_lines = c.in_ok-found.ensures.lines;
-      once = c.in_ok-found.ensures.once;
-      few_relays = c.in_ok-found.ensures.few_relays;
-      few_entries = c.in_ok-found.ensures.few_entries;
-      few_protections = c.in_ok-found.ensures.few_protections;
-      relays = paired_relays files (relay_lines (map line_given c.in_ok-found.found.items)) c.in_ok-relays.relays.items relays;
-      entries = all_paired (IsEntry site) _ c.in_ok-entries.entries.items entries;
-      protections = protections_of (site_with c.in_ok-relays.relays.items) site refl _ c.in_ok-protections.protections.items (rw c.as_slice-4.ensures.value at c.in_ok-protections.ensures.protections);
-      entered = grind (arith, common_steps);
-      class = protected.0;
-      protected = rw c.as_slice-else-is_empty.ensures.value at protected.1;
-    }

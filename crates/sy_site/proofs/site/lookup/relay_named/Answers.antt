@@ -1,4 +1,4 @@
-use Rattle.std.proofs.Common.{◌≡◌, ◌∙◌, sym}
+use Rattle.std.proofs.Common.{◌∙◌, sym}
 use Rattle.std.specs.Str.{bytes_eq}
 use Rattle.sy_site.specs.internal.SiteInside.{relay_of}
 use Rattle.sy_site.proofs.lemmas.sites.Places.{position_map}

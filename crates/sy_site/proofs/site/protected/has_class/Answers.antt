@@ -1,4 +1,4 @@
-use Rattle.std.proofs.Common.{◌≡◌, ◌∙◌, sym, arith}
+use Rattle.std.proofs.Common.{◌∙◌, sym, arith}
 use Rattle.sy_site.proofs.lemmas.sites.Classes.{none_all, none_first, none_more}
 use Rattle.sy_site.proofs.site.protected.has_class.Goals as goal
 

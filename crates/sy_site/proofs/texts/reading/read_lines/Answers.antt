@@ -2,11 +2,14 @@ use Rattle.std.proofs.Common.{arith, inl, inr}
 use Rattle.std.proofs.lemmas.Bool.{cases_Bool}
 use Rattle.sy_site.specs.texts.HasFault.{HasFault}
 use Rattle.sy_site.specs.texts.Lines.{is_skipped, words}
-use Rattle.sy_site.proofs.lemmas.texts.Found.{duplicate_fault, few_entries, few_protections, few_relays, found_lines, found_more, found_single, found_skip, found_start, line_fault}
+use Rattle.sy_site.proofs.lemmas.texts.Found.{duplicate_fault, few_entries, few_protections, few_relays, found_lines, found_more, found_single, found_skip, found_start, line_fault, long_first, none_before, not_wrong}
 use Rattle.sy_site.proofs.texts.reading.read_lines.Goals as goal
 
 pub returns-then-text-gt-MOST_BYTES-clause-err : goal.returns-then-text-gt-MOST_BYTES-clause-err
 returns-then-text-gt-MOST_BYTES-clause-err c = inr (λ files. HasFault.too_long c.if-text-gt-MOST_BYTES.true)
+
+pub returns-then-text-gt-MOST_BYTES-clause-first : goal.returns-then-text-gt-MOST_BYTES-clause-first
+returns-then-text-gt-MOST_BYTES-clause-first c = long_first c.args.text.now
 
 pub loop-line-init : goal.loop-line-init
 loop-line-init c = (rw c.new-found.ensures.items (found_start c.args.text.now), omega arith)
@@ -15,6 +18,16 @@ pub returns-in-Err-Line-clause-err : goal.returns-in-Err-Line-clause-err
 returns-in-Err-Line-clause-err c =
     inr (λ files. line_fault c.loop-line.invariant.0 c.in-Some.line.now c.in-Some.behind.now c.in-Some.ensures.some
     (rw c.in-Err-Line.field-0-is at c.in-Err-Line.ensures.err) files)
+
+pub returns-in-Err-Line-clause-first : goal.returns-in-Err-Line-clause-first
+returns-in-Err-Line-clause-first c = none_before c.loop-line.invariant.0
+
+pub returns-in-Err-Duplicate-clause-first : goal.returns-in-Err-Duplicate-clause-first
+returns-in-Err-Duplicate-clause-first c = (
+  none_before c.loop-line.invariant.0,
+  not_wrong c.loop-line.invariant.0 c.in-Some.line.now c.in-Some.behind.now c.in-Some.ensures.some
+      (rw c.in-Err-Duplicate.field-0-is at c.in-Err-Duplicate.ensures.err),
+)
 
 pub returns-in-Err-Duplicate-clause-err : goal.returns-in-Err-Duplicate-clause-err
 returns-in-Err-Duplicate-clause-err c =

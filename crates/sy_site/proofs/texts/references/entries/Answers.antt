@@ -1,4 +1,4 @@
-use Rattle.std.proofs.Common.{◌≡◌, arith, map, refl}
+use Rattle.std.proofs.Common.{arith, refl}
 use Rattle.sy_site.specs.internal.SiteInside.{site_with}
 use Rattle.sy_site.specs.texts.Describes.{IsEntry, entry_lines}
 use Rattle.sy_site.proofs.lemmas.sites.More.{at_end, entry_first, next_at}

@@ -1,4 +1,4 @@
-use Rattle.std.proofs.Common.{◌≡◌, inr, refl}
+use Rattle.std.proofs.Common.{inr, refl}
 use Rattle.sy_site.specs.internal.Lines.{protect_line_of}
 use Rattle.sy_site.specs.internal.SiteInside.{site_with}
 use Rattle.sy_site.specs.texts.Describes.{IsProtection}

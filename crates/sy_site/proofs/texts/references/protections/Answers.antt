@@ -1,5 +1,4 @@
-use Rattle.std.proofs.Common.{◌≡◌, ◌<◌, ◌+◌, ℕ, List, [], ◌∷◌, length, map, refl, sym, ap, subst, ◌∙◌, arith, rules}
-use Rattle.sy_site.specs.declared.texts.reading.Given.{Given}
+use Rattle.std.proofs.Common.{◌≡◌, [], map, sym, ap, subst, ◌∙◌, rules}
 use Rattle.sy_site.specs.internal.Reading.{line_given}
 use Rattle.sy_site.specs.internal.Relays.{HasMore}
 use Rattle.sy_site.specs.internal.SiteInside.{site_with}

@@ -1,4 +1,4 @@
-use Rattle.std.proofs.Common.{◌≡◌, inr}
+use Rattle.std.proofs.Common.{inr}
 use Rattle.sy_site.specs.texts.Describes.{IsEntry}
 use Rattle.sy_site.specs.internal.Lines.{entry_line_of}
 use Rattle.sy_site.specs.internal.SiteInside.{site_with}

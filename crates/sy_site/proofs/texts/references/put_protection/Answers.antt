@@ -1,4 +1,3 @@
-use Rattle.std.proofs.Common.{◌≡◌}
 use Rattle.sy_site.specs.texts.Describes.{IsProtection}
 use Rattle.sy_site.specs.internal.SiteInside.{site_with}
 use Rattle.sy_site.proofs.lemmas.sites.More.{none_of, not_protect}

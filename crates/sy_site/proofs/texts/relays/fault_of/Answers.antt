@@ -1,4 +1,4 @@
-use Rattle.std.proofs.Common.{◌≡◌, inr}
+use Rattle.std.proofs.Common.{inr}
 use Rattle.sy_site.specs.internal.Lines.{relay_line_of}
 use Rattle.sy_site.proofs.lemmas.texts.FaultsFound.{file_refused}
 use Rattle.sy_site.proofs.texts.relays.fault_of.Goals as goal

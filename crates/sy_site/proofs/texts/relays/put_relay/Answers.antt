@@ -1,4 +1,4 @@
-use Rattle.std.proofs.Common.{◌≡◌, map, inl, inr}
+use Rattle.std.proofs.Common.{map, inl, inr}
 use Rattle.sy_site.specs.internal.Given.{file}
 use Rattle.sy_site.specs.internal.Lines.{relay_line_of}
 use Rattle.sy_site.proofs.lemmas.texts.FaultsFound.{relay_refused}

@@ -1,4 +1,4 @@
-use Rattle.std.proofs.Common.{◌≡◌, inr, ap, sym, ◌∙◌}
+use Rattle.std.proofs.Common.{inr, ap, sym, ◌∙◌}
 use Rattle.std.specs.Option.{option_copied}
 use Rattle.sy_site.specs.internal.Relays.{IsRefusedRelay}
 use Rattle.sy_site.proofs.texts.relays.relay.Goals as goal

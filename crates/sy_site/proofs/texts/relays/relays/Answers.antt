@@ -1,4 +1,4 @@
-use Rattle.std.proofs.Common.{◌≡◌, arith, map, refl}
+use Rattle.std.proofs.Common.{arith, map, refl}
 use Rattle.sy_site.specs.internal.Given.{file}
 use Rattle.sy_site.specs.internal.Relays.{IsWholeRelay}
 use Rattle.sy_site.specs.texts.Describes.{relay_lines}
