@@ -2,8 +2,8 @@
 //! that begin with `//` say what follows.
 //!
 //! In a text `%` and two hexadecimal digits stand for a byte, and `%[n]` before a piece, which ends before the next `%`
-//! or with the text, for n of them; in such a piece `@` is the number of the repetition, from 1 on, and `^` the number
-//! after it.
+//! or with the text, for n of them; in such a piece `@` is the number of the repetition, from 1 on, `^` the number
+//! after it, and a backquote a line feed.
 
 use std::alloc::{AllocError, Global};
 use std::process::Abort;
@@ -35,7 +35,7 @@ fn put(alloc: Global, text: &mut Vec<u8>, piece: &str, number: u32) -> Result<()
             let digits = number.saturating_add(after).to_string(alloc)?;
             text.extend_from_slice(digits.as_bytes())?;
         } else {
-            text.push(*byte)?;
+            text.push(if *byte == b'`' { b'\n' } else { *byte })?;
         }
     }
     Ok(())
