@@ -190,8 +190,10 @@ fn put_input(
 fn put_relays(alloc: Global, text: &mut Vec<u8>, site: &Site) -> Result<(), AllocError> {
     for relay in 0..site.relays() {
         text.extend_from_slice(site.name(relay))?;
-        for action in 0..site.plan(relay).actions().len() {
-            put_input(alloc, text, site.target(relay, action as u32))?;
+        let mut number = 0;
+        for _ in site.plan(relay).actions() {
+            put_input(alloc, text, site.target(relay, number))?;
+            number = number.wrapping_add(1);
         }
         text.extend_from_slice(b"; ")?;
     }
@@ -333,8 +335,8 @@ fn is_ring(alloc: Global) -> Result<bool, AllocError> {
         scripts.push(script_to(alloc, (relay + 1) % 64)?)?;
     }
     let mut files = Vec::new(alloc);
-    for relay in 0..64 {
-        files.push((names[relay].as_str(), scripts[relay].as_bytes()))?;
+    for (name, script) in names.iter().zip(scripts.iter()) {
+        files.push((name.as_str(), script.as_bytes()))?;
     }
     Ok(match Site::read(alloc, text.as_bytes(), files.as_slice()) {
         Ok(site) => (0..64).all(|relay| leads_on(&site, relay)),
@@ -345,7 +347,7 @@ fn is_ring(alloc: Global) -> Result<bool, AllocError> {
 fn leads_on(site: &Site, relay: u32) -> bool {
     site.target(relay, 0)
         == Some(SiteInput {
-            relay: (relay + 1) % 64,
+            relay: relay.wrapping_add(1) % 64,
             input: 0,
         })
 }
