@@ -102,6 +102,17 @@ class Sources:
             with open(f"{room}/{path}", "w", encoding="utf-8") as it:
                 it.write(text)
 
+    def emptied(self, files, is_kept):
+        """The sources with every function of these files emptied that isn't to be kept, and those functions."""
+        after, gone = Sources(self.folder, self.texts), []
+        for path in files:
+            lines = after.text(path).split("\n")
+            for item in items_of(path, after.texts[path]):
+                if item.is_function and not is_kept(item) and empty(lines, item):
+                    gone.append(item)
+            after.texts[path] = "\n".join(lines)
+        return after, gone
+
 
 def items_of(file, text):
     """The functions and constants of a source."""
@@ -142,6 +153,28 @@ def end_of_function(lines, at, indent):
     return len(lines) - 1
 
 
+def empty(lines, item):
+    """Takes a function's body away, with the attributes that only a body has, and leaves its contract, so that nothing is
+    to be proved of it, and those that call it are judged as before. No line is added or lost. Returns whether it has a
+    body that can go: not where that stands in one line with its head, nor of a `const fn`, which may be computed."""
+    head, last = lines[item.first], lines[item.last]
+    indent = head[: len(head) - len(head.lstrip())]
+    within = range(item.first, item.last - 1)
+    opened = [at for at in within if lines[at] == indent + "{"] or [at for at in within if lines[at].endswith("{")]
+    has_body = last == indent + "}" and opened or last == indent + "{}" and item.first < item.last
+    if not has_body or "const fn" in head:
+        return False
+    for at in range(item.head, item.first):
+        if lines[at].lstrip().startswith(("#[cycle(", "#[tactic(")):
+            lines[at] = ""
+    lines[item.first] = f"{indent}#[tactic(none)] {head.lstrip()}"
+    if last == indent + "{}":
+        lines[item.last] = indent + "{ unreachable!() }"
+    else:
+        lines[opened[0] + 1 : item.last] = [indent + "    unreachable!()", *[""] * (item.last - opened[0] - 2)]
+    return True
+
+
 def end_of(lines, at, indent):
     """The last line of the constant or table that begins at a line: the one that ends it, or a closing bracket below its head."""
     for later in range(at, len(lines)):
@@ -157,11 +190,12 @@ class Crate:
     """What the judge asks of a crate's sources: which functions an edit may change, and what is in a cycle."""
 
     def __init__(self, folder):
-        self.items = []
+        self.folder, self.items, self.files = folder, [], []
         for at, _, names in sorted(os.walk(f"{folder}/src")):
             for name in sorted(names):
                 if name.endswith(".rt"):
                     path = os.path.relpath(f"{at}/{name}", folder)
+                    self.files.append(path)
                     with open(f"{at}/{name}", encoding="utf-8") as it:
                         text = it.read()
                     for item in items_of(path, text):
@@ -190,12 +224,9 @@ class Crate:
                 found.append(item)
         return found
 
-    def cycle(self, path):
-        """The cycle of calls that a function is declared to be in, or the function itself."""
-        for item in self.named(path):
-            if item.cycle:
-                return "+" + item.cycle
-        return path
+    def members(self, cycle):
+        """How many functions are declared to be in a cycle of calls."""
+        return sum(it.cycle == cycle for it, _ in self.items)
 
     def using(self, names):
         """Those names of items, and of all items that speak of them, directly or through constants."""
@@ -208,6 +239,13 @@ class Crate:
             seen |= more
         users = [it for it, text in self.items if it.is_function and seen and words.search(text)]
         return seen, users
+
+    def is_of_body(self, path, line):
+        """Whether a line is one of a function, of a constant or table, an import, or a comment."""
+        with open(f"{self.folder}/{path}", encoding="utf-8") as it:
+            text = it.read().split("\n")[line]
+        is_there = lambda it: it.file == path and it.head <= line <= it.last
+        return text.lstrip().startswith(("//", "use ")) or any(is_there(it) for it, _ in self.items)
 
     def touched(self, places):
         """What edits at these places change: functions, and the names of constants."""

@@ -56,9 +56,17 @@ def judged(sources, lines):
         elif goal:
             for path in standing_at(goal[1], int(goal[2]) - 1, places):
                 said[path].evidence.append(line)
-        elif function and "expected answers" in function[2]:
+        elif function and "expected answers" in function[2] and is_own(sources, function):
             said[function[1].partition("::")[2]].evidence.append(line)
     return said
+
+
+def is_own(sources, function):
+    """Whether a function's line speaks of a goal of its own. Those of a cycle of calls have one line, which names the
+    goals of all: each begins with the member that it is of."""
+    path = function[1].partition("::")[2]
+    is_one_of_several = any(sources.members(it.cycle) > 1 for it in sources.named(path) if it.cycle)
+    return not is_one_of_several or f"`{path.rpartition('::')[2]}-" in function[2]
 
 
 def standing_at(file, line, places):

@@ -1,5 +1,5 @@
 //! What stands before a device, and makes receipts.
-ghost use Rattle.std.specs.Prelude.{true, ◌≡◌, ◌+◌, ◌^◌, ◌≤◌, ◌⊎◌, IfErr, IfOk, OnErr, OnOk, Ok, Err};
+ghost use Rattle.std.specs.Prelude.{true, ◌≡◌, ◌+◌, ◌^◌, ◌<◌, ◌≤◌, ◌≢◌, ◌⊎◌, IfErr, IfOk, OnErr, OnOk, Ok, Err};
 ghost use Rattle.std.specs.Arc.{arc_value};
 ghost use Rattle.std.specs.Io.KnownBytes.{Keeps};
 ghost use Rattle.sy_wire.specs.Streams.{Rose};
@@ -90,20 +90,47 @@ impl<D: Device> Hatch<D> {
                 fault: DeviceFault::CountFull,
             });
         }
+        self.take(message)
+    }
+
+    // Offers a message to the device, where one more receipt can be counted.
+    #[inline]
+    fn take(&mut self, message: Arc<Message>) -> Result<Receipt, Failure>
+        requires { self.old.made + 1 < 2 ^ 64 }
+        ensures number { self.new.number ≡ self.old.number }
+        ensures receipt { IfOk result (λ r. r ≡ record { device = self.old.number; message = arc_value message }) }
+        ensures counted { OnOk result (self.new.made ≡ self.old.made + 1) }
+        ensures taken { OnOk result (Takes (D.stands_for self.old.device) (D.stands_for self.new.device) (arc_value message)) }
+        ensures done { OnOk result (D.offered self.old.device (arc_value message) (Ok tt) self.new.device) }
+        ensures failure { IfErr result (λ f. f ≡ record { device = self.old.number; message = arc_value message; fault = f.fault }) }
+        ensures uncounted { OnErr result (self.new.made ≡ self.old.made) }
+        ensures cause { IfErr result (λ f.
+            Rose (D.faults self.old.device) (D.faults self.new.device)
+            × MayTake (D.stands_for self.old.device) (D.stands_for self.new.device) (arc_value message)
+            × D.offered self.old.device (arc_value message) (Err f.fault) self.new.device) }
+        ensures own { IfErr result (λ f. f.fault ≢ DeviceFault.CountFull) }
+        ensures count { D.faults self.old.device ≤ D.faults self.new.device }
+    {
         match self.device.offer(&message) {
-            Ok(()) => {
-                self.made += 1;
-                Ok(Receipt {
-                    device: self.number,
-                    message,
-                })
-            }
+            Ok(()) => Ok(self.receipt(message)),
             Err(fault) => Err(Failure {
                 device: self.number,
                 message,
                 fault,
             }),
         }
+    }
+
+    // Counts and makes a receipt.
+    #[inline]
+    fn receipt(&mut self, message: Arc<Message>) -> Receipt
+        requires { self.old.made + 1 < 2 ^ 64 }
+        ensures receipt { result ≡ record { device = self.old.number; message = arc_value message } }
+        ensures counted { self.new ≡ record self.old { made = self.old.made + 1 } }
+    {
+        self.made += 1;
+        let device = self.number;
+        Receipt { device, message }
     }
 }
 
