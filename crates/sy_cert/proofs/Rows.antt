@@ -1,7 +1,8 @@
 -- Rows and one more.
 use Rattle.std.proofs.Common.{◌≡◌, true, List, [], ◌∷◌, ◌++◌}
 use Rattle.sy_cert.specs.declared.row.Row.{Row}
-use Rattle.sy_cert.specs.Rows.{AreRows, IsRow, Kind, kind, last_from, may_follow}
+use Rattle.sy_cert.specs.declared.kinds.Kind.{Kind}
+use Rattle.sy_cert.specs.Rows.{AreRows, IsRow, kind, last_from, may_follow}
 
 pub one_more : (before : Kind) (rows : List Row) (r : Row) → AreRows before rows → IsRow r → may_follow (last_from before rows) (kind r) ≡ true
     → AreRows before (rows ++ r ∷ [])

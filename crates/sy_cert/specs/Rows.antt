@@ -3,45 +3,65 @@ use Rattle.std.specs.Prelude.{◌≡◌, ℕ, ◌≤◌, ◌<◌, ◌+◌, ◌*�
 use Rattle.std.specs.Char.{is_ascii_alphanumeric}
 use Rattle.std.specs.Fmt.{decimal}
 use Rattle.std.specs.List.{list_all}
+use Rattle.sy_cert.specs.declared.kinds.Kind.{Kind}
+use Rattle.sy_cert.specs.declared.kinds.Kind.TheVariants as kinds
 use Rattle.sy_cert.specs.declared.row.Row.{Row}
 use Rattle.sy_cert.specs.declared.row.Row.TheVariants as row
 
--- ---- the text: one space between the words of a line, LF behind each line, numbers without leading zeros
+-- ---- the text: one space between the words of a line, LF after each line, numbers without leading zeros
 
--- further words of a line, each behind a space
+-- the words of a row's line
+abbrev pub words : Row → List (List ℕ)
+words (row.Class c) = codes "class" ∷ decimal (8 * c.facility + c.severity) ∷ []
+words (row.Reach relay port) = codes "reach" ∷ relay ∷ decimal port ∷ []
+words (row.Rank relay rank) = codes "rank" ∷ relay ∷ decimal rank ∷ []
+words (row.Path relay port archive_relay action occurrences) =
+    codes "path" ∷ relay ∷ decimal port ∷ archive_relay ∷ action ∷ map decimal occurrences
+
+-- further words of a line, each after a space
 abbrev pub further : List (List ℕ) → List ℕ
 further [] = []
 further (w ∷ ws) = 32 ∷ w ++ further ws
 
+-- words with a space between them
+abbrev pub spaced : List (List ℕ) → List ℕ
+spaced [] = []
+spaced (w ∷ ws) = w ++ further ws
+
 abbrev pub line : Row → List ℕ
-line (row.Class c) = codes "class" ++ further (decimal (8 * c.facility + c.severity) ∷ [])
-line (row.Reach relay port) = codes "reach" ++ further (relay ∷ decimal port ∷ [])
-line (row.Rank relay n) = codes "rank" ++ further (relay ∷ decimal n ∷ [])
-line (row.Path relay port archive action way) = codes "path" ++ further (relay ∷ decimal port ∷ archive ∷ action ∷ map decimal way)
+line r = spaced (words r)
 
 abbrev pub lines : List Row → List ℕ
 lines [] = []
 lines (r ∷ rows) = line r ++ 10 ∷ lines rows
 
+-- the first line, with the version
+abbrev pub head : ℕ → List ℕ
+head version = codes "cert" ++ 32 ∷ decimal version
+
 abbrev pub text : ℕ → List Row → List ℕ
-text version rows = codes "cert" ++ further (decimal version ∷ []) ++ 10 ∷ lines rows
+text version rows = head version ++ 10 ∷ lines rows
 
 -- ---- which rows there are
 
-abbrev pub is_some : List ℕ → Bool
-is_some [] = false
-is_some (b ∷ bs) = true
+abbrev pub has_bytes : List ℕ → Bool
+has_bytes [] = false
+has_bytes (b ∷ bs) = true
 
 -- 1 to 64 letters, digits, '-', '_' and '.'
 abbrev pub is_name_byte : ℕ → Bool
-is_name_byte b = is_ascii_alphanumeric b || (b == 45) || (b == 95) || (b == 46)
+is_name_byte b = is_ascii_alphanumeric b || (b == 45 || (b == 95 || b == 46))
 
 abbrev pub is_name : List ℕ → Bool
-is_name w = is_some w && (nat_le (length w) 64 && list_all is_name_byte w)
+is_name w = has_bytes w && (nat_le (length w) 64 && list_all is_name_byte w)
 
--- an action's name in one word: no space, tab or LF
+-- no space, tab or LF
+abbrev pub is_action_byte : ℕ → Bool
+is_action_byte b = not (b == 32) && (not (b == 9) && not (b == 10))
+
+-- an action's name in one word
 abbrev pub is_action : List ℕ → Bool
-is_action w = is_some w && list_all (λ b. not ((b == 32) || (b == 9) || (b == 10))) w
+is_action w = has_bytes w && list_all is_action_byte w
 
 abbrev pub IsPort : ℕ → Type 0
 IsPort n = (1 ≤ n) × (n ≤ 65535)
@@ -53,24 +73,18 @@ AreOccurrences (n ∷ ns) = (n < 64) × AreOccurrences ns
 abbrev pub IsRow : Row → Type 0
 IsRow (row.Class c) = (c.facility < 24) × (c.severity < 8)
 IsRow (row.Reach relay port) = (is_name relay ≡ true) × IsPort port
-IsRow (row.Rank relay n) = (is_name relay ≡ true) × (n ≤ 4294967295)
-IsRow (row.Path relay port archive action way) =
-    (is_name relay ≡ true) × IsPort port × (is_name archive ≡ true) × (is_action action ≡ true) × AreOccurrences way
+IsRow (row.Rank relay rank) = (is_name relay ≡ true) × (rank ≤ 4294967295)
+IsRow (row.Path relay port archive_relay action occurrences) =
+    (is_name relay ≡ true) × IsPort port × (is_name archive_relay ≡ true) × (is_action action ≡ true)
+    × AreOccurrences occurrences
 
 -- ---- their order
 
-pub data Kind : Type 0 where
-  Cert : Kind
-  Class : Kind
-  Reach : Kind
-  Rank : Kind
-  Path : Kind
-
 abbrev pub kind : Row → Kind
-kind (row.Class c) = Kind.Class
-kind (row.Reach relay port) = Kind.Reach
-kind (row.Rank relay n) = Kind.Rank
-kind (row.Path relay port archive action way) = Kind.Path
+kind (row.Class c) = kinds.Class
+kind (row.Reach relay port) = kinds.Reach
+kind (row.Rank relay rank) = kinds.Rank
+kind (row.Path relay port archive_relay action occurrences) = kinds.Path
 
 -- the kind of the last row, or of the first line
 abbrev pub last_from : Kind → List Row → Kind
@@ -78,17 +92,17 @@ last_from before [] = before
 last_from before (r ∷ rows) = last_from (kind r) rows
 
 abbrev pub last_kind : List Row → Kind
-last_kind rows = last_from Kind.Cert rows
+last_kind rows = last_from kinds.Cert rows
 
 abbrev pub may_follow : Kind → Kind → Bool
-may_follow Kind.Cert Kind.Class = true
-may_follow Kind.Path Kind.Class = true
-may_follow Kind.Class Kind.Reach = true
-may_follow Kind.Reach Kind.Reach = true
-may_follow Kind.Reach Kind.Rank = true
-may_follow Kind.Rank Kind.Rank = true
-may_follow Kind.Rank Kind.Path = true
-may_follow Kind.Path Kind.Path = true
+may_follow kinds.Cert kinds.Class = true
+may_follow kinds.Path kinds.Class = true
+may_follow kinds.Class kinds.Reach = true
+may_follow kinds.Reach kinds.Reach = true
+may_follow kinds.Reach kinds.Rank = true
+may_follow kinds.Rank kinds.Rank = true
+may_follow kinds.Rank kinds.Path = true
+may_follow kinds.Path kinds.Path = true
 may_follow _ _ = false
 
 abbrev pub AreRows : Kind → List Row → Type 0

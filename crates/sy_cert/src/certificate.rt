@@ -1,8 +1,9 @@
 //! A certificate as a value.
 ghost use Rattle.std.specs.Prelude.{◌≡◌, ◌++◌, [], ◌∷◌, true, OnErr, OnOk};
 ghost use Rattle.sy_cert.specs.CertificateValue as value;
-ghost use Rattle.sy_cert.specs.Rows.{IsRow, Kind, kind, last_kind, may_follow};
+ghost use Rattle.sy_cert.specs.Rows.{IsRow, kind, last_kind, may_follow};
 
+use crate::kinds::{follows, kind_of, last_kind};
 use crate::row::Row;
 use std::alloc::{AllocError, Global};
 use std::marker::Model;
@@ -19,13 +20,14 @@ pub struct Certificate {
 impl Model for Certificate {
     ghost use Rattle.std.specs.Prelude.{◌≡◌};
     ghost use Rattle.sy_cert.specs.CertificateValue as value;
-    ghost use Rattle.sy_cert.specs.Rows.{AreRows, Kind};
+    ghost use Rattle.sy_cert.specs.declared.kinds.Kind.TheVariants as kinds;
+    ghost use Rattle.sy_cert.specs.Rows.{AreRows};
 
     ghost Value = { value.Certificate };
 
     ghost view = { λ c. record { version = c.version; rows = c.rows.items } };
 
-    ghost invariant = { λ c. (c.version ≡ 1) × AreRows Kind.Cert c.rows.items };
+    ghost invariant = { λ c. (c.version ≡ 1) × AreRows kinds.Cert c.rows.items };
 }
 
 impl Certificate {
@@ -39,6 +41,14 @@ impl Certificate {
             version,
             rows: Vec::new(alloc),
         }
+    }
+
+    /// Whether a row may follow the last one, by its kind: a class row the first line or a path row, a reach row a class
+    /// or a reach row, a rank row a reach or a rank row, and a path row a rank or a path row.
+    pub fn may_follow(&self, row: &Row) -> bool
+        ensures { result ≡ may_follow (last_kind self.now.rows) (kind row.now) }
+    {
+        follows(last_kind(self.rows()), kind_of(row))
     }
 
     /// Puts a row after the last. It has its shape with its numbers in range, and may follow the last row. Without memory nothing is put.

@@ -3,15 +3,29 @@
 use sy_script::Items;
 use sy_wire::Class;
 
-/// A row of a certificate. Relays and archives' relays are given by their names.
+/// A row of a certificate. Relays are given by their names, of 1 to 64 letters, digits, `-`, `_` and `.`; ports are 1
+/// to 65535.
 #[derive(Drop)]
 pub enum Row {
-    /// a protected class, of which the rows behind it speak
+    /// a protected class, of which the rows after it speak
     Class(Class),
     /// a relay and the port of an input that messages of the class reach
-    Reach(Items<u8>, u16),
+    Reach {
+        relay: Items<u8>,
+        port: u16,
+    },
     /// a relay and its rank, which is above those of the relays that it forwards such messages to
-    Rank(Items<u8>, u32),
-    /// the entry's relay and port, the archive's relay and action, and the occurrences of the forwards between them
-    Path(Items<u8>, u16, Items<u8>, Items<u8>, Items<u8>),
+    Rank {
+        relay: Items<u8>,
+        rank: u32,
+    },
+    /// an entry's relay and port, the archive's relay and its action's name there (of any bytes but space, tab and LF),
+    /// and the occurrences of the forwards from the one to the other, each below 64
+    Path {
+        relay: Items<u8>,
+        port: u16,
+        archive_relay: Items<u8>,
+        action: Items<u8>,
+        occurrences: Items<u8>,
+    },
 }

@@ -1,10 +1,16 @@
 //! The text of a certificate.
-ghost use Rattle.std.specs.Prelude.{◌≡◌, ◌++◌, [], ◌∷◌, map, IfOk, OnOk};
+ghost use Rattle.std.specs.Prelude.{◌≡◌, ◌⊎◌, ◌++◌, [], ◌∷◌, List, map, IfOk, IfErr, OnOk};
 ghost use Rattle.std.specs.Fmt.{decimal};
-ghost use Rattle.sy_cert.specs.Rows.{further, line, text};
+ghost use Rattle.sy_cert.specs.Faults.{HasFault, IsRefused};
+ghost use Rattle.sy_cert.specs.declared.kinds.Kind.TheVariants as kinds;
+ghost use Rattle.sy_cert.specs.declared.row.Row.{Row as AnyRow};
+ghost use Rattle.sy_cert.specs.Rows.{AreRows, further, line, text};
 
 use crate::certificate::Certificate;
+use crate::fault::{FaultCode, TextFault};
+use crate::reading::take_line;
 use crate::row::Row;
+use crate::words::cut;
 use std::alloc::{AllocError, Global};
 
 // A word behind another.
@@ -41,23 +47,29 @@ fn push_row(alloc: Global, text: &mut Vec<u8>, row: &Row) -> Result<(), AllocErr
             text.extend_from_slice(b"class")?;
             push_number(alloc, text, class.number() as u32)?;
         }
-        Row::Reach(relay, port) => {
+        Row::Reach { relay, port } => {
             text.extend_from_slice(b"reach")?;
             push_word(text, relay.as_slice())?;
             push_number(alloc, text, *port as u32)?;
         }
-        Row::Rank(relay, rank) => {
+        Row::Rank { relay, rank } => {
             text.extend_from_slice(b"rank")?;
             push_word(text, relay.as_slice())?;
             push_number(alloc, text, *rank)?;
         }
-        Row::Path(relay, port, archive, action, way) => {
+        Row::Path {
+            relay,
+            port,
+            archive_relay,
+            action,
+            occurrences,
+        } => {
             text.extend_from_slice(b"path")?;
             push_word(text, relay.as_slice())?;
             push_number(alloc, text, *port as u32)?;
-            push_word(text, archive.as_slice())?;
+            push_word(text, archive_relay.as_slice())?;
             push_word(text, action.as_slice())?;
-            push_numbers(alloc, text, way.as_slice())?;
+            push_numbers(alloc, text, occurrences.as_slice())?;
         }
     }
     Ok(())
@@ -77,4 +89,47 @@ pub fn write_cert(alloc: Global, certificate: &Certificate) -> Result<Vec<u8>, A
         bytes.push(b'\n')?;
     }
     Ok(bytes)
+}
+
+/// The certificate that a text is. Refuses the first faulty line with its number, counted from 1; of several faults in
+/// that line `Line` comes first, `Number` second and `Order` last. It takes time and memory linear in the text.
+pub fn read_cert(alloc: Global, bytes: &[u8]) -> Result<Certificate, TextFault>
+    ensures ok { IfOk result (λ c. bytes.now ≡ text c.version c.rows) }
+    ensures err { IfErr result (λ f. (f.code ≡ FaultCode.NoMemory) × IsRefused bytes.now f.line
+        ⊎ HasFault bytes.now f.code f.line) }
+    // The text of a certificate is read as it, and refused only where memory runs out.
+    ensures same { IfOk result (λ c. (rows : List AnyRow) → AreRows kinds.Cert rows → bytes.now ≡ text 1 rows
+        → c.rows ≡ rows) }
+    ensures memory { IfErr result (λ f. (rows : List AnyRow) → AreRows kinds.Cert rows → bytes.now ≡ text 1 rows
+        → f.code ≡ FaultCode.NoMemory) }
+{
+    let (first, lines) = match cut(bytes, b'\n') {
+        Some(parts) => parts,
+        None => return Err(TextFault {
+            code: FaultCode::Line,
+            line: 1,
+        }),
+    };
+    if first != b"cert 1".as_slice() {
+        return Err(TextFault {
+            code: FaultCode::Line,
+            line: 1,
+        });
+    }
+    let mut certificate = Certificate::new(alloc, 1);
+    let mut rest = lines;
+    while !rest.is_empty() {
+        let line = certificate.rows().len() + 2;
+        match cut(rest, b'\n') {
+            Some((text, after)) => match take_line(alloc, &mut certificate, text) {
+                Ok(()) => rest = after,
+                Err(code) => return Err(TextFault { code, line }),
+            },
+            None => return Err(TextFault {
+                code: FaultCode::Line,
+                line,
+            }),
+        }
+    }
+    Ok(certificate)
 }

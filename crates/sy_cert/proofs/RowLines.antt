@@ -1,0 +1,129 @@
+-- The words of rows, against the words of a line.
+use Rattle.std.proofs.Common.{◌≡◌, ℕ, suc, ◌+◌, ◌-◌, ◌*◌, ◌≤◌, Bool, true, false, List, [], ◌∷◌, ◌++◌, length, get_or, map, refl, sym, ap, subst, ◌∙◌, arith, eq-eqb}
+use Rattle.std.specs.Prelude.{codes}
+use Rattle.std.specs.Fmt.{decimal}
+use Rattle.std.specs.Str.{bytes_eq}
+use Rattle.std.proofs.lemmas.Bool.{true≢false}
+use Rattle.std.proofs.lemmas.Slice.Eq.{bytes_eq-Decides}
+use Rattle.sy_cert.specs.declared.fault.FaultCode.{FaultCode}
+use Rattle.sy_cert.specs.declared.fault.FaultCode.TheVariants as code
+use Rattle.sy_cert.specs.declared.kinds.Kind.{Kind}
+use Rattle.sy_cert.specs.declared.row.Row.{Row}
+use Rattle.sy_cert.specs.declared.row.Row.TheVariants as row
+use Rattle.sy_cert.specs.Faults.{HasShape, IsClassLine, IsPathLine, IsRelayLine, words_in}
+use Rattle.sy_cert.specs.Reading.{AreUnread, IsUnread}
+use Rattle.sy_cert.specs.Rows.{AreOccurrences, IsPort, IsRow, kind, last_from, words}
+
+-- ---- words by their places
+
+pub same_bytes : (w : List ℕ) → bytes_eq w w ≡ true
+same_bytes [] = refl
+same_bytes (b ∷ bs) = rw (eq-eqb b b refl) (same_bytes bs)
+
+pub apart : (v w : List ℕ) → bytes_eq v w ≡ false → v ≡ w → ⊥
+apart v w differ e = true≢false (sym (same_bytes w) ∙ ap (λ x. bytes_eq x w) (sym e) ∙ differ)
+
+abbrev pub first : List (List ℕ) → List ℕ
+first [] = []
+first (w ∷ ws) = w
+
+abbrev pub after_first : List (List ℕ) → List (List ℕ)
+after_first [] = []
+after_first (w ∷ ws) = ws
+
+abbrev pub second : List (List ℕ) → List ℕ
+second ws = first (after_first ws)
+
+abbrev pub after_second : List (List ℕ) → List (List ℕ)
+after_second ws = after_first (after_first ws)
+
+abbrev pub third : List (List ℕ) → List ℕ
+third ws = first (after_second ws)
+
+abbrev pub after_fifth : List (List ℕ) → List (List ℕ)
+after_fifth ws = after_second (after_second (after_first ws))
+
+-- ---- numbers that no row has
+
+pub class_unwritten : (ws : List (List ℕ)) (w : List ℕ) → IsClassLine (codes "class" ∷ ws) w → ((n : ℕ) → n ≤ 191 → w ≡ decimal n → ⊥)
+    → (r : Row) → IsRow r → words r ≡ codes "class" ∷ ws → ⊥
+class_unwritten ws w h none (row.Class c) is e =
+    none (8 * c.facility + c.severity) (omega (arith, is.0, is.1)) (ap second (sym h.whole ∙ sym e))
+class_unwritten ws w h none (row.Reach relay port) is e = apart (codes "reach") (codes "class") refl (ap first e)
+class_unwritten ws w h none (row.Rank relay rank) is e = apart (codes "rank") (codes "class") refl (ap first e)
+class_unwritten ws w h none (row.Path relay port archive action ns) is e = apart (codes "path") (codes "class") refl (ap first e)
+
+pub port_unwritten : (ws : List (List ℕ)) (relay w : List ℕ) → IsRelayLine (codes "reach") (codes "reach" ∷ ws) relay w
+    → ((n : ℕ) → IsPort n → w ≡ decimal n → ⊥) → (r : Row) → IsRow r → words r ≡ codes "reach" ∷ ws → ⊥
+port_unwritten ws relay w h none (row.Class c) is e = apart (codes "class") (codes "reach") refl (ap first e)
+port_unwritten ws relay w h none (row.Reach name port) is e = none port is.1 (ap third (sym h.whole ∙ sym e))
+port_unwritten ws relay w h none (row.Rank name rank) is e = apart (codes "rank") (codes "reach") refl (ap first e)
+port_unwritten ws relay w h none (row.Path name port archive action ns) is e = apart (codes "path") (codes "reach") refl (ap first e)
+
+pub rank_unwritten : (ws : List (List ℕ)) (relay w : List ℕ) → IsRelayLine (codes "rank") (codes "rank" ∷ ws) relay w
+    → ((n : ℕ) → n ≤ 4294967295 → w ≡ decimal n → ⊥) → (r : Row) → IsRow r → words r ≡ codes "rank" ∷ ws → ⊥
+rank_unwritten ws relay w h none (row.Class c) is e = apart (codes "class") (codes "rank") refl (ap first e)
+rank_unwritten ws relay w h none (row.Reach name port) is e = apart (codes "reach") (codes "rank") refl (ap first e)
+rank_unwritten ws relay w h none (row.Rank name rank) is e = none rank is.1 (ap third (sym h.whole ∙ sym e))
+rank_unwritten ws relay w h none (row.Path name port archive action ns) is e = apart (codes "path") (codes "rank") refl (ap first e)
+
+pub path_unwritten : (ws : List (List ℕ)) (relay port archive action : List ℕ) (way : List (List ℕ))
+    → IsPathLine (codes "path" ∷ ws) relay port archive action way
+    → ((n : ℕ) (ns : List ℕ) → IsPort n → AreOccurrences ns → port ≡ decimal n → map decimal ns ≡ way → ⊥)
+    → (r : Row) → IsRow r → words r ≡ codes "path" ∷ ws → ⊥
+path_unwritten ws relay port archive action way h none (row.Class c) is e = apart (codes "class") (codes "path") refl (ap first e)
+path_unwritten ws relay port archive action way h none (row.Reach name n) is e = apart (codes "reach") (codes "path") refl (ap first e)
+path_unwritten ws relay port archive action way h none (row.Rank name n) is e = apart (codes "rank") (codes "path") refl (ap first e)
+path_unwritten ws relay port archive action way h none (row.Path name n other name_of ns) is e =
+    none n ns is.1 is.4 (ap third (sym h.whole ∙ sym e)) (ap after_fifth (e ∙ h.whole))
+
+pub way_unread : (ws : List (List ℕ)) (relay port archive action : List ℕ) (way : List (List ℕ))
+    → IsPathLine (codes "path" ∷ ws) relay port archive action way → (c : FaultCode) → AreUnread way c → IsUnread (codes "path" ∷ ws) c
+way_unread ws relay port archive action way h code.Line never = absurd never
+way_unread ws relay port archive action way h code.Order never = never
+way_unread ws relay port archive action way h code.Number none = (
+  HasShape.path_line relay port archive action way h,
+  path_unwritten ws relay port archive action way h (λ n ns is are e f. none ns are f),
+)
+way_unread ws relay port archive action way h code.NoMemory u = tt
+
+-- ---- occurrences one after another
+
+more_occurrences : (ns : List ℕ) (n : ℕ) → AreOccurrences ns → n ≤ 63 → AreOccurrences (ns ++ n ∷ [])
+more_occurrences [] n are small = (omega (arith, small), tt)
+more_occurrences (m ∷ ns) n are small = (are.0, more_occurrences ns n are.1 small)
+
+more_words : (ns : List ℕ) (n : ℕ) (later : List (List ℕ)) → map decimal (ns ++ n ∷ []) ++ later ≡ map decimal ns ++ decimal n ∷ later
+more_words [] n later = refl
+more_words (m ∷ ns) n later = ap (λ ws. decimal m ∷ ws) (more_words ns n later)
+
+pub one_occurrence : (ns new : List ℕ) (n : ℕ) (w : List ℕ) (left later all : List (List ℕ)) → AreOccurrences ns → n ≤ 63 → w ≡ decimal n
+    → left ≡ w ∷ later → map decimal ns ++ left ≡ all → new ≡ ns ++ n ∷ [] → AreOccurrences new × (map decimal new ++ later ≡ all)
+one_occurrence ns new n w left later all are small e cut so_far more =
+    subst (λ ms. AreOccurrences ms × (map decimal ms ++ later ≡ all)) (sym more) (
+      more_occurrences ns n are small,
+      more_words ns n later ∙ ap (λ v. map decimal ns ++ v ∷ later) (sym e) ∙ ap (λ ws. map decimal ns ++ ws) (sym cut) ∙ so_far,
+    )
+
+pub no_occurrences : (before : List (List ℕ)) (w : List ℕ) (later : List (List ℕ)) (ns : List ℕ) → map decimal ns ≡ before ++ w ∷ later
+    → AreOccurrences ns → ((n : ℕ) → n ≤ 63 → w ≡ decimal n → ⊥) → ⊥
+no_occurrences [] w later [] e are none = cc
+no_occurrences [] w later (n ∷ ns) e are none = none n (omega (arith, are.0)) (sym (ap first e))
+no_occurrences (v ∷ before) w later [] e are none = cc
+no_occurrences (v ∷ before) w later (n ∷ ns) e are none = no_occurrences before w later ns (ap after_first e) are.1 none
+
+-- ---- the last row
+
+pub last_is : (before : Kind) (rows : List Row) (d : Row) → 1 ≤ length rows → last_from before rows ≡ kind (get_or rows (length rows - 1) d)
+last_is before [] d some = absurd (omega (arith, some))
+last_is before (r ∷ []) d some = refl
+last_is before (r ∷ x ∷ rows) d some =
+    let e : length (r ∷ x ∷ rows) - 1 ≡ suc (length (x ∷ rows) - 1) = omega arith in
+    last_is (kind r) (x ∷ rows) d (omega arith) ∙ rw e refl
+
+-- ---- a line that begins with a word
+
+pub begins : (line found literal named : List ℕ) (rest : List (List ℕ)) (r : Bool) → words_in line ≡ found ∷ rest → r ≡ bytes_eq found literal
+    → r ≡ true → literal ≡ named → words_in line ≡ named ∷ rest
+begins line found literal named rest r cut equal holds is =
+    cut ∙ ap (λ w. w ∷ rest) ((bytes_eq-Decides found literal).0 (sym equal ∙ holds) ∙ is)

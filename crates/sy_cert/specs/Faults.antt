@@ -1,0 +1,114 @@
+-- The faults of a certificate's text (this profile's own). Lines count from 1, and the first faulty line is the one
+-- that has only rows before it.
+use Rattle.std.specs.Prelude.{◌≡◌, ℕ, ◌+◌, ◌==◌, ◌&&◌, Bool, true, false, List, [], ◌∷◌, ◌++◌, length, codes}
+use Rattle.std.specs.Fmt.{decimal}
+use Rattle.std.specs.List.{list_all, slice_split}
+use Rattle.std.specs.Char.{is_ascii_digit}
+use Rattle.sy_cert.specs.declared.fault.FaultCode.{FaultCode}
+use Rattle.sy_cert.specs.declared.fault.FaultCode.TheVariants as code
+use Rattle.sy_cert.specs.declared.fault.TextFault.{TextFault}
+use Rattle.sy_cert.specs.declared.row.Row.{Row}
+use Rattle.sy_cert.specs.declared.kinds.Kind.{Kind}
+use Rattle.sy_cert.specs.declared.kinds.Kind.TheVariants as kinds
+use Rattle.sy_cert.specs.Rows.{AreRows, IsRow, has_bytes, head, is_action, is_name, kind, last_kind, may_follow, text, words}
+
+-- ---- their numbers and names
+
+abbrev pub number : FaultCode → ℕ
+number code.Line = 61
+number code.Order = 62
+number code.Number = 63
+number code.NoMemory = 64
+
+-- the number and the name
+abbrev pub words_of : FaultCode → List ℕ
+words_of code.Line = codes "61 Line"
+words_of code.Order = codes "62 Order"
+words_of code.Number = codes "63 Number"
+words_of code.NoMemory = codes "64 NoMemory"
+
+-- a fault in words: its number and name, and its line
+abbrev pub fault_text : TextFault → List ℕ
+fault_text f = words_of f.code ++ (codes " in line " ++ decimal f.line)
+
+-- ---- the shapes of a line, given as its words
+
+-- digits, whatever their number is
+abbrev pub is_numeral : List ℕ → Bool
+is_numeral w = has_bytes w && list_all is_ascii_digit w
+
+-- class NUMBER
+pub record IsClassLine (line : List (List ℕ)) (class : List ℕ) : Type 0 where
+  pub whole : line ≡ codes "class" ∷ class ∷ []
+  pub class_is : is_numeral class ≡ true
+
+-- WORD RELAY NUMBER, where the word is `reach` or `rank`
+pub record IsRelayLine (word : List ℕ) (line : List (List ℕ)) (relay number : List ℕ) : Type 0 where
+  pub whole : line ≡ word ∷ relay ∷ number ∷ []
+  pub relay_is : is_name relay ≡ true
+  pub number_is : is_numeral number ≡ true
+
+-- path RELAY PORT RELAY ACTION NUMBER..
+pub record IsPathLine (line : List (List ℕ)) (relay port archive_relay action : List ℕ) (occurrences : List (List ℕ)) : Type 0 where
+  pub whole : line ≡ codes "path" ∷ relay ∷ port ∷ archive_relay ∷ action ∷ occurrences
+  pub relay_is : is_name relay ≡ true
+  pub port_is : is_numeral port ≡ true
+  pub archive_relay_is : is_name archive_relay ≡ true
+  pub action_is : is_action action ≡ true
+  pub occurrences_are : list_all is_numeral occurrences ≡ true
+
+-- a line of some row's shape
+pub data HasShape (line : List (List ℕ)) : Type 0 where
+  class_line : (class : List ℕ) → IsClassLine line class → HasShape line
+  reach_line : (relay port : List ℕ) → IsRelayLine (codes "reach") line relay port → HasShape line
+  rank_line : (relay rank : List ℕ) → IsRelayLine (codes "rank") line relay rank → HasShape line
+  path_line : (relay port archive_relay action : List ℕ) (occurrences : List (List ℕ)) → IsPathLine line relay port archive_relay action occurrences
+      → HasShape line
+
+-- ---- the faults of a line, given as its words
+
+-- 61: it has no row's shape. 63: it has the shape of a row, and is the line of none, since a number has a leading zero or
+-- is out of range. 62: it is the line of a row that may not follow the one before.
+abbrev pub IsFaulty : Kind → List (List ℕ) → FaultCode → Type 0
+IsFaulty before line code.Line = HasShape line → ⊥
+IsFaulty before line code.Order = (r : Row) × IsRow r × (words r ≡ line) × (may_follow before (kind r) ≡ false)
+IsFaulty before line code.Number = HasShape line × ((r : Row) → IsRow r → words r ≡ line → ⊥)
+IsFaulty before line code.NoMemory = ⊥
+
+-- ---- the fault of a text, with its line
+
+-- none of these bytes is this one
+abbrev pub Lacks : ℕ → List ℕ → Type 0
+Lacks byte [] = Unit {0}
+Lacks byte (b ∷ bs) = ((b == byte) ≡ false) × Lacks byte bs
+
+-- a text begins with the lines of a certificate, and this is after them
+pub record BeginsWith (bytes : List ℕ) (rows : List Row) (rest : List ℕ) : Type 0 where
+  pub whole : bytes ≡ text 1 rows ++ rest
+  pub are_rows : AreRows kinds.Cert rows
+
+-- the line after these rows and the first one
+abbrev pub line_after : List Row → ℕ
+line_after rows = length rows + 2
+
+-- the words of a line: what stands between its spaces
+abbrev pub words_in : List ℕ → List (List ℕ)
+words_in line = slice_split (λ b. b == 32) line
+
+pub data HasFault (bytes : List ℕ) : FaultCode → ℕ → Type 0 where
+  -- the first line isn't `cert 1`
+  no_head : ((rest : List ℕ) → bytes ≡ head 1 ++ 10 ∷ rest → ⊥) → HasFault bytes code.Line 1
+  -- the last line isn't ended
+  not_ended : (rows : List Row) (b : ℕ) (line : List ℕ) → BeginsWith bytes rows (b ∷ line) → Lacks 10 (b ∷ line)
+      → HasFault bytes code.Line (line_after rows)
+  -- a line is faulty
+  faulty : (rows : List Row) (line rest : List ℕ) (c : FaultCode) → BeginsWith bytes rows (line ++ 10 ∷ rest) → Lacks 10 line
+      → IsFaulty (last_kind rows) (words_in line) c
+      → HasFault bytes c (line_after rows)
+
+-- memory ran out in the line after some rows
+pub record IsRefused (bytes : List ℕ) (line : ℕ) : Type 0 where
+  pub rows : List Row
+  pub rest : List ℕ
+  pub begins : BeginsWith bytes rows rest
+  pub line_is : line ≡ line_after rows

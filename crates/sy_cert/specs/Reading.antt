@@ -1,0 +1,50 @@
+-- What the private functions that read a text answer.
+use Rattle.std.specs.Prelude.{◌≡◌, ℕ, List, [], ◌∷◌, ◌++◌, Option, Some, None, map, true}
+use Rattle.std.specs.Fmt.{decimal}
+use Rattle.sy_cert.specs.declared.fault.FaultCode.{FaultCode}
+use Rattle.sy_cert.specs.declared.fault.FaultCode.TheVariants as code
+use Rattle.sy_cert.specs.declared.row.Row.{Row}
+use Rattle.sy_cert.specs.declared.kinds.Kind.{Kind}
+use Rattle.sy_cert.specs.Rows.{AreOccurrences, IsRow, kind, last_kind, may_follow, words}
+use Rattle.sy_cert.specs.Faults.{HasShape, IsFaulty, Lacks, words_in}
+
+-- bytes are cut at the first of a mark
+pub record IsCut (mark : ℕ) (bytes front behind : List ℕ) : Type 0 where
+  pub whole : bytes ≡ front ++ mark ∷ behind
+  pub lacks : Lacks mark front
+
+-- the words that are left of a line; behind its last word nothing is
+abbrev pub words_left : Option (List ℕ) → List (List ℕ)
+words_left None = []
+words_left (Some rest) = words_in rest
+
+-- the row of a line
+pub record IsRowOf (line : List (List ℕ)) (r : Row) : Type 0 where
+  pub is_row : IsRow r
+  pub words_are : words r ≡ line
+
+-- why a line gives no row
+abbrev pub IsUnread : List (List ℕ) → FaultCode → Type 0
+IsUnread line code.Line = HasShape line → ⊥
+IsUnread line code.Order = ⊥
+IsUnread line code.Number = HasShape line × ((r : Row) → IsRow r → words r ≡ line → ⊥)
+IsUnread line code.NoMemory = Unit {0}
+
+-- why words give no occurrences
+abbrev pub AreUnread : List (List ℕ) → FaultCode → Type 0
+AreUnread ws code.Line = ⊥
+AreUnread ws code.Order = ⊥
+AreUnread ws code.Number = (ns : List ℕ) → AreOccurrences ns → map decimal ns ≡ ws → ⊥
+AreUnread ws code.NoMemory = Unit {0}
+
+-- a row for the line is put behind others
+pub record IsTaken (line : List (List ℕ)) (before after : List Row) : Type 0 where
+  pub row : Row
+  pub is_row_of : IsRowOf line row
+  pub follows : may_follow (last_kind before) (kind row) ≡ true
+  pub more : after ≡ before ++ row ∷ []
+
+-- why no row is put behind others
+abbrev pub IsNotTaken : Kind → List (List ℕ) → FaultCode → Type 0
+IsNotTaken before line code.NoMemory = Unit {0}
+IsNotTaken before line c = IsFaulty before line c
