@@ -7,6 +7,8 @@
 #[cfg(test)]
 mod actions;
 #[cfg(test)]
+mod cert;
+#[cfg(test)]
 mod chain;
 #[cfg(test)]
 mod marks;

@@ -5,6 +5,7 @@ use super::faults::planned;
 use crate::rows::{Judge, each_is_right, number};
 use std::alloc::{AllocError, Global};
 use std::test::Fail;
+use sy_classes::flow_of;
 use sy_rules::Plan;
 use sy_wire::Class;
 
@@ -22,7 +23,8 @@ pub fn set(field: Option<&str>) -> u64 {
 
 fn is_flow(plan: &Plan, list: u32, class: u8, wanted: (u64, u64)) -> bool {
     if class < 192 && (list as usize) < plan.list_names().len() {
-        plan.flows(list, Class::of_number(class)) == wanted
+        let flows = flow_of(plan, list, Class::of_number(class));
+        (flows.may, flows.must) == wanted
     } else {
         false
     }
