@@ -1,0 +1,8 @@
+//! The machine of a site, driven event by event: the boards of all relays, with links and files in memory and without threads.
+#![tactic(auto)]
+
+pub mod event;
+mod making;
+mod steps;
+
+pub use event::{Cause, Event, Illegal, Loss, RelayEvent};
