@@ -1,7 +1,8 @@
 -- What a board's answers mean for an event: the step is made.
-use Rattle.std.proofs.Common.{◌≡◌, ℕ, ◌<◌, ◌≤◌, ◌⊎◌, Bool, true, false, if◌then◌else◌, List, [], ◌∷◌, ◌++◌, length, map, min, inl, inr, refl, sym, ap, subst, arith, ◌∙◌, append-nil, append_assoc}
-use Rattle.std.specs.Prelude.{slice_set}
-use Rattle.std.proofs.lemmas.List.{map-append, set-get_or}
+use Rattle.std.proofs.Common.{◌≡◌, ℕ, ◌<◌, ◌≤◌, ◌⊎◌, Bool, true, false, if◌then◌else◌, List, [], ◌∷◌, ◌++◌, length, map, min, inl, inr, refl, sym, ap, subst, arith, ◌∙◌, append-nil, append_assoc, get_or}
+use Rattle.std.specs.Prelude.{slice_set, Result, Ok, Err, OnOk, OnErr, IfErr}
+use Rattle.std.specs.Global.{Vec}
+use Rattle.std.proofs.lemmas.List.{get_or-map, map-append, map-set, set-get_or}
 use Rattle.std.proofs.lemmas.Bool.Decides.{nat_tests}
 use Rattle.sy_wire.specs.Messages.{Said}
 use Rattle.sy_chain.specs.Entries.{Entry}
@@ -26,7 +27,7 @@ use Rattle.sy_replay.specs.declared.event.Cause.TheVariants as lost_by_cause
 use Rattle.sy_replay.specs.declared.event.Illegal.TheVariants as illegal
 use Rattle.sy_replay.specs.Events.{Goes, IsIllegal, loss_of, losses_of}
 use Rattle.sy_replay.specs.Jobs.{Answer, Answers, Comes, IsPostJob, IsRunJob, event_of, is_taken, losses_by, outs_of, with_tag}
-use Rattle.sy_replay.specs.Parts.{Makes, MakesInside, lost_by, part, passed_by, tags_at}
+use Rattle.sy_replay.specs.Parts.{Makes, MakesInside, items_of, lost_by, part, passed_by, tags_at}
 use Rattle.sy_replay.proofs.Refused.{nothing_grabbed, one_list}
 
 abbrev plan_kept : (old new : BoardState) (b : BoardState) → new ≡ b → b.plan ≡ old.plan → new.plan ≡ old.plan
@@ -184,8 +185,8 @@ post_gone relay old new w list input tag message why xs ys job (l, e, loses, is)
 -- ---- what a device took
 
 pub answered_into : (answer : Answer) (took : Bool) (old new : BoardState) (w action tag : ℕ) (tags after : List ℕ) → Answers answer old w action tag new
-    → after ≡ with_tag (is_taken answer took) tags tag → Comes answer took old tags w action new after
-answered_into answer took old new w action tag tags after (e, its_tag, goes) are = (e, goes took, are ∙ ap (with_tag (is_taken answer took) tags) (sym its_tag))
+    → after ≡ with_tag (is_taken answer took) tags tag → Comes answer took old tags w action tag new after
+answered_into answer took old new w action tag tags after (e, its_tag, goes) are = (e, its_tag, goes took, are)
 
 pub with_it : (took : Bool) (tags : List ℕ) (tag : ℕ) → took ≡ true → tags ++ tag ∷ [] ≡ with_tag took tags tag
 with_it took tags tag is = ap (λ b. with_tag b tags tag) (sym is)
@@ -209,13 +210,49 @@ lost_one Answer.Fail relay action false e = refl
 lost_one Answer.GiveUp relay action true e = refl
 lost_one Answer.GiveUp relay action false e = refl
 
-pub comes_made : (answer : Answer) (relay : ℕ) (took : Bool) (old new : BoardState) (w action : ℕ) (passed passed_after : List (List ℕ)) (after : List ℕ)
-    (before now : List states.Loss) → (comes : Comes answer took old (tags_at passed action) w action new after)
-    → passed_after ≡ slice_set passed action after → now ≡ before ++ losses_by answer relay action comes.0.tag
+pub comes_made : (answer : Answer) (relay : ℕ) (took : Bool) (old new : BoardState) (w action tag : ℕ) (passed passed_after : List (List ℕ)) (after : List ℕ)
+    (before now : List states.Loss) → Comes answer took old (tags_at passed action) w action tag new after
+    → passed_after ≡ slice_set passed action after → now ≡ before ++ losses_by answer relay action tag
     → Makes relay (part old passed) before (event_of answer w took) (part new passed_after) now
-comes_made answer relay took old new w action passed passed_after after before now (e, goes, are) is lost = record {
+comes_made answer relay took old new w action tag passed passed_after after before now (e, its_tag, goes, are) is lost = record {
   outs = outs_of answer action took e;
   goes = goes;
-  passed = is ∙ ap (slice_set passed action) are ∙ passed_one answer took passed action e;
-  losses = lost ∙ ap (λ z. before ++ z) (sym (lost_one answer relay action took e));
+  passed = is ∙ ap (slice_set passed action) (are ∙ ap (with_tag (is_taken answer took) (tags_at passed action)) (sym its_tag)) ∙ passed_one answer took passed action e;
+  losses = lost ∙ ap (λ t. before ++ losses_by answer relay action t) (sym its_tag) ∙ ap (λ z. before ++ z) (sym (lost_one answer relay action took e));
 }
+
+-- ---- an action's list among those of a relay
+
+pub item_at : (xs : List (Vec ℕ)) (k : ℕ) (x : Vec ℕ) → k < length xs → x ≡ get_or xs k x → tags_at (items_of xs) k ≡ x.items
+item_at xs k x l e = get_or-map (λ (v : Vec ℕ). v.items) xs k x [] l ∙ ap (λ (v : Vec ℕ). v.items) (sym e)
+
+pub items_set : (xs : List (Vec ℕ)) (k : ℕ) (v : Vec ℕ) → items_of (slice_set xs k v) ≡ slice_set (items_of xs) k v.items
+items_set xs k v = map-set (λ (v : Vec ℕ). v.items) xs k v
+
+pub items_stay : (xs : List (Vec ℕ)) (k : ℕ) (x v : Vec ℕ) → k < length xs → x ≡ get_or xs k x → v.items ≡ x.items → items_of (slice_set xs k v) ≡ items_of xs
+items_stay xs k x v l e same =
+    items_set xs k v ∙ ap (slice_set (items_of xs) k) (same ∙ sym (item_at xs k x l e)) ∙ set-get_or (items_of xs) k []
+
+pub read_comes : (answer : Answer) (took : Bool) (old new : BoardState) (w action tag : ℕ) (xs : List (Vec ℕ)) (x : Vec ℕ) (after : List ℕ) → action < length xs
+    → x ≡ get_or xs action x → Comes answer took old x.items w action tag new after → Comes answer took old (tags_at (items_of xs) action) w action tag new after
+read_comes answer took old new w action tag xs x after l e comes = subst (λ z. Comes answer took old z w action tag new after) (sym (item_at xs action x l e)) comes
+
+pub on_ok : {T E A B : Type 0} (r : Result T E) → (A → B) → OnOk r A → OnOk r B
+on_ok (Ok x) f a = f a
+on_ok (Err e) f a = tt
+
+pub on_err : {T E A B : Type 0} (r : Result T E) → (A → B) → OnErr r A → OnErr r B
+on_err (Ok x) f a = tt
+on_err (Err e) f a = f a
+
+pub if_err : {T E : Type 0} (P Q : E → Type 0) (r : Result T E) → ((e : E) → P e → Q e) → IfErr r P → IfErr r Q
+if_err P Q (Ok x) f a = tt
+if_err P Q (Err e) f a = f e a
+
+pub given_up_made : (relay : ℕ) (took : Bool) (old new : BoardState) (w action tag : ℕ) (xs : List (Vec ℕ)) (x v : Vec ℕ) (losses now : List Loss) → action < length xs
+    → x ≡ get_or xs action x → Comes Answer.GiveUp took old x.items w action tag new v.items
+    → now ≡ losses ++ record { copy = tag; relay = relay; cause = lost_by_cause.GiveUp action } ∷ []
+    → Makes relay (part old (items_of xs)) (losses_of losses) (Event.GiveUp w took) (part new (items_of (slice_set xs action v))) (losses_of now)
+given_up_made relay took old new w action tag xs x v losses now l e comes are =
+    comes_made Answer.GiveUp relay took old new w action tag _ _ v.items (losses_of losses) (losses_of now)
+    (read_comes Answer.GiveUp took old new w action tag xs x v.items l e comes) (items_set xs action v) (one_more losses now _ are)

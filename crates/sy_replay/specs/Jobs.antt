@@ -76,6 +76,7 @@ abbrev pub IsNoAnswer : Illegal → Answer → BoardState → ℕ → Type 0
 IsNoAnswer why answer old worker = (took : Bool) → IsIllegal why old (event_of answer worker took)
 
 -- The same, and a copy comes to the end of what the device took where it took the message.
-abbrev pub Comes : Answer → Bool → BoardState → List ℕ → ℕ → ℕ → BoardState → List ℕ → Type 0
-Comes answer took old tags worker action new after =
-    (e : Entry) × Goes old (event_of answer worker took) new (outs_of answer action took e) × (after ≡ with_tag (is_taken answer took) tags e.tag)
+abbrev pub Comes : Answer → Bool → BoardState → List ℕ → ℕ → ℕ → ℕ → BoardState → List ℕ → Type 0
+Comes answer took old tags worker action tag new after =
+    (e : Entry) × (e.tag ≡ tag) × Goes old (event_of answer worker took) new (outs_of answer action took e)
+    × (after ≡ with_tag (is_taken answer took) tags tag)

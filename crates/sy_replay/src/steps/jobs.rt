@@ -94,7 +94,7 @@ fn settle_into(
 ) -> Result<(), Illegal>
     requires there { worker < length board.old.plan.workers }
     requires job { IsRunJob board.old worker run.action (arc_value run.message) run.tag }
-    ensures ok { OnOk result (Comes Answer.Done true board.old tags.old.items worker run.action board.new tags.new.items) }
+    ensures ok { OnOk result (Comes Answer.Done true board.old tags.old.items worker run.action run.tag board.new tags.new.items) }
     ensures err { IfErr result (λ why. IsNoAnswer why Answer.Done board.old worker) }
     ensures unchanged { OnErr result ((board.new ≡ board.old) × (tags.new.items ≡ tags.old.items)) }
 {
@@ -120,7 +120,7 @@ fn fail_into(
     requires there { worker < length board.old.plan.workers }
     requires job { IsRunJob board.old worker run.action (arc_value run.message) run.tag }
     requires again { MayTry (retry_at board.old.plan run.action) (failures_at board.old.state worker) }
-    ensures ok { OnOk result (Comes Answer.Fail took board.old tags.old.items worker run.action board.new tags.new.items) }
+    ensures ok { OnOk result (Comes Answer.Fail took board.old tags.old.items worker run.action run.tag board.new tags.new.items) }
     ensures err { IfErr result (λ why. IsNoAnswer why Answer.Fail board.old worker) }
     ensures unchanged { OnErr result ((board.new ≡ board.old) × (tags.new.items ≡ tags.old.items)) }
 {
@@ -148,7 +148,7 @@ fn give_up_into(
     requires there { worker < length board.old.plan.workers }
     requires job { IsRunJob board.old worker run.action (arc_value run.message) run.tag }
     requires last { MayTry (retry_at board.old.plan run.action) (failures_at board.old.state worker) → ⊥ }
-    ensures ok { OnOk result (Comes Answer.GiveUp took board.old tags.old.items worker run.action board.new tags.new.items) }
+    ensures ok { OnOk result (Comes Answer.GiveUp took board.old tags.old.items worker run.action run.tag board.new tags.new.items) }
     ensures err { IfErr result (λ why. IsNoAnswer why Answer.GiveUp board.old worker) }
     ensures unchanged { OnErr result ((board.new ≡ board.old) × (tags.new.items ≡ tags.old.items)) }
 {
