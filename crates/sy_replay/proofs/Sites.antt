@@ -62,3 +62,114 @@ put_one k action passed others tags l a = go (k == a.relay) (action == a.action)
         sym (ap (λ x. tags_at (slice_set passed action tags) x) (sym same) ∙ get_or-set_same passed action tags [] l))
     go true false e f = rw (e, f) (sym (get_or-set_other passed action a.action tags [] (λ x. (same_or action a.action false f).1 refl (sym x))))
     go false c e f = rw e refl
+
+here : (k : ℕ) (x y : List ℕ) → (if k == k then x else y) ≡ x
+here k x y = rw (eqb-refl k) refl
+
+abbrev state_with : (ℕ → RelayState) → List Copy → (SiteAction → List ℕ) → List Loss → List Arrival → SiteState
+state_with relays copies passed losses arrivals = record { relays = relays; copies = copies; passed = passed; losses = losses; arrivals = arrivals }
+
+-- what a relay lets out, all at once
+put_all : (k : ℕ) (relays : ℕ → RelayState) (copies : List Copy) (passed : List (List ℕ)) (others : SiteAction → List ℕ) (losses : List Loss) (arrivals : List Arrival)
+    (outs : List Out) → AreThere (length passed) outs
+    → put_outs (state_with relays copies (spread k passed others) losses arrivals) k outs
+    ≡ state_with relays copies (spread k (passed_by outs passed) others) (losses ++ lost_by k outs) arrivals
+put_all k relays copies passed others losses arrivals [] there =
+    ap (λ l. state_with relays copies (spread k passed others) l arrivals) (sym (append-nil losses))
+put_all k relays copies passed others losses arrivals (Out.Passed action e ∷ outs) there =
+    let by : SiteAction = record { relay = k; action = action } in
+    let tags = tags_at passed action ++ e.tag ∷ [] in
+    let one : with_passed (spread k passed others) by (spread k passed others by ++ e.tag ∷ []) ≡ spread k (slice_set passed action tags) others =
+        ap (λ z. with_passed (spread k passed others) by (z ++ e.tag ∷ [])) (here k (tags_at passed action) (others by))
+        ∙ fun_ext (put_one k action passed others tags there.0) in
+    ap (λ p. put_outs (state_with relays copies p losses arrivals) k outs) one
+    ∙ put_all k relays copies (slice_set passed action tags) others losses arrivals outs
+    (subst (λ n. AreThere n outs) (sym (length-set passed action tags)) there.1)
+put_all k relays copies passed others losses arrivals (Out.Lost cause e ∷ outs) there =
+    put_all k relays copies passed others (losses ++ record { copy = e.tag; relay = k; cause = cause } ∷ []) arrivals outs there
+    ∙ ap (λ l. state_with relays copies (spread k (passed_by outs passed) others) l arrivals)
+    (append_assoc losses (record { copy = e.tag; relay = k; cause = cause } ∷ []) (lost_by k outs))
+
+-- ---- the relays of a site
+
+own_lists : (k : ℕ) (parts : List PartState) (p : PartState) → slice_get parts k ≡ Some p → (a : SiteAction)
+    → passed_of parts a ≡ spread k p.passed (passed_of parts) a
+own_lists k parts p is a = go (k == a.relay) refl
+  where
+    go : (b : Bool) → (k == a.relay) ≡ b → passed_of parts a ≡ (if k == a.relay then tags_at p.passed a.action else passed_of parts a)
+    go true e = rw e (ap (λ r. passed_in (slice_get parts r) a.action) (sym (eqb-true k a.relay e)) ∙ ap (λ q. passed_in q a.action) is)
+    go false e = rw e refl
+
+lists_set : (k : ℕ) (parts : List PartState) (p new : PartState) (passed : List (List ℕ)) → slice_get parts k ≡ Some p → new.passed ≡ passed → (a : SiteAction)
+    → spread k passed (passed_of parts) a ≡ passed_of (slice_set parts k new) a
+lists_set k parts p new passed is are a = go (k == a.relay) refl
+  where
+    go : (b : Bool) → (k == a.relay) ≡ b
+        → (if k == a.relay then tags_at passed a.action else passed_of parts a) ≡ passed_of (slice_set parts k new) a
+    go true e = rw e (sym (ap (λ r. passed_in (slice_get (slice_set parts k new) r) a.action) (sym (eqb-true k a.relay e))
+        ∙ ap (λ q. passed_in q a.action) (get_same parts k new p is) ∙ ap (λ z. tags_at z a.action) are))
+    go false e = rw e (sym (ap (λ q. passed_in q a.action) (get_other parts k a.relay new ((same_or k a.relay false e).1 refl))))
+
+relays_set : (k : ℕ) (parts : List PartState) (p new : PartState) → slice_get parts k ≡ Some p → (r : ℕ)
+    → with_relay (relays_of parts) k new.board.state r ≡ relays_of (slice_set parts k new) r
+relays_set k parts p new is r = go (k == r) refl
+  where
+    go : (b : Bool) → (k == r) ≡ b → (if k == r then new.board.state else relays_of parts r) ≡ relays_of (slice_set parts k new) r
+    go true e = rw e (sym (ap (λ x. state_of (slice_get (slice_set parts k new) x)) (sym (eqb-true k r e)) ∙ ap state_of (get_same parts k new p is)))
+    go false e = rw e (sym (ap state_of (get_other parts k r new ((same_or k r false e).1 refl))))
+
+-- what a relay lets out is of actions that are there
+if_there : (n action : ℕ) (took : Bool) (e : Entry) → action < n → AreThere n (if_so took (Out.Passed action e))
+if_there n action true e l = (l, tt)
+if_there n action false e l = tt
+
+if_lost : (n : ℕ) (lost : Bool) (cause : Cause) (e : Entry) → AreThere n (if_so lost (Out.Lost cause e))
+if_lost n true cause e = tt
+if_lost n false cause e = tt
+
+all_lost : (n : ℕ) (cause : Cause) (es : List Entry) → AreThere n (map (Out.Lost cause) es)
+all_lost n cause [] = tt
+all_lost n cause (e ∷ es) = all_lost n cause es
+
+outs_there : (plan : Plan) (old : RelayState) (event : Event) (new : RelayState) (outs : List Out) → IsWhole plan → Step plan old event new outs
+    → AreThere (length plan.actions) outs
+outs_there plan old (Event.Take i h node) new outs whole (lost, takes, is) = subst (AreThere (length plan.actions)) (sym is) (if_lost _ lost Cause.Take node)
+outs_there plan old (Event.Enter i h) new outs whole (node, enters, is) = subst (AreThere (length plan.actions)) (sym is) tt
+outs_there plan old (Event.Expire i h) new outs whole (node, expires, is) = subst (AreThere (length plan.actions)) (sym is) tt
+outs_there plan old (Event.Grab w) new outs whole (lost, grabs, is) = subst (AreThere (length plan.actions)) (sym is) (all_lost _ Cause.Grab lost)
+outs_there plan old (Event.Done w) new outs whole (a, e, settles, is) =
+    subst (AreThere (length plan.actions)) (sym is) (run_there plan old w a whole settles.job, tt)
+outs_there plan old (Event.Fail w took) new outs whole (a, e, fails, is) =
+    subst (AreThere (length plan.actions)) (sym is) (if_there _ a took e (run_there plan old w a whole fails.job))
+outs_there plan old (Event.GiveUp w took) new outs whole (a, e, gives, is) =
+    subst (AreThere (length plan.actions)) (sym is) (if_there _ a took e (run_there plan old w a whole gives.job))
+outs_there plan old (Event.Post w) new outs whole (l, node, lost, posts, is) =
+    subst (AreThere (length plan.actions)) (sym is) (if_lost _ lost (Cause.Post l) posts.job.entry)
+outs_there plan old (Event.PostLost w no_memory) new outs whole (l, e, loses, is) = subst (AreThere (length plan.actions)) (sym is) tt
+
+-- ---- the step
+
+after_step : (parts : List PartState) (copies : List Copy) (losses now : List Loss) (arrivals : List Arrival) (k : ℕ) (p new : PartState) (outs : List Out)
+    → slice_get parts k ≡ Some p → AreThere (length p.passed) outs → new.passed ≡ passed_by outs p.passed → now ≡ losses ++ lost_by k outs
+    → site_state (slice_set parts k new) copies now arrivals
+    ≡ put_outs (record (site_state parts copies losses arrivals) { relays = with_relay (relays_of parts) k new.board.state }) k outs
+after_step parts copies losses now arrivals k p new outs is there passed lost = sym (
+    ap (λ x. put_outs (state_with (with_relay (relays_of parts) k new.board.state) copies x losses arrivals) k outs) (fun_ext (own_lists k parts p is))
+    ∙ put_all k (with_relay (relays_of parts) k new.board.state) copies p.passed (passed_of parts) losses arrivals outs there
+    ∙ ap (λ x. state_with x copies (spread k (passed_by outs p.passed) (passed_of parts)) (losses ++ lost_by k outs) arrivals) (fun_ext (relays_set k parts p new is))
+    ∙ ap (λ x. state_with (relays_of (slice_set parts k new)) copies x (losses ++ lost_by k outs) arrivals)
+    (fun_ext (lists_set k parts p new (passed_by outs p.passed) is passed))
+    ∙ ap (λ x. state_with (relays_of (slice_set parts k new)) copies (passed_of (slice_set parts k new)) x arrivals) (sym lost))
+
+pub relay_steps : (site : Site) (parts : List PartState) (copies : List Copy) (losses now : List Loss) (arrivals : List Arrival) (k : ℕ) (p new : PartState) (event : Event)
+    → slice_get parts k ≡ Some p → plan_at site k ≡ p.board.plan → HasLists p → IsWhole p.board.plan → Makes k p losses event new now
+    → RelaySteps site (site_state parts copies losses arrivals) k event (site_state (slice_set parts k new) copies now arrivals)
+relay_steps site parts copies losses now arrivals k p new event is plan lists whole makes = record {
+  state = new.board.state;
+  outs = makes.outs;
+  step = subst (λ x. Step x (relays_of parts k) event new.board.state makes.outs) (sym plan)
+      (subst (λ x. Step p.board.plan (state_of x) event new.board.state makes.outs) (sym is) makes.goes.0);
+  after = after_step parts copies losses now arrivals k p new makes.outs is
+      (subst (λ n. AreThere n makes.outs) (sym lists) (outs_there p.board.plan p.board.state event new.board.state makes.outs whole makes.goes.0))
+      makes.passed makes.losses;
+}

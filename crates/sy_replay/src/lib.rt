@@ -3,6 +3,7 @@
 
 pub mod event;
 mod making;
+mod part;
 mod steps;
 
 pub use event::{Cause, Event, Illegal, Loss, RelayEvent};
