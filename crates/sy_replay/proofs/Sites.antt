@@ -1,21 +1,27 @@
 -- A step that a relay makes is the site's.
 use Rattle.std.proofs.Common.{◌≡◌, ℕ, ◌<◌, ◌==◌, Bool, true, false, if◌then◌else◌, List, [], ◌∷◌, ◌++◌, length, map, Option, Some, None, refl, sym, ap, subst, arith, ◌∙◌, append-nil, append_assoc, get_or}
-use Rattle.std.specs.Prelude.{slice_get, slice_set, ◌&&◌}
+use Rattle.std.specs.Prelude.{slice_get, slice_set, ◌&&◌, Result, Ok, Err, OnOk, OnErr}
+use Rattle.std.specs.Global.{Vec}
 use Rattle.std.proofs.Math.Path.{fun_ext}
 use Rattle.std.proofs.Math.ListN.{set}
-use Rattle.std.proofs.lemmas.List.{get_or-set_same, get_or-set_other}
-use Rattle.std.proofs.lemmas.Bool.{eqb-true}
+use Rattle.std.proofs.lemmas.List.{get_or-set_same, get_or-set_other, length-map, length-set}
+use Rattle.std.proofs.lemmas.Bool.{eqb-false, eqb-true}
 use Rattle.sy_chain.specs.Entries.{Entry}
 use Rattle.sy_rules.specs.PlanValue.{Plan}
 use Rattle.sy_rules.specs.Whole.{IsWhole}
 use Rattle.sy_board.specs.relay.Boards.{BoardState}
 use Rattle.sy_board.specs.relay.Cells.{RelayState}
 use Rattle.sy_board.specs.relay.Steps.{Cause, Event, Out, Step, if_so}
-use Rattle.sy_site.specs.Sites.{Site, SiteAction, plan_at, same_action}
+use Rattle.sy_site.specs.Sites.{Site, SiteAction, no_plan, plan_at, same_action}
 use Rattle.sy_site.specs.machine.States.{Arrival, Copy, Loss, SiteState, put_outs, with_passed, with_relay}
-use Rattle.sy_site.specs.machine.Steps.{RelaySteps}
-use Rattle.sy_replay.specs.Parts.{Makes, PartState, lost_by, passed_by, tags_at}
-use Rattle.sy_replay.specs.States.{HasLists, passed_in, passed_of, relays_of, site_state, state_of}
+use Rattle.sy_site.specs.machine.Steps.{IsTake, RelaySteps, SiteEvent, SiteStep}
+use Rattle.sy_replay.specs.declared.event.Illegal.{Illegal}
+use Rattle.sy_replay.specs.declared.event.Illegal.TheVariants as illegal
+use Rattle.sy_replay.specs.declared.event.RelayEvent.{RelayEvent}
+use Rattle.sy_replay.specs.declared.event.RelayEvent.TheVariants as event
+use Rattle.sy_replay.specs.Events.{IsIllegal, step_of}
+use Rattle.sy_replay.specs.Parts.{Makes, PartState, items_of, lost_by, part, passed_by, tags_at}
+use Rattle.sy_replay.specs.States.{AreOf, HasLists, IsIllegalAt, passed_in, passed_of, plan_of, relays_of, site_state, state_of}
 use Rattle.sy_replay.proofs.Refused.{run_there}
 
 -- ---- lists
@@ -33,10 +39,11 @@ get_other (y ∷ ys) (ℕ.suc k) ℕ.zero v other = refl
 get_other (y ∷ ys) (ℕ.suc k) (ℕ.suc j) v other = get_other ys k j v (λ e. other (ap ℕ.suc e))
 
 same_or : (k j : ℕ) (b : Bool) → (k == j) ≡ b → (b ≡ true → k ≡ j) × (b ≡ false → k ≡ j → ⊥)
-same_or k j b is = (λ t. eqb-true k j (is ∙ t), λ f e. differs k j (is ∙ f) e)
-  where
-    differs : (k j : ℕ) → (k == j) ≡ false → k ≡ j → ⊥
-    differs k j f e = grind (arith, nat_tests)
+same_or k j b is = (λ t. eqb-true k j (is ∙ t), λ f e. eqb-false k j (is ∙ f) e)
+
+same_self : (b : Bool) (k : ℕ) → (k == k) ≡ b → b ≡ true
+same_self true k is = refl
+same_self false k is = absurd (eqb-false k k is refl)
 
 -- ---- what a relay's devices took
 
@@ -64,7 +71,7 @@ put_one k action passed others tags l a = go (k == a.relay) (action == a.action)
     go false c e f = rw e refl
 
 here : (k : ℕ) (x y : List ℕ) → (if k == k then x else y) ≡ x
-here k x y = rw (eqb-refl k) refl
+here k x y = rw (same_self (k == k) k refl) refl
 
 abbrev state_with : (ℕ → RelayState) → List Copy → (SiteAction → List ℕ) → List Loss → List Arrival → SiteState
 state_with relays copies passed losses arrivals = record { relays = relays; copies = copies; passed = passed; losses = losses; arrivals = arrivals }
@@ -173,3 +180,79 @@ relay_steps site parts copies losses now arrivals k p new event is plan lists wh
       (subst (λ n. AreThere n makes.outs) (sym lists) (outs_there p.board.plan p.board.state event new.board.state makes.outs whole makes.goes.0))
       makes.passed makes.losses;
 }
+
+-- ---- what isn't a step
+
+-- a relay that isn't there makes no step
+no_step : (old : RelayState) (e : Event) (new : RelayState) (outs : List Out) → Step no_plan old e new outs → ⊥
+no_step old (Event.Take i h node) new outs (lost, takes, is) = let l = takes.there.0 in omega (arith, l)
+no_step old (Event.Enter i h) new outs (node, enters, is) = let l = enters.leaves.there.0 in omega (arith, l)
+no_step old (Event.Expire i h) new outs (node, expires, is) = let l = expires.leaves.there.0 in omega (arith, l)
+no_step old (Event.Grab w) new outs (lost, grabs, is) = let l = grabs.there in omega (arith, l)
+no_step old (Event.Done w) new outs (a, e, does, is) = let l = does.job.there in omega (arith, l)
+no_step old (Event.Fail w took) new outs (a, e, fails, is) = let l = fails.job.there in omega (arith, l)
+no_step old (Event.GiveUp w took) new outs (a, e, gives, is) = let l = gives.job.there in omega (arith, l)
+no_step old (Event.Post w) new outs (l, node, lost, posts, is) = let m = posts.job.there in omega (arith, m)
+no_step old (Event.PostLost w no_memory) new outs (l, e, loses, is) = let m = loses.job.there in omega (arith, m)
+
+pub not_there : (site : Site) (parts : List PartState) (copies : List Copy) (losses : List Loss) (arrivals : List Arrival) (k : ℕ) (event : Event)
+    → AreOf site parts → slice_get parts k ≡ None → (new : SiteState) → RelaySteps site (site_state parts copies losses arrivals) k event new → ⊥
+not_there site parts copies losses arrivals k event of none new steps =
+    no_step (relays_of parts k) event steps.state steps.outs
+    (subst (λ x. Step x (relays_of parts k) event steps.state steps.outs) (of k ∙ ap plan_of none) steps.step)
+
+-- an event inside a relay takes nothing
+pub no_take : (event : RelayEvent) → IsTake (step_of event) → ⊥
+no_take (event.Enter i h) t = t
+no_take (event.Expire i h) t = t
+no_take (event.Grab w) t = t
+no_take (event.Done w) t = t
+no_take (event.Fail w took) t = t
+no_take (event.GiveUp w took) t = t
+no_take (event.Post w) t = t
+no_take (event.PostLost w cause) t = t
+
+pub inside_refused : (why : Illegal) (site : Site) (parts : List PartState) (copies : List Copy) (losses : List Loss) (arrivals : List Arrival) (k : ℕ) (p : PartState)
+    (event : RelayEvent) → AreOf site parts → slice_get parts k ≡ Some p → IsIllegal why p.board (step_of event)
+    → IsIllegalAt why site (site_state parts copies losses arrivals) (SiteEvent.Inside k (step_of event))
+inside_refused illegal.NotAStep site parts copies losses arrivals k p event of is none = λ new steps.
+    none steps.1.state steps.1.outs
+    (subst (λ x. Step p.board.plan (state_of x) (step_of event) steps.1.state steps.1.outs) is
+    (subst (λ x. Step x (relays_of parts k) (step_of event) steps.1.state steps.1.outs) (of k ∙ ap plan_of is) steps.1.step))
+inside_refused illegal.NoMemory site parts copies losses arrivals k p event of is none = tt
+inside_refused illegal.TotalsFull site parts copies losses arrivals k p event of is (state, outs, step) =
+    (put_outs (record (site_state parts copies losses arrivals) { relays = with_relay (relays_of parts) k state }) k outs, (no_take event, record {
+      state = state;
+      outs = outs;
+      step = subst (λ x. Step x (relays_of parts k) (step_of event) state outs) (sym (of k ∙ ap plan_of is))
+          (subst (λ x. Step p.board.plan (state_of x) (step_of event) state outs) (sym is) step);
+      after = refl;
+    }))
+
+pub inside_made : (site : Site) (parts : List PartState) (copies : List Copy) (losses now : List Loss) (arrivals : List Arrival) (k : ℕ) (p new : PartState) (event : RelayEvent)
+    → AreOf site parts → slice_get parts k ≡ Some p → HasLists p → IsWhole p.board.plan → Makes k p losses (step_of event) new now
+    → SiteStep site (site_state parts copies losses arrivals) (SiteEvent.Inside k (step_of event)) (site_state (slice_set parts k new) copies now arrivals)
+inside_made site parts copies losses now arrivals k p new event of is lists whole makes =
+    (no_take event, relay_steps site parts copies losses now arrivals k p new (step_of event) is (of k ∙ ap plan_of is) lists whole makes)
+
+-- ---- what a step keeps
+
+passed_length : (outs : List Out) (passed : List (List ℕ)) → length (passed_by outs passed) ≡ length passed
+passed_length [] passed = refl
+passed_length (Out.Passed action e ∷ outs) passed =
+    passed_length outs (slice_set passed action (tags_at passed action ++ e.tag ∷ [])) ∙ length-set passed action (tags_at passed action ++ e.tag ∷ [])
+passed_length (Out.Lost cause e ∷ outs) passed = passed_length outs passed
+
+pub lists_kept : (k : ℕ) (old new : PartState) (event : Event) (before after : List Loss) → HasLists old → Makes k old before event new after → HasLists new
+lists_kept k old new event before after lists makes =
+    ap length makes.passed ∙ passed_length makes.outs old.passed ∙ lists ∙ ap (λ (p : Plan). length p.actions) (sym makes.goes.1)
+
+pub lists_after : {T E : Type 0} (C : Type 0) (r : Result T E) (k : ℕ) (old new : BoardState) (xs ys : List (Vec ℕ)) (event : Event) (before after : List Loss)
+    → length xs ≡ length old.plan.actions → OnOk r (Makes k (part old (items_of xs)) before event (part new (items_of ys)) after)
+    → OnErr r ((new ≡ old) × (items_of ys ≡ items_of xs) × C) → length ys ≡ length new.plan.actions
+lists_after C (Ok x) k old new xs ys event before after lists makes same =
+    sym (length-map ys (λ (v : Vec ℕ). v.items))
+    ∙ lists_kept k (part old (items_of xs)) (part new (items_of ys)) event before after (length-map xs (λ (v : Vec ℕ). v.items) ∙ lists) makes
+lists_after C (Err e) k old new xs ys event before after lists makes same =
+    sym (length-map ys (λ (v : Vec ℕ). v.items)) ∙ ap length same.1 ∙ length-map xs (λ (v : Vec ℕ). v.items) ∙ lists
+    ∙ ap (λ (b : BoardState). length b.plan.actions) (sym same.0)

@@ -5,6 +5,9 @@ use Rattle.sy_board.specs.relay.Cells.{RelayState}
 use Rattle.sy_board.specs.relay.Cells as cells
 use Rattle.sy_site.specs.Sites.{Site, SiteAction, no_plan, plan_at}
 use Rattle.sy_site.specs.machine.States.{Arrival, Copy, Loss, SiteState}
+use Rattle.sy_site.specs.machine.Steps.{SiteEvent, SiteStep}
+use Rattle.sy_replay.specs.declared.event.Illegal.{Illegal}
+use Rattle.sy_replay.specs.declared.event.Illegal.TheVariants as illegal
 use Rattle.sy_replay.specs.Parts.{PartState, tags_at}
 
 abbrev pub plan_of : Option PartState → Plan
@@ -43,3 +46,20 @@ AreOf site parts = (r : ℕ) → plan_at site r ≡ plan_of (slice_get parts r)
 -- a list for each action
 abbrev pub HasLists : PartState → Type 0
 HasLists part = length part.passed ≡ length part.board.plan.actions
+
+-- Why the site doesn't make an event: it is no step from this state; or it is one, and a total is full. That memory ran out says nothing.
+abbrev pub IsIllegalAt : Illegal → Site → SiteState → SiteEvent → Type 0
+IsIllegalAt illegal.NotAStep site old event = (new : SiteState) → SiteStep site old event new → ⊥
+IsIllegalAt illegal.NoMemory site old event = Unit {0}
+IsIllegalAt illegal.TotalsFull site old event = (new : SiteState) × SiteStep site old event new
+
+-- ---- events inside relays
+
+-- the site's step from these relays to those, whatever else the site holds
+abbrev pub StepsInside : List PartState → List Loss → SiteEvent → List PartState → List Loss → Type 0
+StepsInside parts before event new after = (site : Site) (copies : List Copy) (arrivals : List Arrival) → AreOf site parts
+    → SiteStep site (site_state parts copies before arrivals) event (site_state new copies after arrivals)
+
+abbrev pub IsNoneInside : Illegal → List PartState → List Loss → SiteEvent → Type 0
+IsNoneInside why parts losses event = (site : Site) (copies : List Copy) (arrivals : List Arrival) → AreOf site parts
+    → IsIllegalAt why site (site_state parts copies losses arrivals) event
