@@ -4,7 +4,7 @@ ghost use Rattle.std.specs.Arc.{arc_value};
 ghost use Rattle.sy_marks.specs.Marks.{HoldIs, discards};
 ghost use Rattle.sy_board.specs.internal.Kept.{empty_queue};
 ghost use Rattle.sy_board.specs.relay.Boards.{account_of, opened};
-ghost use Rattle.sy_board.specs.relay.Cells.{IsShaped, waiting};
+ghost use Rattle.sy_board.specs.relay.Cells.{IsShaped, failures_at, waiting};
 ghost use Rattle.sy_board.specs.relay.Patience.{IsPatient};
 ghost use Rattle.sy_board.specs.relay.Plans.{flow_at, marks_at, queue_of_input};
 ghost use Rattle.sy_board.specs.relay.Totals.{Laws};
@@ -172,6 +172,14 @@ impl Board {
         ensures patient { IsPatient self.now.plan self.now.state }
     {
         &self.accounts
+    }
+
+    /// How often the present occurrence of a worker has failed.
+    pub fn failures(&self, worker: u32) -> u32
+        requires { worker < length self.now.plan.workers }
+        ensures { result ≡ failures_at self.now.state worker }
+    {
+        self.workers[worker as usize].failures
     }
 
     /// What holds a message of an input now: first the full-delay mark, then a full queue, then the light-delay mark.

@@ -1,0 +1,17 @@
+use Rattle.std.proofs.Common.{subst, sym, ◌∙◌}
+use Rattle.sy_board.specs.relay.Boards.{JobIs}
+use Rattle.sy_replay.proofs.Refused.{no_post, no_post_at_all}
+use Rattle.sy_replay.proofs.making.post_of.Goals as goal
+
+pub returns-in-Ok-clause-ok : goal.returns-in-Ok-clause-ok
+returns-in-Ok-clause-ok c =
+    let is = subst (λ x. JobIs x c.args.board.now c.args.worker) c.in-Some-Post.field-0-is c.in-Some-Post.ensures.some in
+    record { job = is.0; its_input = sym is.1; its_message = sym is.2 ∙ sym c.in-Ok.ensures; its_tag = sym is.3 }
+
+pub returns-in-Some-Run-clause-err : goal.returns-in-Some-Run-clause-err
+returns-in-Some-Run-clause-err c =
+    let is = subst (λ x. JobIs x c.args.board.now c.args.worker) c.in-Some-Run.field-0-is c.in-Some-Run.ensures.some in
+    no_post c.args.board.now c.args.worker _ is.0
+
+pub returns-in-None-clause-err : goal.returns-in-None-clause-err
+returns-in-None-clause-err c = no_post_at_all c.args.board.now c.args.worker c.in-None.ensures.none

@@ -1,0 +1,59 @@
+-- What events say of the site machine, and why one may be refused. This profile's own.
+use Rattle.std.specs.Prelude.{◌≡◌, List, map}
+use Rattle.sy_board.specs.declared.fault.BoardFault.{BoardFault}
+use Rattle.sy_board.specs.declared.fault.BoardFault.TheVariants as fault
+use Rattle.sy_board.specs.relay.Boards.{BoardState, is_no_memory}
+use Rattle.sy_board.specs.relay.Cells.{RelayState}
+use Rattle.sy_board.specs.relay.Steps as steps
+use Rattle.sy_board.specs.relay.Steps.{Out, Step}
+use Rattle.sy_site.specs.machine.States as states
+use Rattle.sy_replay.specs.declared.event.RelayEvent.{RelayEvent}
+use Rattle.sy_replay.specs.declared.event.RelayEvent.TheVariants as event
+use Rattle.sy_replay.specs.declared.event.Illegal.{Illegal}
+use Rattle.sy_replay.specs.declared.event.Illegal.TheVariants as illegal
+use Rattle.sy_replay.specs.declared.event.Cause.{Cause}
+use Rattle.sy_replay.specs.declared.event.Cause.TheVariants as cause
+use Rattle.sy_replay.specs.declared.event.Loss.{Loss}
+
+-- the relay's step of an event inside it
+abbrev pub step_of : RelayEvent → steps.Event
+step_of (event.Enter input hand) = steps.Event.Enter input hand
+step_of (event.Expire input hand) = steps.Event.Expire input hand
+step_of (event.Grab worker) = steps.Event.Grab worker
+step_of (event.Done worker) = steps.Event.Done worker
+step_of (event.Fail worker took) = steps.Event.Fail worker took
+step_of (event.GiveUp worker took) = steps.Event.GiveUp worker took
+step_of (event.Post worker) = steps.Event.Post worker
+step_of (event.PostLost worker why) = steps.Event.PostLost worker (is_no_memory why)
+
+abbrev pub cause_of : Cause → steps.Cause
+cause_of cause.Take = steps.Cause.Take
+cause_of cause.Expire = steps.Cause.Expire
+cause_of cause.Grab = steps.Cause.Grab
+cause_of (cause.GiveUp action) = steps.Cause.GiveUp action
+cause_of (cause.Post list) = steps.Cause.Post list
+cause_of (cause.PostLost list) = steps.Cause.PostLost list
+
+abbrev pub loss_of : Loss → states.Loss
+loss_of l = record { copy = l.copy; relay = l.relay; cause = cause_of l.cause }
+
+abbrev pub losses_of : List Loss → List states.Loss
+losses_of losses = map loss_of losses
+
+-- ---- what a relay's board does
+
+-- The board makes the step, which lets these out. What its accounts say stands in its own contracts.
+abbrev pub Goes : BoardState → steps.Event → BoardState → List Out → Type 0
+Goes old event new outs = Step old.plan old.state event new.state outs × (new.plan ≡ old.plan)
+
+-- Why an event isn't applied: it is no step; or it is one, and a total is full. That memory ran out says nothing.
+abbrev pub IsIllegal : Illegal → BoardState → steps.Event → Type 0
+IsIllegal illegal.NotAStep old event = (new : RelayState) (outs : List Out) → Step old.plan old.state event new outs → ⊥
+IsIllegal illegal.NoMemory old event = Unit {0}
+IsIllegal illegal.TotalsFull old event = (new : RelayState) × (outs : List Out) × Step old.plan old.state event new outs
+
+-- what a board's refusal of a step means
+abbrev pub illegal_of : BoardFault → Illegal
+illegal_of fault.NoMemory = illegal.NoMemory
+illegal_of fault.TotalsFull = illegal.TotalsFull
+illegal_of _ = illegal.NotAStep

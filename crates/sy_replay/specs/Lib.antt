@@ -1,0 +1,4 @@
+pub mod Events
+pub mod Parts
+pub mod Jobs
+pub mod States

@@ -1,0 +1,9 @@
+//! The machine of a site, driven event by event: the boards of all relays, with links and files in memory and without threads.
+#![tactic(auto)]
+
+pub mod event;
+mod making;
+mod part;
+mod steps;
+
+pub use event::{Cause, Event, Illegal, Loss, RelayEvent};

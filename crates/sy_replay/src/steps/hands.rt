@@ -1,0 +1,139 @@
+//! The steps of messages on their way to a worker.
+ghost use Rattle.std.specs.Prelude.{◌≡◌, ◌+◌, ◌≤◌, ◌++◌, List, IfErr, OnErr, OnOk, length, map};
+ghost use Rattle.std.specs.Vec.{vec_capacity, vec_len};
+ghost use Rattle.sy_board.specs.relay.Steps.{Event, IsHand, IsOfInput};
+ghost use Rattle.sy_board.specs.relay.Steps as steps;
+ghost use Rattle.sy_site.specs.machine.States as states;
+ghost use Rattle.sy_replay.specs.Events.{IsIllegal, losses_of};
+ghost use Rattle.sy_replay.specs.Parts.{MakesInside, lost_by};
+
+use crate::event::{Cause, Illegal, Loss};
+use crate::making::{batch_of, has_hand, has_worker, illegal_of};
+use sy_board::{Board, Entry, Taken};
+use sy_chain::{Chain, Node};
+use sy_rules::laws::plans_are_whole;
+
+// Take: a message comes to a hand. Where it is discarded, it is a loss.
+pub(crate) fn take(
+    board: &mut Board,
+    losses: &mut Vec<Loss>,
+    relay: u32,
+    input: u32,
+    hand: u32,
+    node: Node,
+) -> Result<(), Illegal>
+    requires there { IsHand board.old.plan input hand }
+    requires made { IsOfInput board.old.plan input node }
+    ensures ok { OnOk result (MakesInside relay board.old (losses_of losses.old.items) (Event.Take input hand node) board.new (losses_of losses.new.items)) }
+    ensures err { IfErr result (λ why. IsIllegal why board.old (Event.Take input hand node)) }
+    ensures unchanged { OnErr result ((board.new ≡ board.old) × (losses.new.items ≡ losses.old.items)) }
+{
+    let copy = node.tag();
+    let Ok(()) = losses.reserve(1) else {
+        return Err(Illegal::NoMemory);
+    };
+    match board.take(input, hand, node) {
+        Ok(Taken::InHand) => Ok(()),
+        Ok(Taken::Discarded(_)) => {
+            losses.push_reserved(Loss {
+                copy,
+                relay,
+                cause: Cause::Take,
+            });
+            Ok(())
+        }
+        Err((_, fault)) => Err(illegal_of(fault)),
+    }
+}
+
+// Enter: a hand's message goes to the end of its input's queue.
+pub(crate) fn enter(board: &mut Board, relay: u32, input: u32, hand: u32) -> Result<(), Illegal>
+    ensures ok { OnOk result ((losses : List states.Loss) → MakesInside relay board.old losses (Event.Enter input hand) board.new losses) }
+    ensures err { IfErr result (λ why. IsIllegal why board.old (Event.Enter input hand)) }
+    ensures unchanged { OnErr result (board.new ≡ board.old) }
+{
+    if !has_hand(board, input, hand) {
+        return Err(Illegal::NotAStep);
+    }
+    match board.enter(input, hand) {
+        Ok(Entry::Entered) => Ok(()),
+        Ok(Entry::Held(_)) => Err(Illegal::NotAStep),
+        Err(fault) => Err(illegal_of(fault)),
+    }
+}
+
+// Expire: a hand's message is lost.
+pub(crate) fn expire(
+    board: &mut Board,
+    losses: &mut Vec<Loss>,
+    relay: u32,
+    input: u32,
+    hand: u32,
+) -> Result<(), Illegal>
+    ensures ok { OnOk result (MakesInside relay board.old (losses_of losses.old.items) (Event.Expire input hand) board.new (losses_of losses.new.items)) }
+    ensures err { IfErr result (λ why. IsIllegal why board.old (Event.Expire input hand)) }
+    ensures unchanged { OnErr result ((board.new ≡ board.old) × (losses.new.items ≡ losses.old.items)) }
+{
+    if !has_hand(board, input, hand) {
+        return Err(Illegal::NotAStep);
+    }
+    let Ok(()) = losses.reserve(1) else {
+        return Err(Illegal::NoMemory);
+    };
+    match board.expire(input, hand) {
+        Ok(node) => {
+            losses.push_reserved(Loss {
+                copy: node.tag(),
+                relay,
+                cause: Cause::Expire,
+            });
+            Ok(())
+        }
+        Err(fault) => Err(illegal_of(fault)),
+    }
+}
+
+// Puts the entries that a grab lost behind the other losses.
+fn note_grabbed(losses: &mut Vec<Loss>, relay: u32, lost: Chain)
+    requires { vec_len losses.old + length lost ≤ vec_capacity losses.old }
+    ensures { losses_of losses.new.items ≡ losses_of losses.old.items ++ lost_by relay (map (steps.Out.Lost steps.Cause.Grab) lost) }
+{
+    let mut lost = lost;
+    while let Some(node) = lost.pop_front() {
+        losses.push_reserved(Loss {
+            copy: node.tag(),
+            relay,
+            cause: Cause::Grab,
+        });
+    }
+}
+
+// Grab: a worker without entries takes a batch from its queue.
+pub(crate) fn grab(
+    board: &mut Board,
+    losses: &mut Vec<Loss>,
+    relay: u32,
+    worker: u32,
+) -> Result<(), Illegal>
+    ensures ok { OnOk result (MakesInside relay board.old (losses_of losses.old.items) (Event.Grab worker) board.new (losses_of losses.new.items)) }
+    ensures err { IfErr result (λ why. IsIllegal why board.old (Event.Grab worker)) }
+    ensures unchanged { OnErr result ((board.new ≡ board.old) × (losses.new.items ≡ losses.old.items)) }
+{
+    if !has_worker(board, worker) {
+        return Err(Illegal::NotAStep);
+    }
+    plans_are_whole(board.plan());
+    let Ok(()) = losses.reserve(batch_of(board, worker)) else {
+        return Err(Illegal::NoMemory);
+    };
+    match board.grab(worker) {
+        Ok((count, lost)) => {
+            if count == 0 {
+                return Err(Illegal::NotAStep);
+            }
+            note_grabbed(losses, relay, lost);
+            Ok(())
+        }
+        Err(fault) => Err(illegal_of(fault)),
+    }
+}
