@@ -19,13 +19,14 @@ use Rattle.sy_board.specs.declared.relay.answers.Posted.TheVariants as posted
 use Rattle.sy_board.specs.declared.relay.answers.PostCause.{PostCause}
 use Rattle.sy_board.specs.relay.Boards.{BoardState, EnterFails, ExpireFails, FailFails, GrabFails, HasNoJob, HasNoPost, HasNoRun, IsFailureOf, IsForPost, IsHeldBy, IsOf, NothingWaits, PostFails, PostIs, PostLostFails, SettleFails, TakeFails, is_no_memory}
 use Rattle.sy_board.specs.relay.Cells.{RelayState, at, failures_at, hand, waiting}
-use Rattle.sy_board.specs.relay.Plans.{IsDue, marks_at, parameters_at, retry_at}
-use Rattle.sy_board.specs.relay.Steps.{Cause, Event, Job, MayTry, Out, Posts, if_so}
+use Rattle.sy_board.specs.relay.Plans.{IsDue, input_at, marks_at, parameters_at, retry_at}
+use Rattle.sy_board.specs.relay.Steps.{Cause, Event, IsHand, IsOfInput, Job, MayTry, Out, Posts, Step, if_so}
 use Rattle.sy_board.proofs.relay.Excluded.{held_enters, held_expires}
-use Rattle.sy_board.proofs.relay.Outcomes.{jobs_same}
+use Rattle.sy_board.proofs.relay.Outcomes.{jobs_same, one_taken}
 use Rattle.sy_replay.specs.declared.event.Illegal.{Illegal}
 use Rattle.sy_replay.specs.declared.event.Illegal.TheVariants as illegal
 use Rattle.sy_replay.specs.Events.{IsIllegal, illegal_of}
+use Rattle.sy_replay.specs.Parts.{IsNoTake}
 use Rattle.sy_replay.specs.Jobs.{Answer, IsNoAnswer, IsPostJob, IsRunJob, NoPostJob, NoRunJob}
 
 not_both : {A : Type 0} (xs : List A) (x : A) (ys : List A) → xs ≡ [] → xs ≡ x ∷ ys → ⊥
@@ -255,3 +256,24 @@ pub run_there : (plan : Plan) (state : RelayState) (w action : ℕ) → IsWhole 
 run_there plan state w action whole job =
     lead_in plan (slice_get plan.lists job.entry.list) (at_or_none (λ x. All (Leads plan) (occurrences x.body)) plan.lists job.entry.list whole.occurrences_lead)
     job.number action job.found
+
+-- ---- takes
+
+pub no_take_of : (why : Illegal) (old : BoardState) (i h : ℕ) (made : Entry) → IsOfInput old.plan i made → IsIllegal why old (Event.Take i h made)
+    → IsNoTake why old i h made.message made.tag
+no_take_of illegal.NotAStep old i h made of none = λ node message tag new outs (lost, takes, is).
+    none new outs (subst (λ x. Step old.plan old.state (Event.Take i h x) new outs)
+    (one_taken old.plan i node made takes.made of message tag) (lost, takes, is))
+no_take_of illegal.NoMemory old i h made of none = tt
+no_take_of illegal.TotalsFull old i h made of some = (made, refl, refl, some)
+
+pub no_hand : (old : BoardState) (i h : ℕ) (message : Said) (tag : ℕ) → (IsHand old.plan i h → ⊥) → IsNoTake illegal.NotAStep old i h message tag
+no_hand old i h message tag none = λ node m t new outs (lost, takes, is). none takes.there
+
+pub input_made : (plan : Plan) (i list due tag : ℕ) (message : Said) (node : Entry) → list ≡ (input_at plan i).list → IsDue plan list message due
+    → node ≡ record { message = message; list = list; input = i; due = due; tag = tag } → IsOfInput plan i node
+input_made plan i list due tag message node l d is =
+    subst (IsOfInput plan i) (sym is) (record { input_is = refl; list = l; due = subst (λ k. IsDue plan k message due) l d })
+
+pub list_there : (plan : Plan) (i list : ℕ) → IsWhole plan → i < length plan.inputs → list ≡ (input_at plan i).list → list < length plan.lists
+list_there plan i list whole there is = subst (λ l. l < length plan.lists) (sym is) (whole.input_lists i _ there)

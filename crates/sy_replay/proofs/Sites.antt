@@ -6,22 +6,25 @@ use Rattle.std.proofs.Math.Path.{fun_ext}
 use Rattle.std.proofs.Math.ListN.{set}
 use Rattle.std.proofs.lemmas.List.{get_or-set_same, get_or-set_other, length-map, length-set}
 use Rattle.std.proofs.lemmas.Bool.{eqb-false, eqb-true}
+use Rattle.sy_wire.specs.Messages.{Said}
 use Rattle.sy_chain.specs.Entries.{Entry}
 use Rattle.sy_rules.specs.PlanValue.{Plan}
 use Rattle.sy_rules.specs.Whole.{IsWhole}
 use Rattle.sy_board.specs.relay.Boards.{BoardState}
 use Rattle.sy_board.specs.relay.Cells.{RelayState}
 use Rattle.sy_board.specs.relay.Steps.{Cause, Event, Out, Step, if_so}
-use Rattle.sy_site.specs.Sites.{Site, SiteAction, no_plan, plan_at, same_action}
-use Rattle.sy_site.specs.machine.States.{Arrival, Copy, Loss, SiteState, put_outs, with_passed, with_relay}
-use Rattle.sy_site.specs.machine.Steps.{IsTake, RelaySteps, SiteEvent, SiteStep}
+use Rattle.sy_site.specs.declared.site.SiteAction.{SiteAction}
+use Rattle.sy_site.specs.declared.site.SiteInput.{SiteInput}
+use Rattle.sy_site.specs.Sites.{Site, no_plan, plan_at, same_action}
+use Rattle.sy_site.specs.machine.States.{Arrival, Copy, Loss, SiteState, put_outs, taken_by, with_passed, with_relay}
+use Rattle.sy_site.specs.machine.Steps.{IsTake, RelaySteps, SiteEvent, SiteStep, TakesCopy}
 use Rattle.sy_replay.specs.declared.event.Illegal.{Illegal}
 use Rattle.sy_replay.specs.declared.event.Illegal.TheVariants as illegal
 use Rattle.sy_replay.specs.declared.event.RelayEvent.{RelayEvent}
 use Rattle.sy_replay.specs.declared.event.RelayEvent.TheVariants as event
 use Rattle.sy_replay.specs.Events.{IsIllegal, step_of}
-use Rattle.sy_replay.specs.Parts.{Makes, PartState, items_of, lost_by, part, passed_by, tags_at}
-use Rattle.sy_replay.specs.States.{AreOf, HasLists, IsIllegalAt, passed_in, passed_of, plan_of, relays_of, site_state, state_of}
+use Rattle.sy_replay.specs.Parts.{IsNoTake, Makes, PartState, TakesMessage, items_of, lost_by, part, passed_by, tags_at}
+use Rattle.sy_replay.specs.States.{AreOf, HasLists, IsIllegalAt, IsNotTaken, TakesInside, passed_in, passed_of, plan_of, relays_of, site_state, state_of}
 use Rattle.sy_replay.proofs.Refused.{run_there}
 
 -- ---- lists
@@ -256,3 +259,50 @@ lists_after C (Ok x) k old new xs ys event before after lists makes same =
 lists_after C (Err e) k old new xs ys event before after lists makes same =
     sym (length-map ys (λ (v : Vec ℕ). v.items)) ∙ ap length same.1 ∙ length-map xs (λ (v : Vec ℕ). v.items) ∙ lists
     ∙ ap (λ (b : BoardState). length b.plan.actions) (sym same.0)
+
+-- ---- takes
+
+pub plan_after : {T E : Type 0} (C : Type 0) (r : Result T E) (k : ℕ) (old new : BoardState) (before after : List Loss) (i h : ℕ) (m : Said) (t : ℕ)
+    → OnOk r (TakesMessage k old before i h m t new after) → OnErr r ((new ≡ old) × C) → new.plan ≡ old.plan
+plan_after C (Ok x) k old new before after i h m t (node, a, b, makes) same = (makes []).goes.1
+plan_after C (Err e) k old new before after i h m t makes same = ap (λ (b : BoardState). b.plan) same.0
+
+pub copy_taken : (parts : List PartState) (copies after : List Copy) (losses now : List Loss) (to : SiteInput) (hand : ℕ) (taken : Copy) (p new : PartState) (node : Entry)
+    → slice_get parts to.relay ≡ Some p → HasLists p → IsWhole p.board.plan → node.message ≡ taken.message → node.tag ≡ length copies
+    → Makes to.relay p losses (Event.Take to.input hand node) new now → after ≡ copies ++ taken ∷ []
+    → TakesInside parts copies losses to hand taken (slice_set parts to.relay new) after now
+copy_taken parts copies after losses now to hand taken p new node is lists whole message tag makes are = λ site arrivals copy of same. record {
+  node = node;
+  message = message ∙ ap (λ (c : Copy). c.message) same;
+  tag = tag;
+  step = subst (λ x. RelaySteps site (site_state parts (copies ++ taken_by to.relay copy ∷ []) losses arrivals) to.relay (Event.Take to.input hand node)
+      (site_state (slice_set parts to.relay new) x now arrivals)) (sym (are ∙ ap (λ c. copies ++ c ∷ []) same))
+      (relay_steps site parts (copies ++ taken_by to.relay copy ∷ []) losses now arrivals to.relay p new (Event.Take to.input hand node) is (of to.relay ∙ ap plan_of is) lists whole makes);
+}
+
+pub copy_refused : (why : Illegal) (parts : List PartState) (copies : List Copy) (losses : List Loss) (to : SiteInput) (hand : ℕ) (taken : Copy) (p : PartState)
+    → slice_get parts to.relay ≡ Some p → IsNoTake why p.board to.input hand taken.message (length copies) → IsNotTaken why parts copies losses to hand taken
+copy_refused illegal.NotAStep parts copies losses to hand taken p is none = λ site arrivals copy of same new takes.
+    none takes.node (takes.message ∙ ap (λ (c : Copy). c.message) (sym same)) takes.tag takes.step.state takes.step.outs
+    (subst (λ x. Step p.board.plan (state_of x) (Event.Take to.input hand takes.node) takes.step.state takes.step.outs) is
+    (subst (λ x. Step x (relays_of parts to.relay) (Event.Take to.input hand takes.node) takes.step.state takes.step.outs) (of to.relay ∙ ap plan_of is) takes.step.step))
+copy_refused illegal.NoMemory parts copies losses to hand taken p is none = tt
+copy_refused illegal.TotalsFull parts copies losses to hand taken p is (node, message, tag, (state, outs, step)) = λ site arrivals copy of same.
+    (put_outs (record (site_state parts (copies ++ taken_by to.relay copy ∷ []) losses arrivals) { relays = with_relay (relays_of parts) to.relay state }) to.relay outs,
+    record {
+      node = node;
+      message = message ∙ ap (λ (c : Copy). c.message) same;
+      tag = tag;
+      step = record {
+        state = state;
+        outs = outs;
+        step = subst (λ x. Step x (relays_of parts to.relay) (Event.Take to.input hand node) state outs) (sym (of to.relay ∙ ap plan_of is))
+            (subst (λ x. Step p.board.plan (state_of x) (Event.Take to.input hand node) state outs) (sym is) step);
+        after = refl;
+      };
+    })
+
+pub none_takes : (parts : List PartState) (copies : List Copy) (losses : List Loss) (to : SiteInput) (hand : ℕ) (taken : Copy) → slice_get parts to.relay ≡ None
+    → IsNotTaken illegal.NotAStep parts copies losses to hand taken
+none_takes parts copies losses to hand taken none = λ site arrivals copy of same new takes.
+    not_there site parts (copies ++ taken_by to.relay copy ∷ []) losses arrivals to.relay (Event.Take to.input hand takes.node) of none new takes.step

@@ -4,7 +4,11 @@ use Rattle.std.specs.Global.{Vec}
 use Rattle.sy_board.specs.relay.Boards.{BoardState}
 use Rattle.sy_board.specs.relay.Steps.{Event, Out}
 use Rattle.sy_site.specs.machine.States.{Loss}
-use Rattle.sy_replay.specs.Events.{Goes}
+use Rattle.sy_wire.specs.Messages.{Said}
+use Rattle.sy_chain.specs.Entries.{Entry}
+use Rattle.sy_replay.specs.declared.event.Illegal.{Illegal}
+use Rattle.sy_replay.specs.declared.event.Illegal.TheVariants as illegal
+use Rattle.sy_replay.specs.Events.{Goes, IsIllegal}
 
 -- what an action's device took
 abbrev pub tags_at : List (List ℕ) → ℕ → List ℕ
@@ -43,3 +47,23 @@ part board passed = record { board = board; passed = passed }
 -- the same where nothing comes to links and files
 abbrev pub MakesInside : ℕ → BoardState → List Loss → Event → BoardState → List Loss → Type 0
 MakesInside relay old before event new after = (passed : List (List ℕ)) → Makes relay (part old passed) before event (part new passed) after
+
+-- ---- Take
+
+-- The relay takes an entry of this message and with this tag.
+abbrev pub TakesMessage : ℕ → BoardState → List Loss → ℕ → ℕ → Said → ℕ → BoardState → List Loss → Type 0
+TakesMessage relay old before input hand message tag new after =
+    (node : Entry) × (node.message ≡ message) × (node.tag ≡ tag) × MakesInside relay old before (Event.Take input hand node) new after
+
+-- Why it doesn't: no such entry is taken; or one is, and a total is full.
+abbrev pub IsNoTake : Illegal → BoardState → ℕ → ℕ → Said → ℕ → Type 0
+IsNoTake illegal.NotAStep old input hand message tag =
+    (node : Entry) → node.message ≡ message → node.tag ≡ tag → IsIllegal illegal.NotAStep old (Event.Take input hand node)
+IsNoTake illegal.NoMemory old input hand message tag = Unit {0}
+IsNoTake illegal.TotalsFull old input hand message tag =
+    (node : Entry) × (node.message ≡ message) × (node.tag ≡ tag) × IsIllegal illegal.TotalsFull old (Event.Take input hand node)
+
+-- the same of a relay with its lists
+abbrev pub TakesMessageAt : ℕ → PartState → List Loss → ℕ → ℕ → Said → ℕ → PartState → List Loss → Type 0
+TakesMessageAt relay old before input hand message tag new after =
+    (node : Entry) × (node.message ≡ message) × (node.tag ≡ tag) × Makes relay old before (Event.Take input hand node) new after

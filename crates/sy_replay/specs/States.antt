@@ -3,9 +3,11 @@ use Rattle.std.specs.Prelude.{◌≡◌, ℕ, List, [], Option, Some, None, All,
 use Rattle.sy_rules.specs.PlanValue.{Plan}
 use Rattle.sy_board.specs.relay.Cells.{RelayState}
 use Rattle.sy_board.specs.relay.Cells as cells
-use Rattle.sy_site.specs.Sites.{Site, SiteAction, no_plan, plan_at}
-use Rattle.sy_site.specs.machine.States.{Arrival, Copy, Loss, SiteState}
-use Rattle.sy_site.specs.machine.Steps.{SiteEvent, SiteStep}
+use Rattle.sy_site.specs.declared.site.SiteAction.{SiteAction}
+use Rattle.sy_site.specs.declared.site.SiteInput.{SiteInput}
+use Rattle.sy_site.specs.Sites.{Site, no_plan, plan_at}
+use Rattle.sy_site.specs.machine.States.{Arrival, Copy, Loss, SiteState, taken_by}
+use Rattle.sy_site.specs.machine.Steps.{SiteEvent, SiteStep, TakesCopy}
 use Rattle.sy_replay.specs.declared.event.Illegal.{Illegal}
 use Rattle.sy_replay.specs.declared.event.Illegal.TheVariants as illegal
 use Rattle.sy_replay.specs.Parts.{PartState, tags_at}
@@ -63,3 +65,18 @@ StepsInside parts before event new after = (site : Site) (copies : List Copy) (a
 abbrev pub IsNoneInside : Illegal → List PartState → List Loss → SiteEvent → Type 0
 IsNoneInside why parts losses event = (site : Site) (copies : List Copy) (arrivals : List Arrival) → AreOf site parts
     → IsIllegalAt why site (site_state parts copies losses arrivals) event
+
+-- ---- takes
+
+-- The site's relay takes this copy, from such relays to those, whatever came from outside.
+abbrev pub TakesInside : List PartState → List Copy → List Loss → SiteInput → ℕ → Copy → List PartState → List Copy → List Loss → Type 0
+TakesInside parts copies before to hand taken new after now = (site : Site) (arrivals : List Arrival) (copy : Copy) → AreOf site parts → taken ≡ taken_by to.relay copy
+    → TakesCopy site (site_state parts copies before arrivals) to hand copy (site_state new after now arrivals)
+
+-- why it doesn't
+abbrev pub IsNotTaken : Illegal → List PartState → List Copy → List Loss → SiteInput → ℕ → Copy → Type 0
+IsNotTaken illegal.NotAStep parts copies losses to hand taken = (site : Site) (arrivals : List Arrival) (copy : Copy) → AreOf site parts → taken ≡ taken_by to.relay copy
+    → (new : SiteState) → TakesCopy site (site_state parts copies losses arrivals) to hand copy new → ⊥
+IsNotTaken illegal.NoMemory parts copies losses to hand taken = Unit {0}
+IsNotTaken illegal.TotalsFull parts copies losses to hand taken = (site : Site) (arrivals : List Arrival) (copy : Copy) → AreOf site parts → taken ≡ taken_by to.relay copy
+    → (new : SiteState) × TakesCopy site (site_state parts copies losses arrivals) to hand copy new

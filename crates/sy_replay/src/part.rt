@@ -1,17 +1,28 @@
 //! One relay of a replay.
 ghost use Rattle.std.specs.Prelude.{◌≡◌, IfErr, OnErr, OnOk, length};
+ghost use Rattle.std.specs.Arc.{arc_value};
 ghost use Rattle.sy_rules.specs.Whole.{IsWhole};
 ghost use Rattle.sy_site.specs.machine.Steps.{SiteEvent};
 ghost use Rattle.sy_replay.specs.Events.{IsIllegal, losses_of, step_of};
-ghost use Rattle.sy_replay.specs.Parts.{Makes, items_of, part};
+ghost use Rattle.sy_replay.specs.Parts.{IsNoTake, Makes, TakesMessageAt, items_of, part};
 ghost use Rattle.sy_replay.specs.States.{HasLists, IsNoneInside, StepsInside};
 
 use crate::event::{Illegal, Loss, RelayEvent};
 use crate::steps::{hands, jobs, posts};
 use std::alloc::Global;
 use std::marker::Model;
+use std::sync::Arc;
 use sy_board::Board;
 use sy_rules::laws::plans_are_whole;
+use sy_wire::Message;
+
+/// A hand of an input of a relay.
+#[derive(Clone, Copy)]
+pub(crate) struct Place {
+    pub(crate) relay: u32,
+    pub(crate) input: u32,
+    pub(crate) hand: u32,
+}
 
 /// A relay: its board, and what each of its actions' devices took, of an archive its file, of a forward its link.
 #[derive(Drop)]
@@ -52,6 +63,35 @@ impl Part {
     {
         plans_are_whole(self.board.plan());
         step(alloc, &mut self.board, &mut self.passed, losses, relay, event)
+    }
+
+    // Takes a message into a hand, with this tag, or changes nothing.
+    pub(crate) fn take(
+        &mut self,
+        alloc: Global,
+        losses: &mut Vec<Loss>,
+        to: Place,
+        message: Arc<Message>,
+        tag: u64,
+    ) -> Result<(), Illegal>
+        ensures ok { OnOk result (TakesMessageAt to.relay self.old (losses_of losses.old.items) to.input to.hand (arc_value message) tag
+            self.new (losses_of losses.new.items)) }
+        ensures err { IfErr result (λ why. IsNoTake why self.old.board to.input to.hand (arc_value message) tag) }
+        ensures unchanged { OnErr result ((self.new ≡ self.old) × (losses.new.items ≡ losses.old.items)) }
+        ensures lists { HasLists self.old }
+        ensures whole { IsWhole self.old.board.plan }
+    {
+        plans_are_whole(self.board.plan());
+        hands::take_message(
+            alloc,
+            &mut self.board,
+            losses,
+            to.relay,
+            to.input,
+            to.hand,
+            message,
+            tag,
+        )
     }
 }
 

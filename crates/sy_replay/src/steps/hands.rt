@@ -1,17 +1,23 @@
 //! The steps of messages on their way to a worker.
-ghost use Rattle.std.specs.Prelude.{◌≡◌, ◌+◌, ◌≤◌, ◌++◌, List, IfErr, OnErr, OnOk, length, map};
+ghost use Rattle.std.specs.Prelude.{◌≡◌, ◌+◌, ◌<◌, ◌≤◌, ◌++◌, List, IfErr, IfOk, OnErr, OnOk, length, map};
+ghost use Rattle.std.specs.Arc.{arc_value};
 ghost use Rattle.std.specs.Vec.{vec_capacity, vec_len};
+ghost use Rattle.sy_board.specs.relay.Plans.{input_at};
 ghost use Rattle.sy_board.specs.relay.Steps.{Event, IsHand, IsOfInput};
 ghost use Rattle.sy_board.specs.relay.Steps as steps;
 ghost use Rattle.sy_site.specs.machine.States as states;
 ghost use Rattle.sy_replay.specs.Events.{IsIllegal, losses_of};
-ghost use Rattle.sy_replay.specs.Parts.{MakesInside, lost_by};
+ghost use Rattle.sy_replay.specs.Parts.{IsNoTake, MakesInside, TakesMessage, lost_by};
 
 use crate::event::{Cause, Illegal, Loss};
 use crate::making::{batch_of, has_hand, has_worker, illegal_of};
+use std::alloc::{AllocError, Global};
+use std::sync::Arc;
 use sy_board::{Board, Entry, Taken};
 use sy_chain::{Chain, Node};
+use sy_rules::Plan;
 use sy_rules::laws::plans_are_whole;
+use sy_wire::Message;
 
 // Take: a message comes to a hand. Where it is discarded, it is a loss.
 pub(crate) fn take(
@@ -44,6 +50,60 @@ pub(crate) fn take(
         }
         Err((_, fault)) => Err(illegal_of(fault)),
     }
+}
+
+// The list of an input.
+fn list_of(plan: &Plan, input: u32) -> u32
+    requires { input < length plan.now.inputs }
+    ensures { result ≡ (input_at plan.now input).list }
+{
+    plan.inputs()[input as usize].list
+}
+
+// The entry that an input makes of a message.
+fn entry_of(
+    alloc: Global,
+    plan: &Plan,
+    input: u32,
+    message: Arc<Message>,
+    tag: u64,
+) -> Result<Node, AllocError>
+    requires { input < length plan.now.inputs }
+    ensures made { IfOk result (λ node. IsOfInput plan.now input node) }
+    ensures message { IfOk result (λ node. node.message ≡ arc_value message) }
+    ensures tag { IfOk result (λ node. node.tag ≡ tag) }
+{
+    plans_are_whole(plan);
+    let list = list_of(plan, input);
+    let due = plan.due(list, &message);
+    match Node::new(alloc, message, list, input, due, tag) {
+        Ok(node) => Ok(node),
+        Err(_) => Err(AllocError),
+    }
+}
+
+// Take, of a message: its entry comes to a hand, or is lost there.
+pub(crate) fn take_message(
+    alloc: Global,
+    board: &mut Board,
+    losses: &mut Vec<Loss>,
+    relay: u32,
+    input: u32,
+    hand: u32,
+    message: Arc<Message>,
+    tag: u64,
+) -> Result<(), Illegal>
+    ensures ok { OnOk result (TakesMessage relay board.old (losses_of losses.old.items) input hand (arc_value message) tag board.new (losses_of losses.new.items)) }
+    ensures err { IfErr result (λ why. IsNoTake why board.old input hand (arc_value message) tag) }
+    ensures unchanged { OnErr result ((board.new ≡ board.old) × (losses.new.items ≡ losses.old.items)) }
+{
+    if !has_hand(board, input, hand) {
+        return Err(Illegal::NotAStep);
+    }
+    let Ok(node) = entry_of(alloc, board.plan(), input, message, tag) else {
+        return Err(Illegal::NoMemory);
+    };
+    take(board, losses, relay, input, hand, node)
 }
 
 // Enter: a hand's message goes to the end of its input's queue.
