@@ -132,9 +132,11 @@ all_noted relay lost xs all is so_far =
 
 pub settled : (old new : BoardState) (w action tag : ℕ) (message : Said) → IsRunJob old w action message tag
     → SettleIs old w (record { device = action; message = message }) new → Answers Answer.Done old w action tag new
-settled old new w action tag message job (of, settles, is) =
-    (of.run.entry, ap (λ (e : Entry). e.tag) (jobs_same old.plan old.state w (occurrence.Run action) (occurrence.Run action) of.run job.job).1 ∙ job.its_tag,
-    λ took. ((action, of.run.entry, settles, refl), ap (λ (x : BoardState). x.plan) is))
+settled old new w action tag message job (of, settles, is) = (
+  of.run.entry,
+  ap (λ (e : Entry). e.tag) (jobs_same old.plan old.state w (occurrence.Run action) (occurrence.Run action) of.run job.job).1 ∙ job.its_tag,
+  λ took. ((action, of.run.entry, settles, refl), ap (λ (x : BoardState). x.plan) is),
+)
 
 pub as_told : (failure : Refused) (action : ℕ) → failure.device ≡ action → failure ≡ record failure { device = action }
 as_told failure action d = ap (λ x. record failure { device = x }) d
@@ -144,18 +146,22 @@ pub tried : (old new : BoardState) (w action tag : ℕ) (message : Said) (failur
 tried old new w action tag message failure job d is = go (subst (λ x. FailIs retry.Again old w x new) (as_told failure action d) is)
   where
     go : FailIs retry.Again old w (record failure { device = action }) new → Answers Answer.Fail old w action tag new
-    go (of, fails, same) =
-        (of.of.run.entry, ap (λ (e : Entry). e.tag) (jobs_same old.plan old.state w (occurrence.Run action) (occurrence.Run action) of.of.run job.job).1 ∙ job.its_tag,
-        λ took. ((action, of.of.run.entry, fails, refl), ap (λ (x : BoardState). x.plan) (same took)))
+    go (of, fails, same) = (
+      of.of.run.entry,
+      ap (λ (e : Entry). e.tag) (jobs_same old.plan old.state w (occurrence.Run action) (occurrence.Run action) of.of.run job.job).1 ∙ job.its_tag,
+      λ took. ((action, of.of.run.entry, fails, refl), ap (λ (x : BoardState). x.plan) (same took)),
+    )
 
 pub given_up : (old new : BoardState) (w action tag : ℕ) (message : Said) (failure : Refused) → IsRunJob old w action message tag → failure.device ≡ action
     → FailIs retry.GaveUp old w failure new → Answers Answer.GiveUp old w action tag new
 given_up old new w action tag message failure job d is = go (subst (λ x. FailIs retry.GaveUp old w x new) (as_told failure action d) is)
   where
     go : FailIs retry.GaveUp old w (record failure { device = action }) new → Answers Answer.GiveUp old w action tag new
-    go (of, gives, same) =
-        (of.of.run.entry, ap (λ (e : Entry). e.tag) (jobs_same old.plan old.state w (occurrence.Run action) (occurrence.Run action) of.of.run job.job).1 ∙ job.its_tag,
-        λ took. ((action, of.of.run.entry, gives, refl), ap (λ (x : BoardState). x.plan) (same took)))
+    go (of, gives, same) = (
+      of.of.run.entry,
+      ap (λ (e : Entry). e.tag) (jobs_same old.plan old.state w (occurrence.Run action) (occurrence.Run action) of.of.run job.job).1 ∙ job.its_tag,
+      λ took. ((action, of.of.run.entry, gives, refl), ap (λ (x : BoardState). x.plan) (same took)),
+    )
 
 -- ---- posts
 

@@ -191,8 +191,8 @@ post_held old new w node back made (same, unchanged, list, job, kept, full) = λ
     let entry : posts.job.entry ≡ job.entry = (jobs_same old.plan old.state w (occurrence.Post l) (occurrence.Post list) posts.job job).1 in
     let message : n.message ≡ node.message = posts.made.message ∙ ap (λ (e : Entry). e.message) entry ∙ sym (made list job).message in
     let judged : discards (marks_at old.plan (queue_for old.plan l)) n.message.class.severity (waiting old.state (queue_for old.plan l)) ≡ false =
-        subst (λ (m : Said). discards (marks_at old.plan (queue_for old.plan l)) m.class.severity (waiting old.state (queue_for old.plan l)) ≡ false) (sym message)
-        (subst (λ q. discards (marks_at old.plan (queue_for old.plan q)) node.message.class.severity (waiting old.state (queue_for old.plan q)) ≡ false) (sym other) kept) in
+    subst (λ (m : Said). discards (marks_at old.plan (queue_for old.plan l)) m.class.severity (waiting old.state (queue_for old.plan l)) ≡ false) (sym message)
+    (subst (λ q. discards (marks_at old.plan (queue_for old.plan q)) node.message.class.severity (waiting old.state (queue_for old.plan q)) ≡ false) (sym other) kept) in
     no_room lost (waiting old.state (queue_for old.plan l)) (parameters_at old.plan (queue_for old.plan l)).size (sym posts.discarded ∙ judged)
     (subst (λ q. (parameters_at old.plan (queue_for old.plan q)).size ≤ waiting old.state (queue_for old.plan q)) (sym other) full) posts.room
 

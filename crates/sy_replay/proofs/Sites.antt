@@ -90,8 +90,8 @@ put_all k relays copies passed others losses arrivals (Out.Passed action e ∷ o
     let by : SiteAction = record { relay = k; action = action } in
     let tags = tags_at passed action ++ e.tag ∷ [] in
     let one : with_passed (spread k passed others) by (spread k passed others by ++ e.tag ∷ []) ≡ spread k (slice_set passed action tags) others =
-        ap (λ z. with_passed (spread k passed others) by (z ++ e.tag ∷ [])) (here k (tags_at passed action) (others by))
-        ∙ fun_ext (put_one k action passed others tags there.0) in
+    ap (λ z. with_passed (spread k passed others) by (z ++ e.tag ∷ [])) (here k (tags_at passed action) (others by))
+    ∙ fun_ext (put_one k action passed others tags there.0) in
     ap (λ p. put_outs (state_with relays copies p losses arrivals) k outs) one
     ∙ put_all k relays copies (slice_set passed action tags) others losses arrivals outs
     (subst (λ n. AreThere n outs) (sym (length-set passed action tags)) there.1)
@@ -223,14 +223,19 @@ inside_refused illegal.NotAStep site parts copies losses arrivals k p event of i
     (subst (λ x. Step p.board.plan (state_of x) (step_of event) steps.1.state steps.1.outs) is
     (subst (λ x. Step x (relays_of parts k) (step_of event) steps.1.state steps.1.outs) (of k ∙ ap plan_of is) steps.1.step))
 inside_refused illegal.NoMemory site parts copies losses arrivals k p event of is none = tt
-inside_refused illegal.TotalsFull site parts copies losses arrivals k p event of is (state, outs, step) =
-    (put_outs (record (site_state parts copies losses arrivals) { relays = with_relay (relays_of parts) k state }) k outs, (no_take event, record {
+inside_refused illegal.TotalsFull site parts copies losses arrivals k p event of is (state, outs, step) = (
+  put_outs (record (site_state parts copies losses arrivals) { relays = with_relay (relays_of parts) k state }) k outs,
+  (
+    no_take event,
+    record {
       state = state;
       outs = outs;
       step = subst (λ x. Step x (relays_of parts k) (step_of event) state outs) (sym (of k ∙ ap plan_of is))
           (subst (λ x. Step p.board.plan (state_of x) (step_of event) state outs) (sym is) step);
       after = refl;
-    }))
+    },
+  ),
+)
 
 pub inside_made : (site : Site) (parts : List PartState) (copies : List Copy) (losses now : List Loss) (arrivals : List Arrival) (k : ℕ) (p new : PartState) (event : RelayEvent)
     → AreOf site parts → slice_get parts k ≡ Some p → HasLists p → IsWhole p.board.plan → Makes k p losses (step_of event) new now
@@ -287,20 +292,21 @@ copy_refused illegal.NotAStep parts copies losses to hand taken p is none = λ s
     (subst (λ x. Step p.board.plan (state_of x) (Event.Take to.input hand takes.node) takes.step.state takes.step.outs) is
     (subst (λ x. Step x (relays_of parts to.relay) (Event.Take to.input hand takes.node) takes.step.state takes.step.outs) (of to.relay ∙ ap plan_of is) takes.step.step))
 copy_refused illegal.NoMemory parts copies losses to hand taken p is none = tt
-copy_refused illegal.TotalsFull parts copies losses to hand taken p is (node, message, tag, (state, outs, step)) = λ site arrivals copy of same.
-    (put_outs (record (site_state parts (copies ++ taken_by to.relay copy ∷ []) losses arrivals) { relays = with_relay (relays_of parts) to.relay state }) to.relay outs,
-    record {
-      node = node;
-      message = message ∙ ap (λ (c : Copy). c.message) same;
-      tag = tag;
-      step = record {
-        state = state;
-        outs = outs;
-        step = subst (λ x. Step x (relays_of parts to.relay) (Event.Take to.input hand node) state outs) (sym (of to.relay ∙ ap plan_of is))
-            (subst (λ x. Step p.board.plan (state_of x) (Event.Take to.input hand node) state outs) (sym is) step);
-        after = refl;
-      };
-    })
+copy_refused illegal.TotalsFull parts copies losses to hand taken p is (node, message, tag, (state, outs, step)) = λ site arrivals copy of same. (
+  put_outs (record (site_state parts (copies ++ taken_by to.relay copy ∷ []) losses arrivals) { relays = with_relay (relays_of parts) to.relay state }) to.relay outs,
+  record {
+    node = node;
+    message = message ∙ ap (λ (c : Copy). c.message) same;
+    tag = tag;
+    step = record {
+      state = state;
+      outs = outs;
+      step = subst (λ x. Step x (relays_of parts to.relay) (Event.Take to.input hand node) state outs) (sym (of to.relay ∙ ap plan_of is))
+          (subst (λ x. Step p.board.plan (state_of x) (Event.Take to.input hand node) state outs) (sym is) step);
+      after = refl;
+    };
+  },
+)
 
 pub none_takes : (parts : List PartState) (copies : List Copy) (losses : List Loss) (to : SiteInput) (hand : ℕ) (taken : Copy) → slice_get parts to.relay ≡ None
     → IsNotTaken illegal.NotAStep parts copies losses to hand taken

@@ -45,7 +45,10 @@ pub enum Event {
         place: u64,
     },
     /// A step inside a relay.
-    Inside { relay: u32, event: RelayEvent },
+    Inside {
+        relay: u32,
+        event: RelayEvent,
+    },
 }
 
 /// Why an event isn't applied. Nothing has changed then.

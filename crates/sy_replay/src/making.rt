@@ -80,11 +80,13 @@ pub(crate) fn run_of(board: &Board, worker: u32) -> Result<Run, Illegal>
     ensures err { IfErr result (λ why. NoRunJob why board.now worker) }
 {
     match board.job(worker) {
-        Some(Job::Run {
-            action,
-            message,
-            tag,
-        }) => match Arc::try_clone(message) {
+        Some(
+            Job::Run {
+                action,
+                message,
+                tag,
+            },
+        ) => match Arc::try_clone(message) {
             Ok(message) => Ok(Run {
                 action,
                 message,
@@ -104,12 +106,14 @@ pub(crate) fn post_of(board: &Board, worker: u32) -> Result<Post, Illegal>
     ensures err { IfErr result (λ why. NoPostJob why board.now worker) }
 {
     match board.job(worker) {
-        Some(Job::Post {
-            list,
-            input,
-            message,
-            tag,
-        }) => match Arc::try_clone(message) {
+        Some(
+            Job::Post {
+                list,
+                input,
+                message,
+                tag,
+            },
+        ) => match Arc::try_clone(message) {
             Ok(message) => Ok(Post {
                 list,
                 input,

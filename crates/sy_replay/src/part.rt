@@ -62,7 +62,14 @@ impl Part {
         ensures whole { IsWhole self.old.board.plan }
     {
         plans_are_whole(self.board.plan());
-        step(alloc, &mut self.board, &mut self.passed, losses, relay, event)
+        step(
+            alloc,
+            &mut self.board,
+            &mut self.passed,
+            losses,
+            relay,
+            event,
+        )
     }
 
     // Takes a message into a hand, with this tag, or changes nothing.

@@ -86,12 +86,7 @@ fn fail_last(board: &mut Board, worker: u32, run: Run) -> Result<(), Illegal>
 }
 
 // Done, whose copy comes to the end of what the device took.
-fn settle_into(
-    board: &mut Board,
-    tags: &mut Vec<u64>,
-    worker: u32,
-    run: Run,
-) -> Result<(), Illegal>
+fn settle_into(board: &mut Board, tags: &mut Vec<u64>, worker: u32, run: Run) -> Result<(), Illegal>
     requires there { worker < length board.old.plan.workers }
     requires job { IsRunJob board.old worker run.action (arc_value run.message) run.tag }
     ensures ok { OnOk result (Comes Answer.Done true board.old tags.old.items worker run.action run.tag board.new tags.new.items) }
