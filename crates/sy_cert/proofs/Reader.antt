@@ -43,7 +43,7 @@ faulty bytes rows seen rest line later c b cut why same = subst (λ rs. Refusal 
     by code.Line h = inr (HasFault.faulty rows line later code.Line begins cut.lacks h)
     by code.Order h = inr (HasFault.faulty rows line later code.Order begins cut.lacks h)
     by code.Number h = inr (HasFault.faulty rows line later code.Number begins cut.lacks h)
-    by code.NoMemory h = inl (refl, record { rows = rows; rest = rest; begins = b; line_is = refl })
+    by code.NoMemory h = inl (refl, record { rows = rows; line = line; later = later; begins = begins; place_is = refl })
 
 -- a line that isn't ended
 pub open_line : (bytes : List ℕ) (rows seen : List Row) (rest : List ℕ) → BeginsWith bytes rows rest → Lacks 10 rest → (rest ≡ [] → ⊥) → seen ≡ rows

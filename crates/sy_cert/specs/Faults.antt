@@ -106,9 +106,10 @@ pub data HasFault (bytes : List ℕ) : FaultCode → ℕ → Type 0 where
       → IsFaulty (last_kind rows) (words_in line) c
       → HasFault bytes c (line_after rows)
 
--- memory ran out in the line after some rows
-pub record IsRefused (bytes : List ℕ) (line : ℕ) : Type 0 where
+-- memory ran out where a whole line stands after some rows
+pub record IsRefused (bytes : List ℕ) (place : ℕ) : Type 0 where
   pub rows : List Row
-  pub rest : List ℕ
-  pub begins : BeginsWith bytes rows rest
-  pub line_is : line ≡ line_after rows
+  pub line : List ℕ
+  pub later : List ℕ
+  pub begins : BeginsWith bytes rows (line ++ 10 ∷ later)
+  pub place_is : place ≡ line_after rows

@@ -1,7 +1,8 @@
 //! A certificate as a value.
 ghost use Rattle.std.specs.Prelude.{◌≡◌, ◌++◌, [], ◌∷◌, true, OnErr, OnOk};
 ghost use Rattle.sy_cert.specs.CertificateValue as value;
-ghost use Rattle.sy_cert.specs.Rows.{IsRow, kind, last_kind, may_follow};
+ghost use Rattle.sy_cert.specs.declared.kinds.Kind.TheVariants as kinds;
+ghost use Rattle.sy_cert.specs.Rows.{AreRows, IsRow, kind, last_kind, may_follow};
 
 use crate::kinds::{follows, kind_of, last_kind};
 use crate::row::Row;
@@ -61,6 +62,14 @@ impl Certificate {
     {
         self.rows.push(row)?;
         Ok(())
+    }
+
+    /// Each row of a certificate has its shape, with its numbers in range, and may follow the one before.
+    pub fn is_lawful(&self)
+        ensures version { self.now.version ≡ 1 }
+        ensures rows { AreRows kinds.Cert self.now.rows }
+    {
+        let _ = &self.version;
     }
 
     /// The version of its format.

@@ -1,7 +1,9 @@
-//! What holds of site files.
+//! What holds of site files, and of the archives that a site names.
 
-ghost use Rattle.std.specs.Prelude.{◌≡◌, ◌++◌, ◌∷◌, false, ℕ, List};
-ghost use Rattle.sy_site.specs.Sites.{Site};
+ghost use Rattle.std.specs.Prelude.{◌≡◌, ◌++◌, ◌∷◌, true, false, Contains, ℕ, List};
+ghost use Rattle.sy_rules.specs.Whole.{AreDifferent};
+ghost use Rattle.sy_wire.specs.declared.class.Class.{Class};
+ghost use Rattle.sy_site.specs.Sites.{Protection, Site, SiteAction, archives, asks_for};
 ghost use Rattle.sy_site.specs.texts.Files as files;
 ghost use Rattle.sy_site.specs.texts.Lines.{word_lines};
 ghost use Rattle.sy_site.specs.texts.Describes.{Describes, File};
@@ -26,4 +28,13 @@ pub fn each_file_once()
         ≡ files.is_among file (files.files_of (word_lines text)) }
     ensures once { (text file : List ℕ) (before later : List (List ℕ))
         → files.file_names text ≡ before ++ file ∷ later → files.is_among file before ≡ false }
+{}
+
+/// The archives that are named for a class are those of the protect lines that ask for it, each once.
+pub fn archives_are_those_named()
+    ensures named { (site : Site) (class : Class) (archive : SiteAction) → Contains (archives site class) archive
+        → (p : Protection) × Contains site.protections p × (asks_for p class ≡ true) × (p.archive ≡ archive) }
+    ensures all { (site : Site) (class : Class) (p : Protection) → Contains site.protections p
+        → asks_for p class ≡ true → Contains (archives site class) p.archive }
+    ensures once { (site : Site) (class : Class) → AreDifferent (archives site class) }
 {}

@@ -52,7 +52,7 @@ ok |
 ok | class 0%0a
 ok | class 191%0a
 ok | class 32%0areach edge 6514%0areach hub 6515%0arank edge 1%0arank hub 0%0apath edge 6514 hub audit 0%0aclass 33%0a
-ok | class 32%0areach %[64]n%20%36%35%35%33%35%0arank Az09-_. 4294967295%0apath a 1 b %ff/x
+ok | class 32%0areach %[64]n%20%36%35%35%33%35%0arank Az09-_. 4294967295%0apath a 1 b %ff/x%0a
 // 61: no shape, another word, or no end.
 61 Line in line 2 | class%0a
 61 Line in line 2 | class 1 2%0a

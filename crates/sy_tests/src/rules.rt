@@ -8,3 +8,4 @@ mod memory;
 mod parameters;
 mod plans;
 mod queues;
+mod seeded;

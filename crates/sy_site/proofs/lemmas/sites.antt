@@ -2,3 +2,4 @@ pub mod Places
 pub mod Classes
 pub mod More
 pub mod Kept
+pub mod Archives

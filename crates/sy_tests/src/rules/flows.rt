@@ -81,6 +81,12 @@ const FLOWS: &str = r#"
 0 0 192 0 0 | ruleset(name="cut") { stop } call cut action(name="up" type="omfile" file="/a")
 0 0 192 11 11 | ruleset(name="cut" queue.type="LinkedList") { stop } call cut action(name="up" type="omfile" file="/a")
 0 0 192 1111 0001 | ruleset(name="cut") { if $msg contains "x" then stop action(name="in" type="omfile" file="/a") } action(name="first" type="omfile" file="/b") call cut call cut action(name="last" type="omfile" file="/c")
+// tests in blocks, and `else if`
+0 16 24 10 00 | if $msg contains "x" then { if prifilt("mail.*") then stop action(name="in" type="omfile" file="/a") } action(name="last" type="omfile" file="/b")
+0 0 16 11 10 | if $msg contains "x" then { if prifilt("mail.*") then stop action(name="in" type="omfile" file="/a") } action(name="last" type="omfile" file="/b")
+0 0 192 111 000 | if $msg contains "x" then action(name="a" type="omfile" file="/a") else if $msg contains "y" then action(name="b" type="omfile" file="/b") else action(name="c" type="omfile" file="/c")
+// 64 occurrences
+0 0 192 1111111111111111111111111111111111111111111111111111111111111111 1111111111111111111111111111111111111111111111111111111111111111 | %[64]action(type="omfile" file="/a")`
 "#;
 
 #[test]
