@@ -1,3 +1,5 @@
 pub mod Refused
 pub mod Made
 pub mod Sites
+pub mod Takes
+pub mod Replays

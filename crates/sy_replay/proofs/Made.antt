@@ -1,5 +1,5 @@
 -- What a board's answers mean for an event: the step is made.
-use Rattle.std.proofs.Common.{◌≡◌, ℕ, ◌<◌, ◌≤◌, ◌⊎◌, Bool, true, false, if◌then◌else◌, List, [], ◌∷◌, ◌++◌, length, map, min, inl, inr, refl, sym, ap, subst, arith, ◌∙◌, append-nil, append_assoc, get_or}
+use Rattle.std.proofs.Common.{◌≡◌, ℕ, ◌<◌, ◌≤◌, Bool, true, false, if◌then◌else◌, List, [], ◌∷◌, ◌++◌, length, map, min, inl, inr, refl, sym, ap, subst, arith, ◌∙◌, append-nil, append_assoc, get_or}
 use Rattle.std.specs.Prelude.{slice_set, Result, Ok, Err, OnOk, OnErr, IfErr}
 use Rattle.std.specs.Global.{Vec}
 use Rattle.std.proofs.lemmas.List.{get_or-map, map-append, map-set, set-get_or}
@@ -13,13 +13,12 @@ use Rattle.sy_board.specs.relay.Cells.{Cell, at}
 use Rattle.sy_board.specs.relay.Plans.{marks_at, parameters_at, queue_of_worker}
 use Rattle.sy_rules.specs.declared.lists.occurrence.Occurrence.TheVariants as occurrence
 use Rattle.sy_board.specs.declared.relay.answers.Entry.TheVariants as entry
-use Rattle.sy_board.specs.declared.relay.answers.Taken.{Taken}
 use Rattle.sy_board.specs.declared.relay.answers.Taken.TheVariants as taken
 use Rattle.sy_board.specs.declared.relay.answers.Posted.TheVariants as posted
 use Rattle.sy_board.specs.declared.relay.answers.PostCause.{PostCause}
 use Rattle.sy_board.specs.declared.relay.answers.Retry.TheVariants as retry
 use Rattle.sy_board.specs.relay.Boards.{BoardState, EnterIs, ExpireIs, FailIs, GrabIs, PostIs, PostLostIs, SettleIs, TakeIs, is_no_memory}
-use Rattle.sy_board.specs.relay.Steps.{Cause, Event, Grabs, Out, if_so}
+use Rattle.sy_board.specs.relay.Steps.{Cause, Event, Grabs, Out}
 use Rattle.sy_board.proofs.relay.Outcomes.{jobs_same}
 use Rattle.sy_site.specs.machine.States as states
 use Rattle.sy_replay.specs.declared.event.Loss.{Loss}

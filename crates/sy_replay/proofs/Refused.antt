@@ -4,7 +4,7 @@ use Rattle.std.specs.Prelude.{IfSome, slice_get}
 use Rattle.std.proofs.lemmas.Option.{get_or_from_slice_get, slice_get_within}
 use Rattle.sy_wire.specs.Messages.{Said}
 use Rattle.sy_chain.specs.Entries.{Entry}
-use Rattle.sy_actions.specs.Devices.{Delivered, Refused}
+use Rattle.sy_actions.specs.Devices.{Refused}
 use Rattle.sy_actions.specs.declared.device.DeviceFault.TheVariants as device_fault
 use Rattle.sy_rules.specs.declared.lists.occurrence.Occurrence.TheVariants as occurrence
 use Rattle.sy_rules.specs.PlanValue.{Listed, Plan}
@@ -18,9 +18,9 @@ use Rattle.sy_board.specs.declared.fault.BoardFault.TheVariants as fault
 use Rattle.sy_board.specs.declared.relay.answers.Posted.TheVariants as posted
 use Rattle.sy_board.specs.declared.relay.answers.PostCause.{PostCause}
 use Rattle.sy_board.specs.relay.Boards.{BoardState, EnterFails, ExpireFails, FailFails, GrabFails, HasNoJob, HasNoPost, HasNoRun, IsFailureOf, IsForPost, IsHeldBy, IsOf, NothingWaits, PostFails, PostIs, PostLostFails, SettleFails, TakeFails, is_no_memory}
-use Rattle.sy_board.specs.relay.Cells.{RelayState, at, failures_at, hand, waiting}
+use Rattle.sy_board.specs.relay.Cells.{RelayState, failures_at, waiting}
 use Rattle.sy_board.specs.relay.Plans.{IsDue, input_at, marks_at, parameters_at, retry_at}
-use Rattle.sy_board.specs.relay.Steps.{Cause, Event, IsHand, IsOfInput, Job, MayTry, Out, Posts, Step, if_so}
+use Rattle.sy_board.specs.relay.Steps.{Cause, Event, IsHand, IsOfInput, Job, MayTry, Out, Step, if_so}
 use Rattle.sy_board.proofs.relay.Excluded.{held_enters, held_expires}
 use Rattle.sy_board.proofs.relay.Outcomes.{jobs_same, one_taken}
 use Rattle.sy_replay.specs.declared.event.Illegal.{Illegal}

@@ -1,5 +1,5 @@
 -- A step that a relay makes is the site's.
-use Rattle.std.proofs.Common.{◌≡◌, ℕ, ◌<◌, ◌==◌, Bool, true, false, if◌then◌else◌, List, [], ◌∷◌, ◌++◌, length, map, Option, Some, None, refl, sym, ap, subst, arith, ◌∙◌, append-nil, append_assoc, get_or}
+use Rattle.std.proofs.Common.{◌≡◌, ℕ, ◌<◌, ◌==◌, Bool, true, false, if◌then◌else◌, List, [], ◌∷◌, ◌++◌, length, map, Some, None, refl, sym, ap, subst, arith, ◌∙◌, append-nil, append_assoc}
 use Rattle.std.specs.Prelude.{slice_get, slice_set, ◌&&◌, Result, Ok, Err, OnOk, OnErr}
 use Rattle.std.specs.Global.{Vec}
 use Rattle.std.proofs.Math.Path.{fun_ext}
@@ -14,34 +14,33 @@ use Rattle.sy_board.specs.relay.Boards.{BoardState}
 use Rattle.sy_board.specs.relay.Cells.{RelayState}
 use Rattle.sy_board.specs.relay.Steps.{Cause, Event, Out, Step, if_so}
 use Rattle.sy_site.specs.declared.site.SiteAction.{SiteAction}
-use Rattle.sy_site.specs.declared.site.SiteInput.{SiteInput}
-use Rattle.sy_site.specs.Sites.{Site, no_plan, plan_at, same_action}
-use Rattle.sy_site.specs.machine.States.{Arrival, Copy, Loss, SiteState, put_outs, taken_by, with_passed, with_relay}
-use Rattle.sy_site.specs.machine.Steps.{IsTake, RelaySteps, SiteEvent, SiteStep, TakesCopy}
+use Rattle.sy_site.specs.Sites.{Site, no_plan, plan_at}
+use Rattle.sy_site.specs.machine.States.{Arrival, Copy, Loss, SiteState, put_outs, with_passed, with_relay}
+use Rattle.sy_site.specs.machine.Steps.{IsTake, RelaySteps, SiteEvent, SiteStep}
 use Rattle.sy_replay.specs.declared.event.Illegal.{Illegal}
 use Rattle.sy_replay.specs.declared.event.Illegal.TheVariants as illegal
 use Rattle.sy_replay.specs.declared.event.RelayEvent.{RelayEvent}
 use Rattle.sy_replay.specs.declared.event.RelayEvent.TheVariants as event
 use Rattle.sy_replay.specs.Events.{IsIllegal, step_of}
-use Rattle.sy_replay.specs.Parts.{IsNoTake, Makes, PartState, TakesMessage, items_of, lost_by, part, passed_by, tags_at}
-use Rattle.sy_replay.specs.States.{AreOf, HasLists, IsIllegalAt, IsNotTaken, TakesInside, passed_in, passed_of, plan_of, relays_of, site_state, state_of}
+use Rattle.sy_replay.specs.Parts.{Makes, PartState, TakesMessage, items_of, lost_by, part, passed_by, tags_at}
+use Rattle.sy_replay.specs.States.{AreOf, HasLists, HaveSamePlans, IsIllegalAt, passed_in, passed_of, plan_of, relays_of, site_state, state_of}
 use Rattle.sy_replay.proofs.Refused.{run_there}
 
 -- ---- lists
 
-get_same : {A : Type 0} (xs : List A) (k : ℕ) (v x : A) → slice_get xs k ≡ Some x → slice_get (slice_set xs k v) k ≡ Some v
+pub get_same : {A : Type 0} (xs : List A) (k : ℕ) (v x : A) → slice_get xs k ≡ Some x → slice_get (slice_set xs k v) k ≡ Some v
 get_same [] k v x is = absurd (cc)
 get_same (y ∷ ys) ℕ.zero v x is = refl
 get_same (y ∷ ys) (ℕ.suc k) v x is = get_same ys k v x is
 
-get_other : {A : Type 0} (xs : List A) (k j : ℕ) (v : A) → (k ≡ j → ⊥) → slice_get (slice_set xs k v) j ≡ slice_get xs j
+pub get_other : {A : Type 0} (xs : List A) (k j : ℕ) (v : A) → (k ≡ j → ⊥) → slice_get (slice_set xs k v) j ≡ slice_get xs j
 get_other [] k j v other = refl
 get_other (y ∷ ys) ℕ.zero ℕ.zero v other = absurd (other refl)
 get_other (y ∷ ys) ℕ.zero (ℕ.suc j) v other = refl
 get_other (y ∷ ys) (ℕ.suc k) ℕ.zero v other = refl
 get_other (y ∷ ys) (ℕ.suc k) (ℕ.suc j) v other = get_other ys k j v (λ e. other (ap ℕ.suc e))
 
-same_or : (k j : ℕ) (b : Bool) → (k == j) ≡ b → (b ≡ true → k ≡ j) × (b ≡ false → k ≡ j → ⊥)
+pub same_or : (k j : ℕ) (b : Bool) → (k == j) ≡ b → (b ≡ true → k ≡ j) × (b ≡ false → k ≡ j → ⊥)
 same_or k j b is = (λ t. eqb-true k j (is ∙ t), λ f e. eqb-false k j (is ∙ f) e)
 
 same_self : (b : Bool) (k : ℕ) → (k == k) ≡ b → b ≡ true
@@ -76,7 +75,7 @@ put_one k action passed others tags l a = go (k == a.relay) (action == a.action)
 here : (k : ℕ) (x y : List ℕ) → (if k == k then x else y) ≡ x
 here k x y = rw (same_self (k == k) k refl) refl
 
-abbrev state_with : (ℕ → RelayState) → List Copy → (SiteAction → List ℕ) → List Loss → List Arrival → SiteState
+abbrev pub state_with : (ℕ → RelayState) → List Copy → (SiteAction → List ℕ) → List Loss → List Arrival → SiteState
 state_with relays copies passed losses arrivals = record { relays = relays; copies = copies; passed = passed; losses = losses; arrivals = arrivals }
 
 -- what a relay lets out, all at once
@@ -120,7 +119,7 @@ lists_set k parts p new passed is are a = go (k == a.relay) refl
         ∙ ap (λ q. passed_in q a.action) (get_same parts k new p is) ∙ ap (λ z. tags_at z a.action) are))
     go false e = rw e (sym (ap (λ q. passed_in q a.action) (get_other parts k a.relay new ((same_or k a.relay false e).1 refl))))
 
-relays_set : (k : ℕ) (parts : List PartState) (p new : PartState) → slice_get parts k ≡ Some p → (r : ℕ)
+pub relays_set : (k : ℕ) (parts : List PartState) (p new : PartState) → slice_get parts k ≡ Some p → (r : ℕ)
     → with_relay (relays_of parts) k new.board.state r ≡ relays_of (slice_set parts k new) r
 relays_set k parts p new is r = go (k == r) refl
   where
@@ -187,7 +186,7 @@ relay_steps site parts copies losses now arrivals k p new event is plan lists wh
 -- ---- what isn't a step
 
 -- a relay that isn't there makes no step
-no_step : (old : RelayState) (e : Event) (new : RelayState) (outs : List Out) → Step no_plan old e new outs → ⊥
+pub no_step : (old : RelayState) (e : Event) (new : RelayState) (outs : List Out) → Step no_plan old e new outs → ⊥
 no_step old (Event.Take i h node) new outs (lost, takes, is) = let l = takes.there.0 in omega (arith, l)
 no_step old (Event.Enter i h) new outs (node, enters, is) = let l = enters.leaves.there.0 in omega (arith, l)
 no_step old (Event.Expire i h) new outs (node, expires, is) = let l = expires.leaves.there.0 in omega (arith, l)
@@ -265,50 +264,18 @@ lists_after C (Err e) k old new xs ys event before after lists makes same =
     sym (length-map ys (λ (v : Vec ℕ). v.items)) ∙ ap length same.1 ∙ length-map xs (λ (v : Vec ℕ). v.items) ∙ lists
     ∙ ap (λ (b : BoardState). length b.plan.actions) (sym same.0)
 
--- ---- takes
-
 pub plan_after : {T E : Type 0} (C : Type 0) (r : Result T E) (k : ℕ) (old new : BoardState) (before after : List Loss) (i h : ℕ) (m : Said) (t : ℕ)
     → OnOk r (TakesMessage k old before i h m t new after) → OnErr r ((new ≡ old) × C) → new.plan ≡ old.plan
 plan_after C (Ok x) k old new before after i h m t (node, a, b, makes) same = (makes []).goes.1
 plan_after C (Err e) k old new before after i h m t makes same = ap (λ (b : BoardState). b.plan) same.0
 
-pub copy_taken : (parts : List PartState) (copies after : List Copy) (losses now : List Loss) (to : SiteInput) (hand : ℕ) (taken : Copy) (p new : PartState) (node : Entry)
-    → slice_get parts to.relay ≡ Some p → HasLists p → IsWhole p.board.plan → node.message ≡ taken.message → node.tag ≡ length copies
-    → Makes to.relay p losses (Event.Take to.input hand node) new now → after ≡ copies ++ taken ∷ []
-    → TakesInside parts copies losses to hand taken (slice_set parts to.relay new) after now
-copy_taken parts copies after losses now to hand taken p new node is lists whole message tag makes are = λ site arrivals copy of same. record {
-  node = node;
-  message = message ∙ ap (λ (c : Copy). c.message) same;
-  tag = tag;
-  step = subst (λ x. RelaySteps site (site_state parts (copies ++ taken_by to.relay copy ∷ []) losses arrivals) to.relay (Event.Take to.input hand node)
-      (site_state (slice_set parts to.relay new) x now arrivals)) (sym (are ∙ ap (λ c. copies ++ c ∷ []) same))
-      (relay_steps site parts (copies ++ taken_by to.relay copy ∷ []) losses now arrivals to.relay p new (Event.Take to.input hand node) is (of to.relay ∙ ap plan_of is) lists whole makes);
-}
+-- ---- plans
 
-pub copy_refused : (why : Illegal) (parts : List PartState) (copies : List Copy) (losses : List Loss) (to : SiteInput) (hand : ℕ) (taken : Copy) (p : PartState)
-    → slice_get parts to.relay ≡ Some p → IsNoTake why p.board to.input hand taken.message (length copies) → IsNotTaken why parts copies losses to hand taken
-copy_refused illegal.NotAStep parts copies losses to hand taken p is none = λ site arrivals copy of same new takes.
-    none takes.node (takes.message ∙ ap (λ (c : Copy). c.message) (sym same)) takes.tag takes.step.state takes.step.outs
-    (subst (λ x. Step p.board.plan (state_of x) (Event.Take to.input hand takes.node) takes.step.state takes.step.outs) is
-    (subst (λ x. Step x (relays_of parts to.relay) (Event.Take to.input hand takes.node) takes.step.state takes.step.outs) (of to.relay ∙ ap plan_of is) takes.step.step))
-copy_refused illegal.NoMemory parts copies losses to hand taken p is none = tt
-copy_refused illegal.TotalsFull parts copies losses to hand taken p is (node, message, tag, (state, outs, step)) = λ site arrivals copy of same. (
-  put_outs (record (site_state parts (copies ++ taken_by to.relay copy ∷ []) losses arrivals) { relays = with_relay (relays_of parts) to.relay state }) to.relay outs,
-  record {
-    node = node;
-    message = message ∙ ap (λ (c : Copy). c.message) same;
-    tag = tag;
-    step = record {
-      state = state;
-      outs = outs;
-      step = subst (λ x. Step x (relays_of parts to.relay) (Event.Take to.input hand node) state outs) (sym (of to.relay ∙ ap plan_of is))
-          (subst (λ x. Step p.board.plan (state_of x) (Event.Take to.input hand node) state outs) (sym is) step);
-      after = refl;
-    };
-  },
-)
-
-pub none_takes : (parts : List PartState) (copies : List Copy) (losses : List Loss) (to : SiteInput) (hand : ℕ) (taken : Copy) → slice_get parts to.relay ≡ None
-    → IsNotTaken illegal.NotAStep parts copies losses to hand taken
-none_takes parts copies losses to hand taken none = λ site arrivals copy of same new takes.
-    not_there site parts (copies ++ taken_by to.relay copy ∷ []) losses arrivals to.relay (Event.Take to.input hand takes.node) of none new takes.step
+pub plans_set : (k : ℕ) (parts : List PartState) (p new : PartState) → slice_get parts k ≡ Some p → new.board.plan ≡ p.board.plan
+    → HaveSamePlans parts (slice_set parts k new)
+plans_set k parts p new is same = λ r. go r (k == r) refl
+  where
+    go : (r : ℕ) (b : Bool) → (k == r) ≡ b → plan_of (slice_get (slice_set parts k new) r) ≡ plan_of (slice_get parts r)
+    go r true e = ap (λ x. plan_of (slice_get (slice_set parts k new) x)) (sym (eqb-true k r e)) ∙ ap plan_of (get_same parts k new p is) ∙ same
+        ∙ sym (ap plan_of is) ∙ ap (λ x. plan_of (slice_get parts x)) (eqb-true k r e)
+    go r false e = ap plan_of (get_other parts k r new ((same_or k r false e).1 refl))

@@ -1,5 +1,6 @@
 -- What events say of the site machine, and why one may be refused. This profile's own.
 use Rattle.std.specs.Prelude.{◌≡◌, List, map}
+use Rattle.std.specs.Arc.{arc_value}
 use Rattle.sy_board.specs.declared.fault.BoardFault.{BoardFault}
 use Rattle.sy_board.specs.declared.fault.BoardFault.TheVariants as fault
 use Rattle.sy_board.specs.relay.Boards.{BoardState, is_no_memory}
@@ -7,6 +8,9 @@ use Rattle.sy_board.specs.relay.Cells.{RelayState}
 use Rattle.sy_board.specs.relay.Steps as steps
 use Rattle.sy_board.specs.relay.Steps.{Out, Step}
 use Rattle.sy_site.specs.machine.States as states
+use Rattle.sy_site.specs.machine.Steps.{SiteEvent}
+use Rattle.sy_replay.specs.declared.event.Event as declared
+use Rattle.sy_replay.specs.declared.event.Event.TheVariants as an
 use Rattle.sy_replay.specs.declared.event.RelayEvent.{RelayEvent}
 use Rattle.sy_replay.specs.declared.event.RelayEvent.TheVariants as event
 use Rattle.sy_replay.specs.declared.event.Illegal.{Illegal}
@@ -25,6 +29,13 @@ step_of (event.Fail worker took) = steps.Event.Fail worker took
 step_of (event.GiveUp worker took) = steps.Event.GiveUp worker took
 step_of (event.Post worker) = steps.Event.Post worker
 step_of (event.PostLost worker why) = steps.Event.PostLost worker (is_no_memory why)
+
+-- the site's step of an event
+abbrev pub event_of : declared.Event → SiteEvent
+event_of (an.TakeNew relay input hand message) = SiteEvent.TakeNew (record { relay = relay; input = input }) hand (arc_value message)
+event_of (an.TakeFrom relay input hand from action place) =
+    SiteEvent.TakeFrom (record { relay = relay; input = input }) hand (record { relay = from; action = action }) place
+event_of (an.Inside relay inside) = SiteEvent.Inside relay (step_of inside)
 
 abbrev pub cause_of : Cause → steps.Cause
 cause_of cause.Take = steps.Cause.Take

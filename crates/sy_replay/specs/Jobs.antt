@@ -1,5 +1,5 @@
 -- A worker's job with what an event needs of it.
-use Rattle.std.specs.Prelude.{◌≡◌, ℕ, Bool, true, if◌then◌else◌, List, [], ◌∷◌, ◌++◌, map}
+use Rattle.std.specs.Prelude.{◌≡◌, ℕ, Bool, true, if◌then◌else◌, List, [], ◌∷◌, ◌++◌}
 use Rattle.sy_wire.specs.Messages.{Said}
 use Rattle.sy_rules.specs.declared.lists.occurrence.Occurrence.TheVariants as occurrence
 use Rattle.sy_board.specs.relay.Boards.{BoardState, HasNoPost, HasNoRun}

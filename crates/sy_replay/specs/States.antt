@@ -1,13 +1,12 @@
 -- The state of a replay as lists, and the state of the site that it is.
-use Rattle.std.specs.Prelude.{◌≡◌, ℕ, List, [], Option, Some, None, All, length, slice_get}
+use Rattle.std.specs.Prelude.{◌≡◌, ℕ, List, [], Option, Some, None, length, slice_get}
 use Rattle.sy_rules.specs.PlanValue.{Plan}
 use Rattle.sy_board.specs.relay.Cells.{RelayState}
 use Rattle.sy_board.specs.relay.Cells as cells
 use Rattle.sy_site.specs.declared.site.SiteAction.{SiteAction}
-use Rattle.sy_site.specs.declared.site.SiteInput.{SiteInput}
 use Rattle.sy_site.specs.Sites.{Site, no_plan, plan_at}
-use Rattle.sy_site.specs.machine.States.{Arrival, Copy, Loss, SiteState, taken_by}
-use Rattle.sy_site.specs.machine.Steps.{SiteEvent, SiteStep, TakesCopy}
+use Rattle.sy_site.specs.machine.States.{Arrival, Copy, Loss, SiteState}
+use Rattle.sy_site.specs.machine.Steps.{Runs, SiteEvent, SiteStep}
 use Rattle.sy_replay.specs.declared.event.Illegal.{Illegal}
 use Rattle.sy_replay.specs.declared.event.Illegal.TheVariants as illegal
 use Rattle.sy_replay.specs.Parts.{PartState, tags_at}
@@ -45,6 +44,10 @@ site_state parts copies losses arrivals = record {
 abbrev pub AreOf : Site → List PartState → Type 0
 AreOf site parts = (r : ℕ) → plan_at site r ≡ plan_of (slice_get parts r)
 
+-- Each relay has the plan that it had.
+abbrev pub HaveSamePlans : List PartState → List PartState → Type 0
+HaveSamePlans old new = (r : ℕ) → plan_of (slice_get new r) ≡ plan_of (slice_get old r)
+
 -- a list for each action
 abbrev pub HasLists : PartState → Type 0
 HasLists part = length part.passed ≡ length part.board.plan.actions
@@ -66,17 +69,27 @@ abbrev pub IsNoneInside : Illegal → List PartState → List Loss → SiteEvent
 IsNoneInside why parts losses event = (site : Site) (copies : List Copy) (arrivals : List Arrival) → AreOf site parts
     → IsIllegalAt why site (site_state parts copies losses arrivals) event
 
--- ---- takes
+-- ---- a replay
 
--- The site's relay takes this copy, from such relays to those, whatever came from outside.
-abbrev pub TakesInside : List PartState → List Copy → List Loss → SiteInput → ℕ → Copy → List PartState → List Copy → List Loss → Type 0
-TakesInside parts copies before to hand taken new after now = (site : Site) (arrivals : List Arrival) (copy : Copy) → AreOf site parts → taken ≡ taken_by to.relay copy
-    → TakesCopy site (site_state parts copies before arrivals) to hand copy (site_state new after now arrivals)
+-- what a site holds, as lists: the relays with what their devices took, the copies, the losses, and what came from outside
+pub record Contents : Type 0 where
+  pub parts : List PartState
+  pub copies : List Copy
+  pub losses : List Loss
+  pub arrivals : List Arrival
 
--- why it doesn't
-abbrev pub IsNotTaken : Illegal → List PartState → List Copy → List Loss → SiteInput → ℕ → Copy → Type 0
-IsNotTaken illegal.NotAStep parts copies losses to hand taken = (site : Site) (arrivals : List Arrival) (copy : Copy) → AreOf site parts → taken ≡ taken_by to.relay copy
-    → (new : SiteState) → TakesCopy site (site_state parts copies losses arrivals) to hand copy new → ⊥
-IsNotTaken illegal.NoMemory parts copies losses to hand taken = Unit {0}
-IsNotTaken illegal.TotalsFull parts copies losses to hand taken = (site : Site) (arrivals : List Arrival) (copy : Copy) → AreOf site parts → taken ≡ taken_by to.relay copy
-    → (new : SiteState) × TakesCopy site (site_state parts copies losses arrivals) to hand copy new
+abbrev pub state_in : Contents → SiteState
+state_in contents = site_state contents.parts contents.copies contents.losses contents.arrivals
+
+-- a site with what it holds
+pub record ReplayState : Type 0 where
+  pub site : Site
+  pub contents : Contents
+
+-- the state of the site
+abbrev pub state_at : ReplayState → SiteState
+state_at replay = state_in replay.contents
+
+-- Some run of the site ends in this state.
+abbrev pub IsReached : Site → SiteState → Type 0
+IsReached site state = (events : List SiteEvent) × Runs site events state

@@ -1,9 +1,12 @@
 //! The machine of a site, driven event by event: the boards of all relays, with links and files in memory and without threads.
 #![tactic(auto)]
 
+mod copies;
 pub mod event;
 mod making;
 mod part;
+pub mod replay;
 mod steps;
 
 pub use event::{Cause, Event, Illegal, Loss, RelayEvent};
+pub use replay::Replay;

@@ -1,28 +1,24 @@
 //! One relay of a replay.
-ghost use Rattle.std.specs.Prelude.{◌≡◌, IfErr, OnErr, OnOk, length};
+ghost use Rattle.std.specs.Prelude.{◌≡◌, ◌<◌, [], IfErr, IfOk, OnErr, OnOk, length, replicate, slice_get, slice_set};
 ghost use Rattle.std.specs.Arc.{arc_value};
 ghost use Rattle.sy_rules.specs.Whole.{IsWhole};
 ghost use Rattle.sy_site.specs.machine.Steps.{SiteEvent};
 ghost use Rattle.sy_replay.specs.Events.{IsIllegal, losses_of, step_of};
-ghost use Rattle.sy_replay.specs.Parts.{IsNoTake, Makes, TakesMessageAt, items_of, part};
-ghost use Rattle.sy_replay.specs.States.{HasLists, IsNoneInside, StepsInside};
+ghost use Rattle.sy_replay.specs.Held.{opened_part};
+ghost use Rattle.sy_replay.specs.Parts.{IsNoTake, Makes, TakesMessageAt, items_of, part, tags_at};
+ghost use Rattle.sy_replay.specs.States.{HasLists, HaveSamePlans, IsNoneInside, StepsInside, passed_of};
+ghost use Rattle.sy_replay.specs.Takes.{IsNoEntry, Leaves, TakesEntry, without};
 
 use crate::event::{Illegal, Loss, RelayEvent};
 use crate::steps::{hands, jobs, posts};
-use std::alloc::Global;
+use std::alloc::{AllocError, Global};
 use std::marker::Model;
 use std::sync::Arc;
 use sy_board::Board;
+use sy_rules::Plan;
 use sy_rules::laws::plans_are_whole;
+use sy_site::{SiteAction, SiteInput};
 use sy_wire::Message;
-
-/// A hand of an input of a relay.
-#[derive(Clone, Copy)]
-pub(crate) struct Place {
-    pub(crate) relay: u32,
-    pub(crate) input: u32,
-    pub(crate) hand: u32,
-}
 
 /// A relay: its board, and what each of its actions' devices took, of an archive its file, of a forward its link.
 #[derive(Drop)]
@@ -46,7 +42,27 @@ impl Model for Part {
     ghost invariant = { λ p. length p.passed.items ≡ length p.board.plan.actions };
 }
 
+// As many empty lists.
+fn empty_lists(alloc: Global, count: usize) -> Result<Vec<Vec<u64>>, AllocError>
+    ensures { IfOk result (λ lists. items_of lists.items ≡ replicate count []) }
+{
+    let mut lists = Vec::with_capacity(alloc, count)?;
+    for _ in 0..count {
+        lists.push(Vec::new(alloc))?;
+    }
+    Ok(lists)
+}
+
 impl Part {
+    // A relay of this plan, which has held nothing yet.
+    pub(crate) fn new(alloc: Global, plan: Arc<Plan>) -> Result<Part, AllocError>
+        ensures { IfOk result (λ part. part ≡ opened_part (arc_value plan)) }
+    {
+        let passed = empty_lists(alloc, plan.actions().len())?;
+        let board = Board::new(alloc, plan, None)?;
+        Ok(Part { board, passed })
+    }
+
     // Makes the step of an event inside the relay, or changes nothing.
     fn step(
         &mut self,
@@ -73,17 +89,18 @@ impl Part {
     }
 
     // Takes a message into a hand, with this tag, or changes nothing.
-    pub(crate) fn take(
+    fn take(
         &mut self,
         alloc: Global,
         losses: &mut Vec<Loss>,
-        to: Place,
+        to: SiteInput,
+        hand: u32,
         message: Arc<Message>,
         tag: u64,
     ) -> Result<(), Illegal>
-        ensures ok { OnOk result (TakesMessageAt to.relay self.old (losses_of losses.old.items) to.input to.hand (arc_value message) tag
+        ensures ok { OnOk result (TakesMessageAt to.relay self.old (losses_of losses.old.items) to.input hand (arc_value message) tag
             self.new (losses_of losses.new.items)) }
-        ensures err { IfErr result (λ why. IsNoTake why self.old.board to.input to.hand (arc_value message) tag) }
+        ensures err { IfErr result (λ why. IsNoTake why self.old.board to.input hand (arc_value message) tag) }
         ensures unchanged { OnErr result ((self.new ≡ self.old) × (losses.new.items ≡ losses.old.items)) }
         ensures lists { HasLists self.old }
         ensures whole { IsWhole self.old.board.plan }
@@ -95,10 +112,29 @@ impl Part {
             losses,
             to.relay,
             to.input,
-            to.hand,
+            hand,
             message,
             tag,
         )
+    }
+
+    // What stands at a place of what an action's device took.
+    fn tag_at(&self, action: u32, place: u64) -> Option<u64>
+        ensures { result ≡ slice_get (tags_at self.now.passed action) place }
+    {
+        self.passed
+            .get(action as usize)?
+            .get(place as usize)
+            .copied()
+    }
+
+    // Takes away what stands there.
+    fn unlink(&mut self, action: u32, place: u64)
+        requires { place < length (tags_at self.old.passed action) }
+        ensures board { self.new.board ≡ self.old.board }
+        ensures passed { self.new.passed ≡ slice_set self.old.passed action (without (tags_at self.old.passed action) place) }
+    {
+        let _tag = self.passed[action as usize].remove(place as usize);
     }
 }
 
@@ -114,11 +150,53 @@ pub(crate) fn inside(
         parts.new.items (losses_of losses.new.items)) }
     ensures err { IfErr result (λ why. IsNoneInside why parts.old.items (losses_of losses.old.items) (SiteEvent.Inside relay (step_of event))) }
     ensures unchanged { OnErr result ((parts.new.items ≡ parts.old.items) × (losses.new.items ≡ losses.old.items)) }
+    ensures plans { HaveSamePlans parts.old.items parts.new.items }
 {
     let Some(part) = parts.get_mut(relay as usize) else {
         return Err(Illegal::NotAStep);
     };
     part.step(alloc, losses, relay, event)
+}
+
+// Takes an entry of a message into a hand of one of the relays, with this tag, or changes nothing.
+pub(crate) fn take_entry(
+    alloc: Global,
+    parts: &mut Vec<Part>,
+    losses: &mut Vec<Loss>,
+    to: SiteInput,
+    hand: u32,
+    message: &Arc<Message>,
+    tag: u64,
+) -> Result<(), Illegal>
+    ensures ok { OnOk result (TakesEntry parts.old.items (losses_of losses.old.items) to hand (arc_value message.now) tag
+        parts.new.items (losses_of losses.new.items)) }
+    ensures err { IfErr result (λ why. IsNoEntry why parts.old.items to hand (arc_value message.now) tag) }
+    ensures unchanged { OnErr result ((parts.new.items ≡ parts.old.items) × (losses.new.items ≡ losses.old.items)) }
+    ensures plans { HaveSamePlans parts.old.items parts.new.items }
+{
+    let Some(part) = parts.get_mut(to.relay as usize) else {
+        return Err(Illegal::NotAStep);
+    };
+    let Ok(message) = Arc::try_clone(message) else {
+        return Err(Illegal::NoMemory);
+    };
+    part.take(alloc, losses, to, hand, message, tag)
+}
+
+// What stands at a place of a link.
+pub(crate) fn tag_at(parts: &[Part], link: SiteAction, place: u64) -> Option<u64>
+    ensures { result ≡ slice_get (passed_of parts.now link) place }
+{
+    parts.get(link.relay as usize)?.tag_at(link.action, place)
+}
+
+// Takes away what stands there. The cost is that of moving what stands behind it.
+pub(crate) fn unlink(parts: &mut Vec<Part>, link: SiteAction, place: u64)
+    requires { place < length (passed_of parts.old.items link) }
+    ensures gone { Leaves parts.old.items link place parts.new.items }
+    ensures plans { HaveSamePlans parts.old.items parts.new.items }
+{
+    parts[link.relay as usize].unlink(link.action, place);
 }
 
 // Makes the step of an event inside the relay, or changes nothing.

@@ -10,7 +10,7 @@ use Rattle.sy_replay.proofs.part.Part.take.Goals as goal
 pub invariant_of-self : goal.invariant_of-self
 invariant_of-self c =
     c.self.invariant ∙ ap (λ (p : Plan). length p.actions) (sym (plan_after _ c.take_message.result c.args.to.relay c.self.inside.board c.take_message.new.board
-    (losses_of c.args.losses.now.items) (losses_of c.take_message.new.losses.items) c.args.to.input c.args.to.hand (arc_value c.args.message) c.args.tag
+    (losses_of c.args.losses.now.items) (losses_of c.take_message.new.losses.items) c.args.to.input c.args.hand (arc_value c.args.message) c.args.tag
     c.take_message.ensures.ok c.take_message.ensures.unchanged))
 
 pub returns-clause-ok : goal.returns-clause-ok

@@ -1,4 +1,4 @@
-use Rattle.std.proofs.Common.{refl, sym, subst, ap, ◌∙◌}
+use Rattle.std.proofs.Common.{sym, subst, ap}
 use Rattle.sy_board.specs.relay.Steps.{Cause, Event}
 use Rattle.sy_replay.specs.Events.{IsIllegal}
 use Rattle.sy_replay.specs.declared.event.Cause.TheVariants as cause

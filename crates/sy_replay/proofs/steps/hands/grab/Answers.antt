@@ -1,4 +1,4 @@
-use Rattle.std.proofs.Common.{◌+◌, ◌++◌, ◌∙◌, ap, arith, length, map, sym, subst}
+use Rattle.std.proofs.Common.{◌++◌, ◌∙◌, ap, arith, map, sym, subst}
 use Rattle.sy_board.specs.relay.Steps.{Cause, Event, Out}
 use Rattle.sy_replay.specs.Events.{IsIllegal, losses_of}
 use Rattle.sy_replay.specs.Parts.{lost_by}

@@ -1,5 +1,5 @@
-use Rattle.std.proofs.Common.{◌∙◌, ◌<◌, append-nil, arith, ap, length, refl, subst, sym, true}
-use Rattle.sy_board.specs.relay.Steps.{Cause, Event}
+use Rattle.std.proofs.Common.{◌∙◌, ◌<◌, append-nil, arith, length, subst, sym, true}
+use Rattle.sy_board.specs.relay.Steps.{Event}
 use Rattle.sy_rules.specs.Whole.{IsWhole}
 use Rattle.sy_replay.specs.Events.{IsIllegal}
 use Rattle.sy_replay.specs.Jobs.{Answer, IsNoAnswer}

@@ -1,5 +1,4 @@
-use Rattle.std.proofs.Common.{◌∙◌, ◌<◌, append-nil, arith, ap, length, refl, subst, sym}
-use Rattle.sy_board.specs.relay.Steps.{Cause, Event}
+use Rattle.std.proofs.Common.{◌∙◌, ◌<◌, append-nil, arith, length, subst, sym}
 use Rattle.sy_rules.specs.Whole.{IsWhole}
 use Rattle.sy_replay.specs.Jobs.{Answer}
 use Rattle.sy_replay.proofs.Made.{comes_made, items_set, items_stay, on_err, on_ok, read_comes}

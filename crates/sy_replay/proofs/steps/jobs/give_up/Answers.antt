@@ -1,5 +1,4 @@
-use Rattle.std.proofs.Common.{◌∙◌, ◌<◌, arith, ap, length, refl, subst, sym}
-use Rattle.sy_board.specs.relay.Steps.{Cause, Event}
+use Rattle.std.proofs.Common.{◌∙◌, ◌<◌, arith, length, subst}
 use Rattle.sy_rules.specs.Whole.{IsWhole}
 use Rattle.sy_replay.specs.Jobs.{Answer}
 use Rattle.sy_replay.proofs.Made.{given_up_made, items_stay}

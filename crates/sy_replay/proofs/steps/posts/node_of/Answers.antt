@@ -1,4 +1,3 @@
-use Rattle.std.proofs.Common.{sym, subst, ap, ◌∙◌}
 use Rattle.std.specs.Arc.{arc_value}
 use Rattle.sy_replay.proofs.Refused.{posts_made}
 use Rattle.sy_replay.proofs.steps.posts.node_of.Goals as goal

@@ -1,7 +1,7 @@
-use Rattle.std.proofs.Common.{refl, sym, subst, ap, ◌∙◌}
+use Rattle.std.proofs.Common.{sym, subst}
 use Rattle.std.specs.Arc.{arc_value}
 use Rattle.sy_board.specs.relay.Boards.{PostIs}
-use Rattle.sy_board.specs.relay.Steps.{Cause, Event}
+use Rattle.sy_board.specs.relay.Steps.{Event}
 use Rattle.sy_replay.specs.Events.{IsIllegal, losses_of}
 use Rattle.sy_replay.specs.Parts.{MakesInside}
 use Rattle.sy_replay.proofs.Made.{post_discarded, posted_on, quiet}

@@ -1,4 +1,4 @@
-use Rattle.std.proofs.Common.{refl, sym, subst, ap, ◌∙◌}
+use Rattle.std.proofs.Common.{sym, subst}
 use Rattle.std.specs.Arc.{arc_value}
 use Rattle.sy_board.specs.relay.Boards.{is_no_memory}
 use Rattle.sy_board.specs.relay.Steps.{Event}
