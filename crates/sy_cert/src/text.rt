@@ -77,8 +77,8 @@ fn push_row(text: &mut Vec<u8>, row: &Row) -> Result<(), AllocError>
     Ok(())
 }
 
-/// The text of a certificate: a line with its version, and one for each row in their order. It takes time and memory linear in the text; its
-/// only refusal is where memory runs out.
+/// The text of a certificate: a line with its version, and one for each row in their order. It takes time and memory
+/// linear in the text; its only refusal is where memory runs out.
 pub fn write_cert(alloc: Global, certificate: &Certificate) -> Result<Vec<u8>, AllocError>
     ensures { IfOk result (λ bytes. bytes.items ≡ text certificate.now.version certificate.now.rows) }
 {
