@@ -49,7 +49,8 @@ AreOf site parts = (r : ℕ) → plan_at site r ≡ plan_of (slice_get parts r)
 abbrev pub HasLists : PartState → Type 0
 HasLists part = length part.passed ≡ length part.board.plan.actions
 
--- Why the site doesn't make an event: it is no step from this state; or it is one, and a total is full. That memory ran out says nothing.
+-- Why the site doesn't make an event: it is no step from this state; or it is one, and a total is full. That memory ran
+-- out says nothing.
 abbrev pub IsIllegalAt : Illegal → Site → SiteState → SiteEvent → Type 0
 IsIllegalAt illegal.NotAStep site old event = (new : SiteState) → SiteStep site old event new → ⊥
 IsIllegalAt illegal.NoMemory site old event = Unit {0}

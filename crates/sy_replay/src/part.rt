@@ -55,7 +55,8 @@ impl Part {
         relay: u32,
         event: RelayEvent,
     ) -> Result<(), Illegal>
-        ensures ok { OnOk result (Makes relay self.old (losses_of losses.old.items) (step_of event) self.new (losses_of losses.new.items)) }
+        ensures ok { OnOk result (Makes relay self.old (losses_of losses.old.items) (step_of event)
+            self.new (losses_of losses.new.items)) }
         ensures err { IfErr result (λ why. IsIllegal why self.old.board (step_of event)) }
         ensures unchanged { OnErr result ((self.new ≡ self.old) × (losses.new.items ≡ losses.old.items)) }
         ensures lists { HasLists self.old }
@@ -81,7 +82,8 @@ impl Part {
         message: Arc<Message>,
         tag: u64,
     ) -> Result<(), Illegal>
-        ensures ok { OnOk result (TakesMessageAt to.relay self.old (losses_of losses.old.items) to.input to.hand (arc_value message) tag
+        ensures ok { OnOk result (TakesMessageAt to.relay self.old (losses_of losses.old.items)
+            to.input to.hand (arc_value message) tag
             self.new (losses_of losses.new.items)) }
         ensures err { IfErr result (λ why. IsNoTake why self.old.board to.input to.hand (arc_value message) tag) }
         ensures unchanged { OnErr result ((self.new ≡ self.old) × (losses.new.items ≡ losses.old.items)) }
@@ -110,9 +112,11 @@ pub(crate) fn inside(
     relay: u32,
     event: RelayEvent,
 ) -> Result<(), Illegal>
-    ensures ok { OnOk result (StepsInside parts.old.items (losses_of losses.old.items) (SiteEvent.Inside relay (step_of event))
+    ensures ok { OnOk result (StepsInside parts.old.items (losses_of losses.old.items)
+        (SiteEvent.Inside relay (step_of event))
         parts.new.items (losses_of losses.new.items)) }
-    ensures err { IfErr result (λ why. IsNoneInside why parts.old.items (losses_of losses.old.items) (SiteEvent.Inside relay (step_of event))) }
+    ensures err { IfErr result (λ why. IsNoneInside why parts.old.items (losses_of losses.old.items)
+        (SiteEvent.Inside relay (step_of event))) }
     ensures unchanged { OnErr result ((parts.new.items ≡ parts.old.items) × (losses.new.items ≡ losses.old.items)) }
 {
     let Some(part) = parts.get_mut(relay as usize) else {
@@ -131,7 +135,8 @@ pub(crate) fn step(
     event: RelayEvent,
 ) -> Result<(), Illegal>
     requires { length passed.old.items ≡ length board.old.plan.actions }
-    ensures ok { OnOk result (Makes relay (part board.old (items_of passed.old.items)) (losses_of losses.old.items) (step_of event)
+    ensures ok { OnOk result (Makes relay (part board.old (items_of passed.old.items)) (losses_of losses.old.items)
+        (step_of event)
         (part board.new (items_of passed.new.items)) (losses_of losses.new.items)) }
     ensures err { IfErr result (λ why. IsIllegal why board.old (step_of event)) }
     ensures unchanged { OnErr result ((board.new ≡ board.old) × (items_of passed.new.items ≡ items_of passed.old.items)
