@@ -1,4 +1,4 @@
--- A certificate as a value.
+-- A certificate as a value (this profile's own).
 use Rattle.std.specs.Prelude.{ℕ, List}
 use Rattle.sy_cert.specs.declared.row.Row.{Row}
 

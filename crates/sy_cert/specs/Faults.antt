@@ -67,8 +67,8 @@ pub data HasShape (line : List (List ℕ)) : Type 0 where
 
 -- ---- the faults of a line, given as its words
 
--- 61: it has no row's shape. 63: it has the shape of a row, and is the line of none, since a number has a leading zero or
--- is out of range. 62: it is the line of a row that may not follow the one before.
+-- 61: it has no row's shape. 63: it has the shape of a row, and is the line of none, since a number has a leading zero
+-- or is out of range. 62: it is the line of a row that may not follow the one before.
 abbrev pub IsFaulty : Kind → List (List ℕ) → FaultCode → Type 0
 IsFaulty before line code.Line = HasShape line → ⊥
 IsFaulty before line code.Order = (r : Row) × IsRow r × (words r ≡ line) × (may_follow before (kind r) ≡ false)

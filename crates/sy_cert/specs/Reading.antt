@@ -1,4 +1,4 @@
--- What the private functions that read a text answer.
+-- What the private functions that read a text answer (this profile's own).
 use Rattle.std.specs.Prelude.{◌≡◌, ℕ, List, [], ◌∷◌, ◌++◌, Option, Some, None, map, true}
 use Rattle.std.specs.Fmt.{decimal}
 use Rattle.sy_cert.specs.declared.fault.FaultCode.{FaultCode}

@@ -44,15 +44,16 @@ impl Certificate {
         }
     }
 
-    /// Whether a row may follow the last one, by its kind: a class row the first line or a path row, a reach row a class
-    /// or a reach row, a rank row a reach or a rank row, and a path row a rank or a path row.
+    /// Whether a row may follow the last one, by its kind: a class row the first line or a path row, a reach row a
+    /// class or a reach row, a rank row a reach or a rank row, and a path row a rank or a path row.
     pub fn may_follow(&self, row: &Row) -> bool
         ensures { result ≡ may_follow (last_kind self.now.rows) (kind row.now) }
     {
         follows(last_kind(self.rows()), kind_of(row))
     }
 
-    /// Puts a row after the last. It has its shape with its numbers in range, and may follow the last row. Without memory nothing is put.
+    /// Puts a row after the last. It has its shape with its numbers in range, and may follow the last row. Without
+    /// memory nothing is put.
     pub fn push(&mut self, row: Row) -> Result<(), AllocError>
         requires shape { IsRow row }
         requires place { may_follow (last_kind self.old.rows) (kind row) ≡ true }

@@ -84,8 +84,8 @@ pub fn path_line(rest: Option<&[u8]>) -> Option<PathLine<'_>>
     ensures some { IfSome result (λ it. faults.IsPathLine (codes "path" ∷ words_left (option_copied rest.entry))
         it.relay.now it.port.now it.archive_relay.now it.action.now (words_left (option_copied it.occurrences))) }
     ensures none { IfNone result ((relay port archive_relay action : List ℕ) (occurrences : List (List ℕ))
-        → faults.IsPathLine (codes "path" ∷ words_left (option_copied rest.entry)) relay port archive_relay action occurrences
-        → ⊥) }
+        → faults.IsPathLine (codes "path" ∷ words_left (option_copied rest.entry)) relay port archive_relay action
+        occurrences → ⊥) }
 {
     let (relay, rest) = next_word(rest)?;
     let (port, rest) = next_word(rest)?;

@@ -1,4 +1,4 @@
--- What events say of the site machine, and why one may be refused. This profile's own.
+-- What events say of the site machine, and why one may be refused (this profile's own).
 use Rattle.std.specs.Prelude.{◌≡◌, List, map}
 use Rattle.std.specs.Arc.{arc_value}
 use Rattle.sy_board.specs.declared.fault.BoardFault.{BoardFault}

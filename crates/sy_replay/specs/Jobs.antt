@@ -38,7 +38,8 @@ NoPostJob illegal.NotAStep board worker = HasNoPost board worker
 NoPostJob illegal.NoMemory board worker = Unit {0}
 NoPostJob illegal.TotalsFull board worker = ⊥
 
--- ---- what a device's answer does to a relay: `took` is whether the device took the message, and its tag comes to the end of what it took
+-- ---- what a device's answer does to a relay: `took` is whether the device took the message, and its tag comes to the
+-- end of what it took
 
 -- what the device took after it
 abbrev pub with_tag : Bool → List ℕ → ℕ → List ℕ
@@ -67,7 +68,8 @@ event_of Answer.Done worker took = Event.Done worker
 event_of Answer.Fail worker took = Event.Fail worker took
 event_of Answer.GiveUp worker took = Event.GiveUp worker took
 
--- The step of the worker's job of this action and tag is made; whether the device took the message, the board doesn't say.
+-- The step of the worker's job of this action and tag is made; whether the device took the message, the board doesn't
+-- say.
 abbrev pub Answers : Answer → BoardState → ℕ → ℕ → ℕ → BoardState → Type 0
 Answers answer old worker action tag new =
     (e : Entry) × (e.tag ≡ tag) × ((took : Bool) → Goes old (event_of answer worker took) new (outs_of answer action took e))

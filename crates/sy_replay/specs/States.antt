@@ -52,7 +52,8 @@ HaveSamePlans old new = (r : ℕ) → plan_of (slice_get new r) ≡ plan_of (sli
 abbrev pub HasLists : PartState → Type 0
 HasLists part = length part.passed ≡ length part.board.plan.actions
 
--- Why the site doesn't make an event: it is no step from this state; or it is one, and a total is full. That memory ran out says nothing.
+-- Why the site doesn't make an event: it is no step from this state; or it is one, and a total is full. That memory ran
+-- out says nothing.
 abbrev pub IsIllegalAt : Illegal → Site → SiteState → SiteEvent → Type 0
 IsIllegalAt illegal.NotAStep site old event = (new : SiteState) → SiteStep site old event new → ⊥
 IsIllegalAt illegal.NoMemory site old event = Unit {0}

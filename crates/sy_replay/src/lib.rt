@@ -1,4 +1,5 @@
-//! The machine of a site, driven event by event: the boards of all relays, with links and files in memory and without threads.
+//! The machine of a site, driven event by event: the boards of all relays, with links and files in memory and without
+//! threads.
 #![tactic(auto)]
 
 mod copies;

@@ -102,7 +102,8 @@ pub(crate) fn run_of(board: &Board, worker: u32) -> Result<Run, Illegal>
 // A worker's job, where it is a post.
 pub(crate) fn post_of(board: &Board, worker: u32) -> Result<Post, Illegal>
     requires { worker < length board.now.plan.workers }
-    ensures ok { IfOk result (λ post. IsPostJob board.now worker post.list post.input (arc_value post.message) post.tag) }
+    ensures ok { IfOk result (λ post. IsPostJob board.now worker post.list post.input (arc_value post.message)
+        post.tag) }
     ensures err { IfErr result (λ why. NoPostJob why board.now worker) }
 {
     match board.job(worker) {

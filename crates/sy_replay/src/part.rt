@@ -71,7 +71,8 @@ impl Part {
         relay: u32,
         event: RelayEvent,
     ) -> Result<(), Illegal>
-        ensures ok { OnOk result (Makes relay self.old (losses_of losses.old.items) (step_of event) self.new (losses_of losses.new.items)) }
+        ensures ok { OnOk result (Makes relay self.old (losses_of losses.old.items) (step_of event)
+            self.new (losses_of losses.new.items)) }
         ensures err { IfErr result (λ why. IsIllegal why self.old.board (step_of event)) }
         ensures unchanged { OnErr result ((self.new ≡ self.old) × (losses.new.items ≡ losses.old.items)) }
         ensures lists { HasLists self.old }
@@ -98,7 +99,8 @@ impl Part {
         message: Arc<Message>,
         tag: u64,
     ) -> Result<(), Illegal>
-        ensures ok { OnOk result (TakesMessageAt to.relay self.old (losses_of losses.old.items) to.input hand (arc_value message) tag
+        ensures ok { OnOk result (TakesMessageAt to.relay self.old (losses_of losses.old.items)
+            to.input hand (arc_value message) tag
             self.new (losses_of losses.new.items)) }
         ensures err { IfErr result (λ why. IsNoTake why self.old.board to.input hand (arc_value message) tag) }
         ensures unchanged { OnErr result ((self.new ≡ self.old) × (losses.new.items ≡ losses.old.items)) }
@@ -146,9 +148,11 @@ pub(crate) fn inside(
     relay: u32,
     event: RelayEvent,
 ) -> Result<(), Illegal>
-    ensures ok { OnOk result (StepsInside parts.old.items (losses_of losses.old.items) (SiteEvent.Inside relay (step_of event))
+    ensures ok { OnOk result (StepsInside parts.old.items (losses_of losses.old.items)
+        (SiteEvent.Inside relay (step_of event))
         parts.new.items (losses_of losses.new.items)) }
-    ensures err { IfErr result (λ why. IsNoneInside why parts.old.items (losses_of losses.old.items) (SiteEvent.Inside relay (step_of event))) }
+    ensures err { IfErr result (λ why. IsNoneInside why parts.old.items (losses_of losses.old.items)
+        (SiteEvent.Inside relay (step_of event))) }
     ensures unchanged { OnErr result ((parts.new.items ≡ parts.old.items) × (losses.new.items ≡ losses.old.items)) }
     ensures plans { HaveSamePlans parts.old.items parts.new.items }
 {
@@ -209,7 +213,8 @@ pub(crate) fn step(
     event: RelayEvent,
 ) -> Result<(), Illegal>
     requires { length passed.old.items ≡ length board.old.plan.actions }
-    ensures ok { OnOk result (Makes relay (part board.old (items_of passed.old.items)) (losses_of losses.old.items) (step_of event)
+    ensures ok { OnOk result (Makes relay (part board.old (items_of passed.old.items)) (losses_of losses.old.items)
+        (step_of event)
         (part board.new (items_of passed.new.items)) (losses_of losses.new.items)) }
     ensures err { IfErr result (λ why. IsIllegal why board.old (step_of event)) }
     ensures unchanged { OnErr result ((board.new ≡ board.old) × (items_of passed.new.items ≡ items_of passed.old.items)

@@ -1,4 +1,5 @@
--- A site as a value: the relays of one site file, the inputs that messages of its policy enter by, and what of them is to come to which archive.
+-- A site as a value (this profile's own): the relays of one site file, the inputs that messages of its policy enter by,
+-- and what of them is to come to which archive.
 use Rattle.std.specs.Prelude.{ℕ, Bool, ◌==◌, ◌&&◌, not, if◌then◌else◌, List, [], ◌∷◌, Option, Some, None, option_and_then, option_map, slice_get}
 use Rattle.std.specs.List.{list_any, position}
 use Rattle.std.specs.Str.{bytes_eq}

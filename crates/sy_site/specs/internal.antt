@@ -1,4 +1,4 @@
--- What private functions say.
+-- What private functions say, in words of this profile's own.
 pub mod Lines
 pub mod Given
 pub mod SiteInside

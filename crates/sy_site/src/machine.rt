@@ -38,7 +38,8 @@ pub fn numbers_name_messages()
 /// Each tag that a run leaves, at a place, on a link, in a file or among the losses, names a copy, and an entry has its
 /// copy's message.
 pub fn tags_name_copies()
-    ensures { (site : Site) → (events : List SiteEvent) → (state : SiteState) → Runs site events state → TagsName state }
+    ensures { (site : Site) → (events : List SiteEvent) → (state : SiteState) → Runs site events state
+        → TagsName state }
 {}
 
 /// After every run each relay has the places of its plan.

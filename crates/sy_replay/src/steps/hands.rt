@@ -30,7 +30,8 @@ pub(crate) fn take(
 ) -> Result<(), Illegal>
     requires there { IsHand board.old.plan input hand }
     requires made { IsOfInput board.old.plan input node }
-    ensures ok { OnOk result (MakesInside relay board.old (losses_of losses.old.items) (Event.Take input hand node) board.new (losses_of losses.new.items)) }
+    ensures ok { OnOk result (MakesInside relay board.old (losses_of losses.old.items) (Event.Take input hand node)
+        board.new (losses_of losses.new.items)) }
     ensures err { IfErr result (λ why. IsIllegal why board.old (Event.Take input hand node)) }
     ensures unchanged { OnErr result ((board.new ≡ board.old) × (losses.new.items ≡ losses.old.items)) }
 {
@@ -93,7 +94,8 @@ pub(crate) fn take_message(
     message: Arc<Message>,
     tag: u64,
 ) -> Result<(), Illegal>
-    ensures ok { OnOk result (TakesMessage relay board.old (losses_of losses.old.items) input hand (arc_value message) tag board.new (losses_of losses.new.items)) }
+    ensures ok { OnOk result (TakesMessage relay board.old (losses_of losses.old.items) input hand (arc_value message)
+        tag board.new (losses_of losses.new.items)) }
     ensures err { IfErr result (λ why. IsNoTake why board.old input hand (arc_value message) tag) }
     ensures unchanged { OnErr result ((board.new ≡ board.old) × (losses.new.items ≡ losses.old.items)) }
 {
@@ -108,7 +110,8 @@ pub(crate) fn take_message(
 
 // Enter: a hand's message goes to the end of its input's queue.
 pub(crate) fn enter(board: &mut Board, relay: u32, input: u32, hand: u32) -> Result<(), Illegal>
-    ensures ok { OnOk result ((losses : List states.Loss) → MakesInside relay board.old losses (Event.Enter input hand) board.new losses) }
+    ensures ok { OnOk result ((losses : List states.Loss)
+        → MakesInside relay board.old losses (Event.Enter input hand) board.new losses) }
     ensures err { IfErr result (λ why. IsIllegal why board.old (Event.Enter input hand)) }
     ensures unchanged { OnErr result (board.new ≡ board.old) }
 {
@@ -130,7 +133,8 @@ pub(crate) fn expire(
     input: u32,
     hand: u32,
 ) -> Result<(), Illegal>
-    ensures ok { OnOk result (MakesInside relay board.old (losses_of losses.old.items) (Event.Expire input hand) board.new (losses_of losses.new.items)) }
+    ensures ok { OnOk result (MakesInside relay board.old (losses_of losses.old.items) (Event.Expire input hand)
+        board.new (losses_of losses.new.items)) }
     ensures err { IfErr result (λ why. IsIllegal why board.old (Event.Expire input hand)) }
     ensures unchanged { OnErr result ((board.new ≡ board.old) × (losses.new.items ≡ losses.old.items)) }
 {
@@ -156,7 +160,8 @@ pub(crate) fn expire(
 // Puts the entries that a grab lost behind the other losses.
 fn note_grabbed(losses: &mut Vec<Loss>, relay: u32, lost: Chain)
     requires { vec_len losses.old + length lost ≤ vec_capacity losses.old }
-    ensures { losses_of losses.new.items ≡ losses_of losses.old.items ++ lost_by relay (map (steps.Out.Lost steps.Cause.Grab) lost) }
+    ensures { losses_of losses.new.items
+        ≡ losses_of losses.old.items ++ lost_by relay (map (steps.Out.Lost steps.Cause.Grab) lost) }
 {
     let mut lost = lost;
     while let Some(node) = lost.pop_front() {
@@ -175,7 +180,8 @@ pub(crate) fn grab(
     relay: u32,
     worker: u32,
 ) -> Result<(), Illegal>
-    ensures ok { OnOk result (MakesInside relay board.old (losses_of losses.old.items) (Event.Grab worker) board.new (losses_of losses.new.items)) }
+    ensures ok { OnOk result (MakesInside relay board.old (losses_of losses.old.items) (Event.Grab worker)
+        board.new (losses_of losses.new.items)) }
     ensures err { IfErr result (λ why. IsIllegal why board.old (Event.Grab worker)) }
     ensures unchanged { OnErr result ((board.new ≡ board.old) × (losses.new.items ≡ losses.old.items)) }
 {

@@ -1,5 +1,6 @@
 //! The steps of a worker's job that runs an action.
-ghost use Rattle.std.specs.Prelude.{◌≡◌, ◌<◌, ◌++◌, ◌∷◌, [], List, Bool, true, IsFalse, IsTrue, IfErr, IfOk, OnErr, OnOk, length, map};
+ghost use Rattle.std.specs.Prelude.{◌≡◌, ◌<◌, ◌++◌, ◌∷◌, [], List, Bool, true, length, map};
+ghost use Rattle.std.specs.Prelude.{IsFalse, IsTrue, IfErr, IfOk, OnErr, OnOk};
 ghost use Rattle.std.specs.Arc.{arc_value};
 ghost use Rattle.sy_board.specs.relay.Boards.{BoardState};
 ghost use Rattle.sy_board.specs.relay.Cells.{failures_at};
@@ -89,7 +90,8 @@ fn fail_last(board: &mut Board, worker: u32, run: Run) -> Result<(), Illegal>
 fn settle_into(board: &mut Board, tags: &mut Vec<u64>, worker: u32, run: Run) -> Result<(), Illegal>
     requires there { worker < length board.old.plan.workers }
     requires job { IsRunJob board.old worker run.action (arc_value run.message) run.tag }
-    ensures ok { OnOk result (Comes Answer.Done true board.old tags.old.items worker run.action run.tag board.new tags.new.items) }
+    ensures ok { OnOk result (Comes Answer.Done true board.old tags.old.items worker run.action run.tag
+        board.new tags.new.items) }
     ensures err { IfErr result (λ why. IsNoAnswer why Answer.Done board.old worker) }
     ensures unchanged { OnErr result ((board.new ≡ board.old) × (tags.new.items ≡ tags.old.items)) }
 {
@@ -115,7 +117,8 @@ fn fail_into(
     requires there { worker < length board.old.plan.workers }
     requires job { IsRunJob board.old worker run.action (arc_value run.message) run.tag }
     requires again { MayTry (retry_at board.old.plan run.action) (failures_at board.old.state worker) }
-    ensures ok { OnOk result (Comes Answer.Fail took board.old tags.old.items worker run.action run.tag board.new tags.new.items) }
+    ensures ok { OnOk result (Comes Answer.Fail took board.old tags.old.items worker run.action run.tag
+        board.new tags.new.items) }
     ensures err { IfErr result (λ why. IsNoAnswer why Answer.Fail board.old worker) }
     ensures unchanged { OnErr result ((board.new ≡ board.old) × (tags.new.items ≡ tags.old.items)) }
 {
@@ -143,7 +146,8 @@ fn give_up_into(
     requires there { worker < length board.old.plan.workers }
     requires job { IsRunJob board.old worker run.action (arc_value run.message) run.tag }
     requires last { MayTry (retry_at board.old.plan run.action) (failures_at board.old.state worker) → ⊥ }
-    ensures ok { OnOk result (Comes Answer.GiveUp took board.old tags.old.items worker run.action run.tag board.new tags.new.items) }
+    ensures ok { OnOk result (Comes Answer.GiveUp took board.old tags.old.items worker run.action run.tag
+        board.new tags.new.items) }
     ensures err { IfErr result (λ why. IsNoAnswer why Answer.GiveUp board.old worker) }
     ensures unchanged { OnErr result ((board.new ≡ board.old) × (tags.new.items ≡ tags.old.items)) }
 {
@@ -168,10 +172,12 @@ pub(crate) fn done(
     worker: u32,
 ) -> Result<(), Illegal>
     requires { length passed.old.items ≡ length board.old.plan.actions }
-    ensures ok { OnOk result ((losses : List states.Loss) → Makes relay (part board.old (items_of passed.old.items)) losses (Event.Done worker)
+    ensures ok { OnOk result ((losses : List states.Loss)
+        → Makes relay (part board.old (items_of passed.old.items)) losses (Event.Done worker)
         (part board.new (items_of passed.new.items)) losses) }
     ensures err { IfErr result (λ why. IsIllegal why board.old (Event.Done worker)) }
-    ensures unchanged { OnErr result ((board.new ≡ board.old) × (items_of passed.new.items ≡ items_of passed.old.items)) }
+    ensures unchanged { OnErr result ((board.new ≡ board.old)
+        × (items_of passed.new.items ≡ items_of passed.old.items)) }
 {
     if !has_worker(board, worker) {
         return Err(Illegal::NotAStep);
@@ -193,10 +199,12 @@ pub(crate) fn fail(
     took: bool,
 ) -> Result<(), Illegal>
     requires { length passed.old.items ≡ length board.old.plan.actions }
-    ensures ok { OnOk result ((losses : List states.Loss) → Makes relay (part board.old (items_of passed.old.items)) losses (Event.Fail worker took)
+    ensures ok { OnOk result ((losses : List states.Loss)
+        → Makes relay (part board.old (items_of passed.old.items)) losses (Event.Fail worker took)
         (part board.new (items_of passed.new.items)) losses) }
     ensures err { IfErr result (λ why. IsIllegal why board.old (Event.Fail worker took)) }
-    ensures unchanged { OnErr result ((board.new ≡ board.old) × (items_of passed.new.items ≡ items_of passed.old.items)) }
+    ensures unchanged { OnErr result ((board.new ≡ board.old)
+        × (items_of passed.new.items ≡ items_of passed.old.items)) }
 {
     if !has_worker(board, worker) {
         return Err(Illegal::NotAStep);
@@ -222,7 +230,8 @@ pub(crate) fn give_up(
     took: bool,
 ) -> Result<(), Illegal>
     requires { length passed.old.items ≡ length board.old.plan.actions }
-    ensures ok { OnOk result (Makes relay (part board.old (items_of passed.old.items)) (losses_of losses.old.items) (Event.GiveUp worker took)
+    ensures ok { OnOk result (Makes relay (part board.old (items_of passed.old.items)) (losses_of losses.old.items)
+        (Event.GiveUp worker took)
         (part board.new (items_of passed.new.items)) (losses_of losses.new.items)) }
     ensures err { IfErr result (λ why. IsIllegal why board.old (Event.GiveUp worker took)) }
     ensures unchanged { OnErr result ((board.new ≡ board.old) × (items_of passed.new.items ≡ items_of passed.old.items)

@@ -36,7 +36,8 @@ pub(crate) fn post(
     relay: u32,
     worker: u32,
 ) -> Result<(), Illegal>
-    ensures ok { OnOk result (MakesInside relay board.old (losses_of losses.old.items) (Event.Post worker) board.new (losses_of losses.new.items)) }
+    ensures ok { OnOk result (MakesInside relay board.old (losses_of losses.old.items) (Event.Post worker)
+        board.new (losses_of losses.new.items)) }
     ensures err { IfErr result (λ why. IsIllegal why board.old (Event.Post worker)) }
     ensures unchanged { OnErr result ((board.new ≡ board.old) × (losses.new.items ≡ losses.old.items)) }
 {
@@ -77,7 +78,8 @@ pub(crate) fn post_lost(
     worker: u32,
     cause: PostCause,
 ) -> Result<(), Illegal>
-    ensures ok { OnOk result (MakesInside relay board.old (losses_of losses.old.items) (Event.PostLost worker (is_no_memory cause)) board.new (losses_of losses.new.items)) }
+    ensures ok { OnOk result (MakesInside relay board.old (losses_of losses.old.items)
+        (Event.PostLost worker (is_no_memory cause)) board.new (losses_of losses.new.items)) }
     ensures err { IfErr result (λ why. IsIllegal why board.old (Event.PostLost worker (is_no_memory cause))) }
     ensures unchanged { OnErr result ((board.new ≡ board.old) × (losses.new.items ≡ losses.old.items)) }
 {

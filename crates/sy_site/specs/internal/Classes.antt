@@ -1,4 +1,4 @@
--- Which classes were looked for.
+-- Which classes were looked for (this profile's own).
 use Rattle.std.specs.Prelude.{◌≡◌, ℕ, ◌+◌, ◌*◌, ◌<◌, false, List}
 use Rattle.sy_select.specs.Selectors.{holds}
 

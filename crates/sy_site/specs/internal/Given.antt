@@ -1,4 +1,4 @@
--- The files that a caller gives, and what is refused of one.
+-- The files that a caller gives, and what is refused of one (this profile's own).
 use Rattle.std.specs.Prelude.{ℕ, List}
 use Rattle.sy_site.specs.declared.texts.files.Refusal.{Refusal}
 use Rattle.sy_site.specs.declared.texts.files.Refusal.TheVariants as refusal

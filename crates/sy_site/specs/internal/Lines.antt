@@ -1,4 +1,4 @@
--- Lines of the code, as the definitions have them.
+-- Lines of the code, as the definitions have them (this profile's own).
 use Rattle.std.specs.Net.Addr.{ipv4_octets}
 use Rattle.sy_site.specs.declared.texts.shapes.RelayLine.{RelayLine as ReadRelay}
 use Rattle.sy_site.specs.declared.texts.shapes.EntryLine.{EntryLine as ReadEntry}

@@ -1,4 +1,4 @@
--- The lines of a text that were read so far, and why reading stops at one.
+-- The lines of a text that were read so far, and why reading stops at one (this profile's own).
 use Rattle.std.specs.Prelude.{◌≡◌, ℕ, ◌<◌, ◌≤◌, ◌⊎◌, true, false, List, [], ◌∷◌, ◌++◌, length, map, filter, codes}
 use Rattle.sy_site.specs.declared.texts.reading.Given.{Given}
 use Rattle.sy_site.specs.declared.texts.reading.Halt.{Halt}

@@ -1,4 +1,4 @@
--- The relays of a text's lines, and what is refused of a line.
+-- The relays of a text's lines, and what is refused of a line (this profile's own).
 use Rattle.std.specs.Prelude.{◌≡◌, ℕ, List, ◌++◌, Option, Some, None, map}
 use Rattle.std.specs.Arc.{arc_value}
 use Rattle.sy_rules.specs.PlanValue.{Plan}

@@ -1,4 +1,4 @@
--- What the code keeps of a site.
+-- What the code keeps of a site (this profile's own).
 use Rattle.std.specs.Prelude.{List, [], map}
 use Rattle.std.specs.Arc.{arc_value}
 use Rattle.std.specs.Net.Addr.{ipv4_octets}

@@ -1,4 +1,4 @@
--- Where the copies of a class are that came in at entries.
+-- Where the copies of a class are that came in at entries (this profile's own).
 use Rattle.std.specs.Prelude.{◌≡◌, ℕ, ◌<◌, List, Some, AllPairs, slice_get}
 use Rattle.std.specs.Int.{bit_at}
 use Rattle.std.specs.List.{Contains}

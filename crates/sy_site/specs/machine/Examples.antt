@@ -1,4 +1,4 @@
--- Two small sites with runs, so that it is seen that the definitions are not empty.
+-- Two small sites with runs, so that it is seen that the definitions are not empty (this profile's own).
 use Rattle.std.specs.Prelude.{ℕ, true, false, List, [], ◌∷◌, Some, None, codes}
 use Rattle.sy_wire.specs.declared.class.Class.{Class}
 use Rattle.sy_wire.specs.Messages.{Said}

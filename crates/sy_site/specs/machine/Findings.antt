@@ -1,4 +1,4 @@
--- What the checker may find in a site: nine kinds, by number, each a condition on plans alone.
+-- What the checker may find in a site: nine kinds, by number, each a condition on plans alone (this profile's own).
 use Rattle.std.specs.Prelude.{◌≡◌, ◌≢◌, ℕ, ◌<◌, ◌≤◌, ◌⊎◌, true, List, [], ◌∷◌, Option, Some, None, map, slice_get}
 use Rattle.std.specs.List.{Contains}
 use Rattle.sy_wire.specs.declared.class.Class.{Class}

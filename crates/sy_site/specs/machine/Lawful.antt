@@ -1,4 +1,4 @@
--- What every site that was read keeps.
+-- What every site that was read keeps (this profile's own).
 use Rattle.std.specs.Prelude.{◌≡◌, ℕ, ◌≤◌, List, Some, All, length, slice_get}
 use Rattle.sy_rules.specs.declared.parameters.objects.Destination.TheVariants as destination
 use Rattle.sy_rules.specs.declared.parts.Action.{Action}

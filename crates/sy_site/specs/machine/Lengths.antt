@@ -1,4 +1,4 @@
--- How long queues become.
+-- How long queues become (this profile's own).
 use Rattle.std.specs.Prelude.{◌≡◌, ℕ, ◌≤◌, ◌<◌, length, Some, slice_get}
 use Rattle.sy_marks.specs.declared.marks.Flow.TheVariants as flow
 use Rattle.sy_rules.specs.declared.lists.occurrence.Occurrence.TheVariants as occurrence

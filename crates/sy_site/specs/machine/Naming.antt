@@ -1,4 +1,4 @@
--- What tags and numbers mean in the state of a site.
+-- What tags and numbers mean in the state of a site (this profile's own).
 use Rattle.std.specs.Prelude.{◌≡◌, ℕ, List, Some, slice_get}
 use Rattle.std.specs.List.{Contains}
 use Rattle.sy_chain.specs.Entries.{Entry}

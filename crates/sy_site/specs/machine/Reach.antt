@@ -1,4 +1,5 @@
--- Which inputs messages of a class may come to, and which archives they must come to: what the plans say of a class alone, without any state.
+-- Which inputs messages of a class may come to, and which archives they must come to: what the plans say of a class
+-- alone, without any state (this profile's own).
 use Rattle.std.specs.Prelude.{◌≡◌, ℕ, Option, Some, slice_get}
 use Rattle.std.specs.List.{Contains}
 use Rattle.sy_wire.specs.declared.class.Class.{Class}

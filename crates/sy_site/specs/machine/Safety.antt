@@ -1,4 +1,4 @@
--- What is promised of each message of a protected class that an entry took.
+-- What is promised of each message of a protected class that an entry took (this profile's own).
 use Rattle.std.specs.Prelude.{◌≡◌, ℕ, true, List, Some, ◌⊎◌, slice_get}
 use Rattle.std.specs.Int.{bit_at}
 use Rattle.std.specs.List.{Contains}

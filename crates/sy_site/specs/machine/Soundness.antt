@@ -1,4 +1,5 @@
--- What a site must keep so that no message of a protected class is lost, and which losses a relay guards against.
+-- What a site must keep so that no message of a protected class is lost, and which losses a relay guards against
+-- (this profile's own).
 use Rattle.std.specs.Prelude.{◌≡◌, ℕ, ◌<◌, true}
 use Rattle.std.specs.List.{Contains}
 use Rattle.sy_wire.specs.declared.class.Class.{Class}

@@ -1,4 +1,4 @@
--- What a site holds while it runs.
+-- What a site holds while it runs (this profile's own).
 use Rattle.std.specs.Prelude.{ℕ, ◌==◌, if◌then◌else◌, List, [], ◌∷◌, ◌++◌, length}
 use Rattle.sy_wire.specs.Messages.{Said}
 use Rattle.sy_board.specs.relay.Cells.{RelayState}

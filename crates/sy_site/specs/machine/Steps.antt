@@ -1,5 +1,5 @@
--- The nine steps of a site, and its runs. Each step is one of a relay, by that relay's own relation, with what it means for copies, links, files
--- and losses. No step looks at time: a wait may end at any moment.
+-- The nine steps of a site, and its runs (this profile's own). Each step is one of a relay, by that relay's own relation,
+-- with what it means for copies, links, files and losses. No step looks at time: a wait may end at any moment.
 use Rattle.std.specs.Prelude.{◌≡◌, ℕ, List, [], ◌∷◌, ◌++◌, length, Some, slice_get}
 use Rattle.sy_wire.specs.Messages.{Said}
 use Rattle.sy_chain.specs.Entries.{Entry}

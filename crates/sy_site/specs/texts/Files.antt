@@ -24,11 +24,12 @@ is_relay line = is_kind (codes "relay") line
 abbrev pub how_many : List (List (List ℕ)) → ℕ
 how_many lines = length (filter is_relay lines)
 
--- the files that the relay lines among these lines name, in their order
+-- the file that a line of these words names: one where it begins with `relay` and has a third word, else none
 abbrev pub file_of : List (List ℕ) → List (List ℕ)
 file_of (kind ∷ name ∷ file ∷ later) = if bytes_eq kind (codes "relay") then file ∷ [] else []
 file_of line = []
 
+-- the files that the relay lines among these lines name, in their order
 abbrev pub files_of : List (List (List ℕ)) → List (List ℕ)
 files_of [] = []
 files_of (line ∷ later) = file_of line ++ files_of later

@@ -1,5 +1,5 @@
--- That a text, with the files of its relays, has a fault: each fault by itself, with its line, without the order in which faults are looked for
--- (this profile's own). Lines count from 1.
+-- That a text, with the files of its relays, has a fault: each fault by itself, with its line, without the order in
+-- which faults are looked for (this profile's own). Lines count from 1.
 use Rattle.std.specs.Prelude.{◌≡◌, ℕ, ◌+◌, ◌<◌, ◌≤◌, List, ◌∷◌, ◌++◌, length, filter, Contains, Some, None, true, false, ◌&&◌, ◌==◌, codes}
 use Rattle.std.specs.List.{position}
 use Rattle.std.specs.Str.{bytes_eq}

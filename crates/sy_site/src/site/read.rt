@@ -39,8 +39,13 @@ impl Site {
     ///
     /// Refuses texts with a fault, for the first of these: of the lines by themselves (51, 52), of the relays' files
     /// (53, 57), of the entry lines (51, 54), of the protect lines (51, 55), and where nothing is protected (56); of
-    /// those of one kind, for the first in the text. It takes time linear in the text and the files, but for the
-    /// look-up of names among at most 64 relays and of ports and names in their plans.
+    /// those of one kind, for the first in the text.
+    ///
+    /// Its time is linear in the text and in the files, where a file counts as often as relay lines name it: it is
+    /// loaded for each of them. Beside that, each line is compared with the earlier ones of its kind, 255 at most, up
+    /// to the first word that differs, so that many long lines that begin alike may take 255 times the text; and what
+    /// a line names is looked up one by one: its file among all files, a relay among at most 64, and a port or an
+    /// action among those of its plan.
     pub fn read(alloc: Global, text: &[u8], files: &[(&str, &[u8])]) -> Result<Site, SiteFault>
         ensures site { IfOk result (λ site. Describes text.now (map (λ f. file f.0.now f.1.now) files.now) site) }
         // What is refused is there, or memory ran out.

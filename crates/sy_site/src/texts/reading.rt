@@ -1,10 +1,12 @@
 //! The lines of a text that are not skipped, each read by its shape.
 
-ghost use Rattle.std.specs.Prelude.{◌≡◌, ◌≤◌, ◌++◌, ◌⊎◌, ◌∷◌, [], ℕ, List, length, map, filter, true, false, All, IfOk, IfErr, IfSome, IfNone, OnOk};
+ghost use Rattle.std.specs.Prelude.{◌≡◌, ◌≤◌, ◌++◌, ◌⊎◌, ◌∷◌, [], ℕ, List, length, map, filter, true, false, All};
+ghost use Rattle.std.specs.Prelude.{IfOk, IfErr, IfSome, IfNone, OnOk};
 ghost use Rattle.sy_site.specs.internal.Lines.{line_of};
 ghost use Rattle.sy_site.specs.internal.Reading as spec;
 ghost use Rattle.sy_site.specs.internal.Reading.{line_given, words_given};
-ghost use Rattle.sy_site.specs.texts.Describes.{AreLines, ENTRIES, File, IsDuplicate, PROTECTIONS, Repeats, entry_lines, protect_lines, relay_lines};
+ghost use Rattle.sy_site.specs.texts.Describes.{AreLines, ENTRIES, File, IsDuplicate, PROTECTIONS, Repeats};
+ghost use Rattle.sy_site.specs.texts.Describes.{entry_lines, protect_lines, relay_lines};
 ghost use Rattle.sy_site.specs.texts.Files.{BYTES, RELAYS};
 ghost use Rattle.sy_site.specs.texts.HasFault.{HasFault};
 ghost use Rattle.sy_site.specs.texts.Lines.{is_kind, is_skipped as skips, word_lines, words};

@@ -48,8 +48,8 @@ pub fn entries(
     relays: &[Relay],
 ) -> Result<Vec<SiteInput>, SiteFault>
     requires few { length relays.now ≤ RELAYS }
-    ensures entries { IfOk result (λ entries. HasMore (IsEntry (site_with relays.now)) (entry_lines (map line_given found.now))
-        [] entries.items) }
+    ensures entries { IfOk result (λ entries. HasMore (IsEntry (site_with relays.now))
+        (entry_lines (map line_given found.now)) [] entries.items) }
     ensures err { IfErr result (λ fault. (text : List ℕ) (files : List File) → All (IsFound text) found.now
         → AreRelays text files relays.now → (fault ≡ SiteFault.NoMemory) ⊎ HasFault text files fault) }
 {
@@ -70,7 +70,8 @@ fn protect(
     requires few { length relays.now ≤ RELAYS }
     ensures protections { OnOk result (HasMore (IsProtection (site_with relays.now)) (protect_line_of line.entry ∷ [])
         protections.old.items protections.new.items) }
-    ensures err { IfErr result (λ fault. (text : List ℕ) (files : List File) → IsLineAt text number (shapes.Line.Protect (protect_line_of line.entry))
+    ensures err { IfErr result (λ fault. (text : List ℕ) (files : List File)
+        → IsLineAt text number (shapes.Line.Protect (protect_line_of line.entry))
         → AreRelays text files relays.now → (fault ≡ SiteFault.NoMemory) ⊎ HasFault text files fault) }
 {
     match archive(relays, line.relay, line.action) {
@@ -90,8 +91,8 @@ fn put_protection(
     relays: &[Relay],
 ) -> Result<(), SiteFault>
     requires few { length relays.now ≤ RELAYS }
-    ensures protections { OnOk result (HasMore (IsProtection (site_with relays.now)) (protect_lines (line_given given.entry ∷ []))
-        protections.old.items protections.new.items) }
+    ensures protections { OnOk result (HasMore (IsProtection (site_with relays.now))
+        (protect_lines (line_given given.entry ∷ [])) protections.old.items protections.new.items) }
     ensures err { IfErr result (λ fault. (text : List ℕ) (files : List File) → IsFound text given.entry
         → AreRelays text files relays.now → (fault ≡ SiteFault.NoMemory) ⊎ HasFault text files fault) }
 {
