@@ -1,3 +1,6 @@
 pub mod Refused
 pub mod Made
 pub mod Sites
+pub mod LineWords
+pub mod LineEvents
+pub mod LineLaws

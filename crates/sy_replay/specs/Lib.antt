@@ -2,3 +2,5 @@ pub mod Events
 pub mod Parts
 pub mod Jobs
 pub mod States
+pub mod Lines
+pub mod Reading

@@ -2,8 +2,11 @@
 #![tactic(auto)]
 
 pub mod event;
+pub mod line;
 mod making;
 mod part;
 mod steps;
 
 pub use event::{Cause, Event, Illegal, Loss, RelayEvent};
+pub use line::fault::EventFault;
+pub use line::read_event;
