@@ -10,7 +10,7 @@ use Rattle.sy_replay.specs.declared.line.fault.EventFault.{EventFault}
 use Rattle.sy_replay.specs.declared.line.fault.EventFault.TheVariants as fault
 use Rattle.sy_replay.specs.declared.line.verb.Verb.{Verb}
 use Rattle.sy_replay.specs.declared.line.verb.Verb.TheVariants as verb
-use Rattle.sy_replay.specs.Lines.{IsBehind, IsFrom, IsHand, IsNew, IsTake, IsWorker, StandsFor, TakesTo, IsPlace, input_named, number_of, text, words_in}
+use Rattle.sy_replay.specs.Lines.{IsBehind, IsFrom, IsHand, IsNew, IsTake, IsWorker, StandsFor, TakesTo, IsPlace, input_named, number_of, word_of, words_in}
 use Rattle.sy_replay.specs.Reading.{NoEvent}
 
 -- ---- first words
@@ -28,7 +28,7 @@ verb_named w =
     else if bytes_eq w (codes "postlost") then Some verb.PostLost
     else None
 
-named : (v : Verb) → verb_named (text v) ≡ Some v
+named : (v : Verb) → verb_named (word_of v) ≡ Some v
 named verb.Take = refl
 named verb.Enter = refl
 named verb.Expire = refl
@@ -42,7 +42,7 @@ named verb.PostLost = refl
 some_same : {A : Type 0} {x y : A} → Some x ≡ Some y → x ≡ y
 some_same e = cc
 
-pub one_verb : (a b : Verb) → text a ≡ text b → a ≡ b
+pub one_verb : (a b : Verb) → word_of a ≡ word_of b → a ≡ b
 one_verb a b e = some_same (sym (named a) ∙ ap verb_named e ∙ named b)
 
 pub first_same : {x y : List ℕ} {xs ys : List (List ℕ)} → x ∷ xs ≡ y ∷ ys → x ≡ y
@@ -52,14 +52,14 @@ pub behind_same : {x y : List ℕ} {xs ys : List (List ℕ)} → x ∷ xs ≡ y 
 behind_same e = cc
 
 -- what a line stands for is what is behind its first word
-pub stands_behind : (site : Site) (line : List ℕ) (v : Verb) (rest : List (List ℕ)) (e : SiteEvent) → words_in line ≡ text v ∷ rest → StandsFor site line e
+pub stands_behind : (site : Site) (line : List ℕ) (v : Verb) (rest : List (List ℕ)) (e : SiteEvent) → words_in line ≡ word_of v ∷ rest → StandsFor site line e
     → IsBehind site v rest e
 stands_behind site line v rest e cut h =
-    let same : text h.first ∷ h.behind ≡ text v ∷ rest = sym h.whole ∙ cut in
+    let same : word_of h.first ∷ h.behind ≡ word_of v ∷ rest = sym h.whole ∙ cut in
     subst (λ (u : Verb). IsBehind site u rest e) (one_verb h.first v (first_same same))
     (subst (λ (ws : List (List ℕ)). IsBehind site h.first ws e) (behind_same same) h.is_behind)
 
-pub no_event : (site : Site) (line : List ℕ) (v : Verb) (rest : List (List ℕ)) (f : EventFault) → words_in line ≡ text v ∷ rest
+pub no_event : (site : Site) (line : List ℕ) (v : Verb) (rest : List (List ℕ)) (f : EventFault) → words_in line ≡ word_of v ∷ rest
     → NoEvent (IsBehind site v rest) f → NoEvent (StandsFor site line) f
 no_event site line v rest fault.Line cut h = λ e stands. h e (stands_behind site line v rest e cut stands)
 no_event site line v rest fault.NoMemory cut h = tt

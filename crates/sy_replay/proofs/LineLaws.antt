@@ -10,7 +10,7 @@ use Rattle.sy_site.specs.Sites.{Site}
 use Rattle.sy_site.specs.machine.Steps.{SiteEvent}
 use Rattle.sy_replay.specs.declared.line.verb.Verb.{Verb}
 use Rattle.sy_replay.specs.declared.line.verb.Verb.TheVariants as verb
-use Rattle.sy_replay.specs.Lines.{IsBehind, IsFrom, IsNew, IsPlace, IsTake, OfHand, OfWorker, StandsFor, TakesTo, cause_word, is_skipped, text, words_in, yes_or_no}
+use Rattle.sy_replay.specs.Lines.{IsBehind, IsFrom, IsNew, IsNoEvent, IsPlace, IsTake, OfHand, OfWorker, StandsFor, TakesTo, cause_word, is_skipped, word_of, words_in, yes_or_no}
 use Rattle.sy_replay.proofs.LineEvents.{behind_same, first_same, new_or_link, one_hand, one_place, one_worker, stands_behind, takes_moved}
 use Rattle.sy_replay.proofs.LineWords.{same_line}
 
@@ -98,7 +98,7 @@ one_event one site line e f a b = one_behind one site a.first a.behind e f a.is_
 
 -- ---- lines that are skipped
 
-letter : (v : Verb) → 97 ≤ get_or (text v) 0 0
+letter : (v : Verb) → 97 ≤ get_or (word_of v) 0 0
 letter verb.Take = omega arith
 letter verb.Enter = omega arith
 letter verb.Expire = omega arith
@@ -113,9 +113,9 @@ first_byte : (b : ℕ) (parts : List (List ℕ)) (w : List ℕ) (rest : List (Li
 first_byte b [] w rest e = ap (λ (v : List ℕ). get_or v 0 0) (first_same e)
 first_byte b (p ∷ parts) w rest e = ap (λ (v : List ℕ). get_or v 0 0) (first_same e)
 
-pub skipped : (site : Site) (line : List ℕ) (e : SiteEvent) → is_skipped line ≡ true → StandsFor site line e → ⊥
-skipped site [] e is h = omega (arith, letter h.first, ap (λ (w : List ℕ). get_or w 0 0) (first_same h.whole))
-skipped site (b ∷ line) e is h =
+pub skipped : (site : Site) (line : List ℕ) → is_skipped line ≡ true → IsNoEvent site line
+skipped site [] is = λ e h. omega (arith, letter h.first, ap (λ (w : List ℕ). get_or w 0 0) (first_same h.whole))
+skipped site (b ∷ line) is = λ e h.
     let sign : b ≡ 35 = eqb-true b 35 is in
     let no_space : (b == 32) ≡ false = rw sign refl in
-    omega (arith, letter h.first, sign, first_byte b (words_in line) (text h.first) h.behind (sym (slice_split-cons_no (λ (x : ℕ). x == 32) b line no_space) ∙ h.whole))
+    omega (arith, letter h.first, sign, first_byte b (words_in line) (word_of h.first) h.behind (sym (slice_split-cons_no (λ (x : ℕ). x == 32) b line no_space) ∙ h.whole))

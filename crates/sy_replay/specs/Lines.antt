@@ -45,16 +45,16 @@ number_of word = if is_number word then Some (digits_value 10 word) else None
 -- ---- the parts of a line
 
 -- the first word
-abbrev pub text : Verb → List ℕ
-text verb.Take = codes "take"
-text verb.Enter = codes "enter"
-text verb.Expire = codes "expire"
-text verb.Grab = codes "grab"
-text verb.Done = codes "done"
-text verb.Fail = codes "fail"
-text verb.GiveUp = codes "giveup"
-text verb.Post = codes "post"
-text verb.PostLost = codes "postlost"
+abbrev pub word_of : Verb → List ℕ
+word_of verb.Take = codes "take"
+word_of verb.Enter = codes "enter"
+word_of verb.Expire = codes "expire"
+word_of verb.Grab = codes "grab"
+word_of verb.Done = codes "done"
+word_of verb.Fail = codes "fail"
+word_of verb.GiveUp = codes "giveup"
+word_of verb.Post = codes "post"
+word_of verb.PostLost = codes "postlost"
 
 -- the input of a relay, by its name, at a port
 abbrev pub input_named : Site → List ℕ → ℕ → Option SiteInput
@@ -161,8 +161,11 @@ IsBehind site verb.PostLost words e = (memory : Bool) × OfWorker site words (ca
 pub record StandsFor (site : Site) (line : List ℕ) (e : SiteEvent) : Type 0 where
   pub first : Verb
   pub behind : List (List ℕ)
-  pub whole : words_in line ≡ text first ∷ behind
+  pub whole : words_in line ≡ word_of first ∷ behind
   pub is_behind : IsBehind site first behind e
+
+abbrev pub IsNoEvent : Site → List ℕ → Type 0
+IsNoEvent site line = (e : SiteEvent) → StandsFor site line e → ⊥
 
 -- ---- what is read of a line
 
@@ -179,7 +182,7 @@ IsRead site line (Some e) = StandsFor site line (site_event e)
 
 -- Why nothing is read: the line isn't skipped, and stands for no event; or memory ran out.
 abbrev pub IsUnread : Site → List ℕ → EventFault → Type 0
-IsUnread site line fault.Line = (is_skipped line ≡ false) × ((e : SiteEvent) → StandsFor site line e → ⊥)
+IsUnread site line fault.Line = (is_skipped line ≡ false) × IsNoEvent site line
 IsUnread site line fault.NoMemory = Unit {0}
 
 -- ---- the faults

@@ -1,7 +1,7 @@
 //! The first word of a line.
 
 ghost use Rattle.std.specs.Prelude.{◌≡◌, IfSome, IfNone};
-ghost use Rattle.sy_replay.specs.Lines.{text};
+ghost use Rattle.sy_replay.specs.Lines.{word_of};
 
 use super::words::is_word;
 
@@ -21,8 +21,8 @@ pub enum Verb {
 
 /// The verb that a word is.
 pub fn verb_of(word: &[u8]) -> Option<Verb>
-    ensures some { IfSome result (λ v. word.now ≡ text v) }
-    ensures none { IfNone result ((v : Verb) → word.now ≡ text v → ⊥) }
+    ensures some { IfSome result (λ v. word.now ≡ word_of v) }
+    ensures none { IfNone result ((v : Verb) → word.now ≡ word_of v → ⊥) }
 {
     if is_word(word, b"take") {
         return Some(Verb::Take);
