@@ -3,3 +3,6 @@ pub mod Made
 pub mod Sites
 pub mod Takes
 pub mod Replays
+pub mod LineWords
+pub mod LineEvents
+pub mod LineLaws

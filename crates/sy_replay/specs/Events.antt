@@ -31,11 +31,11 @@ step_of (event.Post worker) = steps.Event.Post worker
 step_of (event.PostLost worker why) = steps.Event.PostLost worker (is_no_memory why)
 
 -- the site's step of an event
-abbrev pub event_of : declared.Event → SiteEvent
-event_of (an.TakeNew relay input hand message) = SiteEvent.TakeNew (record { relay = relay; input = input }) hand (arc_value message)
-event_of (an.TakeFrom relay input hand from action place) =
+abbrev pub site_event : declared.Event → SiteEvent
+site_event (an.TakeNew relay input hand message) = SiteEvent.TakeNew (record { relay = relay; input = input }) hand (arc_value message)
+site_event (an.TakeFrom relay input hand from action place) =
     SiteEvent.TakeFrom (record { relay = relay; input = input }) hand (record { relay = from; action = action }) place
-event_of (an.Inside relay inside) = SiteEvent.Inside relay (step_of inside)
+site_event (an.Inside relay inside) = SiteEvent.Inside relay (step_of inside)
 
 abbrev pub cause_of : Cause → steps.Cause
 cause_of cause.Take = steps.Cause.Take

@@ -4,3 +4,5 @@ pub mod Jobs
 pub mod States
 pub mod Takes
 pub mod Held
+pub mod Lines
+pub mod Reading

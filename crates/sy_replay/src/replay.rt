@@ -4,7 +4,7 @@ ghost use Rattle.std.specs.Arc.{arc_value};
 ghost use Rattle.sy_site.specs.machine.Lengths.{IsWithinMarks};
 ghost use Rattle.sy_site.specs.machine.States.{opening};
 ghost use Rattle.sy_site.specs.machine.Steps.{SiteEvent, SiteStep};
-ghost use Rattle.sy_replay.specs.Events.{event_of, losses_of};
+ghost use Rattle.sy_replay.specs.Events.{site_event, losses_of};
 ghost use Rattle.sy_replay.specs.States.{AreOf, HaveSamePlans, IsIllegalAt, IsReached, state_at};
 ghost use Rattle.sy_replay.specs.Held.{IsNoStep, Steps, contents_of, state_held};
 ghost use Rattle.sy_replay.specs.Held as spec;
@@ -175,8 +175,8 @@ fn take_from(
 // Makes the step of an event, or changes nothing.
 fn step(alloc: Global, site: &Site, held: &mut Held, event: &Event) -> Result<(), Illegal>
     requires { AreOf site.now held.old.parts.items }
-    ensures ok { OnOk result (SiteStep site.now (state_held held.old) (event_of event.now) (state_held held.new)) }
-    ensures err { IfErr result (λ why. IsIllegalAt why site.now (state_held held.old) (event_of event.now)) }
+    ensures ok { OnOk result (SiteStep site.now (state_held held.old) (site_event event.now) (state_held held.new)) }
+    ensures err { IfErr result (λ why. IsIllegalAt why site.now (state_held held.old) (site_event event.now)) }
     ensures unchanged { OnErr result (contents_of held.new ≡ contents_of held.old) }
     ensures plans { HaveSamePlans held.old.parts.items held.new.parts.items }
 {
@@ -239,8 +239,8 @@ impl<'a> Replay<'a> {
     ///
     /// Its cost is that of the step. A take from a link also moves what stands behind the copy there.
     pub fn apply(&mut self, event: &Event) -> Result<(), Illegal>
-        ensures ok { OnOk result (SiteStep self.old.site (state_at self.old) (event_of event.now) (state_at self.new)) }
-        ensures err { IfErr result (λ why. IsIllegalAt why self.old.site (state_at self.old) (event_of event.now)) }
+        ensures ok { OnOk result (SiteStep self.old.site (state_at self.old) (site_event event.now) (state_at self.new)) }
+        ensures err { IfErr result (λ why. IsIllegalAt why self.old.site (state_at self.old) (site_event event.now)) }
         ensures unchanged { OnErr result (self.new ≡ self.old) }
         ensures site { self.new.site ≡ self.old.site }
     {

@@ -1,5 +1,5 @@
 use Rattle.std.proofs.Common.{ap}
-use Rattle.sy_replay.specs.Events.{event_of}
+use Rattle.sy_replay.specs.Events.{site_event}
 use Rattle.sy_replay.specs.Held.{state_held}
 use Rattle.sy_replay.specs.States.{state_in}
 use Rattle.sy_replay.proofs.Made.{on_err}
@@ -12,6 +12,6 @@ invariant_of-self c =
     let old = c.self.inside.held in
     let new = c.step.new.held in (
       are_of_after site old.parts.items new.parts.items c.self.invariant.0 c.step.ensures.plans,
-      reached_after c.step.result site (state_held old) (event_of c.args.event.now) (state_held new) c.self.invariant.1 c.step.ensures.ok
+      reached_after c.step.result site (state_held old) (site_event c.args.event.now) (state_held new) c.self.invariant.1 c.step.ensures.ok
           (on_err c.step.result (λ same. ap state_in same) c.step.ensures.unchanged),
     )

@@ -1,0 +1,4 @@
+use Rattle.sy_replay.proofs.line.inside.enter.Goals as goal
+
+pub returns-in-None-clause-err : goal.returns-in-None-clause-err
+returns-in-None-clause-err c e h = c.in-None.ensures.none h.to h.hand h.is_hand
