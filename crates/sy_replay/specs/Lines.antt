@@ -81,7 +81,7 @@ pub record IsWorker (site : Site) (words : List (List ℕ)) (relay worker : ℕ)
   pub worker_is : number_of worker_word ≡ Some worker
   pub is_there : worker < length (plan_at site relay).workers
 
--- RELAY A PLACE: an action of a relay's plan, and a place. That the action is a forward, and the place on its link, no line says.
+-- RELAY A PLACE: an action of a relay's plan, and a place. Whether the action is a forward, and a copy stands at the place, is no matter of the line.
 pub record IsPlace (site : Site) (words : List (List ℕ)) (link : SiteAction) (place : ℕ) : Type 0 where
   pub name : List ℕ
   pub action_word : List ℕ

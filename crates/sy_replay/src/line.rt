@@ -73,8 +73,8 @@ fn is_skipped(line: &[u8]) -> bool
 /// The event that a line of an events file stands for at a site; none of a line that is skipped. The line comes without
 /// its LF.
 ///
-/// A message is all that is behind the space after `new`, a CR included. That a link's action is a forward, and a place
-/// on it, no line says: such an event is no step.
+/// A message is all that is behind the space after `new`, a CR included. A line may name an action that is no forward to
+/// the input, or a place where no copy stands: its event is then no step.
 ///
 /// It takes time linear in the line, but for the look-up of names among at most 64 relays and of a port among the
 /// inputs of one. Only the message of a `take .. new` takes memory.

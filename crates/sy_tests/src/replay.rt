@@ -1,0 +1,3 @@
+//! A site's machine, event by event: the lines of events.
+
+mod lines;
