@@ -155,12 +155,7 @@ fn goes_on(
     Ok(true)
 }
 
-fn put_run(
-    alloc: Global,
-    text: &mut Vec<u8>,
-    site: &Site,
-    lines: &str,
-) -> Result<(), AllocError> {
+fn put_run(alloc: Global, text: &mut Vec<u8>, site: &Site, lines: &str) -> Result<(), AllocError> {
     let mut replay = Replay::new(alloc, site)?;
     let mut number = 0_u32;
     for line in lines.lines() {
@@ -188,7 +183,11 @@ impl Judge for Runs {
         let Ok(lines) = from_utf8(text) else {
             return Ok(false);
         };
-        match Site::read(alloc, SITE, &[("edge.conf", edge_of(form)), ("hub.conf", HUB)]) {
+        match Site::read(
+            alloc,
+            SITE,
+            &[("edge.conf", edge_of(form)), ("hub.conf", HUB)],
+        ) {
             Ok(site) => put_run(alloc, &mut found, &site, lines)?,
             Err(SiteFault::NoMemory) => return Ok(self.memory),
             Err(_) => return Ok(false),
@@ -247,7 +246,8 @@ illegal 5 | %[1]`fail edge 1 no`fail edge 1 no
 "#;
 
 // The third message waits at a length of 3.
-const THREE_WAIT: &str = "%[1]take edge 6514 0 new <34>1 - - - - - -`enter edge 6514 0`take edge 6516 0 new <0>1 - - - - - -`enter edge 6516 0`take edge 6516 0 new <0>1 - - - - - -`enter edge 6516 0~";
+const THREE_WAIT: &str =
+    "%[1]take edge 6514 0 new <34>1 - - - - - -`enter edge 6514 0`take edge 6516 0 new <0>1 - - - - - -`enter edge 6516 0`take edge 6516 0 new <0>1 - - - - - -`enter edge 6516 0~";
 
 const MARKS_ROWS: &str = r#"
 // The length is 4 before the grab and 3 after it.
@@ -272,7 +272,13 @@ static TABLES: [(&str, &str, &str); 4] = [
 #[test]
 fn schedules(rt: HostRuntime) -> Result<(), Fail> {
     for (form, front, rows) in &TABLES {
-        each_is_right(&rt, rt.alloc(), (form, front), rows, &Runs { memory: false })?;
+        each_is_right(
+            &rt,
+            rt.alloc(),
+            (form, front),
+            rows,
+            &Runs { memory: false },
+        )?;
     }
     Ok(())
 }
@@ -284,6 +290,12 @@ messages 1 losses 0 | %[1]`fail edge 1 yes`done edge 1`take hub 6515 0 link edge
 // Under each allocation that fails in turn the event is made once memory is there, and what is lost is the same.
 #[test]
 fn memory_is_refused(rt: HostRuntime) -> Result<(), Fail> {
-    each_is_right(&rt, rt.alloc(), ("plain", WAITS), FEW, &Runs { memory: true })?;
+    each_is_right(
+        &rt,
+        rt.alloc(),
+        ("plain", WAITS),
+        FEW,
+        &Runs { memory: true },
+    )?;
     Ok(())
 }
