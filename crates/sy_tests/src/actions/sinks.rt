@@ -258,34 +258,50 @@ fn lines_that_are_torn_at_each_byte(rt: HostRuntime) -> Result<(), Fail> {
     Ok(())
 }
 
+// The answer to a message whose frame goes from there to there, where a write fails after so many bytes, for good.
+fn answer_in_frames(count: usize, start: usize, end: usize) -> u8 {
+    if count < start {
+        92
+    } else if count < end {
+        91
+    } else {
+        0
+    }
+}
+
+// Whether the offers are answered so and the writer, which another then replaces, holds these bytes.
+fn are_framed(
+    alloc: Global,
+    sink: &mut FrameSink<FromWrite<Torn>>,
+    offers: Offers,
+    wanted: &[u8],
+) -> Result<bool, AllocError> {
+    let answered = are_answered(alloc, sink, offers);
+    let is_written = holds(sink.renew(Torn::new(alloc, 0, 0)), wanted);
+    Ok(answered? && is_written)
+}
+
 // Writes the three frames with the fault after so many bytes: nothing comes after it, and all after a new writer has
 // come.
-fn breaks(rt: &impl Abort, alloc: Global, count: usize) -> Result<(), AllocError> {
-    assert!(rt; count <= FRAMES.len());
+fn breaks(alloc: Global, count: usize) -> Result<bool, AllocError> {
+    let [first, second, third] = FRAME_ENDS;
+    let offers = [
+        (A, answer_in_frames(count, 0, first)),
+        (B, answer_in_frames(count, first, second)),
+        (C, answer_in_frames(count, second, third)),
+    ];
+    let front = FRAMES.get(..count).unwrap_or(b"");
     let mut sink = FrameSink::new(alloc, Torn::new(alloc, count, 1));
-    let mut broken = false;
-    for (raw, end) in [(A, FRAME_ENDS[0]), (B, FRAME_ENDS[1]), (C, FRAME_ENDS[2])] {
-        let wanted = if broken {
-            92
-        } else if count < end {
-            91
-        } else {
-            0
-        };
-        broken = broken || wanted > 0;
-        assert_eq!(rt; answer(alloc, &mut sink, raw)?, wanted);
-    }
-    let old = sink.renew(Torn::new(alloc, 0, 0));
-    assert_eq!(rt; taken(old).as_slice(), &FRAMES[..count]);
-    let are_answered = are_answered(alloc, &mut sink, ALL)?;
-    assert!(rt; are_answered && holds(sink.renew(Torn::new(alloc, 0, 0)), FRAMES));
-    Ok(())
+    let broken = are_framed(alloc, &mut sink, &offers, front);
+    let renewed = are_framed(alloc, &mut sink, ALL, FRAMES);
+    drop(sink);
+    Ok(broken? && renewed?)
 }
 
 #[test]
 fn frames_that_are_torn_at_each_byte(rt: HostRuntime) -> Result<(), Fail> {
     for count in 0..FRAMES.len() {
-        breaks(&rt, rt.alloc(), count)?;
+        assert!(rt; breaks(rt.alloc(), count)?);
     }
     Ok(())
 }
@@ -310,18 +326,27 @@ fn a_frame_that_is_too_long(rt: HostRuntime) -> Result<(), Fail> {
 
 const ALL: Offers<'static> = &[(A, 0), (B, 0), (C, 0)];
 
+fn lines_in_one_write(alloc: Global) -> Result<bool, AllocError> {
+    let mut sink = LineSink::new(alloc, Torn::new(alloc, 0, 0));
+    let taken = are_answered(alloc, &mut sink, ALL);
+    let is_flushed = sink.flush().is_ok();
+    let calls = calls(sink.into_writer());
+    Ok(taken? && is_flushed && calls == (3, 1))
+}
+
+fn frames_in_one_write(alloc: Global) -> Result<bool, AllocError> {
+    let mut sink = FrameSink::new(alloc, Torn::new(alloc, 0, 0));
+    let taken = are_answered(alloc, &mut sink, ALL);
+    let is_flushed = sink.flush().is_ok();
+    let calls = calls(sink.renew(Torn::new(alloc, 0, 0)));
+    drop(sink);
+    Ok(taken? && is_flushed && calls == (3, 1))
+}
+
 // A line and a frame each go out in one write where the writer takes all, and a flush reaches it.
 #[test]
 fn each_message_in_one_write(rt: HostRuntime) -> Result<(), Fail> {
-    let alloc = rt.alloc();
-    let mut lines = LineSink::new(alloc, Torn::new(alloc, 0, 0));
-    let are_taken = are_answered(alloc, &mut lines, ALL)?;
-    assert!(rt; are_taken && lines.flush().is_ok() && calls(lines.into_writer()) == (3, 1));
-    let mut frames = FrameSink::new(alloc, Torn::new(alloc, 0, 0));
-    let are_taken = are_answered(alloc, &mut frames, ALL)?;
-    assert!(rt;
-        are_taken && frames.flush().is_ok() && calls(frames.renew(Torn::new(alloc, 0, 0))) == (3, 1)
-    );
+    assert!(rt; lines_in_one_write(rt.alloc())? && frames_in_one_write(rt.alloc())?);
     Ok(())
 }
 
