@@ -367,33 +367,33 @@ static FRAME_FLUSHES: [Flushes; 3] = [
 ];
 
 // Lines are taken by a buffer whose writer fails, and what a flush hands on reaches the writer.
-fn flushes_lines(rt: &impl Abort, alloc: Global, row: &Flushes) -> Result<(), AllocError> {
+fn flushes_lines(alloc: Global, row: &Flushes) -> Result<bool, AllocError> {
     let mut writer = Torn::new(alloc, row.0, row.1);
     let mut sink = LineSink::new(alloc, Buffered::with_capacity(alloc, 100, &mut writer)?);
-    let are_taken = are_answered(alloc, &mut sink, ALL)?;
+    let taken = are_answered(alloc, &mut sink, ALL);
     let answers = [sink.flush().is_ok(), sink.flush().is_ok()];
     drop(sink);
-    assert!(rt; are_taken && answers == row.2 && taken(writer).as_slice() == row.3);
-    Ok(())
+    let is_written = holds(writer, row.3);
+    Ok(taken? && answers == row.2 && is_written)
 }
 
-fn flushes_frames(rt: &impl Abort, alloc: Global, row: &Flushes) -> Result<(), AllocError> {
+fn flushes_frames(alloc: Global, row: &Flushes) -> Result<bool, AllocError> {
     let mut writer = Torn::new(alloc, row.0, row.1);
     let mut sink = FrameSink::new(alloc, Buffered::with_capacity(alloc, 100, &mut writer)?);
-    let are_taken = are_answered(alloc, &mut sink, ALL)?;
+    let taken = are_answered(alloc, &mut sink, ALL);
     let answers = [sink.flush().is_ok(), sink.flush().is_ok()];
     drop(sink);
-    assert!(rt; are_taken && answers == row.2 && taken(writer).as_slice() == row.3);
-    Ok(())
+    let is_written = holds(writer, row.3);
+    Ok(taken? && answers == row.2 && is_written)
 }
 
 #[test]
 fn flushes_of_a_buffer_below(rt: HostRuntime) -> Result<(), Fail> {
     for row in &LINE_FLUSHES {
-        flushes_lines(&rt, rt.alloc(), row)?;
+        assert!(rt; flushes_lines(rt.alloc(), row)?);
     }
     for row in &FRAME_FLUSHES {
-        flushes_frames(&rt, rt.alloc(), row)?;
+        assert!(rt; flushes_frames(rt.alloc(), row)?);
     }
     Ok(())
 }
