@@ -115,15 +115,15 @@ fn answer(alloc: Global, device: &mut impl Device, raw: &[u8]) -> Result<u8, All
 type Offers<'a> = &'a [(&'a [u8], u8)];
 
 fn are_answered(
-    rt: &impl Abort,
     alloc: Global,
     device: &mut impl Device,
     offers: Offers,
-) -> Result<(), AllocError> {
+) -> Result<bool, AllocError> {
+    let mut is_right = true;
     for (raw, wanted) in offers {
-        assert_eq!(rt; answer(alloc, device, raw)?, *wanted);
+        is_right = is_right && answer(alloc, device, raw)? == *wanted;
     }
-    Ok(())
+    Ok(is_right)
 }
 
 /// After how many bytes the writer fails, at how many writes, what is offered, and the bytes in the end.
@@ -161,31 +161,39 @@ static LINE_ROWS: [Row; 8] = [
     ),
 ];
 
-fn each_line_is_written(rt: &impl Abort, alloc: Global, rows: &[Row]) -> Result<(), AllocError> {
+// Whether these are the bytes that a writer took.
+fn holds(writer: FromWrite<Torn>, wanted: &[u8]) -> bool {
+    taken(writer).as_slice() == wanted
+}
+
+fn is_line_written(alloc: Global, row: &Row) -> Result<bool, AllocError> {
+    let mut sink = LineSink::new(alloc, Torn::new(alloc, row.0, row.1));
+    let answered = are_answered(alloc, &mut sink, row.2);
+    let is_written = holds(sink.into_writer(), row.3);
+    Ok(answered? && is_written)
+}
+
+fn each_line_is_written(alloc: Global, rows: &[Row]) -> Result<bool, AllocError> {
+    let mut is_right = true;
     for row in rows {
-        let mut sink = LineSink::new(alloc, Torn::new(alloc, row.0, row.1));
-        are_answered(rt, alloc, &mut sink, row.2)?;
-        assert_eq!(rt; taken(sink.into_writer()).as_slice(), row.3);
+        is_right = is_right && is_line_written(alloc, row)?;
     }
-    Ok(())
+    Ok(is_right)
 }
 
 #[test]
 fn lines_that_were_torn(rt: HostRuntime) -> Result<(), Fail> {
-    each_line_is_written(&rt, rt.alloc(), &LINE_ROWS)?;
+    assert!(rt; each_line_is_written(rt.alloc(), &LINE_ROWS)?);
     Ok(())
 }
 
-// Offers a message until it is taken, twice at most.
-fn insist(
-    rt: &impl Abort,
-    alloc: Global,
-    device: &mut impl Device,
-    raw: &[u8],
-) -> Result<(), AllocError> {
-    let first = answer(alloc, device, raw)?;
-    assert!(rt; first == 0 || answer(alloc, device, raw)? == 0);
-    Ok(())
+// Offers a message until it is taken, twice at most, and says whether it was.
+fn insist(alloc: Global, device: &mut impl Device, raw: &[u8]) -> Result<bool, AllocError> {
+    Ok(answer(alloc, device, raw)? == 0 || answer(alloc, device, raw)? == 0)
+}
+
+fn each_insisted(alloc: Global, device: &mut impl Device) -> Result<bool, AllocError> {
+    Ok(insist(alloc, device, A)? && insist(alloc, device, B)? && insist(alloc, device, C)?)
 }
 
 // The end of the line or frame in which so many bytes end, and whether they end within it.
@@ -201,13 +209,11 @@ fn end_after(ends: &[usize], count: usize) -> (usize, bool) {
 }
 
 // Writes the three lines with the fault after so many bytes, each message offered until it is taken.
-fn insists(rt: &impl Abort, alloc: Global, count: usize) -> Result<(), AllocError> {
+fn insists(alloc: Global, count: usize) -> Result<bool, AllocError> {
     let mut sink = LineSink::new(alloc, Torn::new(alloc, count, 1));
-    for raw in [A, B, C] {
-        insist(rt, alloc, &mut sink, raw)?;
-    }
-    assert_eq!(rt; taken(sink.into_writer()).as_slice(), LINES);
-    Ok(())
+    let insisted = each_insisted(alloc, &mut sink);
+    let is_written = holds(sink.into_writer(), LINES);
+    Ok(insisted? && is_written)
 }
 
 // The answer to a message whose line goes from there to there, where a write fails after so many bytes.
@@ -215,67 +221,87 @@ fn answer_at(count: usize, start: usize, end: usize) -> u8 {
     if start <= count && count < end { 91 } else { 0 }
 }
 
+// The lines up to so many bytes, and those from there on, with the end of a torn line between them.
+fn lines_without(
+    alloc: Global,
+    count: usize,
+    end: usize,
+    is_within: bool,
+) -> Result<Vec<u8>, AllocError> {
+    let mut lines = LINES.get(..count).unwrap_or(b"").to_vec(alloc)?;
+    let behind = LINES.get(end..).unwrap_or(b"");
+    if is_within && !behind.is_empty() {
+        lines.push(b'\n')?;
+    }
+    lines.extend_from_slice(behind)?;
+    Ok(lines)
+}
+
 // Writes them with each message offered once: the line in which the fault falls ends there.
-fn goes_on(rt: &impl Abort, alloc: Global, count: usize) -> Result<(), AllocError> {
-    let mut sink = LineSink::new(alloc, Torn::new(alloc, count, 1));
+fn goes_on(alloc: Global, count: usize) -> Result<bool, AllocError> {
     let [first, second, third] = LINE_ENDS;
     let offers = [
         (A, answer_at(count, 0, first)),
         (B, answer_at(count, first, second)),
         (C, answer_at(count, second, third)),
     ];
-    are_answered(rt, alloc, &mut sink, &offers)?;
     let (end, is_within) = end_after(&LINE_ENDS, count);
-    assert!(rt; count <= LINES.len() && end <= LINES.len());
-    let mut wanted = LINES[..count].to_vec(alloc)?;
-    if is_within && end < LINES.len() {
-        wanted.push(b'\n')?;
-    }
-    wanted.extend_from_slice(&LINES[end..])?;
-    assert_eq!(rt; taken(sink.into_writer()).as_slice(), wanted.as_slice());
-    Ok(())
+    let wanted = lines_without(alloc, count, end, is_within)?;
+    is_line_written(alloc, &(count, 1, &offers, wanted.as_slice()))
 }
 
 #[test]
 fn lines_that_are_torn_at_each_byte(rt: HostRuntime) -> Result<(), Fail> {
     for count in 0..LINES.len() {
-        insists(&rt, rt.alloc(), count)?;
-        goes_on(&rt, rt.alloc(), count)?;
+        assert!(rt; insists(rt.alloc(), count)? && goes_on(rt.alloc(), count)?);
     }
     Ok(())
 }
 
+// The answer to a message whose frame goes from there to there, where a write fails after so many bytes, for good.
+fn answer_in_frames(count: usize, start: usize, end: usize) -> u8 {
+    if count < start {
+        92
+    } else if count < end {
+        91
+    } else {
+        0
+    }
+}
+
+// Whether the offers are answered so and the writer, which another then replaces, holds these bytes.
+fn are_framed(
+    alloc: Global,
+    sink: &mut FrameSink<FromWrite<Torn>>,
+    offers: Offers,
+    wanted: &[u8],
+) -> Result<bool, AllocError> {
+    let answered = are_answered(alloc, sink, offers);
+    let is_written = holds(sink.renew(Torn::new(alloc, 0, 0)), wanted);
+    Ok(answered? && is_written)
+}
+
 // Writes the three frames with the fault after so many bytes: nothing comes after it, and all after a new writer has
 // come.
-fn breaks(rt: &impl Abort, alloc: Global, count: usize) -> Result<(), AllocError> {
-    assert!(rt; count <= FRAMES.len());
+fn breaks(alloc: Global, count: usize) -> Result<bool, AllocError> {
+    let [first, second, third] = FRAME_ENDS;
+    let offers = [
+        (A, answer_in_frames(count, 0, first)),
+        (B, answer_in_frames(count, first, second)),
+        (C, answer_in_frames(count, second, third)),
+    ];
+    let front = FRAMES.get(..count).unwrap_or(b"");
     let mut sink = FrameSink::new(alloc, Torn::new(alloc, count, 1));
-    let mut broken = false;
-    for (raw, end) in [(A, FRAME_ENDS[0]), (B, FRAME_ENDS[1]), (C, FRAME_ENDS[2])] {
-        let wanted = if broken {
-            92
-        } else if count < end {
-            91
-        } else {
-            0
-        };
-        broken = broken || wanted > 0;
-        assert_eq!(rt; answer(alloc, &mut sink, raw)?, wanted);
-    }
-    let old = sink.renew(Torn::new(alloc, 0, 0));
-    assert_eq!(rt; taken(old).as_slice(), &FRAMES[..count]);
-    are_answered(rt, alloc, &mut sink, &[(A, 0), (B, 0), (C, 0)])?;
-    assert_eq!(rt;
-        taken(sink.renew(Torn::new(alloc, 0, 0))).as_slice(),
-        FRAMES
-    );
-    Ok(())
+    let broken = are_framed(alloc, &mut sink, &offers, front);
+    let renewed = are_framed(alloc, &mut sink, ALL, FRAMES);
+    drop(sink);
+    Ok(broken? && renewed?)
 }
 
 #[test]
 fn frames_that_are_torn_at_each_byte(rt: HostRuntime) -> Result<(), Fail> {
     for count in 0..FRAMES.len() {
-        breaks(&rt, rt.alloc(), count)?;
+        assert!(rt; breaks(rt.alloc(), count)?);
     }
     Ok(())
 }
@@ -300,16 +326,27 @@ fn a_frame_that_is_too_long(rt: HostRuntime) -> Result<(), Fail> {
 
 const ALL: Offers<'static> = &[(A, 0), (B, 0), (C, 0)];
 
+fn lines_in_one_write(alloc: Global) -> Result<bool, AllocError> {
+    let mut sink = LineSink::new(alloc, Torn::new(alloc, 0, 0));
+    let taken = are_answered(alloc, &mut sink, ALL);
+    let is_flushed = sink.flush().is_ok();
+    let calls = calls(sink.into_writer());
+    Ok(taken? && is_flushed && calls == (3, 1))
+}
+
+fn frames_in_one_write(alloc: Global) -> Result<bool, AllocError> {
+    let mut sink = FrameSink::new(alloc, Torn::new(alloc, 0, 0));
+    let taken = are_answered(alloc, &mut sink, ALL);
+    let is_flushed = sink.flush().is_ok();
+    let calls = calls(sink.renew(Torn::new(alloc, 0, 0)));
+    drop(sink);
+    Ok(taken? && is_flushed && calls == (3, 1))
+}
+
 // A line and a frame each go out in one write where the writer takes all, and a flush reaches it.
 #[test]
 fn each_message_in_one_write(rt: HostRuntime) -> Result<(), Fail> {
-    let alloc = rt.alloc();
-    let mut lines = LineSink::new(alloc, Torn::new(alloc, 0, 0));
-    are_answered(&rt, alloc, &mut lines, ALL)?;
-    assert!(rt; lines.flush().is_ok() && calls(lines.into_writer()) == (3, 1));
-    let mut frames = FrameSink::new(alloc, Torn::new(alloc, 0, 0));
-    are_answered(&rt, alloc, &mut frames, ALL)?;
-    assert!(rt; frames.flush().is_ok() && calls(frames.renew(Torn::new(alloc, 0, 0))) == (3, 1));
+    assert!(rt; lines_in_one_write(rt.alloc())? && frames_in_one_write(rt.alloc())?);
     Ok(())
 }
 
@@ -330,33 +367,33 @@ static FRAME_FLUSHES: [Flushes; 3] = [
 ];
 
 // Lines are taken by a buffer whose writer fails, and what a flush hands on reaches the writer.
-fn flushes_lines(rt: &impl Abort, alloc: Global, row: &Flushes) -> Result<(), AllocError> {
+fn flushes_lines(alloc: Global, row: &Flushes) -> Result<bool, AllocError> {
     let mut writer = Torn::new(alloc, row.0, row.1);
     let mut sink = LineSink::new(alloc, Buffered::with_capacity(alloc, 100, &mut writer)?);
-    are_answered(rt, alloc, &mut sink, ALL)?;
+    let taken = are_answered(alloc, &mut sink, ALL);
     let answers = [sink.flush().is_ok(), sink.flush().is_ok()];
     drop(sink);
-    assert!(rt; answers == row.2 && taken(writer).as_slice() == row.3);
-    Ok(())
+    let is_written = holds(writer, row.3);
+    Ok(taken? && answers == row.2 && is_written)
 }
 
-fn flushes_frames(rt: &impl Abort, alloc: Global, row: &Flushes) -> Result<(), AllocError> {
+fn flushes_frames(alloc: Global, row: &Flushes) -> Result<bool, AllocError> {
     let mut writer = Torn::new(alloc, row.0, row.1);
     let mut sink = FrameSink::new(alloc, Buffered::with_capacity(alloc, 100, &mut writer)?);
-    are_answered(rt, alloc, &mut sink, ALL)?;
+    let taken = are_answered(alloc, &mut sink, ALL);
     let answers = [sink.flush().is_ok(), sink.flush().is_ok()];
     drop(sink);
-    assert!(rt; answers == row.2 && taken(writer).as_slice() == row.3);
-    Ok(())
+    let is_written = holds(writer, row.3);
+    Ok(taken? && answers == row.2 && is_written)
 }
 
 #[test]
 fn flushes_of_a_buffer_below(rt: HostRuntime) -> Result<(), Fail> {
     for row in &LINE_FLUSHES {
-        flushes_lines(&rt, rt.alloc(), row)?;
+        assert!(rt; flushes_lines(rt.alloc(), row)?);
     }
     for row in &FRAME_FLUSHES {
-        flushes_frames(&rt, rt.alloc(), row)?;
+        assert!(rt; flushes_frames(rt.alloc(), row)?);
     }
     Ok(())
 }
