@@ -1,5 +1,9 @@
 //! The checker: whether a site keeps each message of its protected classes, shown by a certificate.
 #![tactic(auto)]
 
+mod inputs;
 pub mod laws;
+mod order;
+mod path;
+mod reach;
 mod wanted;
