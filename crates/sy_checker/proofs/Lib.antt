@@ -6,3 +6,5 @@ pub mod Sorted
 pub mod Paths
 pub mod Named
 pub mod Joined
+pub mod Feeding
+pub mod Risky

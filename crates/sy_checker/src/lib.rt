@@ -2,6 +2,7 @@
 #![tactic(auto)]
 
 mod inputs;
+mod kinds;
 pub mod laws;
 mod order;
 mod path;
