@@ -8,3 +8,4 @@ pub mod Named
 pub mod Joined
 pub mod Feeding
 pub mod Risky
+pub mod Comparing

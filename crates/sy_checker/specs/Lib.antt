@@ -1,3 +1,4 @@
 pub mod Fit
 pub mod Internal
 pub mod Risks
+pub mod Ranked

@@ -6,5 +6,6 @@ mod kinds;
 pub mod laws;
 mod order;
 mod path;
+mod ranks;
 mod reach;
 mod wanted;
