@@ -9,3 +9,5 @@ pub mod Joined
 pub mod Feeding
 pub mod Risky
 pub mod Comparing
+pub mod Judged
+pub mod Meant

@@ -97,16 +97,30 @@ IsPath site class archive input [] = MustWrite site class archive input
 IsPath site class archive input (number ∷ later) =
     MustAt site class input number × (to : SiteInput) × Forwards site input number to × IsPath site class archive to later
 
--- A row is the wanted one, and holds.
-abbrev pub IsRight : Site → Class → List Wanted → List Row → Wanted → Row → Type 0
-IsRight site class part rows (wanted.Class c) (row.Class given) = given ≡ c
-IsRight site class part rows (wanted.Reach input) (row.Reach relay port) =
-    (relay ≡ name_of site input.relay) × (port ≡ port_of site input) × IsClean site class input
-IsRight site class part rows (wanted.Rank of) (row.Rank relay rank) = (relay ≡ name_of site of) × IsAbove site class part rows of rank
-IsRight site class part rows (wanted.Path entry archive) (row.Path relay port archive_relay action occurrences) =
+abbrev pub IsClassRow : Class → Row → Type 0
+IsClassRow class (row.Class given) = given ≡ class
+IsClassRow class _ = ⊥
+
+abbrev pub IsReachRow : Site → Class → SiteInput → Row → Type 0
+IsReachRow site class input (row.Reach relay port) = (relay ≡ name_of site input.relay) × (port ≡ port_of site input) × IsClean site class input
+IsReachRow site class input _ = ⊥
+
+abbrev pub IsRankRow : Site → Class → List Wanted → List Row → ℕ → Row → Type 0
+IsRankRow site class part rows of (row.Rank relay rank) = (relay ≡ name_of site of) × IsAbove site class part rows of rank
+IsRankRow site class part rows of _ = ⊥
+
+abbrev pub IsPathRow : Site → Class → SiteInput → SiteAction → Row → Type 0
+IsPathRow site class entry archive (row.Path relay port archive_relay action occurrences) =
     (relay ≡ name_of site entry.relay) × (port ≡ port_of site entry) × (archive_relay ≡ name_of site archive.relay)
     × (action ≡ action_name site archive) × IsPath site class archive entry occurrences
-IsRight site class part rows _ _ = ⊥
+IsPathRow site class entry archive _ = ⊥
+
+-- A row is the wanted one, and holds.
+abbrev pub IsRight : Site → Class → List Wanted → List Row → Wanted → Row → Type 0
+IsRight site class part rows (wanted.Class c) r = IsClassRow c r
+IsRight site class part rows (wanted.Reach input) r = IsReachRow site class input r
+IsRight site class part rows (wanted.Rank of) r = IsRankRow site class part rows of r
+IsRight site class part rows (wanted.Path entry archive) r = IsPathRow site class entry archive r
 
 -- ---- fit
 

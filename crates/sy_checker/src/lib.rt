@@ -8,4 +8,5 @@ mod order;
 mod path;
 mod ranks;
 mod reach;
+mod rows;
 mod wanted;
