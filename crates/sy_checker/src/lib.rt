@@ -5,6 +5,7 @@ mod inputs;
 mod kinds;
 pub mod laws;
 mod order;
+mod part;
 mod path;
 mod ranks;
 mod reach;
