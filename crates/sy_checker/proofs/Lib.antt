@@ -11,3 +11,4 @@ pub mod Risky
 pub mod Comparing
 pub mod Judged
 pub mod Meant
+pub mod Numbered

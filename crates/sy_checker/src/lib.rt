@@ -1,6 +1,7 @@
 //! The checker: whether a site keeps each message of its protected classes, shown by a certificate.
 #![tactic(auto)]
 
+mod classes;
 mod inputs;
 mod kinds;
 pub mod laws;
