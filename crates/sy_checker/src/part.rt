@@ -52,7 +52,8 @@ fn is_right_at(
     }
 }
 
-/// The first of the wanted rows that doesn't stand at its place or doesn't hold, by its place and the kind wanted there.
+/// The first of the wanted rows that doesn't stand at its place or doesn't hold, by its place and the kind wanted
+/// there.
 pub fn first_wrong(
     site: &Site,
     class: Class,
