@@ -1,0 +1,187 @@
+-- A site with a fit certificate is sound.
+use Rattle.std.proofs.Common.{◌≡◌, ℕ, suc, ◌<◌, List, [], ◌∷◌, ◌++◌, Some, map, length, drop, refl, sym, ap, subst, arith, ◌∙◌, inl, inr}
+use Rattle.std.specs.Prelude.{Contains, ◌⊎◌, flat_map, slice_get}
+use Rattle.std.proofs.lemmas.Bool.{cases_eq}
+use Rattle.std.proofs.lemmas.List.Elements.{Contains-append_left, Contains-append_right}
+use Rattle.std.proofs.lemmas.Option.{slice_get-get_or}
+use Rattle.sy_wire.specs.declared.class.Class.{Class}
+use Rattle.sy_cert.specs.declared.row.Row.{Row}
+use Rattle.sy_cert.specs.declared.row.Row.TheVariants as row
+use Rattle.sy_site.specs.declared.site.SiteAction.{SiteAction}
+use Rattle.sy_site.specs.declared.site.SiteInput.{SiteInput}
+use Rattle.sy_site.specs.Sites.{Site, archives}
+use Rattle.sy_site.specs.machine.Reach.{Forwards, LeadsTo, MayAt, Reach, leads_on, writes}
+use Rattle.sy_site.specs.machine.Soundness.{IsSound, IsSoundFor}
+use Rattle.sy_checker.specs.Fit.{AreFit, AreRight, AreWanted, HasRank, IsAbove, IsClean, IsFit, IsPath, IsRight, paths}
+use Rattle.sy_checker.specs.declared.wanted.Wanted.{Wanted}
+use Rattle.sy_checker.specs.declared.wanted.Wanted.TheVariants as wanted
+
+-- ---- lists
+
+pub at_place : {A : Type 0} (xs : List A) (x : A) → Contains xs x → (k : ℕ) × (slice_get xs k ≡ Some x)
+at_place xs x (k, low, is) = (k, slice_get-get_or xs k x low ∙ ap Some is)
+
+pub one_behind : {A : Type 0} (x : A) (xs : List A) (y : A) → Contains xs y → Contains (x ∷ xs) y
+one_behind x xs y (k, low, is) = (suc k, omega (arith, low), is)
+
+pub in_map : {A B : Type 0} (f : A → B) (xs : List A) (x : A) → Contains xs x → Contains (map f xs) (f x)
+in_map f [] x (k, low, is) = absurd (omega (arith, low))
+in_map f (y ∷ ys) x (ℕ.zero, low, is) = (0, omega arith, ap f is)
+in_map f (y ∷ ys) x (ℕ.suc k, low, is) =
+    let later = in_map f ys x (k, omega (arith, low), is) in
+    one_behind (f y) (map f ys) (f x) later
+
+pub in_flat : {A B : Type 0} (f : A → List B) (xs : List A) (x : A) (y : B) → Contains xs x → Contains (f x) y → Contains (flat_map f xs) y
+in_flat f [] x y (k, low, is) there = absurd (omega (arith, low))
+in_flat f (z ∷ zs) x y (ℕ.zero, low, is) there =
+    Contains-append_left (f z) (flat_map f zs) y (subst (λ v. Contains (f v) y) (sym is) there)
+in_flat f (z ∷ zs) x y (ℕ.suc k, low, is) there =
+    Contains-append_right (f z) (flat_map f zs) y (in_flat f zs x y (k, omega (arith, low), is) there)
+
+not_in : (y : ℕ) (ys : List ℕ) (x : ℕ) → (y ≡ x → ⊥) → (Contains ys x → ⊥) → Contains (y ∷ ys) x → ⊥
+not_in y ys x apart none (ℕ.zero, low, is) = apart is
+not_in y ys x apart none (ℕ.suc k, low, is) = none (k, omega (arith, low), is)
+
+none_in : (x : ℕ) → Contains [] x → ⊥
+none_in x (k, low, is) = absurd (omega (arith, low))
+
+-- whether a number is in a list
+has : (xs : List ℕ) (x : ℕ) → Contains xs x ⊎ (Contains xs x → ⊥)
+has [] x = inr (none_in x)
+has (y ∷ ys) x =
+    elim (cases_eq y x) [
+      | inl same ↦ inl (0, omega arith, same)
+      | inr apart ↦ elim (has ys x) [
+        | inl there ↦ inl (one_behind y ys x there)
+        | inr none ↦ inr (not_in y ys x apart none)
+      ]
+    ]
+
+-- ---- the rows of a class
+
+record RankRow (site : Site) (class : Class) (part : List Wanted) (rows : List Row) (relay : ℕ) : Type 0 where
+  pub rank : ℕ
+  pub stands : HasRank site part rows relay rank
+  pub above : IsAbove site class part rows relay rank
+
+module _ (site : Site) (class : Class) (part : List Wanted) (rows : List Row) where
+  reach_row : (input : SiteInput) (r : Row) → IsRight site class part rows (wanted.Reach input) r → IsClean site class input
+  reach_row input (row.Reach relay port) right = right.2
+  reach_row input (row.Class given) right = absurd right
+  reach_row input (row.Rank relay rank) right = absurd right
+  reach_row input (row.Path relay port archive_relay action occurrences) right = absurd right
+
+  rank_row : (relay place : ℕ) → slice_get part place ≡ Some (wanted.Rank relay) → (r : Row) → slice_get rows place ≡ Some r
+      → IsRight site class part rows (wanted.Rank relay) r → RankRow site class part rows relay
+  rank_row relay place is (row.Rank name rank) there right = record {
+    rank = rank;
+    stands = record { place = place; is_wanted = is; stands = there ∙ ap (λ n. Some (row.Rank n rank)) right.0 };
+    above = right.1;
+  }
+  rank_row relay place is (row.Class given) there right = absurd right
+  rank_row relay place is (row.Reach name port) there right = absurd right
+  rank_row relay place is (row.Path name port archive_relay action occurrences) there right = absurd right
+
+  path_leads : (archive : SiteAction) (input : SiteInput) (occurrences : List ℕ) → IsPath site class archive input occurrences
+      → LeadsTo site class archive input
+  path_leads archive input [] last = writes last.number last.action last.must last.runs last.writes
+  path_leads archive input (number ∷ later) (must, to, goes, more) = leads_on number must goes (path_leads archive to later more)
+
+  path_row : (entry : SiteInput) (archive : SiteAction) (r : Row) → IsRight site class part rows (wanted.Path entry archive) r
+      → LeadsTo site class archive entry
+  path_row entry archive (row.Path relay port archive_relay action occurrences) right = path_leads archive entry occurrences right.4
+  path_row entry archive (row.Class given) right = absurd right
+  path_row entry archive (row.Reach relay port) right = absurd right
+  path_row entry archive (row.Rank relay rank) right = absurd right
+
+-- ---- what a class's rows show
+
+module _ (site : Site) (class : Class) (part : List Wanted) (rows : List Row) (are : AreWanted site class part)
+    (right : AreRight site class part rows) where
+  in_part : (is : Wanted) → Contains (map wanted.Reach are.inputs ++ (map wanted.Rank are.relays ++ paths site class)) is → Contains part is
+  in_part is there =
+      subst (λ z. Contains z is) (sym are.whole)
+      (one_behind (wanted.Class class) (map wanted.Reach are.inputs ++ (map wanted.Rank are.relays ++ paths site class)) is there)
+
+  clean : (input : SiteInput) → Reach site class input → IsClean site class input
+  clean input reach =
+      let here = in_part (wanted.Reach input)
+      (Contains-append_left (map wanted.Reach are.inputs) (map wanted.Rank are.relays ++ paths site class) (wanted.Reach input)
+      (in_map wanted.Reach are.inputs input ((are.inputs_reached.member input).1 reach))) in
+      let found = at_place part (wanted.Reach input) here in
+      let is = right found.0 (wanted.Reach input) found.1 in
+      reach_row site class part rows input is.stands is.right
+
+  ranked : (relay : ℕ) → Contains are.relays relay → RankRow site class part rows relay
+  ranked relay there =
+      let here = in_part (wanted.Rank relay)
+      (Contains-append_right (map wanted.Reach are.inputs) (map wanted.Rank are.relays ++ paths site class) (wanted.Rank relay)
+      (Contains-append_left (map wanted.Rank are.relays) (paths site class) (wanted.Rank relay) (in_map wanted.Rank are.relays relay there))) in
+      let found = at_place part (wanted.Rank relay) here in
+      let is = right found.0 (wanted.Rank relay) found.1 in
+      rank_row site class part rows relay found.0 found.1 is.stands is.there is.right
+
+  leads : (entry : SiteInput) → Contains site.entries entry → (archive : SiteAction) → Contains (archives site class) archive
+      → LeadsTo site class archive entry
+  leads entry is_entry archive is_archive =
+      let here = in_part (wanted.Path entry archive)
+      (Contains-append_right (map wanted.Reach are.inputs) (map wanted.Rank are.relays ++ paths site class) (wanted.Path entry archive)
+      (Contains-append_right (map wanted.Rank are.relays) (paths site class) (wanted.Path entry archive)
+      (in_flat (λ e. map (λ a. wanted.Path e a) (archives site class)) site.entries entry (wanted.Path entry archive) is_entry
+      (in_map (λ a. wanted.Path entry a) (archives site class) archive is_archive)))) in
+      let found = at_place part (wanted.Path entry archive) here in
+      let is = right found.0 (wanted.Path entry archive) found.1 in
+      path_row site class part rows entry archive is.stands is.right
+
+  -- a relay's rank, of its row where it has one
+  rank_by : (relay : ℕ) → Contains are.relays relay ⊎ (Contains are.relays relay → ⊥) → ℕ
+  rank_by relay (inl there) = (ranked relay there).rank
+  rank_by relay (inr none) = 0
+
+  rank_stands : (relay : ℕ) (found : Contains are.relays relay ⊎ (Contains are.relays relay → ⊥)) → Contains are.relays relay
+      → HasRank site part rows relay (rank_by relay found)
+  unfolding rank_by ranked
+  rank_stands relay (inl there) is = (ranked relay there).stands
+  rank_stands relay (inr none) is = absurd (none is)
+
+  rank_above : (relay : ℕ) (found : Contains are.relays relay ⊎ (Contains are.relays relay → ⊥)) → Contains are.relays relay
+      → IsAbove site class part rows relay (rank_by relay found)
+  unfolding rank_by ranked
+  rank_above relay (inl there) is = (ranked relay there).above
+  rank_above relay (inr none) is = absurd (none is)
+
+  rank_at : ℕ → ℕ
+  rank_at relay = rank_by relay (has are.relays relay)
+
+  there_is : (input : SiteInput) → Reach site class input → Contains are.relays input.relay
+  there_is input reach = (are.relays_reached.member input.relay).1 (input.input, reach)
+
+  falls : (from to : SiteInput) (number : ℕ) → Reach site class from → MayAt site class from number → Forwards site from number to
+      → rank_at to.relay < rank_at from.relay
+  unfolding rank_at
+  falls from to number reach may goes =
+      let reach_to = Reach.onward number reach may goes in
+      rank_above from.relay (has are.relays from.relay) (there_is from reach) from to number (rank_by to.relay (has are.relays to.relay)) refl reach may
+      goes
+      (rank_stands to.relay (has are.relays to.relay) (there_is to reach_to))
+
+  pub sound_for : IsSoundFor site class
+  sound_for = record {
+    clean = clean;
+    rank = rank_at;
+    ranks = record { falls = falls };
+    leads = leads;
+  }
+
+-- ---- all classes
+
+sound_among : (site : Site) (classes : List Class) (rows : List Row) → AreFit site classes rows → (class : Class) → Contains classes class
+    → IsSoundFor site class
+sound_among site [] rows fit class (k, low, is) = absurd (omega (arith, low))
+sound_among site (first ∷ classes) rows (part, are, right, later) class (ℕ.zero, low, is) =
+    subst (IsSoundFor site) is (sound_for site first part rows are right)
+sound_among site (first ∷ classes) rows (part, are, right, later) class (ℕ.suc k, low, is) =
+    sound_among site classes (drop (length part) rows) later class (k, omega (arith, low), is)
+
+pub fit_is_sound : (site : Site) (rows : List Row) → IsFit site rows → IsSound site
+fit_is_sound site rows fit class protected = sound_among site fit.classes rows fit.fit class ((fit.protected.member class).1 protected)

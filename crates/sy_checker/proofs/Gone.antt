@@ -1,0 +1,189 @@
+-- Going through the inputs that are found, until nothing more is.
+use Rattle.std.proofs.Common.{◌≡◌, ℕ, suc, ◌<◌, ◌≤◌, ◌+◌, ◌*◌, Bool, true, false, ◌||◌, ◌==◌, List, [], ◌∷◌, ◌++◌, length, map, Option, Some, None, refl, sym, ap, subst, ◌∙◌, arith, inl, inr, eqb-true, eq-eqb}
+use Rattle.std.specs.Prelude.{Contains, ◌⊎◌, ◌↔◌, slice_get}
+use Rattle.std.specs.List.{AllByRecursion, IsDistinct, list_any}
+use Rattle.std.proofs.lemmas.Bool.{cases_eq, false≢true, ne_eqb}
+use Rattle.std.proofs.lemmas.List.{length-map}
+use Rattle.std.proofs.lemmas.List.Elements.{Contains-append_left}
+use Rattle.std.proofs.lemmas.Map.Steps.{length-le_from_distinct_below}
+use Rattle.std.proofs.lemmas.Option.{get_or_from_slice_get, slice_get_within}
+use Rattle.sy_wire.specs.declared.class.Class.{Class}
+use Rattle.sy_rules.specs.Whole.{IsWhole}
+use Rattle.sy_site.specs.declared.site.SiteInput.{SiteInput}
+use Rattle.sy_site.specs.Sites.{Relay, Site, plan_at, plan_in}
+use Rattle.sy_site.specs.machine.Lawful.{IsInput, IsLawful}
+use Rattle.sy_site.specs.machine.Reach.{Reach, entry, onward}
+use Rattle.sy_checker.specs.Internal.{Adds, LeadsOn, same_input}
+use Rattle.sy_checker.proofs.FitIsSound.{at_place}
+use Rattle.sy_checker.proofs.There.{place_there, reach_there, relay_there}
+
+-- ---- whole plans
+
+whole_found : (site : Site) → IsLawful site → (r : ℕ) (relay : Relay) → slice_get site.relays r ≡ Some relay → IsWhole relay.plan
+whole_found site law r relay is =
+    subst (λ (x : Relay). IsWhole x.plan) (get_or_from_slice_get site.relays r relay relay is) (law.plans r relay (slice_get_within site.relays r relay is))
+
+whole_in : (site : Site) → IsLawful site → (r : ℕ) (found : Option Relay) → slice_get site.relays r ≡ found → (i : ℕ)
+    → i < length (plan_in found).inputs → IsWhole (plan_in found)
+whole_in site law r None is i low = absurd (omega (arith, low))
+whole_in site law r (Some relay) is i low = whole_found site law r relay is
+
+pub whole_there : (site : Site) → IsLawful site → (input : SiteInput) → IsInput site input → IsWhole (plan_at site input.relay)
+whole_there site law input is = whole_in site law input.relay (slice_get site.relays input.relay) refl input.input (place_there site input is)
+
+-- ---- few inputs
+
+code : SiteInput → ℕ
+code x = 64 * x.relay + x.input
+
+abbrev IsSmall : SiteInput → Type 0
+IsSmall x = (x.relay < 64) × (x.input < 64)
+
+is_small : (site : Site) → IsLawful site → (x : SiteInput) → IsInput site x → IsSmall x
+is_small site law x is =
+    let relay = relay_there site x is in
+    let few = law.few in
+    let place = place_there site x is in
+    let most = (whole_there site law x is).inputs_most in
+    (omega (arith, relay, few), omega (arith, place, most))
+
+codes_differ : (x y : SiteInput) → IsSmall x → IsSmall y → same_input x y ≡ false → (code x == code y) ≡ false
+unfolding code
+codes_differ x y small_x small_y apart =
+    let x0 = small_x.0 in
+    let x1 = small_x.1 in
+    let y0 = small_y.0 in
+    let y1 = small_y.1 in
+    elim (cases_eq (64 * x.relay + x.input) (64 * y.relay + y.input)) [
+      | inl same ↦
+          let relays : x.relay ≡ y.relay = omega (arith, same, x0, x1, y0, y1) in
+          let inputs : x.input ≡ y.input = omega (arith, same, relays) in
+          let is_same : same_input x y ≡ true = rw (eq-eqb x.relay y.relay relays, eq-eqb x.input y.input inputs) refl in
+          absurd (false≢true (sym apart ∙ is_same))
+      | inr other ↦ ne_eqb (64 * x.relay + x.input) (64 * y.relay + y.input) other
+    ]
+
+all_apart : (x : SiteInput) (xs : List SiteInput) → IsSmall x → ((y : SiteInput) → Contains xs y → IsSmall y)
+    → AllByRecursion (λ y. same_input x y ≡ false) xs → AllByRecursion (λ n. (code x == n) ≡ false) (map code xs)
+all_apart x [] small each apart = tt
+all_apart x (y ∷ ys) small each apart = (
+  codes_differ x y small (each y (0, omega arith, refl)) apart.0,
+  all_apart x ys small (λ z there. each z (suc there.0, omega (arith, there.1), there.2)) apart.1,
+)
+
+codes_distinct : (xs : List SiteInput) → ((y : SiteInput) → Contains xs y → IsSmall y) → IsDistinct same_input xs
+    → IsDistinct (λ m n. m == n) (map code xs)
+unfolding IsDistinct
+codes_distinct [] each d = tt
+codes_distinct (x ∷ xs) each d = (
+  all_apart x xs (each x (0, omega arith, refl)) (λ z there. each z (suc there.0, omega (arith, there.1), there.2)) d.0,
+  codes_distinct xs (λ z there. each z (suc there.0, omega (arith, there.1), there.2)) d.1,
+)
+
+code_below : (x : SiteInput) → IsSmall x → code x < 4096
+unfolding code
+code_below x small = let a = small.0 in let b = small.1 in omega (arith, a, b)
+
+either : (a b : Bool) → (a || b) ≡ true → (a ≡ true) ⊎ (b ≡ true)
+either true b e = inl refl
+either false b e = inr e
+
+codes_below : (xs : List SiteInput) → ((y : SiteInput) → Contains xs y → IsSmall y) → (q : ℕ) → list_any (λ n. q == n) (map code xs) ≡ true → q < 4096
+codes_below [] each q e = absurd (false≢true e)
+codes_below (x ∷ xs) each q e =
+    elim (either (q == code x) (list_any (λ n. q == n) (map code xs)) e) [
+      | inl here ↦
+          let same = eqb-true q (code x) here in
+          let low = code_below x (each x (0, omega arith, refl)) in
+          omega (arith, same, low)
+      | inr later ↦ codes_below xs (λ z there. each z (suc there.0, omega (arith, there.1), there.2)) q later
+    ]
+
+pub few : (site : Site) → IsLawful site → (found : List SiteInput) → IsDistinct same_input found
+    → ((x : SiteInput) → Contains found x → IsInput site x) → length found ≤ 4096
+few site law found distinct each =
+    let small = λ (y : SiteInput) (there : Contains found y). is_small site law y (each y there) in
+    let most = length-le_from_distinct_below (map code found) 4096 (codes_distinct found small distinct) (codes_below found small) in
+    subst (λ n. n ≤ 4096) (length-map found code) most
+
+-- ---- so many of those that are found were gone through
+
+pub record HasGone (site : Site) (class : Class) (found : List SiteInput) (done : ℕ) : Type 0 where
+  pub reached : (x : SiteInput) → Contains found x → Reach site class x
+  pub entries : (x : SiteInput) → Contains site.entries x → Contains found x
+  pub closed : (j : ℕ) (from to : SiteInput) → j < done → slice_get found j ≡ Some from → LeadsOn site class from to → Contains found to
+  pub distinct : IsDistinct same_input found
+
+none_in : (x : SiteInput) → Contains [] x → ⊥
+none_in x (k, low, is) = absurd (omega (arith, low))
+
+pub gone_first : (site : Site) (class : Class) (found : List SiteInput) → Adds (Contains site.entries) [] found → HasGone site class found 0
+unfolding IsDistinct
+gone_first site class found added = record {
+  reached = λ x there. elim (added.only x there) [
+    | inl before ↦ absurd (none_in x before)
+    | inr is ↦ entry is
+  ];
+  entries = added.all;
+  closed = λ j from to low is leads. absurd (omega (arith, low));
+  distinct = added.distinct tt;
+}
+
+one_value : {A : Type 0} {x y : A} → Some x ≡ Some y → x ≡ y
+one_value e = cc
+
+same_place : (old more : List SiteInput) (j : ℕ) → j < length old → slice_get (old ++ more) j ≡ slice_get old j
+same_place [] more j low = absurd (omega (arith, low))
+same_place (x ∷ old) more ℕ.zero low = refl
+same_place (x ∷ old) more (ℕ.suc j) low = same_place old more j (omega (arith, low))
+
+module _ (site : Site) (class : Class) (old new : List SiteInput) (done : ℕ) (from : SiteInput) (here : slice_get old done ≡ Some from)
+    (gone : HasGone site class old done) (added : Adds (LeadsOn site class from) old new) where
+  kept : (x : SiteInput) → Contains old x → Contains new x
+  kept x there = subst (λ l. Contains l x) (sym added.whole) (Contains-append_left old added.more x there)
+
+  it_reaches : Reach site class from
+  it_reaches =
+      gone.reached from
+      (done, slice_get_within old done from here, get_or_from_slice_get old done from from here)
+
+  in_old : (j : ℕ) (x : SiteInput) → j < length old → slice_get new j ≡ Some x → slice_get old j ≡ Some x
+  in_old j x low is = sym (ap (λ l. slice_get l j) added.whole ∙ same_place old added.more j low) ∙ is
+
+  now_closed : (j : ℕ) (x to : SiteInput) → j < done + 1 → slice_get new j ≡ Some x → LeadsOn site class x to → Contains new to
+  now_closed j x to low is leads =
+      let within = slice_get_within old done from here in
+      elim (cases_eq j done) [
+        | inl same ↦
+            let at : slice_get old done ≡ Some x = ap (slice_get old) (sym same) ∙ in_old j x (omega (arith, same, within)) is in
+            let it : x ≡ from = one_value (sym at ∙ here) in
+            added.all to (subst (λ z. LeadsOn site class z to) it leads)
+        | inr apart ↦
+            kept to (gone.closed j x to (omega (arith, low, apart)) (in_old j x (omega (arith, low, apart, within)) is) leads)
+      ]
+
+  pub gone_more : HasGone site class new (done + 1)
+  gone_more = record {
+    reached = λ x there. elim (added.only x there) [
+      | inl before ↦ gone.reached x before
+      | inr leads ↦ onward leads.number it_reaches leads.may leads.goes
+    ];
+    entries = λ x is. kept x (gone.entries x is);
+    closed = now_closed;
+    distinct = added.distinct gone.distinct;
+  }
+
+module _ (site : Site) (class : Class) (found : List SiteInput) (done : ℕ) (gone : HasGone site class found done) (all : length found ≤ done) where
+  reach_found : (x : SiteInput) → Reach site class x → Contains found x
+  reach_found x (entry is) = gone.entries x is
+  reach_found x (onward {from} number before may goes) =
+      let there = at_place found from (reach_found from before) in
+      let within = slice_get_within found there.0 from there.1 in
+      gone.closed there.0 from x (omega (arith, within, all)) there.1 (record { number = number; may = may; goes = goes })
+
+  pub gone_all : (x : SiteInput) → Contains found x ↔ Reach site class x
+  gone_all x = (gone.reached x, reach_found x)
+
+pub found_there : (site : Site) → IsLawful site → (class : Class) (found : List SiteInput) (done : ℕ) → HasGone site class found done
+    → length found ≤ 4096
+found_there site law class found done gone = few site law found gone.distinct (λ x there. reach_there site law class x (gone.reached x there))

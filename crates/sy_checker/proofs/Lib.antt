@@ -1,0 +1,14 @@
+pub mod FitIsSound
+pub mod Found
+pub mod There
+pub mod Gone
+pub mod Sorted
+pub mod Paths
+pub mod Named
+pub mod Joined
+pub mod Feeding
+pub mod Risky
+pub mod Comparing
+pub mod Judged
+pub mod Meant
+pub mod Numbered

@@ -1,0 +1,26 @@
+use Rattle.std.proofs.Common.{◌∙◌, refl, sym}
+use Rattle.std.proofs.lemmas.Bool.{false≢true}
+use Rattle.sy_checker.proofs.Risky.{safe_all, safe_first, safe_more, shown}
+use Rattle.sy_checker.proofs.kinds.may_risk.Goals as goal
+
+pub loop-number-init : goal.loop-number-init
+loop-number-init c = safe_first c.args.site.now c.args.input c.may_at-may.result c.args.risk
+
+pub loop-number-preserved : goal.loop-number-preserved
+loop-number-preserved c =
+    safe_more c.args.site.now c.args.input c.may_at-may.result c.args.risk c.loop-number.number
+    (λ r. false≢true (sym c.if-has_risk.false ∙ c.has_risk.ensures.1 r)) c.loop-number.invariant
+
+pub returns-then-has_risk : goal.returns-then-has_risk
+returns-then-has_risk c = (
+  λ yes. shown c.args.site.now c.args.class c.args.input c.may_at-may.result c.loop-number.number c.args.risk c.may_at-may.ensures
+      (c.has_risk.ensures.0 c.if-has_risk.true),
+  λ h. refl,
+)
+
+pub returns : goal.returns
+returns c = (
+  λ no. absurd (false≢true no),
+  λ h. absurd (safe_all c.args.site.now c.args.class c.args.input c.may_at-may.result c.args.risk c.loop-number.number c.may_at-may.ensures
+      c.may_at-may.type_inv c.loop-number-test.false c.loop-number.invariant h),
+)

@@ -1,0 +1,5 @@
+use Rattle.sy_checker.proofs.Risky.{IsSafeBelow}
+use Rattle.sy_checker.proofs.kinds.may_risk.Given as goal
+
+abbrev pub invariant-loop-number : goal.invariant-loop-number
+invariant-loop-number l = IsSafeBelow l.site l.input l.may l.risk l.number

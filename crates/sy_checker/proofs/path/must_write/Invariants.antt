@@ -1,0 +1,5 @@
+use Rattle.sy_checker.proofs.Paths.{IsNotWritten}
+use Rattle.sy_checker.proofs.path.must_write.Given as goal
+
+abbrev pub invariant-loop-number : goal.invariant-loop-number
+invariant-loop-number l = IsNotWritten l.site l.fn.class l.archive l.input l.number

@@ -1,0 +1,30 @@
+use Rattle.std.proofs.Common.{subst}
+use Rattle.std.specs.Prelude.{Contains}
+use Rattle.sy_checker.proofs.Comparing.{input_there}
+use Rattle.sy_checker.proofs.Meant.{end_there, entry_there, rank_there}
+use Rattle.sy_checker.proofs.There.{relay_there}
+use Rattle.sy_checker.proofs.rows.is_right.Goals as goal
+
+pub is_reach_row-requires : goal.is_reach_row-requires
+is_reach_row-requires c =
+    let it = input_there c.args.site.now c.args.class c.args.part.now c.requires.wanted c.is_lawful.ensures c.args.is c.requires.member c.in-Reach.input
+    c.in-Reach.is in
+    record { there = it; relay = relay_there c.args.site.now c.in-Reach.input it }
+
+pub is_rank_row-requires : goal.is_rank_row-requires
+is_rank_row-requires c = record {
+  wanted = c.requires.wanted;
+  relay = rank_there c.args.site.now c.is_lawful.ensures c.args.class c.args.part.now c.requires.wanted c.in-Rank.of
+      (subst (Contains c.args.part.now) c.in-Rank.is c.requires.member);
+}
+
+pub is_path_row-requires : goal.is_path_row-requires
+is_path_row-requires c =
+    let member = subst (Contains c.args.part.now) c.in-Path.is c.requires.member in
+    let it = entry_there c.args.site.now c.is_lawful.ensures c.args.class c.args.part.now c.requires.wanted c.in-Path.entry c.in-Path.archive member in
+    record {
+      there = it;
+      relay = relay_there c.args.site.now c.in-Path.entry it;
+      archive = end_there c.args.site.now c.is_lawful.ensures c.args.class c.args.part.now c.requires.wanted
+          (c.archives_are_those_named.ensures.named c.args.site.now c.args.class) c.in-Path.entry c.in-Path.archive member;
+    }

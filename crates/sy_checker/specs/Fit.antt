@@ -1,0 +1,191 @@
+-- When a certificate is fit for a site: its rows are the wanted ones, in their order, and each of them holds. For each protected class, by rising
+-- number, these are wanted: the class, each input that it reaches, each relay with such an input, and the way from each entry to each archive that
+-- is named for the class. The certificate is this profile's own.
+use Rattle.std.specs.Prelude.{◌≡◌, ℕ, ◌<◌, ◌+◌, ◌*◌, ◌↔◌, ◌⊎◌, AllPairs, Contains, List, [], ◌∷◌, ◌++◌, Option, Some, None, drop, flat_map, length, map, slice_get, true}
+use Rattle.sy_wire.specs.declared.class.Class.{Class}
+use Rattle.sy_cert.specs.declared.row.Row.{Row}
+use Rattle.sy_cert.specs.declared.row.Row.TheVariants as row
+use Rattle.sy_rules.specs.declared.lists.occurrence.Occurrence.TheVariants as occurrence
+use Rattle.sy_rules.specs.declared.parts.Action.{Action}
+use Rattle.sy_board.specs.relay.Plans.{input_at}
+use Rattle.sy_site.specs.declared.site.SiteAction.{SiteAction}
+use Rattle.sy_site.specs.declared.site.SiteInput.{SiteInput}
+use Rattle.sy_site.specs.Sites.{Relay, Site, archives, is_protected, plan_at}
+use Rattle.sy_site.specs.machine.Findings.{HoldsAt, Kind}
+use Rattle.sy_site.specs.machine.Reach.{Forwards, MayAt, MustAt, Reach, action_of, occurrence_of}
+use Rattle.sy_checker.specs.declared.wanted.RowKind.{RowKind}
+use Rattle.sy_checker.specs.declared.wanted.RowKind.TheVariants as kinds
+use Rattle.sy_checker.specs.declared.wanted.Wanted.{Wanted}
+use Rattle.sy_checker.specs.declared.wanted.Wanted.TheVariants as wanted
+
+-- ---- what is wanted
+
+-- all of these, and nothing else, each before the later ones
+pub record ListsAll {A : Type 0} (P : A → Type 0) (IsBefore : A → A → Type 0) (xs : List A) : Type 0 where
+  pub member : (x : A) → Contains xs x ↔ P x
+  pub ordered : AllPairs IsBefore xs
+
+-- relays in the order of the site, inputs in that of the plan
+abbrev pub StandsBefore : SiteInput → SiteInput → Type 0
+StandsBefore a b = (a.relay < b.relay) ⊎ ((a.relay ≡ b.relay) × (a.input < b.input))
+
+-- some input of the relay is reached
+abbrev pub IsReached : Site → Class → ℕ → Type 0
+IsReached site class relay = (input : ℕ) × Reach site class (record { relay = relay; input = input })
+
+-- a way from each entry to each archive, both in the order of the file
+abbrev pub paths : Site → Class → List Wanted
+paths site class = flat_map (λ entry. map (λ archive. wanted.Path entry archive) (archives site class)) site.entries
+
+-- the wanted rows of a class
+pub record AreWanted (site : Site) (class : Class) (part : List Wanted) : Type 0 where
+  pub inputs : List SiteInput
+  pub inputs_reached : ListsAll (Reach site class) StandsBefore inputs
+  pub relays : List ℕ
+  pub relays_reached : ListsAll (IsReached site class) ◌<◌ relays
+  pub whole : part ≡ wanted.Class class ∷ (map wanted.Reach inputs ++ (map wanted.Rank relays ++ paths site class))
+
+-- ---- what the rows name
+
+abbrev pub name_in : Option Relay → List ℕ
+name_in None = []
+name_in (Some relay) = relay.name
+
+-- the name of a relay
+abbrev pub name_of : Site → ℕ → List ℕ
+name_of site relay = name_in (slice_get site.relays relay)
+
+abbrev pub port_of : Site → SiteInput → ℕ
+port_of site input = (input_at (plan_at site input.relay) input.input).port
+
+abbrev pub name_of_action : Option Action → List ℕ
+name_of_action None = []
+name_of_action (Some action) = action.name
+
+abbrev pub action_name : Site → SiteAction → List ℕ
+action_name site action = name_of_action (slice_get (plan_at site action.relay).actions action.action)
+
+-- ---- what holds of a row
+
+-- none of the kinds 1 to 7 is found at the input
+abbrev pub IsClean : Site → Class → SiteInput → Type 0
+IsClean site class input = (kind : Kind) → HoldsAt site class input kind → ⊥
+
+-- The rank row of a relay stands where it is wanted, with this rank.
+pub record HasRank (site : Site) (part : List Wanted) (rows : List Row) (relay rank : ℕ) : Type 0 where
+  pub place : ℕ
+  pub is_wanted : slice_get part place ≡ Some (wanted.Rank relay)
+  pub stands : slice_get rows place ≡ Some (row.Rank (name_of site relay) rank)
+
+-- The rank is above that of each relay that its forwards lead to which may be executed, at reached inputs. A relay whose row doesn't stand where it
+-- is wanted isn't compared.
+abbrev pub IsAbove : Site → Class → List Wanted → List Row → ℕ → ℕ → Type 0
+IsAbove site class part rows relay rank = (from to : SiteInput) (number below : ℕ) → from.relay ≡ relay → Reach site class from
+    → MayAt site class from number → Forwards site from number to → HasRank site part rows to.relay below → below < rank
+
+-- an occurrence of the archive must be executed at the input
+pub record MustWrite (site : Site) (class : Class) (archive : SiteAction) (input : SiteInput) : Type 0 where
+  pub number : ℕ
+  pub must : MustAt site class input number
+  pub action : ℕ
+  pub runs : occurrence_of site input number ≡ Some (occurrence.Run action)
+  pub writes : action_of input action ≡ archive
+
+-- Each occurrence is a forward that must be executed at its input, to the input of the next; the archive must be written at the last.
+abbrev pub IsPath : Site → Class → SiteAction → SiteInput → List ℕ → Type 0
+IsPath site class archive input [] = MustWrite site class archive input
+IsPath site class archive input (number ∷ later) =
+    MustAt site class input number × (to : SiteInput) × Forwards site input number to × IsPath site class archive to later
+
+abbrev pub IsClassRow : Class → Row → Type 0
+IsClassRow class (row.Class given) = given ≡ class
+IsClassRow class _ = ⊥
+
+abbrev pub IsReachRow : Site → Class → SiteInput → Row → Type 0
+IsReachRow site class input (row.Reach relay port) = (relay ≡ name_of site input.relay) × (port ≡ port_of site input) × IsClean site class input
+IsReachRow site class input _ = ⊥
+
+abbrev pub IsRankRow : Site → Class → List Wanted → List Row → ℕ → Row → Type 0
+IsRankRow site class part rows of (row.Rank relay rank) = (relay ≡ name_of site of) × IsAbove site class part rows of rank
+IsRankRow site class part rows of _ = ⊥
+
+abbrev pub IsPathRow : Site → Class → SiteInput → SiteAction → Row → Type 0
+IsPathRow site class entry archive (row.Path relay port archive_relay action occurrences) =
+    (relay ≡ name_of site entry.relay) × (port ≡ port_of site entry) × (archive_relay ≡ name_of site archive.relay)
+    × (action ≡ action_name site archive) × IsPath site class archive entry occurrences
+IsPathRow site class entry archive _ = ⊥
+
+-- A row is the wanted one, and holds.
+abbrev pub IsRight : Site → Class → List Wanted → List Row → Wanted → Row → Type 0
+IsRight site class part rows (wanted.Class c) r = IsClassRow c r
+IsRight site class part rows (wanted.Reach input) r = IsReachRow site class input r
+IsRight site class part rows (wanted.Rank of) r = IsRankRow site class part rows of r
+IsRight site class part rows (wanted.Path entry archive) r = IsPathRow site class entry archive r
+
+-- ---- fit
+
+-- at this place of the rows stands the wanted one, and it holds
+pub record IsRightAt (site : Site) (class : Class) (part : List Wanted) (rows : List Row) (place : ℕ) (is : Wanted) : Type 0 where
+  pub stands : Row
+  pub there : slice_get rows place ≡ Some stands
+  pub right : IsRight site class part rows is stands
+
+abbrev pub AreRight : Site → Class → List Wanted → List Row → Type 0
+AreRight site class part rows = (place : ℕ) (is : Wanted) → slice_get part place ≡ Some is → IsRightAt site class part rows place is
+
+-- the rows are those that are wanted for these classes
+abbrev pub AreFit : Site → List Class → List Row → Type 0
+AreFit site [] rows = rows ≡ []
+AreFit site (class ∷ classes) rows = (part : List Wanted) × AreWanted site class part × AreRight site class part rows
+    × AreFit site classes (drop (length part) rows)
+
+abbrev pub number_of : Class → ℕ
+number_of class = 8 * class.facility + class.severity
+
+-- the protected classes, by rising number
+abbrev pub AreProtected : Site → List Class → Type 0
+AreProtected site classes = ListsAll (λ class. is_protected site class ≡ true) (λ a b. number_of a < number_of b) classes
+
+pub record IsFit (site : Site) (rows : List Row) : Type 0 where
+  pub classes : List Class
+  pub protected : AreProtected site classes
+  pub fit : AreFit site classes rows
+
+-- ---- the first row that isn't right
+
+abbrev pub wanted_kind : Wanted → RowKind
+wanted_kind (wanted.Class class) = kinds.Class
+wanted_kind (wanted.Reach input) = kinds.Reach
+wanted_kind (wanted.Rank relay) = kinds.Rank
+wanted_kind (wanted.Path entry archive) = kinds.Path
+
+abbrev pub row_kind : Row → RowKind
+row_kind (row.Class class) = kinds.Class
+row_kind (row.Reach relay port) = kinds.Reach
+row_kind (row.Rank relay rank) = kinds.Rank
+row_kind (row.Path relay port archive_relay action occurrences) = kinds.Path
+
+-- At this place the wanted row doesn't stand, or doesn't hold, and each before is right.
+pub record IsWrongAt (site : Site) (class : Class) (part : List Wanted) (rows : List Row) (place : ℕ) (kind : RowKind) : Type 0 where
+  pub is : Wanted
+  pub is_wanted : slice_get part place ≡ Some is
+  pub kind_is : kind ≡ wanted_kind is
+  pub wrong : IsRightAt site class part rows place is → ⊥
+  pub before : (earlier : ℕ) (other : Wanted) → earlier < place → slice_get part earlier ≡ Some other
+      → IsRightAt site class part rows earlier other
+
+-- The first wrong row is at this place, and is of this kind: the kind wanted there, or the row's own where none is wanted.
+abbrev pub AreWrong : Site → List Class → List Row → ℕ → RowKind → Type 0
+AreWrong site [] [] place kind = ⊥
+AreWrong site [] (r ∷ rows) place kind = (place ≡ 0) × (kind ≡ row_kind r)
+AreWrong site (class ∷ classes) rows place kind = (part : List Wanted) × AreWanted site class part
+    × (IsWrongAt site class part rows place kind
+    ⊎ (AreRight site class part rows × (later : ℕ) × (place ≡ length part + later) × AreWrong site classes (drop (length part) rows) later kind))
+
+-- The line of the first wrong row, one past the last where rows are missing. The first line is `cert 1`.
+pub record IsWrongIn (site : Site) (rows : List Row) (line : ℕ) (kind : RowKind) : Type 0 where
+  pub classes : List Class
+  pub protected : AreProtected site classes
+  pub place : ℕ
+  pub wrong : AreWrong site classes rows place kind
+  pub line_is : line ≡ place + 2

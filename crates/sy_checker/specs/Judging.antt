@@ -1,0 +1,16 @@
+-- What the private functions say that judge a row.
+use Rattle.std.specs.Prelude.{◌≡◌, ℕ, List}
+use Rattle.sy_wire.specs.declared.class.Class.{Class}
+use Rattle.sy_site.specs.declared.site.SiteAction.{SiteAction}
+use Rattle.sy_site.specs.declared.site.SiteInput.{SiteInput}
+use Rattle.sy_site.specs.Sites.{Site}
+use Rattle.sy_checker.specs.Fit.{IsClean, action_name, name_of, port_of}
+
+-- a reach row names the input, which is clean
+abbrev pub IsReach : Site → Class → SiteInput → List ℕ → ℕ → Type 0
+IsReach site class input relay port = (relay ≡ name_of site input.relay) × (port ≡ port_of site input) × IsClean site class input
+
+-- a path row names the entry and the archive
+abbrev pub NamesPath : Site → SiteInput → SiteAction → List ℕ → ℕ → List ℕ → List ℕ → Type 0
+NamesPath site entry archive relay port archive_relay action = (relay ≡ name_of site entry.relay) × (port ≡ port_of site entry)
+    × (archive_relay ≡ name_of site archive.relay) × (action ≡ action_name site archive)

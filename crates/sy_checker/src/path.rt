@@ -1,0 +1,84 @@
+//! Paths: occurrences that must be executed, from an entry to an archive.
+
+ghost use Rattle.std.specs.Prelude.{◌<◌, Decides};
+ghost use Rattle.sy_site.specs.machine.Lawful.{IsInput};
+ghost use Rattle.sy_checker.specs.Fit.{IsPath, MustWrite};
+ghost use Rattle.sy_checker.specs.Internal as spec;
+
+use crate::inputs::{forward_at, has, must_at, occurrences_at};
+use sy_rules::Occurrence;
+use sy_site::{Site, SiteAction, SiteInput};
+use sy_wire::Class;
+
+// Whether an occurrence of the input's list runs this action of the relay.
+fn runs(site: &Site, input: SiteInput, number: u32, archive: SiteAction) -> bool
+    requires there { IsInput site.now input }
+    ensures { Decides result (spec.Writes site.now input number archive) }
+{
+    match occurrences_at(site, input).get(number as usize) {
+        Some(Occurrence::Run(action)) => {
+            input.relay == archive.relay && *action == archive.action
+        }
+        Some(Occurrence::Post(_)) | None => false,
+    }
+}
+
+// Whether an occurrence of a set does.
+fn writes(site: &Site, input: SiteInput, set: u64, number: u32, archive: SiteAction) -> bool
+    requires there { IsInput site.now input }
+    requires small { number < 64 }
+    ensures { Decides result (spec.WritesBy site.now input set number archive) }
+{
+    has(set, number) && runs(site, input, number, archive)
+}
+
+// Whether an occurrence of the archive must be executed at the input.
+fn must_write(site: &Site, class: Class, archive: SiteAction, input: SiteInput) -> bool
+    requires there { IsInput site.now input }
+    ensures { Decides result (MustWrite site.now class archive input) }
+{
+    let must = must_at(site, class, input);
+    for number in 0..64 {
+        if writes(site, input, must, number, archive) {
+            return true;
+        }
+    }
+    false
+}
+
+// The input that an occurrence leads to, where it is a forward that must be executed.
+fn must_forward(site: &Site, class: Class, input: SiteInput, number: u32) -> Option<SiteInput>
+    requires there { IsInput site.now input }
+    ensures { spec.IsMustForward site.now class input number result }
+{
+    let must = must_at(site, class, input);
+    if number >= 64 {
+        return None;
+    }
+    if !has(must, number) {
+        return None;
+    }
+    forward_at(site, input, number)
+}
+
+/// Whether occurrences are a path from an input to an archive: each is a forward that must be executed, and the archive
+/// must be written at the last input.
+pub fn is_path(
+    site: &Site,
+    class: Class,
+    archive: SiteAction,
+    from: SiteInput,
+    occurrences: &[u8],
+) -> bool
+    requires there { IsInput site.now from }
+    ensures { Decides result (IsPath site.now class archive from occurrences.now) }
+{
+    let mut input = from;
+    for number in occurrences {
+        match must_forward(site, class, input, *number as u32) {
+            Some(to) => input = to,
+            None => return false,
+        }
+    }
+    must_write(site, class, archive, input)
+}

@@ -1,0 +1,187 @@
+//! Ranks: whether that of a relay is above those of the relays that it forwards messages of a class to.
+
+ghost use Rattle.std.specs.Prelude.{◌≡◌, ◌<◌, Decides, length, slice_get};
+ghost use Rattle.std.specs.Str.{bytes_eq};
+ghost use Rattle.sy_site.specs.machine.Lawful.{IsInput};
+ghost use Rattle.sy_checker.specs.Fit.{AreWanted, IsAbove, name_of};
+ghost use Rattle.sy_checker.specs.Ranked as spec;
+
+use crate::inputs::{forward_at, has, may_at};
+use crate::wanted::Wanted;
+use sy_cert::Row;
+use sy_site::{Site, SiteInput};
+use sy_wire::Class;
+
+/// Whether a relay has this name.
+pub fn is_name(site: &Site, relay: u32, name: &[u8]) -> bool
+    requires there { relay < length site.now.relays }
+    ensures { result ≡ bytes_eq name.now (name_of site.now relay) }
+{
+    name == site.name(relay)
+}
+
+// The rank that a row gives a relay.
+fn rank_in(site: &Site, row: &Row, relay: u32) -> Option<u32>
+    requires there { relay < length site.now.relays }
+    ensures { result ≡ spec.rank_in site.now relay row.now }
+{
+    match row {
+        Row::Rank { relay: name, rank } => {
+            if is_name(site, relay, name.as_slice()) {
+                Some(*rank)
+            } else {
+                None
+            }
+        }
+        Row::Class(_) | Row::Reach { .. } | Row::Path { .. } => None,
+    }
+}
+
+fn is_rank_of(is: Wanted, relay: u32) -> bool
+    ensures { result ≡ spec.is_rank_of relay is }
+{
+    match is {
+        Wanted::Rank(of) => of == relay,
+        Wanted::Class(_) | Wanted::Reach(_) | Wanted::Path(_, _) => false,
+    }
+}
+
+// The rank that the row at a place gives a relay, where its rank row is wanted there.
+fn rank_at(site: &Site, part: &[Wanted], rows: &[Row], place: usize, relay: u32) -> Option<u32>
+    requires there { relay < length site.now.relays }
+    ensures { result ≡ spec.rank_at site.now relay (slice_get part.now place) (slice_get rows.now place) }
+{
+    match part.get(place) {
+        Some(is) => {
+            if !is_rank_of(*is, relay) {
+                return None;
+            }
+            match rows.get(place) {
+                Some(row) => rank_in(site, row, relay),
+                None => None,
+            }
+        }
+        None => None,
+    }
+}
+
+// Whether it is below a rank, where it stands there.
+fn is_below_at(
+    site: &Site,
+    part: &[Wanted],
+    rows: &[Row],
+    place: usize,
+    relay: u32,
+    rank: u32,
+) -> bool
+    requires there { relay < length site.now.relays }
+    ensures { Decides result (spec.IsBelowAt site.now part.now rows.now relay rank place) }
+{
+    match rank_at(site, part, rows, place, relay) {
+        Some(below) => below < rank,
+        None => true,
+    }
+}
+
+// Whether the rank of a relay is below a rank, where its row stands.
+fn is_below(site: &Site, part: &[Wanted], rows: &[Row], relay: u32, rank: u32) -> bool
+    requires there { relay < length site.now.relays }
+    ensures { Decides result (spec.IsBelow site.now part.now rows.now relay rank) }
+{
+    for place in 0..part.len() {
+        if !is_below_at(site, part, rows, place, relay, rank) {
+            return false;
+        }
+    }
+    true
+}
+
+// Whether what an occurrence of a set leads to has a rank below.
+fn leads_below(
+    site: &Site,
+    from: SiteInput,
+    set: u64,
+    number: u32,
+    part: &[Wanted],
+    rows: &[Row],
+    rank: u32,
+) -> bool
+    requires there { IsInput site.now from }
+    requires small { number < 64 }
+    ensures { Decides result (spec.LeadsBelow site.now part.now rows.now from rank set number) }
+{
+    if !has(set, number) {
+        return true;
+    }
+    match forward_at(site, from, number) {
+        Some(to) => is_below(site, part, rows, to.relay, rank),
+        None => true,
+    }
+}
+
+// Whether all that is forwarded from an input goes to relays of ranks below.
+fn falls_from(
+    site: &Site,
+    class: Class,
+    from: SiteInput,
+    part: &[Wanted],
+    rows: &[Row],
+    rank: u32,
+) -> bool
+    requires there { IsInput site.now from }
+    ensures { Decides result (spec.FallsFrom site.now class part.now rows.now rank from) }
+{
+    let may = may_at(site, class, from);
+    for number in 0..64 {
+        if !leads_below(site, from, may, number, part, rows, rank) {
+            return false;
+        }
+    }
+    true
+}
+
+// The same of the input of a wanted row, where it is one of this relay.
+fn falls_at(
+    site: &Site,
+    class: Class,
+    is: Wanted,
+    part: &[Wanted],
+    rows: &[Row],
+    relay: u32,
+    rank: u32,
+) -> bool
+    requires there { spec.IsInputThere site.now is }
+    ensures { Decides result (spec.FallsAt site.now class part.now rows.now relay rank is) }
+{
+    match is {
+        Wanted::Reach(from) => {
+            if from.relay != relay {
+                return true;
+            }
+            falls_from(site, class, from, part, rows, rank)
+        }
+        Wanted::Class(_) | Wanted::Rank(_) | Wanted::Path(_, _) => true,
+    }
+}
+
+/// Whether a rank of a relay is above that of each relay which the forwards of its reached inputs lead to that may be
+/// executed. A relay whose rank row doesn't stand where it is wanted isn't compared.
+pub fn is_above(
+    site: &Site,
+    class: Class,
+    part: &[Wanted],
+    rows: &[Row],
+    relay: u32,
+    rank: u32,
+) -> bool
+    requires wanted { AreWanted site.now class part.now }
+    ensures { Decides result (IsAbove site.now class part.now rows.now relay rank) }
+{
+    site.is_lawful();
+    for is in part {
+        if !falls_at(site, class, *is, part, rows, relay, rank) {
+            return false;
+        }
+    }
+    true
+}
