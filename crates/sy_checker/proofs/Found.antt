@@ -6,7 +6,7 @@ use Rattle.std.specs.Int.{bit_at}
 use Rattle.std.specs.List.{list_any}
 use Rattle.std.proofs.lemmas.Bool.{cases_eq, cases_lt, false≢true}
 use Rattle.std.proofs.lemmas.Cmp.{nat_eq_equiv}
-use Rattle.std.proofs.lemmas.List.{take_all, take_more}
+use Rattle.std.proofs.lemmas.List.{take_more}
 use Rattle.std.proofs.lemmas.List.Elements.{Contains-append_left, Contains-push, Contains-push_cases}
 use Rattle.std.proofs.lemmas.Map.Keys.{IsDistinct-push}
 use Rattle.std.proofs.lemmas.Map.Views.{Contains-from_any, list_any-from_Contains}
@@ -17,8 +17,10 @@ use Rattle.sy_rules.specs.declared.lists.occurrence.Occurrence.TheVariants as oc
 use Rattle.sy_rules.specs.lists.Sets.{Bits}
 use Rattle.sy_site.specs.declared.site.SiteInput.{SiteInput}
 use Rattle.sy_site.specs.Sites.{Site}
-use Rattle.sy_site.specs.machine.Reach.{Forwards, MayAt, occurrence_of}
-use Rattle.sy_checker.specs.Internal.{Adds, LeadsBy, LeadsOn, forward_in, forward_of, same_input}
+use Rattle.sy_site.specs.machine.Reach.{Forwards, occurrence_of}
+use Rattle.sy_checker.specs.declared.executed.Executed.{Executed}
+use Rattle.sy_checker.specs.Internal.{Adds, LeadsBy, forward_in, forward_of, same_input}
+use Rattle.sy_checker.specs.Search.{ExecutedAt, LeadsOn}
 
 -- ---- inputs are the same by their numbers
 
@@ -140,16 +142,6 @@ one_more xs k d old mid new low first second =
     (λ y there. subst (λ l. Contains l y) (sym split) (Contains-append_left (take k xs) (x ∷ []) y there))
     (λ y e. subst (λ l. Contains l y) (sym split) (subst (Contains (take k xs ++ x ∷ [])) (sym e) (Contains-push (take k xs) x)))
 
--- where the same list goes by another name
-pub one_more_of : (xs ys : List SiteInput) → ys ≡ xs → (k : ℕ) (d : SiteInput) (old mid new : List SiteInput) → k < length ys
-    → Adds (Contains (take k xs)) old mid → Adds (λ y. y ≡ get_or ys k d) mid new → Adds (Contains (take (k + 1) xs)) old new
-one_more_of xs ys same k d old mid new low first second =
-    one_more xs k d old mid new (subst (λ l. k < length l) same low) first (subst (λ l. Adds (λ y. y ≡ get_or l k d) mid new) same second)
-
-pub all_of : (xs : List SiteInput) (k : ℕ) (old new : List SiteInput) → length xs ≤ k → Adds (Contains (take k xs)) old new
-    → Adds (Contains xs) old new
-all_of xs k old new most a = subst (λ l. Adds (Contains l) old new) (take_all k xs most) a
-
 -- ---- what the occurrences of a set lead to
 
 -- of those below a number
@@ -181,17 +173,17 @@ more_leads site set from n old mid new first second =
     (λ x leads. let low = leads.below in record { number = leads.number; below = omega (arith, low); leads = leads.leads })
     (λ x leads. record { number = n; below = omega arith; leads = leads })
 
--- all that may be executed are below 64
-pub all_leads : (site : Site) (class : Class) (set : ℕ) (from : SiteInput) (n : ℕ) (old new : List SiteInput) → set < 2 ^ 64 → 64 ≤ n
-    → Bits (MayAt site class from) set → Adds (LeadsBelow site set from n) old new → Adds (LeadsOn site class from) old new
-all_leads site class set from n old new fits most may added =
-    added_as (LeadsBelow site set from n) (LeadsOn site class from) old new added
-    (λ x on. let bit = (may on.number).1 on.may in record {
+-- all that are executed are below 64
+pub all_leads : (site : Site) (class : Class) (which : Executed) (set : ℕ) (from : SiteInput) (n : ℕ) (old new : List SiteInput) → set < 2 ^ 64
+    → 64 ≤ n → Bits (ExecutedAt site class which from) set → Adds (LeadsBelow site set from n) old new → Adds (LeadsOn site class which from) old new
+all_leads site class which set from n old new fits most bits added =
+    added_as (LeadsBelow site set from n) (LeadsOn site class which from) old new added
+    (λ x on. let bit = (bits on.number).1 on.done in record {
       number = on.number;
       below = below_all on.number bit (cases_lt on.number 64);
       leads = record { member = bit; goes = on.goes };
     })
-    (λ x leads. record { number = leads.number; may = (may leads.number).0 leads.leads.member; goes = leads.leads.goes })
+    (λ x leads. record { number = leads.number; done = (bits leads.number).0 leads.leads.member; goes = leads.leads.goes })
   where
     below_all : (k : ℕ) → bit_at set k ≡ 1 → (k < 64) ⊎ (64 ≤ k) → k < n
     below_all k bit (inl low) = omega (arith, low, most)

@@ -12,3 +12,13 @@ pub mod Comparing
 pub mod Judged
 pub mod Meant
 pub mod Numbered
+pub mod Verified
+pub mod Guarded
+pub mod Uniqueness
+pub mod Ways
+pub mod RowsMade
+pub mod PartsJoined
+pub mod Trails
+pub mod Ranking
+pub mod Heights
+pub mod Visited

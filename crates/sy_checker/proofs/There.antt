@@ -53,7 +53,7 @@ forward_there site from number to goes = target_there site (slice_get (plan_at s
 
 -- ---- reached inputs
 
-entry_there : (site : Site) → IsLawful site → (input : SiteInput) → Contains site.entries input → IsInput site input
+pub entry_there : (site : Site) → IsLawful site → (input : SiteInput) → Contains site.entries input → IsInput site input
 entry_there site law input (k, low, is) = subst (IsInput site) is (law.entries k input low)
 
 pub reach_there : (site : Site) → IsLawful site → (class : Class) (input : SiteInput) → Reach site class input → IsInput site input

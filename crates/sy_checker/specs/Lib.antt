@@ -3,3 +3,10 @@ pub mod Internal
 pub mod Risks
 pub mod Ranked
 pub mod Judging
+pub mod Acceptance
+pub mod Verifying
+pub mod Search
+pub mod Finding
+pub mod Answer
+pub mod Made
+pub mod Loops

@@ -1,6 +1,6 @@
 //! What holds of fit certificates. Each function does nothing; its contract is the law.
 
-ghost use Rattle.std.specs.Prelude.{List};
+ghost use Rattle.std.specs.Prelude.{◌≡◌, ℕ, List};
 ghost use Rattle.sy_cert.specs.declared.row.Row.{Row};
 ghost use Rattle.sy_site.specs.Sites.{Site};
 ghost use Rattle.sy_site.specs.machine.Lawful.{IsLawful};
@@ -8,7 +8,10 @@ ghost use Rattle.sy_site.specs.machine.Safety.{AreSafe};
 ghost use Rattle.sy_site.specs.machine.Soundness.{IsSound};
 ghost use Rattle.sy_site.specs.machine.States.{SiteState};
 ghost use Rattle.sy_site.specs.machine.Steps.{Runs, SiteEvent};
-ghost use Rattle.sy_checker.specs.Fit.{IsFit};
+ghost use Rattle.sy_wire.specs.declared.class.Class.{Class};
+ghost use Rattle.sy_checker.specs.Fit.{AreWanted, IsFit, IsWrongIn};
+ghost use Rattle.sy_checker.specs.declared.wanted.RowKind.{RowKind};
+ghost use Rattle.sy_checker.specs.declared.wanted.Wanted.{Wanted};
 
 use sy_site::machine::sound_sites_are_safe;
 
@@ -27,3 +30,21 @@ pub fn fit_is_safe()
     fit_is_sound();
     sound_sites_are_safe()
 }
+
+/// One list of rows is wanted for a class of a site.
+pub fn one_wanted()
+    ensures { (site : Site) (class : Class) (first second : List Wanted) → AreWanted site class first
+        → AreWanted site class second → first ≡ second }
+{}
+
+/// No row of a fit certificate is wrong: so a certificate is fit, or its first wrong row is in some line, and never both.
+pub fn fit_is_not_wrong()
+    ensures { (site : Site) (rows : List Row) (line : ℕ) (kind : RowKind) → IsFit site rows
+        → IsWrongIn site rows line kind → ⊥ }
+{}
+
+/// The first wrong row stands in one line at most, and is of one kind.
+pub fn one_wrong_row()
+    ensures { (site : Site) (rows : List Row) (line other : ℕ) (kind another : RowKind) → IsWrongIn site rows line kind
+        → IsWrongIn site rows other another → (line ≡ other) × (kind ≡ another) }
+{}

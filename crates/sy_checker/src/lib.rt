@@ -1,14 +1,30 @@
 //! The checker: whether a site keeps each message of its protected classes, shown by a certificate.
 #![tactic(auto)]
 
+pub mod accepted;
 mod classes;
+mod executed;
+pub mod finding;
+mod height;
 mod inputs;
 mod kinds;
 pub mod laws;
+mod lead;
+mod looped;
+mod loops;
+mod making;
 mod order;
 mod part;
 mod path;
 mod ranks;
 mod reach;
 mod rows;
+mod search;
+mod unmet;
+pub mod verifying;
 mod wanted;
+mod way;
+
+pub use accepted::Accepted;
+pub use verifying::{CertFault, verify};
+pub use wanted::RowKind;

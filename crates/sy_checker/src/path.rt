@@ -32,8 +32,8 @@ fn writes(site: &Site, input: SiteInput, set: u64, number: u32, archive: SiteAct
     has(set, number) && runs(site, input, number, archive)
 }
 
-// Whether an occurrence of the archive must be executed at the input.
-fn must_write(site: &Site, class: Class, archive: SiteAction, input: SiteInput) -> bool
+/// Whether an occurrence of the archive must be executed at the input.
+pub fn must_write(site: &Site, class: Class, archive: SiteAction, input: SiteInput) -> bool
     requires there { IsInput site.now input }
     ensures { Decides result (MustWrite site.now class archive input) }
 {

@@ -1,13 +1,15 @@
-//! The inputs that messages of a class reach.
+//! The inputs that are found by following occurrences, and those that messages of a class reach.
 
 ghost use Rattle.std.specs.Prelude.{◌≡◌, ◌<◌, ◌↔◌, Contains, IfOk, OnOk};
 ghost use Rattle.std.specs.List.{list_any};
 ghost use Rattle.sy_site.specs.declared.site.SiteInput.{SiteInput as AnyInput};
 ghost use Rattle.sy_site.specs.machine.Lawful.{IsInput};
 ghost use Rattle.sy_site.specs.machine.Reach.{Reach};
-ghost use Rattle.sy_checker.specs.Internal.{Adds, LeadsBy, LeadsOn, same_input};
+ghost use Rattle.sy_checker.specs.Internal.{Adds, LeadsBy, same_input};
+ghost use Rattle.sy_checker.specs.Search.{IsSpread, LeadsOn};
 
-use crate::inputs::{forward_at, has, may_at};
+use crate::executed::{Executed, executed_at};
+use crate::inputs::{forward_at, has};
 use std::alloc::{AllocError, Global};
 use sy_site::{Site, SiteInput};
 use sy_wire::Class;
@@ -32,11 +34,11 @@ fn add(found: &mut Vec<SiteInput>, input: SiteInput) -> Result<(), AllocError>
     Ok(())
 }
 
-fn add_entries(site: &Site, found: &mut Vec<SiteInput>) -> Result<(), AllocError>
-    ensures { OnOk result (Adds (Contains site.now.entries) found.old.items found.new.items) }
+fn add_all(start: &[SiteInput], found: &mut Vec<SiteInput>) -> Result<(), AllocError>
+    ensures { OnOk result (Adds (Contains start.now) found.old.items found.new.items) }
 {
-    for entry in site.entries() {
-        add(found, *entry)?;
+    for input in start {
+        add(found, *input)?;
     }
     Ok(())
 }
@@ -62,21 +64,46 @@ fn add_target(
     }
 }
 
-// Puts what the forwards at an input lead to that may be executed.
+// Puts what the forwards at an input lead to that are followed.
 fn add_targets(
     site: &Site,
     class: Class,
+    which: Executed,
     from: SiteInput,
     found: &mut Vec<SiteInput>,
 ) -> Result<(), AllocError>
     requires there { IsInput site.now from }
-    ensures { OnOk result (Adds (LeadsOn site.now class from) found.old.items found.new.items) }
+    ensures { OnOk result (Adds (LeadsOn site.now class which from) found.old.items found.new.items) }
 {
-    let may = may_at(site, class, from);
+    let set = executed_at(site, class, which, from);
     for number in 0..64 {
-        add_target(site, from, may, number, found)?;
+        add_target(site, from, set, number, found)?;
     }
     Ok(())
+}
+
+/// The inputs that are found from some by following forwards, in the order in which they are found: what was found
+/// earlier is followed earlier, and by rising occurrences.
+pub fn spread(
+    alloc: Global,
+    site: &Site,
+    class: Class,
+    which: Executed,
+    start: &[SiteInput],
+) -> Result<Vec<SiteInput>, AllocError>
+    requires there { (x : AnyInput) → Contains start.now x → IsInput site.now x }
+    ensures { IfOk result (λ found. IsSpread site.now class which start.now found.items) }
+{
+    site.is_lawful();
+    let mut found = Vec::new(alloc);
+    add_all(start, &mut found)?;
+    let mut done = 0;
+    while done < found.len() {
+        let from = found[done];
+        add_targets(site, class, which, from, &mut found)?;
+        done += 1;
+    }
+    Ok(found)
 }
 
 /// The inputs that messages of a class reach, in the order in which they are found.
@@ -84,13 +111,5 @@ pub fn reached(alloc: Global, site: &Site, class: Class) -> Result<Vec<SiteInput
     ensures { IfOk result (λ found. (x : AnyInput) → Contains found.items x ↔ Reach site.now class x) }
 {
     site.is_lawful();
-    let mut found = Vec::new(alloc);
-    add_entries(site, &mut found)?;
-    let mut done = 0;
-    while done < found.len() {
-        let from = found[done];
-        add_targets(site, class, from, &mut found)?;
-        done += 1;
-    }
-    Ok(found)
+    spread(alloc, site, class, Executed::May, site.entries())
 }

@@ -5,6 +5,7 @@ ghost use Rattle.std.specs.List.{list_any};
 ghost use Rattle.sy_site.specs.Sites as sites;
 ghost use Rattle.sy_checker.specs.Fit.{AreWanted};
 ghost use Rattle.sy_checker.specs.Internal.{AddsArchive};
+ghost use Rattle.sy_checker.specs.Verifying.{kind_words};
 ghost use Rattle.sy_checker.specs.declared.wanted.Wanted.TheVariants as spec;
 
 use crate::order::{relays_of, sorted};
@@ -33,6 +34,20 @@ pub enum RowKind {
     Reach,
     Rank,
     Path,
+}
+
+impl RowKind {
+    /// The word that such rows begin with, as `reach`.
+    pub fn words(self) -> &'static str
+        ensures { result.now ≡ kind_words self }
+    {
+        match self {
+            RowKind::Class => "class",
+            RowKind::Reach => "reach",
+            RowKind::Rank => "rank",
+            RowKind::Path => "path",
+        }
+    }
 }
 
 fn is_among(archives: &[SiteAction], archive: SiteAction) -> bool

@@ -6,3 +6,6 @@ pub mod Replays
 pub mod LineWords
 pub mod LineEvents
 pub mod LineLaws
+pub mod Losses
+pub mod Outcomes
+pub mod Tables

@@ -10,8 +10,8 @@ use Rattle.sy_replay.specs.declared.line.fault.EventFault.{EventFault}
 use Rattle.sy_replay.specs.declared.line.fault.EventFault.TheVariants as fault
 use Rattle.sy_replay.specs.declared.line.verb.Verb.{Verb}
 use Rattle.sy_replay.specs.declared.line.verb.Verb.TheVariants as verb
-use Rattle.sy_replay.specs.Lines.{IsBehind, IsFrom, IsHand, IsNew, IsTake, IsWorker, StandsFor, TakesTo, IsPlace, input_named, number_of, word_of, words_in}
-use Rattle.sy_replay.specs.Reading.{NoEvent}
+use Rattle.sy_replay.specs.Lines.{BringsRaw, IsBehind, IsFrom, IsHand, IsNew, IsTake, IsWorker, StandsFor, TakesTo, IsPlace, input_named, number_of, word_of, words_in}
+use Rattle.sy_replay.specs.Reading.{IsHandRaw, IsNewRaw, NoEvent, WantsMemory}
 
 -- ---- first words
 
@@ -59,15 +59,26 @@ stands_behind site line v rest e cut h =
     subst (λ (u : Verb). IsBehind site u rest e) (one_verb h.first v (first_same same))
     (subst (λ (ws : List (List ℕ)). IsBehind site h.first ws e) (behind_same same) h.is_behind)
 
+brings : (site : Site) (line : List ℕ) (v : Verb) (rest : List (List ℕ)) → words_in line ≡ word_of v ∷ rest → WantsMemory site v rest → BringsRaw site line
+brings site line verb.Take rest cut (to, hand, raw, is) = record { to = to; hand = hand; raw = raw; behind = rest; whole = cut; is_hand = is }
+brings site line verb.Enter rest cut h = absurd h
+brings site line verb.Expire rest cut h = absurd h
+brings site line verb.Grab rest cut h = absurd h
+brings site line verb.Done rest cut h = absurd h
+brings site line verb.Fail rest cut h = absurd h
+brings site line verb.GiveUp rest cut h = absurd h
+brings site line verb.Post rest cut h = absurd h
+brings site line verb.PostLost rest cut h = absurd h
+
 pub no_event : (site : Site) (line : List ℕ) (v : Verb) (rest : List (List ℕ)) (f : EventFault) → words_in line ≡ word_of v ∷ rest
-    → NoEvent (IsBehind site v rest) f → NoEvent (StandsFor site line) f
+    → NoEvent (IsBehind site v rest) (WantsMemory site v rest) f → NoEvent (StandsFor site line) (BringsRaw site line) f
 no_event site line v rest fault.Line cut h = λ e stands. h e (stands_behind site line v rest e cut stands)
-no_event site line v rest fault.NoMemory cut h = tt
+no_event site line v rest fault.NoMemory cut h = brings site line v rest cut h
 
 -- the same, of the verb that a function was given
 pub by_verb : {A : Type 0} (site : Site) (rest : List (List ℕ)) (v u : Verb) (r : Result A EventFault) → v ≡ u
-    → IfErr r (λ f. NoEvent (IsBehind site u rest) f) → IfErr r (λ f. NoEvent (IsBehind site v rest) f)
-by_verb site rest v u r e h = subst (λ (w : Verb). IfErr r (λ f. NoEvent (IsBehind site w rest) f)) (sym e) h
+    → IfErr r (λ f. NoEvent (IsBehind site u rest) (WantsMemory site u rest) f) → IfErr r (λ f. NoEvent (IsBehind site v rest) (WantsMemory site v rest) f)
+by_verb site rest v u r e h = subst (λ (w : Verb). IfErr r (λ f. NoEvent (IsBehind site w rest) (WantsMemory site w rest) f)) (sym e) h
 
 -- ---- takes
 
@@ -103,27 +114,29 @@ takes_moved site to other hand second behind rest e one h =
     (subst (λ (n : ℕ). TakesTo site to n rest e) one.hands (subst (λ (ws : List (List ℕ)). TakesTo site to hand ws e) one.behinds h))
 
 pub no_take : (site : Site) (words : List (List ℕ)) (to : SiteInput) (hand : ℕ) (behind : List (List ℕ)) (f : EventFault) → IsHand site words to hand behind
-    → NoEvent (TakesTo site to hand behind) f → NoEvent (IsTake site words) f
+    → NoEvent (TakesTo site to hand behind) (IsNewRaw behind) f → NoEvent (IsTake site words) (IsHandRaw site words) f
 no_take site words to hand behind fault.Line is h = λ e t.
     h e (takes_moved site t.to to t.hand hand t.behind behind e (one_hand site words t.to to t.hand hand t.behind behind t.is_hand is) t.takes)
-no_take site words to hand behind fault.NoMemory is h = tt
+no_take site words to hand behind fault.NoMemory is (raw, words_are) =
+    (to, hand, raw, subst (λ (ws : List (List ℕ)). IsHand site words to hand ws) words_are is)
 
 pub new_or_link : codes "new" ≡ codes "link" → ⊥
 new_or_link e = omega (arith, ap (λ (w : List ℕ). get_or w 0 0) e)
 
 pub only_new : {A : Type 0} (site : Site) (to : SiteInput) (hand : ℕ) (words rest : List (List ℕ)) (r : Result A EventFault) → words ≡ codes "new" ∷ rest
-    → IfErr r (λ f. NoEvent (IsNew to hand (codes "new" ∷ rest)) f) → IfErr r (λ f. NoEvent (TakesTo site to hand words) f)
+    → IfErr r (λ f. NoEvent (IsNew to hand (codes "new" ∷ rest)) (IsNewRaw (codes "new" ∷ rest)) f)
+    → IfErr r (λ f. NoEvent (TakesTo site to hand words) (IsNewRaw words) f)
 only_new site to hand words rest (Ok x) is h = tt
-only_new site to hand words rest (Err fault.NoMemory) is h = tt
+only_new site to hand words rest (Err fault.NoMemory) is (raw, are) = (raw, is ∙ are)
 only_new site to hand words rest (Err fault.Line) is h = λ e t. elim t [
   | inl n ↦ h e (subst (λ (ws : List (List ℕ)). IsNew to hand ws e) is n)
   | inr l ↦ new_or_link (first_same (sym is ∙ l.whole))
 ]
 
 pub only_from : {A : Type 0} (site : Site) (to : SiteInput) (hand : ℕ) (words rest : List (List ℕ)) (r : Result A EventFault) → words ≡ codes "link" ∷ rest
-    → IfErr r (λ f. NoEvent (IsFrom site to hand (codes "link" ∷ rest)) f) → IfErr r (λ f. NoEvent (TakesTo site to hand words) f)
+    → IfErr r (λ f. NoEvent (IsFrom site to hand (codes "link" ∷ rest)) ⊥ f) → IfErr r (λ f. NoEvent (TakesTo site to hand words) (IsNewRaw words) f)
 only_from site to hand words rest (Ok x) is h = tt
-only_from site to hand words rest (Err fault.NoMemory) is h = tt
+only_from site to hand words rest (Err fault.NoMemory) is h = absurd h
 only_from site to hand words rest (Err fault.Line) is h = λ e t. elim t [
   | inl n ↦ new_or_link (first_same (sym n.whole ∙ is))
   | inr l ↦ h e (subst (λ (ws : List (List ℕ)). IsFrom site to hand ws e) is l)

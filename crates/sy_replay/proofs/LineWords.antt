@@ -6,6 +6,7 @@ use Rattle.std.proofs.lemmas.List.Splits.{join_with_byte-slice_split, slice_spli
 use Rattle.std.specs.List.{join_with_byte, slice_split, onto_first}
 use Rattle.memchr.specs.Find.{IsFirstByte, is_byte}
 use Rattle.sy_replay.specs.Lines.{words_in}
+use Rattle.sy_replay.specs.Reading.{AreRaw}
 
 is_false : (b : Bool) → (b ≡ true → ⊥) → b ≡ false
 is_false true never = absurd (never refl)
@@ -40,3 +41,6 @@ joined line = join_with_byte-slice_split 32 line
 -- and so no two lines have the same words.
 pub same_line : (a b : List ℕ) → words_in a ≡ words_in b → a ≡ b
 same_line a b e = sym (joined a) ∙ ap (join_with_byte 32) e ∙ joined b
+
+pub words_of : (raw : List ℕ) → AreRaw (words_in raw)
+words_of raw = (raw, refl)

@@ -17,7 +17,7 @@ use Rattle.sy_board.specs.declared.relay.answers.Taken.TheVariants as taken
 use Rattle.sy_board.specs.declared.relay.answers.Posted.TheVariants as posted
 use Rattle.sy_board.specs.declared.relay.answers.PostCause.{PostCause}
 use Rattle.sy_board.specs.declared.relay.answers.Retry.TheVariants as retry
-use Rattle.sy_board.specs.relay.Boards.{BoardState, EnterIs, ExpireIs, FailIs, GrabIs, PostIs, PostLostIs, SettleIs, TakeIs, is_no_memory}
+use Rattle.sy_board.specs.relay.Boards.{BoardState, EnterIs, ExpireIs, FailIs, GrabIs, PostIs, PostLostIs, SettleIs, TakeIs, is_no_memory, stepped}
 use Rattle.sy_board.specs.relay.Steps.{Cause, Event, Grabs, Out}
 use Rattle.sy_board.proofs.relay.Outcomes.{jobs_same}
 use Rattle.sy_site.specs.machine.States as states
@@ -28,9 +28,6 @@ use Rattle.sy_replay.specs.Events.{Goes, IsIllegal, loss_of, losses_of}
 use Rattle.sy_replay.specs.Jobs.{Answer, Answers, Comes, IsPostJob, IsRunJob, event_of, is_taken, losses_by, outs_of, with_tag}
 use Rattle.sy_replay.specs.Parts.{Makes, MakesInside, items_of, lost_by, part, passed_by, tags_at}
 use Rattle.sy_replay.proofs.Refused.{nothing_grabbed, one_list}
-
-abbrev plan_kept : (old new : BoardState) (b : BoardState) → new ≡ b → b.plan ≡ old.plan → new.plan ≡ old.plan
-plan_kept old new b is same = ap (λ (x : BoardState). x.plan) is ∙ same
 
 -- one more loss
 pub one_more : (xs ys : List Loss) (l : Loss) → ys ≡ xs ++ l ∷ [] → losses_of ys ≡ losses_of xs ++ loss_of l ∷ []
@@ -51,25 +48,26 @@ pub quiet : (relay : ℕ) (old new : BoardState) (event : Event) (losses : List 
 quiet relay old new event losses goes = λ passed. record { outs = []; goes = goes; passed = refl; losses = sym (append-nil losses) }
 
 pub entered : (old new : BoardState) (i h : ℕ) → EnterIs entry.Entered old i h new → Goes old (Event.Enter i h) new []
-entered old new i h (node, enters, is) = ((node, enters, refl), ap (λ (x : BoardState). x.plan) is)
+entered old new i h (node, enters, is) = ((node, enters, refl), is)
 
 pub taken_in : (old new : BoardState) (i h : ℕ) (node : Entry) → TakeIs taken.InHand old i h node new → Goes old (Event.Take i h node) new []
-taken_in old new i h node (takes, is) = ((false, takes, refl), ap (λ (x : BoardState). x.plan) is)
+taken_in old new i h node (takes, is) = ((false, takes, refl), is)
 
 pub taken_lost : (old new : BoardState) (i h : ℕ) (node lost : Entry) → TakeIs (taken.Discarded lost) old i h node new
     → Goes old (Event.Take i h node) new (Out.Lost Cause.Take node ∷ [])
-taken_lost old new i h node lost (same, takes, is) = ((true, takes, refl), ap (λ (x : BoardState). x.plan) is)
+taken_lost old new i h node lost (same, takes, is) = ((true, takes, refl), is)
 
 pub expired : (old new : BoardState) (i h : ℕ) (node : Entry) → ExpireIs node old i h new → Goes old (Event.Expire i h) new (Out.Lost Cause.Expire node ∷ [])
-expired old new i h node (expires, is) = ((node, expires, refl), ap (λ (x : BoardState). x.plan) is)
+expired old new i h node (expires, is) = ((node, expires, refl), is)
 
 -- ---- grabs
 
 pub grabbed : (relay : ℕ) (old new : BoardState) (w : ℕ) (lost : List Entry) (before after : List states.Loss) → Grabs old.plan old.state w lost new.state
-    → new.plan ≡ old.plan → after ≡ before ++ lost_by relay (map (Out.Lost Cause.Grab) lost) → MakesInside relay old before (Event.Grab w) new after
-grabbed relay old new w lost before after grabs plan is = λ passed. record {
+    → new ≡ stepped old (Event.Grab w) new.state (map (Out.Lost Cause.Grab) lost)
+    → after ≡ before ++ lost_by relay (map (Out.Lost Cause.Grab) lost) → MakesInside relay old before (Event.Grab w) new after
+grabbed relay old new w lost before after grabs same is = λ passed. record {
   outs = map (Out.Lost Cause.Grab) lost;
-  goes = ((lost, grabs, refl), plan);
+  goes = ((lost, grabs, refl), same);
   passed = sym (nothing_passed lost passed);
   losses = is;
 } where
@@ -108,9 +106,9 @@ grab_none old new w count lost whole there (inr (grabs, counted, is)) zero =
     absurd (some_of _ _ least grabs.some (sym counted ∙ zero))
 
 pub grab_some : (old new : BoardState) (w count : ℕ) (lost : List Entry) → GrabIs count lost old w new → (count ≡ 0 → ⊥)
-    → Grabs old.plan old.state w lost new.state × (new.plan ≡ old.plan)
+    → Grabs old.plan old.state w lost new.state × (new ≡ stepped old (Event.Grab w) new.state (map (Out.Lost Cause.Grab) lost))
 grab_some old new w count lost (inl (same, waits, none, is)) some = absurd (some none)
-grab_some old new w count lost (inr (grabs, counted, is)) some = (grabs, ap (λ (x : BoardState). x.plan) is)
+grab_some old new w count lost (inr (grabs, counted, is)) some = (grabs, is)
 
 -- the entries that a grab lost, one after the other
 pub one_noted : (relay : ℕ) (node : Entry) (rest lost : List Entry) (xs ys : List Loss) (l : Loss) (all : List states.Loss) → ys ≡ xs ++ l ∷ []
@@ -134,7 +132,7 @@ pub settled : (old new : BoardState) (w action tag : ℕ) (message : Said) → I
 settled old new w action tag message job (of, settles, is) = (
   of.run.entry,
   ap (λ (e : Entry). e.tag) (jobs_same old.plan old.state w (occurrence.Run action) (occurrence.Run action) of.run job.job).1 ∙ job.its_tag,
-  λ took. ((action, of.run.entry, settles, refl), ap (λ (x : BoardState). x.plan) is),
+  λ took. ((action, of.run.entry, settles, refl), is),
 )
 
 pub as_told : (failure : Refused) (action : ℕ) → failure.device ≡ action → failure ≡ record failure { device = action }
@@ -148,7 +146,7 @@ tried old new w action tag message failure job d is = go (subst (λ x. FailIs re
     go (of, fails, same) = (
       of.of.run.entry,
       ap (λ (e : Entry). e.tag) (jobs_same old.plan old.state w (occurrence.Run action) (occurrence.Run action) of.of.run job.job).1 ∙ job.its_tag,
-      λ took. ((action, of.of.run.entry, fails, refl), ap (λ (x : BoardState). x.plan) (same took)),
+      λ took. ((action, of.of.run.entry, fails, refl), same took),
     )
 
 pub given_up : (old new : BoardState) (w action tag : ℕ) (message : Said) (failure : Refused) → IsRunJob old w action message tag → failure.device ≡ action
@@ -159,13 +157,13 @@ given_up old new w action tag message failure job d is = go (subst (λ x. FailIs
     go (of, gives, same) = (
       of.of.run.entry,
       ap (λ (e : Entry). e.tag) (jobs_same old.plan old.state w (occurrence.Run action) (occurrence.Run action) of.of.run job.job).1 ∙ job.its_tag,
-      λ took. ((action, of.of.run.entry, gives, refl), ap (λ (x : BoardState). x.plan) (same took)),
+      λ took. ((action, of.of.run.entry, gives, refl), same took),
     )
 
 -- ---- posts
 
 pub posted_on : (old new : BoardState) (w : ℕ) (node : Entry) → PostIs posted.Done old w node new → Goes old (Event.Post w) new []
-posted_on old new w node (list, posts, is) = ((list, node, false, posts, refl), ap (λ (x : BoardState). x.plan) is)
+posted_on old new w node (list, posts, is) = ((list, node, false, posts, refl), is)
 
 pub post_discarded : (relay : ℕ) (old new : BoardState) (w list input tag : ℕ) (message : Said) (node lost : Entry) (xs ys : List Loss) → IsPostJob old w list input message tag
     → PostIs (posted.Discarded lost) old w node new → ys ≡ xs ++ record { copy = tag; relay = relay; cause = lost_by_cause.Post list } ∷ []
@@ -174,7 +172,7 @@ post_discarded relay old new w list input tag message node lost xs ys job (same,
     let entry = (jobs_same old.plan old.state w (occurrence.Post l) (occurrence.Post list) posts.job job.job).1 in
     let tag_is : posts.job.entry.tag ≡ tag = ap (λ (e : Entry). e.tag) entry ∙ job.its_tag in
     let list_is : l ≡ list = one_list old.plan old.state w l list posts.job job.job in
-    losing relay old new (Event.Post w) (Cause.Post l) posts.job.entry xs ys _ ((l, node, true, posts, refl), ap (λ (x : BoardState). x.plan) is) are
+    losing relay old new (Event.Post w) (Cause.Post l) posts.job.entry xs ys _ ((l, node, true, posts, refl), is) are
     (sym (ap (λ t. record { copy = t; relay = relay; cause = Cause.Post l }) tag_is ∙ ap (λ k. record { copy = tag; relay = relay; cause = Cause.Post k }) list_is))
 
 pub post_gone : (relay : ℕ) (old new : BoardState) (w list input tag : ℕ) (message : Said) (why : PostCause) (xs ys : List Loss) → IsPostJob old w list input message tag
@@ -184,7 +182,7 @@ post_gone relay old new w list input tag message why xs ys job (l, e, loses, is)
     let entry = (jobs_same old.plan old.state w (occurrence.Post l) (occurrence.Post list) loses.job job.job).1 in
     let tag_is : e.tag ≡ tag = ap (λ (x : Entry). x.tag) (sym loses.its ∙ entry) ∙ job.its_tag in
     let list_is : l ≡ list = one_list old.plan old.state w l list loses.job job.job in
-    losing relay old new (Event.PostLost w (is_no_memory why)) (Cause.PostLost l) e xs ys _ ((l, e, loses, refl), ap (λ (x : BoardState). x.plan) is) are
+    losing relay old new (Event.PostLost w (is_no_memory why)) (Cause.PostLost l) e xs ys _ ((l, e, loses, refl), is) are
     (sym (ap (λ t. record { copy = t; relay = relay; cause = Cause.PostLost l }) tag_is ∙ ap (λ k. record { copy = tag; relay = relay; cause = Cause.PostLost k }) list_is))
 
 -- ---- what a device took

@@ -17,7 +17,7 @@ use Rattle.sy_board.specs.declared.fault.BoardFault.{BoardFault}
 use Rattle.sy_board.specs.declared.fault.BoardFault.TheVariants as fault
 use Rattle.sy_board.specs.declared.relay.answers.Posted.TheVariants as posted
 use Rattle.sy_board.specs.declared.relay.answers.PostCause.{PostCause}
-use Rattle.sy_board.specs.relay.Boards.{BoardState, EnterFails, ExpireFails, FailFails, GrabFails, HasNoJob, HasNoPost, HasNoRun, IsFailureOf, IsForPost, IsHeldBy, IsOf, NothingWaits, PostFails, PostIs, PostLostFails, SettleFails, TakeFails, is_no_memory}
+use Rattle.sy_board.specs.relay.Boards.{BoardState, EnterFails, ExpireFails, FailFails, GrabFails, HasNoJob, HasNoPost, HasNoRun, IsFailureOf, IsForPost, IsHeldBy, IsOf, IsTooFull, NothingWaits, PostFails, PostIs, PostLostFails, SettleFails, TakeFails, is_no_memory, stepped}
 use Rattle.sy_board.specs.relay.Cells.{RelayState, failures_at, waiting}
 use Rattle.sy_board.specs.relay.Plans.{IsDue, input_at, marks_at, parameters_at, retry_at}
 use Rattle.sy_board.specs.relay.Steps.{Cause, Event, IsHand, IsOfInput, Job, MayTry, Out, Step, if_so}
@@ -38,7 +38,7 @@ take_refused fault.HandEmpty old i h node e = absurd e
 take_refused fault.SlotBusy old i h node e = absurd e
 take_refused fault.NoJob old i h node e = absurd e
 take_refused fault.WrongReceipt old i h node e = absurd e
-take_refused fault.TotalsFull old i h node (lost, new, takes, full) = (new, if_so lost (Out.Lost Cause.Take node), (lost, takes, refl))
+take_refused fault.TotalsFull old i h node (lost, new, takes, full) = (new, if_so lost (Out.Lost Cause.Take node), (lost, takes, refl), full)
 take_refused fault.NotExpired old i h node e = absurd e
 take_refused fault.NoMemory old i h node e = tt
 
@@ -54,7 +54,7 @@ enter_refused fault.HandEmpty old i h e = λ new outs (node, enters, is). not_bo
 enter_refused fault.SlotBusy old i h e = absurd e
 enter_refused fault.NoJob old i h e = absurd e
 enter_refused fault.WrongReceipt old i h e = absurd e
-enter_refused fault.TotalsFull old i h (node, new, enters, full) = (new, [], (node, enters, refl))
+enter_refused fault.TotalsFull old i h (node, new, enters, full) = (new, [], (node, enters, refl), full)
 enter_refused fault.NotExpired old i h e = absurd e
 enter_refused fault.NoMemory old i h e = tt
 
@@ -64,7 +64,7 @@ expire_refused fault.HandEmpty old i h e = λ new outs (node, expires, is). not_
 expire_refused fault.SlotBusy old i h e = absurd e
 expire_refused fault.NoJob old i h e = absurd e
 expire_refused fault.WrongReceipt old i h e = absurd e
-expire_refused fault.TotalsFull old i h (node, new, expires, full) = (new, Out.Lost Cause.Expire node ∷ [], (node, expires, refl))
+expire_refused fault.TotalsFull old i h (node, new, expires, full) = (new, Out.Lost Cause.Expire node ∷ [], (node, expires, refl), full)
 expire_refused fault.NotExpired old i h (some, why) = λ new outs (node, expires, is). elim why [
   | inl held ↦ held_expires old.plan old.state i h node new held expires
   | inr room ↦ (let full = expires.full in omega (arith, room, full))
@@ -80,7 +80,7 @@ grab_refused fault.HandEmpty old w e = absurd e
 grab_refused fault.SlotBusy old w e = λ new outs (lost, grabs, is). e grabs.idle
 grab_refused fault.NoJob old w e = absurd e
 grab_refused fault.WrongReceipt old w e = absurd e
-grab_refused fault.TotalsFull old w (lost, new, grabs, full) = (new, map (Out.Lost Cause.Grab) lost, (lost, grabs, refl))
+grab_refused fault.TotalsFull old w (lost, new, grabs, full) = (new, map (Out.Lost Cause.Grab) lost, (lost, grabs, refl), full)
 grab_refused fault.NotExpired old w e = absurd e
 grab_refused fault.NoMemory old w e = tt
 
@@ -98,7 +98,7 @@ settle_refused fault.SlotBusy old w action tag message job e = absurd e
 settle_refused fault.NoJob old w action tag message job e = absurd (e action job.job)
 settle_refused fault.WrongReceipt old w action tag message job e = absurd (e.1 (record { run = job.job; its = job.its_message }))
 settle_refused fault.TotalsFull old w action tag message job (of, new, settles, full) =
-    λ took. (new, Out.Passed action of.run.entry ∷ [], (action, of.run.entry, settles, refl))
+    λ took. (new, Out.Passed action of.run.entry ∷ [], (action, of.run.entry, settles, refl), full)
 settle_refused fault.NotExpired old w action tag message job e = absurd e
 settle_refused fault.NoMemory old w action tag message job e = absurd e
 
@@ -124,6 +124,13 @@ fail_refused fault.TotalsFull old w action tag message failure job d m o may (is
 fail_refused fault.NotExpired old w action tag message failure job d m o may e = absurd e
 fail_refused fault.NoMemory old w action tag message failure job d m o may e = absurd e
 
+-- whether the device took the message, isn't counted
+still_full : (old : BoardState) (w : ℕ) (new : RelayState) (action : ℕ) (e : Entry) (took : Bool)
+    → IsTooFull (stepped old (Event.GiveUp w false) new (Out.Lost (Cause.GiveUp action) e ∷ []))
+    → IsTooFull (stepped old (Event.GiveUp w took) new (Out.Lost (Cause.GiveUp action) e ∷ if_so took (Out.Passed action e)))
+still_full old w new action e true full = full
+still_full old w new action e false full = full
+
 pub give_up_refused : (f : BoardFault) (old : BoardState) (w action tag : ℕ) (message : Said) (failure : Refused) → IsRunJob old w action message tag
     → failure.device ≡ action → failure.message ≡ message → failure.fault ≢ device_fault.CountFull
     → FailFails f old w failure → IsNoAnswer (illegal_of f) Answer.GiveUp old w
@@ -133,7 +140,12 @@ give_up_refused fault.SlotBusy old w action tag message failure job d m o e = ab
 give_up_refused fault.NoJob old w action tag message failure job d m o e = absurd (e action job.job)
 give_up_refused fault.WrongReceipt old w action tag message failure job d m o e = absurd (e.1 (is_of old w action tag message failure job d m o))
 give_up_refused fault.TotalsFull old w action tag message failure job d m o (is, new, gives, full) =
-    λ took. (new, Out.Lost (Cause.GiveUp failure.device) is.of.run.entry ∷ if_so took (Out.Passed failure.device is.of.run.entry), (failure.device, is.of.run.entry, gives, refl))
+    λ took. (
+      new,
+      Out.Lost (Cause.GiveUp failure.device) is.of.run.entry ∷ if_so took (Out.Passed failure.device is.of.run.entry),
+      (failure.device, is.of.run.entry, gives, refl),
+      still_full old w new failure.device is.of.run.entry took full,
+    )
 give_up_refused fault.NotExpired old w action tag message failure job d m o e = absurd e
 give_up_refused fault.NoMemory old w action tag message failure job d m o e = absurd e
 
@@ -202,7 +214,7 @@ post_refused fault.HandEmpty old w node e = absurd e
 post_refused fault.SlotBusy old w node e = absurd e
 post_refused fault.NoJob old w node e = λ new outs (l, n, lost, posts, is). e l posts.job
 post_refused fault.WrongReceipt old w node e = absurd e
-post_refused fault.TotalsFull old w node (l, lost, new, posts, full) = (new, if_so lost (Out.Lost (Cause.Post l) posts.job.entry), (l, node, lost, posts, refl))
+post_refused fault.TotalsFull old w node (l, lost, new, posts, full) = (new, if_so lost (Out.Lost (Cause.Post l) posts.job.entry), (l, node, lost, posts, refl), full)
 post_refused fault.NotExpired old w node e = absurd e
 post_refused fault.NoMemory old w node e = tt
 
@@ -217,7 +229,7 @@ post_lost_refused fault.HandEmpty why old w e = absurd e
 post_lost_refused fault.SlotBusy why old w e = absurd e
 post_lost_refused fault.NoJob why old w e = λ new outs (l, n, loses, is). e l loses.job
 post_lost_refused fault.WrongReceipt why old w e = absurd e
-post_lost_refused fault.TotalsFull why old w (l, n, new, loses, full) = (new, Out.Lost (Cause.PostLost l) n ∷ [], (l, n, loses, refl))
+post_lost_refused fault.TotalsFull why old w (l, n, new, loses, full) = (new, Out.Lost (Cause.PostLost l) n ∷ [], (l, n, loses, refl), full)
 post_lost_refused fault.NotExpired why old w (full, list, job, room) = λ new outs (l, n, loses, is).
     let other : l ≡ list = one_list old.plan old.state w l list loses.job job in
     not_lost (is_no_memory why) (waiting old.state (queue_for old.plan l)) (parameters_at old.plan (queue_for old.plan l)).size full

@@ -10,7 +10,7 @@ use Rattle.sy_wire.specs.Messages.{Said}
 use Rattle.sy_chain.specs.Entries.{Entry}
 use Rattle.sy_rules.specs.PlanValue.{Plan}
 use Rattle.sy_rules.specs.Whole.{IsWhole}
-use Rattle.sy_board.specs.relay.Boards.{BoardState}
+use Rattle.sy_board.specs.relay.Boards.{BoardState, IsTooFull, stepped}
 use Rattle.sy_board.specs.relay.Cells.{RelayState}
 use Rattle.sy_board.specs.relay.Steps.{Cause, Event, Out, Step, if_so}
 use Rattle.sy_site.specs.declared.site.SiteAction.{SiteAction}
@@ -23,7 +23,7 @@ use Rattle.sy_replay.specs.declared.event.RelayEvent.{RelayEvent}
 use Rattle.sy_replay.specs.declared.event.RelayEvent.TheVariants as event
 use Rattle.sy_replay.specs.Events.{IsIllegal, step_of}
 use Rattle.sy_replay.specs.Parts.{Makes, PartState, TakesMessage, items_of, lost_by, part, passed_by, tags_at}
-use Rattle.sy_replay.specs.States.{AreOf, HasLists, HaveSamePlans, IsIllegalAt, passed_in, passed_of, plan_of, relays_of, site_state, state_of}
+use Rattle.sy_replay.specs.States.{Applies, AreOf, HasLists, HaveSamePlans, IsIllegalAt, board_of, boards_of, holding, passed_in, passed_of, plan_of, relays_of, site_state, state_of, with_board}
 use Rattle.sy_replay.proofs.Refused.{run_there}
 
 -- ---- lists
@@ -127,6 +127,21 @@ relays_set k parts p new is r = go (k == r) refl
     go true e = rw e (sym (ap (λ x. state_of (slice_get (slice_set parts k new) x)) (sym (eqb-true k r e)) ∙ ap state_of (get_same parts k new p is)))
     go false e = rw e (sym (ap state_of (get_other parts k r new ((same_or k r false e).1 refl))))
 
+boards_set : (k : ℕ) (parts : List PartState) (p new : PartState) → slice_get parts k ≡ Some p → (r : ℕ)
+    → with_board (boards_of parts) k new.board r ≡ boards_of (slice_set parts k new) r
+boards_set k parts p new is r = go (k == r) refl
+  where
+    go : (b : Bool) → (k == r) ≡ b → (if k == r then new.board else boards_of parts r) ≡ boards_of (slice_set parts k new) r
+    go true e = rw e (sym (ap (λ x. board_of (slice_get (slice_set parts k new) x)) (sym (eqb-true k r e)) ∙ ap board_of (get_same parts k new p is)))
+    go false e = rw e (sym (ap board_of (get_other parts k r new ((same_or k r false e).1 refl))))
+
+pub boards_stepped : (k : ℕ) (parts : List PartState) (p new : PartState) (event : Event) (outs : List Out) → slice_get parts k ≡ Some p
+    → new.board ≡ stepped p.board event new.board.state outs
+    → boards_of (slice_set parts k new) ≡ with_board (boards_of parts) k (stepped (boards_of parts k) event new.board.state outs)
+boards_stepped k parts p new event outs is goes = sym (
+    ap (λ o. with_board (boards_of parts) k (stepped (board_of o) event new.board.state outs)) is
+    ∙ ap (with_board (boards_of parts) k) (sym goes) ∙ fun_ext (boards_set k parts p new is))
+
 -- what a relay lets out is of actions that are there
 if_there : (n action : ℕ) (took : Bool) (e : Entry) → action < n → AreThere n (if_so took (Out.Passed action e))
 if_there n action true e l = (l, tt)
@@ -216,13 +231,13 @@ no_take (event.PostLost w cause) t = t
 
 pub inside_refused : (why : Illegal) (site : Site) (parts : List PartState) (copies : List Copy) (losses : List Loss) (arrivals : List Arrival) (k : ℕ) (p : PartState)
     (event : RelayEvent) → AreOf site parts → slice_get parts k ≡ Some p → IsIllegal why p.board (step_of event)
-    → IsIllegalAt why site (site_state parts copies losses arrivals) (SiteEvent.Inside k (step_of event))
+    → IsIllegalAt why site (holding parts copies losses arrivals) (SiteEvent.Inside k (step_of event))
 inside_refused illegal.NotAStep site parts copies losses arrivals k p event of is none = λ new steps.
     none steps.1.state steps.1.outs
     (subst (λ x. Step p.board.plan (state_of x) (step_of event) steps.1.state steps.1.outs) is
     (subst (λ x. Step x (relays_of parts k) (step_of event) steps.1.state steps.1.outs) (of k ∙ ap plan_of is) steps.1.step))
 inside_refused illegal.NoMemory site parts copies losses arrivals k p event of is none = tt
-inside_refused illegal.TotalsFull site parts copies losses arrivals k p event of is (state, outs, step) = (
+inside_refused illegal.TotalsFull site parts copies losses arrivals k p event of is (state, outs, step, full) = (
   put_outs (record (site_state parts copies losses arrivals) { relays = with_relay (relays_of parts) k state }) k outs,
   (
     no_take event,
@@ -234,13 +249,17 @@ inside_refused illegal.TotalsFull site parts copies losses arrivals k p event of
       after = refl;
     },
   ),
+  subst (λ x. IsTooFull (stepped (board_of x) (step_of event) state outs)) (sym is) full,
 )
 
 pub inside_made : (site : Site) (parts : List PartState) (copies : List Copy) (losses now : List Loss) (arrivals : List Arrival) (k : ℕ) (p new : PartState) (event : RelayEvent)
     → AreOf site parts → slice_get parts k ≡ Some p → HasLists p → IsWhole p.board.plan → Makes k p losses (step_of event) new now
-    → SiteStep site (site_state parts copies losses arrivals) (SiteEvent.Inside k (step_of event)) (site_state (slice_set parts k new) copies now arrivals)
-inside_made site parts copies losses now arrivals k p new event of is lists whole makes =
-    (no_take event, relay_steps site parts copies losses now arrivals k p new (step_of event) is (of k ∙ ap plan_of is) lists whole makes)
+    → Applies site (holding parts copies losses arrivals) (SiteEvent.Inside k (step_of event)) (holding (slice_set parts k new) copies now arrivals)
+unfolding relay_steps
+inside_made site parts copies losses now arrivals k p new event of is lists whole makes = (
+  (no_take event, relay_steps site parts copies losses now arrivals k p new (step_of event) is (of k ∙ ap plan_of is) lists whole makes),
+  boards_stepped k parts p new (step_of event) makes.outs is makes.goes.1,
+)
 
 -- ---- what a step keeps
 
@@ -252,7 +271,7 @@ passed_length (Out.Lost cause e ∷ outs) passed = passed_length outs passed
 
 pub lists_kept : (k : ℕ) (old new : PartState) (event : Event) (before after : List Loss) → HasLists old → Makes k old before event new after → HasLists new
 lists_kept k old new event before after lists makes =
-    ap length makes.passed ∙ passed_length makes.outs old.passed ∙ lists ∙ ap (λ (p : Plan). length p.actions) (sym makes.goes.1)
+    ap length makes.passed ∙ passed_length makes.outs old.passed ∙ lists ∙ ap (λ (b : BoardState). length b.plan.actions) (sym makes.goes.1)
 
 pub lists_after : {T E : Type 0} (C : Type 0) (r : Result T E) (k : ℕ) (old new : BoardState) (xs ys : List (Vec ℕ)) (event : Event) (before after : List Loss)
     → length xs ≡ length old.plan.actions → OnOk r (Makes k (part old (items_of xs)) before event (part new (items_of ys)) after)
@@ -266,7 +285,7 @@ lists_after C (Err e) k old new xs ys event before after lists makes same =
 
 pub plan_after : {T E : Type 0} (C : Type 0) (r : Result T E) (k : ℕ) (old new : BoardState) (before after : List Loss) (i h : ℕ) (m : Said) (t : ℕ)
     → OnOk r (TakesMessage k old before i h m t new after) → OnErr r ((new ≡ old) × C) → new.plan ≡ old.plan
-plan_after C (Ok x) k old new before after i h m t (node, a, b, makes) same = (makes []).goes.1
+plan_after C (Ok x) k old new before after i h m t (node, a, b, makes) same = ap (λ (b : BoardState). b.plan) (makes []).goes.1
 plan_after C (Err e) k old new before after i h m t makes same = ap (λ (b : BoardState). b.plan) same.0
 
 -- ---- plans

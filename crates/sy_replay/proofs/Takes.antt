@@ -8,19 +8,20 @@ use Rattle.std.proofs.lemmas.Bool.{eqb-true}
 use Rattle.sy_wire.specs.Messages.{Said}
 use Rattle.sy_chain.specs.Entries.{Entry}
 use Rattle.sy_rules.specs.PlanValue.{Plan}
+use Rattle.sy_board.specs.relay.Boards.{BoardState, IsTooFull, stepped}
 use Rattle.sy_board.specs.relay.Cells.{RelayState}
 use Rattle.sy_board.specs.relay.Steps.{Event, Out, Step}
 use Rattle.sy_site.specs.declared.site.SiteAction.{SiteAction}
 use Rattle.sy_site.specs.declared.site.SiteInput.{SiteInput}
-use Rattle.sy_site.specs.Sites.{Site}
+use Rattle.sy_site.specs.Sites.{Site, plan_at}
 use Rattle.sy_site.specs.machine.States.{Arrival, Copy, Loss, SiteState, put_outs, taken_by, with_passed, with_relay}
-use Rattle.sy_site.specs.machine.Steps.{RelaySteps, SiteEvent, SiteStep, TakesCopy, TakesFrom}
+use Rattle.sy_site.specs.machine.Steps.{SiteEvent, TakesCopy, TakesFrom}
 use Rattle.sy_replay.specs.declared.event.Illegal.{Illegal}
 use Rattle.sy_replay.specs.declared.event.Illegal.TheVariants as illegal
 use Rattle.sy_replay.specs.Parts.{IsNoTake, Makes, PartState, TakesMessageAt, items_of, lost_by, passed_by, tags_at}
-use Rattle.sy_replay.specs.States.{AreOf, Contents, IsIllegalAt, passed_in, passed_of, plan_of, relays_of, site_state, state_in, state_of}
+use Rattle.sy_replay.specs.States.{Applies, AreOf, Contents, IsIllegalAt, board_of, boards_of, holding, passed_in, passed_of, plan_of, relays_of, site_state, state_in, state_of}
 use Rattle.sy_replay.specs.Takes.{IsNoEntry, IsOnLink, IsOnNoLink, Leaves, TakesEntry, without}
-use Rattle.sy_replay.proofs.Sites.{get_other, get_same, no_step, relays_set, same_or, state_with}
+use Rattle.sy_replay.proofs.Sites.{boards_stepped, get_other, get_same, no_step, relays_set, same_or, state_with}
 
 -- ---- a relay's board takes an entry
 
@@ -51,6 +52,7 @@ entry_taken parts before after to hand message tag p new is (node, its_message, 
   outs = makes.outs;
   step = subst (λ x. Step (plan_of x) (state_of x) (Event.Take to.input hand node) new.board.state makes.outs) (sym is) makes.goes.0;
   relays = sym (fun_ext (relays_set to.relay parts p new is));
+  boards = boards_stepped to.relay parts p new (Event.Take to.input hand node) makes.outs is makes.goes.1;
   passed = fun_ext (lists_same to.relay parts p new is
       (makes.passed ∙ nothing_passed p.board.plan p.board.state to.input hand node new.board.state makes.outs p.passed makes.goes.0));
   losses = makes.losses;
@@ -61,8 +63,15 @@ pub entry_refused : (why : Illegal) (parts : List PartState) (to : SiteInput) (h
 entry_refused illegal.NotAStep parts to hand message tag p is none = λ node m t state outs step.
     none node m t state outs (subst (λ x. Step (plan_of x) (state_of x) (Event.Take to.input hand node) state outs) is step)
 entry_refused illegal.NoMemory parts to hand message tag p is none = tt
-entry_refused illegal.TotalsFull parts to hand message tag p is (node, m, t, (state, outs, step)) =
-    (node, m, t, state, outs, subst (λ x. Step (plan_of x) (state_of x) (Event.Take to.input hand node) state outs) (sym is) step)
+entry_refused illegal.TotalsFull parts to hand message tag p is (node, m, t, (state, outs, step, full)) = (
+  node,
+  m,
+  t,
+  state,
+  outs,
+  subst (λ x. Step (plan_of x) (state_of x) (Event.Take to.input hand node) state outs) (sym is) step,
+  subst (λ x. IsTooFull (stepped (board_of x) (Event.Take to.input hand node) state outs)) (sym is) full,
+)
 
 pub no_relay : (parts : List PartState) (to : SiteInput) (hand : ℕ) (message : Said) (tag : ℕ) → slice_get parts to.relay ≡ None
     → IsNoEntry illegal.NotAStep parts to hand message tag
@@ -72,12 +81,12 @@ no_relay parts to hand message tag none = λ node m t state outs step.
 
 pub plan_taken : {T E : Type 0} (C : Type 0) (r : Result T E) (k : ℕ) (old new : PartState) (before after : List Loss) (i h : ℕ) (m : Said) (t : ℕ)
     → OnOk r (TakesMessageAt k old before i h m t new after) → OnErr r ((new ≡ old) × C) → new.board.plan ≡ old.board.plan
-plan_taken C (Ok x) k old new before after i h m t (node, a, b, makes) same = makes.goes.1
+plan_taken C (Ok x) k old new before after i h m t (node, a, b, makes) same = ap (λ (x : BoardState). x.plan) makes.goes.1
 plan_taken C (Err e) k old new before after i h m t makes same = ap (λ (p : PartState). p.board.plan) same.0
 
 pub plan_made : {T E : Type 0} (C : Type 0) (r : Result T E) (k : ℕ) (old new : PartState) (event : Event) (before after : List Loss)
     → OnOk r (Makes k old before event new after) → OnErr r ((new ≡ old) × C) → new.board.plan ≡ old.board.plan
-plan_made C (Ok x) k old new event before after makes same = makes.goes.1
+plan_made C (Ok x) k old new event before after makes same = ap (λ (b : BoardState). b.plan) makes.goes.1
 plan_made C (Err e) k old new event before after makes same = ap (λ (p : PartState). p.board.plan) same.0
 
 -- ---- a link loses what stands at a place
@@ -137,12 +146,22 @@ relays_same k parts p new is same r = go (k == r) refl
         ∙ ap (λ b. b.state) same ∙ sym (ap state_of is) ∙ ap (λ x. state_of (slice_get parts x)) (eqb-true k r e)
     go false e = ap state_of (get_other parts k r new ((same_or k r false e).1 refl))
 
+boards_same : (k : ℕ) (parts : List PartState) (p new : PartState) → slice_get parts k ≡ Some p → new.board ≡ p.board → (r : ℕ)
+    → boards_of (slice_set parts k new) r ≡ boards_of parts r
+boards_same k parts p new is same r = go (k == r) refl
+  where
+    go : (b : Bool) → (k == r) ≡ b → boards_of (slice_set parts k new) r ≡ boards_of parts r
+    go true e = ap (λ x. board_of (slice_get (slice_set parts k new) x)) (sym (eqb-true k r e)) ∙ ap board_of (get_same parts k new p is)
+        ∙ same ∙ sym (ap board_of is) ∙ ap (λ x. board_of (slice_get parts x)) (eqb-true k r e)
+    go false e = ap board_of (get_other parts k r new ((same_or k r false e).1 refl))
+
 pub left : (parts : List PartState) (link : SiteAction) (place : ℕ) (p new : PartState) → slice_get parts link.relay ≡ Some p
     → place < length (passed_of parts link) → new.board ≡ p.board
     → new.passed ≡ slice_set p.passed link.action (without (tags_at p.passed link.action) place)
     → Leaves parts link place (slice_set parts link.relay new)
 left parts link place p new is there board less = record {
   relays = fun_ext (relays_same link.relay parts p new is board);
+  boards = fun_ext (boards_same link.relay parts p new is board);
   passed = fun_ext (link_shorter parts link place p new is (subst (λ q. place < length (passed_in q link.action)) is there) less);
 }
 
@@ -159,20 +178,21 @@ put_lost k plan old i h node new relays copies passed losses arrivals outs (true
     ∙ ap (λ os. state_with relays copies passed (losses ++ lost_by k os) arrivals) (sym is)
 
 -- whatever copies, links and files the site has
-take_steps : (site : Site) (parts : List PartState) (copies : List Copy) (passed : SiteAction → List ℕ) (before after : List Loss) (arrivals : List Arrival)
-    (to : SiteInput) (hand : ℕ) (message : Said) (tag : ℕ) (new : List PartState) → AreOf site parts
-    → (t : TakesEntry parts before to hand message tag new after)
-    → RelaySteps site (state_with (relays_of parts) copies passed before arrivals) to.relay (Event.Take to.input hand t.node)
-    (state_with (relays_of new) copies passed after arrivals)
-take_steps site parts copies passed before after arrivals to hand message tag new of t = record {
-  state = t.state;
-  outs = t.outs;
-  step = subst (λ plan. Step plan (relays_of parts to.relay) (Event.Take to.input hand t.node) t.state t.outs) (sym (of to.relay)) t.step;
-  after = ap (λ r. state_with r copies passed after arrivals) t.relays
-      ∙ ap (λ l. state_with (with_relay (relays_of parts) to.relay t.state) copies passed l arrivals) t.losses
-      ∙ sym (put_lost to.relay (plan_of (slice_get parts to.relay)) (relays_of parts to.relay) to.input hand t.node t.state
-      (with_relay (relays_of parts) to.relay t.state) copies passed before arrivals t.outs t.step);
-}
+take_step : (site : Site) (parts : List PartState) (before after : List Loss) (to : SiteInput) (hand : ℕ) (message : Said) (tag : ℕ) (new : List PartState)
+    → AreOf site parts → (t : TakesEntry parts before to hand message tag new after)
+    → Step (plan_at site to.relay) (relays_of parts to.relay) (Event.Take to.input hand t.node) t.state t.outs
+take_step site parts before after to hand message tag new of t =
+    subst (λ plan. Step plan (relays_of parts to.relay) (Event.Take to.input hand t.node) t.state t.outs) (sym (of to.relay)) t.step
+
+take_after : (parts : List PartState) (copies : List Copy) (passed : SiteAction → List ℕ) (before after : List Loss) (arrivals : List Arrival)
+    (to : SiteInput) (hand : ℕ) (message : Said) (tag : ℕ) (new : List PartState) → (t : TakesEntry parts before to hand message tag new after)
+    → state_with (relays_of new) copies passed after arrivals
+    ≡ put_outs (state_with (with_relay (relays_of parts) to.relay t.state) copies passed before arrivals) to.relay t.outs
+take_after parts copies passed before after arrivals to hand message tag new t =
+    ap (λ r. state_with r copies passed after arrivals) t.relays
+    ∙ ap (λ l. state_with (with_relay (relays_of parts) to.relay t.state) copies passed l arrivals) t.losses
+    ∙ sym (put_lost to.relay (plan_of (slice_get parts to.relay)) (relays_of parts to.relay) to.input hand t.node t.state
+    (with_relay (relays_of parts) to.relay t.state) copies passed before arrivals t.outs t.step)
 
 -- a message from outside
 abbrev pub arrival : SiteInput → Said → Arrival
@@ -183,33 +203,45 @@ first to message number = taken_by to.relay (record { number = number; message =
 
 pub new_comes : (site : Site) (parts : List PartState) (copies : List Copy) (before after : List Loss) (arrivals : List Arrival) (to : SiteInput) (hand : ℕ)
     (message : Said) (new : List PartState) → AreOf site parts → TakesEntry parts before to hand message (length copies) new after
-    → SiteStep site (site_state parts copies before arrivals) (SiteEvent.TakeNew to hand message)
-    (site_state new (copies ++ first to message (length arrivals) ∷ []) after (arrivals ++ arrival to message ∷ []))
-new_comes site parts copies before after arrivals to hand message new of t = record {
-  node = t.node;
-  message = t.its_message;
-  tag = t.its_tag;
-  step = subst (λ p. RelaySteps site (state_with (relays_of parts) (copies ++ first to message (length arrivals) ∷ []) (passed_of parts) before (arrivals ++ arrival to message ∷ []))
-      to.relay (Event.Take to.input hand t.node) (state_with (relays_of new) (copies ++ first to message (length arrivals) ∷ []) p after (arrivals ++ arrival to message ∷ [])))
-      (sym t.passed)
-      (take_steps site parts (copies ++ first to message (length arrivals) ∷ []) (passed_of parts) before after (arrivals ++ arrival to message ∷ []) to hand message (length copies) new of t);
-}
+    → Applies site (holding parts copies before arrivals) (SiteEvent.TakeNew to hand message)
+    (holding new (copies ++ first to message (length arrivals) ∷ []) after (arrivals ++ arrival to message ∷ []))
+new_comes site parts copies before after arrivals to hand message new of t = (
+  record {
+    node = t.node;
+    message = t.its_message;
+    tag = t.its_tag;
+    step = record {
+      state = t.state;
+      outs = t.outs;
+      step = take_step site parts before after to hand message (length copies) new of t;
+      after = ap (λ p. state_with (relays_of new) copied p after arrived) t.passed
+          ∙ take_after parts copied (passed_of parts) before after arrived to hand message (length copies) new t;
+    };
+  },
+  t.boards,
+) where
+  copied : List Copy
+  copied = copies ++ first to message (length arrivals) ∷ []
 
--- why a copy isn't taken
-abbrev NoCopy : Illegal → Site → SiteState → SiteInput → ℕ → Copy → Type 0
-NoCopy illegal.NotAStep site old to hand copy = (new : SiteState) → TakesCopy site old to hand copy new → ⊥
-NoCopy illegal.NoMemory site old to hand copy = Unit {0}
-NoCopy illegal.TotalsFull site old to hand copy = (new : SiteState) × TakesCopy site old to hand copy new
+  arrived : List Arrival
+  arrived = arrivals ++ arrival to message ∷ []
+
+-- why a copy isn't taken, by this board
+abbrev NoCopy : Illegal → BoardState → Site → SiteState → SiteInput → ℕ → Copy → Type 0
+NoCopy illegal.NotAStep board site old to hand copy = (new : SiteState) → TakesCopy site old to hand copy new → ⊥
+NoCopy illegal.NoMemory board site old to hand copy = Unit {0}
+NoCopy illegal.TotalsFull board site old to hand copy = (new : SiteState) × (takes : TakesCopy site old to hand copy new)
+    × IsTooFull (stepped board (Event.Take to.input hand takes.node) takes.step.state takes.step.outs)
 
 -- whatever links and files the site has
 copy_refused : (why : Illegal) (site : Site) (parts : List PartState) (copies : List Copy) (passed : SiteAction → List ℕ) (losses : List Loss) (arrivals : List Arrival)
     (to : SiteInput) (hand : ℕ) (copy : Copy) → AreOf site parts → IsNoEntry why parts to hand copy.message (length copies)
-    → NoCopy why site (state_with (relays_of parts) copies passed losses arrivals) to hand copy
+    → NoCopy why (boards_of parts to.relay) site (state_with (relays_of parts) copies passed losses arrivals) to hand copy
 copy_refused illegal.NotAStep site parts copies passed losses arrivals to hand copy of none = λ new takes.
     none takes.node takes.message takes.tag takes.step.state takes.step.outs
     (subst (λ plan. Step plan (relays_of parts to.relay) (Event.Take to.input hand takes.node) takes.step.state takes.step.outs) (of to.relay) takes.step.step)
 copy_refused illegal.NoMemory site parts copies passed losses arrivals to hand copy of none = tt
-copy_refused illegal.TotalsFull site parts copies passed losses arrivals to hand copy of (node, m, t, state, outs, step) = (
+copy_refused illegal.TotalsFull site parts copies passed losses arrivals to hand copy of (node, m, t, state, outs, step, full) = (
   put_outs (state_with (with_relay (relays_of parts) to.relay state) (copies ++ taken_by to.relay copy ∷ []) passed losses arrivals) to.relay outs,
   record {
     node = node;
@@ -222,11 +254,12 @@ copy_refused illegal.TotalsFull site parts copies passed losses arrivals to hand
       after = refl;
     };
   },
+  full,
 )
 
 pub none_comes : (why : Illegal) (site : Site) (parts : List PartState) (copies : List Copy) (losses : List Loss) (arrivals : List Arrival)
     (to : SiteInput) (hand : ℕ) (message : Said) → AreOf site parts → IsNoEntry why parts to hand message (length copies)
-    → IsIllegalAt why site (site_state parts copies losses arrivals) (SiteEvent.TakeNew to hand message)
+    → IsIllegalAt why site (holding parts copies losses arrivals) (SiteEvent.TakeNew to hand message)
 none_comes illegal.NotAStep site parts copies losses arrivals to hand message of none =
     copy_refused illegal.NotAStep site parts copies (passed_of parts) losses (arrivals ++ arrival to message ∷ []) to hand
     (record { number = length arrivals; message = message; origin = to; trail = [] }) of none
@@ -271,7 +304,7 @@ one_copy site contents to link place a b first second =
     some_one (sym first.is ∙ ap (slice_get contents.copies) tag ∙ second.is)
 
 pub none_there : (site : Site) (contents : Contents) (to : SiteInput) (hand : ℕ) (link : SiteAction) (place : ℕ) → IsOnNoLink site contents to link place
-    → IsIllegalAt illegal.NotAStep site (state_in contents) (SiteEvent.TakeFrom to hand link place)
+    → IsIllegalAt illegal.NotAStep site contents (SiteEvent.TakeFrom to hand link place)
 none_there site contents to hand link place none = λ new from. none from.copy (on_link site contents to hand link place new from)
 
 pub place_kept : (parts new : List PartState) (link : SiteAction) (place tag : ℕ) → slice_get (passed_of parts link) place ≡ Some tag
@@ -286,43 +319,47 @@ place_kept parts new link place tag is same = subst (λ (f : SiteAction → List
 pub from_link : (site : Site) (contents : Contents) (to : SiteInput) (hand : ℕ) (link : SiteAction) (place : ℕ) (copy : Copy) (new last : List PartState)
     (after : List Loss) → AreOf site contents.parts → IsOnLink site contents to link place copy
     → TakesEntry contents.parts contents.losses to hand copy.message (length contents.copies) new after → Leaves new link place last
-    → SiteStep site (state_in contents) (SiteEvent.TakeFrom to hand link place)
-    (site_state last (contents.copies ++ taken_by to.relay copy ∷ []) after contents.arrivals)
-from_link site contents to hand link place copy new last after of on t gone = record {
-  leads = on.leads;
-  before = take place (passed_of contents.parts link);
-  tag = on.tag;
-  behind = drop (place + 1) (passed_of contents.parts link);
-  on_link = (split (passed_of contents.parts link) place on.tag on.stands).0;
-  stands = (split (passed_of contents.parts link) place on.tag on.stands).1;
-  copy = copy;
-  is = on.is;
-  takes = record {
-    node = t.node;
-    message = t.its_message;
-    tag = t.its_tag;
-    step = subst (λ s. RelaySteps site old to.relay (Event.Take to.input hand t.node) s) same
-        (take_steps site contents.parts copied links contents.losses after contents.arrivals to hand copy.message (length contents.copies) new of t);
-  };
-} where
+    → Applies site contents (SiteEvent.TakeFrom to hand link place)
+    (holding last (contents.copies ++ taken_by to.relay copy ∷ []) after contents.arrivals)
+from_link site contents to hand link place copy new last after of on t gone = (
+  record {
+    leads = on.leads;
+    before = take place (passed_of contents.parts link);
+    tag = on.tag;
+    behind = drop (place + 1) (passed_of contents.parts link);
+    on_link = (split (passed_of contents.parts link) place on.tag on.stands).0;
+    stands = (split (passed_of contents.parts link) place on.tag on.stands).1;
+    copy = copy;
+    is = on.is;
+    takes = record {
+      node = t.node;
+      message = t.its_message;
+      tag = t.its_tag;
+      step = record {
+        state = t.state;
+        outs = t.outs;
+        step = take_step site contents.parts contents.losses after to hand copy.message (length contents.copies) new of t;
+        after = same ∙ take_after contents.parts copied links contents.losses after contents.arrivals to hand copy.message (length contents.copies) new t;
+      };
+    };
+  },
+  gone.boards ∙ t.boards,
+) where
   copied : List Copy
   copied = contents.copies ++ taken_by to.relay copy ∷ []
 
   links : SiteAction → List ℕ
   links = with_passed (passed_of contents.parts) link (without (passed_of contents.parts link) place)
 
-  old : SiteState
-  old = state_with (relays_of contents.parts) copied links contents.losses contents.arrivals
-
-  same : state_with (relays_of new) copied links after contents.arrivals ≡ site_state last copied after contents.arrivals
-  same = ap (λ r. state_with r copied links after contents.arrivals) (sym gone.relays)
+  same : site_state last copied after contents.arrivals ≡ state_with (relays_of new) copied links after contents.arrivals
+  same = sym (ap (λ r. state_with r copied links after contents.arrivals) (sym gone.relays)
       ∙ ap (λ p. state_with (relays_of last) copied p after contents.arrivals)
-      (ap (λ f. with_passed f link (without (f link) place)) (sym t.passed) ∙ sym gone.passed)
+      (ap (λ f. with_passed f link (without (f link) place)) (sym t.passed) ∙ sym gone.passed))
 
 pub not_from_link : (why : Illegal) (site : Site) (contents : Contents) (to : SiteInput) (hand : ℕ) (link : SiteAction) (place : ℕ) (copy : Copy)
     → AreOf site contents.parts → IsOnLink site contents to link place copy
     → IsNoEntry why contents.parts to hand copy.message (length contents.copies)
-    → IsIllegalAt why site (state_in contents) (SiteEvent.TakeFrom to hand link place)
+    → IsIllegalAt why site contents (SiteEvent.TakeFrom to hand link place)
 not_from_link illegal.NotAStep site contents to hand link place copy of on none = λ new from.
     let one = one_copy site contents to link place copy from.copy on (on_link site contents to hand link place new from) in
     copy_refused illegal.NotAStep site contents.parts contents.copies (with_passed (passed_of contents.parts) link (from.before ++ from.behind)) contents.losses contents.arrivals to hand from.copy of
@@ -343,4 +380,5 @@ not_from_link illegal.TotalsFull site contents to hand link place copy of on non
         is = on.is;
         takes = taken.1;
       },
+      taken.2,
     )

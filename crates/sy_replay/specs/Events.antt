@@ -3,7 +3,7 @@ use Rattle.std.specs.Prelude.{◌≡◌, List, map}
 use Rattle.std.specs.Arc.{arc_value}
 use Rattle.sy_board.specs.declared.fault.BoardFault.{BoardFault}
 use Rattle.sy_board.specs.declared.fault.BoardFault.TheVariants as fault
-use Rattle.sy_board.specs.relay.Boards.{BoardState, is_no_memory}
+use Rattle.sy_board.specs.relay.Boards.{BoardState, IsTooFull, is_no_memory, stepped}
 use Rattle.sy_board.specs.relay.Cells.{RelayState}
 use Rattle.sy_board.specs.relay.Steps as steps
 use Rattle.sy_board.specs.relay.Steps.{Out, Step}
@@ -53,15 +53,16 @@ losses_of losses = map loss_of losses
 
 -- ---- what a relay's board does
 
--- The board makes the step, which lets these out. What its accounts say stands in its own contracts.
+-- The board makes the step, which lets these out, and counts it.
 abbrev pub Goes : BoardState → steps.Event → BoardState → List Out → Type 0
-Goes old event new outs = Step old.plan old.state event new.state outs × (new.plan ≡ old.plan)
+Goes old event new outs = Step old.plan old.state event new.state outs × (new ≡ stepped old event new.state outs)
 
--- Why an event isn't applied: it is no step; or it is one, and a total is full. That memory ran out says nothing.
+-- Why an event isn't applied: it is no step; or it is one, and a total would pass its limit. That memory ran out says nothing.
 abbrev pub IsIllegal : Illegal → BoardState → steps.Event → Type 0
 IsIllegal illegal.NotAStep old event = (new : RelayState) (outs : List Out) → Step old.plan old.state event new outs → ⊥
 IsIllegal illegal.NoMemory old event = Unit {0}
-IsIllegal illegal.TotalsFull old event = (new : RelayState) × (outs : List Out) × Step old.plan old.state event new outs
+IsIllegal illegal.TotalsFull old event =
+    (new : RelayState) × (outs : List Out) × Step old.plan old.state event new outs × IsTooFull (stepped old event new outs)
 
 -- what a board's refusal of a step means
 abbrev pub illegal_of : BoardFault → Illegal

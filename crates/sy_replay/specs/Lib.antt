@@ -6,3 +6,4 @@ pub mod Takes
 pub mod Held
 pub mod Lines
 pub mod Reading
+pub mod Routes

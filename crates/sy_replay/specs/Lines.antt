@@ -173,10 +173,19 @@ abbrev pub IsRead : Site → List ℕ → Option Event → Type 0
 IsRead site line None = is_skipped line ≡ true
 IsRead site line (Some e) = StandsFor site line (site_event e)
 
--- Why nothing is read: the line isn't skipped, and stands for no event; or memory ran out.
+-- take RELAY PORT H new RAW, be RAW a message or not
+pub record BringsRaw (site : Site) (line : List ℕ) : Type 0 where
+  pub to : SiteInput
+  pub hand : ℕ
+  pub raw : List ℕ
+  pub behind : List (List ℕ)
+  pub whole : words_in line ≡ word_of verb.Take ∷ behind
+  pub is_hand : IsHand site behind to hand (codes "new" ∷ words_in raw)
+
+-- Why nothing is read: the line isn't skipped, and stands for no event; or memory ran out, at a line that brings a RAW.
 abbrev pub IsUnread : Site → List ℕ → EventFault → Type 0
 IsUnread site line fault.Line = (is_skipped line ≡ false) × IsNoEvent site line
-IsUnread site line fault.NoMemory = Unit {0}
+IsUnread site line fault.NoMemory = BringsRaw site line
 
 -- ---- the faults
 

@@ -55,7 +55,7 @@ abbrev pub TakesMessage : ℕ → BoardState → List Loss → ℕ → ℕ → S
 TakesMessage relay old before input hand message tag new after =
     (node : Entry) × (node.message ≡ message) × (node.tag ≡ tag) × MakesInside relay old before (Event.Take input hand node) new after
 
--- Why it doesn't: no such entry is taken; or one is, and a total is full.
+-- Why it doesn't: no such entry is taken; or one is, and a total would pass its limit.
 abbrev pub IsNoTake : Illegal → BoardState → ℕ → ℕ → Said → ℕ → Type 0
 IsNoTake illegal.NotAStep old input hand message tag =
     (node : Entry) → node.message ≡ message → node.tag ≡ tag → IsIllegal illegal.NotAStep old (Event.Take input hand node)

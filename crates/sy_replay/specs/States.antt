@@ -1,8 +1,10 @@
 -- The state of a replay as lists, and the state of the site that it is.
-use Rattle.std.specs.Prelude.{◌≡◌, ℕ, List, [], Option, Some, None, length, slice_get}
+use Rattle.std.specs.Prelude.{◌≡◌, ℕ, ◌==◌, if◌then◌else◌, List, [], Option, Some, None, length, slice_get}
 use Rattle.sy_rules.specs.PlanValue.{Plan}
+use Rattle.sy_board.specs.relay.Boards.{BoardState, IsTooFull, opened, stepped}
 use Rattle.sy_board.specs.relay.Cells.{RelayState}
 use Rattle.sy_board.specs.relay.Cells as cells
+use Rattle.sy_board.specs.relay.Steps as steps
 use Rattle.sy_site.specs.declared.site.SiteAction.{SiteAction}
 use Rattle.sy_site.specs.Sites.{Site, no_plan, plan_at}
 use Rattle.sy_site.specs.machine.States.{Arrival, Copy, Loss, SiteState}
@@ -52,25 +54,7 @@ HaveSamePlans old new = (r : ℕ) → plan_of (slice_get new r) ≡ plan_of (sli
 abbrev pub HasLists : PartState → Type 0
 HasLists part = length part.passed ≡ length part.board.plan.actions
 
--- Why the site doesn't make an event: it is no step from this state; or it is one, and a total is full. That memory ran
--- out says nothing.
-abbrev pub IsIllegalAt : Illegal → Site → SiteState → SiteEvent → Type 0
-IsIllegalAt illegal.NotAStep site old event = (new : SiteState) → SiteStep site old event new → ⊥
-IsIllegalAt illegal.NoMemory site old event = Unit {0}
-IsIllegalAt illegal.TotalsFull site old event = (new : SiteState) × SiteStep site old event new
-
--- ---- events inside relays
-
--- the site's step from these relays to those, whatever else the site holds
-abbrev pub StepsInside : List PartState → List Loss → SiteEvent → List PartState → List Loss → Type 0
-StepsInside parts before event new after = (site : Site) (copies : List Copy) (arrivals : List Arrival) → AreOf site parts
-    → SiteStep site (site_state parts copies before arrivals) event (site_state new copies after arrivals)
-
-abbrev pub IsNoneInside : Illegal → List PartState → List Loss → SiteEvent → Type 0
-IsNoneInside why parts losses event = (site : Site) (copies : List Copy) (arrivals : List Arrival) → AreOf site parts
-    → IsIllegalAt why site (site_state parts copies losses arrivals) event
-
--- ---- a replay
+-- ---- what a site holds
 
 -- what a site holds, as lists: the relays with what their devices took, the copies, the losses, and what came from outside
 pub record Contents : Type 0 where
@@ -81,6 +65,66 @@ pub record Contents : Type 0 where
 
 abbrev pub state_in : Contents → SiteState
 state_in contents = site_state contents.parts contents.copies contents.losses contents.arrivals
+
+abbrev pub holding : List PartState → List Copy → List Loss → List Arrival → Contents
+holding parts copies losses arrivals = record { parts = parts; copies = copies; losses = losses; arrivals = arrivals }
+
+-- ---- boards
+
+-- a relay's board; that of a relay that isn't there has no places
+abbrev pub board_of : Option PartState → BoardState
+board_of None = opened no_plan None
+board_of (Some part) = part.board
+
+abbrev pub boards_of : List PartState → ℕ → BoardState
+boards_of parts = λ r. board_of (slice_get parts r)
+
+-- the same but at one relay
+abbrev pub with_board : (ℕ → BoardState) → ℕ → BoardState → ℕ → BoardState
+with_board boards relay new = λ r. if relay == r then new else boards r
+
+-- ---- steps with what they count
+
+-- the relay that makes the step
+abbrev pub relay_of : SiteEvent → ℕ
+relay_of (SiteEvent.TakeNew to hand message) = to.relay
+relay_of (SiteEvent.TakeFrom to hand link place) = to.relay
+relay_of (SiteEvent.Inside relay event) = relay
+
+-- its board after the step, with its totals
+abbrev pub stepped_by : (site : Site) (old : SiteState) (event : SiteEvent) (new : SiteState) → SiteStep site old event new → BoardState → BoardState
+stepped_by site old (SiteEvent.TakeNew to hand message) new takes board =
+    stepped board (steps.Event.Take to.input hand takes.node) takes.step.state takes.step.outs
+stepped_by site old (SiteEvent.TakeFrom to hand link place) new from board =
+    stepped board (steps.Event.Take to.input hand from.takes.node) from.takes.step.state from.takes.step.outs
+stepped_by site old (SiteEvent.Inside relay event) new step board = stepped board event step.1.state step.1.outs
+
+-- The site makes the step, and the relay's board counts it; the other boards stay.
+abbrev pub Applies : Site → Contents → SiteEvent → Contents → Type 0
+Applies site old event new = (step : SiteStep site (state_in old) event (state_in new))
+    × (boards_of new.parts
+    ≡ with_board (boards_of old.parts) (relay_of event) (stepped_by site (state_in old) event (state_in new) step (boards_of old.parts (relay_of event))))
+
+-- Why the site doesn't make an event: it is no step from this state; or it is one, and a total of the relay's board would pass its limit. That
+-- memory ran out says nothing.
+abbrev pub IsIllegalAt : Illegal → Site → Contents → SiteEvent → Type 0
+IsIllegalAt illegal.NotAStep site old event = (new : SiteState) → SiteStep site (state_in old) event new → ⊥
+IsIllegalAt illegal.NoMemory site old event = Unit {0}
+IsIllegalAt illegal.TotalsFull site old event = (new : SiteState) × (step : SiteStep site (state_in old) event new)
+    × IsTooFull (stepped_by site (state_in old) event new step (boards_of old.parts (relay_of event)))
+
+-- ---- events inside relays
+
+-- the site's step from these relays to those, whatever else the site holds
+abbrev pub StepsInside : List PartState → List Loss → SiteEvent → List PartState → List Loss → Type 0
+StepsInside parts before event new after = (site : Site) (copies : List Copy) (arrivals : List Arrival) → AreOf site parts
+    → Applies site (holding parts copies before arrivals) event (holding new copies after arrivals)
+
+abbrev pub IsNoneInside : Illegal → List PartState → List Loss → SiteEvent → Type 0
+IsNoneInside why parts losses event = (site : Site) (copies : List Copy) (arrivals : List Arrival) → AreOf site parts
+    → IsIllegalAt why site (holding parts copies losses arrivals) event
+
+-- ---- a replay
 
 -- a site with what it holds
 pub record ReplayState : Type 0 where

@@ -2,6 +2,7 @@
 use Rattle.std.specs.Prelude.{◌≡◌, ℕ, ◌+◌, List, ◌++◌, Some, drop, slice_get, take}
 use Rattle.sy_wire.specs.Messages.{Said}
 use Rattle.sy_chain.specs.Entries.{Entry}
+use Rattle.sy_board.specs.relay.Boards.{IsTooFull, stepped}
 use Rattle.sy_board.specs.relay.Cells.{RelayState}
 use Rattle.sy_board.specs.relay.Steps.{Event, Out, Step}
 use Rattle.sy_site.specs.declared.site.SiteAction.{SiteAction}
@@ -11,7 +12,7 @@ use Rattle.sy_site.specs.machine.States.{Copy, Loss, with_passed, with_relay}
 use Rattle.sy_replay.specs.declared.event.Illegal.{Illegal}
 use Rattle.sy_replay.specs.declared.event.Illegal.TheVariants as illegal
 use Rattle.sy_replay.specs.Parts.{PartState, lost_by}
-use Rattle.sy_replay.specs.States.{Contents, passed_of, plan_of, relays_of}
+use Rattle.sy_replay.specs.States.{Contents, boards_of, passed_of, plan_of, relays_of, with_board}
 
 -- A relay's board makes its step of taking an entry of this message and with this tag; the other relays stay, and so does what devices took.
 pub record TakesEntry (old : List PartState) (before : List Loss) (to : SiteInput) (hand : ℕ) (message : Said) (tag : ℕ) (new : List PartState) (after : List Loss)
@@ -23,10 +24,11 @@ pub record TakesEntry (old : List PartState) (before : List Loss) (to : SiteInpu
   pub outs : List Out
   pub step : Step (plan_of (slice_get old to.relay)) (relays_of old to.relay) (Event.Take to.input hand node) state outs
   pub relays : relays_of new ≡ with_relay (relays_of old) to.relay state
+  pub boards : boards_of new ≡ with_board (boards_of old) to.relay (stepped (boards_of old to.relay) (Event.Take to.input hand node) state outs)
   pub passed : passed_of new ≡ passed_of old
   pub losses : after ≡ before ++ lost_by to.relay outs
 
--- Why it doesn't: there is no such step; or there is, and a total is full. That memory ran out says nothing.
+-- Why it doesn't: there is no such step; or there is, and a total would pass its limit. That memory ran out says nothing.
 abbrev pub IsNoEntry : Illegal → List PartState → SiteInput → ℕ → Said → ℕ → Type 0
 IsNoEntry illegal.NotAStep old to hand message tag =
     (node : Entry) → node.message ≡ message → node.tag ≡ tag → (state : RelayState) (outs : List Out)
@@ -35,6 +37,7 @@ IsNoEntry illegal.NoMemory old to hand message tag = Unit {0}
 IsNoEntry illegal.TotalsFull old to hand message tag =
     (node : Entry) × (node.message ≡ message) × (node.tag ≡ tag) × (state : RelayState) × (outs : List Out)
     × Step (plan_of (slice_get old to.relay)) (relays_of old to.relay) (Event.Take to.input hand node) state outs
+    × IsTooFull (stepped (boards_of old to.relay) (Event.Take to.input hand node) state outs)
 
 -- a link without what stands at a place
 abbrev pub without : List ℕ → ℕ → List ℕ
@@ -43,6 +46,7 @@ without tags place = take place tags ++ drop (place + 1) tags
 -- What stands at a place of a link is gone from there, and nothing else changes.
 pub record Leaves (old : List PartState) (link : SiteAction) (place : ℕ) (new : List PartState) : Type 0 where
   pub relays : relays_of new ≡ relays_of old
+  pub boards : boards_of new ≡ boards_of old
   pub passed : passed_of new ≡ with_passed (passed_of old) link (without (passed_of old link) place)
 
 -- Of a site that holds this, the copy stands at the place of the link, which leads to the input.

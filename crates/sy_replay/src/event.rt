@@ -15,9 +15,9 @@ pub enum RelayEvent {
     Grab { worker: u32 },
     /// A worker's job is done: its device took the message.
     Done { worker: u32 },
-    /// It failed, and may be tried again; or the device took the message all the same.
+    /// It failed, and may be tried again. `took` says whether the device took the message all the same.
     Fail { worker: u32, took: bool },
-    /// It failed for the last time.
+    /// It failed for the last time; `took` as for `Fail`.
     GiveUp { worker: u32, took: bool },
     /// A worker's post is put, or discarded.
     Post { worker: u32 },
@@ -58,7 +58,7 @@ pub enum Illegal {
     NotAStep,
     /// Memory ran out, which says nothing of the event.
     NoMemory,
-    /// It is a step, but a total of the relay is full.
+    /// It is a step, but a total of the relay's board would pass 64 bits.
     TotalsFull,
 }
 

@@ -1,13 +1,15 @@
-//! The machine of a site, driven event by event: the boards of all relays, with links and files in memory and without
-//! threads.
+//! A site that is driven event by event: the boards of all its relays, with links and files in memory and without
+//! threads. And the lines of an events file.
 #![tactic(auto)]
 
 mod copies;
 pub mod event;
+pub mod laws;
 pub mod line;
 mod making;
 mod part;
 pub mod replay;
+mod routes;
 mod steps;
 
 pub use event::{Cause, Event, Illegal, Loss, RelayEvent};

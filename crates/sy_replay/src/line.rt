@@ -3,7 +3,7 @@
 ghost use Rattle.std.specs.Prelude.{◌≡◌, IfOk, IfErr};
 ghost use Rattle.std.specs.Option.{option_copied};
 ghost use Rattle.sy_replay.specs.Lines as spec;
-ghost use Rattle.sy_replay.specs.Reading.{NoEvent, words_left};
+ghost use Rattle.sy_replay.specs.Reading.{NoEvent, WantsMemory, words_left};
 
 pub mod fault;
 mod inside;
@@ -31,7 +31,8 @@ fn event_behind(
 ) -> Result<Event, EventFault>
     ensures ok { IfOk result (λ e. spec.IsBehind site.now verb (words_left (option_copied rest.entry))
         (spec.site_event e)) }
-    ensures err { IfErr result (λ f. NoEvent (spec.IsBehind site.now verb (words_left (option_copied rest.entry))) f) }
+    ensures err { IfErr result (λ f. NoEvent (spec.IsBehind site.now verb (words_left (option_copied rest.entry)))
+        (WantsMemory site.now verb (words_left (option_copied rest.entry))) f) }
 {
     match verb {
         Verb::Take => take(alloc, site, rest),
@@ -49,7 +50,7 @@ fn event_behind(
 // The event that a line stands for.
 fn event_of(alloc: Global, site: &Site, line: &[u8]) -> Result<Event, EventFault>
     ensures ok { IfOk result (λ e. spec.StandsFor site.now line.now (spec.site_event e)) }
-    ensures err { IfErr result (λ f. NoEvent (spec.StandsFor site.now line.now) f) }
+    ensures err { IfErr result (λ f. NoEvent (spec.StandsFor site.now line.now) (spec.BringsRaw site.now line.now) f) }
 {
     let (first, rest) = first_word(line);
     match verb_of(first) {
@@ -77,7 +78,7 @@ fn is_skipped(line: &[u8]) -> bool
 /// the input, or a place where no copy stands: its event is then no step.
 ///
 /// It takes time linear in the line, but for the look-up of names among at most 64 relays and of a port among the
-/// inputs of one. Only the message of a `take .. new` takes memory.
+/// inputs of one. Only the message of a `take .. new` takes memory, so that memory runs out at no other line.
 pub fn read_event(alloc: Global, site: &Site, line: &[u8]) -> Result<Option<Event>, EventFault>
     ensures ok { IfOk result (λ read. spec.IsRead site.now line.now read) }
     ensures err { IfErr result (λ f. spec.IsUnread site.now line.now f) }

@@ -1,18 +1,20 @@
 //! A site that is driven event by event.
-ghost use Rattle.std.specs.Prelude.{◌≡◌, IfErr, IfNone, IfOk, IfSome, OnErr, OnOk, length, option_map, slice_get};
+ghost use Rattle.std.specs.Prelude.{◌≡◌, ◌<◌, All, IfErr, IfNone, IfOk, IfSome, OnErr, OnOk, length, option_map, slice_get};
 ghost use Rattle.std.specs.Arc.{arc_value};
 ghost use Rattle.sy_site.specs.machine.Lengths.{IsWithinMarks};
+ghost use Rattle.sy_site.specs.machine.Naming.{IsTag};
 ghost use Rattle.sy_site.specs.machine.States.{opening};
-ghost use Rattle.sy_site.specs.machine.Steps.{SiteEvent, SiteStep};
+ghost use Rattle.sy_site.specs.machine.Steps.{SiteEvent};
 ghost use Rattle.sy_replay.specs.Events.{site_event, losses_of};
-ghost use Rattle.sy_replay.specs.States.{AreOf, HaveSamePlans, IsIllegalAt, IsReached, state_at};
-ghost use Rattle.sy_replay.specs.Held.{IsNoStep, Steps, contents_of, state_held};
+ghost use Rattle.sy_replay.specs.States.{Applies, AreOf, HaveSamePlans, IsIllegalAt, IsReached, state_at};
+ghost use Rattle.sy_replay.specs.Held.{IsNoStep, Steps, contents_of};
 ghost use Rattle.sy_replay.specs.Held as spec;
 ghost use Rattle.sy_replay.specs.Takes.{IsOnLink, IsOnNoLink};
 
 use crate::copies::{Arrived, Copied};
 use crate::event::{Event, Illegal, Loss};
 use crate::part::{Part, inside, tag_at, take_entry, unlink};
+use crate::routes::Routes;
 use std::alloc::{AllocError, Global};
 use std::marker::Model;
 use std::sync::Arc;
@@ -33,7 +35,7 @@ struct Held {
 #[derive(Drop)]
 pub struct Replay<'a> {
     alloc: Global,
-    site: &'a Site,
+    site: Routes<'a>,
     held: Held,
 }
 
@@ -47,9 +49,9 @@ impl<'a> Model for Replay<'a> {
 
     ghost coded = { Prim.hlevel (codes, plan_code) };
 
-    ghost view = { λ r. record { site = r.site.now; contents = contents_of r.held } };
+    ghost view = { λ r. record { site = r.site; contents = contents_of r.held } };
 
-    ghost invariant = { λ r. AreOf r.site.now r.held.parts.items × IsReached r.site.now (state_held r.held) };
+    ghost invariant = { λ r. AreOf r.site r.held.parts.items × IsReached r.site (state_held r.held) };
 }
 
 // The boards of a site's relays. Each relay holds nothing yet.
@@ -111,7 +113,7 @@ fn take_new(
 
 // The copy at a place of a link that leads to this input.
 fn copy_at<'h>(
-    site: &Site,
+    site: &Routes<'_>,
     held: &'h Held,
     to: SiteInput,
     link: SiteAction,
@@ -120,7 +122,7 @@ fn copy_at<'h>(
     ensures some { IfSome result (λ copy. IsOnLink site.now (contents_of held.now) to link place copy.now) }
     ensures none { IfNone result (IsOnNoLink site.now (contents_of held.now) to link place) }
 {
-    if site.target(link.relay, link.action) != Some(to) {
+    if site.target(link) != Some(to) {
         return None;
     }
     let tag = tag_at(held.parts.as_slice(), link, place)?;
@@ -130,7 +132,7 @@ fn copy_at<'h>(
 // A copy on a link comes to a hand of the input that the link leads to, or nothing changes.
 fn take_from(
     alloc: Global,
-    site: &Site,
+    site: &Routes<'_>,
     held: &mut Held,
     to: SiteInput,
     hand: u32,
@@ -138,8 +140,8 @@ fn take_from(
     place: u64,
 ) -> Result<(), Illegal>
     requires { AreOf site.now held.old.parts.items }
-    ensures ok { OnOk result (SiteStep site.now (state_held held.old) (SiteEvent.TakeFrom to hand link place) (state_held held.new)) }
-    ensures err { IfErr result (λ why. IsIllegalAt why site.now (state_held held.old) (SiteEvent.TakeFrom to hand link place)) }
+    ensures ok { OnOk result (Applies site.now (contents_of held.old) (SiteEvent.TakeFrom to hand link place) (contents_of held.new)) }
+    ensures err { IfErr result (λ why. IsIllegalAt why site.now (contents_of held.old) (SiteEvent.TakeFrom to hand link place)) }
     ensures unchanged { OnErr result (contents_of held.new ≡ contents_of held.old) }
     ensures plans { HaveSamePlans held.old.parts.items held.new.parts.items }
 {
@@ -173,10 +175,10 @@ fn take_from(
 }
 
 // Makes the step of an event, or changes nothing.
-fn step(alloc: Global, site: &Site, held: &mut Held, event: &Event) -> Result<(), Illegal>
+fn step(alloc: Global, site: &Routes<'_>, held: &mut Held, event: &Event) -> Result<(), Illegal>
     requires { AreOf site.now held.old.parts.items }
-    ensures ok { OnOk result (SiteStep site.now (state_held held.old) (site_event event.now) (state_held held.new)) }
-    ensures err { IfErr result (λ why. IsIllegalAt why site.now (state_held held.old) (site_event event.now)) }
+    ensures ok { OnOk result (Applies site.now (contents_of held.old) (site_event event.now) (contents_of held.new)) }
+    ensures err { IfErr result (λ why. IsIllegalAt why site.now (contents_of held.old) (site_event event.now)) }
     ensures unchanged { OnErr result (contents_of held.new ≡ contents_of held.old) }
     ensures plans { HaveSamePlans held.old.parts.items held.new.parts.items }
 {
@@ -220,12 +222,14 @@ fn step(alloc: Global, site: &Site, held: &mut Held, event: &Event) -> Result<()
 impl<'a> Replay<'a> {
     /// A replay of a site, in which no relay holds anything yet. It is refused for want of memory alone.
     pub fn new(alloc: Global, site: &'a Site) -> Result<Replay<'a>, AllocError>
-        ensures { IfOk result (λ replay. (replay.site ≡ site.now) × (state_at replay ≡ opening site.now)) }
+        ensures { IfOk result (λ replay. (replay.site ≡ site.now) × (replay.contents.parts ≡ spec.opened_parts site.now)
+            × (state_at replay ≡ opening site.now)) }
     {
         let parts = opened_parts(alloc, site)?;
+        let routes = Routes::of(alloc, site)?;
         Ok(Replay {
             alloc,
-            site,
+            site: routes,
             held: Held {
                 parts,
                 copies: Vec::new(alloc),
@@ -235,21 +239,25 @@ impl<'a> Replay<'a> {
         })
     }
 
-    /// Makes the step of an event; or says why not, and changes nothing.
+    /// Makes the step of an event; or says why not, and changes nothing. The totals of the relay's board are then those
+    /// that its step gives; where one of them would pass 64 bits, the step isn't made.
     ///
-    /// Its cost is that of the step. A take from a link also moves what stands behind the copy there.
+    /// Its cost is that of the step. A take from a link also moves what stands behind the copy there, and copies the
+    /// numbers of the relays that took the copy.
     pub fn apply(&mut self, event: &Event) -> Result<(), Illegal>
-        ensures ok { OnOk result (SiteStep self.old.site (state_at self.old) (site_event event.now) (state_at self.new)) }
-        ensures err { IfErr result (λ why. IsIllegalAt why self.old.site (state_at self.old) (site_event event.now)) }
+        ensures ok { OnOk result (Applies self.old.site self.old.contents (site_event event.now) self.new.contents) }
+        ensures err { IfErr result (λ why. IsIllegalAt why self.old.site self.old.contents (site_event event.now)) }
         ensures unchanged { OnErr result (self.new ≡ self.old) }
         ensures site { self.new.site ≡ self.old.site }
     {
-        step(self.alloc, self.site, &mut self.held, event)
+        step(self.alloc, &self.site, &mut self.held, event)
     }
 
-    /// What was lost, in order.
+    /// What was lost, in order. The relay of each loss is one of the site's, and its copy one that was made.
     pub fn losses(&self) -> &[Loss]
-        ensures { losses_of result.now ≡ (state_at self.now).losses }
+        ensures all { losses_of result.now ≡ (state_at self.now).losses }
+        ensures relays { All (λ loss. loss.relay < length self.now.site.relays) result.now }
+        ensures copies { All (λ loss. IsTag (state_at self.now).copies loss.copy) result.now }
     {
         self.held.losses.as_slice()
     }
@@ -261,7 +269,7 @@ impl<'a> Replay<'a> {
         self.held.arrivals.len() as u64
     }
 
-    /// The number of a copy's message. Copies are numbered as they are taken, from 0.
+    /// The number of a copy's message; None of a copy that wasn't made. Copies are numbered as they are taken, from 0.
     pub fn number_of(&self, copy: u64) -> Option<u64>
         ensures { result ≡ option_map (λ c. c.number) (slice_get (state_at self.now).copies copy) }
     {
@@ -269,7 +277,7 @@ impl<'a> Replay<'a> {
         Some(copy.number())
     }
 
-    /// The class of a copy's message.
+    /// The class of a copy's message; None of a copy that wasn't made.
     pub fn class_of(&self, copy: u64) -> Option<Class>
         ensures { result ≡ option_map (λ c. c.message.class) (slice_get (state_at self.now).copies copy) }
     {

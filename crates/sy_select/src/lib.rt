@@ -18,5 +18,6 @@ pub mod verdict;
 
 pub use expr::{Expr, eval, eval_class};
 pub use fault::{FaultCode, SelectFault};
+pub use names::{facility_text, severity_text};
 pub use selector::Selector;
 pub use verdict::Verdict;

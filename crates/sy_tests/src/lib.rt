@@ -11,6 +11,8 @@ mod cert;
 #[cfg(test)]
 mod chain;
 #[cfg(test)]
+mod checker;
+#[cfg(test)]
 mod marks;
 #[cfg(test)]
 mod relay;

@@ -1,3 +1,4 @@
 -- What only private functions cite.
+pub mod Halts
 pub mod Stops
 pub mod Ways

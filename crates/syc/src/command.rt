@@ -1,23 +1,28 @@
 //! The words of the command line.
-ghost use Rattle.std.specs.Prelude.{◌≡◌, ◌∷◌, ◌↔◌, codes, map, string_bytes, IfErr, IfOk, IsTrue};
-ghost use Rattle.clap.specs.Words.{kind_of};
-ghost use Rattle.syc.specs.Words.{ArePass};
+ghost use Rattle.std.specs.Prelude.{◌≡◌, ◌∷◌, ◌↔◌, ℕ, List, codes, map, string_bytes, IfErr, IfNone, IfOk, IfSome, IsTrue};
+ghost use Rattle.syc.specs.Words as spec;
+ghost use Rattle.syc.specs.Words.{ArePass, AreReplay, IsCommand};
 
 use clap::error::ErrorKind;
-use clap::{Command as Parser, Error};
+use clap::{Arg, Command as Parser, Error};
 use std::alloc::{AllocError, Global};
 
 /// What the program is to do.
 #[derive(Clone, Copy)]
-pub enum Command {
+pub enum Command<'a> {
     /// Frames on standard input to lines on standard output.
     Pass,
+    /// The events of a file at a site: the names of the site file and of the events file.
+    Replay(&'a str, &'a str),
 }
 
 const ABOUT: &str = "A relay for syslog messages in octet-counted frames";
 
 const PASS_ABOUT: &str =
     "Read messages in octet-counted frames from standard input and write one line a message";
+
+const REPLAY_ABOUT: &str =
+    "Make the events of a file at the site of a site file, and print each loss";
 
 // The words with the program's name before them.
 pub fn all_words<'a>(alloc: Global, args: &'a [String]) -> Result<Vec<&'a str>, AllocError>
@@ -37,7 +42,7 @@ fn is_word(word: &str, wanted: &str) -> bool
     word == wanted
 }
 
-// Whether the words are `pass` alone after the program's name. clap reads `pass --` as that command too.
+// Whether the words are `pass` alone after the program's name.
 fn are_pass(words: &[&str]) -> bool
     ensures { IsTrue result ↔ ArePass (map (λ s. s.now) words.now) }
 {
@@ -47,22 +52,82 @@ fn are_pass(words: &[&str]) -> bool
     }
 }
 
-/// The command that the words name, the program's name being the first of them. A call for help or for the
-/// version is an error of that kind.
-pub fn command_of(alloc: Global, words: &[&str]) -> Result<Command, Error>
-    ensures only { IfOk result (λ _. ArePass (map (λ s. s.now) words.now)) }
-    ensures ok { ArePass (map (λ s. s.now) words.now) → IfOk result (λ command. command ≡ Command.Pass) }
-    ensures err { ArePass (map (λ s. s.now) words.now) → IfErr result (λ e. kind_of e ≡ ErrorKind.OutOfMemory) }
+// Whether a word names a file where it stands: it isn't empty, and no option.
+fn is_plain(word: &str) -> bool
+    ensures { result ≡ spec.is_plain word.now }
 {
+    match word.as_bytes().first() {
+        Some(first) => *first != b'-',
+        None => false,
+    }
+}
+
+// The names of the files, where the words are `replay` with two after the program's name.
+fn replayed<'a>(words: &[&'a str]) -> Option<(&'a str, &'a str)>
+    ensures some { IfSome result (λ names. AreReplay (map (λ s. s.now) words.now) names.0.now names.1.now) }
+    ensures none { IfNone result ((site events : List ℕ) → AreReplay (map (λ s. s.now) words.now) site events → ⊥) }
+{
+    match words {
+        [program, command, site, events] => {
+            if is_word(program, "syc")
+                && is_word(command, "replay")
+                && is_plain(site)
+                && is_plain(events)
+            {
+                Some((site, events))
+            } else {
+                None
+            }
+        }
+        _ => None,
+    }
+}
+
+// What clap knows of a replay.
+fn replay_parser<'a>(alloc: Global) -> Result<Parser<'a>, AllocError> {
+    let site = Arg::new(alloc, "SITE").required(true);
+    let events = Arg::new(alloc, "EVENTS").required(true);
+    let replay = Parser::new(alloc, "replay").about(REPLAY_ABOUT);
+    let replay = replay.arg(site)?;
+    let replay = replay.arg(events)?;
+    Ok(replay)
+}
+
+// What clap answers for words that are no command as it is written here: a call for help or for the version, or what is
+// wrong with them. It reads `pass --` as `pass`, and such words are refused too.
+fn ask_clap(alloc: Global, words: &[&str]) -> Result<Error, Error> {
     let pass = Parser::new(alloc, "pass").about(PASS_ABOUT);
+    let replay = replay_parser(alloc)?;
     let mut parser = Parser::new(alloc, "syc")
         .version("0.1.0")
         .about(ABOUT)
         .subcommand_required(true)
-        .subcommand(pass)?;
+        .subcommand(pass)?
+        .subcommand(replay)?;
     parser.try_get_matches_from_mut(words)?;
+    let error = parser.error(ErrorKind::UnknownArgument, "unexpected argument '--' found")?;
+    Ok(error)
+}
+
+fn refusal(alloc: Global, words: &[&str]) -> Error {
+    match ask_clap(alloc, words) {
+        Ok(error) => error,
+        Err(error) => error,
+    }
+}
+
+/// The command that the words name, the program's name being the first of them: words that are those of a command. Of
+/// all others clap says what is wrong with them; a call for help or for the version is an error of that kind.
+pub fn command_of<'a>(alloc: Global, words: &[&'a str]) -> Result<Command<'a>, Error>
+    ensures ok { IfOk result (IsCommand (map (λ s. s.now) words.now)) }
+    ensures pass { ArePass (map (λ s. s.now) words.now) → IfErr result (λ _. ⊥) }
+    ensures replay { (site events : List ℕ) → AreReplay (map (λ s. s.now) words.now) site events → IfErr result (λ _. ⊥) }
+{
     if are_pass(words) {
         return Ok(Command::Pass);
     }
-    Err(parser.error(ErrorKind::UnknownArgument, "unexpected argument '--' found")?)
+    match replayed(words) {
+        Some((site, events)) => Ok(Command::Replay(site, events)),
+        None => Err(refusal(alloc, words)),
+    }
 }

@@ -1,5 +1,9 @@
 //! The files that a command reads.
-ghost use Rattle.std.specs.Prelude.{◌≡◌, List, ℕ, Option, None, IfOk, IfSome};
+ghost use Rattle.std.specs.Prelude.{◌≡◌, List, ℕ, Option, None, Some, IfOk, IfSome};
+
+use std::fs::{self, File};
+use std::io::{Empty, Error, ErrorKind, empty};
+use sy_wire::{FromRead, Source};
 
 /// Why a file's bytes aren't there.
 #[derive(Clone, Copy, Drop)]
@@ -10,19 +14,69 @@ pub enum FileFault {
 
 /// The files that a command may name.
 pub trait Files {
+    /// A file that is read piece by piece.
+    type Opened: Source + Drop;
+
     // the bytes of the file of that name, where they are known
     ghost bytes_of: { Self → List ℕ → Option (List ℕ) } = { λ _ _. None };
 
     /// Reads the whole file of that name.
     fn read(&self, name: &str) -> Result<Vec<u8>, FileFault>
         ensures { IfOk result (λ v. IfSome (bytes_of self.now name.now) (λ bytes. v.items ≡ bytes)) };
+
+    /// Opens the file of that name, at its beginning.
+    fn open(&self, name: &str) -> Result<Self::Opened, FileFault>
+        ensures { IfOk result (λ s. IfSome (bytes_of self.now name.now) (λ bytes. Self.Opened.remaining s ≡ Some bytes)) };
 }
 
-/// No files at all: no command of the program reads one yet.
+/// The files of the host.
+#[derive(Drop)]
+pub struct HostFiles<'a> {
+    rt: &'a HostRuntime,
+}
+
+impl<'a> HostFiles<'a> {
+    pub fn new(rt: &'a HostRuntime) -> HostFiles<'a> {
+        HostFiles { rt }
+    }
+}
+
+fn fault_of(error: &Error) -> FileFault {
+    match error.kind() {
+        ErrorKind::OutOfMemory => FileFault::NoMemory,
+        _ => FileFault::Read,
+    }
+}
+
+impl Files for HostFiles<'_> {
+    type Opened = FromRead<File>;
+
+    fn read(&self, name: &str) -> Result<Vec<u8>, FileFault> {
+        match fs::read(self.rt, name) {
+            Ok(bytes) => Ok(bytes),
+            Err(error) => Err(fault_of(&error)),
+        }
+    }
+
+    fn open(&self, name: &str) -> Result<FromRead<File>, FileFault> {
+        match File::open(self.rt, name) {
+            Ok(file) => Ok(FromRead::new(file)),
+            Err(error) => Err(fault_of(&error)),
+        }
+    }
+}
+
+/// No files at all, for a command that reads none.
 pub struct NoFiles;
 
 impl Files for NoFiles {
+    type Opened = FromRead<Empty>;
+
     fn read(&self, _name: &str) -> Result<Vec<u8>, FileFault> {
+        Err(FileFault::Read)
+    }
+
+    fn open(&self, _name: &str) -> Result<FromRead<Empty>, FileFault> {
         Err(FileFault::Read)
     }
 }

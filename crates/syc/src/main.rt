@@ -4,14 +4,18 @@
 mod carry;
 mod command;
 mod files;
+mod halt;
+mod losses;
 mod output;
 mod pass;
+mod replay;
 mod run;
+mod site;
 mod stop;
 #[cfg(test)]
 mod tests;
 
-use files::NoFiles;
+use files::HostFiles;
 use run::run;
 use std::env;
 use std::io::BufWriter;
@@ -49,7 +53,7 @@ fn start(rt: &HostRuntime) -> u8 {
     run(
         alloc,
         words.as_slice(),
-        &NoFiles,
+        &HostFiles::new(rt),
         &mut reader,
         &mut writer,
         &mut errors,

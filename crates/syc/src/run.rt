@@ -10,6 +10,7 @@ use crate::command::{Command, all_words, command_of};
 use crate::files::Files;
 use crate::output::write_all;
 use crate::pass::{READS, pass};
+use crate::replay::replay;
 use crate::stop::{out_of_memory, write_failed};
 use clap::Error;
 use clap::error::ErrorKind;
@@ -39,7 +40,7 @@ fn show<W: Sink, E: Sink>(alloc: Global, writer: &mut W, errors: &mut E, error: 
 }
 
 /// Runs the command that the words name, those after the program's name, and answers the exit status: 0
-/// done, 2 faulty input or command line, 3 no memory, 4 a read or write failed.
+/// done, 1 refused, 2 faulty input or command line, 3 no memory, 4 a read or write failed.
 pub fn run<R: Source, W: Sink, E: Sink, F: Files>(
     alloc: Global,
     args: &[String],
@@ -52,7 +53,7 @@ pub fn run<R: Source, W: Sink, E: Sink, F: Files>(
         PassIs result input (W.contents writer.old) (W.contents writer.new)
         (Reported (seen E.contents E.is_flushed E.faults errors.old)
         (seen E.contents E.is_flushed E.faults errors.new)) }
-    ensures status { IsStatus result }
+    ensures status { result ≤ 4 }
     ensures quiet { ArePassAlone (map string_bytes args.now) → result ≡ 0 →
         Keeps (E.contents errors.old) (E.contents errors.new) }
     ensures flushed { ArePassAlone (map string_bytes args.now) →
@@ -70,12 +71,12 @@ pub fn run<R: Source, W: Sink, E: Sink, F: Files>(
         (counts R.faults R.calls W.faults reader.old writer.old)
         (counts R.faults R.calls W.faults reader.new writer.new) }
 {
-    let _ = files;
     let Ok(words) = all_words(alloc, args) else {
         return out_of_memory(errors);
     };
     match command_of(alloc, words.as_slice()) {
         Ok(Command::Pass) => pass(alloc, reader, writer, errors),
+        Ok(Command::Replay(site, events)) => replay(alloc, files, site, events, writer, errors),
         Err(error) => match error.kind() {
             ErrorKind::OutOfMemory => out_of_memory(errors),
             _ => show(alloc, writer, errors, &error),

@@ -127,7 +127,7 @@ pub fn enter(site: &Site, rest: Option<&[u8]>) -> Result<Event, EventFault>
     ensures ok { IfOk result (λ e. spec.IsBehind site.now verbs.Enter (words_left (option_copied rest.entry))
         (spec.site_event e)) }
     ensures err { IfErr result (λ f. NoEvent (spec.IsBehind site.now verbs.Enter
-        (words_left (option_copied rest.entry))) f) }
+        (words_left (option_copied rest.entry))) ⊥ f) }
 {
     match only_hand(site, rest) {
         Some((to, hand)) => Ok(Event::Inside {
@@ -146,7 +146,7 @@ pub fn expire(site: &Site, rest: Option<&[u8]>) -> Result<Event, EventFault>
     ensures ok { IfOk result (λ e. spec.IsBehind site.now verbs.Expire (words_left (option_copied rest.entry))
         (spec.site_event e)) }
     ensures err { IfErr result (λ f. NoEvent (spec.IsBehind site.now verbs.Expire
-        (words_left (option_copied rest.entry))) f) }
+        (words_left (option_copied rest.entry))) ⊥ f) }
 {
     match only_hand(site, rest) {
         Some((to, hand)) => Ok(Event::Inside {
@@ -165,7 +165,7 @@ pub fn grab(site: &Site, rest: Option<&[u8]>) -> Result<Event, EventFault>
     ensures ok { IfOk result (λ e. spec.IsBehind site.now verbs.Grab (words_left (option_copied rest.entry))
         (spec.site_event e)) }
     ensures err { IfErr result (λ f. NoEvent (spec.IsBehind site.now verbs.Grab
-        (words_left (option_copied rest.entry))) f) }
+        (words_left (option_copied rest.entry))) ⊥ f) }
 {
     match only_worker(site, rest) {
         Some((relay, worker)) => Ok(Event::Inside {
@@ -181,7 +181,7 @@ pub fn done(site: &Site, rest: Option<&[u8]>) -> Result<Event, EventFault>
     ensures ok { IfOk result (λ e. spec.IsBehind site.now verbs.Done (words_left (option_copied rest.entry))
         (spec.site_event e)) }
     ensures err { IfErr result (λ f. NoEvent (spec.IsBehind site.now verbs.Done
-        (words_left (option_copied rest.entry))) f) }
+        (words_left (option_copied rest.entry))) ⊥ f) }
 {
     match only_worker(site, rest) {
         Some((relay, worker)) => Ok(Event::Inside {
@@ -197,7 +197,7 @@ pub fn fail(site: &Site, rest: Option<&[u8]>) -> Result<Event, EventFault>
     ensures ok { IfOk result (λ e. spec.IsBehind site.now verbs.Fail (words_left (option_copied rest.entry))
         (spec.site_event e)) }
     ensures err { IfErr result (λ f. NoEvent (spec.IsBehind site.now verbs.Fail
-        (words_left (option_copied rest.entry))) f) }
+        (words_left (option_copied rest.entry))) ⊥ f) }
 {
     match answered(site, rest) {
         Some((relay, worker, took)) => Ok(Event::Inside {
@@ -213,7 +213,7 @@ pub fn give_up(site: &Site, rest: Option<&[u8]>) -> Result<Event, EventFault>
     ensures ok { IfOk result (λ e. spec.IsBehind site.now verbs.GiveUp (words_left (option_copied rest.entry))
         (spec.site_event e)) }
     ensures err { IfErr result (λ f. NoEvent (spec.IsBehind site.now verbs.GiveUp
-        (words_left (option_copied rest.entry))) f) }
+        (words_left (option_copied rest.entry))) ⊥ f) }
 {
     match answered(site, rest) {
         Some((relay, worker, took)) => Ok(Event::Inside {
@@ -229,7 +229,7 @@ pub fn post(site: &Site, rest: Option<&[u8]>) -> Result<Event, EventFault>
     ensures ok { IfOk result (λ e. spec.IsBehind site.now verbs.Post (words_left (option_copied rest.entry))
         (spec.site_event e)) }
     ensures err { IfErr result (λ f. NoEvent (spec.IsBehind site.now verbs.Post
-        (words_left (option_copied rest.entry))) f) }
+        (words_left (option_copied rest.entry))) ⊥ f) }
 {
     match only_worker(site, rest) {
         Some((relay, worker)) => Ok(Event::Inside {
@@ -245,7 +245,7 @@ pub fn post_lost(site: &Site, rest: Option<&[u8]>) -> Result<Event, EventFault>
     ensures ok { IfOk result (λ e. spec.IsBehind site.now verbs.PostLost (words_left (option_copied rest.entry))
         (spec.site_event e)) }
     ensures err { IfErr result (λ f. NoEvent (spec.IsBehind site.now verbs.PostLost
-        (words_left (option_copied rest.entry))) f) }
+        (words_left (option_copied rest.entry))) ⊥ f) }
 {
     match lost(site, rest) {
         Some((relay, worker, cause)) => Ok(Event::Inside {

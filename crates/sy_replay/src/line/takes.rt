@@ -5,7 +5,7 @@ ghost use Rattle.std.specs.Arc.{arc_value};
 ghost use Rattle.std.specs.Option.{option_copied};
 ghost use Rattle.sy_wire.specs.Messages.{IsMessage, Said};
 ghost use Rattle.sy_replay.specs.Lines as spec;
-ghost use Rattle.sy_replay.specs.Reading.{NoEvent, words_left};
+ghost use Rattle.sy_replay.specs.Reading.{AreRaw, IsHandRaw, IsNewRaw, NoEvent, words_left};
 
 use super::fault::EventFault;
 use super::parts::{HandPart, hand_part, place_part};
@@ -40,6 +40,7 @@ fn message_left(alloc: Global, rest: Option<&[u8]>) -> Result<Arc<Message>, Even
     ensures words { IfOk result (λ m. words_left (option_copied rest.entry) ≡ spec.words_in (arc_value m).raw) }
     ensures none { IfErr result (λ f. f ≡ EventFault.Line → (m : Said) → IsMessage m
         → words_left (option_copied rest.entry) ≡ spec.words_in m.raw → ⊥) }
+    ensures memory { IfErr result (λ f. f ≡ EventFault.NoMemory → AreRaw (words_left (option_copied rest.entry))) }
 {
     match rest {
         Some(raw) => match message_of(alloc, raw) {
@@ -55,7 +56,8 @@ fn take_new(alloc: Global, at: HandPart<'_>, rest: Option<&[u8]>) -> Result<Even
     ensures ok { IfOk result (λ e. spec.IsNew at.entry.to at.entry.hand
         (codes "new" ∷ words_left (option_copied rest.entry)) (spec.site_event e)) }
     ensures err { IfErr result (λ f. NoEvent (spec.IsNew at.entry.to at.entry.hand
-        (codes "new" ∷ words_left (option_copied rest.entry))) f) }
+        (codes "new" ∷ words_left (option_copied rest.entry)))
+        (IsNewRaw (codes "new" ∷ words_left (option_copied rest.entry))) f) }
 {
     match message_left(alloc, rest) {
         Ok(message) => Ok(Event::TakeNew {
@@ -73,7 +75,7 @@ fn take_from(site: &Site, at: HandPart<'_>, rest: Option<&[u8]>) -> Result<Event
     ensures ok { IfOk result (λ e. spec.IsFrom site.now at.entry.to at.entry.hand
         (codes "link" ∷ words_left (option_copied rest.entry)) (spec.site_event e)) }
     ensures err { IfErr result (λ f. NoEvent (spec.IsFrom site.now at.entry.to at.entry.hand
-        (codes "link" ∷ words_left (option_copied rest.entry))) f) }
+        (codes "link" ∷ words_left (option_copied rest.entry))) ⊥ f) }
 {
     match place_part(site, rest) {
         Some((link, place)) => Ok(Event::TakeFrom {
@@ -93,7 +95,8 @@ fn take_to(alloc: Global, site: &Site, at: HandPart<'_>) -> Result<Event, EventF
     ensures ok { IfOk result (λ e. spec.TakesTo site.now at.entry.to at.entry.hand
         (words_left (option_copied at.entry.behind)) (spec.site_event e)) }
     ensures err { IfErr result (λ f. NoEvent (spec.TakesTo site.now at.entry.to at.entry.hand
-        (words_left (option_copied at.entry.behind))) f) }
+        (words_left (option_copied at.entry.behind)))
+        (IsNewRaw (words_left (option_copied at.entry.behind))) f) }
 {
     match next_word(at.behind) {
         Some((word, rest)) => {
@@ -112,7 +115,8 @@ fn take_to(alloc: Global, site: &Site, at: HandPart<'_>) -> Result<Event, EventF
 /// The event of a line that begins with `take`, of what is behind that word.
 pub fn take(alloc: Global, site: &Site, rest: Option<&[u8]>) -> Result<Event, EventFault>
     ensures ok { IfOk result (λ e. spec.IsTake site.now (words_left (option_copied rest.entry)) (spec.site_event e)) }
-    ensures err { IfErr result (λ f. NoEvent (spec.IsTake site.now (words_left (option_copied rest.entry))) f) }
+    ensures err { IfErr result (λ f. NoEvent (spec.IsTake site.now (words_left (option_copied rest.entry)))
+        (IsHandRaw site.now (words_left (option_copied rest.entry))) f) }
 {
     match hand_part(site, rest) {
         Some(at) => match take_to(alloc, site, at) {

@@ -3,10 +3,10 @@ use Rattle.sy_checker.proofs.reach.add_targets.Goals as goal
 
 pub loop-number-preserved : goal.loop-number-preserved
 loop-number-preserved c =
-    more_leads c.args.site.now c.may_at-may.result c.args.from c.loop-number.number c.args.found.now.items c.loop-number.found.items
+    more_leads c.args.site.now c.executed_at-set.result c.args.from c.loop-number.number c.args.found.now.items c.loop-number.found.items
     c.add_target.new.found.items c.loop-number.invariant c.in_ok-add_target.ensures
 
 pub returns : goal.returns
 returns c =
-    all_leads c.args.site.now c.args.class c.may_at-may.result c.args.from c.loop-number.number c.args.found.now.items c.loop-number.found.items
-    c.may_at-may.type_inv c.loop-number-test.false c.may_at-may.ensures c.loop-number.invariant
+    all_leads c.args.site.now c.args.class c.args.which c.executed_at-set.result c.args.from c.loop-number.number c.args.found.now.items
+    c.loop-number.found.items c.executed_at-set.type_inv c.loop-number-test.false c.executed_at-set.ensures c.loop-number.invariant

@@ -1,39 +1,22 @@
-use Rattle.std.proofs.Common.{◌<◌, ◌≤◌, ◌+◌, ◌-◌, arith, length, refl, sym, subst}
-use Rattle.std.specs.Prelude.{Contains}
-use Rattle.std.proofs.lemmas.Option.{slice_get_read}
-use Rattle.sy_checker.specs.Internal.{Adds}
-use Rattle.sy_checker.proofs.Gone.{found_there, gone_all, gone_first, gone_more}
-use Rattle.sy_checker.proofs.There.{reach_there}
+use Rattle.std.proofs.Common.{subst}
+use Rattle.std.specs.Prelude.{Contains, ◌↔◌}
+use Rattle.sy_site.specs.declared.site.SiteInput.{SiteInput}
+use Rattle.sy_site.specs.machine.Reach.{Reach}
+use Rattle.sy_checker.specs.declared.executed.Executed.TheVariants as executed
+use Rattle.sy_checker.specs.Search.{IsSpread}
+use Rattle.sy_checker.proofs.Gone.{if_ok, reach_spread}
+use Rattle.sy_checker.proofs.There.{entry_there}
 use Rattle.sy_checker.proofs.reach.reached.Goals as goal
 
-pub loop-done-init : goal.loop-done-init
-loop-done-init c =
-    gone_first c.args.site.now c.args.class c.add_entries.new.found.items
-    (subst (λ l. Adds (Contains c.args.site.now.entries) l c.add_entries.new.found.items) c.new-found.ensures.items c.in_ok-add_entries.ensures)
-
-pub loop-done-preserved : goal.loop-done-preserved
-loop-done-preserved c =
-    let low : c.loop-done.done < length c.loop-done.found.items = omega (arith, c.loop-done-test.true, c.len.ensures) in
-    gone_more c.args.site.now c.args.class c.loop-done.found.items c.add_targets.new.found.items c.loop-done.done c.index-from.result.now
-    (slice_get_read c.loop-done.found.items (length c.loop-done.found.items) c.loop-done.done c.index-from.result.now refl low c.index-from.ensures)
-    c.loop-done.invariant c.in_ok-add_targets.ensures
-
-pub add_targets-requires : goal.add_targets-requires
-add_targets-requires c =
-    let low : c.loop-done.done < length c.loop-done.found.items = omega (arith, c.loop-done-test.true, c.len.ensures) in
-    record {
-      there = reach_there c.args.site.now c.is_lawful.ensures c.args.class c.index-from.result.now
-          (c.loop-done.invariant.reached c.index-from.result.now (c.loop-done.done, low, sym c.index-from.ensures));
-    }
-
-pub loop-done-smaller : goal.loop-done-smaller
-loop-done-smaller c =
-    let few = found_there c.args.site.now c.is_lawful.ensures c.args.class c.loop-done.found.items c.loop-done.done c.loop-done.invariant in
-    let low : c.loop-done.done < length c.loop-done.found.items = omega (arith, c.loop-done-test.true, c.len.ensures) in
-    let less : 4096 - (c.loop-done.done + 1) < 4096 - c.loop-done.done = omega (arith, few, low) in
-    less
+pub spread-requires : goal.spread-requires
+spread-requires c = record {
+  there = λ x is. entry_there c.args.site.now c.is_lawful.ensures x (subst (λ l. Contains l x) c.entries.ensures is);
+}
 
 pub returns : goal.returns
 returns c =
-    let all : length c.loop-done.found.items ≤ c.loop-done.done = omega (arith, c.loop-done-test.false, c.len.ensures) in
-    gone_all c.args.site.now c.args.class c.loop-done.found.items c.loop-done.done c.loop-done.invariant all
+    if_ok (λ found. IsSpread c.args.site.now c.args.class executed.May c.entries.result.now found.items)
+    (λ found. (x : SiteInput) → Contains found.items x ↔ Reach c.args.site.now c.args.class x)
+    (λ found spread. reach_spread c.args.site.now c.args.class found.items
+    (subst (λ l. IsSpread c.args.site.now c.args.class executed.May l found.items) c.entries.ensures spread))
+    c.spread.result c.spread.ensures

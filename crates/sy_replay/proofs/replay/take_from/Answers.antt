@@ -1,9 +1,9 @@
 use Rattle.std.proofs.Common.{◌≡◌, ◌∙◌, ◌∷◌, ◌++◌, [], ap, arith, length, subst, sym}
 use Rattle.std.specs.Arc.{arc_value}
-use Rattle.sy_site.specs.machine.Steps.{SiteEvent, SiteStep}
+use Rattle.sy_site.specs.machine.Steps.{SiteEvent}
 use Rattle.sy_replay.specs.Events.{losses_of}
-use Rattle.sy_replay.specs.Held.{contents_of, state_held}
-use Rattle.sy_replay.specs.States.{site_state}
+use Rattle.sy_replay.specs.Held.{contents_of}
+use Rattle.sy_replay.specs.States.{Applies, holding}
 use Rattle.sy_replay.specs.Takes.{IsNoEntry, TakesEntry}
 use Rattle.sy_replay.proofs.Takes.{from_link, none_there, not_from_link, place_kept}
 use Rattle.sy_replay.proofs.replay.take_from.Goals as goal
@@ -38,5 +38,5 @@ returns-clause-ok c =
     c.requires c.in-Some.ensures.some entry c.unlink.ensures.gone in
     let copies = c.push_reserved.ensures.items ∙ ap (λ xs. xs ++ c.in-Ok-taken_by.copy ∷ []) c.reserve.ensures.items
     ∙ ap (λ x. held.copies.items ++ x ∷ []) c.in-Ok-taken_by.ensures in
-    subst (λ cs. SiteStep c.args.site.now (state_held held) (SiteEvent.TakeFrom c.args.to c.args.hand c.args.link c.args.place)
-    (site_state c.unlink.new.parts.items cs after held.arrivals.items)) (sym copies) step
+    subst (λ cs. Applies c.args.site.now (contents_of held) (SiteEvent.TakeFrom c.args.to c.args.hand c.args.link c.args.place)
+    (holding c.unlink.new.parts.items cs after held.arrivals.items)) (sym copies) step

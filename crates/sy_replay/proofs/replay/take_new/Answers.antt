@@ -1,8 +1,8 @@
 use Rattle.std.proofs.Common.{◌≡◌, ◌∙◌, ◌∷◌, ◌++◌, [], ap, arith, length, subst, sym}
 use Rattle.std.specs.Arc.{arc_value}
-use Rattle.sy_site.specs.machine.Steps.{SiteEvent, SiteStep}
+use Rattle.sy_site.specs.machine.Steps.{SiteEvent}
 use Rattle.sy_replay.specs.Events.{losses_of}
-use Rattle.sy_replay.specs.States.{site_state}
+use Rattle.sy_replay.specs.States.{Applies, holding}
 use Rattle.sy_replay.specs.Takes.{IsNoEntry, TakesEntry}
 use Rattle.sy_replay.proofs.Takes.{arrival, first, new_comes, none_comes}
 use Rattle.sy_replay.proofs.replay.take_new.Goals as goal
@@ -24,7 +24,7 @@ returns-clause-ok c = λ site of.
     let event = SiteEvent.TakeNew c.args.to c.args.hand m in
     let before = losses_of held.losses.items in
     let after = losses_of c.take_entry.new.losses.items in
-    let old = site_state held.parts.items held.copies.items before held.arrivals.items in
+    let old = holding held.parts.items held.copies.items before held.arrivals.items in
     let parts = c.take_entry.new.parts.items in
     let entry = subst (λ t. TakesEntry held.parts.items before c.args.to c.args.hand m t parts after) tag c.in_default-take_entry.ensures.ok in
     let step = new_comes site held.parts.items held.copies.items before after held.arrivals.items c.args.to c.args.hand m parts of entry in
@@ -32,5 +32,5 @@ returns-clause-ok c = λ site of.
     ∙ ap (λ x. held.copies.items ++ x ∷ []) (c.in-Ok-first.ensures ∙ ap (first c.args.to m) number) in
     let arrivals = c.push_reserved-2.ensures.items ∙ ap (λ xs. xs ++ arrival c.args.to (arc_value c.in-Ok.arrived) ∷ []) c.reserve.ensures.items
     ∙ ap (λ x. held.arrivals.items ++ arrival c.args.to x ∷ []) c.in-Ok.ensures in
-    subst (λ cs. SiteStep site old event (site_state parts cs after c.push_reserved-2.new.self.items)) (sym copies)
-    (subst (λ arrived. SiteStep site old event (site_state parts (held.copies.items ++ first c.args.to m (length held.arrivals.items) ∷ []) after arrived)) (sym arrivals) step)
+    subst (λ cs. Applies site old event (holding parts cs after c.push_reserved-2.new.self.items)) (sym copies)
+    (subst (λ arrived. Applies site old event (holding parts (held.copies.items ++ first c.args.to m (length held.arrivals.items) ∷ []) after arrived)) (sym arrivals) step)

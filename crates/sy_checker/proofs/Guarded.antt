@@ -1,0 +1,121 @@
+-- Guarded inputs, class after class, and those of one relay.
+use Rattle.std.proofs.Common.{◌≡◌, ℕ, ◌<◌, ◌+◌, List, [], ◌∷◌, ◌++◌, length, map, take, get_or, refl, sym, ap, subst, ◌∙◌, arith, inl, inr}
+use Rattle.std.specs.Prelude.{Contains, ◌↔◌, IfOk, OnOk, Result, Ok, Err, slice_get}
+use Rattle.std.proofs.lemmas.List.{take_more}
+use Rattle.std.proofs.lemmas.List.Elements.{Contains-append_cases, Contains-append_left, Contains-append_right, Contains-push, Contains-push_cases}
+use Rattle.sy_wire.specs.declared.class.Class.{Class}
+use Rattle.sy_board.specs.relay.Totals.{Pairs}
+use Rattle.sy_site.specs.declared.site.SiteInput.{SiteInput}
+use Rattle.sy_site.specs.Sites.{Relay, Site, plan_in}
+use Rattle.sy_site.specs.machine.Reach.{Reach}
+use Rattle.sy_site.specs.machine.Soundness.{IsGuarded}
+use Rattle.sy_checker.specs.Acceptance.{ArePairsAt, AreReached}
+use Rattle.sy_checker.specs.Fit.{AreProtected}
+use Rattle.sy_checker.proofs.Comparing.{from_map}
+use Rattle.sy_checker.proofs.FitIsSound.{in_map}
+
+none_in : {A : Type 0} (x : A) → Contains [] x → ⊥
+none_in x (k, low, is) = absurd (omega (arith, low))
+
+-- the next of a list, behind those that were taken
+pub take_next : {A : Type 0} (xs : List A) (k : ℕ) (x : A) → k < length xs → x ≡ get_or xs k x → take k xs ++ x ∷ [] ≡ take (k + 1) xs
+take_next xs k x low is = ap (λ y. take k xs ++ y ∷ []) is ∙ sym (take_more xs k x low)
+
+-- ---- class after class
+
+pub reached_first : (site : Site) → AreReached site [] []
+reached_first site input class = (λ there. absurd (none_in (input, class) there), λ is. absurd (none_in class is.0))
+
+module _ (site : Site) (class : Class) (before : List Class) (pairs : List (SiteInput × Class)) (inputs : List SiteInput)
+    (reach : (x : SiteInput) → Contains inputs x ↔ Reach site class x) (are : AreReached site before pairs) where
+  with : SiteInput → SiteInput × Class
+  with input = (input, class)
+
+  pub reached_more : AreReached site (before ++ class ∷ []) (pairs ++ map (λ input. (input, class)) inputs)
+  unfolding with
+  reached_more x c = (
+    λ there. elim (Contains-append_cases pairs (map with inputs) (x, c) there) [
+      | inl old ↦
+          let is = (are x c).0 old in
+          (Contains-append_left before (class ∷ []) c is.0, is.1)
+      | inr new ↦
+          let found = from_map with inputs (x, c) new in
+          let input : found.0 ≡ x = ap (λ (p : SiteInput × Class). p.0) found.2 in
+          let same : class ≡ c = ap (λ (p : SiteInput × Class). p.1) found.2 in (
+            subst (Contains (before ++ class ∷ [])) same (Contains-push before class),
+            subst (λ k. Reach site k x) same ((reach x).0 (subst (Contains inputs) input found.1)),
+          )
+    ],
+    λ is. elim (Contains-push_cases before class c is.0) [
+      | inl old ↦ Contains-append_left pairs (map with inputs) (x, c) ((are x c).1 (old, is.1))
+      | inr same ↦
+          subst (λ k. Contains (pairs ++ map with inputs) (x, k)) same
+          (Contains-append_right pairs (map with inputs) (x, class)
+          (in_map with inputs x ((reach x).1 (subst (λ k. Reach site k x) (sym same) is.1))))
+    ],
+  )
+
+pub reached_guarded : (site : Site) (classes : List Class) (pairs : List (SiteInput × Class)) → AreProtected site classes → AreReached site classes pairs
+    → (x : SiteInput) (c : Class) → Contains pairs (x, c) ↔ IsGuarded site x.relay x.input c
+reached_guarded site classes pairs protected are x c = (
+  λ there. (let is = (are x c).0 there in record { protected = (protected.member c).0 is.0; reached = is.1 }),
+  λ is. (are x c).1 ((protected.member c).1 is.protected, is.reached),
+)
+
+-- ---- those of one relay
+
+pub pairs_first : (relay : ℕ) → ArePairsAt [] relay []
+pairs_first relay input class =
+    (λ there. absurd (none_in (input, class) there), λ there. absurd (none_in (record { relay = relay; input = input }, class) there))
+
+module _ (before : List (SiteInput × Class)) (relay : ℕ) (found : Pairs) (x : SiteInput) (c : Class) (are : ArePairsAt before relay found) where
+  pub pair_put : x.relay ≡ relay → ArePairsAt (before ++ (x, c) ∷ []) relay (found ++ (x.input, c) ∷ [])
+  pair_put here input class = (
+    λ there. elim (Contains-push_cases found (x.input, c) (input, class) there) [
+      | inl old ↦ Contains-append_left before ((x, c) ∷ []) (record { relay = relay; input = input }, class) ((are input class).0 old)
+      | inr same ↦
+          let it : (x, c) ≡ (record { relay = relay; input = input }, class) =
+          λ i. (record { relay = here i; input = (same i).0 }, (same i).1) in
+          subst (Contains (before ++ (x, c) ∷ [])) it (Contains-push before (x, c))
+    ],
+    λ there. elim (Contains-push_cases before (x, c) (record { relay = relay; input = input }, class) there) [
+      | inl old ↦ Contains-append_left found ((x.input, c) ∷ []) (input, class) ((are input class).1 old)
+      | inr same ↦
+          let it : (x.input, c) ≡ (input, class) = λ i. ((same i).0.input, (same i).1) in
+          subst (Contains (found ++ (x.input, c) ∷ [])) it (Contains-push found (x.input, c))
+    ],
+  )
+
+  pub pair_skip : (x.relay ≡ relay → ⊥) → ArePairsAt (before ++ (x, c) ∷ []) relay found
+  pair_skip apart input class = (
+    λ there. Contains-append_left before ((x, c) ∷ []) (record { relay = relay; input = input }, class) ((are input class).0 there),
+    λ there. elim (Contains-push_cases before (x, c) (record { relay = relay; input = input }, class) there) [
+      | inl old ↦ (are input class).1 old
+      | inr same ↦ absurd (apart (λ i. (same i).0.relay))
+    ],
+  )
+
+-- ---- plans
+
+pub one_more_plan : (relays : List Relay) (k : ℕ) → k < length relays
+    → map (λ (r : Relay). r.plan) (take k relays) ++ plan_in (slice_get relays k) ∷ [] ≡ map (λ (r : Relay). r.plan) (take (k + 1) relays)
+one_more_plan [] k low = absurd (omega (arith, low))
+one_more_plan (r ∷ rs) ℕ.zero low = refl
+one_more_plan (r ∷ rs) (ℕ.suc k) low =
+    let on : ℕ.suc k + 1 ≡ ℕ.suc (k + 1) = omega arith in
+    ap (λ ps. r.plan ∷ ps) (one_more_plan rs k (omega (arith, low)))
+    ∙ ap (λ n. map (λ (x : Relay). x.plan) (take n (r ∷ rs))) (sym on)
+
+-- ---- what may fail
+
+pub guard_is : {E : Type 0} (pairs : List (SiteInput × Class)) (relay : ℕ) (found : Pairs) (result : Result Pairs E) → ArePairsAt pairs relay found
+    → IfOk result (λ g. g ≡ found) → IfOk result (λ g. ArePairsAt pairs relay g)
+guard_is pairs relay found (Ok g) are same = subst (ArePairsAt pairs relay) (sym same) are
+guard_is pairs relay found (Err e) are same = same
+
+pub all_reached : {A E : Type 0} (site : Site) (class : Class) (old new : List (SiteInput × Class)) (inputs : List SiteInput) (result : Result A E)
+    → ((x : SiteInput) → Contains inputs x ↔ Reach site class x) → OnOk result (new ≡ old ++ map (λ input. (input, class)) inputs)
+    → OnOk result ((before : List Class) → AreReached site before old → AreReached site (before ++ class ∷ []) new)
+all_reached site class old new inputs (Ok x) reach is = λ before are.
+    subst (AreReached site (before ++ class ∷ [])) (sym is) (reached_more site class before old inputs reach are)
+all_reached site class old new inputs (Err e) reach is = is

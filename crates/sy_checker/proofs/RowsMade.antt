@@ -1,0 +1,93 @@
+-- Rows that are made as they are wanted, are right.
+use Rattle.std.proofs.Common.{◌≡◌, ℕ, ◌<◌, ◌≤◌, ◌+◌, List, [], ◌∷◌, ◌++◌, length, get_or, Some, refl, sym, subst, ap, ◌∙◌, arith, inl, inr}
+use Rattle.std.specs.Prelude.{slice_get}
+use Rattle.std.proofs.lemmas.Bool.{cases_eq}
+use Rattle.std.proofs.lemmas.List.{length-append}
+use Rattle.std.proofs.lemmas.Option.{slice_get_within}
+use Rattle.sy_wire.specs.declared.class.Class.{Class}
+use Rattle.sy_cert.specs.declared.row.Row.{Row}
+use Rattle.sy_cert.specs.declared.row.Row.TheVariants as row
+use Rattle.sy_site.specs.Sites.{Site}
+use Rattle.sy_site.specs.machine.Soundness.{AreRanks}
+use Rattle.sy_checker.specs.declared.wanted.Wanted.{Wanted}
+use Rattle.sy_checker.specs.declared.wanted.Wanted.TheVariants as wanted
+use Rattle.sy_checker.specs.Fit.{AreRight, IsAbove, IsRankRow, IsRight}
+use Rattle.sy_checker.specs.Made.{IsMade, IsMadeAt}
+
+one_value : {A : Type 0} {x y : A} → Some x ≡ Some y → x ≡ y
+one_value e = cc
+
+-- ---- row after row
+
+abbrev pub AreMadeBelow : Site → Class → List Wanted → List ℕ → List Row → ℕ → Type 0
+AreMadeBelow site class part ranks rows most = (k : ℕ) (is : Wanted) → k < most → slice_get part k ≡ Some is → IsMadeAt site class ranks rows k is
+
+pub same_place : (old more : List Row) (j : ℕ) → j < length old → slice_get (old ++ more) j ≡ slice_get old j
+same_place [] more j low = absurd (omega (arith, low))
+same_place (x ∷ old) more ℕ.zero low = refl
+same_place (x ∷ old) more (ℕ.suc j) low = same_place old more j (omega (arith, low))
+
+last_place : (old : List Row) (r : Row) → slice_get (old ++ r ∷ []) (length old) ≡ Some r
+last_place [] r = refl
+last_place (x ∷ old) r = last_place old r
+
+module _ (site : Site) (class : Class) (part : List Wanted) (ranks : List ℕ) (rows : List Row) (n : ℕ) (many : length rows ≡ n) where
+  pub made_more : (it : Wanted) (r : Row) → slice_get part n ≡ Some it → IsMade site class ranks it r → AreMadeBelow site class part ranks rows n
+      → AreMadeBelow site class part ranks (rows ++ r ∷ []) (n + 1)
+  made_more it r here made before k is low there = elim (cases_eq k n) [
+    | inl same ↦
+        let at : slice_get part n ≡ Some is = subst (λ j. slice_get part j ≡ Some is) same there in
+        record {
+          stands = r;
+          there = subst (λ j. slice_get (rows ++ r ∷ []) j ≡ Some r) (many ∙ sym same) (last_place rows r);
+          made = subst (λ x. IsMade site class ranks x r) (one_value (sym here ∙ at)) made;
+        }
+    | inr apart ↦
+        let it = before k is (omega (arith, low, apart)) there in
+        record {
+          stands = it.stands;
+          there = same_place rows (r ∷ []) k (slice_get_within rows k it.stands it.there) ∙ it.there;
+          made = it.made;
+        }
+  ]
+
+-- ---- all of them
+
+one_rank : {name other : List ℕ} {a b : ℕ} → Some (row.Rank name a) ≡ Some (row.Rank other b) → a ≡ b
+one_rank e = cc
+
+module _ (site : Site) (class : Class) (part : List Wanted) (ranks : List ℕ) (rows : List Row)
+    (made : (k : ℕ) (is : Wanted) → slice_get part k ≡ Some is → IsMadeAt site class ranks rows k is)
+    (falls : AreRanks site class (λ relay. get_or ranks relay 0)) where
+  is_above : (of : ℕ) → IsAbove site class part rows of (get_or ranks of 0)
+  is_above of from to number below same reach may goes has =
+      let at = made has.place (wanted.Rank to.relay) has.is_wanted in
+      let is : below ≡ get_or ranks to.relay 0 = one_rank (sym has.stands ∙ at.there ∙ ap Some at.made) in
+      let less = falls.falls from to number reach may goes in
+      let relays : get_or ranks from.relay 0 ≡ get_or ranks of 0 = ap (λ r. get_or ranks r 0) same in
+      omega (arith, is, less, relays)
+
+  right_by : (is : Wanted) (r : Row) → IsMade site class ranks is r → IsRight site class part rows is r
+  right_by (wanted.Class c) r m = m
+  right_by (wanted.Reach input) r m = m
+  right_by (wanted.Rank of) r m = subst (IsRankRow site class part rows of) (sym m) (refl, is_above of)
+  right_by (wanted.Path entry archive) r m = m
+
+  pub are_right : AreRight site class part rows
+  are_right place is there =
+      let at = made place is there in
+      record { stands = at.stands; there = at.there; right = right_by is at.stands at.made }
+
+pub made_right : (site : Site) (class : Class) (part : List Wanted) (ranks : List ℕ) (rows : List Row) (n : ℕ) → length part ≤ n
+    → AreMadeBelow site class part ranks rows n → AreRanks site class (λ relay. get_or ranks relay 0) → AreRight site class part rows
+made_right site class part ranks rows n all made falls =
+    are_right site class part ranks rows
+    (λ k is there. (let low = slice_get_within part k is there in made k is (omega (arith, low, all)) there)) falls
+
+pub made_step : (site : Site) (class : Class) (part : List Wanted) (ranks : List ℕ) (rows new : List Row) (n : ℕ) (it : Wanted) (r : Row)
+    → new ≡ rows ++ r ∷ [] → slice_get part n ≡ Some it → IsMade site class ranks it r
+    → AreMadeBelow site class part ranks rows n × (length rows ≡ n) → AreMadeBelow site class part ranks new (n + 1) × (length new ≡ n + 1)
+made_step site class part ranks rows new n it r is here made (before, many) = (
+  subst (λ l. AreMadeBelow site class part ranks l (n + 1)) (sym is) (made_more site class part ranks rows n many it r here made before),
+  ap length is ∙ length-append rows (r ∷ []) ∙ ap (λ k. k + 1) many,
+)

@@ -1,0 +1,233 @@
+-- Ways to inputs that were found, and what follows from there.
+use Rattle.std.proofs.Common.{◌≡◌, ℕ, ◌<◌, ◌≤◌, ◌+◌, ◌^◌, true, List, [], ◌∷◌, ◌++◌, length, get_or, map, reverse, Option, Some, None, sym, subst, ◌∙◌, arith, inl, inr}
+use Rattle.std.specs.Prelude.{Contains, slice_get}
+use Rattle.std.proofs.lemmas.Bool.{cases_eq, cases_lt}
+use Rattle.std.proofs.lemmas.List.{reverse-append}
+use Rattle.std.proofs.lemmas.Nat.Bits.{bit_at_above}
+use Rattle.std.proofs.lemmas.Option.{slice_get-get_or, slice_get_within}
+use Rattle.sy_wire.specs.declared.class.Class.{Class}
+use Rattle.sy_cert.specs.Rows.{AreOccurrences}
+use Rattle.sy_rules.specs.lists.Sets.{Bits}
+use Rattle.sy_site.specs.declared.site.SiteAction.{SiteAction}
+use Rattle.sy_site.specs.declared.site.SiteInput.{SiteInput}
+use Rattle.sy_site.specs.Sites.{Site, is_protected}
+use Rattle.sy_site.specs.machine.Findings.{HoldsAt, IsFinding, IsWay, IsWayFrom, Kind as AnyKind}
+use Rattle.sy_site.specs.machine.Reach.{LeadsTo, leads_on, writes}
+use Rattle.sy_checker.specs.declared.executed.Executed.{Executed}
+use Rattle.sy_checker.specs.declared.executed.Executed.TheVariants as executed
+use Rattle.sy_checker.specs.declared.finding.Kind.{Kind}
+use Rattle.sy_checker.specs.declared.finding.Kind.TheVariants as kind
+use Rattle.sy_checker.specs.declared.finding.WayRow.{WayRow}
+use Rattle.sy_checker.specs.Answer.{AreSmall, IsKindAt, IsLead, IsRiskAt}
+use Rattle.sy_checker.specs.Finding.{kind_of, way_of}
+use Rattle.sy_checker.specs.Fit.{IsPath, MustWrite}
+use Rattle.sy_checker.specs.Internal.{LeadsBy}
+use Rattle.sy_checker.proofs.FitIsSound.{at_place}
+use Rattle.sy_checker.proofs.Risky.{all_clean}
+use Rattle.sy_checker.specs.Search.{ExecutedAt, IsLed, IsLedFrom, IsNumberTo, IsSpread, LeadsOn, StepsBack}
+
+pub one_value : {A : Type 0} {x y : A} → Some x ≡ Some y → x ≡ y
+one_value e = cc
+
+-- ---- one occurrence
+
+abbrev pub IsNoneBelow : Site → ℕ → SiteInput → SiteInput → ℕ → Type 0
+IsNoneBelow site set from to most = (number : ℕ) → number < most → LeadsBy site set from number to → ⊥
+
+pub none_first : (site : Site) (set : ℕ) (from to : SiteInput) → IsNoneBelow site set from to 0
+none_first site set from to number low leads = omega (arith, low)
+
+pub none_more : (site : Site) (set : ℕ) (from to : SiteInput) (n : ℕ) → (LeadsBy site set from n to → ⊥) → IsNoneBelow site set from to n
+    → IsNoneBelow site set from to (n + 1)
+none_more site set from to n none before number low leads = elim (cases_eq number n) [
+  | inl same ↦ none (subst (λ k. LeadsBy site set from k to) same leads)
+  | inr apart ↦ before number (omega (arith, low, apart)) leads
+]
+
+pub none_leads : (site : Site) (class : Class) (which : Executed) (set : ℕ) (from to : SiteInput) (n : ℕ) → Bits (ExecutedAt site class which from) set
+    → set < 2 ^ 64 → 64 ≤ n → IsNoneBelow site set from to n → LeadsOn site class which from to → ⊥
+none_leads site class which set from to n bits fits most none on =
+    let bit = (bits on.number).1 on.done in
+    elim (cases_lt on.number 64) [
+      | inl low ↦ none on.number (omega (arith, low, most)) (record { member = bit; goes = on.goes })
+      | inr high ↦ (let above = bit_at_above set 64 on.number fits high in omega (arith, bit, above))
+    ]
+
+pub number_leads : (site : Site) (class : Class) (which : Executed) (set : ℕ) (from to : SiteInput) (n : ℕ) → Bits (ExecutedAt site class which from) set
+    → n < 64 → LeadsBy site set from n to → IsNumberTo site class which from to (Some n)
+number_leads site class which set from to n bits low leads = (low, (bits n).0 leads.member, leads.goes)
+
+-- ---- one step back
+
+abbrev pub IsNoneBefore : Site → Class → Executed → List SiteInput → SiteInput → ℕ → Type 0
+IsNoneBefore site class which found to most = (j : ℕ) (from : SiteInput) → j < most → slice_get found j ≡ Some from
+    → LeadsOn site class which from to → ⊥
+
+pub none_before_first : (site : Site) (class : Class) (which : Executed) (found : List SiteInput) (to : SiteInput)
+    → IsNoneBefore site class which found to 0
+none_before_first site class which found to j from low is leads = omega (arith, low)
+
+pub none_before_more : (site : Site) (class : Class) (which : Executed) (found : List SiteInput) (to : SiteInput) (n : ℕ) (from : SiteInput)
+    → slice_get found n ≡ Some from → (LeadsOn site class which from to → ⊥) → IsNoneBefore site class which found to n
+    → IsNoneBefore site class which found to (n + 1)
+none_before_more site class which found to n from here none before j x low is leads = elim (cases_eq j n) [
+  | inl same ↦
+      let at : slice_get found n ≡ Some x = subst (λ k. slice_get found k ≡ Some x) same is in
+      none (subst (λ z. LeadsOn site class which z to) (one_value (sym at ∙ here)) leads)
+  | inr apart ↦ before j x (omega (arith, low, apart)) is leads
+]
+
+pub starts_at : (site : Site) (class : Class) (which : Executed) (start found : List SiteInput) (place : ℕ) (to : SiteInput)
+    → IsSpread site class which start found → slice_get found place ≡ Some to → (n : ℕ) → place ≤ n → IsNoneBefore site class which found to n
+    → Contains start to
+starts_at site class which start found place to spread is n all none = elim (spread.rooted place to is) [
+  | inl starts ↦ starts
+  | inr comes ↦
+      let before = comes.before in
+      absurd (none comes.earlier comes.from (omega (arith, before, all)) comes.stands comes.leads)
+]
+
+-- ---- a way, walked back
+
+pub record HasWay (site : Site) (class : Class) (which : Executed) (found : List SiteInput) (place at : ℕ) (back : List WayRow) : Type 0 where
+  pub within : at < length found
+  pub led : (x end : SiteInput) → slice_get found at ≡ Some x → slice_get found place ≡ Some end
+      → IsLedFrom site class which x (reverse back) end
+
+pub way_first : (site : Site) (class : Class) (which : Executed) (found : List SiteInput) (place : ℕ) → place < length found
+    → HasWay site class which found place place []
+way_first site class which found place low = record {
+  within = low;
+  led = λ x end here there. one_value (sym here ∙ there);
+}
+
+pub read_at : (found : List SiteInput) (at : ℕ) → at < length found → (x : SiteInput) × (slice_get found at ≡ Some x)
+read_at found at low =
+    let none : SiteInput = record { relay = 0; input = 0 } in
+    (get_or found at none, slice_get-get_or found at none low)
+
+module _ (site : Site) (class : Class) (which : Executed) (start found : List SiteInput) (place at : ℕ) (back : List WayRow)
+    (has : HasWay site class which found place at back) where
+  pub way_more : (earlier : ℕ) (row : WayRow) → earlier < at
+      → ((to : SiteInput) → slice_get found at ≡ Some to → StepsBack site class which start found to (Some (earlier, row)))
+      → HasWay site class which found place earlier (back ++ row ∷ [])
+  way_more earlier row before steps =
+      let within = has.within in
+      let at_it = read_at found at within in
+      let step = steps at_it.0 at_it.1 in
+      record {
+        within = omega (arith, before, within);
+        led = λ x end here there.
+            (let same : row.input ≡ x = one_value (sym step.0 ∙ here) in
+            subst (λ way. IsLedFrom site class which x way end) (sym (reverse-append back (row ∷ [])))
+            (same, at_it.0, subst (λ z. IsNumberTo site class which z at_it.0 (Some row.number)) same step.1, has.led at_it.0 end at_it.1 there));
+      }
+
+  pub way_whole : ((to : SiteInput) → slice_get found at ≡ Some to → StepsBack site class which start found to None) → (end : SiteInput)
+      → slice_get found place ≡ Some end → IsLed site class which start (reverse back) end
+  way_whole steps end there =
+      let at_it = read_at found at has.within in
+      record { from = at_it.0; starts = steps at_it.0 at_it.1; follows = has.led at_it.0 end at_it.1 there }
+
+-- ---- ways as findings have them
+
+way_from : (site : Site) (class : Class) (way : List WayRow) (from end : SiteInput) → IsLedFrom site class executed.May from way end
+    → IsWayFrom site class from (way_of way) end
+way_from site class [] from end is = is
+way_from site class (row ∷ way) from end led =
+    let goes = led.2 in
+    (led.0, goes.1, led.1, goes.2, way_from site class way led.1 end led.3)
+
+pub way_is : (site : Site) (class : Class) (way : List WayRow) (end : SiteInput) → IsLed site class executed.May site.entries way end
+    → IsWay site class (way_of way) end
+way_is site class way end led = record {
+  entry = led.from;
+  is_entry = led.starts;
+  follows = way_from site class way led.from end led.follows;
+}
+
+pub is_finding : (site : Site) (class : Class) (way : List WayRow) (input : SiteInput) (k : Kind) → is_protected site class ≡ true
+    → IsWay site class (way_of way) input → HoldsAt site class input (kind_of k) → IsFinding site class (way_of way) input (kind_of k)
+is_finding site class way input kind.NotFull asked is holds = record { protected = asked; found = (is, holds) }
+is_finding site class way input kind.MarkOff asked is holds = record { protected = asked; found = (is, holds) }
+is_finding site class way input kind.MarkAboveSize asked is holds = record { protected = asked; found = (is, holds) }
+is_finding site class way input kind.Discards asked is holds = record { protected = asked; found = (is, holds) }
+is_finding site class way input kind.InnerQueue asked is holds = record { protected = asked; found = (is, holds) }
+is_finding site class way input kind.GivesUp asked is holds = record { protected = asked; found = (is, holds) }
+is_finding site class way input kind.NoTarget asked is holds = record { protected = asked; found = (is, holds) }
+is_finding site class way input kind.Loop asked is holds = absurd holds
+is_finding site class way input (kind.Unmet archive) asked is holds = absurd holds
+
+-- ---- paths
+
+small_from : (site : Site) (class : Class) (which : Executed) (way : List WayRow) (from end : SiteInput) → IsLedFrom site class which from way end
+    → AreSmall way
+small_from site class which [] from end led k d low = absurd (omega (arith, low))
+small_from site class which (row ∷ way) from end led ℕ.zero d low = led.2.0
+small_from site class which (row ∷ way) from end led (ℕ.suc k) d low = small_from site class which way led.1 end led.3 k d (omega (arith, low))
+
+pub way_small : (site : Site) (class : Class) (which : Executed) (start : List SiteInput) (way : List WayRow) (end : SiteInput)
+    → IsLed site class which start way end → AreSmall way
+way_small site class which start way end led = small_from site class which way led.from end led.follows
+
+path_from : (site : Site) (class : Class) (archive : SiteAction) (way : List WayRow) (from end : SiteInput)
+    → IsLedFrom site class executed.Must from way end → MustWrite site class archive end → IsPath site class archive from (map (λ row. row.number) way)
+path_from site class archive [] from end is write = subst (MustWrite site class archive) (sym is) write
+path_from site class archive (row ∷ way) from end led write =
+    let goes = led.2 in
+    (goes.1, led.1, goes.2, path_from site class archive way led.1 end led.3 write)
+
+one_start : (entry x : SiteInput) → Contains (entry ∷ []) x → entry ≡ x
+one_start entry x (ℕ.zero, low, is) = is
+one_start entry x (ℕ.suc k, low, is) = absurd (omega (arith, low))
+
+occurrences_from : (site : Site) (class : Class) (which : Executed) (way : List WayRow) (from end : SiteInput)
+    → IsLedFrom site class which from way end → AreOccurrences (map (λ row. row.number) way)
+occurrences_from site class which [] from end led = tt
+occurrences_from site class which (row ∷ way) from end led = (led.2.0, occurrences_from site class which way led.1 end led.3)
+
+pub path_is : (site : Site) (class : Class) (archive : SiteAction) (entry : SiteInput) (way : List WayRow) (end : SiteInput)
+    → IsLed site class executed.Must (entry ∷ []) way end → MustWrite site class archive end
+    → IsLead site class archive entry (Some (map (λ row. row.number) way))
+path_is site class archive entry way end led write = (
+  subst (λ z. IsPath site class archive z (map (λ row. row.number) way)) (sym (one_start entry led.from led.starts))
+      (path_from site class archive way led.from end led.follows write),
+  occurrences_from site class executed.Must way led.from end led.follows,
+)
+
+module _ (site : Site) (class : Class) (archive : SiteAction) (start found : List SiteInput) (spread : IsSpread site class executed.Must start found)
+    (none : (x : SiteInput) → Contains found x → MustWrite site class archive x → ⊥) where
+  pub leads_not : (x : SiteInput) → Contains found x → LeadsTo site class archive x → ⊥
+  leads_not x is (writes number action must runs same) =
+      none x is (record { number = number; must = must; action = action; runs = runs; writes = same })
+  leads_not x is (leads_on {to = to} number must goes later) =
+      leads_not to (spread.closed x to is (record { number = number; done = must; goes = goes })) later
+
+-- ---- what is answered
+
+pub kind_by : (site : Site) (class : Class) (input : SiteInput) (answer : Option Kind) → (HoldsAt site class input AnyKind.NotFull → ⊥)
+    → (HoldsAt site class input AnyKind.MarkOff → ⊥) → (HoldsAt site class input AnyKind.MarkAboveSize → ⊥)
+    → (HoldsAt site class input AnyKind.Discards → ⊥) → IsRiskAt site class input answer → IsKindAt site class input answer
+kind_by site class input None full off above discards risk = all_clean site class input full off above discards risk
+kind_by site class input (Some k) full off above discards risk = risk
+
+abbrev pub HoldsBelow : (SiteInput → Type 0) → List SiteInput → ℕ → Type 0
+HoldsBelow P xs most = (k : ℕ) (x : SiteInput) → k < most → slice_get xs k ≡ Some x → P x
+
+pub holds_more : (P : SiteInput → Type 0) (xs : List SiteInput) (n : ℕ) (it : SiteInput) → slice_get xs n ≡ Some it → P it → HoldsBelow P xs n
+    → HoldsBelow P xs (n + 1)
+holds_more P xs n it here p before k x low is = elim (cases_eq k n) [
+  | inl same ↦
+      let at : slice_get xs n ≡ Some x = subst (λ j. slice_get xs j ≡ Some x) same is in
+      subst P (one_value (sym here ∙ at)) p
+  | inr apart ↦ before k x (omega (arith, low, apart)) is
+]
+
+pub holds_all : (P : SiteInput → Type 0) (xs : List SiteInput) (n : ℕ) → length xs ≤ n → HoldsBelow P xs n → (x : SiteInput) → Contains xs x → P x
+holds_all P xs n all before x is =
+    let at = at_place xs x is in
+    let low = slice_get_within xs at.0 x at.1 in
+    before at.0 x (omega (arith, low, all)) at.1
+
+pub it_stands : (xs : List SiteInput) (n : ℕ) (d it : SiteInput) → slice_get xs n ≡ Some it → get_or xs n d ≡ it
+it_stands xs n d it is = one_value (sym (slice_get-get_or xs n d (slice_get_within xs n it is)) ∙ is)

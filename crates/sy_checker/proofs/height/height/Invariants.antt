@@ -1,0 +1,5 @@
+use Rattle.sy_checker.proofs.Heights.{IsHeightBelow}
+use Rattle.sy_checker.proofs.height.height.Given as goal
+
+abbrev pub invariant-loop-number : goal.invariant-loop-number
+invariant-loop-number l = IsHeightBelow l.site l.ranks l.may l.from l.number l.most

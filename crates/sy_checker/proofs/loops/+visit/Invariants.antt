@@ -1,0 +1,34 @@
+use Rattle.std.proofs.Common.{◌≡◌, ℕ, ◌<◌, ◌+◌, ◌*◌, ◌-◌, length, take}
+use Rattle.std.specs.Prelude.{Contains}
+use Rattle.sy_site.specs.declared.site.SiteInput.{SiteInput}
+use Rattle.sy_checker.specs.Loops.{AreRanked, DoesMore, IsFollowed, IsMet, relays_of, way_of}
+use Rattle.sy_checker.proofs.loops.+visit.Given as goal
+
+-- the relays that aren't on the way
+abbrev pub decreases-visit : goal.decreases-visit
+decreases-visit l = 4 * (length l.site.now.relays - length l.seen.now.way.items) + 3
+
+abbrev pub decreases-follow : goal.decreases-follow
+decreases-follow l = 4 * (length l.site.now.relays - length l.seen.now.way.items) + 2
+
+abbrev pub decreases-forward : goal.decreases-forward
+decreases-forward l = 4 * (length l.site.now.relays - length l.seen.now.way.items) + 1
+
+abbrev pub decreases-visit_relay : goal.decreases-visit_relay
+decreases-visit_relay l = 4 * (length l.site.now.relays - length l.seen.now.way.items) + 4
+
+abbrev pub invariant-visit-loop-number : goal.invariant-visit-loop-number
+invariant-visit-loop-number l = record {
+  way : l.seen.way.items ≡ l.initial.seen.way.items;
+  ranked : AreRanked l.site l.class l.seen.done.items l.seen.settled.items l.seen.ranks.items;
+  more : DoesMore (IsMet (way_of l.initial.seen.way.items) l.from) l.initial.seen.done.items l.seen.done.items;
+  followed : (k : ℕ) → k < l.number → IsFollowed l.site l.class l.seen.done.items l.may l.from k;
+}
+
+abbrev pub invariant-visit_relay-loop-input : goal.invariant-visit_relay-loop-input
+invariant-visit_relay-loop-input l = record {
+  way : l.seen.way.items ≡ l.initial.seen.way.items;
+  ranked : AreRanked l.site l.class l.seen.done.items l.seen.settled.items l.seen.ranks.items;
+  more : DoesMore (Contains (relays_of (way_of l.initial.seen.way.items))) l.initial.seen.done.items l.seen.done.items;
+  visited : (x : SiteInput) → Contains (take l.input-index l.reached) x → x.relay ≡ l.first.relay → Contains l.seen.done.items x;
+}

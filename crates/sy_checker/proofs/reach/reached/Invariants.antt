@@ -1,9 +1,0 @@
-use Rattle.std.proofs.Common.{◌-◌}
-use Rattle.sy_checker.proofs.Gone.{HasGone}
-use Rattle.sy_checker.proofs.reach.reached.Given as goal
-
-abbrev pub invariant-loop-done : goal.invariant-loop-done
-invariant-loop-done l = HasGone l.site l.class l.found.items l.done
-
-abbrev pub decreases-loop-done : goal.decreases-loop-done
-decreases-loop-done l = 4096 - l.done

@@ -1,0 +1,31 @@
+use Rattle.std.proofs.Common.{drop, get_or, length, refl, subst, sym}
+use Rattle.std.proofs.lemmas.Option.{slice_get_read}
+use Rattle.sy_checker.specs.Fit.{AreWrong}
+use Rattle.sy_checker.specs.Verifying.{IsJudged}
+use Rattle.sy_checker.proofs.Verified.{done_left, next_right, no_later, whole_rest}
+use Rattle.sy_checker.proofs.verifying.check_rows.Goals as goal
+
+pub loop-class-preserved : goal.loop-class-preserved
+loop-class-preserved c =
+    let site = c.args.site.now in
+    let rows = c.args.rows.now in
+    let done = c.loop-class.done in
+    let judged =
+    subst (λ l. IsJudged site c.class-item.result l c.in-Ok.judged) (whole_rest rows done) c.in-Ok.ensures in
+    next_right site c.args.classes.now rows done c.loop-class.class-index c.class-item.result c.loop-class-test.true c.loop-class.invariant
+    c.in-Right.count
+    (subst (λ j. IsJudged site (get_or c.args.classes.now c.loop-class.class-index c.class-item.result) (drop done rows) j) c.in-Right.is
+    (subst (λ k. IsJudged site k (drop done rows) c.in-Ok.judged) c.class-item.is judged))
+
+pub returns-in-Some-clause-err : goal.returns-in-Some-clause-err
+returns-in-Some-clause-err c =
+    let site = c.args.site.now in
+    let classes = c.args.classes.now in
+    let rows = c.args.rows.now in
+    let done = c.loop-class.done in
+    let at = slice_get_read rows (length rows) done c.in-Some.row.now refl c.in-Some.ensures.lookup.3.0 c.in-Some.ensures.lookup.1 in
+    let all = no_later site classes rows done c.loop-class.class-index c.loop-class-test.false c.loop-class.invariant in (
+      done,
+      subst (AreWrong site classes rows done) (sym c.row_kind-row.ensures) (done_left site classes rows done all c.in-Some.row.now at),
+      refl,
+    )

@@ -1,0 +1,21 @@
+use Rattle.sy_checker.proofs.Uniqueness.{only_memory}
+use Rattle.sy_checker.proofs.Verified.{fit_by}
+use Rattle.sy_checker.proofs.verifying.verify.Goals as goal
+
+pub returns-clause-sound : goal.returns-clause-sound
+returns-clause-sound c =
+    c.fit_is_sound.ensures c.args.site.now c.args.certificate.now.rows
+    (fit_by c.args.site.now c.in-Ok.classes.items c.as_slice.result.now c.rows.result.now c.args.certificate.now.rows c.in-Ok.ensures
+    c.as_slice.ensures.value c.rows.ensures c.in_default-check_rows.ensures.ok)
+
+pub returns-clause-safe : goal.returns-clause-safe
+returns-clause-safe c = λ events state runs.
+    c.fit_is_safe.ensures c.args.site.now c.args.certificate.now.rows c.is_lawful.ensures
+    (fit_by c.args.site.now c.in-Ok.classes.items c.as_slice.result.now c.rows.result.now c.args.certificate.now.rows c.in-Ok.ensures
+    c.as_slice.ensures.value c.rows.ensures c.in_default-check_rows.ensures.ok)
+    events state runs
+
+pub returns-in-Err-clause-only : goal.returns-in-Err-clause-only
+returns-in-Err-clause-only c =
+    only_memory c.args.site.now c.in-Ok.classes.items c.as_slice.result.now c.rows.result.now c.args.certificate.now.rows c.in-Err.fault
+    c.in-Ok.ensures c.as_slice.ensures.value c.rows.ensures c.in-Err.ensures.err

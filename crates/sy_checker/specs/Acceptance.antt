@@ -1,0 +1,34 @@
+-- What is kept of a site whose certificate is fit (this profile's own).
+use Rattle.std.specs.Prelude.{◌≡◌, ℕ, ◌↔◌, Contains, List, map}
+use Rattle.sy_wire.specs.declared.class.Class.{Class}
+use Rattle.sy_rules.specs.PlanValue.{Plan}
+use Rattle.sy_site.specs.declared.site.SiteInput.{SiteInput}
+use Rattle.sy_site.specs.Sites.{Relay, Site}
+use Rattle.sy_site.specs.machine.Reach.{Reach}
+use Rattle.sy_site.specs.machine.Soundness.{IsGuarded}
+use Rattle.sy_board.specs.relay.Totals.{Pairs}
+use Rattle.sy_checker.specs.Fit.{AreProtected}
+
+-- the plans of its relays, its protected classes, and each input with each of them that reaches it
+pub record Acceptance : Type 0 where
+  pub plans : List Plan
+  pub classes : List Class
+  pub pairs : List (SiteInput × Class)
+
+abbrev pub plans_of : Site → List Plan
+plans_of site = map (λ (relay : Relay). relay.plan) site.relays
+
+-- It is that of this site.
+pub record IsOf (site : Site) (accepted : Acceptance) : Type 0 where
+  pub plans : accepted.plans ≡ plans_of site
+  pub classes : AreProtected site accepted.classes
+  pub pairs : (input : SiteInput) (class : Class) → Contains accepted.pairs (input, class) ↔ IsGuarded site input.relay input.input class
+
+-- those of one relay
+abbrev pub ArePairsAt : List (SiteInput × Class) → ℕ → Pairs → Type 0
+ArePairsAt pairs relay found = (input : ℕ) (class : Class)
+    → Contains found (input, class) ↔ Contains pairs (record { relay = relay; input = input }, class)
+
+-- each input that one of these classes reaches, with that class
+abbrev pub AreReached : Site → List Class → List (SiteInput × Class) → Type 0
+AreReached site classes pairs = (input : SiteInput) (class : Class) → Contains pairs (input, class) ↔ (Contains classes class × Reach site class input)

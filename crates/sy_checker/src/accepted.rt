@@ -1,0 +1,170 @@
+//! What is kept of a site that was accepted.
+
+ghost use Rattle.std.specs.Prelude.{◌≡◌, ◌<◌, ◌++◌, [], ◌∷◌, List, length, map, slice_get, Some, IfOk, OnOk};
+ghost use Rattle.std.specs.Arc.{arc_value};
+ghost use Rattle.sy_site.specs.Sites.{Relay};
+ghost use Rattle.sy_site.specs.declared.site.SiteInput.{SiteInput as AnyInput};
+ghost use Rattle.sy_wire.specs.declared.class.Class.{Class as AnyClass};
+ghost use Rattle.sy_checker.specs.Acceptance as spec;
+ghost use Rattle.sy_checker.specs.Fit.{AreProtected};
+
+use crate::reach::reached;
+use std::alloc::{AllocError, Global};
+use std::marker::Model;
+use std::sync::Arc;
+use sy_board::Guard;
+use sy_rules::Plan;
+use sy_site::{Site, SiteInput};
+use sy_wire::Class;
+
+/// What is kept of a site that was accepted: the plans of its relays, its protected classes, and each input with each of
+/// them that reaches it.
+#[derive(Drop)]
+pub struct Accepted {
+    plans: Vec<Arc<Plan>>,
+    classes: Vec<Class>,
+    pairs: Vec<(SiteInput, Class)>,
+}
+
+impl Model for Accepted {
+    ghost use Rattle.std.specs.Prelude.{map};
+    ghost use Rattle.std.specs.Arc.{arc_value};
+    ghost use Rattle.std.specs.Coded.{codes};
+    ghost use Rattle.sy_rules.specs.internal.PlanCodes.{plan_code};
+    ghost use Rattle.sy_checker.specs.Acceptance as spec;
+
+    ghost Value = { spec.Acceptance };
+
+    ghost coded = { Prim.hlevel (codes, plan_code) };
+
+    ghost view = { λ a. record { plans = map arc_value a.plans.items; classes = a.classes.items; pairs = a.pairs.items } };
+}
+
+// The plans of a site's relays.
+fn plans_of(alloc: Global, site: &Site) -> Result<Vec<Arc<Plan>>, AllocError>
+    ensures { IfOk result (λ plans. map arc_value plans.items ≡ spec.plans_of site.now) }
+{
+    let mut plans = Vec::with_capacity(alloc, site.relays() as usize)?;
+    for relay in 0..site.relays() {
+        let plan = Arc::try_clone(site.plan(relay))?;
+        plans.push(plan)?;
+    }
+    Ok(plans)
+}
+
+// Puts each of some inputs with a class.
+fn put_pairs(
+    pairs: &mut Vec<(SiteInput, Class)>,
+    inputs: &[SiteInput],
+    class: Class,
+) -> Result<(), AllocError>
+    ensures { OnOk result (pairs.new.items ≡ pairs.old.items ++ map (λ input. (input, class)) inputs.now) }
+{
+    for input in inputs {
+        pairs.push((*input, class))?;
+    }
+    Ok(())
+}
+
+// Puts the inputs that a class reaches with it, behind those of the classes before.
+fn put_reached(
+    alloc: Global,
+    site: &Site,
+    class: Class,
+    pairs: &mut Vec<(SiteInput, Class)>,
+) -> Result<(), AllocError>
+    ensures { OnOk result ((before : List AnyClass) → spec.AreReached site.now before pairs.old.items
+        → spec.AreReached site.now (before ++ class ∷ []) pairs.new.items) }
+{
+    let inputs = reached(alloc, site, class)?;
+    put_pairs(pairs, inputs.as_slice(), class)
+}
+
+// Each input that one of the classes reaches, with that class.
+fn pairs_of(
+    alloc: Global,
+    site: &Site,
+    classes: &[Class],
+) -> Result<Vec<(SiteInput, Class)>, AllocError>
+    ensures { IfOk result (λ pairs. spec.AreReached site.now classes.now pairs.items) }
+{
+    let mut pairs = Vec::new(alloc);
+    for class in classes {
+        put_reached(alloc, site, *class, &mut pairs)?;
+    }
+    Ok(pairs)
+}
+
+// Puts a pair behind those before that are this relay's, where it is one too.
+fn put_pair(
+    found: &mut Vec<(u32, Class)>,
+    relay: u32,
+    input: SiteInput,
+    class: Class,
+) -> Result<(), AllocError>
+    ensures { OnOk result ((before : List (AnyInput × AnyClass)) → spec.ArePairsAt before relay found.old.items
+        → spec.ArePairsAt (before ++ (input, class) ∷ []) relay found.new.items) }
+{
+    if input.relay == relay {
+        found.push((input.input, class))?;
+    }
+    Ok(())
+}
+
+// Those of a relay.
+fn pairs_at(
+    alloc: Global,
+    pairs: &[(SiteInput, Class)],
+    relay: u32,
+) -> Result<Vec<(u32, Class)>, AllocError>
+    ensures { IfOk result (λ found. spec.ArePairsAt pairs.now relay found.items) }
+{
+    let mut found = Vec::new(alloc);
+    for pair in pairs {
+        put_pair(&mut found, relay, pair.0, pair.1)?;
+    }
+    Ok(found)
+}
+
+impl Accepted {
+    // What is kept of a site with these protected classes.
+    pub(crate) fn new(
+        alloc: Global,
+        site: &Site,
+        classes: Vec<Class>,
+    ) -> Result<Accepted, AllocError>
+        requires protected { AreProtected site.now classes.items }
+        ensures { IfOk result (λ accepted. spec.IsOf site.now accepted) }
+    {
+        let plans = plans_of(alloc, site)?;
+        let pairs = pairs_of(alloc, site, classes.as_slice())?;
+        Ok(Accepted {
+            plans,
+            classes,
+            pairs,
+        })
+    }
+
+    /// The protected classes, by rising number.
+    pub fn classes(&self) -> &[Class]
+        ensures { result.now ≡ self.now.classes }
+    {
+        self.classes.as_slice()
+    }
+
+    /// The plan of a relay.
+    pub fn plan(&self, relay: u32) -> &Arc<Plan>
+        requires exists { relay < length self.now.plans }
+        ensures { Some (arc_value result.now) ≡ slice_get self.now.plans relay }
+    {
+        &self.plans[relay as usize]
+    }
+
+    /// The guard of a relay: of each input and each class that are guarded there, and of no other.
+    pub fn guard(&self, alloc: Global, relay: u32) -> Result<Guard, AllocError>
+        ensures { IfOk result (λ guard. spec.ArePairsAt self.now.pairs relay guard) }
+    {
+        let pairs = pairs_at(alloc, self.pairs.as_slice(), relay)?;
+        Guard::new(alloc, pairs.as_slice())
+    }
+}

@@ -1,0 +1,27 @@
+//! Which occurrences of an input's list are followed.
+
+ghost use Rattle.sy_rules.specs.lists.Sets.{Bits};
+ghost use Rattle.sy_site.specs.machine.Lawful.{IsInput};
+ghost use Rattle.sy_checker.specs.Search.{ExecutedAt};
+
+use crate::inputs::{may_at, must_at};
+use sy_site::{Site, SiteInput};
+use sy_wire::Class;
+
+/// Those that messages of a class may execute, or those that they must.
+#[derive(Clone, Copy)]
+pub enum Executed {
+    May,
+    Must,
+}
+
+/// What is executed at an input.
+pub fn executed_at(site: &Site, class: Class, which: Executed, input: SiteInput) -> u64
+    requires there { IsInput site.now input }
+    ensures { Bits (ExecutedAt site.now class which input) result }
+{
+    match which {
+        Executed::May => may_at(site, class, input),
+        Executed::Must => must_at(site, class, input),
+    }
+}

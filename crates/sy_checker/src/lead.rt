@@ -1,0 +1,87 @@
+//! Paths that are looked for: from an entry to an archive, by forwards that must be executed.
+
+ghost use Rattle.std.specs.Prelude.{◌≡◌, ◌∷◌, [], Contains, IfOk, map};
+ghost use Rattle.sy_site.specs.declared.site.SiteInput.{SiteInput as AnyInput};
+ghost use Rattle.sy_site.specs.machine.Lawful.{IsInput};
+ghost use Rattle.sy_checker.specs.declared.executed.Executed.TheVariants as executed;
+ghost use Rattle.sy_checker.specs.Search.{IsSpread};
+ghost use Rattle.sy_checker.specs.Answer as spec;
+
+use crate::executed::Executed;
+use crate::finding::WayRow;
+use crate::path::must_write;
+use crate::reach::spread;
+use crate::way::way_to;
+use std::alloc::{AllocError, Global};
+use sy_script::Items;
+use sy_site::{Site, SiteAction, SiteInput};
+use sy_wire::Class;
+
+// The first of inputs at which an archive must be written, by its place.
+fn first_writing(
+    site: &Site,
+    class: Class,
+    archive: SiteAction,
+    inputs: &[SiteInput],
+) -> Option<usize>
+    requires there { (x : AnyInput) → Contains inputs.now x → IsInput site.now x }
+    ensures { spec.IsWriting site.now class archive inputs.now result }
+{
+    for place in 0..inputs.len() {
+        if must_write(site, class, archive, inputs[place]) {
+            return Some(place);
+        }
+    }
+    None
+}
+
+// The occurrences of a way.
+fn occurrences(alloc: Global, way: &[WayRow]) -> Result<Items<u8>, AllocError>
+    requires small { spec.AreSmall way.now }
+    ensures { IfOk result (λ path. path ≡ map (λ row. row.number) way.now) }
+{
+    let mut path = Items::new(alloc);
+    for row in way {
+        path.push(row.number as u8)?;
+    }
+    Ok(path)
+}
+
+// The path from an entry to the first at which an archive must be written, of what is found from that entry.
+fn lead_among(
+    alloc: Global,
+    site: &Site,
+    class: Class,
+    archive: SiteAction,
+    start: &[SiteInput],
+    found: &[SiteInput],
+) -> Result<Option<Items<u8>>, AllocError>
+    requires spread { IsSpread site.now class executed.Must start.now found.now }
+    ensures { IfOk result (λ path. (entry : AnyInput) → start.now ≡ entry ∷ []
+        → spec.IsLead site.now class archive entry path) }
+{
+    match first_writing(site, class, archive, found) {
+        Some(place) => {
+            let way = way_to(alloc, site, class, Executed::Must, start, found, place)?;
+            let path = occurrences(alloc, way.as_slice())?;
+            Ok(Some(path))
+        }
+        None => Ok(None),
+    }
+}
+
+/// A shortest path from an entry to an archive, with the smallest occurrences first.
+pub fn lead(
+    alloc: Global,
+    site: &Site,
+    class: Class,
+    archive: SiteAction,
+    entry: SiteInput,
+) -> Result<Option<Items<u8>>, AllocError>
+    requires there { IsInput site.now entry }
+    ensures { IfOk result (λ path. spec.IsLead site.now class archive entry path) }
+{
+    let start = [entry];
+    let found = spread(alloc, site, class, Executed::Must, &start)?;
+    lead_among(alloc, site, class, archive, &start, found.as_slice())
+}

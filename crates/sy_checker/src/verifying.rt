@@ -1,0 +1,102 @@
+//! Verifying: whether a certificate is fit for a site.
+
+ghost use Rattle.std.specs.Prelude.{◌≡◌, List, IfErr, IfOk, OnOk};
+ghost use Rattle.sy_site.specs.machine.Safety.{AreSafe};
+ghost use Rattle.sy_site.specs.machine.Soundness.{IsSound};
+ghost use Rattle.sy_site.specs.machine.States.{SiteState};
+ghost use Rattle.sy_site.specs.machine.Steps.{Runs, SiteEvent};
+ghost use Rattle.sy_checker.specs.Acceptance.{IsOf};
+ghost use Rattle.sy_checker.specs.Fit.{AreFit, IsFit};
+ghost use Rattle.sy_checker.specs.Verifying as spec;
+ghost use Rattle.sy_checker.specs.declared.verifying.CertFault.TheVariants as faults;
+
+use crate::accepted::Accepted;
+use crate::classes::protected_classes;
+use crate::laws::{fit_is_safe, fit_is_sound};
+use crate::part::{first_wrong, row_kind};
+use crate::wanted::{RowKind, wanted_rows};
+use std::alloc::{AllocError, Global};
+use sy_cert::{Certificate, Row};
+use sy_site::Site;
+use sy_wire::Class;
+
+/// Why a certificate isn't accepted.
+#[derive(Clone, Copy, Debug, PartialEq, Eq)]
+pub enum CertFault {
+    /// The first row that isn't the wanted one, or doesn't hold: its line in the text, counted from 1, one past the last
+    /// where rows are missing, and the kind wanted there, or the row's own kind where none is wanted.
+    Wrong { line: usize, row: RowKind },
+    /// Memory ran out.
+    NoMemory,
+}
+
+// How many rows stand first for a class, where each is right; or the place and the kind of the first wrong one.
+#[derive(Clone, Copy)]
+pub(crate) enum Judged {
+    Right(usize),
+    Wrong(usize, RowKind),
+}
+
+// Judges the rows of a class, which these begin with.
+fn judge(alloc: Global, site: &Site, class: Class, rows: &[Row]) -> Result<Judged, AllocError>
+    ensures { IfOk result (λ judged. spec.IsJudged site.now class rows.now judged) }
+{
+    let part = wanted_rows(alloc, site, class)?;
+    match first_wrong(site, class, part.as_slice(), rows) {
+        Some((place, kind)) => Ok(Judged::Wrong(place, kind)),
+        None => Ok(Judged::Right(part.len())),
+    }
+}
+
+// Whether the rows are those that are wanted for these classes.
+fn check_rows(alloc: Global, site: &Site, classes: &[Class], rows: &[Row]) -> Result<(), CertFault>
+    ensures ok { OnOk result (AreFit site.now classes.now rows.now) }
+    ensures err { IfErr result (λ fault. spec.IsFirstWrong site.now classes.now rows.now fault) }
+{
+    let mut done = 0;
+    for class in classes {
+        let Ok(judged) = judge(alloc, site, *class, &rows[done..]) else {
+            return Err(CertFault::NoMemory);
+        };
+        match judged {
+            Judged::Right(count) => done += count,
+            Judged::Wrong(place, row) => {
+                let line = done + place + 2;
+                return Err(CertFault::Wrong { line, row });
+            }
+        }
+    }
+    match rows.get(done) {
+        Some(row) => {
+            let (line, row) = (done + 2, row_kind(row));
+            Err(CertFault::Wrong { line, row })
+        }
+        None => Ok(()),
+    }
+}
+
+/// Accepts a certificate that is fit for a site, and no other; one that is fit is refused for want of memory alone. Where
+/// it accepts, the site is sound, and no message of a protected class is lost in any run of it.
+pub fn verify(alloc: Global, site: &Site, certificate: &Certificate) -> Result<Accepted, CertFault>
+    ensures fit { OnOk result (IsFit site.now certificate.now.rows) }
+    ensures wrong { IfErr result (λ fault. spec.IsFault site.now certificate.now.rows fault) }
+    ensures only { IfErr result (λ fault. IsFit site.now certificate.now.rows → fault ≡ faults.NoMemory) }
+    ensures accepted { IfOk result (λ accepted. IsOf site.now accepted) }
+    ensures sound { OnOk result (IsSound site.now) }
+    ensures safe { OnOk result ((events : List SiteEvent) (state : SiteState) → Runs site.now events state
+        → AreSafe site.now state) }
+{
+    site.is_lawful();
+    fit_is_sound();
+    fit_is_safe();
+    let Ok(classes) = protected_classes(alloc, site) else {
+        return Err(CertFault::NoMemory);
+    };
+    if let Err(fault) = check_rows(alloc, site, classes.as_slice(), certificate.rows()) {
+        return Err(fault);
+    }
+    let Ok(accepted) = Accepted::new(alloc, site, classes) else {
+        return Err(CertFault::NoMemory);
+    };
+    Ok(accepted)
+}

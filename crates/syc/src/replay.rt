@@ -1,0 +1,352 @@
+//! A file of events over a site, made one by one: a line for each loss.
+ghost use Rattle.std.specs.Prelude.{◌≡◌, ◌≢◌, ◌≤◌, ◌<◌, ◌++◌, ◌∷◌, ◌⊎◌, [], ℕ, List, Option, Some, IfErr, IfNone, IfOk, IfSome, OnErr, OnOk, drop, length};
+ghost use Rattle.std.specs.Io.KnownBytes.{Keeps};
+ghost use Rattle.sy_wire.specs.Streams.{Rose};
+ghost use Rattle.sy_replay.specs.Events.{site_event};
+ghost use Rattle.sy_replay.specs.States.{state_at};
+ghost use Rattle.sy_site.specs.machine.States.{opening};
+ghost use Rattle.syc.specs.Replays as spec;
+ghost use Rattle.syc.specs.Replays.{ReplayIs, lines_of, loss_lines};
+ghost use Rattle.syc.specs.internal.Halts as internal;
+ghost use Rattle.syc.specs.internal.Halts.{Comes, Stops, place};
+
+use crate::files::{FileFault, Files};
+use crate::halt::{Halt, status_of, tell};
+use crate::losses::{put_end, put_losses};
+use crate::output::write_all;
+use crate::pass::READS;
+use crate::site::read_site;
+use memchr::memchr;
+use std::alloc::{AllocError, Global};
+use sy_replay::{Event, EventFault, Illegal, Replay, read_event};
+use sy_site::Site;
+use sy_wire::{Sink, Source};
+
+/// How many bytes are read at once.
+const PIECE: usize = 65536;
+
+// A replay with the line that comes next, counted from 1, and the events so far. Both counts stop at the greatest
+// number of 64 bits.
+#[derive(Drop)]
+struct Course<'a> {
+    replay: Replay<'a>,
+    line: u64,
+    events: u64,
+}
+
+// Writes the lines of the losses behind the first ones.
+fn print_losses<W: Sink>(
+    alloc: Global,
+    site: &Site,
+    course: &Course<'_>,
+    first: usize,
+    writer: &mut W,
+) -> Result<(), Halt>
+    ensures ok { OnOk result (internal.PrintsLosses site.now (state_at course.now.replay) course.now.line first
+        (W.contents writer.old) (W.contents writer.new)) }
+    ensures same { OnOk result (W.faults writer.new ≡ W.faults writer.old) }
+    ensures err { IfErr result (λ why. internal.IsTorn why
+        (W.contents writer.old) (W.faults writer.old) (W.contents writer.new) (W.faults writer.new)) }
+{
+    let losses = course.replay.losses();
+    if first >= losses.len() {
+        return Ok(());
+    }
+    let mut text = Vec::new(alloc);
+    let Ok(()) = put_losses(
+        &mut text,
+        site,
+        &course.replay,
+        course.line,
+        &losses[first..],
+    ) else {
+        return Err(Halt::NoMemory);
+    };
+    match write_all(writer, text.as_slice()) {
+        Ok(()) => Ok(()),
+        Err(_) => Err(Halt::WriteFailed),
+    }
+}
+
+fn halt_of(illegal: Illegal, line: u64) -> Halt
+    ensures { result ≡ internal.halt_of illegal line }
+{
+    match illegal {
+        Illegal::NotAStep => Halt::Illegal(line),
+        Illegal::NoMemory => Halt::NoMemory,
+        Illegal::TotalsFull => Halt::TotalsFull(line),
+    }
+}
+
+// Makes the step of the event in the next line.
+fn make_event<W: Sink>(
+    alloc: Global,
+    site: &Site,
+    course: &mut Course<'_>,
+    event: &Event,
+    writer: &mut W,
+) -> Result<(), Halt>
+    ensures same { OnOk result (W.faults writer.new ≡ W.faults writer.old) }
+    ensures cause { IfErr result (λ why. internal.HasCause why (W.faults writer.old) (W.faults writer.new)) }
+{
+    let before = course.replay.losses().len();
+    if let Err(illegal) = course.replay.apply(event) {
+        return Err(halt_of(illegal, course.line));
+    }
+    print_losses(alloc, site, course, before, writer)?;
+    course.events = course.events.saturating_add(1);
+    Ok(())
+}
+
+// Replays one line, which comes without its line feed.
+fn apply_line<W: Sink>(
+    alloc: Global,
+    site: &Site,
+    course: &mut Course<'_>,
+    line: &[u8],
+    writer: &mut W,
+) -> Result<(), Halt>
+    ensures same { OnOk result (W.faults writer.new ≡ W.faults writer.old) }
+    ensures cause { IfErr result (λ why. internal.HasCause why (W.faults writer.old) (W.faults writer.new)) }
+{
+    match read_event(alloc, site, line) {
+        Ok(None) => {}
+        Ok(Some(event)) => {
+            if let Err(halt) = make_event(alloc, site, course, &event, writer) {
+                return Err(halt);
+            }
+        }
+        Err(EventFault::Line) => return Err(Halt::Line(course.line)),
+        Err(EventFault::NoMemory) => return Err(Halt::NoMemory),
+    }
+    course.line = course.line.saturating_add(1);
+    Ok(())
+}
+
+// The first line of a text that is whole, and what is behind its line feed.
+fn cut_line(text: &[u8]) -> Option<(&[u8], &[u8])>
+    ensures some { IfSome result (λ r. (ahead : List ℕ) →
+        lines_of (text.now ++ ahead) ≡ r.0.now ∷ lines_of (r.1.now ++ ahead)) }
+    ensures shorter { IfSome result (λ r. length r.1.now < length text.now) }
+    ensures none { IfNone result (internal.IsOpenLine text.now) }
+{
+    match memchr(b'\n', text) {
+        Some(at) => Some((&text[..at], &text[at + 1..])),
+        None => None,
+    }
+}
+
+// Replays all lines that are whole, and answers what is behind them.
+fn apply_lines<'h, W: Sink>(
+    alloc: Global,
+    site: &Site,
+    course: &mut Course<'_>,
+    held: &'h [u8],
+    writer: &mut W,
+) -> Result<&'h [u8], Halt>
+    ensures same { OnOk result (W.faults writer.new ≡ W.faults writer.old) }
+    ensures cause { IfErr result (λ why. internal.HasCause why (W.faults writer.old) (W.faults writer.new)) }
+{
+    let mut rest = held;
+    while let Some((line, behind)) = cut_line(rest) {
+        apply_line(alloc, site, course, line, writer)?;
+        rest = behind;
+    }
+    Ok(rest)
+}
+
+fn copy_of(alloc: Global, bytes: &[u8]) -> Result<Vec<u8>, AllocError>
+    ensures { IfOk result (λ copy. copy.items ≡ bytes.now) }
+{
+    let mut copy = Vec::new(alloc);
+    copy.extend_from_slice(bytes)?;
+    Ok(copy)
+}
+
+// What was read of the events file and is no whole line yet, with the room that it is read into.
+#[derive(Drop)]
+struct Pieces {
+    held: Vec<u8>,
+    room: Vec<u8>,
+}
+
+// Reads the next bytes behind those that are held: how many.
+fn read_piece<R: Source>(reader: &mut R, pieces: &mut Pieces) -> Result<usize, Halt>
+    requires room { 0 < length pieces.old.room.items }
+    ensures room { 0 < length pieces.new.room.items }
+    ensures ok { IfOk result (λ count. internal.Reads count pieces.old.held.items pieces.new.held.items
+        (R.remaining reader.old) (R.remaining reader.new)) }
+    ensures err { IfErr result (λ why. (why ≡ Halt.NoMemory) ⊎ (why ≡ Halt.ReadFailed)) }
+{
+    let Ok(count) = reader.read(pieces.room.as_mut_slice()) else {
+        return Err(Halt::ReadFailed);
+    };
+    let Ok(()) = pieces.held.extend_from_slice(&pieces.room[..count]) else {
+        return Err(Halt::NoMemory);
+    };
+    Ok(count)
+}
+
+// Hands on what was printed, reads once, and replays the lines that are whole then. It answers whether more may come.
+fn turn<R: Source, W: Sink>(
+    alloc: Global,
+    site: &Site,
+    course: &mut Course<'_>,
+    reader: &mut R,
+    pieces: &mut Pieces,
+    writer: &mut W,
+) -> Result<bool, Halt>
+    requires room { 0 < length pieces.old.room.items }
+    ensures room { 0 < length pieces.new.room.items }
+    ensures same { OnOk result (W.faults writer.new ≡ W.faults writer.old) }
+    ensures cause { IfErr result (λ why. internal.HasCause why (W.faults writer.old) (W.faults writer.new)) }
+{
+    let Ok(()) = writer.flush() else {
+        return Err(Halt::WriteFailed);
+    };
+    let before = pieces.held.len();
+    if read_piece(reader, pieces)? == 0 {
+        return Ok(false);
+    }
+    if memchr(b'\n', &pieces.held[before..]).is_none() {
+        return Ok(true);
+    }
+    let rest = apply_lines(alloc, site, course, pieces.held.as_slice(), writer)?;
+    let Ok(rest) = copy_of(alloc, rest) else {
+        return Err(Halt::NoMemory);
+    };
+    pieces.held = rest;
+    Ok(true)
+}
+
+// Replays the last line, and prints the end.
+fn finish<W: Sink>(
+    alloc: Global,
+    site: &Site,
+    course: &mut Course<'_>,
+    last: &[u8],
+    writer: &mut W,
+) -> Result<(), Halt>
+    ensures same { OnOk result (W.faults writer.new ≡ W.faults writer.old) }
+    ensures cause { IfErr result (λ why. internal.HasCause why (W.faults writer.old) (W.faults writer.new)) }
+{
+    apply_line(alloc, site, course, last, writer)?;
+    let mut text = Vec::new(alloc);
+    let Ok(()) = put_end(&mut text, &course.replay, course.events) else {
+        return Err(Halt::NoMemory);
+    };
+    let Ok(()) = write_all(writer, text.as_slice()) else {
+        return Err(Halt::WriteFailed);
+    };
+    let Ok(()) = writer.flush() else {
+        return Err(Halt::WriteFailed);
+    };
+    Ok(())
+}
+
+// Replays all lines.
+fn turns<R: Source, W: Sink>(
+    alloc: Global,
+    site: &Site,
+    course: &mut Course<'_>,
+    reader: &mut R,
+    pieces: &mut Pieces,
+    writer: &mut W,
+) -> Result<(), Halt>
+    requires room { 0 < length pieces.old.room.items }
+    ensures same { OnOk result (W.faults writer.new ≡ W.faults writer.old) }
+    ensures cause { IfErr result (λ why. internal.HasCause why (W.faults writer.old) (W.faults writer.new)) }
+{
+    for _ in 0..READS {
+        if !turn(alloc, site, course, reader, pieces, writer)? {
+            return finish(alloc, site, course, pieces.held.as_slice(), writer);
+        }
+    }
+    Err(Halt::ReadFailed)
+}
+
+// Replays a whole events file.
+fn replay_events<R: Source, W: Sink>(
+    alloc: Global,
+    site: &Site,
+    reader: &mut R,
+    writer: &mut W,
+) -> Result<(), Halt>
+    ensures same { OnOk result (W.faults writer.new ≡ W.faults writer.old) }
+    ensures cause { IfErr result (λ why. internal.HasCause why (W.faults writer.old) (W.faults writer.new)) }
+{
+    let Ok(replay) = Replay::new(alloc, site) else {
+        return Err(Halt::NoMemory);
+    };
+    let Ok(room) = vec![in alloc; 0; PIECE] else {
+        return Err(Halt::NoMemory);
+    };
+    let mut pieces = Pieces {
+        held: Vec::new(alloc),
+        room,
+    };
+    let mut course = Course {
+        replay,
+        line: 1,
+        events: 0,
+    };
+    turns(alloc, site, &mut course, reader, &mut pieces, writer)
+}
+
+// Replays the events file of a name over the site of another.
+fn replay_files<F: Files, W: Sink>(
+    alloc: Global,
+    files: &F,
+    site_name: &str,
+    events_name: &str,
+    writer: &mut W,
+) -> Result<(), Halt>
+    ensures same { OnOk result (W.faults writer.new ≡ W.faults writer.old) }
+    ensures cause { IfErr result (λ why. internal.IsCause why (W.faults writer.old) (W.faults writer.new)) }
+{
+    let site = read_site(alloc, files, site_name)?;
+    let mut reader = match files.open(events_name) {
+        Ok(reader) => reader,
+        Err(FileFault::Read) => return Err(Halt::ReadFailed),
+        Err(FileFault::NoMemory) => return Err(Halt::NoMemory),
+    };
+    replay_events(alloc, &site, &mut reader, writer)
+}
+
+// Hands on what was printed before the halt, and reports it.
+fn give_up<W: Sink, E: Sink>(writer: &mut W, errors: &mut E, halt: &Halt) -> u8
+    ensures status { (result ≡ internal.status_at halt.now) ⊎ (result ≡ 4) }
+    ensures same { result ≢ 4 → W.faults writer.new ≡ W.faults writer.old }
+{
+    match writer.flush() {
+        Ok(()) => {
+            tell(errors, halt);
+            status_of(halt)
+        }
+        Err(_) => {
+            tell(errors, &Halt::WriteFailed);
+            4
+        }
+    }
+}
+
+/// Makes the events of a file at a site, line by line as they are read, and prints a line for each loss as it happens,
+/// and one at the end. It answers the exit status: 0 where each line is skipped or its event was made, 1 at an event
+/// that is no step or finds a total full, 2 at a faulty site or a line that is no event, 3 where memory runs out, and 4
+/// where a read or write failed. What was printed before stands.
+pub fn replay<F: Files, W: Sink, E: Sink>(
+    alloc: Global,
+    files: &F,
+    site_name: &str,
+    events_name: &str,
+    writer: &mut W,
+    errors: &mut E,
+) -> u8
+    ensures status { result ≤ 4 }
+    ensures none_failed { result ≢ 4 → W.faults writer.new ≡ W.faults writer.old }
+{
+    match replay_files(alloc, files, site_name, events_name, writer) {
+        Ok(()) => 0,
+        Err(halt) => give_up(writer, errors, &halt),
+    }
+}
