@@ -1,0 +1,14 @@
+//! The tests of the libraries over whole sites, over their public calls: what no contract says, worked rows, and each
+//! request for memory that a call may make refused in turn. Those of one relay's libraries stand in `sy_tests`, whose
+//! tables of cases these are written in.
+
+#![tactic(auto)]
+
+#[cfg(test)]
+mod cert;
+#[cfg(test)]
+mod checker;
+#[cfg(test)]
+mod replay;
+#[cfg(test)]
+mod site;
