@@ -2,6 +2,7 @@
 #![tactic(auto)]
 
 pub mod accepted;
+mod certifying;
 mod classes;
 mod executed;
 pub mod finding;
