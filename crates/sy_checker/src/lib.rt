@@ -27,5 +27,6 @@ mod wanted;
 mod way;
 
 pub use accepted::Accepted;
+pub use certifying::certify;
 pub use verifying::{CertFault, verify};
 pub use wanted::RowKind;
