@@ -71,6 +71,7 @@ fn rows_of_class(alloc: Global, site: &Site, class: Class) -> Result<Vec<Row>, R
     Ok(rows)
 }
 
+// Puts the rows of a class behind the others.
 fn put_all(rows: &mut Vec<Row>, mut more: Vec<Row>) -> Result<(), AllocError>
     ensures { OnOk result (rows.new.items ≡ rows.old.items ++ more.items) }
 {
@@ -103,6 +104,7 @@ fn fit_rows(alloc: Global, site: &Site) -> Result<Vec<Row>, Refusal>
     Ok(rows)
 }
 
+// The types of a row's numbers keep them in range. These do nothing; their contracts say so.
 fn class_in_range(class: Class)
     ensures facility { class.facility < 24 }
     ensures severity { class.severity < 8 }
@@ -122,7 +124,7 @@ fn rank_in_range(rank: u32)
     let _ = rank;
 }
 
-// The types of a row's numbers keep them in range.
+// The same of all numbers of a row.
 fn in_range(row: &Row)
     ensures { spec.IsInRange row.now }
 {
@@ -134,6 +136,7 @@ fn in_range(row: &Row)
     }
 }
 
+// Puts a row behind the others, which has its shape as its numbers are in range.
 fn put_row(certificate: &mut Certificate, row: Row) -> Result<(), AllocError>
     requires shape { spec.IsInRange row → IsRow row }
     requires place { may_follow (last_kind certificate.old.rows) (kind row) ≡ true }
