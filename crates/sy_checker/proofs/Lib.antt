@@ -22,3 +22,6 @@ pub mod Trails
 pub mod Ranking
 pub mod Heights
 pub mod Visited
+pub mod Described
+pub mod Shaped
+pub mod Certified

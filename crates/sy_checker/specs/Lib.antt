@@ -10,3 +10,4 @@ pub mod Finding
 pub mod Answer
 pub mod Made
 pub mod Loops
+pub mod Certifying

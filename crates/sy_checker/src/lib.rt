@@ -2,6 +2,7 @@
 #![tactic(auto)]
 
 pub mod accepted;
+mod certifying;
 mod classes;
 mod executed;
 pub mod finding;
@@ -26,5 +27,6 @@ mod wanted;
 mod way;
 
 pub use accepted::Accepted;
+pub use certifying::certify;
 pub use verifying::{CertFault, verify};
 pub use wanted::RowKind;

@@ -1,0 +1,20 @@
+use Rattle.std.proofs.Common.{subst, sym}
+use Rattle.sy_site.specs.machine.Soundness.{AreRanks}
+use Rattle.sy_checker.specs.Fit.{AreWanted}
+use Rattle.sy_checker.specs.Loops.{rank_at}
+use Rattle.sy_checker.proofs.certifying.rows_of_class.Goals as goal
+
+pub rows_for-requires-clause-wanted : goal.rows_for-requires-clause-wanted
+rows_for-requires-clause-wanted c = subst (AreWanted c.args.site.now c.args.class) (sym c.as_slice.ensures.value) c.in_ok-part.ensures
+
+pub rows_for-requires-clause-ranks : goal.rows_for-requires-clause-ranks
+rows_for-requires-clause-ranks c =
+    subst (λ l. AreRanks c.args.site.now c.args.class (rank_at l)) (sym c.as_slice-2.ensures.value) c.in_ok-ranks.ensures.ranks
+
+pub returns-clause-ok : goal.returns-clause-ok
+returns-clause-ok c = record {
+  part = c.as_slice.result.now;
+  are_wanted = subst (AreWanted c.args.site.now c.args.class) (sym c.as_slice.ensures.value) c.in_ok-part.ensures;
+  right = c.in_ok-rows.ensures.ok;
+  many = c.in_ok-rows.ensures.length;
+}

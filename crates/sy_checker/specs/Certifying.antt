@@ -1,0 +1,36 @@
+-- What the functions say that make a certificate.
+use Rattle.std.specs.Prelude.{◌≡◌, ℕ, ◌<◌, ◌≤◌, true, List, [], ◌∷◌, length}
+use Rattle.sy_wire.specs.declared.class.Class.{Class}
+use Rattle.sy_cert.specs.declared.kinds.Kind.{Kind}
+use Rattle.sy_cert.specs.declared.row.Row.{Row}
+use Rattle.sy_cert.specs.declared.row.Row.TheVariants as row
+use Rattle.sy_cert.specs.Rows.{IsRow, kind, may_follow}
+use Rattle.sy_site.specs.Sites.{Site}
+use Rattle.sy_site.specs.texts.Describes.{Describes, File}
+use Rattle.sy_checker.specs.Fit.{AreRight, AreWanted}
+use Rattle.sy_checker.specs.declared.wanted.Wanted.{Wanted}
+
+-- the rows that are wanted for a class, each right, and no more
+pub record AreRowsOf (site : Site) (class : Class) (rows : List Row) : Type 0 where
+  pub part : List Wanted
+  pub are_wanted : AreWanted site class part
+  pub right : AreRight site class part rows
+  pub many : length rows ≡ length part
+
+-- ---- rows of a certificate
+
+-- its numbers are in range
+abbrev pub IsInRange : Row → Type 0
+IsInRange (row.Class class) = (class.facility < 24) × (class.severity < 8)
+IsInRange (row.Reach relay port) = port ≤ 65535
+IsInRange (row.Rank relay rank) = rank ≤ 4294967295
+IsInRange (row.Path relay port archive_relay action occurrences) = port ≤ 65535
+
+-- each has its shape where its numbers are in range, and may follow the one before
+abbrev pub AreShaped : Kind → List Row → Type 0
+AreShaped before [] = Unit {0}
+AreShaped before (r ∷ rows) = (IsInRange r → IsRow r) × (may_follow before (kind r) ≡ true) × AreShaped (kind r) rows
+
+-- some text and some files describe the site
+abbrev pub IsDescribed : Site → Type 0
+IsDescribed site = (text : List ℕ) × (files : List File) × Describes text files site

@@ -1,0 +1,190 @@
+//! Making a certificate: the rows of each protected class, or what is found in the site.
+
+ghost use Rattle.std.specs.Prelude.{◌≡◌, ◌<◌, ◌≤◌, ◌++◌, ◌∷◌, [], Contains, IfErr, IfOk, OnOk, length, true};
+ghost use Rattle.sy_wire.specs.declared.class.Class.{Class as AnyClass};
+ghost use Rattle.sy_cert.specs.declared.kinds.Kind.TheVariants as kinds;
+ghost use Rattle.sy_cert.specs.Rows.{IsRow, kind, last_kind, may_follow};
+ghost use Rattle.sy_site.specs.Sites as sites;
+ghost use Rattle.sy_site.specs.machine.Soundness.{AreRanks, IsSound};
+ghost use Rattle.sy_checker.specs.Certifying as spec;
+ghost use Rattle.sy_checker.specs.Finding.{IsTrueRefusal};
+ghost use Rattle.sy_checker.specs.declared.finding.Refusal.TheVariants as refusal;
+ghost use Rattle.sy_checker.specs.Fit.{AreFit, IsFit};
+ghost use Rattle.sy_checker.specs.Loops.{HasNoRanks, rank_at};
+
+use crate::classes::protected_classes;
+use crate::finding::Refusal;
+use crate::laws::fit_is_sound;
+use crate::looped::looped;
+use crate::loops::{Unranked, ranks_of};
+use crate::making::{parts_join, rows_for};
+use crate::reach::reached;
+use crate::search::searched;
+use crate::wanted::wanted_rows;
+use std::alloc::{AllocError, Global};
+use sy_cert::{Certificate, Row};
+use sy_site::Site;
+use sy_site::laws::archives_are_those_named;
+use sy_site::machine::sound_sites_have_no_finding;
+use sy_wire::Class;
+
+// What is found where there are no ranks.
+fn unranked(alloc: Global, site: &Site, class: Class, why: Unranked) -> Refusal
+    requires protected { sites.is_protected site.now class ≡ true }
+    requires none { HasNoRanks site.now class why }
+    ensures { IsTrueRefusal site.now result }
+{
+    match why {
+        Unranked::NoMemory => Refusal::NoMemory,
+        Unranked::Loop(way, end) => match looped(alloc, site, class, way.as_slice(), end) {
+            Ok(finding) => Refusal::Finding(finding),
+            Err(_) => Refusal::NoMemory,
+        },
+    }
+}
+
+// Ranks of the relays for a class, or the finding of a loop.
+fn ranks_for(alloc: Global, site: &Site, class: Class) -> Result<Vec<u32>, Refusal>
+    requires protected { sites.is_protected site.now class ≡ true }
+    ensures ranks { IfOk result (λ ranks. AreRanks site.now class (rank_at ranks.items)) }
+    ensures many { IfOk result (λ ranks. length ranks.items ≡ length site.now.relays) }
+    ensures err { IfErr result (λ why. IsTrueRefusal site.now why) }
+{
+    let reached = reached(alloc, site, class)?;
+    match ranks_of(alloc, site, class, reached.as_slice()) {
+        Ok(ranks) => Ok(ranks),
+        Err(why) => Err(unranked(alloc, site, class, why)),
+    }
+}
+
+// The rows of a class, or what is found of it: first at the inputs that it reaches, then a loop, then an archive that
+// an entry doesn't lead to.
+fn rows_of_class(alloc: Global, site: &Site, class: Class) -> Result<Vec<Row>, Refusal>
+    requires protected { sites.is_protected site.now class ≡ true }
+    ensures ok { IfOk result (λ rows. spec.AreRowsOf site.now class rows.items) }
+    ensures err { IfErr result (λ why. IsTrueRefusal site.now why) }
+{
+    searched(alloc, site, class)?;
+    let ranks = ranks_for(alloc, site, class)?;
+    let part = wanted_rows(alloc, site, class)?;
+    let rows = rows_for(alloc, site, class, part.as_slice(), ranks.as_slice())?;
+    Ok(rows)
+}
+
+// Puts the rows of a class behind the others.
+fn put_all(rows: &mut Vec<Row>, mut more: Vec<Row>) -> Result<(), AllocError>
+    ensures { OnOk result (rows.new.items ≡ rows.old.items ++ more.items) }
+{
+    rows.append(&mut more)
+}
+
+// The rows of these classes, or what is found of the first of which something is.
+fn rows_of_classes(alloc: Global, site: &Site, classes: &[Class]) -> Result<Vec<Row>, Refusal>
+    requires protected { (class : AnyClass) → Contains classes.now class
+        → sites.is_protected site.now class ≡ true }
+    ensures ok { IfOk result (λ rows. AreFit site.now classes.now rows.items) }
+    ensures err { IfErr result (λ why. IsTrueRefusal site.now why) }
+{
+    parts_join();
+    let mut rows = Vec::new(alloc);
+    for class in classes {
+        let more = rows_of_class(alloc, site, *class)?;
+        put_all(&mut rows, more)?;
+    }
+    Ok(rows)
+}
+
+// The rows of a certificate that is fit for a site, or what is found of the first class of which something is.
+fn fit_rows(alloc: Global, site: &Site) -> Result<Vec<Row>, Refusal>
+    ensures ok { IfOk result (λ rows. IsFit site.now rows.items) }
+    ensures err { IfErr result (λ why. IsTrueRefusal site.now why) }
+{
+    let classes = protected_classes(alloc, site)?;
+    let rows = rows_of_classes(alloc, site, classes.as_slice())?;
+    Ok(rows)
+}
+
+// The types of a row's numbers keep them in range. These do nothing; their contracts say so.
+fn class_in_range(class: Class)
+    ensures facility { class.facility < 24 }
+    ensures severity { class.severity < 8 }
+{
+    let _ = class;
+}
+
+fn port_in_range(port: u16)
+    ensures { port ≤ 65535 }
+{
+    let _ = port;
+}
+
+fn rank_in_range(rank: u32)
+    ensures { rank ≤ 4294967295 }
+{
+    let _ = rank;
+}
+
+// The same of all numbers of a row.
+fn in_range(row: &Row)
+    ensures { spec.IsInRange row.now }
+{
+    match row {
+        Row::Class(class) => class_in_range(*class),
+        Row::Reach { port, .. } => port_in_range(*port),
+        Row::Rank { rank, .. } => rank_in_range(*rank),
+        Row::Path { port, .. } => port_in_range(*port),
+    }
+}
+
+// Puts a row behind the others, which has its shape as its numbers are in range.
+fn put_row(certificate: &mut Certificate, row: Row) -> Result<(), AllocError>
+    requires shape { spec.IsInRange row → IsRow row }
+    requires place { may_follow (last_kind certificate.old.rows) (kind row) ≡ true }
+    ensures { OnOk result (certificate.new.rows ≡ certificate.old.rows ++ row ∷ []) }
+{
+    in_range(&row);
+    certificate.push(row)
+}
+
+// The certificate with these rows.
+fn certificate_of(alloc: Global, rows: Vec<Row>) -> Result<Certificate, AllocError>
+    requires shaped { spec.AreShaped kinds.Cert rows.items }
+    ensures { IfOk result (λ certificate. certificate.rows ≡ rows.items) }
+{
+    let mut certificate = Certificate::new(alloc, 1);
+    for row in rows {
+        put_row(&mut certificate, row)?;
+    }
+    Ok(certificate)
+}
+
+// The certificate of a site that some texts describe, whose names are therefore those of a certificate.
+fn fit_certificate(alloc: Global, site: &Site) -> Result<Certificate, Refusal>
+    requires described { spec.IsDescribed site.now }
+    ensures ok { IfOk result (λ certificate. IsFit site.now certificate.rows) }
+    ensures err { IfErr result (λ why. IsTrueRefusal site.now why) }
+{
+    site.is_lawful();
+    archives_are_those_named();
+    let rows = fit_rows(alloc, site)?;
+    let certificate = certificate_of(alloc, rows)?;
+    Ok(certificate)
+}
+
+/// A certificate that is fit for a site which some texts describe, as each that was read is; or what is found of the
+/// first protected class of which something is: first at the inputs that it reaches, then a loop, then an archive that
+/// an entry doesn't lead to. A sound site is refused for want of memory alone.
+pub fn certify(alloc: Global, site: &Site) -> Result<Certificate, Refusal>
+    requires described { spec.IsDescribed site.now }
+    ensures fit { IfOk result (λ certificate. IsFit site.now certificate.rows) }
+    ensures found { IfErr result (λ why. IsTrueRefusal site.now why) }
+    ensures only { IfErr result (λ why. IsSound site.now → why ≡ refusal.NoMemory) }
+    ensures sound { OnOk result (IsSound site.now) }
+{
+    fit_is_sound();
+    sound_sites_have_no_finding();
+    match fit_certificate(alloc, site) {
+        Ok(certificate) => Ok(certificate),
+        Err(why) => Err(why),
+    }
+}
