@@ -3,8 +3,9 @@ ghost use Rattle.std.specs.Prelude.{◌≡◌, ◌≢◌, ◌≤◌, ◌+◌, �
 ghost use Rattle.std.specs.Io.KnownBytes.{Keeps};
 ghost use Rattle.sy_wire.specs.Streams.{Rose};
 ghost use Rattle.syc.specs.Pass.{HasFailed, IsStatus, NoneFailed, PassIs, counts};
+ghost use Rattle.syc.specs.Replays.{ReplayIs};
 ghost use Rattle.syc.specs.Reports.{Reported, seen};
-ghost use Rattle.syc.specs.Words.{ArePassAlone};
+ghost use Rattle.syc.specs.Words.{ArePassAlone, AreReplayOf};
 
 use crate::command::{Command, all_words, command_of};
 use crate::files::Files;
@@ -21,6 +22,7 @@ use sy_wire::{Sink, Source};
 fn show<W: Sink, E: Sink>(alloc: Global, writer: &mut W, errors: &mut E, error: &Error) -> u8
     ensures status { IsStatus result }
     ensures none_failed { result ≢ 4 → W.faults writer.new ≡ W.faults writer.old }
+    ensures quiet { result ≡ 0 → Keeps (E.contents errors.old) (E.contents errors.new) }
 {
     let Ok(text) = format!(in alloc; "{error}") else {
         return out_of_memory(errors);
@@ -53,9 +55,14 @@ pub fn run<R: Source, W: Sink, E: Sink, F: Files>(
         PassIs result input (W.contents writer.old) (W.contents writer.new)
         (Reported (seen E.contents E.is_flushed E.faults errors.old)
         (seen E.contents E.is_flushed E.faults errors.new)) }
+    ensures replay { (site events text input : List ℕ) → AreReplayOf (map string_bytes args.now) site events →
+        F.bytes_of files.now site ≡ Some text → F.bytes_of files.now events ≡ Some input →
+        ReplayIs (F.bytes_of files.now) text input result
+        (seen W.contents W.is_flushed W.faults writer.old) (seen W.contents W.is_flushed W.faults writer.new)
+        (Reported (seen E.contents E.is_flushed E.faults errors.old)
+        (seen E.contents E.is_flushed E.faults errors.new)) }
     ensures status { result ≤ 4 }
-    ensures quiet { ArePassAlone (map string_bytes args.now) → result ≡ 0 →
-        Keeps (E.contents errors.old) (E.contents errors.new) }
+    ensures quiet { result ≡ 0 → Keeps (E.contents errors.old) (E.contents errors.new) }
     ensures flushed { ArePassAlone (map string_bytes args.now) →
         (W.is_flushed writer.old ≡ true → W.is_flushed writer.new ≡ true)
         ⊎ ((result ≡ 4) × Rose (W.faults writer.old) (W.faults writer.new)) }
