@@ -1,4 +1,6 @@
+use Rattle.std.proofs.Common.{◌∙◌, ap, sym}
 use Rattle.syc.proofs.Statuses.{nothing_passed}
+use Rattle.syc.proofs.Verdicts.{one_verify}
 use Rattle.syc.proofs.run.run.Goals as goal
 
 pub returns-in_default-clause-pass : goal.returns-in_default-clause-pass
@@ -6,3 +8,10 @@ returns-in_default-clause-pass g c = λ words_are input known. rw c.out_of_memor
 
 pub returns-in-OutOfMemory-clause-pass : goal.returns-in-OutOfMemory-clause-pass
 returns-in-OutOfMemory-clause-pass g c = λ words_are input known. rw c.out_of_memory-in-OutOfMemory.ensures.status (nothing_passed input _ _ c.out_of_memory-in-OutOfMemory.ensures.reported)
+
+pub returns-in-Ok-Verify-clause-verify : goal.returns-in-Ok-Verify-clause-verify
+returns-in-Ok-Verify-clause-verify g c = λ site certificate given site_text text is_site is_text.
+    let bytes_of = g.F.Files.bytes_of c.args.files.now in
+    let named = rw c.in-Ok-Verify.field-0-is at c.in-Ok-Verify.ensures.ok in
+    let same = one_verify _ _ _ _ site certificate _ _ c.as_slice.ensures.value c.in-Ok.ensures given named in
+    c.verify.ensures.verdict site_text text (ap bytes_of (sym same.0) ∙ is_site) (ap bytes_of (sym same.1) ∙ is_text)
