@@ -3,4 +3,5 @@ pub mod Reports
 pub mod Pass
 pub mod Replays
 pub mod HaltTexts
+pub mod Verdicts
 pub mod internal

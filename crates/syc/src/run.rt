@@ -5,7 +5,8 @@ ghost use Rattle.sy_wire.specs.Streams.{Rose};
 ghost use Rattle.syc.specs.Pass.{HasFailed, IsStatus, NoneFailed, PassIs, counts};
 ghost use Rattle.syc.specs.Replays.{ReplayIs};
 ghost use Rattle.syc.specs.Reports.{Reported, seen};
-ghost use Rattle.syc.specs.Words.{ArePassAlone, AreReplayOf};
+ghost use Rattle.syc.specs.Verdicts.{VerifyIs};
+ghost use Rattle.syc.specs.Words.{ArePassAlone, AreReplayOf, AreVerifyOf};
 
 use crate::command::{Command, all_words, command_of};
 use crate::files::Files;
@@ -13,6 +14,7 @@ use crate::output::write_all;
 use crate::pass::{READS, pass};
 use crate::replay::replay;
 use crate::stop::{out_of_memory, write_failed};
+use crate::verify::verify;
 use clap::Error;
 use clap::error::ErrorKind;
 use std::alloc::Global;
@@ -77,6 +79,13 @@ pub fn run<R: Source, W: Sink, E: Sink, F: Files>(
         (Reported (seen E.contents E.is_flushed E.faults errors.old) (seen E.contents E.is_flushed E.faults errors.new))
         (counts R.faults R.calls W.faults reader.old writer.old)
         (counts R.faults R.calls W.faults reader.new writer.new) }
+    ensures verify { (site certificate : List ℕ) → AreVerifyOf (map string_bytes args.now) site certificate →
+        (site_text text : List ℕ) → F.bytes_of files.now site ≡ Some site_text →
+        F.bytes_of files.now certificate ≡ Some text →
+        VerifyIs (F.bytes_of files.now) site_text text result
+        (seen W.contents W.is_flushed W.faults writer.old) (seen W.contents W.is_flushed W.faults writer.new)
+        (Reported (seen E.contents E.is_flushed E.faults errors.old)
+        (seen E.contents E.is_flushed E.faults errors.new)) }
 {
     let Ok(words) = all_words(alloc, args) else {
         return out_of_memory(errors);
@@ -84,6 +93,9 @@ pub fn run<R: Source, W: Sink, E: Sink, F: Files>(
     match command_of(alloc, words.as_slice()) {
         Ok(Command::Pass) => pass(alloc, reader, writer, errors),
         Ok(Command::Replay(site, events)) => replay(alloc, files, site, events, writer, errors),
+        Ok(Command::Verify(site, certificate)) => {
+            verify(alloc, files, site, certificate, writer, errors)
+        }
         Err(error) => match error.kind() {
             ErrorKind::OutOfMemory => out_of_memory(errors),
             _ => show(alloc, writer, errors, &error),

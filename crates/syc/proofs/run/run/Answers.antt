@@ -1,8 +1,9 @@
-use Rattle.std.proofs.Common.{◌≡◌, map, subst, sym}
+use Rattle.std.proofs.Common.{◌≡◌, ◌∙◌, ap, map, subst, sym}
 use Rattle.std.specs.Prelude.{Some, string_bytes}
 use Rattle.syc.specs.Words.{AreReplay}
 use Rattle.syc.proofs.Commands.{one_replay, with_program}
 use Rattle.syc.proofs.Statuses.{nothing_passed}
+use Rattle.syc.proofs.Verdicts.{one_verify}
 use Rattle.syc.proofs.run.run.Goals as goal
 
 pub returns-in_default-clause-pass : goal.returns-in_default-clause-pass
@@ -21,3 +22,10 @@ returns-in-Ok-Replay-clause-replay g c = λ site events text input words_are sit
     let same = one_replay all c.in-Ok-Replay.site.now c.in-Ok-Replay.events.now site events read given in
     c.replay.ensures.replay text input (subst (λ name. bytes_of name ≡ Some text) (sym same.0) site_known)
     (subst (λ name. bytes_of name ≡ Some input) (sym same.1) events_known)
+
+pub returns-in-Ok-Verify-clause-verify : goal.returns-in-Ok-Verify-clause-verify
+returns-in-Ok-Verify-clause-verify g c = λ site certificate given site_text text is_site is_text.
+    let bytes_of = g.F.Files.bytes_of c.args.files.now in
+    let named = rw c.in-Ok-Verify.field-0-is at c.in-Ok-Verify.ensures.ok in
+    let same = one_verify _ _ _ _ site certificate _ _ c.as_slice.ensures.value c.in-Ok.ensures given named in
+    c.verify.ensures.verdict site_text text (ap bytes_of (sym same.0) ∙ is_site) (ap bytes_of (sym same.1) ∙ is_text)
