@@ -1,22 +1,28 @@
 -- How the parts of a replay come together.
-use Rattle.std.proofs.Common.{◌≡◌, ℕ, ◌-◌, length, take, drop, map, arith, List, [], ◌∷◌, ◌++◌, refl, sym, ap, subst, inl, inr, ◌∙◌, true, false}
-use Rattle.std.specs.Prelude.{IfSome, Option, Some, None, string_bytes}
+use Rattle.std.proofs.Common.{◌≡◌, ℕ, ◌-◌, length, take, drop, map, arith, List, [], ◌∷◌, ◌++◌, refl, sym, ap, subst, inl, inr, ◌∙◌, Bool, true, false, true≢false}
+use Rattle.std.specs.Prelude.{IfErr, IfSome, OnOk, Option, Some, None, Result, Ok, Err, string_bytes}
 use Rattle.sy_site.specs.texts.Describes.{File}
 use Rattle.syc.specs.declared.site.RelayFile.{RelayFile}
 use Rattle.std.specs.Io.KnownBytes.{Appends, Keeps}
 use Rattle.std.proofs.KnownBytes.{Appends-trans, Appends-kept}
-use Rattle.std.proofs.lemmas.List.{append_assoc, append-nil, drop-map, length-drop, map_push, take_all}
+use Rattle.std.proofs.lemmas.List.{append_assoc, append-nil, drop-map, length-drop, length-map, map_push, take_all}
 use Rattle.sy_site.specs.Sites.{Site}
 use Rattle.sy_wire.specs.Streams.{Rose}
-use Rattle.sy_site.specs.machine.States.{SiteState}
-use Rattle.sy_site.specs.machine.Steps.{SiteEvent, SiteStep}
+use Rattle.sy_site.specs.machine.States as machine
+use Rattle.sy_site.specs.machine.Steps.{SiteEvent}
 use Rattle.sy_site.specs.declared.fault.SiteFault.TheVariants as site_fault
 use Rattle.sy_replay.specs.Events.{loss_of, losses_of}
 use Rattle.sy_replay.specs.declared.event.Loss.{Loss}
+use Rattle.sy_replay.specs.declared.event.Illegal.{Illegal}
+use Rattle.sy_replay.specs.declared.event.Illegal.TheVariants as illegal
 use Rattle.sy_replay.specs.Lines.{IsNoEvent, StandsFor, is_skipped}
-use Rattle.syc.specs.Replays.{Answers, AreGiven, Ending, IsReplayed, ReplayIs, Replays, end_line, lines_of, loss_lines, next}
-use Rattle.syc.specs.Replays.Replays.{broken, done, faulty, full, illegal, skips, steps}
-use Rattle.syc.specs.internal.Halts.{Comes, Finishes, HasCause, IsCause, IsNoSite, IsNotMade, IsReadHalt, IsTail, Makes, Place, Stops, ending_of, file_of, start, status_at}
+use Rattle.sy_replay.specs.Held.{opened_parts}
+use Rattle.sy_replay.specs.States.{Applies, Contents, IsIllegalAt, holding, state_in}
+use Rattle.syc.specs.Reports.{SinkState, Torn}
+use Rattle.syc.specs.HaltTexts.{halt_report}
+use Rattle.syc.specs.Replays.{AreGiven, Ending, IsLeft, IsNoReplay, IsReplayed, IsTold, ReplayIs, Replays, end_line, lines_of, loss_lines, next, opened, status_of}
+use Rattle.syc.specs.Replays.Replays.{done, end_torn, faulty, full, no_memory, no_step, skips, steps, torn, unread, unwritten}
+use Rattle.syc.specs.internal.Halts.{Comes, Finishes, Halted, HasCause, IsCause, IsNoSite, IsReadHalt, IsTorn, Place, Replayed, ReplaysFrom, Stops, Turns, ending_of, file_of, halt_of, start, status_at, with_lines}
 use Rattle.syc.specs.declared.halt.Halt.{Halt}
 use Rattle.syc.specs.declared.halt.Halt.TheVariants as halt
 
@@ -28,210 +34,250 @@ appends_none (Some xs) (Some ys) h = h ∙ sym (append-nil xs)
 pub comes_on : (site : Site) (a b c : Place) → Comes site a b → Comes site b c → Comes site a c
 comes_on site a b c p q = record {
   out = p.out ++ q.out;
-  wrote = Appends-trans a.contents b.contents c.contents p.out q.out p.wrote q.wrote;
+  wrote = Appends-trans a.written b.written c.written p.out q.out p.wrote q.wrote;
   same = q.same ∙ p.same;
-  goes = λ later ending rest. subst (λ out. Replays site a.line a.events a.state a.lines out ending) (sym (append_assoc p.out q.out later))
+  goes = λ later ending rest. subst (λ out. ReplaysFrom site a out ending) (sym (append_assoc p.out q.out later))
       (p.goes (q.out ++ later) ending (q.goes later ending rest));
 }
 
-pub stops_behind : (site : Site) (a b : Place) (why : Halt) (contents : Option (List ℕ)) (faults : ℕ) → Comes site a b → Stops site b why contents faults
-    → Stops site a why contents faults
-stops_behind site a b why contents faults p q = record {
+pub stops_behind : (site : Site) (a b : Place) (why : Halt) (written : Option (List ℕ)) (faults : ℕ) → Comes site a b → Stops site b why written faults
+    → Stops site a why written faults
+stops_behind site a b why written faults p q = record {
   out = p.out ++ q.out;
-  tail = q.tail;
-  wrote = subst (Appends a.contents contents) (sym (append_assoc p.out q.out q.tail))
-      (Appends-trans a.contents b.contents contents p.out (q.out ++ q.tail) p.wrote q.wrote);
-  is_tail = q.is_tail;
+  wrote = Appends-trans a.written b.written written p.out q.out p.wrote q.wrote;
   cause = subst (λ f. HasCause why f faults) p.same q.cause;
   stops = p.goes q.out (ending_of why) q.stops;
 }
 
-pub finishes_behind : (site : Site) (a b : Place) (contents : Option (List ℕ)) (faults : ℕ) → Comes site a b → Finishes site b contents faults
-    → Finishes site a contents faults
-finishes_behind site a b contents faults p q = record {
+pub finishes_behind : (site : Site) (a b : Place) (written : Option (List ℕ)) (faults : ℕ) → Comes site a b → Finishes site b written faults
+    → Finishes site a written faults
+finishes_behind site a b written faults p q = record {
   out = p.out ++ q.out;
-  events = q.events;
-  state = q.state;
-  wrote = subst (Appends a.contents contents) (sym (append_assoc p.out q.out (end_line q.events q.state)))
-      (Appends-trans a.contents b.contents contents p.out (q.out ++ end_line q.events q.state) p.wrote q.wrote);
+  wrote = Appends-trans a.written b.written written p.out q.out p.wrote q.wrote;
   same = q.same ∙ p.same;
-  ends = p.goes q.out (Ending.Done q.events q.state) q.ends;
+  ends = p.goes q.out Ending.Done q.ends;
 }
 
--- a replay may break wherever it ends
-pub breaks : {site : Site} {line events : ℕ} {state : SiteState} {lines : List (List ℕ)} {out : List ℕ} {ending : Ending}
-    → Replays site line events state lines out ending → Replays site line events state lines out Ending.Broken
-breaks done = broken
+-- Wherever a replay ends, a flush may fail there.
+pub breaks : {site : Site} {line events : ℕ} {held : Contents} {lines : List (List ℕ)} {out : List ℕ} {ending : Ending}
+    → Replays site line events held lines out ending → Replays site line events held lines out Ending.WriteFailed
+breaks {held = held} {out = out} done = end_torn out [] (sym (append-nil out))
 breaks (skips skipped later) = skips skipped (breaks later)
 breaks (steps event stands step later) = steps event stands step (breaks later)
-breaks (faulty unskipped none) = broken
-breaks (illegal event stands none) = broken
-breaks (full event new stands step) = broken
-breaks broken = broken
+breaks (faulty unskipped none) = unwritten
+breaks (no_step event stands none) = unwritten
+breaks (full event stands too_full) = unwritten
+breaks no_memory = unwritten
+breaks unread = unwritten
+breaks unwritten = unwritten
+breaks (torn event new part tail stands step front) = torn event new part tail stands step front
+breaks (end_torn part tail front) = end_torn part tail front
 
 -- ---- one line
 
 pub step_made : (site : Site) (from to : Place) (text : List ℕ) (event : SiteEvent) → StandsFor site text event → from.lines ≡ text ∷ to.lines
-    → to.line ≡ next from.line → to.events ≡ next from.events → Makes site from.line from.state event to.state from.contents to.contents
+    → to.line ≡ next from.line → to.events ≡ next from.events → Applies site from.held event to.held
+    → Appends from.written to.written (loss_lines site from.line (state_in from.held) (state_in to.held))
     → to.faults ≡ from.faults → Comes site from to
-step_made site from to text event stands lines line events made same = record {
-  out = loss_lines site from.line from.state to.state;
-  wrote = made.1;
+step_made site from to text event stands lines line events made wrote same = record {
+  out = loss_lines site from.line (state_in from.held) (state_in to.held);
+  wrote = wrote;
   same = same;
   goes = λ later ending rest.
-      let at_line = subst (λ l. Replays site l to.events to.state to.lines later ending) line rest in
-      let at_event = subst (λ e. Replays site (next from.line) e to.state to.lines later ending) events at_line in
-      subst (λ ls. Replays site from.line from.events from.state ls (loss_lines site from.line from.state to.state ++ later) ending) (sym lines)
-      (steps event stands made.0 at_event);
+      let at_line = subst (λ l. Replays site l to.events to.held to.lines later ending) line rest in
+      let at_event = subst (λ e. Replays site (next from.line) e to.held to.lines later ending) events at_line in
+      subst (λ ls. Replays site from.line from.events from.held ls (loss_lines site from.line (state_in from.held) (state_in to.held) ++ later) ending)
+      (sym lines)
+      (steps event stands made at_event);
 }
 
 pub line_skipped : (site : Site) (from to : Place) (text : List ℕ) → is_skipped text ≡ true → from.lines ≡ text ∷ to.lines
-    → to.line ≡ next from.line → to.events ≡ from.events → to.state ≡ from.state → Keeps from.contents to.contents
+    → to.line ≡ next from.line → to.events ≡ from.events → to.held ≡ from.held → Keeps from.written to.written
     → to.faults ≡ from.faults → Comes site from to
-line_skipped site from to text skipped lines line events state kept same = record {
+line_skipped site from to text skipped lines line events held kept same = record {
   out = [];
-  wrote = appends_none from.contents to.contents kept;
+  wrote = appends_none from.written to.written kept;
   same = same;
   goes = λ later ending rest.
-      let at_line = subst (λ l. Replays site l to.events to.state to.lines later ending) line rest in
-      let at_event = subst (λ e. Replays site (next from.line) e to.state to.lines later ending) events at_line in
-      let at_state = subst (λ s. Replays site (next from.line) from.events s to.lines later ending) state at_event in
-      subst (λ ls. Replays site from.line from.events from.state ls later ending) (sym lines) (skips skipped at_state);
+      let at_line = subst (λ l. Replays site l to.events to.held to.lines later ending) line rest in
+      let at_event = subst (λ e. Replays site (next from.line) e to.held to.lines later ending) events at_line in
+      let at_held = subst (λ s. Replays site (next from.line) from.events s to.lines later ending) held at_event in
+      subst (λ ls. Replays site from.line from.events from.held ls later ending) (sym lines) (skips skipped at_held);
 }
 
 -- nothing more is written where it stops
-pub stops_here : (site : Site) (from : Place) (why : Halt) (contents : Option (List ℕ)) (faults : ℕ) → Keeps from.contents contents
-    → IsTail why [] → HasCause why from.faults faults
-    → Replays site from.line from.events from.state from.lines [] (ending_of why) → Stops site from why contents faults
-stops_here site from why contents faults kept is_tail cause stops = record {
+pub stops_here : (site : Site) (from : Place) (why : Halt) (written : Option (List ℕ)) (faults : ℕ) → Keeps from.written written
+    → HasCause why from.faults faults → ReplaysFrom site from [] (ending_of why) → Stops site from why written faults
+stops_here site from why written faults kept cause stops = record {
   out = [];
-  tail = [];
-  wrote = appends_none from.contents contents kept;
-  is_tail = is_tail;
+  wrote = appends_none from.written written kept;
   cause = cause;
   stops = stops;
 }
 
-pub line_faulty : (site : Site) (from : Place) (text : List ℕ) (later : List (List ℕ)) (at : ℕ) (contents : Option (List ℕ)) (faults : ℕ)
-    → from.lines ≡ text ∷ later → at ≡ from.line → is_skipped text ≡ false → IsNoEvent site text → Keeps from.contents contents
-    → faults ≡ from.faults → Stops site from (halt.Line at) contents faults
-line_faulty site from text later at contents faults lines line unskipped none kept same =
-    stops_here site from (halt.Line at) contents faults kept refl same
-    (subst (λ l. Replays site from.line from.events from.state from.lines [] (Ending.Faulty l)) (sym line)
-    (subst (λ ls. Replays site from.line from.events from.state ls [] (Ending.Faulty from.line)) (sym lines) (faulty unskipped none)))
+pub line_faulty : (site : Site) (from : Place) (text : List ℕ) (later : List (List ℕ)) (written : Option (List ℕ)) (faults : ℕ)
+    → from.lines ≡ text ∷ later → is_skipped text ≡ false → IsNoEvent site text → Keeps from.written written
+    → faults ≡ from.faults → Stops site from (halt.Line from.line) written faults
+line_faulty site from text later written faults lines unskipped none kept same =
+    stops_here site from (halt.Line from.line) written faults kept same
+    (subst (λ ls. Replays site from.line from.events from.held ls [] (Ending.Faulty from.line)) (sym lines) (faulty unskipped none))
 
-pub out_of_room : (site : Site) (from : Place) (contents : Option (List ℕ)) (faults : ℕ) → Keeps from.contents contents
-    → faults ≡ from.faults → Stops site from halt.NoMemory contents faults
-out_of_room site from contents faults kept same = stops_here site from halt.NoMemory contents faults kept refl same broken
+pub out_of_room : (site : Site) (from : Place) (written : Option (List ℕ)) (faults : ℕ) → Keeps from.written written
+    → faults ≡ from.faults → Stops site from halt.NoMemory written faults
+out_of_room site from written faults kept same = stops_here site from halt.NoMemory written faults kept same no_memory
 
-pub read_fails : (site : Site) (from : Place) (contents : Option (List ℕ)) (faults : ℕ) → Keeps from.contents contents
-    → faults ≡ from.faults → Stops site from halt.ReadFailed contents faults
-read_fails site from contents faults kept same = stops_here site from halt.ReadFailed contents faults kept refl same broken
+pub read_fails : (site : Site) (from : Place) (written : Option (List ℕ)) (faults : ℕ) → Keeps from.written written
+    → faults ≡ from.faults → Stops site from halt.ReadFailed written faults
+read_fails site from written faults kept same = stops_here site from halt.ReadFailed written faults kept same unread
 
-pub write_fails : (site : Site) (from : Place) (tail : List ℕ) (contents : Option (List ℕ)) (faults : ℕ) → Appends from.contents contents tail
-    → Rose from.faults faults → Stops site from halt.WriteFailed contents faults
-write_fails site from tail contents faults wrote rose = record {
-  out = [];
-  tail = tail;
+pub flush_fails : (site : Site) (from : Place) (written : Option (List ℕ)) (faults : ℕ) → Keeps from.written written
+    → Rose from.faults faults → Stops site from halt.WriteFailed written faults
+flush_fails site from written faults kept rose = stops_here site from halt.WriteFailed written faults kept rose unwritten
+
+-- the event isn't applied
+pub event_refused : (site : Site) (from : Place) (text : List ℕ) (later : List (List ℕ)) (event : SiteEvent) (why : Illegal) (written : Option (List ℕ))
+    (faults : ℕ) → from.lines ≡ text ∷ later → StandsFor site text event → IsIllegalAt why site from.held event
+    → Keeps from.written written → faults ≡ from.faults → Stops site from (halt_of why from.line) written faults
+event_refused site from text later event illegal.NotAStep written faults lines stands none kept same =
+    stops_here site from (halt.Illegal from.line) written faults kept same
+    (subst (λ ls. Replays site from.line from.events from.held ls [] (Ending.Illegal from.line)) (sym lines) (no_step event stands none))
+event_refused site from text later event illegal.NoMemory written faults lines stands none kept same = out_of_room site from written faults kept same
+event_refused site from text later event illegal.TotalsFull written faults lines stands too_full kept same =
+    stops_here site from (halt.TotalsFull from.line) written faults kept same
+    (subst (λ ls. Replays site from.line from.events from.held ls [] (Ending.Full from.line)) (sym lines) (full event stands too_full))
+
+-- the step is made, but its losses aren't, or not wholly, printed
+pub losses_torn : (site : Site) (from : Place) (text : List ℕ) (later : List (List ℕ)) (event : SiteEvent) (new : Contents) (why : Halt)
+    (written : Option (List ℕ)) (faults : ℕ) → from.lines ≡ text ∷ later → StandsFor site text event → Applies site from.held event new
+    → IsTorn why (loss_lines site from.line (state_in from.held) (state_in new)) from.written from.faults written faults
+    → Stops site from why written faults
+losses_torn site from text later event new halt.NoMemory written faults lines stands made t = out_of_room site from written faults t.0 t.1
+losses_torn site from text later event new halt.WriteFailed written faults lines stands made t = record {
+  out = t.0.part;
+  wrote = t.0.wrote;
+  cause = t.1;
+  stops = subst (λ ls. Replays site from.line from.events from.held ls t.0.part Ending.WriteFailed) (sym lines)
+      (torn event new t.0.part t.0.tail stands made t.0.front);
+}
+losses_torn site from text later event new (halt.Site fault) written faults lines stands made t = absurd t
+losses_torn site from text later event new (halt.Line at) written faults lines stands made t = absurd t
+losses_torn site from text later event new (halt.Illegal at) written faults lines stands made t = absurd t
+losses_torn site from text later event new (halt.TotalsFull at) written faults lines stands made t = absurd t
+losses_torn site from text later event new halt.ReadFailed written faults lines stands made t = absurd t
+
+-- ---- the end
+
+pub finishes_now : (site : Site) (from : Place) (written : Option (List ℕ)) (faults : ℕ) → from.lines ≡ []
+    → Appends from.written written (end_line from.events (state_in from.held)) → faults ≡ from.faults → Finishes site from written faults
+finishes_now site from written faults lines wrote same = record {
+  out = end_line from.events (state_in from.held);
   wrote = wrote;
-  is_tail = tt;
-  cause = rose;
-  stops = broken;
+  same = same;
+  ends = subst (λ ls. Replays site from.line from.events from.held ls (end_line from.events (state_in from.held)) Ending.Done) (sym lines) done;
 }
 
-pub event_stops : (site : Site) (from : Place) (text : List ℕ) (later : List (List ℕ)) (event : SiteEvent) (why : Halt) (contents : Option (List ℕ))
-    (faults : ℕ) → from.lines ≡ text ∷ later → StandsFor site text event
-    → IsNotMade why site from.line from.state event from.contents from.faults contents faults → Stops site from why contents faults
-event_stops site from text later event (halt.Illegal at) contents faults lines stands n =
-    stops_here site from (halt.Illegal at) contents faults n.2 refl n.3
-    (subst (λ l. Replays site from.line from.events from.state from.lines [] (Ending.Illegal l)) (sym n.0)
-    (subst (λ ls. Replays site from.line from.events from.state ls [] (Ending.Illegal from.line)) (sym lines) (illegal event stands n.1)))
-event_stops site from text later event (halt.TotalsFull at) contents faults lines stands n =
-    stops_here site from (halt.TotalsFull at) contents faults n.2 refl n.3
-    (subst (λ l. Replays site from.line from.events from.state from.lines [] (Ending.Full l)) (sym n.0)
-    (subst (λ ls. Replays site from.line from.events from.state ls [] (Ending.Full from.line)) (sym lines) (full event n.1.0 stands n.1.1)))
-event_stops site from text later event halt.NoMemory contents faults lines stands n = out_of_room site from contents faults n.0 n.1
-event_stops site from text later event halt.WriteFailed contents faults lines stands n = write_fails site from n.0.0 contents faults n.0.1 n.1
-event_stops site from text later event (halt.Site fault) contents faults lines stands n = absurd n
-event_stops site from text later event (halt.Line at) contents faults lines stands n = absurd n
-event_stops site from text later event halt.ReadFailed contents faults lines stands n = absurd n
+-- the last line isn't wholly printed, or not handed on
+pub end_fails : (site : Site) (from : Place) (written : Option (List ℕ)) (faults : ℕ) → from.lines ≡ []
+    → Torn from.written written (end_line from.events (state_in from.held)) → Rose from.faults faults → Stops site from halt.WriteFailed written faults
+end_fails site from written faults lines t rose = record {
+  out = t.part;
+  wrote = t.wrote;
+  cause = rose;
+  stops = subst (λ ls. Replays site from.line from.events from.held ls t.part Ending.WriteFailed) (sym lines) (end_torn t.part t.tail t.front);
+}
+
+pub wholly : (old new : Option (List ℕ)) (text : List ℕ) → Appends old new text → Torn old new text
+wholly old new text wrote = record { part = text; tail = []; wrote = wrote; front = sym (append-nil text) }
 
 -- ---- the whole
 
-pub finishes_now : (site : Site) (from : Place) (contents : Option (List ℕ)) (faults : ℕ) → from.lines ≡ []
-    → Appends from.contents contents (end_line from.events from.state) → faults ≡ from.faults → Finishes site from contents faults
-finishes_now site from contents faults lines wrote same = record {
-  out = [];
-  events = from.events;
-  state = from.state;
-  wrote = wrote;
-  same = same;
-  ends = subst (λ ls. Replays site from.line from.events from.state ls [] (Ending.Done from.events from.state)) (sym lines) done;
-}
-
-pub replayed_whole : (site : Site) (events : List ℕ) (old new : Option (List ℕ)) (faults faults' : ℕ)
-    → Finishes site (start site (lines_of events) old faults) new faults' → IsReplayed site events 0 old new
-replayed_whole site events old new faults faults' f = record {
+pub replayed_whole : (site : Site) (events : List ℕ) (old new : SinkState) (IsReported : List ℕ → Type 0)
+    → Finishes site (start site (lines_of events) old.contents old.faults) new.contents new.faults → new.is_flushed ≡ true
+    → IsReplayed site events 0 old new IsReported
+replayed_whole site events old new IsReported f flushed = record {
   out = f.out;
-  ending = Ending.Done f.events f.state;
+  ending = Ending.Done;
   replays = f.ends;
-  written = f.out ++ end_line f.events f.state;
   wrote = f.wrote;
-  answers = (refl, refl);
+  status_is = refl;
+  left = (f.same, flushed);
+  told = tt;
 }
 
-pub answers_at : (why : Halt) (out tail : List ℕ) (before after : ℕ) → IsTail why tail → HasCause why before after
-    → Answers (status_at why) (ending_of why) out (out ++ tail)
-answers_at (halt.Site fault) out tail before after is_tail cause = absurd cause
-answers_at (halt.Line line) out tail before after is_tail cause = (refl, ap (λ t. out ++ t) is_tail ∙ append-nil out)
-answers_at (halt.Illegal line) out tail before after is_tail cause = (refl, ap (λ t. out ++ t) is_tail ∙ append-nil out)
-answers_at (halt.TotalsFull line) out tail before after is_tail cause = (refl, ap (λ t. out ++ t) is_tail ∙ append-nil out)
-answers_at halt.NoMemory out tail before after is_tail cause = (inl refl, tail, refl)
-answers_at halt.ReadFailed out tail before after is_tail cause = (inr refl, tail, refl)
-answers_at halt.WriteFailed out tail before after is_tail cause = (inr refl, tail, refl)
+status_behind : (why : Halt) (before after : ℕ) → HasCause why before after → status_at why ≡ status_of (ending_of why)
+status_behind (halt.Site fault) before after cause = absurd cause
+status_behind (halt.Line line) before after cause = refl
+status_behind (halt.Illegal line) before after cause = refl
+status_behind (halt.TotalsFull line) before after cause = refl
+status_behind halt.NoMemory before after cause = refl
+status_behind halt.ReadFailed before after cause = refl
+status_behind halt.WriteFailed before after cause = refl
 
-pub replayed_up_to : (site : Site) (events : List ℕ) (why : Halt) (old new : Option (List ℕ)) (faults faults' : ℕ)
-    → Stops site (start site (lines_of events) old faults) why new faults' → IsReplayed site events (status_at why) old new
-replayed_up_to site events why old new faults faults' s = record {
+left_behind : (why : Halt) (old new : SinkState) → HasCause why old.faults new.faults → new.is_flushed ≡ true → IsLeft (ending_of why) old new
+left_behind (halt.Site fault) old new cause flushed = absurd cause
+left_behind (halt.Line line) old new cause flushed = (cause, flushed)
+left_behind (halt.Illegal line) old new cause flushed = (cause, flushed)
+left_behind (halt.TotalsFull line) old new cause flushed = (cause, flushed)
+left_behind halt.NoMemory old new cause flushed = (cause, flushed)
+left_behind halt.ReadFailed old new cause flushed = (cause, flushed)
+left_behind halt.WriteFailed old new cause flushed = cause
+
+told_behind : (why : Halt) (before after : ℕ) (IsReported : List ℕ → Type 0) → HasCause why before after → IsReported (halt_report why)
+    → IsTold IsReported (ending_of why)
+told_behind (halt.Site fault) before after IsReported cause told = absurd cause
+told_behind (halt.Line line) before after IsReported cause told = told
+told_behind (halt.Illegal line) before after IsReported cause told = told
+told_behind (halt.TotalsFull line) before after IsReported cause told = told
+told_behind halt.NoMemory before after IsReported cause told = told
+told_behind halt.ReadFailed before after IsReported cause told = told
+told_behind halt.WriteFailed before after IsReported cause told = told
+
+-- it stopped, and what was printed is handed on
+pub replayed_up_to : (site : Site) (events : List ℕ) (why : Halt) (old new : SinkState) (written : Option (List ℕ)) (IsReported : List ℕ → Type 0)
+    → Stops site (start site (lines_of events) old.contents old.faults) why written new.faults → Keeps written new.contents → new.is_flushed ≡ true
+    → IsReported (halt_report why) → IsReplayed site events (status_at why) old new IsReported
+replayed_up_to site events why old new written IsReported s kept flushed told = record {
   out = s.out;
   ending = ending_of why;
   replays = s.stops;
-  written = s.out ++ s.tail;
-  wrote = s.wrote;
-  answers = answers_at why s.out s.tail faults faults' s.is_tail s.cause;
+  wrote = Appends-kept old.contents written new.contents s.out s.wrote kept;
+  status_is = status_behind why old.faults new.faults s.cause;
+  left = left_behind why old new s.cause flushed;
+  told = told_behind why old.faults new.faults IsReported s.cause told;
 }
 
--- What was written may be that of a replay that broke.
-pub tail_of : (status : ℕ) (ending : Ending) (out written : List ℕ) → Answers status ending out written → (tail : List ℕ) × (written ≡ out ++ tail)
-tail_of status (Ending.Done events state) out written a = (end_line events state, a.1)
-tail_of status (Ending.Faulty line) out written a = ([], a.1 ∙ sym (append-nil out))
-tail_of status (Ending.Illegal line) out written a = ([], a.1 ∙ sym (append-nil out))
-tail_of status (Ending.Full line) out written a = ([], a.1 ∙ sym (append-nil out))
-tail_of status Ending.Broken out written a = (a.1, a.2)
-
-pub replayed_failing : (site : Site) (events : List ℕ) (status : ℕ) (old mid new : Option (List ℕ)) → IsReplayed site events status old mid
-    → Keeps mid new → IsReplayed site events 4 old new
-replayed_failing site events status old mid new r kept =
-    let tail = tail_of status r.ending r.out r.written r.answers in
-    record {
-      out = r.out;
-      ending = Ending.Broken;
-      replays = breaks r.replays;
-      written = r.written;
-      wrote = Appends-kept old mid new r.written r.wrote kept;
-      answers = (inr refl, tail.0, tail.1);
-    }
-
-pub replayed_kept : (site : Site) (events : List ℕ) (status : ℕ) (old mid new : Option (List ℕ)) → IsReplayed site events status old mid
-    → Keeps mid new → IsReplayed site events status old new
-replayed_kept site events status old mid new r kept = record {
-  out = r.out;
-  ending = r.ending;
-  replays = r.replays;
-  written = r.written;
-  wrote = Appends-kept old mid new r.written r.wrote kept;
-  answers = r.answers;
+-- it stopped, and what was printed could not be handed on
+pub replayed_failing : (site : Site) (events : List ℕ) (why : Halt) (old new : SinkState) (written : Option (List ℕ)) (faults : ℕ)
+    (IsReported : List ℕ → Type 0)
+    → Stops site (start site (lines_of events) old.contents old.faults) why written faults → Keeps written new.contents → Rose old.faults new.faults
+    → IsReported (halt_report halt.WriteFailed) → IsReplayed site events 4 old new IsReported
+replayed_failing site events why old new written faults IsReported s kept rose told = record {
+  out = s.out;
+  ending = Ending.WriteFailed;
+  replays = breaks s.stops;
+  wrote = Appends-kept old.contents written new.contents s.out s.wrote kept;
+  status_is = refl;
+  left = rose;
+  told = told;
 }
+
+-- no site
+pub no_replay : (bytes_of : List ℕ → Option (List ℕ)) (site : List ℕ) (why : Halt) (IsReported : List ℕ → Type 0) → IsNoSite bytes_of site why
+    → IsReported (halt_report why) → IsNoReplay bytes_of site (status_at why) IsReported
+no_replay bytes_of site (halt.Site site_fault.NoMemory) IsReported none told = inr (inl (refl, told))
+no_replay bytes_of site (halt.Site (site_fault.Line n)) IsReported none told = inl (refl, _, none.1, told)
+no_replay bytes_of site (halt.Site (site_fault.Duplicate n)) IsReported none told = inl (refl, _, none.1, told)
+no_replay bytes_of site (halt.Site (site_fault.NoFile n)) IsReported none told = inl (refl, _, none.1, told)
+no_replay bytes_of site (halt.Site (site_fault.NoSuchEntry n)) IsReported none told = inl (refl, _, none.1, told)
+no_replay bytes_of site (halt.Site (site_fault.NoSuchArchive n)) IsReported none told = inl (refl, _, none.1, told)
+no_replay bytes_of site (halt.Site site_fault.NothingProtected) IsReported none told = inl (refl, _, none.1, told)
+no_replay bytes_of site (halt.Site (site_fault.Relay n name why)) IsReported none told = inl (refl, _, none.1, told)
+no_replay bytes_of site halt.NoMemory IsReported none told = inr (inl (refl, told))
+no_replay bytes_of site halt.ReadFailed IsReported none told = inr (inr (refl, inl told))
+no_replay bytes_of site halt.WriteFailed IsReported none told = absurd none
+no_replay bytes_of site (halt.Line n) IsReported none told = absurd none
+no_replay bytes_of site (halt.Illegal n) IsReported none told = absurd none
+no_replay bytes_of site (halt.TotalsFull n) IsReported none told = absurd none
 
 keeps_on : (a b c : Option (List ℕ)) → Keeps a b → Keeps b c → Keeps a c
 keeps_on None b c p q = tt
@@ -239,54 +285,92 @@ keeps_on (Some xs) None c p q = absurd p
 keeps_on (Some xs) (Some ys) None p q = absurd q
 keeps_on (Some xs) (Some ys) (Some zs) p q = q ∙ p
 
-pub replay_failing : (bytes_of : List ℕ → Option (List ℕ)) (site events : List ℕ) (status : ℕ) (old mid new : Option (List ℕ))
-    → ReplayIs bytes_of site events status old mid → Keeps mid new → ReplayIs bytes_of site events 4 old new
-replay_failing bytes_of site events status old mid new r kept = elim r [
-  | inl none ↦ inl (keeps_on old mid new none.0 kept, inr (inl refl))
-  | inr some ↦ inr (some.0, some.1, replayed_failing some.0 events status old mid new some.2 kept)
+-- what a replay that was halted answers, once that is told
+pub halted : (bytes_of : List ℕ → Option (List ℕ)) (text events : List ℕ) (why : Halt) (old new : SinkState) (mid : Option (List ℕ)) (IsReported : List ℕ → Type 0)
+    → Halted bytes_of text events why old.contents old.faults mid new.faults → Keeps mid new.contents → new.is_flushed ≡ true
+    → IsReported (halt_report why) → ReplayIs bytes_of text events (status_at why) old new IsReported
+halted bytes_of text events why old new mid IsReported h kept flushed told = elim h [
+  | inl none ↦ inl (keeps_on old.contents mid new.contents none.1 kept, no_replay bytes_of text why IsReported none.0 told)
+  | inr some ↦ inr (some.0, some.1, replayed_up_to some.0 events why old new mid IsReported some.2 kept flushed told)
 ]
 
-pub replay_kept : (bytes_of : List ℕ → Option (List ℕ)) (site events : List ℕ) (status : ℕ) (old mid new : Option (List ℕ))
-    → ReplayIs bytes_of site events status old mid → Keeps mid new → ReplayIs bytes_of site events status old new
-replay_kept bytes_of site events status old mid new r kept = elim r [
-  | inl none ↦ inl (keeps_on old mid new none.0 kept, none.1)
-  | inr some ↦ inr (some.0, some.1, replayed_kept some.0 events status old mid new some.2 kept)
+pub halted_failing : (bytes_of : List ℕ → Option (List ℕ)) (text events : List ℕ) (why : Halt) (old new : SinkState) (mid : Option (List ℕ)) (faults : ℕ)
+    (IsReported : List ℕ → Type 0)
+    → Halted bytes_of text events why old.contents old.faults mid faults → Keeps mid new.contents → Rose old.faults new.faults
+    → IsReported (halt_report halt.WriteFailed) → ReplayIs bytes_of text events 4 old new IsReported
+halted_failing bytes_of text events why old new mid faults IsReported h kept rose told = elim h [
+  | inl none ↦ inl (keeps_on old.contents mid new.contents none.1 kept, inr (inr (refl, inr told)))
+  | inr some ↦ inr (some.0, some.1, replayed_failing some.0 events why old new mid faults IsReported some.2 kept rose told)
 ]
 
--- no site, and nothing was printed
-pub no_site : (bytes_of : List ℕ → Option (List ℕ)) (site events : List ℕ) (why : Halt) (old new : Option (List ℕ)) → IsNoSite bytes_of site why
-    → Keeps old new → ReplayIs bytes_of site events (status_at why) old new
-no_site bytes_of site events (halt.Site site_fault.NoMemory) old new none kept = inl (kept, inl refl)
-no_site bytes_of site events (halt.Site (site_fault.Line n)) old new none kept = inl (kept, inr (inr (refl, none.1)))
-no_site bytes_of site events (halt.Site (site_fault.Duplicate n)) old new none kept = inl (kept, inr (inr (refl, none.1)))
-no_site bytes_of site events (halt.Site (site_fault.NoFile n)) old new none kept = inl (kept, inr (inr (refl, none.1)))
-no_site bytes_of site events (halt.Site (site_fault.NoSuchEntry n)) old new none kept = inl (kept, inr (inr (refl, none.1)))
-no_site bytes_of site events (halt.Site (site_fault.NoSuchArchive n)) old new none kept = inl (kept, inr (inr (refl, none.1)))
-no_site bytes_of site events (halt.Site site_fault.NothingProtected) old new none kept = inl (kept, inr (inr (refl, none.1)))
-no_site bytes_of site events (halt.Site (site_fault.Relay n name why)) old new none kept = inl (kept, inr (inr (refl, none.1)))
-no_site bytes_of site events halt.NoMemory old new none kept = inl (kept, inl refl)
-no_site bytes_of site events halt.ReadFailed old new none kept = inl (kept, inr (inl refl))
-no_site bytes_of site events halt.WriteFailed old new none kept = absurd none
-no_site bytes_of site events (halt.Line n) old new none kept = absurd none
-no_site bytes_of site events (halt.Illegal n) old new none kept = absurd none
-no_site bytes_of site events (halt.TotalsFull n) old new none kept = absurd none
+pub replayed : (bytes_of : List ℕ → Option (List ℕ)) (text events : List ℕ) (old new : SinkState) (IsReported : List ℕ → Type 0)
+    → Replayed bytes_of text events old.contents old.faults new.contents new.faults → new.is_flushed ≡ true → ReplayIs bytes_of text events 0 old new IsReported
+replayed bytes_of text events old new IsReported r flushed = inr (r.0, r.1, replayed_whole r.0 events old new IsReported r.2 flushed)
 
 -- ---- between two reads
 
 -- The lines to come are the same, and nothing was written.
-pub stands_still : (site : Site) (from : Place) (lines : List (List ℕ)) (contents : Option (List ℕ)) (faults : ℕ) → from.lines ≡ lines
-    → Keeps from.contents contents → faults ≡ from.faults
-    → Comes site from (record from { lines = lines; contents = contents; faults = faults })
-stands_still site from lines contents faults same kept none = record {
+pub stands_still : (site : Site) (from : Place) (lines : List (List ℕ)) (written : Option (List ℕ)) (faults : ℕ) → from.lines ≡ lines
+    → Keeps from.written written → faults ≡ from.faults
+    → Comes site from (record from { lines = lines; written = written; faults = faults })
+stands_still site from lines written faults same kept none = record {
   out = [];
-  wrote = appends_none from.contents contents kept;
+  wrote = appends_none from.written written kept;
   same = none;
-  goes = λ later ending rest. subst (λ ls. Replays site from.line from.events from.state ls later ending) (sym same) rest;
+  goes = λ later ending rest. subst (λ ls. Replays site from.line from.events from.held ls later ending) (sym same) rest;
 }
 
 pub keeps_all : (a : Option (List ℕ)) → Keeps a a
 keeps_all None = tt
 keeps_all (Some xs) = refl
+
+-- nothing more came
+pub turned_last : (more : Bool) (site : Site) (from : Place) (held : List ℕ) (ahead : Option (List ℕ)) (to : Place) → more ≡ false
+    → Turns more site from held ahead to → Comes site from (with_lines to (lines_of held))
+turned_last false site from held ahead to last t = t
+turned_last true site from held ahead to last t = absurd (true≢false last)
+
+-- more may come
+pub turned_on : (more : Bool) (site : Site) (from : Place) (held : List ℕ) (ahead : Option (List ℕ)) (to : Place) → more ≡ true
+    → Turns more site from held ahead to → (next : List ℕ) × (ahead ≡ Some next) × Comes site from (with_lines to (lines_of (held ++ next)))
+turned_on true site from held ahead to on t = t
+turned_on false site from held ahead to on t = absurd (true≢false (sym on))
+
+-- what an answer promises
+pub on_ok : {A E : Type 0} {P Q : Type 0} (r : Result A E) → OnOk r P → (P → Q) → OnOk r Q
+on_ok (Ok x) p f = f p
+on_ok (Err e) p f = tt
+
+pub if_err : {A E : Type 0} {P Q : E → Type 0} (r : Result A E) → IfErr r P → ((e : E) → P e → Q e) → IfErr r Q
+if_err (Ok x) p f = tt
+if_err (Err e) p f = f e p
+
+-- ---- before the first event
+
+pub opened_is : (site : Site) (held : Contents) → held.parts ≡ opened_parts site → state_in held ≡ machine.opening site → held ≡ opened site
+opened_is site held parts state =
+    ap (λ p. holding p held.copies held.losses held.arrivals) parts
+    ∙ ap (λ c. holding (opened_parts site) c held.losses held.arrivals) (ap (λ (s : machine.SiteState). s.copies) state)
+    ∙ ap (λ l. holding (opened_parts site) [] l held.arrivals) (ap (λ (s : machine.SiteState). s.losses) state)
+    ∙ ap (λ a. holding (opened_parts site) [] [] a) (ap (λ (s : machine.SiteState). s.arrivals) state)
+
+pub finishes_started : (site : Site) (held : Contents) (bytes events : List ℕ) (old : Option (List ℕ)) (before : ℕ) (new : Option (List ℕ)) (after : ℕ)
+    → held ≡ opened site → bytes ≡ []
+    → Finishes site (record { line = 1; events = 0; held = held; lines = lines_of (bytes ++ events); written = old; faults = before }) new after
+    → Finishes site (start site (lines_of events) old before) new after
+finishes_started site held bytes events old before new after is none f =
+    subst (λ h. Finishes site (record { line = 1; events = 0; held = h; lines = lines_of events; written = old; faults = before }) new after) is
+    (subst (λ (b : List ℕ). Finishes site (record { line = 1; events = 0; held = held; lines = lines_of (b ++ events); written = old; faults = before }) new after)
+    none f)
+
+pub stops_started : (site : Site) (held : Contents) (bytes events : List ℕ) (old : Option (List ℕ)) (before : ℕ) (why : Halt) (new : Option (List ℕ)) (after : ℕ)
+    → held ≡ opened site → bytes ≡ []
+    → Stops site (record { line = 1; events = 0; held = held; lines = lines_of (bytes ++ events); written = old; faults = before }) why new after
+    → Stops site (start site (lines_of events) old before) why new after
+stops_started site held bytes events old before why new after is none f =
+    subst (λ h. Stops site (record { line = 1; events = 0; held = h; lines = lines_of events; written = old; faults = before }) why new after) is
+    (subst (λ (b : List ℕ). Stops site (record { line = 1; events = 0; held = held; lines = lines_of (b ++ events); written = old; faults = before }) why new after)
+    none f)
 
 -- ---- one event
 
@@ -294,7 +378,30 @@ pub losses_behind : (losses : List Loss) (first : ℕ) → losses_of (take (leng
 losses_behind losses first =
     ap losses_of (take_all (length losses - first) (drop first losses) (omega (arith, length-drop first losses))) ∙ sym (drop-map loss_of first losses)
 
+pub losses_counted : (losses : List Loss) (all : List machine.Loss) → losses_of losses ≡ all → length losses ≡ length all
+losses_counted losses all same = sym (length-map losses loss_of) ∙ ap (λ (xs : List machine.Loss). length xs) same
+
 -- ---- the files of a site
+
+pub names_given : (files : List RelayFile) → map (λ (file : File). file.name) (map file_of files) ≡ map (λ (f : RelayFile). string_bytes f.name) files
+names_given [] = refl
+names_given (file ∷ files) = ap (λ names. string_bytes file.name ∷ names) (names_given files)
+
+-- names that a loop has gone through, and those that are left
+pub names_on : {A B : Type 0} (f : A → List ℕ) (g : B → List ℕ) (found new : List A) (file : A) (name : B) (rest rest' : List B) (all : List (List ℕ))
+    → new ≡ found ++ file ∷ [] → f file ≡ g name → rest ≡ name ∷ rest' → map f found ++ map g rest ≡ all → map f new ++ map g rest' ≡ all
+names_on f g found new file name rest rest' all is same more before =
+    ap (λ n. map f n ++ map g rest') is
+    ∙ ap (λ x. x ++ map g rest') (map_push f found file)
+    ∙ append_assoc (map f found) (f file ∷ []) (map g rest')
+    ∙ ap (λ n. map f found ++ n ∷ map g rest') same
+    ∙ ap (λ r. map f found ++ map g r) (sym more)
+    ∙ before
+
+pub names_end : {A B : Type 0} (f : A → List ℕ) (g : B → List ℕ) (found : List A) (rest : List B) (all : List (List ℕ)) → length rest ≡ 0
+    → map f found ++ map g rest ≡ all → map f found ≡ all
+names_end f g found [] all none same = sym (append-nil (map f found)) ∙ same
+names_end f g found (name ∷ rest) all none same = absurd (omega (arith, none))
 
 given_behind : (bytes_of : List ℕ → Option (List ℕ)) (files : List File) (file : File) → AreGiven bytes_of files
     → IfSome (bytes_of file.name) (λ bytes. file.bytes ≡ bytes) → AreGiven bytes_of (files ++ file ∷ [])
@@ -305,6 +412,47 @@ pub given_more : (bytes_of : List ℕ → Option (List ℕ)) (files : List Relay
     → IfSome (bytes_of (string_bytes file.name)) (λ bytes. file.bytes.items ≡ bytes) → AreGiven bytes_of (map file_of (files ++ file ∷ []))
 given_more bytes_of files file given is =
     subst (AreGiven bytes_of) (sym (map_push file_of files file)) (given_behind bytes_of (map file_of files) (file_of file) given is)
+
+pub status_fails : (why : Halt) → status_at why ≡ 0 → ⊥
+status_fails (halt.Site site_fault.NoMemory) none = absurd (omega (arith, none))
+status_fails (halt.Site (site_fault.Line n)) none = absurd (omega (arith, none))
+status_fails (halt.Site (site_fault.Duplicate n)) none = absurd (omega (arith, none))
+status_fails (halt.Site (site_fault.NoFile n)) none = absurd (omega (arith, none))
+status_fails (halt.Site (site_fault.NoSuchEntry n)) none = absurd (omega (arith, none))
+status_fails (halt.Site (site_fault.NoSuchArchive n)) none = absurd (omega (arith, none))
+status_fails (halt.Site site_fault.NothingProtected) none = absurd (omega (arith, none))
+status_fails (halt.Site (site_fault.Relay n name why)) none = absurd (omega (arith, none))
+status_fails (halt.Line n) none = absurd (omega (arith, none))
+status_fails (halt.Illegal n) none = absurd (omega (arith, none))
+status_fails (halt.TotalsFull n) none = absurd (omega (arith, none))
+status_fails halt.NoMemory none = absurd (omega (arith, none))
+status_fails halt.ReadFailed none = absurd (omega (arith, none))
+status_fails halt.WriteFailed none = absurd (omega (arith, none))
+
+pub cause_behind : (why : Halt) (before after : ℕ) → HasCause why before after → IsCause why before after
+cause_behind (halt.Site fault) before after cause = absurd cause
+cause_behind (halt.Line n) before after cause = cause
+cause_behind (halt.Illegal n) before after cause = cause
+cause_behind (halt.TotalsFull n) before after cause = cause
+cause_behind halt.NoMemory before after cause = cause
+cause_behind halt.ReadFailed before after cause = cause
+cause_behind halt.WriteFailed before after cause = cause
+
+-- a count rose, and once more or not
+rose_twice : (before mid after : ℕ) → Rose before mid → Rose mid after → Rose before after
+rose_twice before mid after (inl a) (inl b) = inl (omega (arith, a, b))
+rose_twice before mid after (inl a) (inr b) = inr b
+rose_twice before mid after (inr a) (inl b) = inr (omega (arith, a, b))
+rose_twice before mid after (inr a) (inr b) = inr b
+
+pub rises_on : (why : Halt) (before mid after : ℕ) → IsCause why before mid → Rose mid after → Rose before after
+rises_on (halt.Site fault) before mid after cause rose = subst (λ f. Rose f after) cause rose
+rises_on (halt.Line n) before mid after cause rose = subst (λ f. Rose f after) cause rose
+rises_on (halt.Illegal n) before mid after cause rose = subst (λ f. Rose f after) cause rose
+rises_on (halt.TotalsFull n) before mid after cause rose = subst (λ f. Rose f after) cause rose
+rises_on halt.NoMemory before mid after cause rose = subst (λ f. Rose f after) cause rose
+rises_on halt.ReadFailed before mid after cause rose = subst (λ f. Rose f after) cause rose
+rises_on halt.WriteFailed before mid after cause rose = rose_twice before mid after cause rose
 
 -- nothing was written
 pub read_cause : (why : Halt) (faults : ℕ) → IsReadHalt why → IsCause why faults faults

@@ -1,12 +1,12 @@
 -- Cutting what is held of an events file into lines.
-use Rattle.std.proofs.Common.{◌≡◌, ℕ, Bool, true, false, zero, suc, ◌+◌, ◌-◌, ◌<◌, ◌==◌, List, [], ◌∷◌, ◌++◌, length, get_or, take, drop, Some, None, refl, sym, ap, ◌∙◌, arith, add-one}
-use Rattle.std.proofs.lemmas.List.{take_all, length-drop, append-nil, append_assoc}
+use Rattle.std.proofs.Common.{◌≡◌, ℕ, Bool, true, false, zero, suc, ◌+◌, ◌-◌, ◌<◌, ◌==◌, List, [], ◌∷◌, ◌++◌, length, get_or, take, drop, Some, None, refl, sym, subst, ap, ◌∙◌, arith, add-one, true≢false}
+use Rattle.std.proofs.lemmas.List.{take_all, length-append, length-drop, append-nil, append_assoc}
 use Rattle.std.proofs.lemmas.List.Elements.{All-append, All-from_get_or}
 use Rattle.std.proofs.lemmas.List.Splits.{slice_split_none, slice_split-cons_yes, slice_split-cons_no}
 use Rattle.std.specs.List.{slice_split, onto_first}
 use Rattle.memchr.specs.Find.{IsFirstByte, is_byte}
 use Rattle.syc.specs.Replays.{lines_of}
-use Rattle.std.specs.Prelude.{Option}
+use Rattle.std.specs.Prelude.{Option, is_some}
 use Rattle.syc.specs.internal.Halts.{IsOpenLine, Reads}
 
 is_false : (b : Bool) → (b ≡ true → ⊥) → b ≡ false
@@ -36,6 +36,27 @@ is_open bytes h = All-from_get_or (λ b. (b == 10) ≡ false) bytes 0 (λ i low.
 
 pub stays_open : (held piece : List ℕ) → IsOpenLine held → IsOpenLine piece → IsOpenLine (held ++ piece)
 stays_open held piece h k = All-append (λ b. (b == 10) ≡ false) held piece h k
+
+drop_front : (xs ys : List ℕ) → drop (length xs) (xs ++ ys) ≡ ys
+drop_front [] ys = refl
+drop_front (x ∷ xs) ys = drop_front xs ys
+
+-- what was read, behind what was held
+read_behind : (held held' piece : List ℕ) (before : ℕ) → held' ≡ held ++ piece → before ≡ length held
+    → take (length held' - before) (drop before held') ≡ piece
+read_behind held held' piece before is long =
+    let at_place : drop before held' ≡ piece = rw (long, is) (drop_front held piece) in
+    let size : length held' ≡ length held + length piece = ap (λ xs. length xs) is ∙ length-append held piece in
+    ap (take (length held' - before)) at_place ∙ take_all (length held' - before) piece (omega (arith, long, size))
+
+-- no line ends in what is held then
+pub open_behind : (held held' : List ℕ) (before count : ℕ) (found : Option ℕ) (ahead ahead' : Option (List ℕ)) → IsOpenLine held
+    → Reads count held held' ahead ahead' → before ≡ length held
+    → IsFirstByte (is_byte 10) (take (length held' - before) (drop before held')) found → is_some found ≡ false → IsOpenLine held'
+open_behind held held' before count (Some at) ahead ahead' is r long first none = absurd (true≢false none)
+open_behind held held' before count None ahead ahead' is r long first none =
+    let all_first = subst (λ bytes. IsFirstByte (is_byte 10) bytes None) (read_behind held held' r.0 before r.1 long) first in
+    subst IsOpenLine (sym r.1) (stays_open held r.0 is (is_open r.0 all_first))
 
 -- what is open is one line
 pub one_line : (bytes : List ℕ) → IsOpenLine bytes → lines_of bytes ≡ bytes ∷ []

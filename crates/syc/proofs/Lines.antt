@@ -1,11 +1,12 @@
 -- Lines that are written in parts.
-use Rattle.std.proofs.Common.{◌≡◌, ℕ, ◌+◌, ◌/◌, ◌%◌, ◌^◌, ◌<◌, ◌≤◌, List, [], ◌∷◌, ◌++◌, take, drop, refl, sym, ap, ◌∙◌, arith}
+use Rattle.std.proofs.Common.{◌≡◌, ℕ, zero, suc, ◌+◌, ◌/◌, ◌%◌, ◌^◌, ◌<◌, ◌≤◌, List, [], ◌∷◌, ◌++◌, get_or, length, map, take, drop, refl, sym, ap, ◌∙◌, arith}
 use Rattle.std.specs.Prelude.{Option, Some, None}
 use Rattle.std.specs.Fmt.{decimal}
 use Rattle.std.proofs.lemmas.Fmt.{decimal_digit, decimal_step}
 use Rattle.std.specs.Io.KnownBytes.{Appends, Keeps}
 use Rattle.std.proofs.KnownBytes.{Appends-trans, Appends-kept}
 use Rattle.std.proofs.lemmas.List.{append_assoc, append-nil, take-append-drop, drop-take, take-take}
+use Rattle.syc.specs.HaltTexts.{joined}
 use Rattle.syc.specs.Reports.{Torn}
 
 pub torn_at : (a b c : Option (List ℕ)) (bytes : List ℕ) (at : ℕ) → Appends a b (take at bytes) → Keeps b c → Torn a c bytes
@@ -55,3 +56,21 @@ torn_last_digit a b c n small large front last = rw (decimal_step n (omega arith
 
 pub torn_one_digit : (a b : Option (List ℕ)) (n : ℕ) → n < 10 → Torn a b ((48 + n % 10) ∷ []) → Torn a b (decimal n)
 torn_one_digit a b n small last = let same : n % 10 ≡ n = omega arith in rw (decimal_digit n small) (rw same at last)
+
+-- ---- texts one behind the other
+
+texts_cut : {A : Type 0} (f : A → List ℕ) (xs : List A) (i : ℕ) (d : A) → i < length xs
+    → joined (map f xs) ≡ joined (map f (take i xs)) ++ (f (get_or xs i d) ++ joined (map f (drop (suc i) xs)))
+texts_cut f [] i d low = absurd (omega (arith, low))
+texts_cut f (x ∷ xs) zero d low = refl
+texts_cut f (x ∷ xs) (suc i) d low =
+    ap (λ t. f x ++ t) (texts_cut f xs i d (omega (arith, low)))
+    ∙ sym (append_assoc (f x) (joined (map f (take i xs))) (f (get_or xs i d) ++ joined (map f (drop (suc i) xs))))
+
+-- one of them was torn
+pub torn_text : {A : Type 0} (a b c : Option (List ℕ)) (f : A → List ℕ) (xs : List A) (i : ℕ) (d : A) → i < length xs
+    → Appends a b (joined (map f (take i xs))) → Torn b c (f (get_or xs i d)) → Torn a c (joined (map f xs))
+torn_text a b c f xs i d low wrote t =
+    rw (texts_cut f xs i d low)
+    (torn_second a b c (joined (map f (take i xs))) (f (get_or xs i d) ++ joined (map f (drop (suc i) xs))) wrote
+    (torn_first b c (f (get_or xs i d)) (joined (map f (drop (suc i) xs))) t))

@@ -1,21 +1,26 @@
 -- What a replay of an events file prints, and how it ends (this profile's own).
-use Rattle.std.specs.Prelude.{◌≡◌, ℕ, true, false, List, [], ◌∷◌, ◌++◌, ◌==◌, ◌⊎◌, Option, Some, None, codes, IfSome, drop, flat_map, length, slice_get}
+use Rattle.std.specs.Prelude.{◌≡◌, ℕ, true, false, List, [], ◌∷◌, ◌++◌, ◌==◌, ◌⊎◌, Option, Some, None, codes, IfSome, drop, flat_map, length, map, slice_get}
 use Rattle.std.specs.Fmt.{decimal}
 use Rattle.std.specs.Io.KnownBytes.{Appends, Keeps}
 use Rattle.std.specs.List.{slice_split}
 use Rattle.sy_wire.specs.declared.class.Class.{Class}
-use Rattle.sy_wire.specs.Streams.{count_after}
+use Rattle.sy_wire.specs.Streams.{Rose, count_after}
 use Rattle.sy_select.specs.Names.{facility_text, severity_text}
 use Rattle.sy_board.specs.relay.Steps.{Cause}
 use Rattle.sy_site.specs.Sites.{Relay, Site}
-use Rattle.sy_site.specs.machine.States.{Copy, Loss, SiteState, opening}
-use Rattle.sy_site.specs.machine.Steps.{SiteEvent, SiteStep}
+use Rattle.sy_site.specs.machine.States.{Copy, Loss, SiteState}
+use Rattle.sy_site.specs.machine.Steps.{SiteEvent}
 use Rattle.sy_site.specs.declared.fault.SiteFault.{SiteFault}
+use Rattle.sy_site.specs.declared.fault.SiteFault.TheVariants as site_fault
 use Rattle.sy_site.specs.texts.Describes.{Describes, File}
-use Rattle.sy_site.specs.texts.Files.{HasRelayFault}
+use Rattle.sy_site.specs.texts.Files.{IsFirstRelayFault, file_names}
 use Rattle.sy_site.specs.texts.HasFault.{HasFault}
 use Rattle.sy_replay.specs.Lines.{IsNoEvent, StandsFor, is_skipped}
-use Rattle.syc.specs.Reports.{line_feed}
+use Rattle.sy_replay.specs.Held.{opened_parts}
+use Rattle.sy_replay.specs.States.{Applies, Contents, IsIllegalAt, holding, state_in}
+use Rattle.sy_replay.specs.declared.event.Illegal.TheVariants as illegal
+use Rattle.syc.specs.HaltTexts.{in_line, said, site_report}
+use Rattle.syc.specs.Reports.{SinkState, line_feed}
 
 -- ---- the lines that are printed
 
@@ -77,33 +82,39 @@ lines_of text = slice_split (λ b. b == line_feed) text
 abbrev pub next : ℕ → ℕ
 next n = count_after n 1
 
--- How a replay ends: with all lines, after so many events and in this state; at a line that stands for no event; at one
--- whose event is no step; at one whose event is a step, but a total is full; or somewhere, since memory ran out, or a
--- read or a write failed.
+-- How a replay ends: with all lines and the last one printed; at a line that stands for no event; at one whose event is no step; at one whose event is
+-- a step that a full total doesn't let through; or somewhere, since memory ran out, a read failed, or a write or flush failed.
 pub data Ending : Type 0 where
-  Done : (events : ℕ) → SiteState → Ending
+  Done : Ending
   Faulty Illegal Full : (line : ℕ) → Ending
-  Broken : Ending
+  NoMemory ReadFailed WriteFailed : Ending
 
--- A replay that is at this line, counted from 1, after so many events and in this state: what it prints for the lines
--- from there on, and how it ends.
-pub data Replays (site : Site) : (line events : ℕ) → SiteState → List (List ℕ) → List ℕ → Ending → Type 0 where
-  done : {line events : ℕ} {state : SiteState} → Replays site line events state [] [] (Ending.Done events state)
-  skips : {line events : ℕ} {state : SiteState} {text : List ℕ} {later : List (List ℕ)} {out : List ℕ} {ending : Ending}
-      → is_skipped text ≡ true → Replays site (next line) events state later out ending
-      → Replays site line events state (text ∷ later) out ending
-  steps : {line events : ℕ} {old new : SiteState} {text : List ℕ} {later : List (List ℕ)} {out : List ℕ} {ending : Ending} (event : SiteEvent)
-      → StandsFor site text event → SiteStep site old event new → Replays site (next line) (next events) new later out ending
-      → Replays site line events old (text ∷ later) (loss_lines site line old new ++ out) ending
-  faulty : {line events : ℕ} {state : SiteState} {text : List ℕ} {later : List (List ℕ)} → is_skipped text ≡ false → IsNoEvent site text
-      → Replays site line events state (text ∷ later) [] (Ending.Faulty line)
-  illegal : {line events : ℕ} {state : SiteState} {text : List ℕ} {later : List (List ℕ)} (event : SiteEvent)
-      → StandsFor site text event → ((new : SiteState) → SiteStep site state event new → ⊥)
-      → Replays site line events state (text ∷ later) [] (Ending.Illegal line)
-  full : {line events : ℕ} {state : SiteState} {text : List ℕ} {later : List (List ℕ)} (event : SiteEvent) (new : SiteState)
-      → StandsFor site text event → SiteStep site state event new
-      → Replays site line events state (text ∷ later) [] (Ending.Full line)
-  broken : {line events : ℕ} {state : SiteState} {lines : List (List ℕ)} → Replays site line events state lines [] Ending.Broken
+-- A replay that is at this line, counted from 1, after so many events, where the site holds this: what it prints for the lines from there on, and how
+-- it ends. Where a write fails, a prefix of a text may have been written: of the lines of a step's losses, or of the last line.
+pub data Replays (site : Site) : (line events : ℕ) → Contents → List (List ℕ) → List ℕ → Ending → Type 0 where
+  done : {line events : ℕ} {held : Contents} → Replays site line events held [] (end_line events (state_in held)) Ending.Done
+  skips : {line events : ℕ} {held : Contents} {text : List ℕ} {later : List (List ℕ)} {out : List ℕ} {ending : Ending}
+      → is_skipped text ≡ true → Replays site (next line) events held later out ending
+      → Replays site line events held (text ∷ later) out ending
+  steps : {line events : ℕ} {old new : Contents} {text : List ℕ} {later : List (List ℕ)} {out : List ℕ} {ending : Ending} (event : SiteEvent)
+      → StandsFor site text event → Applies site old event new → Replays site (next line) (next events) new later out ending
+      → Replays site line events old (text ∷ later) (loss_lines site line (state_in old) (state_in new) ++ out) ending
+  faulty : {line events : ℕ} {held : Contents} {text : List ℕ} {later : List (List ℕ)} → is_skipped text ≡ false → IsNoEvent site text
+      → Replays site line events held (text ∷ later) [] (Ending.Faulty line)
+  no_step : {line events : ℕ} {held : Contents} {text : List ℕ} {later : List (List ℕ)} (event : SiteEvent)
+      → StandsFor site text event → IsIllegalAt illegal.NotAStep site held event
+      → Replays site line events held (text ∷ later) [] (Ending.Illegal line)
+  full : {line events : ℕ} {held : Contents} {text : List ℕ} {later : List (List ℕ)} (event : SiteEvent)
+      → StandsFor site text event → IsIllegalAt illegal.TotalsFull site held event
+      → Replays site line events held (text ∷ later) [] (Ending.Full line)
+  no_memory : {line events : ℕ} {held : Contents} {lines : List (List ℕ)} → Replays site line events held lines [] Ending.NoMemory
+  unread : {line events : ℕ} {held : Contents} {lines : List (List ℕ)} → Replays site line events held lines [] Ending.ReadFailed
+  unwritten : {line events : ℕ} {held : Contents} {lines : List (List ℕ)} → Replays site line events held lines [] Ending.WriteFailed
+  torn : {line events : ℕ} {old : Contents} {text : List ℕ} {later : List (List ℕ)} (event : SiteEvent) (new : Contents) (part tail : List ℕ)
+      → StandsFor site text event → Applies site old event new → loss_lines site line (state_in old) (state_in new) ≡ part ++ tail
+      → Replays site line events old (text ∷ later) part Ending.WriteFailed
+  end_torn : {line events : ℕ} {held : Contents} (part tail : List ℕ) → end_line events (state_in held) ≡ part ++ tail
+      → Replays site line events held [] part Ending.WriteFailed
 
 -- ---- the command
 
@@ -112,37 +123,71 @@ abbrev pub AreGiven : (List ℕ → Option (List ℕ)) → List File → Type 0
 AreGiven bytes_of [] = Unit {0}
 AreGiven bytes_of (file ∷ files) = IfSome (bytes_of file.name) (λ bytes. file.bytes ≡ bytes) × AreGiven bytes_of files
 
+-- the files that a site file names, in the order of their first mention
+pub record AreFilesOf (bytes_of : List ℕ → Option (List ℕ)) (text : List ℕ) (given : List File) : Type 0 where
+  pub names : map (λ file. file.name) given ≡ file_names text
+  pub bytes : AreGiven bytes_of given
+
 -- the site file with the files of its relays describes the site
 pub record IsSiteOf (bytes_of : List ℕ → Option (List ℕ)) (text : List ℕ) (site : Site) : Type 0 where
   pub given : List File
-  pub are_given : AreGiven bytes_of given
+  pub are_given : AreFilesOf bytes_of text given
   pub describes : Describes text given site
 
--- the site file has a fault, in its relay lines alone or with the files of its relays
-abbrev pub IsFaultySite : (List ℕ → Option (List ℕ)) → List ℕ → Type 0
-IsFaultySite bytes_of text =
-    ((line : ℕ) × HasRelayFault text line)
-    ⊎ ((given : List File) × AreGiven bytes_of given × (fault : SiteFault) × HasFault text given fault)
+-- the site file has this fault, in its relay lines alone or with the files of its relays
+abbrev pub IsSiteFault : (List ℕ → Option (List ℕ)) → List ℕ → SiteFault → Type 0
+IsSiteFault bytes_of text fault =
+    ((line : ℕ) × (fault ≡ site_fault.Line line) × IsFirstRelayFault text line)
+    ⊎ ((given : List File) × AreFilesOf bytes_of text given × HasFault text given fault)
 
--- the status for how a replay ended, and all that it wrote, where this was printed for its losses
-abbrev pub Answers : ℕ → Ending → List ℕ → List ℕ → Type 0
-Answers status (Ending.Done events state) out written = (status ≡ 0) × (written ≡ out ++ end_line events state)
-Answers status (Ending.Faulty line) out written = (status ≡ 2) × (written ≡ out)
-Answers status (Ending.Illegal line) out written = (status ≡ 1) × (written ≡ out)
-Answers status (Ending.Full line) out written = (status ≡ 1) × (written ≡ out)
-Answers status Ending.Broken out written = ((status ≡ 3) ⊎ (status ≡ 4)) × (tail : List ℕ) × (written ≡ out ++ tail)
+-- the exit status
+abbrev pub status_of : Ending → ℕ
+status_of Ending.Done = 0
+status_of (Ending.Illegal line) = 1
+status_of (Ending.Full line) = 1
+status_of (Ending.Faulty line) = 2
+status_of Ending.NoMemory = 3
+status_of Ending.ReadFailed = 4
+status_of Ending.WriteFailed = 4
 
--- The events were replayed, up to their end or to where that stopped.
-pub record IsReplayed (site : Site) (events : List ℕ) (status : ℕ) (old new : Option (List ℕ)) : Type 0 where
+-- what is printed on standard error then: nothing where all lines were replayed
+abbrev pub IsTold : (List ℕ → Type 0) → Ending → Type 0
+IsTold IsReported Ending.Done = Unit {0}
+IsTold IsReported (Ending.Faulty line) = IsReported (in_line (codes "51 Line") line)
+IsTold IsReported (Ending.Illegal line) = IsReported (in_line (codes "illegal event") line)
+IsTold IsReported (Ending.Full line) = IsReported (in_line (codes "86 TotalsFull") line)
+IsTold IsReported Ending.NoMemory = IsReported (said (codes "no memory"))
+IsTold IsReported Ending.ReadFailed = IsReported (said (codes "read failed"))
+IsTold IsReported Ending.WriteFailed = IsReported (said (codes "write failed"))
+
+-- How the output is left: a write or flush failed; or none did, and all that was written was handed on.
+abbrev pub IsLeft : Ending → SinkState → SinkState → Type 0
+IsLeft Ending.WriteFailed old new = Rose old.faults new.faults
+IsLeft ending old new = (new.faults ≡ old.faults) × (new.is_flushed ≡ true)
+
+-- before the first event
+abbrev pub opened : Site → Contents
+opened site = holding (opened_parts site) [] [] []
+
+-- The events were replayed, up to their end or to where that stopped, and nothing but what that prints was written.
+pub record IsReplayed (site : Site) (events : List ℕ) (status : ℕ) (old new : SinkState) (IsReported : List ℕ → Type 0) : Type 0 where
   pub out : List ℕ
   pub ending : Ending
-  pub replays : Replays site 1 0 (opening site) (lines_of events) out ending
-  pub written : List ℕ
-  pub wrote : Appends old new written
-  pub answers : Answers status ending out written
+  pub replays : Replays site 1 0 (opened site) (lines_of events) out ending
+  pub wrote : Appends old.contents new.contents out
+  pub status_is : status ≡ status_of ending
+  pub left : IsLeft ending old new
+  pub told : IsTold IsReported ending
+
+-- There is no site: the site file has a fault, memory ran out, or a file can't be read; or what was printed before can't be handed on.
+abbrev pub IsNoReplay : (List ℕ → Option (List ℕ)) → (site : List ℕ) → ℕ → (List ℕ → Type 0) → Type 0
+IsNoReplay bytes_of site_text status IsReported =
+    ((status ≡ 2) × (fault : SiteFault) × IsSiteFault bytes_of site_text fault × IsReported (site_report fault))
+    ⊎ ((status ≡ 3) × IsReported (said (codes "no memory")))
+    ⊎ ((status ≡ 4) × (IsReported (said (codes "read failed")) ⊎ IsReported (said (codes "write failed"))))
 
 -- What a replay of these files answers: there is no site, and nothing is printed; or the events were replayed.
-abbrev pub ReplayIs : (List ℕ → Option (List ℕ)) → (site events : List ℕ) → ℕ → Option (List ℕ) → Option (List ℕ) → Type 0
-ReplayIs bytes_of site_text events status old new =
-    (Keeps old new × ((status ≡ 3) ⊎ ((status ≡ 4) ⊎ ((status ≡ 2) × IsFaultySite bytes_of site_text))))
-    ⊎ ((site : Site) × IsSiteOf bytes_of site_text site × IsReplayed site events status old new)
+abbrev pub ReplayIs : (List ℕ → Option (List ℕ)) → (site events : List ℕ) → ℕ → SinkState → SinkState → (List ℕ → Type 0) → Type 0
+ReplayIs bytes_of site_text events status old new IsReported =
+    (Keeps old.contents new.contents × IsNoReplay bytes_of site_text status IsReported)
+    ⊎ ((site : Site) × IsSiteOf bytes_of site_text site × IsReplayed site events status old new IsReported)

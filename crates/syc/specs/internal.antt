@@ -1,4 +1,5 @@
 -- What only private functions cite.
 pub mod Halts
 pub mod Stops
+pub mod Unverified
 pub mod Ways

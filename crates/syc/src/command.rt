@@ -1,7 +1,7 @@
 //! The words of the command line.
 ghost use Rattle.std.specs.Prelude.{◌≡◌, ◌∷◌, ◌↔◌, ℕ, List, codes, map, string_bytes, IfErr, IfNone, IfOk, IfSome, IsTrue};
 ghost use Rattle.syc.specs.Words as spec;
-ghost use Rattle.syc.specs.Words.{ArePass, AreReplay, IsCommand};
+ghost use Rattle.syc.specs.Words.{ArePass, AreReplay, AreVerify, IsCommand};
 
 use clap::error::ErrorKind;
 use clap::{Arg, Command as Parser, Error};
@@ -14,6 +14,8 @@ pub enum Command<'a> {
     Pass,
     /// The events of a file at a site: the names of the site file and of the events file.
     Replay(&'a str, &'a str),
+    /// A verdict on a certificate: the names of the site file and of the certificate's file.
+    Verify(&'a str, &'a str),
 }
 
 const ABOUT: &str = "A relay for syslog messages in octet-counted frames";
@@ -23,6 +25,9 @@ const PASS_ABOUT: &str =
 
 const REPLAY_ABOUT: &str =
     "Make the events of a file at the site of a site file, and print each loss";
+
+const VERIFY_ABOUT: &str =
+    "Say whether a certificate shows that a site keeps the messages of its protected classes";
 
 // The words with the program's name before them.
 pub fn all_words<'a>(alloc: Global, args: &'a [String]) -> Result<Vec<&'a str>, AllocError>
@@ -83,6 +88,28 @@ fn replayed<'a>(words: &[&'a str]) -> Option<(&'a str, &'a str)>
     }
 }
 
+// The names of the files, where the words are `verify` with two after the program's name.
+fn verified<'a>(words: &[&'a str]) -> Option<(&'a str, &'a str)>
+    ensures some { IfSome result (λ names. AreVerify (map (λ s. s.now) words.now) names.0.now names.1.now) }
+    ensures none { IfNone result ((site certificate : List ℕ) →
+        AreVerify (map (λ s. s.now) words.now) site certificate → ⊥) }
+{
+    match words {
+        [program, command, site, certificate] => {
+            if is_word(program, "syc")
+                && is_word(command, "verify")
+                && is_plain(site)
+                && is_plain(certificate)
+            {
+                Some((site, certificate))
+            } else {
+                None
+            }
+        }
+        _ => None,
+    }
+}
+
 // What clap knows of a replay.
 fn replay_parser<'a>(alloc: Global) -> Result<Parser<'a>, AllocError> {
     let site = Arg::new(alloc, "SITE").required(true);
@@ -93,17 +120,29 @@ fn replay_parser<'a>(alloc: Global) -> Result<Parser<'a>, AllocError> {
     Ok(replay)
 }
 
+// What clap knows of a verdict on a certificate.
+fn verify_parser<'a>(alloc: Global) -> Result<Parser<'a>, AllocError> {
+    let site = Arg::new(alloc, "SITE").required(true);
+    let certificate = Arg::new(alloc, "CERT").required(true);
+    let verify = Parser::new(alloc, "verify").about(VERIFY_ABOUT);
+    let verify = verify.arg(site)?;
+    let verify = verify.arg(certificate)?;
+    Ok(verify)
+}
+
 // What clap answers for words that are no command as it is written here: a call for help or for the version, or what is
 // wrong with them. It reads `pass --` as `pass`, and such words are refused too.
 fn ask_clap(alloc: Global, words: &[&str]) -> Result<Error, Error> {
     let pass = Parser::new(alloc, "pass").about(PASS_ABOUT);
     let replay = replay_parser(alloc)?;
+    let verify = verify_parser(alloc)?;
     let mut parser = Parser::new(alloc, "syc")
         .version("0.1.0")
         .about(ABOUT)
         .subcommand_required(true)
         .subcommand(pass)?
-        .subcommand(replay)?;
+        .subcommand(replay)?
+        .subcommand(verify)?;
     parser.try_get_matches_from_mut(words)?;
     let error = parser.error(ErrorKind::UnknownArgument, "unexpected argument '--' found")?;
     Ok(error)
@@ -122,12 +161,17 @@ pub fn command_of<'a>(alloc: Global, words: &[&'a str]) -> Result<Command<'a>, E
     ensures ok { IfOk result (IsCommand (map (λ s. s.now) words.now)) }
     ensures pass { ArePass (map (λ s. s.now) words.now) → IfErr result (λ _. ⊥) }
     ensures replay { (site events : List ℕ) → AreReplay (map (λ s. s.now) words.now) site events → IfErr result (λ _. ⊥) }
+    ensures verify { (site certificate : List ℕ) → AreVerify (map (λ s. s.now) words.now) site certificate →
+        IfErr result (λ _. ⊥) }
 {
     if are_pass(words) {
         return Ok(Command::Pass);
     }
-    match replayed(words) {
-        Some((site, events)) => Ok(Command::Replay(site, events)),
+    if let Some((site, events)) = replayed(words) {
+        return Ok(Command::Replay(site, events));
+    }
+    match verified(words) {
+        Some((site, certificate)) => Ok(Command::Verify(site, certificate)),
         None => Err(refusal(alloc, words)),
     }
 }

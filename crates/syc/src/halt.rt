@@ -1,8 +1,13 @@
 //! Why a command over a site stops early, and what it prints then.
-ghost use Rattle.std.specs.Prelude.{◌≡◌, ◌⊎◌};
+ghost use Rattle.std.specs.Prelude.{◌≡◌, OnErr, OnOk, true};
+ghost use Rattle.std.specs.Io.KnownBytes.{Appends};
+ghost use Rattle.sy_wire.specs.Streams.{Rose};
+ghost use Rattle.syc.specs.HaltTexts.{at_place, halt_report, in_line, relay_report, said, site_report, with_word};
+ghost use Rattle.syc.specs.Reports.{Reported, Torn, seen};
 ghost use Rattle.syc.specs.internal.Halts as spec;
 
-use crate::output::{write_all, write_decimal};
+use crate::output::write_texts;
+use itoa::Buffer;
 use sy_rules::PlanFault;
 use sy_script::ScriptFault;
 use sy_site::{RelayFault, SiteFault};
@@ -24,53 +29,126 @@ pub enum Halt {
     WriteFailed,
 }
 
-// Where a fault lies.
-fn write_in_line<E: Sink>(errors: &mut E, words: &str, line: u64) -> Result<(), WriteFault> {
-    write_all(errors, words.as_bytes())?;
-    write_all(errors, b" in line ")?;
-    write_decimal(errors, line)
+fn write_said<E: Sink>(errors: &mut E, text: &str) -> Result<(), WriteFault>
+    ensures ok { OnOk result (Appends (E.contents errors.old) (E.contents errors.new) (said text.now)) }
+    ensures torn { OnErr result (Torn (E.contents errors.old) (E.contents errors.new) (said text.now)) }
+    ensures same { OnOk result (E.faults errors.new ≡ E.faults errors.old) }
+    ensures err { OnErr result (Rose (E.faults errors.old) (E.faults errors.new)) }
+{
+    write_texts(errors, &[b"syc: ", text.as_bytes(), b"\n"])
 }
 
-// A fault of a relay's script.
+// Where a fault lies.
+fn write_in_line<E: Sink>(errors: &mut E, words: &str, line: u64) -> Result<(), WriteFault>
+    ensures ok { OnOk result (Appends (E.contents errors.old) (E.contents errors.new) (in_line words.now line)) }
+    ensures torn { OnErr result (Torn (E.contents errors.old) (E.contents errors.new) (in_line words.now line)) }
+    ensures same { OnOk result (E.faults errors.new ≡ E.faults errors.old) }
+    ensures err { OnErr result (Rose (E.faults errors.old) (E.faults errors.new)) }
+{
+    let mut digits = Buffer::new();
+    let line = digits.format(line).as_bytes();
+    write_texts(
+        errors,
+        &[b"syc: ", words.as_bytes(), b" in line ", line, b"\n"],
+    )
+}
+
+// A fault of a relay's script, its number and name, and its line and column in digits.
+fn write_at_place<'a, E: Sink>(
+    errors: &mut E,
+    words: &'a [u8],
+    line: &'a [u8],
+    column: &'a [u8],
+    relay: &'a [u8],
+) -> Result<(), WriteFault>
+    ensures ok { OnOk result (Appends (E.contents errors.old) (E.contents errors.new) (at_place words.now line.now column.now relay.now)) }
+    ensures torn { OnErr result (Torn (E.contents errors.old) (E.contents errors.new) (at_place words.now line.now column.now relay.now)) }
+    ensures same { OnOk result (E.faults errors.new ≡ E.faults errors.old) }
+    ensures err { OnErr result (Rose (E.faults errors.old) (E.faults errors.new)) }
+{
+    write_texts(
+        errors,
+        &[
+            b"syc: ", words, b" at ", line, b":", column, b" of ", relay, b"\n",
+        ],
+    )
+}
+
 fn write_script_fault<E: Sink>(
     errors: &mut E,
     relay: &[u8],
     fault: &ScriptFault,
-) -> Result<(), WriteFault> {
-    write_all(errors, fault.code.words().as_bytes())?;
-    write_all(errors, b" at ")?;
-    write_decimal(errors, fault.line as u64)?;
-    write_all(errors, b":")?;
-    write_decimal(errors, fault.column as u64)?;
-    write_all(errors, b" of ")?;
-    write_all(errors, relay)
+) -> Result<(), WriteFault>
+    ensures ok { OnOk result (Appends (E.contents errors.old) (E.contents errors.new) (relay_report relay.now (RelayFault.Script fault.now))) }
+    ensures torn { OnErr result (Torn (E.contents errors.old) (E.contents errors.new) (relay_report relay.now (RelayFault.Script fault.now))) }
+    ensures same { OnOk result (E.faults errors.new ≡ E.faults errors.old) }
+    ensures err { OnErr result (Rose (E.faults errors.old) (E.faults errors.new)) }
+{
+    let mut line = Buffer::new();
+    let mut column = Buffer::new();
+    write_at_place(
+        errors,
+        fault.code.words().as_bytes(),
+        line.format(fault.line as u64).as_bytes(),
+        column.format(fault.column as u64).as_bytes(),
+        relay,
+    )
 }
 
-// A fault of a relay's plan.
+// A fault of a relay's plan, its number and name, and its word.
+fn write_with_word<'a, E: Sink>(
+    errors: &mut E,
+    words: &'a [u8],
+    relay: &'a [u8],
+    word: &'a [u8],
+) -> Result<(), WriteFault>
+    ensures ok { OnOk result (Appends (E.contents errors.old) (E.contents errors.new) (with_word words.now relay.now word.now)) }
+    ensures torn { OnErr result (Torn (E.contents errors.old) (E.contents errors.new) (with_word words.now relay.now word.now)) }
+    ensures same { OnOk result (E.faults errors.new ≡ E.faults errors.old) }
+    ensures err { OnErr result (Rose (E.faults errors.old) (E.faults errors.new)) }
+{
+    write_texts(
+        errors,
+        &[b"syc: ", words, b" of ", relay, b": ", word, b"\n"],
+    )
+}
+
 fn write_plan_fault<E: Sink>(
     errors: &mut E,
     relay: &[u8],
     fault: &PlanFault,
-) -> Result<(), WriteFault> {
-    write_all(errors, fault.code.words().as_bytes())?;
-    write_all(errors, b" of ")?;
-    write_all(errors, relay)?;
-    write_all(errors, b": ")?;
-    write_all(errors, fault.word.as_slice())
+) -> Result<(), WriteFault>
+    ensures ok { OnOk result (Appends (E.contents errors.old) (E.contents errors.new) (relay_report relay.now (RelayFault.Plan fault.now))) }
+    ensures torn { OnErr result (Torn (E.contents errors.old) (E.contents errors.new) (relay_report relay.now (RelayFault.Plan fault.now))) }
+    ensures same { OnOk result (E.faults errors.new ≡ E.faults errors.old) }
+    ensures err { OnErr result (Rose (E.faults errors.old) (E.faults errors.new)) }
+{
+    let words = fault.code.words().as_bytes();
+    write_with_word(errors, words, relay, fault.word.as_slice())
 }
 
 fn write_relay_fault<E: Sink>(
     errors: &mut E,
     relay: &[u8],
     fault: &RelayFault,
-) -> Result<(), WriteFault> {
+) -> Result<(), WriteFault>
+    ensures ok { OnOk result (Appends (E.contents errors.old) (E.contents errors.new) (relay_report relay.now fault.now)) }
+    ensures torn { OnErr result (Torn (E.contents errors.old) (E.contents errors.new) (relay_report relay.now fault.now)) }
+    ensures same { OnOk result (E.faults errors.new ≡ E.faults errors.old) }
+    ensures err { OnErr result (Rose (E.faults errors.old) (E.faults errors.new)) }
+{
     match fault {
         RelayFault::Script(fault) => write_script_fault(errors, relay, fault),
         RelayFault::Plan(fault) => write_plan_fault(errors, relay, fault),
     }
 }
 
-fn write_site_fault<E: Sink>(errors: &mut E, fault: &SiteFault) -> Result<(), WriteFault> {
+fn write_site_fault<E: Sink>(errors: &mut E, fault: &SiteFault) -> Result<(), WriteFault>
+    ensures ok { OnOk result (Appends (E.contents errors.old) (E.contents errors.new) (site_report fault.now)) }
+    ensures torn { OnErr result (Torn (E.contents errors.old) (E.contents errors.new) (site_report fault.now)) }
+    ensures same { OnOk result (E.faults errors.new ≡ E.faults errors.old) }
+    ensures err { OnErr result (Rose (E.faults errors.old) (E.faults errors.new)) }
+{
     match fault {
         SiteFault::Line(line)
         | SiteFault::Duplicate(line)
@@ -79,31 +157,44 @@ fn write_site_fault<E: Sink>(errors: &mut E, fault: &SiteFault) -> Result<(), Wr
         | SiteFault::NoSuchArchive(line) => write_in_line(errors, fault.words(), *line as u64),
         SiteFault::NothingProtected => write_in_line(errors, fault.words(), 1),
         SiteFault::Relay(_, name, why) => write_relay_fault(errors, name.as_slice(), why),
-        SiteFault::NoMemory => write_all(errors, b"no memory"),
+        SiteFault::NoMemory => write_said(errors, "no memory"),
     }
 }
 
-fn write_cause<E: Sink>(errors: &mut E, halt: &Halt) -> Result<(), WriteFault> {
+fn write_halt<E: Sink>(errors: &mut E, halt: &Halt) -> Result<(), WriteFault>
+    ensures ok { OnOk result (Appends (E.contents errors.old) (E.contents errors.new) (halt_report halt.now)) }
+    ensures torn { OnErr result (Torn (E.contents errors.old) (E.contents errors.new) (halt_report halt.now)) }
+    ensures same { OnOk result (E.faults errors.new ≡ E.faults errors.old) }
+    ensures err { OnErr result (Rose (E.faults errors.old) (E.faults errors.new)) }
+{
     match halt {
         Halt::Site(fault) => write_site_fault(errors, fault),
         Halt::Line(line) => write_in_line(errors, "51 Line", *line),
         Halt::Illegal(line) => write_in_line(errors, "illegal event", *line),
         Halt::TotalsFull(line) => write_in_line(errors, "86 TotalsFull", *line),
-        Halt::NoMemory => write_all(errors, b"no memory"),
-        Halt::ReadFailed => write_all(errors, b"read failed"),
-        Halt::WriteFailed => write_all(errors, b"write failed"),
+        Halt::NoMemory => write_said(errors, "no memory"),
+        Halt::ReadFailed => write_said(errors, "read failed"),
+        Halt::WriteFailed => write_said(errors, "write failed"),
     }
 }
 
-fn write_report<E: Sink>(errors: &mut E, halt: &Halt) -> Result<(), WriteFault> {
-    write_all(errors, b"syc: ")?;
-    write_cause(errors, halt)?;
-    write_all(errors, b"\n")?;
-    errors.flush()
+fn write_report<E: Sink>(errors: &mut E, halt: &Halt) -> Result<(), WriteFault>
+    ensures ok { OnOk result (Appends (E.contents errors.old) (E.contents errors.new) (halt_report halt.now)) }
+    ensures flushed { OnOk result (E.is_flushed errors.new ≡ true) }
+    ensures torn { OnErr result (Torn (E.contents errors.old) (E.contents errors.new) (halt_report halt.now)) }
+    ensures err { OnErr result (Rose (E.faults errors.old) (E.faults errors.new)) }
+{
+    write_halt(errors, halt)?;
+    errors.flush()?;
+    Ok(())
 }
 
 /// Prints why a command stopped, as far as that can be written.
-pub fn tell<E: Sink>(errors: &mut E, halt: &Halt) {
+pub fn tell<E: Sink>(errors: &mut E, halt: &Halt)
+    ensures { Reported
+        (seen E.contents E.is_flushed E.faults errors.old) (seen E.contents E.is_flushed E.faults errors.new)
+        (halt_report halt.now) }
+{
     let _ = write_report(errors, halt);
 }
 

@@ -14,6 +14,8 @@ mod site;
 mod stop;
 #[cfg(test)]
 mod tests;
+mod verdict;
+mod verify;
 
 use files::HostFiles;
 use run::run;

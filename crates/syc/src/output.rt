@@ -1,8 +1,9 @@
 //! Writing whole texts by as many writes as it takes.
-ghost use Rattle.std.specs.Prelude.{◌≡◌, ◌≤◌, OnErr, OnOk};
+ghost use Rattle.std.specs.Prelude.{◌≡◌, ◌≤◌, OnErr, OnOk, map};
 ghost use Rattle.std.specs.Fmt.{decimal};
 ghost use Rattle.std.specs.Io.KnownBytes.{Appends};
 ghost use Rattle.sy_wire.specs.Streams.{Rose};
+ghost use Rattle.syc.specs.HaltTexts.{joined};
 ghost use Rattle.syc.specs.Reports.{Torn};
 
 use sy_wire::{Sink, WriteFault};
@@ -21,6 +22,19 @@ pub fn write_all<W: Sink>(writer: &mut W, bytes: &[u8]) -> Result<(), WriteFault
         let (_, rest) = bytes.split_at(at);
         let count = writer.write(rest)?;
         at += count;
+    }
+    Ok(())
+}
+
+/// Writes these texts one behind the other.
+pub fn write_texts<W: Sink>(writer: &mut W, texts: &[&[u8]]) -> Result<(), WriteFault>
+    ensures ok { OnOk result (Appends (W.contents writer.old) (W.contents writer.new) (joined (map (λ text. text.now) texts.now))) }
+    ensures torn { OnErr result (Torn (W.contents writer.old) (W.contents writer.new) (joined (map (λ text. text.now) texts.now))) }
+    ensures same { OnOk result (W.faults writer.new ≡ W.faults writer.old) }
+    ensures err { OnErr result (Rose (W.faults writer.old) (W.faults writer.new)) }
+{
+    for text in texts {
+        write_all(writer, text)?;
     }
     Ok(())
 }

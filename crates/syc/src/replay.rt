@@ -1,14 +1,14 @@
 //! A file of events over a site, made one by one: a line for each loss.
-ghost use Rattle.std.specs.Prelude.{◌≡◌, ◌≢◌, ◌≤◌, ◌<◌, ◌++◌, ◌∷◌, ◌⊎◌, [], ℕ, List, Option, Some, IfErr, IfNone, IfOk, IfSome, OnErr, OnOk, drop, length};
-ghost use Rattle.std.specs.Io.KnownBytes.{Keeps};
+ghost use Rattle.std.specs.Prelude.{◌≡◌, ◌≢◌, ◌≤◌, ◌<◌, ◌++◌, ◌∷◌, ◌⊎◌, [], ℕ, List, Some, IfErr, IfNone, IfOk, IfSome, OnOk, length, true};
+ghost use Rattle.std.specs.Io.KnownBytes.{Appends, Keeps};
 ghost use Rattle.sy_wire.specs.Streams.{Rose};
 ghost use Rattle.sy_replay.specs.Events.{site_event};
-ghost use Rattle.sy_replay.specs.States.{state_at};
-ghost use Rattle.sy_site.specs.machine.States.{opening};
-ghost use Rattle.syc.specs.Replays as spec;
-ghost use Rattle.syc.specs.Replays.{ReplayIs, lines_of, loss_lines};
+ghost use Rattle.sy_replay.specs.Lines.{StandsFor};
+ghost use Rattle.syc.specs.Replays.{ReplayIs, lines_of};
+ghost use Rattle.syc.specs.HaltTexts.{halt_report};
+ghost use Rattle.syc.specs.Reports.{Reported, seen};
 ghost use Rattle.syc.specs.internal.Halts as internal;
-ghost use Rattle.syc.specs.internal.Halts.{Comes, Stops, place};
+ghost use Rattle.syc.specs.internal.Halts.{Comes, Finishes, Stops, place, start};
 
 use crate::files::{FileFault, Files};
 use crate::halt::{Halt, status_of, tell};
@@ -42,10 +42,11 @@ fn print_losses<W: Sink>(
     first: usize,
     writer: &mut W,
 ) -> Result<(), Halt>
-    ensures ok { OnOk result (internal.PrintsLosses site.now (state_at course.now.replay) course.now.line first
-        (W.contents writer.old) (W.contents writer.new)) }
+    ensures ok { OnOk result (Appends (W.contents writer.old) (W.contents writer.new)
+        (internal.later_losses site.now course.now.replay.contents course.now.line first)) }
     ensures same { OnOk result (W.faults writer.new ≡ W.faults writer.old) }
     ensures err { IfErr result (λ why. internal.IsTorn why
+        (internal.later_losses site.now course.now.replay.contents course.now.line first)
         (W.contents writer.old) (W.faults writer.old) (W.contents writer.new) (W.faults writer.new)) }
 {
     let losses = course.replay.losses();
@@ -86,6 +87,14 @@ fn make_event<W: Sink>(
     event: &Event,
     writer: &mut W,
 ) -> Result<(), Halt>
+    requires of { course.old.replay.site ≡ site.now }
+    ensures of { course.new.replay.site ≡ site.now }
+    ensures ok { OnOk result ((text : List ℕ) (later : List (List ℕ)) → StandsFor site.now text (site_event event.now)
+        → Comes site.now (place course.old (text ∷ later) (W.contents writer.old) (W.faults writer.old))
+        (place course.new later (W.contents writer.new) (W.faults writer.new))) }
+    ensures err { IfErr result (λ why. (text : List ℕ) (later : List (List ℕ)) → StandsFor site.now text (site_event event.now)
+        → Stops site.now (place course.old (text ∷ later) (W.contents writer.old) (W.faults writer.old))
+        why (W.contents writer.new) (W.faults writer.new)) }
     ensures same { OnOk result (W.faults writer.new ≡ W.faults writer.old) }
     ensures cause { IfErr result (λ why. internal.HasCause why (W.faults writer.old) (W.faults writer.new)) }
 {
@@ -95,6 +104,7 @@ fn make_event<W: Sink>(
     }
     print_losses(alloc, site, course, before, writer)?;
     course.events = course.events.saturating_add(1);
+    course.line = course.line.saturating_add(1);
     Ok(())
 }
 
@@ -106,21 +116,26 @@ fn apply_line<W: Sink>(
     line: &[u8],
     writer: &mut W,
 ) -> Result<(), Halt>
+    requires of { course.old.replay.site ≡ site.now }
+    ensures of { course.new.replay.site ≡ site.now }
+    ensures ok { OnOk result ((later : List (List ℕ))
+        → Comes site.now (place course.old (line.now ∷ later) (W.contents writer.old) (W.faults writer.old))
+        (place course.new later (W.contents writer.new) (W.faults writer.new))) }
+    ensures err { IfErr result (λ why. (later : List (List ℕ))
+        → Stops site.now (place course.old (line.now ∷ later) (W.contents writer.old) (W.faults writer.old))
+        why (W.contents writer.new) (W.faults writer.new)) }
     ensures same { OnOk result (W.faults writer.new ≡ W.faults writer.old) }
     ensures cause { IfErr result (λ why. internal.HasCause why (W.faults writer.old) (W.faults writer.new)) }
 {
     match read_event(alloc, site, line) {
-        Ok(None) => {}
-        Ok(Some(event)) => {
-            if let Err(halt) = make_event(alloc, site, course, &event, writer) {
-                return Err(halt);
-            }
+        Ok(None) => {
+            course.line = course.line.saturating_add(1);
+            Ok(())
         }
-        Err(EventFault::Line) => return Err(Halt::Line(course.line)),
-        Err(EventFault::NoMemory) => return Err(Halt::NoMemory),
+        Ok(Some(event)) => make_event(alloc, site, course, &event, writer),
+        Err(EventFault::Line) => Err(Halt::Line(course.line)),
+        Err(EventFault::NoMemory) => Err(Halt::NoMemory),
     }
-    course.line = course.line.saturating_add(1);
-    Ok(())
 }
 
 // The first line of a text that is whole, and what is behind its line feed.
@@ -144,6 +159,15 @@ fn apply_lines<'h, W: Sink>(
     held: &'h [u8],
     writer: &mut W,
 ) -> Result<&'h [u8], Halt>
+    requires of { course.old.replay.site ≡ site.now }
+    ensures of { course.new.replay.site ≡ site.now }
+    ensures ok { IfOk result (λ rest. (ahead : List ℕ)
+        → Comes site.now (place course.old (lines_of (held.now ++ ahead)) (W.contents writer.old) (W.faults writer.old))
+        (place course.new (lines_of (rest.now ++ ahead)) (W.contents writer.new) (W.faults writer.new))) }
+    ensures open { IfOk result (λ rest. internal.IsOpenLine rest.now) }
+    ensures err { IfErr result (λ why. (ahead : List ℕ)
+        → Stops site.now (place course.old (lines_of (held.now ++ ahead)) (W.contents writer.old) (W.faults writer.old))
+        why (W.contents writer.new) (W.faults writer.new)) }
     ensures same { OnOk result (W.faults writer.new ≡ W.faults writer.old) }
     ensures cause { IfErr result (λ why. internal.HasCause why (W.faults writer.old) (W.faults writer.new)) }
 {
@@ -196,8 +220,19 @@ fn turn<R: Source, W: Sink>(
     pieces: &mut Pieces,
     writer: &mut W,
 ) -> Result<bool, Halt>
+    requires of { course.old.replay.site ≡ site.now }
     requires room { 0 < length pieces.old.room.items }
+    requires open { internal.IsOpenLine pieces.old.held.items }
+    ensures of { course.new.replay.site ≡ site.now }
     ensures room { 0 < length pieces.new.room.items }
+    ensures open { OnOk result (internal.IsOpenLine pieces.new.held.items) }
+    ensures ok { IfOk result (λ more. (ahead : List ℕ) → R.remaining reader.old ≡ Some ahead → internal.Turns more site.now
+        (place course.old (lines_of (pieces.old.held.items ++ ahead)) (W.contents writer.old) (W.faults writer.old))
+        pieces.new.held.items (R.remaining reader.new)
+        (place course.new [] (W.contents writer.new) (W.faults writer.new))) }
+    ensures err { IfErr result (λ why. (ahead : List ℕ) → R.remaining reader.old ≡ Some ahead → Stops site.now
+        (place course.old (lines_of (pieces.old.held.items ++ ahead)) (W.contents writer.old) (W.faults writer.old))
+        why (W.contents writer.new) (W.faults writer.new)) }
     ensures same { OnOk result (W.faults writer.new ≡ W.faults writer.old) }
     ensures cause { IfErr result (λ why. internal.HasCause why (W.faults writer.old) (W.faults writer.new)) }
 {
@@ -227,6 +262,15 @@ fn finish<W: Sink>(
     last: &[u8],
     writer: &mut W,
 ) -> Result<(), Halt>
+    requires of { course.old.replay.site ≡ site.now }
+    requires open { internal.IsOpenLine last.now }
+    ensures ok { OnOk result (Finishes site.now
+        (place course.old (lines_of last.now) (W.contents writer.old) (W.faults writer.old))
+        (W.contents writer.new) (W.faults writer.new)) }
+    ensures flushed { OnOk result (W.is_flushed writer.new ≡ true) }
+    ensures err { IfErr result (λ why. Stops site.now
+        (place course.old (lines_of last.now) (W.contents writer.old) (W.faults writer.old))
+        why (W.contents writer.new) (W.faults writer.new)) }
     ensures same { OnOk result (W.faults writer.new ≡ W.faults writer.old) }
     ensures cause { IfErr result (λ why. internal.HasCause why (W.faults writer.old) (W.faults writer.new)) }
 {
@@ -253,7 +297,16 @@ fn turns<R: Source, W: Sink>(
     pieces: &mut Pieces,
     writer: &mut W,
 ) -> Result<(), Halt>
+    requires of { course.old.replay.site ≡ site.now }
     requires room { 0 < length pieces.old.room.items }
+    requires open { internal.IsOpenLine pieces.old.held.items }
+    ensures ok { OnOk result ((ahead : List ℕ) → R.remaining reader.old ≡ Some ahead → Finishes site.now
+        (place course.old (lines_of (pieces.old.held.items ++ ahead)) (W.contents writer.old) (W.faults writer.old))
+        (W.contents writer.new) (W.faults writer.new)) }
+    ensures flushed { OnOk result (W.is_flushed writer.new ≡ true) }
+    ensures err { IfErr result (λ why. (ahead : List ℕ) → R.remaining reader.old ≡ Some ahead → Stops site.now
+        (place course.old (lines_of (pieces.old.held.items ++ ahead)) (W.contents writer.old) (W.faults writer.old))
+        why (W.contents writer.new) (W.faults writer.new)) }
     ensures same { OnOk result (W.faults writer.new ≡ W.faults writer.old) }
     ensures cause { IfErr result (λ why. internal.HasCause why (W.faults writer.old) (W.faults writer.new)) }
 {
@@ -272,6 +325,13 @@ fn replay_events<R: Source, W: Sink>(
     reader: &mut R,
     writer: &mut W,
 ) -> Result<(), Halt>
+    ensures ok { OnOk result ((events : List ℕ) → R.remaining reader.old ≡ Some events → Finishes site.now
+        (start site.now (lines_of events) (W.contents writer.old) (W.faults writer.old))
+        (W.contents writer.new) (W.faults writer.new)) }
+    ensures flushed { OnOk result (W.is_flushed writer.new ≡ true) }
+    ensures err { IfErr result (λ why. (events : List ℕ) → R.remaining reader.old ≡ Some events → Stops site.now
+        (start site.now (lines_of events) (W.contents writer.old) (W.faults writer.old))
+        why (W.contents writer.new) (W.faults writer.new)) }
     ensures same { OnOk result (W.faults writer.new ≡ W.faults writer.old) }
     ensures cause { IfErr result (λ why. internal.HasCause why (W.faults writer.old) (W.faults writer.new)) }
 {
@@ -301,6 +361,15 @@ fn replay_files<F: Files, W: Sink>(
     events_name: &str,
     writer: &mut W,
 ) -> Result<(), Halt>
+    ensures ok { OnOk result ((text events : List ℕ)
+        → F.bytes_of files.now site_name.now ≡ Some text → F.bytes_of files.now events_name.now ≡ Some events
+        → internal.Replayed (F.bytes_of files.now) text events
+        (W.contents writer.old) (W.faults writer.old) (W.contents writer.new) (W.faults writer.new)) }
+    ensures flushed { OnOk result (W.is_flushed writer.new ≡ true) }
+    ensures err { IfErr result (λ why. (text events : List ℕ)
+        → F.bytes_of files.now site_name.now ≡ Some text → F.bytes_of files.now events_name.now ≡ Some events
+        → internal.Halted (F.bytes_of files.now) text events why
+        (W.contents writer.old) (W.faults writer.old) (W.contents writer.new) (W.faults writer.new)) }
     ensures same { OnOk result (W.faults writer.new ≡ W.faults writer.old) }
     ensures cause { IfErr result (λ why. internal.IsCause why (W.faults writer.old) (W.faults writer.new)) }
 {
@@ -315,8 +384,15 @@ fn replay_files<F: Files, W: Sink>(
 
 // Hands on what was printed before the halt, and reports it.
 fn give_up<W: Sink, E: Sink>(writer: &mut W, errors: &mut E, halt: &Halt) -> u8
-    ensures status { (result ≡ internal.status_at halt.now) ⊎ (result ≡ 4) }
-    ensures same { result ≢ 4 → W.faults writer.new ≡ W.faults writer.old }
+    ensures status { ((result ≡ internal.status_at halt.now) × (W.is_flushed writer.new ≡ true)
+        × (W.faults writer.new ≡ W.faults writer.old) × Reported
+        (seen E.contents E.is_flushed E.faults errors.old) (seen E.contents E.is_flushed E.faults errors.new)
+        (halt_report halt.now))
+        ⊎ ((result ≡ 4) × Rose (W.faults writer.old) (W.faults writer.new) × Reported
+        (seen E.contents E.is_flushed E.faults errors.old) (seen E.contents E.is_flushed E.faults errors.new)
+        (halt_report Halt.WriteFailed)) }
+    ensures failed { result ≢ 0 }
+    ensures kept { Keeps (W.contents writer.old) (W.contents writer.new) }
 {
     match writer.flush() {
         Ok(()) => {
@@ -342,6 +418,12 @@ pub fn replay<F: Files, W: Sink, E: Sink>(
     writer: &mut W,
     errors: &mut E,
 ) -> u8
+    ensures replay { (text events : List ℕ)
+        → F.bytes_of files.now site_name.now ≡ Some text → F.bytes_of files.now events_name.now ≡ Some events
+        → ReplayIs (F.bytes_of files.now) text events result
+        (seen W.contents W.is_flushed W.faults writer.old) (seen W.contents W.is_flushed W.faults writer.new)
+        (Reported (seen E.contents E.is_flushed E.faults errors.old) (seen E.contents E.is_flushed E.faults errors.new)) }
+    ensures quiet { result ≡ 0 → Keeps (E.contents errors.old) (E.contents errors.new) }
     ensures status { result ≤ 4 }
     ensures none_failed { result ≢ 4 → W.faults writer.new ≡ W.faults writer.old }
 {

@@ -3,8 +3,10 @@ ghost use Rattle.std.specs.Prelude.{◌≡◌, ◌≢◌, ◌≤◌, ◌+◌, �
 ghost use Rattle.std.specs.Io.KnownBytes.{Keeps};
 ghost use Rattle.sy_wire.specs.Streams.{Rose};
 ghost use Rattle.syc.specs.Pass.{HasFailed, IsStatus, NoneFailed, PassIs, counts};
+ghost use Rattle.syc.specs.Replays.{ReplayIs};
 ghost use Rattle.syc.specs.Reports.{Reported, seen};
-ghost use Rattle.syc.specs.Words.{ArePassAlone};
+ghost use Rattle.syc.specs.Verdicts.{VerifyIs};
+ghost use Rattle.syc.specs.Words.{ArePassAlone, AreReplayOf, AreVerifyOf};
 
 use crate::command::{Command, all_words, command_of};
 use crate::files::Files;
@@ -12,6 +14,7 @@ use crate::output::write_all;
 use crate::pass::{READS, pass};
 use crate::replay::replay;
 use crate::stop::{out_of_memory, write_failed};
+use crate::verify::verify;
 use clap::Error;
 use clap::error::ErrorKind;
 use std::alloc::Global;
@@ -21,6 +24,7 @@ use sy_wire::{Sink, Source};
 fn show<W: Sink, E: Sink>(alloc: Global, writer: &mut W, errors: &mut E, error: &Error) -> u8
     ensures status { IsStatus result }
     ensures none_failed { result ≢ 4 → W.faults writer.new ≡ W.faults writer.old }
+    ensures quiet { result ≡ 0 → Keeps (E.contents errors.old) (E.contents errors.new) }
 {
     let Ok(text) = format!(in alloc; "{error}") else {
         return out_of_memory(errors);
@@ -53,9 +57,14 @@ pub fn run<R: Source, W: Sink, E: Sink, F: Files>(
         PassIs result input (W.contents writer.old) (W.contents writer.new)
         (Reported (seen E.contents E.is_flushed E.faults errors.old)
         (seen E.contents E.is_flushed E.faults errors.new)) }
+    ensures replay { (site events text input : List ℕ) → AreReplayOf (map string_bytes args.now) site events →
+        F.bytes_of files.now site ≡ Some text → F.bytes_of files.now events ≡ Some input →
+        ReplayIs (F.bytes_of files.now) text input result
+        (seen W.contents W.is_flushed W.faults writer.old) (seen W.contents W.is_flushed W.faults writer.new)
+        (Reported (seen E.contents E.is_flushed E.faults errors.old)
+        (seen E.contents E.is_flushed E.faults errors.new)) }
     ensures status { result ≤ 4 }
-    ensures quiet { ArePassAlone (map string_bytes args.now) → result ≡ 0 →
-        Keeps (E.contents errors.old) (E.contents errors.new) }
+    ensures quiet { result ≡ 0 → Keeps (E.contents errors.old) (E.contents errors.new) }
     ensures flushed { ArePassAlone (map string_bytes args.now) →
         (W.is_flushed writer.old ≡ true → W.is_flushed writer.new ≡ true)
         ⊎ ((result ≡ 4) × Rose (W.faults writer.old) (W.faults writer.new)) }
@@ -70,6 +79,13 @@ pub fn run<R: Source, W: Sink, E: Sink, F: Files>(
         (Reported (seen E.contents E.is_flushed E.faults errors.old) (seen E.contents E.is_flushed E.faults errors.new))
         (counts R.faults R.calls W.faults reader.old writer.old)
         (counts R.faults R.calls W.faults reader.new writer.new) }
+    ensures verify { (site certificate : List ℕ) → AreVerifyOf (map string_bytes args.now) site certificate →
+        (site_text text : List ℕ) → F.bytes_of files.now site ≡ Some site_text →
+        F.bytes_of files.now certificate ≡ Some text →
+        VerifyIs (F.bytes_of files.now) site_text text result
+        (seen W.contents W.is_flushed W.faults writer.old) (seen W.contents W.is_flushed W.faults writer.new)
+        (Reported (seen E.contents E.is_flushed E.faults errors.old)
+        (seen E.contents E.is_flushed E.faults errors.new)) }
 {
     let Ok(words) = all_words(alloc, args) else {
         return out_of_memory(errors);
@@ -77,6 +93,9 @@ pub fn run<R: Source, W: Sink, E: Sink, F: Files>(
     match command_of(alloc, words.as_slice()) {
         Ok(Command::Pass) => pass(alloc, reader, writer, errors),
         Ok(Command::Replay(site, events)) => replay(alloc, files, site, events, writer, errors),
+        Ok(Command::Verify(site, certificate)) => {
+            verify(alloc, files, site, certificate, writer, errors)
+        }
         Err(error) => match error.kind() {
             ErrorKind::OutOfMemory => out_of_memory(errors),
             _ => show(alloc, writer, errors, &error),

@@ -34,6 +34,7 @@ fn read_files<F: Files>(
     names: Vec<String>,
 ) -> Result<Vec<RelayFile>, Halt>
     ensures ok { IfOk result (λ found. AreGiven (F.bytes_of files.now) (map file_of found.items)) }
+    ensures names { IfOk result (λ found. map (λ f. string_bytes f.name) found.items ≡ map string_bytes names.items) }
     ensures err { IfErr result (λ halt. (halt ≡ Halt.NoMemory) ⊎ (halt ≡ Halt.ReadFailed)) }
 {
     let mut found = Vec::new(alloc);

@@ -1,4 +1,9 @@
+use Rattle.std.proofs.Common.{◌≡◌, ◌∙◌, ap, map, subst, sym}
+use Rattle.std.specs.Prelude.{Some, string_bytes}
+use Rattle.syc.specs.Words.{AreReplay}
+use Rattle.syc.proofs.Commands.{one_replay, with_program}
 use Rattle.syc.proofs.Statuses.{nothing_passed}
+use Rattle.syc.proofs.Verdicts.{one_verify}
 use Rattle.syc.proofs.run.run.Goals as goal
 
 pub returns-in_default-clause-pass : goal.returns-in_default-clause-pass
@@ -6,3 +11,21 @@ returns-in_default-clause-pass g c = λ words_are input known. rw c.out_of_memor
 
 pub returns-in-OutOfMemory-clause-pass : goal.returns-in-OutOfMemory-clause-pass
 returns-in-OutOfMemory-clause-pass g c = λ words_are input known. rw c.out_of_memory-in-OutOfMemory.ensures.status (nothing_passed input _ _ c.out_of_memory-in-OutOfMemory.ensures.reported)
+
+pub returns-in-Ok-Replay-clause-replay : goal.returns-in-Ok-Replay-clause-replay
+returns-in-Ok-Replay-clause-replay g c = λ site events text input words_are site_known events_known.
+    let bytes_of = g.F.Files.bytes_of c.args.files.now in
+    let all = map (λ s. s.now) c.in-Ok.words.items in
+    let read : AreReplay all c.in-Ok-Replay.site.now c.in-Ok-Replay.events.now =
+    rw c.as_slice.ensures.value at (rw c.in-Ok-Replay.field-0-is at c.in-Ok-Replay.ensures.ok) in
+    let given : AreReplay all site events = with_program all (map string_bytes c.args.args.now) site events c.in-Ok.ensures words_are in
+    let same = one_replay all c.in-Ok-Replay.site.now c.in-Ok-Replay.events.now site events read given in
+    c.replay.ensures.replay text input (subst (λ name. bytes_of name ≡ Some text) (sym same.0) site_known)
+    (subst (λ name. bytes_of name ≡ Some input) (sym same.1) events_known)
+
+pub returns-in-Ok-Verify-clause-verify : goal.returns-in-Ok-Verify-clause-verify
+returns-in-Ok-Verify-clause-verify g c = λ site certificate given site_text text is_site is_text.
+    let bytes_of = g.F.Files.bytes_of c.args.files.now in
+    let named = rw c.in-Ok-Verify.field-0-is at c.in-Ok-Verify.ensures.ok in
+    let same = one_verify _ _ _ _ site certificate _ _ c.as_slice.ensures.value c.in-Ok.ensures given named in
+    c.verify.ensures.verdict site_text text (ap bytes_of (sym same.0) ∙ is_site) (ap bytes_of (sym same.1) ∙ is_text)

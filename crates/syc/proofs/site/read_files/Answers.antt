@@ -1,13 +1,26 @@
-use Rattle.std.proofs.Common.{◌≡◌, map, subst, sym}
-use Rattle.std.specs.Prelude.{IfSome}
+use Rattle.std.proofs.Common.{◌≡◌, map, refl, subst, sym, ap, ◌∙◌, rules}
+use Rattle.std.specs.Prelude.{IfSome, string_bytes}
 use Rattle.syc.specs.Replays.{AreGiven}
 use Rattle.syc.specs.internal.Halts.{file_of}
-use Rattle.syc.proofs.Courses.{given_more}
+use Rattle.syc.specs.declared.site.RelayFile.{RelayFile}
+use Rattle.syc.proofs.Courses.{given_more, names_end, names_on}
 use Rattle.syc.proofs.site.read_files.Goals as goal
 
 pub loop-name-preserved : goal.loop-name-preserved
 loop-name-preserved g c =
     let bytes_of = g.F.Files.bytes_of c.args.files.now in
+    let file : RelayFile = record { name = c.in-Some.name; bytes = c.in_ok-bytes.bytes } in
     let known = subst (λ name. IfSome (bytes_of name) (λ bytes. c.in_ok-bytes.bytes.items ≡ bytes)) c.as_str.ensures.value c.in_ok-bytes.ensures.ok in
-    subst (λ found. AreGiven bytes_of (map file_of found)) (sym c.in-Ok.ensures.items)
-    (given_more bytes_of c.loop-name.found.items (record { name = c.in-Some.name; bytes = c.in_ok-bytes.bytes }) c.loop-name.invariant known)
+    record {
+      given = subst (λ found. AreGiven bytes_of (map file_of found)) (sym c.in-Ok.ensures.items)
+          (given_more bytes_of c.loop-name.found.items file c.loop-name.invariant.given known);
+      names = names_on (λ f. string_bytes f.name) string_bytes c.loop-name.found.items _ file c.in-Some.name _ _ _ c.in-Ok.ensures.items refl
+          c.in-Some.ensures.steps.0 c.loop-name.invariant.names;
+    }
+
+pub returns-clause-names : goal.returns-clause-names
+returns-clause-names g c =
+    let whole : c.into_iter-name-iterator.result.rest.items ≡ c.args.names.items = search rules in
+    names_end (λ f. string_bytes f.name) string_bytes c.loop-name.found.items c.loop-name.name-iterator.rest.items _
+    (sym c.loop-name.name-iterator.rest.ok.0 ∙ c.in-None.ensures.steps.0) (c.loop-name.invariant.names)
+    ∙ ap (map string_bytes) whole

@@ -1,7 +1,11 @@
-use Rattle.std.proofs.Common.{map}
+use Rattle.std.proofs.Common.{◌≡◌, ◌++◌, map}
+use Rattle.std.specs.Prelude.{string_bytes}
 use Rattle.syc.specs.Replays.{AreGiven}
 use Rattle.syc.specs.internal.Halts.{file_of}
 use Rattle.syc.proofs.site.read_files.Given as goal
 
 abbrev pub invariant-loop-name : goal.invariant-loop-name
-invariant-loop-name g l = AreGiven (g.F.Files.bytes_of l.files) (map file_of l.found.items)
+invariant-loop-name g l = record {
+  given : AreGiven (g.F.Files.bytes_of l.files) (map file_of l.found.items);
+  names : map (λ f. string_bytes f.name) l.found.items ++ map string_bytes l.name-iterator.rest.items ≡ map string_bytes l.initial.name-iterator.rest.items;
+}

@@ -1,0 +1,26 @@
+use Rattle.std.proofs.Common.{◌≡◌, inl, inr, subst, sym}
+use Rattle.syc.specs.Reports.{Reported, seen}
+use Rattle.syc.specs.internal.Halts.{Halted, Replayed}
+use Rattle.syc.proofs.Courses.{halted, halted_failing, replayed, rises_on}
+use Rattle.syc.proofs.replay.replay.Goals as goal
+
+pub returns-in-Ok-clause-replay : goal.returns-in-Ok-clause-replay
+returns-in-Ok-clause-replay g c = λ text events site_known events_known.
+    replayed _ text events _ _ _ (c.in-Ok.ensures.ok text events site_known events_known) c.in-Ok.ensures.flushed
+
+pub returns-in-Err-clause-replay : goal.returns-in-Err-clause-replay
+returns-in-Err-clause-replay g c = λ text events site_known events_known.
+    let bytes_of = g.F.Files.bytes_of c.args.files.now in
+    let halt = c.in-Err.halt in
+    let old = seen g.W.Sink.contents g.W.Sink.is_flushed g.W.Sink.faults c.args.writer.now in
+    let new = seen g.W.Sink.contents g.W.Sink.is_flushed g.W.Sink.faults c.give_up.new.writer in
+    let mid = g.W.Sink.contents c.replay_files.new.writer in
+    let is_reported = Reported (seen g.E.Sink.contents g.E.Sink.is_flushed g.E.Sink.faults c.args.errors.now)
+    (seen g.E.Sink.contents g.E.Sink.is_flushed g.E.Sink.faults c.give_up.new.errors) in
+    let stopped = c.in-Err.ensures.err text events site_known events_known in
+    elim c.give_up.ensures.status [
+      | inl a ↦ rw a.0 (halted bytes_of text events halt old new mid is_reported
+          (subst (λ f. Halted bytes_of text events halt old.contents old.faults mid f) (sym a.2) stopped) c.give_up.ensures.kept a.1 a.3)
+      | inr b ↦ rw b.0 (halted_failing bytes_of text events halt old new mid _ is_reported stopped c.give_up.ensures.kept
+          (rises_on halt old.faults _ new.faults c.in-Err.ensures.cause b.1) b.2)
+    ]
