@@ -25,3 +25,4 @@ pub mod Visited
 pub mod Described
 pub mod Shaped
 pub mod Certified
+pub mod Checked

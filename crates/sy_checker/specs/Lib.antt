@@ -11,3 +11,4 @@ pub mod Answer
 pub mod Made
 pub mod Loops
 pub mod Certifying
+pub mod Checking

@@ -3,6 +3,7 @@
 
 pub mod accepted;
 mod certifying;
+pub mod checking;
 mod classes;
 mod executed;
 pub mod finding;
@@ -28,5 +29,6 @@ mod way;
 
 pub use accepted::Accepted;
 pub use certifying::certify;
+pub use checking::{CheckFault, check};
 pub use verifying::{CertFault, verify};
 pub use wanted::RowKind;
