@@ -1,9 +1,9 @@
 //! Certificates: the shapes of their lines, their faults with their lines, and their text read and written again.
 
+use crate::rows::{Judge, each_is_right, put_text};
 use std::alloc::{AllocError, Global};
 use std::test::Fail;
 use sy_cert::{read_cert, write_cert};
-use sy_tests::rows::{Judge, each_is_right, put_text};
 
 // A text is wanted as `ok`, where it is read and written again as it was, or as its fault with its line. Where `memory`
 // is set a refusal for memory may stand in the place of either.

@@ -1,11 +1,11 @@
 //! The checker: certificates of a site, with their rows as they are wanted and spoilt.
 
+use crate::rows::{Judge, each_is_right};
 use std::alloc::{AllocError, Global};
 use std::test::Fail;
 use sy_cert::{Certificate, read_cert};
 use sy_checker::{Accepted, CertFault, verify};
 use sy_site::Site;
-use sy_tests::rows::{Judge, each_is_right};
 use sy_wire::Class;
 
 const SITE: &[u8] =

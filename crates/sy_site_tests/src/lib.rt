@@ -1,6 +1,5 @@
 //! The tests of the libraries over whole sites, over their public calls: what no contract says, worked rows, and each
-//! request for memory that a call may make refused in turn. Those of one relay's libraries stand in `sy_tests`, whose
-//! tables of cases these are written in.
+//! request for memory that a call may make refused in turn. Those of one relay's libraries stand in `sy_tests`.
 
 #![tactic(auto)]
 
@@ -10,5 +9,7 @@ mod cert;
 mod checker;
 #[cfg(test)]
 mod replay;
+#[cfg(test)]
+mod rows;
 #[cfg(test)]
 mod site;

@@ -1,9 +1,9 @@
 //! Site files: their lines and limits, the files that they name, and the sites that they describe.
 
+use crate::rows::{Judge, each_is_right, put_text};
 use std::alloc::{AllocError, Global};
 use std::test::Fail;
 use sy_site::{RelayFault, Site, SiteFault, SiteInput, file_names};
-use sy_tests::rows::{Judge, each_is_right, put_text};
 
 // The files of a text are wanted with a comma behind each, and a fault by its name and its line. Where `memory` is set
 // a refusal for memory may stand in the place of either.

@@ -12,7 +12,8 @@ mod chain;
 mod marks;
 #[cfg(test)]
 mod relay;
-pub mod rows;
+#[cfg(test)]
+mod rows;
 #[cfg(test)]
 mod rules;
 #[cfg(test)]

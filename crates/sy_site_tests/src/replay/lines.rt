@@ -1,10 +1,10 @@
 //! The lines of an events file: each form, its limits, and what stands for no event.
 
+use crate::rows::{Judge, each_is_right, put_text};
 use std::alloc::{AllocError, Global};
 use std::test::Fail;
 use sy_replay::{Event, EventFault, read_event};
 use sy_site::{Site, SiteFault};
-use sy_tests::rows::{Judge, each_is_right, put_text};
 
 const SITE: &[u8] =
     b"relay edge edge.conf\nrelay hub hub.conf\nentry edge 6514\nprotect auth.* hub audit\n";

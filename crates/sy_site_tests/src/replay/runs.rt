@@ -1,11 +1,11 @@
 //! Schedules of events over a site of two relays: what is lost by which event, and which event is no step.
 
+use crate::rows::{Judge, each_is_right, put_text};
 use std::alloc::{AllocError, Global};
 use std::str::from_utf8;
 use std::test::Fail;
 use sy_replay::{Cause, Event, EventFault, Illegal, Loss, Replay, read_event};
 use sy_site::{Site, SiteFault};
-use sy_tests::rows::{Judge, each_is_right, put_text};
 
 const SITE: &[u8] =
     b"relay edge edge.conf\nrelay hub hub.conf\nentry edge 6514\nprotect auth.* hub audit\n";
