@@ -6,7 +6,6 @@ use Rattle.sy_cert.specs.declared.row.Row.{Row}
 use Rattle.sy_cert.specs.declared.row.Row.TheVariants as row
 use Rattle.sy_cert.specs.Rows.{IsRow, kind, may_follow}
 use Rattle.sy_site.specs.Sites.{Site}
-use Rattle.sy_site.specs.texts.Describes.{Describes, File}
 use Rattle.sy_checker.specs.Fit.{AreRight, AreWanted}
 use Rattle.sy_checker.specs.declared.wanted.Wanted.{Wanted}
 
@@ -30,7 +29,3 @@ IsInRange (row.Path relay port archive_relay action occurrences) = port ≤ 6553
 abbrev pub AreShaped : Kind → List Row → Type 0
 AreShaped before [] = Unit {0}
 AreShaped before (r ∷ rows) = (IsInRange r → IsRow r) × (may_follow before (kind r) ≡ true) × AreShaped (kind r) rows
-
--- some text and some files describe the site
-abbrev pub IsDescribed : Site → Type 0
-IsDescribed site = (text : List ℕ) × (files : List File) × Describes text files site

@@ -158,24 +158,23 @@ fn certificate_of(alloc: Global, rows: Vec<Row>) -> Result<Certificate, AllocErr
     Ok(certificate)
 }
 
-// The certificate of a site that some texts describe, whose names are therefore those of a certificate.
+// The certificate of a site. Some texts describe it, so its names are those of a certificate.
 fn fit_certificate(alloc: Global, site: &Site) -> Result<Certificate, Refusal>
-    requires described { spec.IsDescribed site.now }
     ensures ok { IfOk result (λ certificate. IsFit site.now certificate.rows) }
     ensures err { IfErr result (λ why. IsTrueRefusal site.now why) }
 {
     site.is_lawful();
+    site.is_described();
     archives_are_those_named();
     let rows = fit_rows(alloc, site)?;
     let certificate = certificate_of(alloc, rows)?;
     Ok(certificate)
 }
 
-/// A certificate that is fit for a site which some texts describe, as each that was read is; or what is found of the
-/// first protected class of which something is: first at the inputs that it reaches, then a loop, then an archive that
-/// an entry doesn't lead to. A sound site is refused for want of memory alone.
+/// A certificate that is fit for a site; or what is found of the first protected class of which something is: first at
+/// the inputs that it reaches, then a loop, then an archive that an entry doesn't lead to. A sound site is refused for
+/// want of memory alone.
 pub fn certify(alloc: Global, site: &Site) -> Result<Certificate, Refusal>
-    requires described { spec.IsDescribed site.now }
     ensures fit { IfOk result (λ certificate. IsFit site.now certificate.rows) }
     ensures found { IfErr result (λ why. IsTrueRefusal site.now why) }
     ensures only { IfErr result (λ why. IsSound site.now → why ≡ refusal.NoMemory) }

@@ -9,7 +9,6 @@ ghost use Rattle.sy_site.specs.machine.States.{SiteState};
 ghost use Rattle.sy_site.specs.machine.Steps.{Runs, SiteEvent};
 ghost use Rattle.sy_site.specs.texts.Describes.{Describes};
 ghost use Rattle.sy_checker.specs.Acceptance.{IsOf};
-ghost use Rattle.sy_checker.specs.Certifying.{IsDescribed};
 ghost use Rattle.sy_checker.specs.Checking as spec;
 ghost use Rattle.sy_checker.specs.Finding.{IsTrueRefusal};
 ghost use Rattle.sy_checker.specs.Fit.{IsFit};
@@ -48,9 +47,10 @@ fn accepted(alloc: Global, site: &Site, certificate: &Certificate) -> Result<Acc
     }
 }
 
-// What is kept of a site that some texts describe, by a certificate that is made and then verified; or what is found.
-fn check_site(alloc: Global, site: &Site) -> Result<Accepted, Refusal>
-    requires described { IsDescribed site.now }
+/// What is kept of a site, by a certificate that is made and then verified; or what is found in it, as making the
+/// certificate finds it. Where it is accepted, no message of a protected class is lost in any run of the site; a sound
+/// site is refused for want of memory alone.
+pub fn check_site(alloc: Global, site: &Site) -> Result<Accepted, Refusal>
     ensures kept { IfOk result (λ accepted. IsOf site.now accepted) }
     ensures sound { OnOk result (IsSound site.now) }
     ensures safe { OnOk result ((events : List SiteEvent) (state : SiteState) → Runs site.now events state

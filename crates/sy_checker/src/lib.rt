@@ -29,6 +29,6 @@ mod way;
 
 pub use accepted::Accepted;
 pub use certifying::certify;
-pub use checking::{CheckFault, check};
+pub use checking::{CheckFault, check, check_site};
 pub use verifying::{CertFault, verify};
 pub use wanted::RowKind;

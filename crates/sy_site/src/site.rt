@@ -7,6 +7,7 @@ ghost use Rattle.std.specs.Net.Addr.{ipv4_octets};
 ghost use Rattle.sy_rules.specs.Whole.{IsWhole};
 ghost use Rattle.sy_site.specs.Sites as spec;
 ghost use Rattle.sy_site.specs.machine.Lawful.{IsLawful};
+ghost use Rattle.sy_site.specs.texts.Describes.{IsDescribed};
 
 pub mod lookup;
 mod protected;
@@ -45,7 +46,7 @@ pub struct Protection {
 /// The relays of a site, the inputs that messages of its policy enter by, and what of them is to come to which
 /// archive.
 ///
-/// Each plan is whole, each entry and each archive is there, and there are at most 64 relays.
+/// Each plan is whole, each entry and each archive is there, and there are at most 64 relays. Some texts describe it.
 #[derive(Drop)]
 pub struct Site {
     relays: Vec<Relay>,
@@ -72,6 +73,13 @@ impl Site {
     /// Each plan of a site is whole, its entries and archives are there, and it has no more relays than may be.
     pub fn is_lawful(&self)
         ensures { IsLawful self.now }
+    {
+        let _ = &self.entries;
+    }
+
+    /// Each site is one that some texts describe, since reading them alone makes one.
+    pub fn is_described(&self)
+        ensures { IsDescribed self.now }
     {
         let _ = &self.entries;
     }

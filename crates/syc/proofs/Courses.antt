@@ -20,8 +20,9 @@ use Rattle.sy_replay.specs.Held.{opened_parts}
 use Rattle.sy_replay.specs.States.{Applies, Contents, IsIllegalAt, holding, state_in}
 use Rattle.syc.specs.Reports.{SinkState, Torn}
 use Rattle.syc.specs.HaltTexts.{halt_report}
-use Rattle.syc.specs.Replays.{AreGiven, Ending, IsLeft, IsNoReplay, IsReplayed, IsTold, ReplayIs, Replays, end_line, lines_of, loss_lines, next, opened, status_of}
+use Rattle.syc.specs.Replays.{Ending, IsLeft, IsReplayed, IsTold, ReplayIs, Replays, end_line, lines_of, loss_lines, next, opened, status_of}
 use Rattle.syc.specs.Replays.Replays.{done, end_torn, faulty, full, no_memory, no_step, skips, steps, torn, unread, unwritten}
+use Rattle.syc.specs.SiteFiles.{AreGiven, HasNoSite}
 use Rattle.syc.specs.internal.Halts.{Comes, Finishes, Halted, HasCause, IsCause, IsNoSite, IsReadHalt, IsTorn, Place, Replayed, ReplaysFrom, Stops, Turns, ending_of, file_of, halt_of, start, status_at, with_lines}
 use Rattle.syc.specs.declared.halt.Halt.{Halt}
 use Rattle.syc.specs.declared.halt.Halt.TheVariants as halt
@@ -160,6 +161,7 @@ losses_torn site from text later event new halt.WriteFailed written faults lines
       (torn event new t.0.part t.0.tail stands made t.0.front);
 }
 losses_torn site from text later event new (halt.Site fault) written faults lines stands made t = absurd t
+losses_torn site from text later event new (halt.Certificate fault) written faults lines stands made t = absurd t
 losses_torn site from text later event new (halt.Line at) written faults lines stands made t = absurd t
 losses_torn site from text later event new (halt.Illegal at) written faults lines stands made t = absurd t
 losses_torn site from text later event new (halt.TotalsFull at) written faults lines stands made t = absurd t
@@ -206,6 +208,7 @@ replayed_whole site events old new IsReported f flushed = record {
 
 status_behind : (why : Halt) (before after : ℕ) → HasCause why before after → status_at why ≡ status_of (ending_of why)
 status_behind (halt.Site fault) before after cause = absurd cause
+status_behind (halt.Certificate fault) before after cause = absurd cause
 status_behind (halt.Line line) before after cause = refl
 status_behind (halt.Illegal line) before after cause = refl
 status_behind (halt.TotalsFull line) before after cause = refl
@@ -215,6 +218,7 @@ status_behind halt.WriteFailed before after cause = refl
 
 left_behind : (why : Halt) (old new : SinkState) → HasCause why old.faults new.faults → new.is_flushed ≡ true → IsLeft (ending_of why) old new
 left_behind (halt.Site fault) old new cause flushed = absurd cause
+left_behind (halt.Certificate fault) old new cause flushed = absurd cause
 left_behind (halt.Line line) old new cause flushed = (cause, flushed)
 left_behind (halt.Illegal line) old new cause flushed = (cause, flushed)
 left_behind (halt.TotalsFull line) old new cause flushed = (cause, flushed)
@@ -225,6 +229,7 @@ left_behind halt.WriteFailed old new cause flushed = cause
 told_behind : (why : Halt) (before after : ℕ) (IsReported : List ℕ → Type 0) → HasCause why before after → IsReported (halt_report why)
     → IsTold IsReported (ending_of why)
 told_behind (halt.Site fault) before after IsReported cause told = absurd cause
+told_behind (halt.Certificate fault) before after IsReported cause told = absurd cause
 told_behind (halt.Line line) before after IsReported cause told = told
 told_behind (halt.Illegal line) before after IsReported cause told = told
 told_behind (halt.TotalsFull line) before after IsReported cause told = told
@@ -262,22 +267,23 @@ replayed_failing site events why old new written faults IsReported s kept rose t
 }
 
 -- no site
-pub no_replay : (bytes_of : List ℕ → Option (List ℕ)) (site : List ℕ) (why : Halt) (IsReported : List ℕ → Type 0) → IsNoSite bytes_of site why
-    → IsReported (halt_report why) → IsNoReplay bytes_of site (status_at why) IsReported
-no_replay bytes_of site (halt.Site site_fault.NoMemory) IsReported none told = inr (inl (refl, told))
-no_replay bytes_of site (halt.Site (site_fault.Line n)) IsReported none told = inl (refl, _, none.1, told)
-no_replay bytes_of site (halt.Site (site_fault.Duplicate n)) IsReported none told = inl (refl, _, none.1, told)
-no_replay bytes_of site (halt.Site (site_fault.NoFile n)) IsReported none told = inl (refl, _, none.1, told)
-no_replay bytes_of site (halt.Site (site_fault.NoSuchEntry n)) IsReported none told = inl (refl, _, none.1, told)
-no_replay bytes_of site (halt.Site (site_fault.NoSuchArchive n)) IsReported none told = inl (refl, _, none.1, told)
-no_replay bytes_of site (halt.Site site_fault.NothingProtected) IsReported none told = inl (refl, _, none.1, told)
-no_replay bytes_of site (halt.Site (site_fault.Relay n name why)) IsReported none told = inl (refl, _, none.1, told)
-no_replay bytes_of site halt.NoMemory IsReported none told = inr (inl (refl, told))
-no_replay bytes_of site halt.ReadFailed IsReported none told = inr (inr (refl, inl told))
-no_replay bytes_of site halt.WriteFailed IsReported none told = absurd none
-no_replay bytes_of site (halt.Line n) IsReported none told = absurd none
-no_replay bytes_of site (halt.Illegal n) IsReported none told = absurd none
-no_replay bytes_of site (halt.TotalsFull n) IsReported none told = absurd none
+pub no_site : (bytes_of : List ℕ → Option (List ℕ)) (site : List ℕ) (why : Halt) (IsReported : List ℕ → Type 0) → IsNoSite bytes_of site why
+    → IsReported (halt_report why) → HasNoSite bytes_of site (status_at why) IsReported
+no_site bytes_of site (halt.Site site_fault.NoMemory) IsReported none told = inr (inl (refl, told))
+no_site bytes_of site (halt.Site (site_fault.Line n)) IsReported none told = inl (refl, _, none.1, told)
+no_site bytes_of site (halt.Site (site_fault.Duplicate n)) IsReported none told = inl (refl, _, none.1, told)
+no_site bytes_of site (halt.Site (site_fault.NoFile n)) IsReported none told = inl (refl, _, none.1, told)
+no_site bytes_of site (halt.Site (site_fault.NoSuchEntry n)) IsReported none told = inl (refl, _, none.1, told)
+no_site bytes_of site (halt.Site (site_fault.NoSuchArchive n)) IsReported none told = inl (refl, _, none.1, told)
+no_site bytes_of site (halt.Site site_fault.NothingProtected) IsReported none told = inl (refl, _, none.1, told)
+no_site bytes_of site (halt.Site (site_fault.Relay n name why)) IsReported none told = inl (refl, _, none.1, told)
+no_site bytes_of site halt.NoMemory IsReported none told = inr (inl (refl, told))
+no_site bytes_of site halt.ReadFailed IsReported none told = inr (inr (refl, told))
+no_site bytes_of site halt.WriteFailed IsReported none told = absurd none
+no_site bytes_of site (halt.Certificate fault) IsReported none told = absurd none
+no_site bytes_of site (halt.Line n) IsReported none told = absurd none
+no_site bytes_of site (halt.Illegal n) IsReported none told = absurd none
+no_site bytes_of site (halt.TotalsFull n) IsReported none told = absurd none
 
 keeps_on : (a b c : Option (List ℕ)) → Keeps a b → Keeps b c → Keeps a c
 keeps_on None b c p q = tt
@@ -290,7 +296,7 @@ pub halted : (bytes_of : List ℕ → Option (List ℕ)) (text events : List ℕ
     → Halted bytes_of text events why old.contents old.faults mid new.faults → Keeps mid new.contents → new.is_flushed ≡ true
     → IsReported (halt_report why) → ReplayIs bytes_of text events (status_at why) old new IsReported
 halted bytes_of text events why old new mid IsReported h kept flushed told = elim h [
-  | inl none ↦ inl (keeps_on old.contents mid new.contents none.1 kept, no_replay bytes_of text why IsReported none.0 told)
+  | inl none ↦ inl (keeps_on old.contents mid new.contents none.1 kept, inl (no_site bytes_of text why IsReported none.0 told, inr (none.2, flushed)))
   | inr some ↦ inr (some.0, some.1, replayed_up_to some.0 events why old new mid IsReported some.2 kept flushed told)
 ]
 
@@ -299,7 +305,7 @@ pub halted_failing : (bytes_of : List ℕ → Option (List ℕ)) (text events : 
     → Halted bytes_of text events why old.contents old.faults mid faults → Keeps mid new.contents → Rose old.faults new.faults
     → IsReported (halt_report halt.WriteFailed) → ReplayIs bytes_of text events 4 old new IsReported
 halted_failing bytes_of text events why old new mid faults IsReported h kept rose told = elim h [
-  | inl none ↦ inl (keeps_on old.contents mid new.contents none.1 kept, inr (inr (refl, inr told)))
+  | inl none ↦ inl (keeps_on old.contents mid new.contents none.1 kept, inr (refl, rose, told))
   | inr some ↦ inr (some.0, some.1, replayed_failing some.0 events why old new mid faults IsReported some.2 kept rose told)
 ]
 
@@ -422,6 +428,7 @@ status_fails (halt.Site (site_fault.NoSuchEntry n)) none = absurd (omega (arith,
 status_fails (halt.Site (site_fault.NoSuchArchive n)) none = absurd (omega (arith, none))
 status_fails (halt.Site site_fault.NothingProtected) none = absurd (omega (arith, none))
 status_fails (halt.Site (site_fault.Relay n name why)) none = absurd (omega (arith, none))
+status_fails (halt.Certificate fault) none = absurd (omega (arith, none))
 status_fails (halt.Line n) none = absurd (omega (arith, none))
 status_fails (halt.Illegal n) none = absurd (omega (arith, none))
 status_fails (halt.TotalsFull n) none = absurd (omega (arith, none))
@@ -431,6 +438,7 @@ status_fails halt.WriteFailed none = absurd (omega (arith, none))
 
 pub cause_behind : (why : Halt) (before after : ℕ) → HasCause why before after → IsCause why before after
 cause_behind (halt.Site fault) before after cause = absurd cause
+cause_behind (halt.Certificate fault) before after cause = absurd cause
 cause_behind (halt.Line n) before after cause = cause
 cause_behind (halt.Illegal n) before after cause = cause
 cause_behind (halt.TotalsFull n) before after cause = cause
@@ -447,6 +455,7 @@ rose_twice before mid after (inr a) (inr b) = inr b
 
 pub rises_on : (why : Halt) (before mid after : ℕ) → IsCause why before mid → Rose mid after → Rose before after
 rises_on (halt.Site fault) before mid after cause rose = subst (λ f. Rose f after) cause rose
+rises_on (halt.Certificate fault) before mid after cause rose = subst (λ f. Rose f after) cause rose
 rises_on (halt.Line n) before mid after cause rose = subst (λ f. Rose f after) cause rose
 rises_on (halt.Illegal n) before mid after cause rose = subst (λ f. Rose f after) cause rose
 rises_on (halt.TotalsFull n) before mid after cause rose = subst (λ f. Rose f after) cause rose
@@ -459,6 +468,7 @@ pub read_cause : (why : Halt) (faults : ℕ) → IsReadHalt why → IsCause why 
 read_cause (halt.Site fault) faults is = refl
 read_cause halt.NoMemory faults is = refl
 read_cause halt.ReadFailed faults is = refl
+read_cause (halt.Certificate fault) faults is = absurd is
 read_cause (halt.Line line) faults is = absurd is
 read_cause (halt.Illegal line) faults is = absurd is
 read_cause (halt.TotalsFull line) faults is = absurd is

@@ -5,6 +5,7 @@ use Rattle.sy_script.specs.declared.fault.ScriptFault.{ScriptFault}
 use Rattle.sy_script.specs.Faults as script
 use Rattle.sy_rules.specs.declared.fault.PlanFault.{PlanFault}
 use Rattle.sy_rules.specs.Faults as plan
+use Rattle.sy_cert.specs.Faults as certificate
 use Rattle.sy_site.specs.declared.fault.RelayFault.{RelayFault}
 use Rattle.sy_site.specs.declared.fault.RelayFault.TheVariants as why
 use Rattle.sy_site.specs.declared.fault.SiteFault.{SiteFault}
@@ -51,6 +52,7 @@ site_report site_fault.NoMemory = said (codes "no memory")
 
 abbrev pub halt_report : Halt → List ℕ
 halt_report (halt.Site fault) = site_report fault
+halt_report (halt.Certificate fault) = in_line (certificate.words_of fault.code) fault.line
 halt_report (halt.Line line) = in_line (codes "51 Line") line
 halt_report (halt.Illegal line) = in_line (codes "illegal event") line
 halt_report (halt.TotalsFull line) = in_line (codes "86 TotalsFull") line

@@ -1,7 +1,11 @@
 pub mod Words
 pub mod Reports
 pub mod Pass
+pub mod Texts
 pub mod Replays
 pub mod HaltTexts
+pub mod SiteFiles
+pub mod Outcomes
+pub mod Checks
 pub mod Verdicts
 pub mod internal

@@ -3,30 +3,22 @@ use Rattle.std.specs.Prelude.{◌≡◌, ℕ, true, false, List, [], ◌∷◌, 
 use Rattle.std.specs.Fmt.{decimal}
 use Rattle.std.specs.Io.KnownBytes.{Appends, Keeps}
 use Rattle.std.specs.List.{slice_split}
-use Rattle.sy_wire.specs.declared.class.Class.{Class}
 use Rattle.sy_wire.specs.Streams.{Rose, count_after}
-use Rattle.sy_select.specs.Names.{facility_text, severity_text}
 use Rattle.sy_board.specs.relay.Steps.{Cause}
-use Rattle.sy_site.specs.Sites.{Relay, Site}
+use Rattle.sy_checker.specs.Fit.{name_of}
+use Rattle.sy_site.specs.Sites.{Site}
 use Rattle.sy_site.specs.machine.States.{Copy, Loss, SiteState}
 use Rattle.sy_site.specs.machine.Steps.{SiteEvent}
-use Rattle.sy_site.specs.declared.fault.SiteFault.{SiteFault}
-use Rattle.sy_site.specs.declared.fault.SiteFault.TheVariants as site_fault
-use Rattle.sy_site.specs.texts.Describes.{Describes, File}
-use Rattle.sy_site.specs.texts.Files.{IsFirstRelayFault, file_names}
-use Rattle.sy_site.specs.texts.HasFault.{HasFault}
 use Rattle.sy_replay.specs.Lines.{IsNoEvent, StandsFor, is_skipped}
 use Rattle.sy_replay.specs.Held.{opened_parts}
 use Rattle.sy_replay.specs.States.{Applies, Contents, IsIllegalAt, holding, state_in}
 use Rattle.sy_replay.specs.declared.event.Illegal.TheVariants as illegal
-use Rattle.syc.specs.HaltTexts.{in_line, said, site_report}
+use Rattle.syc.specs.HaltTexts.{in_line, said}
 use Rattle.syc.specs.Reports.{SinkState, line_feed}
+use Rattle.syc.specs.SiteFiles.{HasNoSite, IsSiteOf}
+use Rattle.syc.specs.Texts.{class_text}
 
 -- ---- the lines that are printed
-
--- FACILITY.SEVERITY, each by its first name
-abbrev pub class_text : Class → List ℕ
-class_text class = facility_text class.facility ++ codes "." ++ severity_text class.severity
 
 -- the first word of the event that lost it
 abbrev pub cause_word : Cause → List ℕ
@@ -36,10 +28,6 @@ cause_word Cause.Grab = codes "grab"
 cause_word (Cause.GiveUp action) = codes "giveup"
 cause_word (Cause.Post list) = codes "post"
 cause_word (Cause.PostLost list) = codes "postlost"
-
-abbrev pub relay_name : Option Relay → List ℕ
-relay_name None = []
-relay_name (Some relay) = relay.name
 
 abbrev pub number_of : Option Copy → ℕ
 number_of None = 0
@@ -57,7 +45,7 @@ loss_number state line loss =
 --  at RELAY CLASS CAUSE
 abbrev pub loss_place : Site → SiteState → Loss → List ℕ
 loss_place site state loss =
-    codes " at " ++ relay_name (slice_get site.relays loss.relay) ++ codes " " ++ copy_class (slice_get state.copies loss.copy) ++ codes " " ++ cause_word loss.cause
+    codes " at " ++ name_of site loss.relay ++ codes " " ++ copy_class (slice_get state.copies loss.copy) ++ codes " " ++ cause_word loss.cause
 
 -- a loss, of the event in this line
 abbrev pub loss_line : Site → SiteState → ℕ → Loss → List ℕ
@@ -118,28 +106,6 @@ pub data Replays (site : Site) : (line events : ℕ) → Contents → List (List
 
 -- ---- the command
 
--- The files that were given are those whose bytes are known by their names.
-abbrev pub AreGiven : (List ℕ → Option (List ℕ)) → List File → Type 0
-AreGiven bytes_of [] = Unit {0}
-AreGiven bytes_of (file ∷ files) = IfSome (bytes_of file.name) (λ bytes. file.bytes ≡ bytes) × AreGiven bytes_of files
-
--- the files that a site file names, in the order of their first mention
-pub record AreFilesOf (bytes_of : List ℕ → Option (List ℕ)) (text : List ℕ) (given : List File) : Type 0 where
-  pub names : map (λ file. file.name) given ≡ file_names text
-  pub bytes : AreGiven bytes_of given
-
--- the site file with the files of its relays describes the site
-pub record IsSiteOf (bytes_of : List ℕ → Option (List ℕ)) (text : List ℕ) (site : Site) : Type 0 where
-  pub given : List File
-  pub are_given : AreFilesOf bytes_of text given
-  pub describes : Describes text given site
-
--- the site file has this fault, in its relay lines alone or with the files of its relays
-abbrev pub IsSiteFault : (List ℕ → Option (List ℕ)) → List ℕ → SiteFault → Type 0
-IsSiteFault bytes_of text fault =
-    ((line : ℕ) × (fault ≡ site_fault.Line line) × IsFirstRelayFault text line)
-    ⊎ ((given : List File) × AreFilesOf bytes_of text given × HasFault text given fault)
-
 -- the exit status
 abbrev pub status_of : Ending → ℕ
 status_of Ending.Done = 0
@@ -179,15 +145,14 @@ pub record IsReplayed (site : Site) (events : List ℕ) (status : ℕ) (old new 
   pub left : IsLeft ending old new
   pub told : IsTold IsReported ending
 
--- There is no site: the site file has a fault, memory ran out, or a file can't be read; or what was printed before can't be handed on.
-abbrev pub IsNoReplay : (List ℕ → Option (List ℕ)) → (site : List ℕ) → ℕ → (List ℕ → Type 0) → Type 0
-IsNoReplay bytes_of site_text status IsReported =
-    ((status ≡ 2) × (fault : SiteFault) × IsSiteFault bytes_of site_text fault × IsReported (site_report fault))
-    ⊎ ((status ≡ 3) × IsReported (said (codes "no memory")))
-    ⊎ ((status ≡ 4) × (IsReported (said (codes "read failed")) ⊎ IsReported (said (codes "write failed"))))
+-- There is no site, and what was printed before is as it was, or handed on; or that failed, which is told. Nothing is printed.
+abbrev pub IsNoReplay : (List ℕ → Option (List ℕ)) → (site : List ℕ) → ℕ → SinkState → SinkState → (List ℕ → Type 0) → Type 0
+IsNoReplay bytes_of site_text status old new IsReported = Keeps old.contents new.contents × (
+    (HasNoSite bytes_of site_text status IsReported × ((new ≡ old) ⊎ ((new.faults ≡ old.faults) × (new.is_flushed ≡ true))))
+    ⊎ ((status ≡ 4) × Rose old.faults new.faults × IsReported (said (codes "write failed"))))
 
--- What a replay of these files answers: there is no site, and nothing is printed; or the events were replayed.
+-- What a replay of these files answers: there is no site; or the events were replayed.
 abbrev pub ReplayIs : (List ℕ → Option (List ℕ)) → (site events : List ℕ) → ℕ → SinkState → SinkState → (List ℕ → Type 0) → Type 0
 ReplayIs bytes_of site_text events status old new IsReported =
-    (Keeps old.contents new.contents × IsNoReplay bytes_of site_text status IsReported)
+    IsNoReplay bytes_of site_text status old new IsReported
     ⊎ ((site : Site) × IsSiteOf bytes_of site_text site × IsReplayed site events status old new IsReported)

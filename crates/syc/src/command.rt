@@ -1,7 +1,7 @@
 //! The words of the command line.
 ghost use Rattle.std.specs.Prelude.{◌≡◌, ◌∷◌, ◌↔◌, ℕ, List, codes, map, string_bytes, IfErr, IfNone, IfOk, IfSome, IsTrue};
 ghost use Rattle.syc.specs.Words as spec;
-ghost use Rattle.syc.specs.Words.{ArePass, AreReplay, AreVerify, IsCommand};
+ghost use Rattle.syc.specs.Words.{AreOneFile, ArePass, AreReplay, AreVerify, IsCommand};
 
 use clap::error::ErrorKind;
 use clap::{Arg, Command as Parser, Error};
@@ -12,6 +12,10 @@ use std::alloc::{AllocError, Global};
 pub enum Command<'a> {
     /// Frames on standard input to lines on standard output.
     Pass,
+    /// A verdict on a site: the name of the site file.
+    Check(&'a str),
+    /// The certificate of a site: the name of the site file.
+    Certify(&'a str),
     /// The events of a file at a site: the names of the site file and of the events file.
     Replay(&'a str, &'a str),
     /// A verdict on a certificate: the names of the site file and of the certificate's file.
@@ -22,6 +26,11 @@ const ABOUT: &str = "A relay for syslog messages in octet-counted frames";
 
 const PASS_ABOUT: &str =
     "Read messages in octet-counted frames from standard input and write one line a message";
+
+const CHECK_ABOUT: &str = "Say whether a site keeps the messages of its protected classes";
+
+const CERTIFY_ABOUT: &str =
+    "Print a certificate of a site, for others to verify";
 
 const REPLAY_ABOUT: &str =
     "Make the events of a file at the site of a site file, and print each loss";
@@ -57,13 +66,30 @@ fn are_pass(words: &[&str]) -> bool
     }
 }
 
-// Whether a word names a file where it stands: it isn't empty, and no option.
+// Whether a word names a file where it stands: it is no option.
 fn is_plain(word: &str) -> bool
     ensures { result ≡ spec.is_plain word.now }
 {
-    match word.as_bytes().first() {
-        Some(first) => *first != b'-',
-        None => false,
+    match word.as_bytes() {
+        [first, _, ..] => *first != b'-',
+        _ => true,
+    }
+}
+
+// The name of the site file, where the words are those of this command, with one name, after the program's name.
+fn named<'a>(words: &[&'a str], command: &str) -> Option<&'a str>
+    ensures some { IfSome result (λ site. AreOneFile command.now (map (λ s. s.now) words.now) site.now) }
+    ensures none { IfNone result ((site : List ℕ) → AreOneFile command.now (map (λ s. s.now) words.now) site → ⊥) }
+{
+    match words {
+        [program, word, site] => {
+            if is_word(program, "syc") && is_word(word, command) && is_plain(site) {
+                Some(site)
+            } else {
+                None
+            }
+        }
+        _ => None,
     }
 }
 
@@ -110,6 +136,18 @@ fn verified<'a>(words: &[&'a str]) -> Option<(&'a str, &'a str)>
     }
 }
 
+// What clap knows of a command with one name.
+fn one_file_parser<'a>(
+    alloc: Global,
+    word: &'a str,
+    about: &'a str,
+) -> Result<Parser<'a>, AllocError> {
+    let site = Arg::new(alloc, "SITE").required(true);
+    let parser = Parser::new(alloc, word).about(about);
+    let parser = parser.arg(site)?;
+    Ok(parser)
+}
+
 // What clap knows of a replay.
 fn replay_parser<'a>(alloc: Global) -> Result<Parser<'a>, AllocError> {
     let site = Arg::new(alloc, "SITE").required(true);
@@ -134,15 +172,19 @@ fn verify_parser<'a>(alloc: Global) -> Result<Parser<'a>, AllocError> {
 // wrong with them. It reads `pass --` as `pass`, and such words are refused too.
 fn ask_clap(alloc: Global, words: &[&str]) -> Result<Error, Error> {
     let pass = Parser::new(alloc, "pass").about(PASS_ABOUT);
-    let replay = replay_parser(alloc)?;
+    let check = one_file_parser(alloc, "check", CHECK_ABOUT)?;
+    let certify = one_file_parser(alloc, "certify", CERTIFY_ABOUT)?;
     let verify = verify_parser(alloc)?;
+    let replay = replay_parser(alloc)?;
     let mut parser = Parser::new(alloc, "syc")
         .version("0.1.0")
         .about(ABOUT)
         .subcommand_required(true)
         .subcommand(pass)?
-        .subcommand(replay)?
-        .subcommand(verify)?;
+        .subcommand(check)?
+        .subcommand(certify)?
+        .subcommand(verify)?
+        .subcommand(replay)?;
     parser.try_get_matches_from_mut(words)?;
     let error = parser.error(ErrorKind::UnknownArgument, "unexpected argument '--' found")?;
     Ok(error)
@@ -161,11 +203,21 @@ pub fn command_of<'a>(alloc: Global, words: &[&'a str]) -> Result<Command<'a>, E
     ensures ok { IfOk result (IsCommand (map (λ s. s.now) words.now)) }
     ensures pass { ArePass (map (λ s. s.now) words.now) → IfErr result (λ _. ⊥) }
     ensures replay { (site events : List ℕ) → AreReplay (map (λ s. s.now) words.now) site events → IfErr result (λ _. ⊥) }
+    ensures check { (site : List ℕ) → AreOneFile (codes "check") (map (λ s. s.now) words.now) site →
+        IfErr result (λ _. ⊥) }
+    ensures certify { (site : List ℕ) → AreOneFile (codes "certify") (map (λ s. s.now) words.now) site →
+        IfErr result (λ _. ⊥) }
     ensures verify { (site certificate : List ℕ) → AreVerify (map (λ s. s.now) words.now) site certificate →
         IfErr result (λ _. ⊥) }
 {
     if are_pass(words) {
         return Ok(Command::Pass);
+    }
+    if let Some(site) = named(words, "check") {
+        return Ok(Command::Check(site));
+    }
+    if let Some(site) = named(words, "certify") {
+        return Ok(Command::Certify(site));
     }
     if let Some((site, events)) = replayed(words) {
         return Ok(Command::Replay(site, events));

@@ -8,6 +8,7 @@ ghost use Rattle.syc.specs.internal.Halts as spec;
 
 use crate::output::write_texts;
 use itoa::Buffer;
+use sy_cert::TextFault;
 use sy_rules::PlanFault;
 use sy_script::ScriptFault;
 use sy_site::{RelayFault, SiteFault};
@@ -18,6 +19,8 @@ use sy_wire::{Sink, WriteFault};
 pub enum Halt {
     /// The site file, or the file of one of its relays, has this fault.
     Site(SiteFault),
+    /// The text of a certificate has this fault.
+    Certificate(TextFault),
     /// This line of the events file is no event.
     Line(u64),
     /// The event in this line is no step.
@@ -169,6 +172,9 @@ fn write_halt<E: Sink>(errors: &mut E, halt: &Halt) -> Result<(), WriteFault>
 {
     match halt {
         Halt::Site(fault) => write_site_fault(errors, fault),
+        Halt::Certificate(fault) => {
+            write_in_line(errors, fault.code.words(), fault.line as u64)
+        }
         Halt::Line(line) => write_in_line(errors, "51 Line", *line),
         Halt::Illegal(line) => write_in_line(errors, "illegal event", *line),
         Halt::TotalsFull(line) => write_in_line(errors, "86 TotalsFull", *line),
@@ -205,7 +211,7 @@ pub fn status_of(halt: &Halt) -> u8
 {
     match halt {
         Halt::Site(SiteFault::NoMemory) | Halt::NoMemory => 3,
-        Halt::Site(_) | Halt::Line(_) => 2,
+        Halt::Site(_) | Halt::Certificate(_) | Halt::Line(_) => 2,
         Halt::Illegal(_) | Halt::TotalsFull(_) => 1,
         Halt::ReadFailed | Halt::WriteFailed => 4,
     }

@@ -1,33 +1,13 @@
 //! The lines that a replay prints.
 ghost use Rattle.std.specs.Prelude.{◌≡◌, ◌++◌, OnOk, flat_map, option_map, slice_get};
-ghost use Rattle.std.specs.Fmt.{decimal};
 ghost use Rattle.sy_replay.specs.Events.{cause_of, loss_of, losses_of};
 ghost use Rattle.sy_replay.specs.States.{state_at};
 ghost use Rattle.syc.specs.Replays as spec;
 
-use itoa::Buffer;
-use std::alloc::{AllocError, Global};
+use crate::texts::{put_class, put_number, relay_name};
+use std::alloc::AllocError;
 use sy_replay::{Cause, Loss, Replay};
-use sy_select::{facility_text, severity_text};
 use sy_site::Site;
-use sy_wire::Class;
-
-fn put_number(text: &mut Vec<u8>, number: u64) -> Result<(), AllocError>
-    ensures { OnOk result (text.new.items ≡ text.old.items ++ decimal number) }
-{
-    let mut digits = Buffer::new();
-    text.extend_from_slice(digits.format(number).as_bytes())?;
-    Ok(())
-}
-
-fn put_class(text: &mut Vec<u8>, class: Class) -> Result<(), AllocError>
-    ensures { OnOk result (text.new.items ≡ text.old.items ++ spec.class_text class) }
-{
-    text.extend_from_slice(facility_text(class))?;
-    text.extend_from_slice(b".")?;
-    text.extend_from_slice(severity_text(class))?;
-    Ok(())
-}
 
 fn cause_word(cause: Cause) -> &'static [u8]
     ensures { result.now ≡ spec.cause_word (cause_of cause) }
@@ -40,15 +20,6 @@ fn cause_word(cause: Cause) -> &'static [u8]
         Cause::Post(_) => b"post",
         Cause::PostLost(_) => b"postlost",
     }
-}
-
-fn relay_name(site: &Site, relay: u32) -> &[u8]
-    ensures { result.now ≡ spec.relay_name (slice_get site.now.relays relay) }
-{
-    if relay < site.relays() {
-        return site.name(relay);
-    }
-    b""
 }
 
 fn message_number(replay: &Replay<'_>, copy: u64) -> u64

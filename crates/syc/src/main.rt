@@ -1,9 +1,12 @@
 //! The program `syc`.
 #![tactic(auto)]
 
+mod answer;
 mod carry;
+mod check;
 mod command;
 mod files;
+mod findings;
 mod halt;
 mod losses;
 mod output;
@@ -14,6 +17,7 @@ mod site;
 mod stop;
 #[cfg(test)]
 mod tests;
+mod texts;
 mod verdict;
 mod verify;
 

@@ -2,12 +2,15 @@
 ghost use Rattle.std.specs.Prelude.{◌≡◌, ◌≢◌, ◌≤◌, ◌+◌, ◌⊎◌, ◌∷◌, [], ℕ, List, Some, codes, map, string_bytes, true};
 ghost use Rattle.std.specs.Io.KnownBytes.{Keeps};
 ghost use Rattle.sy_wire.specs.Streams.{Rose};
+ghost use Rattle.syc.specs.Checks.{CertifyIs, CheckIs};
+ghost use Rattle.syc.specs.Outcomes.{streams};
 ghost use Rattle.syc.specs.Pass.{HasFailed, IsStatus, NoneFailed, PassIs, counts};
 ghost use Rattle.syc.specs.Replays.{ReplayIs};
 ghost use Rattle.syc.specs.Reports.{Reported, seen};
 ghost use Rattle.syc.specs.Verdicts.{VerifyIs};
-ghost use Rattle.syc.specs.Words.{ArePassAlone, AreReplayOf, AreVerifyOf};
+ghost use Rattle.syc.specs.Words.{AreOneFileOf, ArePassAlone, AreReplayOf, AreVerifyOf};
 
+use crate::check::{certify, check};
 use crate::command::{Command, all_words, command_of};
 use crate::files::Files;
 use crate::output::write_all;
@@ -83,15 +86,24 @@ pub fn run<R: Source, W: Sink, E: Sink, F: Files>(
         (site_text text : List ℕ) → F.bytes_of files.now site ≡ Some site_text →
         F.bytes_of files.now certificate ≡ Some text →
         VerifyIs (F.bytes_of files.now) site_text text result
-        (seen W.contents W.is_flushed W.faults writer.old) (seen W.contents W.is_flushed W.faults writer.new)
-        (Reported (seen E.contents E.is_flushed E.faults errors.old)
-        (seen E.contents E.is_flushed E.faults errors.new)) }
+        (streams (seen W.contents W.is_flushed W.faults writer.old) (seen E.contents E.is_flushed E.faults errors.old))
+        (streams (seen W.contents W.is_flushed W.faults writer.new) (seen E.contents E.is_flushed E.faults errors.new)) }
+    ensures check { (site text : List ℕ) → AreOneFileOf (codes "check") (map string_bytes args.now) site →
+        F.bytes_of files.now site ≡ Some text → CheckIs (F.bytes_of files.now) text result
+        (streams (seen W.contents W.is_flushed W.faults writer.old) (seen E.contents E.is_flushed E.faults errors.old))
+        (streams (seen W.contents W.is_flushed W.faults writer.new) (seen E.contents E.is_flushed E.faults errors.new)) }
+    ensures certify { (site text : List ℕ) → AreOneFileOf (codes "certify") (map string_bytes args.now) site →
+        F.bytes_of files.now site ≡ Some text → CertifyIs (F.bytes_of files.now) text result
+        (streams (seen W.contents W.is_flushed W.faults writer.old) (seen E.contents E.is_flushed E.faults errors.old))
+        (streams (seen W.contents W.is_flushed W.faults writer.new) (seen E.contents E.is_flushed E.faults errors.new)) }
 {
     let Ok(words) = all_words(alloc, args) else {
         return out_of_memory(errors);
     };
     match command_of(alloc, words.as_slice()) {
         Ok(Command::Pass) => pass(alloc, reader, writer, errors),
+        Ok(Command::Check(site)) => check(alloc, files, site, writer, errors),
+        Ok(Command::Certify(site)) => certify(alloc, files, site, writer, errors),
         Ok(Command::Replay(site, events)) => replay(alloc, files, site, events, writer, errors),
         Ok(Command::Verify(site, certificate)) => {
             verify(alloc, files, site, certificate, writer, errors)

@@ -1,58 +1,59 @@
 //! The verdict on a certificate, and its line.
-ghost use Rattle.std.specs.Prelude.{◌≡◌, Some, IfErr, IfOk};
+ghost use Rattle.std.specs.Prelude.{◌≡◌, ◌++◌, IfErr, IfOk, OnOk, false, true};
 ghost use Rattle.syc.specs.Verdicts as spec;
 
+use crate::answer::Answer;
+use crate::check::accepted;
 use crate::halt::Halt;
-use std::alloc::Global;
-use std::fmt;
+use crate::texts::put_number;
+use std::alloc::{AllocError, Global};
 use sy_cert::Certificate;
 use sy_checker::{CertFault, RowKind, verify};
 use sy_site::Site;
 
-/// What a certificate shows of a site.
-#[derive(Clone, Copy)]
-pub enum Verdict {
-    /// It is fit for the site, which has so many protected classes.
-    Accepted(usize),
-    /// Its first wrong row stands in this line, counted from 1, and is of this kind.
-    Refused { line: usize, row: RowKind },
+// Puts the line of a refusal behind a text: the first wrong row, by its line and kind.
+fn put_wrong(text: &mut Vec<u8>, line: usize, row: RowKind) -> Result<(), AllocError>
+    ensures { OnOk result (text.new.items ≡ text.old.items ++ spec.wrong_line line row) }
+{
+    text.extend_from_slice(b"refused: certificate line ")?;
+    put_number(text, line as u64)?;
+    text.extend_from_slice(b": ")?;
+    text.extend_from_slice(row.words().as_bytes())?;
+    text.extend_from_slice(b"\n")?;
+    Ok(())
 }
 
-/// As `accepted: 8 protected classes`.
-impl fmt::Display for Verdict {
-    ghost output = { λ v. Some (spec.verdict_text v) };
+// That a certificate's first wrong row stands in this line, and is of this kind.
+fn refused(alloc: Global, line: usize, row: RowKind) -> Result<Answer, AllocError>
+    ensures text { IfOk result (λ a. a.text.items ≡ spec.wrong_line line row) }
+    ensures refused { IfOk result (λ a. a.is_accepted ≡ false) }
+{
+    let mut text = Vec::new(alloc);
+    put_wrong(&mut text, line, row)?;
+    Ok(Answer {
+        text,
+        is_accepted: false,
+    })
+}
 
-    fn fmt<W: fmt::Write>(&self, f: &mut fmt::Formatter<W>) -> fmt::Result {
-        match *self {
-            Verdict::Accepted(classes) => write!(f, "accepted: {classes} protected classes"),
-            Verdict::Refused { line, row } => {
-                let word = row.words();
-                write!(f, "refused: certificate line {line}: {word}")
-            }
-        }
+// What is said of a certificate for a site, or nothing where memory runs out.
+fn say(alloc: Global, site: &Site, certificate: &Certificate) -> Result<Answer, AllocError>
+    ensures { IfOk result (λ a. spec.SaysOf site.now certificate.now.rows a.text.items a.is_accepted) }
+{
+    match verify(alloc, site, certificate) {
+        Ok(kept) => accepted(alloc, kept.classes().len()),
+        Err(CertFault::Wrong { line, row }) => refused(alloc, line, row),
+        Err(CertFault::NoMemory) => Err(AllocError),
     }
 }
 
-impl Verdict {
-    /// The verdict on a certificate for a site.
-    pub fn new(alloc: Global, site: &Site, certificate: &Certificate) -> Result<Verdict, Halt>
-        ensures ok { IfOk result (spec.IsVerdict site.now certificate.now.rows) }
-        ensures err { IfErr result (λ why. why ≡ Halt.NoMemory) }
-    {
-        match verify(alloc, site, certificate) {
-            Ok(accepted) => Ok(Verdict::Accepted(accepted.classes().len())),
-            Err(CertFault::Wrong { line, row }) => Ok(Verdict::Refused { line, row }),
-            Err(CertFault::NoMemory) => Err(Halt::NoMemory),
-        }
-    }
-
-    /// The exit status that goes with it.
-    pub fn status(self) -> u8
-        ensures { result ≡ spec.verdict_status self }
-    {
-        match self {
-            Verdict::Accepted(_) => 0,
-            Verdict::Refused { .. } => 1,
-        }
+/// The verdict on a certificate for a site.
+pub fn verdict(alloc: Global, site: &Site, certificate: &Certificate) -> Result<Answer, Halt>
+    ensures ok { IfOk result (λ a. spec.SaysOf site.now certificate.now.rows a.text.items a.is_accepted) }
+    ensures err { IfErr result (λ why. why ≡ Halt.NoMemory) }
+{
+    match say(alloc, site, certificate) {
+        Ok(answer) => Ok(answer),
+        Err(_) => Err(Halt::NoMemory),
     }
 }

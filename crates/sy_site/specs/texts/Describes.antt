@@ -132,3 +132,7 @@ pub record Describes (text : List ℕ) (files : List File) (site : Site) : Type 
   pub entered : 0 < length site.entries
   pub class : Class
   pub protected : is_protected site class ≡ true
+
+-- some text and some files describe the site
+abbrev pub IsDescribed : Site → Type 0
+IsDescribed site = (text : List ℕ) × (files : List File) × Describes text files site

@@ -9,8 +9,9 @@ use Rattle.sy_site.specs.texts.Describes.{File}
 use Rattle.sy_replay.specs.States.{Contents, state_in}
 use Rattle.sy_replay.specs.declared.event.Illegal.{Illegal}
 use Rattle.sy_replay.specs.declared.event.Illegal.TheVariants as illegal
-use Rattle.syc.specs.Replays.{Ending, IsSiteFault, IsSiteOf, Replays, lines_of, loss_line, opened}
+use Rattle.syc.specs.Replays.{Ending, Replays, lines_of, loss_line, opened}
 use Rattle.syc.specs.Reports.{Torn, line_feed}
+use Rattle.syc.specs.SiteFiles.{IsSiteFault, IsSiteOf}
 use Rattle.syc.specs.declared.halt.Halt.{Halt}
 use Rattle.syc.specs.declared.halt.Halt.TheVariants as halt
 use Rattle.syc.specs.declared.replay.Course.{Course}
@@ -20,6 +21,7 @@ use Rattle.syc.specs.declared.site.RelayFile.{RelayFile}
 abbrev pub status_at : Halt → ℕ
 status_at (halt.Site site_fault.NoMemory) = 3
 status_at (halt.Site _) = 2
+status_at (halt.Certificate fault) = 2
 status_at (halt.Line line) = 2
 status_at (halt.Illegal line) = 1
 status_at (halt.TotalsFull line) = 1
@@ -87,9 +89,10 @@ pub record Comes (site : Site) (from to : Place) : Type 0 where
   pub same : to.faults ≡ from.faults
   pub goes : (later : List ℕ) (ending : Ending) → ReplaysFrom site to later ending → ReplaysFrom site from (out ++ later) ending
 
--- how a replay ends at a halt; a faulty site is no matter of a replay
+-- how a replay ends at a halt; a faulty site or certificate is no matter of a replay
 abbrev pub ending_of : Halt → Ending
 ending_of (halt.Site fault) = Ending.NoMemory
+ending_of (halt.Certificate fault) = Ending.NoMemory
 ending_of (halt.Line line) = Ending.Faulty line
 ending_of (halt.Illegal line) = Ending.Illegal line
 ending_of (halt.TotalsFull line) = Ending.Full line
@@ -97,10 +100,11 @@ ending_of halt.NoMemory = Ending.NoMemory
 ending_of halt.ReadFailed = Ending.ReadFailed
 ending_of halt.WriteFailed = Ending.WriteFailed
 
--- A failed write has its cause; at any other halt none failed, and a site is no matter of a replay.
+-- A failed write has its cause; at any other halt none failed, and a site or a certificate is no matter of a replay.
 abbrev pub HasCause : Halt → ℕ → ℕ → Type 0
 HasCause halt.WriteFailed before after = Rose before after
 HasCause (halt.Site fault) before after = ⊥
+HasCause (halt.Certificate fault) before after = ⊥
 HasCause _ before after = after ≡ before
 
 -- It stops somewhere behind a place.
@@ -161,7 +165,7 @@ Replayed bytes_of text events old before new after =
 -- there is no site, and nothing was written; or the replay stopped
 abbrev pub Halted : (List ℕ → Option (List ℕ)) → (text events : List ℕ) → Halt → Option (List ℕ) → ℕ → Option (List ℕ) → ℕ → Type 0
 Halted bytes_of text events why old before new after =
-    (IsNoSite bytes_of text why × Keeps old new)
+    (IsNoSite bytes_of text why × Keeps old new × (after ≡ before))
     ⊎ ((site : Site) × IsSiteOf bytes_of text site × Stops site (start site (lines_of events) old before) why new after)
 
 -- A failed write has its cause, and at any other halt none failed.

@@ -2,19 +2,18 @@
 use Rattle.std.specs.Prelude.{ℕ, List, Option}
 use Rattle.sy_cert.specs.Faults.{HasFault}
 use Rattle.syc.specs.Verdicts.{IsFaultyCertificate}
-use Rattle.syc.specs.internal.Halts.{IsNoSite}
+use Rattle.syc.specs.declared.halt.Halt.{Halt}
 use Rattle.syc.specs.declared.halt.Halt.TheVariants as halt
-use Rattle.syc.specs.declared.verify.Unjudged.{Unjudged}
-use Rattle.syc.specs.declared.verify.Unjudged.TheVariants as unjudged
+use Rattle.syc.specs.internal.Halts.{IsNoSite}
 
 -- why a file holds no certificate
-abbrev pub IsNoCertificate : List ℕ → Unjudged → Type 0
-IsNoCertificate bytes (unjudged.Halt halt.NoMemory) = Unit {0}
-IsNoCertificate bytes (unjudged.Halt halt.ReadFailed) = Unit {0}
-IsNoCertificate bytes (unjudged.Halt _) = ⊥
-IsNoCertificate bytes (unjudged.Text fault) = HasFault bytes fault.code fault.line
+abbrev pub IsNoCertificate : List ℕ → Halt → Type 0
+IsNoCertificate bytes (halt.Certificate fault) = HasFault bytes fault.code fault.line
+IsNoCertificate bytes halt.NoMemory = Unit {0}
+IsNoCertificate bytes halt.ReadFailed = Unit {0}
+IsNoCertificate bytes _ = ⊥
 
 -- why there is no verdict
-abbrev pub IsUnjudged : (List ℕ → Option (List ℕ)) → (site_text certificate : List ℕ) → Unjudged → Type 0
-IsUnjudged bytes_of site_text certificate (unjudged.Halt why) = IsNoSite bytes_of site_text why
-IsUnjudged bytes_of site_text certificate (unjudged.Text fault) = IsFaultyCertificate bytes_of site_text certificate fault
+abbrev pub HasNoVerdict : (List ℕ → Option (List ℕ)) → (site_text certificate : List ℕ) → Halt → Type 0
+HasNoVerdict bytes_of site_text certificate (halt.Certificate fault) = IsFaultyCertificate bytes_of site_text certificate fault
+HasNoVerdict bytes_of site_text certificate why = IsNoSite bytes_of site_text why

@@ -2,8 +2,8 @@ use Rattle.std.proofs.Common.{◌≡◌, ◌∙◌, ap, map, subst, sym}
 use Rattle.std.specs.Prelude.{Some, string_bytes}
 use Rattle.syc.specs.Words.{AreReplay}
 use Rattle.syc.proofs.Commands.{one_replay, with_program}
+use Rattle.syc.proofs.Endings.{one_file, one_verify}
 use Rattle.syc.proofs.Statuses.{nothing_passed}
-use Rattle.syc.proofs.Verdicts.{one_verify}
 use Rattle.syc.proofs.run.run.Goals as goal
 
 pub returns-in_default-clause-pass : goal.returns-in_default-clause-pass
@@ -29,3 +29,15 @@ returns-in-Ok-Verify-clause-verify g c = λ site certificate given site_text tex
     let named = rw c.in-Ok-Verify.field-0-is at c.in-Ok-Verify.ensures.ok in
     let same = one_verify _ _ _ _ site certificate _ _ c.as_slice.ensures.value c.in-Ok.ensures given named in
     c.verify.ensures.verdict site_text text (ap bytes_of (sym same.0) ∙ is_site) (ap bytes_of (sym same.1) ∙ is_text)
+
+pub returns-in-Ok-Check-clause-check : goal.returns-in-Ok-Check-clause-check
+returns-in-Ok-Check-clause-check g c = λ site text given known.
+    let named = rw c.in-Ok-Check.field-0-is at c.in-Ok-Check.ensures.ok in
+    let same = one_file _ _ _ _ _ site _ c.as_slice.ensures.value c.in-Ok.ensures given named in
+    c.check.ensures.check text (ap (g.F.Files.bytes_of c.args.files.now) (sym same) ∙ known)
+
+pub returns-in-Ok-Certify-clause-certify : goal.returns-in-Ok-Certify-clause-certify
+returns-in-Ok-Certify-clause-certify g c = λ site text given known.
+    let named = rw c.in-Ok-Certify.field-0-is at c.in-Ok-Certify.ensures.ok in
+    let same = one_file _ _ _ _ _ site _ c.as_slice.ensures.value c.in-Ok.ensures given named in
+    c.certify.ensures.certify text (ap (g.F.Files.bytes_of c.args.files.now) (sym same) ∙ known)

@@ -1,6 +1,6 @@
 use Rattle.std.proofs.Common.{◌≡◌, map, refl, subst, sym, ap, ◌∙◌, rules}
 use Rattle.std.specs.Prelude.{IfSome, string_bytes}
-use Rattle.syc.specs.Replays.{AreGiven}
+use Rattle.syc.specs.SiteFiles.{AreGiven}
 use Rattle.syc.specs.internal.Halts.{file_of}
 use Rattle.syc.specs.declared.site.RelayFile.{RelayFile}
 use Rattle.syc.proofs.Courses.{given_more, names_end, names_on}

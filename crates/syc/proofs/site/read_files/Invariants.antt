@@ -1,6 +1,6 @@
 use Rattle.std.proofs.Common.{◌≡◌, ◌++◌, map}
 use Rattle.std.specs.Prelude.{string_bytes}
-use Rattle.syc.specs.Replays.{AreGiven}
+use Rattle.syc.specs.SiteFiles.{AreGiven}
 use Rattle.syc.specs.internal.Halts.{file_of}
 use Rattle.syc.proofs.site.read_files.Given as goal
 

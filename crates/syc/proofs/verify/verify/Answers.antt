@@ -1,15 +1,10 @@
-use Rattle.syc.specs.Reports.{Reported, seen}
-use Rattle.syc.proofs.Verdicts.{halted, unread}
+use Rattle.syc.specs.Reports.{seen}
+use Rattle.syc.proofs.Endings.{judged}
 use Rattle.syc.proofs.verify.verify.Goals as goal
 
-pub returns-in-Err-Text-clause-verdict : goal.returns-in-Err-Text-clause-verdict
-returns-in-Err-Text-clause-verdict g c = λ site text is_site is_text.
+pub returns-clause-verdict : goal.returns-clause-verdict
+returns-clause-verdict g c = λ site text is_site is_text.
     let shown = seen g.E.Sink.contents g.E.Sink.is_flushed g.E.Sink.faults in
-    unread _ site text _ (Reported (shown c.args.errors.now) (shown c.report.new.errors)) _ _ _ c.in-Err-Text.field-0-is
-    (c.in-Err-Text.ensures.err site text is_site is_text) c.report.ensures.told
-
-pub returns-in-Err-Halt-clause-verdict : goal.returns-in-Err-Halt-clause-verdict
-returns-in-Err-Halt-clause-verdict g c = λ site text is_site is_text.
-    let shown = seen g.E.Sink.contents g.E.Sink.is_flushed g.E.Sink.faults in
-    halted _ site text _ (Reported (shown c.args.errors.now) (shown c.stop.new.errors)) _ _ _ c.in-Err-Halt.field-0-is c.stop.ensures.status
-    (c.in-Err-Halt.ensures.err site text is_site is_text)
+    judged (g.F.Files.bytes_of c.args.files.now) c.args.site_name.now c.args.certificate_name.now site text c.judge-answer.result c.print.result
+    (seen g.W.Sink.contents g.W.Sink.is_flushed g.W.Sink.faults) c.args.writer.now c.print.new.writer (shown c.args.errors.now) (shown c.print.new.errors)
+    c.judge-answer.ensures.ok c.judge-answer.ensures.err c.print.ensures.printed c.print.ensures.stopped is_site is_text

@@ -1,0 +1,97 @@
+-- What a check of a site prints, and what a making of its certificate does (this profile's own).
+use Rattle.std.specs.Prelude.{◌≡◌, ℕ, Bool, true, false, ◌⊎◌, List, [], ◌∷◌, ◌++◌, Option, codes, flat_map, length}
+use Rattle.std.specs.Fmt.{decimal}
+use Rattle.sy_wire.specs.declared.class.Class.{Class}
+use Rattle.sy_site.specs.Sites.{Site}
+use Rattle.sy_site.specs.machine.Safety.{AreSafe}
+use Rattle.sy_site.specs.machine.Soundness.{IsSound}
+use Rattle.sy_site.specs.machine.States.{SiteState}
+use Rattle.sy_site.specs.machine.Steps.{Runs, SiteEvent}
+use Rattle.sy_cert.specs.Rows as certificate
+use Rattle.sy_cert.specs.declared.row.Row.{Row}
+use Rattle.sy_checker.specs.Finding.{IsTrueFinding, words}
+use Rattle.sy_checker.specs.Fit.{AreProtected, IsFit, action_name, name_of}
+use Rattle.sy_checker.specs.declared.finding.Finding.{Finding}
+use Rattle.sy_checker.specs.declared.finding.Kind.{Kind}
+use Rattle.sy_checker.specs.declared.finding.Kind.TheVariants as kind
+use Rattle.sy_checker.specs.declared.finding.WayRow.{WayRow}
+use Rattle.syc.specs.Outcomes.{AnswersOf, Streams}
+use Rattle.syc.specs.Reports.{line_feed}
+use Rattle.syc.specs.Texts.{class_text, input_text}
+
+-- ---- what is printed
+
+-- accepted: N protected classes
+abbrev pub accepted_line : ℕ → List ℕ
+accepted_line count = codes "accepted: " ++ decimal count ++ codes " protected classes" ++ line_feed ∷ []
+
+-- behind the number and the name of an archive that isn't led to: RELAY ACTION
+abbrev pub archive_text : Site → Kind → List ℕ
+archive_text site (kind.Unmet archive) = codes " " ++ name_of site archive.relay ++ codes " " ++ action_name site archive
+archive_text site _ = []
+
+-- K KIND
+abbrev pub kind_text : Site → Kind → List ℕ
+kind_text site kind = words kind ++ archive_text site kind
+
+-- refused: CLASS at RELAY PORT: K KIND
+abbrev pub finding_line : Site → Finding → List ℕ
+finding_line site found =
+    codes "refused: " ++ class_text found.class ++ codes " at " ++ input_text site found.input ++ codes ": " ++ kind_text site found.kind ++ line_feed ∷ []
+
+--   RELAY PORT by N
+abbrev pub way_line : Site → WayRow → List ℕ
+way_line site row = codes "  " ++ input_text site row.input ++ codes " by " ++ decimal row.number ++ line_feed ∷ []
+
+-- the finding, and a line for each part of the way
+abbrev pub finding_text : Site → Finding → List ℕ
+finding_text site found = finding_line site found ++ flat_map (way_line site) found.way
+
+-- ---- what is said of a site
+
+-- So many classes are protected, the site is sound, and no run of it loses a message of one of them.
+pub record KeepsAll (site : Site) (count : ℕ) : Type 0 where
+  pub classes : List Class
+  pub are_protected : AreProtected site classes
+  pub count_is : length classes ≡ count
+  pub sound : IsSound site
+  pub safe : (events : List SiteEvent) (state : SiteState) → Runs site events state → AreSafe site state
+
+-- what is found in it
+pub record SaysFound (site : Site) (text : List ℕ) (is_accepted : Bool) : Type 0 where
+  pub found : Finding
+  pub is_true : IsTrueFinding site found
+  pub text_is : text ≡ finding_text site found
+  pub refused : is_accepted ≡ false
+
+-- that it keeps all
+pub record SaysKept (site : Site) (text : List ℕ) (is_accepted : Bool) : Type 0 where
+  pub count : ℕ
+  pub keeps : KeepsAll site count
+  pub text_is : text ≡ accepted_line count
+  pub accepted : is_accepted ≡ true
+
+-- a certificate that is fit for it
+pub record SaysFit (site : Site) (text : List ℕ) (is_accepted : Bool) : Type 0 where
+  pub rows : List Row
+  pub fit : IsFit site rows
+  pub text_is : text ≡ certificate.text 1 rows
+  pub accepted : is_accepted ≡ true
+
+-- what a check says of a site
+abbrev pub SaysChecked : Site → List ℕ → Bool → Type 0
+SaysChecked site text is_accepted = SaysKept site text is_accepted ⊎ SaysFound site text is_accepted
+
+-- what a making of its certificate says
+abbrev pub SaysCertified : Site → List ℕ → Bool → Type 0
+SaysCertified site text is_accepted = SaysFit site text is_accepted ⊎ SaysFound site text is_accepted
+
+-- ---- the commands
+
+-- What a check of this site file answers.
+abbrev pub CheckIs : (List ℕ → Option (List ℕ)) → List ℕ → ℕ → Streams → Streams → Type 0
+CheckIs = AnswersOf SaysChecked
+
+-- What a making of the certificate answers.
+abbrev pub CertifyIs : (List ℕ → Option (List ℕ)) → List ℕ → ℕ → Streams → Streams → Type 0
+CertifyIs = AnswersOf SaysCertified

@@ -1,0 +1,42 @@
+-- How a command over a site ends that prints one text (this profile's own).
+use Rattle.std.specs.Prelude.{◌≡◌, ℕ, Bool, true, false, ◌⊎◌, List, Option, codes}
+use Rattle.std.specs.Io.KnownBytes.{Appends, Keeps}
+use Rattle.sy_wire.specs.Streams.{Rose}
+use Rattle.sy_site.specs.Sites.{Site}
+use Rattle.syc.specs.HaltTexts.{said}
+use Rattle.syc.specs.Reports.{Reported, SinkState, Torn}
+use Rattle.syc.specs.SiteFiles.{HasNoSite, IsSiteOf}
+
+-- standard output and standard error
+pub record Streams : Type 0 where
+  pub output : SinkState
+  pub errors : SinkState
+
+abbrev pub streams : SinkState → SinkState → Streams
+streams output errors = record { output = output; errors = errors }
+
+-- The line was written to standard error, as far as that could be done.
+abbrev pub Tells : Streams → Streams → List ℕ → Type 0
+Tells old new line = Reported old.errors new.errors line
+
+-- the exit status: 0 accepted, 1 refused
+abbrev pub status_for : Bool → ℕ
+status_for true = 0
+status_for false = 1
+
+-- The text was written to standard output and handed on, no write failed, and nothing was written to standard error. Or a write or a flush failed,
+-- which is told, and a prefix of the text was written.
+abbrev pub Prints : List ℕ → (is_accepted : Bool) → ℕ → Streams → Streams → Type 0
+Prints text is_accepted status old new =
+    ((status ≡ status_for is_accepted) × Appends old.output.contents new.output.contents text × (new.output.is_flushed ≡ true)
+      × (new.output.faults ≡ old.output.faults) × Keeps old.errors.contents new.errors.contents)
+    ⊎ ((status ≡ 4) × Torn old.output.contents new.output.contents text × Rose old.output.faults new.output.faults
+      × Tells old new (said (codes "write failed")))
+
+-- What a command over one site answers, where these are the texts that may be printed of a site, with a verdict: such a text of the site that the
+-- site file describes; or there is none, and standard output is as before.
+abbrev pub AnswersOf : (Site → List ℕ → Bool → Type 0) → (List ℕ → Option (List ℕ)) → List ℕ → ℕ → Streams → Streams → Type 0
+AnswersOf Says bytes_of site_text status old new =
+    ((site : Site) × IsSiteOf bytes_of site_text site
+      × (text : List ℕ) × (is_accepted : Bool) × Says site text is_accepted × Prints text is_accepted status old new)
+    ⊎ (HasNoSite bytes_of site_text status (Tells old new) × (new.output ≡ old.output))
