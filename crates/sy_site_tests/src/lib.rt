@@ -13,3 +13,5 @@ mod replay;
 mod rows;
 #[cfg(test)]
 mod site;
+#[cfg(test)]
+mod verdicts;

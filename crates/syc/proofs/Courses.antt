@@ -22,7 +22,7 @@ use Rattle.syc.specs.Reports.{SinkState, Torn}
 use Rattle.syc.specs.HaltTexts.{halt_report}
 use Rattle.syc.specs.Replays.{Ending, IsLeft, IsReplayed, IsTold, ReplayIs, Replays, end_line, lines_of, loss_lines, next, opened, status_of}
 use Rattle.syc.specs.Replays.Replays.{done, end_torn, faulty, full, no_memory, no_step, skips, steps, torn, unread, unwritten}
-use Rattle.syc.specs.SiteFiles.{AreGiven, HasNoSite}
+use Rattle.syc.specs.SiteFiles.{AreGiven, HasNoAnswer}
 use Rattle.syc.specs.internal.Halts.{Comes, Finishes, Halted, HasCause, IsCause, IsNoSite, IsReadHalt, IsTorn, Place, Replayed, ReplaysFrom, Stops, Turns, ending_of, file_of, halt_of, start, status_at, with_lines}
 use Rattle.syc.specs.declared.halt.Halt.{Halt}
 use Rattle.syc.specs.declared.halt.Halt.TheVariants as halt
@@ -268,7 +268,7 @@ replayed_failing site events why old new written faults IsReported s kept rose t
 
 -- no site
 pub no_site : (bytes_of : List ℕ → Option (List ℕ)) (site : List ℕ) (why : Halt) (IsReported : List ℕ → Type 0) → IsNoSite bytes_of site why
-    → IsReported (halt_report why) → HasNoSite bytes_of site (status_at why) IsReported
+    → IsReported (halt_report why) → HasNoAnswer bytes_of site (status_at why) IsReported
 no_site bytes_of site (halt.Site site_fault.NoMemory) IsReported none told = inr (inl (refl, told))
 no_site bytes_of site (halt.Site (site_fault.Line n)) IsReported none told = inl (refl, _, none.1, told)
 no_site bytes_of site (halt.Site (site_fault.Duplicate n)) IsReported none told = inl (refl, _, none.1, told)
@@ -296,7 +296,7 @@ pub halted : (bytes_of : List ℕ → Option (List ℕ)) (text events : List ℕ
     → Halted bytes_of text events why old.contents old.faults mid new.faults → Keeps mid new.contents → new.is_flushed ≡ true
     → IsReported (halt_report why) → ReplayIs bytes_of text events (status_at why) old new IsReported
 halted bytes_of text events why old new mid IsReported h kept flushed told = elim h [
-  | inl none ↦ inl (keeps_on old.contents mid new.contents none.1 kept, inl (no_site bytes_of text why IsReported none.0 told, inr (none.2, flushed)))
+  | inl none ↦ inl (keeps_on old.contents mid new.contents none.1 kept, inl (no_site bytes_of text why IsReported none.0 told, none.2, flushed))
   | inr some ↦ inr (some.0, some.1, replayed_up_to some.0 events why old new mid IsReported some.2 kept flushed told)
 ]
 
@@ -305,7 +305,7 @@ pub halted_failing : (bytes_of : List ℕ → Option (List ℕ)) (text events : 
     → Halted bytes_of text events why old.contents old.faults mid faults → Keeps mid new.contents → Rose old.faults new.faults
     → IsReported (halt_report halt.WriteFailed) → ReplayIs bytes_of text events 4 old new IsReported
 halted_failing bytes_of text events why old new mid faults IsReported h kept rose told = elim h [
-  | inl none ↦ inl (keeps_on old.contents mid new.contents none.1 kept, inr (refl, rose, told))
+  | inl none ↦ inl (keeps_on old.contents mid new.contents none.1 kept, inr (inr (refl, rose, told)))
   | inr some ↦ inr (some.0, some.1, replayed_failing some.0 events why old new mid faults IsReported some.2 kept rose told)
 ]
 

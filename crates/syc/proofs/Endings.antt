@@ -5,9 +5,9 @@ use Rattle.sy_site.specs.Sites.{Site}
 use Rattle.syc.specs.HaltTexts.{halt_report}
 use Rattle.syc.specs.Outcomes.{AnswersOf, Prints, Streams, Tells, streams}
 use Rattle.syc.specs.Reports.{Reported, SinkState}
-use Rattle.syc.specs.SiteFiles.{HasNoSite, IsSiteOf}
+use Rattle.syc.specs.SiteFiles.{HasNoAnswer, IsSiteOf}
 use Rattle.syc.specs.Verdicts.{SaysOfFiles, VerifyIs}
-use Rattle.syc.specs.Words.{AreOneFile, AreOneFileOf, AreVerify, AreVerifyOf}
+use Rattle.syc.specs.Words.{AreOneFile, AreOneFileOf, ArePass, ArePassAlone, AreReplay, AreReplayOf, AreVerify, AreVerifyOf}
 use Rattle.syc.specs.declared.answer.Answer.{Answer}
 use Rattle.syc.specs.declared.halt.Halt.{Halt}
 use Rattle.syc.specs.declared.halt.Halt.TheVariants as halt
@@ -17,9 +17,9 @@ use Rattle.syc.proofs.Courses.{no_site}
 
 -- there is no site, which is told
 pub site_gone : (bytes_of : List ℕ → Option (List ℕ)) (site : List ℕ) (why : Halt) (status : ℕ) (IsReported : List ℕ → Type 0)
-    → IsNoSite bytes_of site why → status ≡ status_at why → IsReported (halt_report why) → HasNoSite bytes_of site status IsReported
+    → IsNoSite bytes_of site why → status ≡ status_at why → IsReported (halt_report why) → HasNoAnswer bytes_of site status IsReported
 site_gone bytes_of site why status IsReported none is told =
-    subst (λ (s : ℕ). HasNoSite bytes_of site s IsReported) (sym is) (no_site bytes_of site why IsReported none told)
+    subst (λ (s : ℕ). HasNoAnswer bytes_of site s IsReported) (sym is) (no_site bytes_of site why IsReported none told)
 
 -- what a command over one site answers
 pub answered : {W : Type 0} (Says : Site → List ℕ → Bool → Type 0) (bytes_of : List ℕ → Option (List ℕ)) (name text : List ℕ)
@@ -95,3 +95,24 @@ pub one_file : {X : Type 0} (now : X → List ℕ) (words items : List X) (after
     → words ≡ items → map now items ≡ codes "syc" ∷ after → AreOneFileOf word after a → AreOneFile word (map now words) site → a ≡ site
 one_file now words items after word a site same is given named =
     same_file (sym (is ∙ ap (λ later. codes "syc" ∷ later) given.words_are) ∙ ap (map now) (sym same) ∙ named.words_are)
+
+-- ---- the words of a command, without the program's name
+
+rest_same : {w : List ℕ} {xs ys : List (List ℕ)} → w ∷ xs ≡ w ∷ ys → xs ≡ ys
+rest_same e = cc
+
+module _ {X : Type 0} (now : X → List ℕ) (words items : List X) (after : List (List ℕ)) (same : words ≡ items) (is : map now items ≡ codes "syc" ∷ after) where
+  behind : (later : List (List ℕ)) → map now words ≡ codes "syc" ∷ later → after ≡ later
+  behind later e = rest_same (sym is ∙ ap (map now) (sym same) ∙ e)
+
+  pub is_pass : ArePass (map now words) → ArePassAlone after
+  is_pass e = behind _ e
+
+  pub is_one_file : (word site : List ℕ) → AreOneFile word (map now words) site → AreOneFileOf word after site
+  is_one_file word site h = record { words_are = behind _ h.words_are; site_plain = h.site_plain }
+
+  pub is_replay : (site events : List ℕ) → AreReplay (map now words) site events → AreReplayOf after site events
+  is_replay site events h = record { words_are = behind _ h.words_are; site_plain = h.site_plain; events_plain = h.events_plain }
+
+  pub is_verify : (site certificate : List ℕ) → AreVerify (map now words) site certificate → AreVerifyOf after site certificate
+  is_verify site certificate h = record { words_are = behind _ h.words_are; site_plain = h.site_plain; certificate_plain = h.certificate_plain }

@@ -1,4 +1,4 @@
--- What a check of a site prints, and what a making of its certificate does (this profile's own).
+-- What a check of a site prints, and what a making of its certificate prints (this profile's own).
 use Rattle.std.specs.Prelude.{◌≡◌, ℕ, Bool, true, false, ◌⊎◌, List, [], ◌∷◌, ◌++◌, Option, codes, flat_map, length}
 use Rattle.std.specs.Fmt.{decimal}
 use Rattle.sy_wire.specs.declared.class.Class.{Class}
@@ -8,6 +8,7 @@ use Rattle.sy_site.specs.machine.Soundness.{IsSound}
 use Rattle.sy_site.specs.machine.States.{SiteState}
 use Rattle.sy_site.specs.machine.Steps.{Runs, SiteEvent}
 use Rattle.sy_cert.specs.Rows as certificate
+use Rattle.sy_cert.specs.declared.kinds.Kind.TheVariants as kinds
 use Rattle.sy_cert.specs.declared.row.Row.{Row}
 use Rattle.sy_checker.specs.Finding.{IsTrueFinding, words}
 use Rattle.sy_checker.specs.Fit.{AreProtected, IsFit, action_name, name_of}
@@ -71,11 +72,16 @@ pub record SaysKept (site : Site) (text : List ℕ) (is_accepted : Bool) : Type 
   pub text_is : text ≡ accepted_line count
   pub accepted : is_accepted ≡ true
 
+-- the text is that of a certificate with these rows
+pub record IsCertificate (bytes : List ℕ) (rows : List Row) : Type 0 where
+  pub are_rows : certificate.AreRows kinds.Cert rows
+  pub whole : bytes ≡ certificate.text 1 rows
+
 -- a certificate that is fit for it
 pub record SaysFit (site : Site) (text : List ℕ) (is_accepted : Bool) : Type 0 where
   pub rows : List Row
   pub fit : IsFit site rows
-  pub text_is : text ≡ certificate.text 1 rows
+  pub is_text : IsCertificate text rows
   pub accepted : is_accepted ≡ true
 
 -- what a check says of a site

@@ -1,11 +1,11 @@
 -- How a command over a site ends that prints one text (this profile's own).
 use Rattle.std.specs.Prelude.{◌≡◌, ℕ, Bool, true, false, ◌⊎◌, List, Option, codes}
-use Rattle.std.specs.Io.KnownBytes.{Appends, Keeps}
+use Rattle.std.specs.Io.KnownBytes.{Appends}
 use Rattle.sy_wire.specs.Streams.{Rose}
 use Rattle.sy_site.specs.Sites.{Site}
 use Rattle.syc.specs.HaltTexts.{said}
 use Rattle.syc.specs.Reports.{Reported, SinkState, Torn}
-use Rattle.syc.specs.SiteFiles.{HasNoSite, IsSiteOf}
+use Rattle.syc.specs.SiteFiles.{HasNoAnswer, IsSiteOf}
 
 -- standard output and standard error
 pub record Streams : Type 0 where
@@ -29,14 +29,25 @@ status_for false = 1
 abbrev pub Prints : List ℕ → (is_accepted : Bool) → ℕ → Streams → Streams → Type 0
 Prints text is_accepted status old new =
     ((status ≡ status_for is_accepted) × Appends old.output.contents new.output.contents text × (new.output.is_flushed ≡ true)
-      × (new.output.faults ≡ old.output.faults) × Keeps old.errors.contents new.errors.contents)
+    × (new.output.faults ≡ old.output.faults) × (new.errors ≡ old.errors))
     ⊎ ((status ≡ 4) × Torn old.output.contents new.output.contents text × Rose old.output.faults new.output.faults
-      × Tells old new (said (codes "write failed")))
+    × Tells old new (said (codes "write failed")))
 
 -- What a command over one site answers, where these are the texts that may be printed of a site, with a verdict: such a text of the site that the
 -- site file describes; or there is none, and standard output is as before.
 abbrev pub AnswersOf : (Site → List ℕ → Bool → Type 0) → (List ℕ → Option (List ℕ)) → List ℕ → ℕ → Streams → Streams → Type 0
 AnswersOf Says bytes_of site_text status old new =
     ((site : Site) × IsSiteOf bytes_of site_text site
-      × (text : List ℕ) × (is_accepted : Bool) × Says site text is_accepted × Prints text is_accepted status old new)
-    ⊎ (HasNoSite bytes_of site_text status (Tells old new) × (new.output ≡ old.output))
+    × (text : List ℕ) × (is_accepted : Bool) × Says site text is_accepted × Prints text is_accepted status old new)
+    ⊎ (HasNoAnswer bytes_of site_text status (Tells old new) × (new.output ≡ old.output))
+
+-- What is answered to words that are no command: a help or the version is printed; or standard error says what is wrong with them; or memory ran out, or a
+-- write failed, which is told. What those texts are isn't said here.
+abbrev pub Shows : ℕ → Streams → Streams → Type 0
+Shows status old new =
+    ((status ≡ 0) × (text : List ℕ) × Appends old.output.contents new.output.contents text × (new.output.is_flushed ≡ true)
+      × (new.output.faults ≡ old.output.faults) × (new.errors ≡ old.errors))
+    ⊎ ((status ≡ 2) × (new.output ≡ old.output))
+    ⊎ ((status ≡ 3) × (new.output ≡ old.output) × Tells old new (said (codes "no memory")))
+    ⊎ ((status ≡ 4) × (text : List ℕ) × Torn old.output.contents new.output.contents text × Rose old.output.faults new.output.faults
+      × Tells old new (said (codes "write failed")))

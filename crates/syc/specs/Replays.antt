@@ -15,7 +15,7 @@ use Rattle.sy_replay.specs.States.{Applies, Contents, IsIllegalAt, holding, stat
 use Rattle.sy_replay.specs.declared.event.Illegal.TheVariants as illegal
 use Rattle.syc.specs.HaltTexts.{in_line, said}
 use Rattle.syc.specs.Reports.{SinkState, line_feed}
-use Rattle.syc.specs.SiteFiles.{HasNoSite, IsSiteOf}
+use Rattle.syc.specs.SiteFiles.{HasNoAnswer, IsSiteOf}
 use Rattle.syc.specs.Texts.{class_text}
 
 -- ---- the lines that are printed
@@ -145,10 +145,12 @@ pub record IsReplayed (site : Site) (events : List ℕ) (status : ℕ) (old new 
   pub left : IsLeft ending old new
   pub told : IsTold IsReported ending
 
--- There is no site, and what was printed before is as it was, or handed on; or that failed, which is told. Nothing is printed.
+-- There is no answer of a site, and all that was printed before is handed on; or memory ran out before that, which is told; or handing it on failed, which
+-- is told. Nothing is printed.
 abbrev pub IsNoReplay : (List ℕ → Option (List ℕ)) → (site : List ℕ) → ℕ → SinkState → SinkState → (List ℕ → Type 0) → Type 0
 IsNoReplay bytes_of site_text status old new IsReported = Keeps old.contents new.contents × (
-    (HasNoSite bytes_of site_text status IsReported × ((new ≡ old) ⊎ ((new.faults ≡ old.faults) × (new.is_flushed ≡ true))))
+    (HasNoAnswer bytes_of site_text status IsReported × (new.faults ≡ old.faults) × (new.is_flushed ≡ true))
+    ⊎ ((status ≡ 3) × (new ≡ old) × IsReported (said (codes "no memory")))
     ⊎ ((status ≡ 4) × Rose old.faults new.faults × IsReported (said (codes "write failed"))))
 
 -- What a replay of these files answers: there is no site; or the events were replayed.

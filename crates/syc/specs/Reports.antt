@@ -48,10 +48,10 @@ seen contents is_flushed faults sink = record {
   faults = faults sink;
 }
 
--- the text was written and handed on; or a write or flush failed, and a prefix of it was written
+-- the text was written and handed on, and no write failed; or a write or flush failed, and a prefix of it was written
 abbrev pub Reported : SinkState → SinkState → List ℕ → Type 0
 Reported old new text =
-    (Appends old.contents new.contents text × (new.is_flushed ≡ true))
+    (Appends old.contents new.contents text × (new.is_flushed ≡ true) × (new.faults ≡ old.faults))
     ⊎ (Torn old.contents new.contents text × Rose old.faults new.faults)
 
 -- the exit status of a command that stopped: 2 for faulty input, 3 for no memory, 4 for a failed read or write

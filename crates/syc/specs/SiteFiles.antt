@@ -30,9 +30,9 @@ IsSiteFault bytes_of text fault =
     ((line : ℕ) × (fault ≡ site_fault.Line line) × IsFirstRelayFault text line)
     ⊎ ((given : List File) × AreFilesOf bytes_of text given × HasFault text given fault)
 
--- There is no site: the site file has a fault, memory ran out, or a file can't be read. That is told.
-abbrev pub HasNoSite : (List ℕ → Option (List ℕ)) → List ℕ → ℕ → (List ℕ → Type 0) → Type 0
-HasNoSite bytes_of text status IsReported =
+-- There is no answer: the site file has a fault, memory ran out, or a file can't be read. That is told.
+abbrev pub HasNoAnswer : (List ℕ → Option (List ℕ)) → List ℕ → ℕ → (List ℕ → Type 0) → Type 0
+HasNoAnswer bytes_of text status IsReported =
     ((status ≡ 2) × (fault : SiteFault) × IsSiteFault bytes_of text fault × IsReported (site_report fault))
     ⊎ ((status ≡ 3) × IsReported (said (codes "no memory")))
     ⊎ ((status ≡ 4) × IsReported (said (codes "read failed")))

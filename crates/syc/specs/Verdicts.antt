@@ -3,18 +3,16 @@ use Rattle.std.specs.Prelude.{◌≡◌, ℕ, Bool, true, false, List, ◌∷◌
 use Rattle.std.specs.Fmt.{decimal}
 use Rattle.sy_site.specs.Sites.{Site}
 use Rattle.sy_cert.specs.Faults.{HasFault}
-use Rattle.sy_cert.specs.Rows.{AreRows, text}
 use Rattle.sy_cert.specs.declared.fault.TextFault.{TextFault}
-use Rattle.sy_cert.specs.declared.kinds.Kind.TheVariants as kinds
 use Rattle.sy_cert.specs.declared.row.Row.{Row}
 use Rattle.sy_checker.specs.Fit.{IsFit, IsWrongIn}
 use Rattle.sy_checker.specs.Verifying.{kind_words}
 use Rattle.sy_checker.specs.declared.wanted.RowKind.{RowKind}
-use Rattle.syc.specs.Checks.{KeepsAll, accepted_line}
+use Rattle.syc.specs.Checks.{IsCertificate, KeepsAll, accepted_line}
 use Rattle.syc.specs.HaltTexts.{halt_report}
 use Rattle.syc.specs.Outcomes.{Prints, Streams, Tells}
 use Rattle.syc.specs.Reports.{line_feed}
-use Rattle.syc.specs.SiteFiles.{HasNoSite, IsSiteOf}
+use Rattle.syc.specs.SiteFiles.{HasNoAnswer, IsSiteOf}
 use Rattle.syc.specs.declared.halt.Halt.TheVariants as halt
 
 -- ---- the verdict
@@ -45,11 +43,6 @@ SaysOf site rows printed is_accepted = SaysFitFor site rows printed is_accepted 
 
 -- ---- the files
 
--- the text is that of a certificate with these rows
-pub record IsCertificate (bytes : List ℕ) (rows : List Row) : Type 0 where
-  pub are_rows : AreRows kinds.Cert rows
-  pub whole : bytes ≡ text 1 rows
-
 -- what is said of a certificate's text, for the site that a site file describes with the files of its relays
 pub record SaysOfFiles (bytes_of : List ℕ → Option (List ℕ)) (site_text certificate printed : List ℕ) (is_accepted : Bool) : Type 0 where
   pub site : Site
@@ -72,5 +65,5 @@ abbrev pub VerifyIs : (List ℕ → Option (List ℕ)) → (site_text certificat
 VerifyIs bytes_of site_text certificate status old new =
     ((printed : List ℕ) × (is_accepted : Bool) × SaysOfFiles bytes_of site_text certificate printed is_accepted × Prints printed is_accepted status old new)
     ⊎ ((new.output ≡ old.output) × (
-      ((status ≡ 2) × (fault : TextFault) × IsFaultyCertificate bytes_of site_text certificate fault × Tells old new (halt_report (halt.Certificate fault)))
-      ⊎ HasNoSite bytes_of site_text status (Tells old new)))
+    ((status ≡ 2) × (fault : TextFault) × IsFaultyCertificate bytes_of site_text certificate fault × Tells old new (halt_report (halt.Certificate fault)))
+    ⊎ HasNoAnswer bytes_of site_text status (Tells old new)))

@@ -1,33 +1,20 @@
 //! What a command over a site answers at its end.
-ghost use Rattle.std.specs.Prelude.{◌≡◌, ◌≢◌, ◌≤◌, IfErr, IfOk, OnErr, OnOk, true};
-ghost use Rattle.std.specs.Io.KnownBytes.{Appends, Keeps};
-ghost use Rattle.sy_wire.specs.Streams.{Rose};
+ghost use Rattle.std.specs.Prelude.{◌≡◌, ◌≢◌, ◌≤◌, IfErr, IfOk};
+ghost use Rattle.std.specs.Io.KnownBytes.{Keeps};
 ghost use Rattle.syc.specs.HaltTexts.{halt_report};
-ghost use Rattle.syc.specs.Outcomes.{Prints, Tells, status_for, streams};
-ghost use Rattle.syc.specs.Reports.{Reported, Torn, seen};
+ghost use Rattle.syc.specs.Outcomes.{Prints, status_for, streams};
+ghost use Rattle.syc.specs.Reports.{Reported, seen};
 ghost use Rattle.syc.specs.internal.Halts.{status_at};
 
 use crate::halt::{Halt, status_of, tell};
-use crate::output::write_all;
-use sy_wire::{Sink, WriteFault};
+use crate::output::send;
+use sy_wire::Sink;
 
 /// What a command prints of a site, and whether the site, or the certificate, is accepted.
 #[derive(Drop)]
 pub struct Answer {
     pub text: Vec<u8>,
     pub is_accepted: bool,
-}
-
-// Writes a whole text, and hands it on.
-fn send<S: Sink>(sink: &mut S, text: &[u8]) -> Result<(), WriteFault>
-    ensures ok { OnOk result (Appends (S.contents sink.old) (S.contents sink.new) text.now) }
-    ensures flushed { OnOk result (S.is_flushed sink.new ≡ true) }
-    ensures same { OnOk result (S.faults sink.new ≡ S.faults sink.old) }
-    ensures torn { OnErr result (Torn (S.contents sink.old) (S.contents sink.new) text.now) }
-    ensures err { OnErr result (Rose (S.faults sink.old) (S.faults sink.new)) }
-{
-    write_all(sink, text)?;
-    sink.flush()
 }
 
 // Tells why a command stops, and answers the exit status.
@@ -50,11 +37,7 @@ fn status(is_accepted: bool) -> u8
 }
 
 /// Prints an answer, or tells why there is none, and answers the exit status.
-pub fn print<W: Sink, E: Sink>(
-    answer: Result<Answer, Halt>,
-    writer: &mut W,
-    errors: &mut E,
-) -> u8
+pub fn print<W: Sink, E: Sink>(answer: Result<Answer, Halt>, writer: &mut W, errors: &mut E) -> u8
     ensures printed { IfOk answer (λ a. Prints a.text.items a.is_accepted result
         (streams (seen W.contents W.is_flushed W.faults writer.old) (seen E.contents E.is_flushed E.faults errors.old))
         (streams (seen W.contents W.is_flushed W.faults writer.new) (seen E.contents E.is_flushed E.faults errors.new))) }

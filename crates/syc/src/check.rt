@@ -16,7 +16,7 @@ use crate::halt::Halt;
 use crate::site::read_site;
 use crate::texts::put_number;
 use std::alloc::{AllocError, Global};
-use sy_cert::write_cert;
+use sy_cert::{Certificate, write_cert};
 use sy_checker::finding::{Finding, Refusal};
 use sy_checker::{certify as make_certificate, check_site};
 use sy_site::Site;
@@ -88,19 +88,29 @@ fn say_checked(alloc: Global, site: &Site) -> Result<Answer, Halt>
     }
 }
 
+// The text of a certificate.
+fn say_fit(alloc: Global, certificate: &Certificate) -> Result<Answer, Halt>
+    ensures text { IfOk result (λ a. spec.IsCertificate a.text.items certificate.now.rows) }
+    ensures accepted { IfOk result (λ a. a.is_accepted ≡ true) }
+    ensures err { IfErr result (λ halt. halt ≡ Halt.NoMemory) }
+{
+    certificate.is_lawful();
+    match write_cert(alloc, certificate) {
+        Ok(text) => Ok(Answer {
+            text,
+            is_accepted: true,
+        }),
+        Err(_) => Err(Halt::NoMemory),
+    }
+}
+
 // What a making of its certificate says of a site.
 fn say_certified(alloc: Global, site: &Site) -> Result<Answer, Halt>
     ensures ok { IfOk result (λ a. spec.SaysCertified site.now a.text.items a.is_accepted) }
     ensures err { IfErr result (λ halt. halt ≡ Halt.NoMemory) }
 {
     match make_certificate(alloc, site) {
-        Ok(certificate) => match write_cert(alloc, &certificate) {
-            Ok(text) => Ok(Answer {
-                text,
-                is_accepted: true,
-            }),
-            Err(_) => Err(Halt::NoMemory),
-        },
+        Ok(certificate) => say_fit(alloc, &certificate),
         Err(why) => say_found(alloc, site, why),
     }
 }

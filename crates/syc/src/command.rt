@@ -29,8 +29,7 @@ const PASS_ABOUT: &str =
 
 const CHECK_ABOUT: &str = "Say whether a site keeps the messages of its protected classes";
 
-const CERTIFY_ABOUT: &str =
-    "Print a certificate of a site, for others to verify";
+const CERTIFY_ABOUT: &str = "Print a certificate of a site, for others to verify";
 
 const REPLAY_ABOUT: &str =
     "Make the events of a file at the site of a site file, and print each loss";

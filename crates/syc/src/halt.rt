@@ -172,9 +172,7 @@ fn write_halt<E: Sink>(errors: &mut E, halt: &Halt) -> Result<(), WriteFault>
 {
     match halt {
         Halt::Site(fault) => write_site_fault(errors, fault),
-        Halt::Certificate(fault) => {
-            write_in_line(errors, fault.code.words(), fault.line as u64)
-        }
+        Halt::Certificate(fault) => { write_in_line(errors, fault.code.words(), fault.line as u64) }
         Halt::Line(line) => write_in_line(errors, "51 Line", *line),
         Halt::Illegal(line) => write_in_line(errors, "illegal event", *line),
         Halt::TotalsFull(line) => write_in_line(errors, "86 TotalsFull", *line),
@@ -187,6 +185,7 @@ fn write_halt<E: Sink>(errors: &mut E, halt: &Halt) -> Result<(), WriteFault>
 fn write_report<E: Sink>(errors: &mut E, halt: &Halt) -> Result<(), WriteFault>
     ensures ok { OnOk result (Appends (E.contents errors.old) (E.contents errors.new) (halt_report halt.now)) }
     ensures flushed { OnOk result (E.is_flushed errors.new ≡ true) }
+    ensures same { OnOk result (E.faults errors.new ≡ E.faults errors.old) }
     ensures torn { OnErr result (Torn (E.contents errors.old) (E.contents errors.new) (halt_report halt.now)) }
     ensures err { OnErr result (Rose (E.faults errors.old) (E.faults errors.new)) }
 {

@@ -1,5 +1,5 @@
 //! Writing whole texts by as many writes as it takes.
-ghost use Rattle.std.specs.Prelude.{◌≡◌, ◌≤◌, OnErr, OnOk, map};
+ghost use Rattle.std.specs.Prelude.{◌≡◌, ◌≤◌, OnErr, OnOk, map, true};
 ghost use Rattle.std.specs.Fmt.{decimal};
 ghost use Rattle.std.specs.Io.KnownBytes.{Appends};
 ghost use Rattle.sy_wire.specs.Streams.{Rose};
@@ -37,6 +37,18 @@ pub fn write_texts<W: Sink>(writer: &mut W, texts: &[&[u8]]) -> Result<(), Write
         write_all(writer, text)?;
     }
     Ok(())
+}
+
+/// Writes a whole text, and hands it on.
+pub fn send<S: Sink>(sink: &mut S, text: &[u8]) -> Result<(), WriteFault>
+    ensures ok { OnOk result (Appends (S.contents sink.old) (S.contents sink.new) text.now) }
+    ensures flushed { OnOk result (S.is_flushed sink.new ≡ true) }
+    ensures same { OnOk result (S.faults sink.new ≡ S.faults sink.old) }
+    ensures torn { OnErr result (Torn (S.contents sink.old) (S.contents sink.new) text.now) }
+    ensures err { OnErr result (Rose (S.faults sink.old) (S.faults sink.new)) }
+{
+    write_all(sink, text)?;
+    sink.flush()
 }
 
 /// Writes a number in decimal digits.

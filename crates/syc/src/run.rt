@@ -3,17 +3,17 @@ ghost use Rattle.std.specs.Prelude.{◌≡◌, ◌≢◌, ◌≤◌, ◌+◌, �
 ghost use Rattle.std.specs.Io.KnownBytes.{Keeps};
 ghost use Rattle.sy_wire.specs.Streams.{Rose};
 ghost use Rattle.syc.specs.Checks.{CertifyIs, CheckIs};
-ghost use Rattle.syc.specs.Outcomes.{streams};
+ghost use Rattle.syc.specs.Outcomes.{Shows, streams};
 ghost use Rattle.syc.specs.Pass.{HasFailed, IsStatus, NoneFailed, PassIs, counts};
 ghost use Rattle.syc.specs.Replays.{ReplayIs};
 ghost use Rattle.syc.specs.Reports.{Reported, seen};
 ghost use Rattle.syc.specs.Verdicts.{VerifyIs};
-ghost use Rattle.syc.specs.Words.{AreOneFileOf, ArePassAlone, AreReplayOf, AreVerifyOf};
+ghost use Rattle.syc.specs.Words.{AreNoCommandOf, AreOneFileOf, ArePassAlone, AreReplayOf, AreVerifyOf};
 
 use crate::check::{certify, check};
 use crate::command::{Command, all_words, command_of};
 use crate::files::Files;
-use crate::output::write_all;
+use crate::output::send;
 use crate::pass::{READS, pass};
 use crate::replay::replay;
 use crate::stop::{out_of_memory, write_failed};
@@ -28,19 +28,18 @@ fn show<W: Sink, E: Sink>(alloc: Global, writer: &mut W, errors: &mut E, error: 
     ensures status { IsStatus result }
     ensures none_failed { result ≢ 4 → W.faults writer.new ≡ W.faults writer.old }
     ensures quiet { result ≡ 0 → Keeps (E.contents errors.old) (E.contents errors.new) }
+    ensures shown { Shows result
+        (streams (seen W.contents W.is_flushed W.faults writer.old) (seen E.contents E.is_flushed E.faults errors.old))
+        (streams (seen W.contents W.is_flushed W.faults writer.new) (seen E.contents E.is_flushed E.faults errors.new)) }
 {
     let Ok(text) = format!(in alloc; "{error}") else {
         return out_of_memory(errors);
     };
     if error.use_stderr() {
-        let _ = write_all(errors, text.as_bytes());
-        let _ = errors.flush();
+        let _ = send(errors, text.as_bytes());
         return 2;
     }
-    let Ok(()) = write_all(writer, text.as_bytes()) else {
-        return write_failed(errors);
-    };
-    let Ok(()) = writer.flush() else {
+    let Ok(()) = send(writer, text.as_bytes()) else {
         return write_failed(errors);
     };
     0
@@ -90,6 +89,9 @@ pub fn run<R: Source, W: Sink, E: Sink, F: Files>(
         (streams (seen W.contents W.is_flushed W.faults writer.new) (seen E.contents E.is_flushed E.faults errors.new)) }
     ensures check { (site text : List ℕ) → AreOneFileOf (codes "check") (map string_bytes args.now) site →
         F.bytes_of files.now site ≡ Some text → CheckIs (F.bytes_of files.now) text result
+        (streams (seen W.contents W.is_flushed W.faults writer.old) (seen E.contents E.is_flushed E.faults errors.old))
+        (streams (seen W.contents W.is_flushed W.faults writer.new) (seen E.contents E.is_flushed E.faults errors.new)) }
+    ensures other { AreNoCommandOf (map string_bytes args.now) → Shows result
         (streams (seen W.contents W.is_flushed W.faults writer.old) (seen E.contents E.is_flushed E.faults errors.old))
         (streams (seen W.contents W.is_flushed W.faults writer.new) (seen E.contents E.is_flushed E.faults errors.new)) }
     ensures certify { (site text : List ℕ) → AreOneFileOf (codes "certify") (map string_bytes args.now) site →

@@ -1,6 +1,7 @@
 //! Verifying: whether a certificate shows that a site keeps each message of its protected classes.
 ghost use Rattle.std.specs.Prelude.{◌≡◌, ◌≢◌, ◌≤◌, ℕ, List, Some, IfErr, IfOk, IfSome};
 ghost use Rattle.std.specs.Io.KnownBytes.{Keeps};
+ghost use Rattle.syc.specs.Checks.{IsCertificate};
 ghost use Rattle.syc.specs.Outcomes.{streams};
 ghost use Rattle.syc.specs.Reports.{seen};
 ghost use Rattle.syc.specs.Verdicts as spec;
@@ -17,7 +18,7 @@ use sy_wire::Sink;
 
 // The certificate of a text.
 fn certificate_of(alloc: Global, bytes: &[u8]) -> Result<Certificate, Halt>
-    ensures ok { IfOk result (λ c. spec.IsCertificate bytes.now c.rows) }
+    ensures ok { IfOk result (λ c. IsCertificate bytes.now c.rows) }
     ensures err { IfErr result (internal.IsNoCertificate bytes.now) }
 {
     match read_cert(alloc, bytes) {
@@ -34,7 +35,7 @@ fn certificate_of(alloc: Global, bytes: &[u8]) -> Result<Certificate, Halt>
 
 // The certificate in the file of this name.
 fn read_certificate<F: Files>(alloc: Global, files: &F, name: &str) -> Result<Certificate, Halt>
-    ensures ok { IfOk result (λ c. IfSome (F.bytes_of files.now name.now) (λ bytes. spec.IsCertificate bytes c.rows)) }
+    ensures ok { IfOk result (λ c. IfSome (F.bytes_of files.now name.now) (λ bytes. IsCertificate bytes c.rows)) }
     ensures err { IfErr result (λ why. IfSome (F.bytes_of files.now name.now) (λ bytes.
         internal.IsNoCertificate bytes why)) }
 {

@@ -2,7 +2,7 @@ use Rattle.std.proofs.Common.{◌≡◌, ◌∙◌, ap, map, subst, sym}
 use Rattle.std.specs.Prelude.{Some, string_bytes}
 use Rattle.syc.specs.Words.{AreReplay}
 use Rattle.syc.proofs.Commands.{one_replay, with_program}
-use Rattle.syc.proofs.Endings.{one_file, one_verify}
+use Rattle.syc.proofs.Endings.{is_one_file, is_pass, is_replay, is_verify, one_file, one_verify}
 use Rattle.syc.proofs.Statuses.{nothing_passed}
 use Rattle.syc.proofs.run.run.Goals as goal
 
@@ -41,3 +41,28 @@ returns-in-Ok-Certify-clause-certify g c = λ site text given known.
     let named = rw c.in-Ok-Certify.field-0-is at c.in-Ok-Certify.ensures.ok in
     let same = one_file _ _ _ _ _ site _ c.as_slice.ensures.value c.in-Ok.ensures given named in
     c.certify.ensures.certify text (ap (g.F.Files.bytes_of c.args.files.now) (sym same) ∙ known)
+
+pub returns-in-Ok-Pass-clause-other : goal.returns-in-Ok-Pass-clause-other
+returns-in-Ok-Pass-clause-other g c = λ none.
+    let named = rw c.in-Ok-Pass.field-0-is at c.in-Ok-Pass.ensures.ok in
+    absurd (none.no_pass (is_pass _ _ _ _ c.as_slice.ensures.value c.in-Ok.ensures named))
+
+pub returns-in-Ok-Check-clause-other : goal.returns-in-Ok-Check-clause-other
+returns-in-Ok-Check-clause-other g c = λ none.
+    let named = rw c.in-Ok-Check.field-0-is at c.in-Ok-Check.ensures.ok in
+    absurd (none.no_check _ (is_one_file _ _ _ _ c.as_slice.ensures.value c.in-Ok.ensures _ _ named))
+
+pub returns-in-Ok-Certify-clause-other : goal.returns-in-Ok-Certify-clause-other
+returns-in-Ok-Certify-clause-other g c = λ none.
+    let named = rw c.in-Ok-Certify.field-0-is at c.in-Ok-Certify.ensures.ok in
+    absurd (none.no_certify _ (is_one_file _ _ _ _ c.as_slice.ensures.value c.in-Ok.ensures _ _ named))
+
+pub returns-in-Ok-Replay-clause-other : goal.returns-in-Ok-Replay-clause-other
+returns-in-Ok-Replay-clause-other g c = λ none.
+    let named = rw c.in-Ok-Replay.field-0-is at c.in-Ok-Replay.ensures.ok in
+    absurd (none.no_replay _ _ (is_replay _ _ _ _ c.as_slice.ensures.value c.in-Ok.ensures _ _ named))
+
+pub returns-in-Ok-Verify-clause-other : goal.returns-in-Ok-Verify-clause-other
+returns-in-Ok-Verify-clause-other g c = λ none.
+    let named = rw c.in-Ok-Verify.field-0-is at c.in-Ok-Verify.ensures.ok in
+    absurd (none.no_verify _ _ (is_verify _ _ _ _ c.as_slice.ensures.value c.in-Ok.ensures _ _ named))

@@ -86,7 +86,9 @@ pub invariant_of-result : goal.invariant_of-result
 invariant_of-result c =
     let site = site_of (record { relays = c.in_ok-relays.relays; entries = c.in_ok-entries.entries; protections = c.in_ok-protections.protections }) in
     let relays = rw c.as_slice.ensures.value at c.in_ok-relays.ensures.relays in
-    let entries = rw (c.as_slice-2.ensures.value, c.as_slice-3.ensures.value) at c.in_ok-entries.ensures.entries in
-    (lawful (map (λ f. file f.0.now f.1.now) c.args.files.now) _ _ _ c.in_ok-relays.relays.items site refl relays c.in_ok-found.ensures.few_relays
-    (all_paired (IsEntry site) _ c.in_ok-entries.entries.items entries)
-    (protections_of (site_with c.in_ok-relays.relays.items) site refl _ c.in_ok-protections.protections.items (rw c.as_slice-4.ensures.value at c.in_ok-protections.ensures.protections)), (c.args.text.now, map (λ f. file f.0.now f.1.now) c.args.files.now, returns-clause-site c))
+    let entries = rw (c.as_slice-2.ensures.value, c.as_slice-3.ensures.value) at c.in_ok-entries.ensures.entries in (
+      lawful (map (λ f. file f.0.now f.1.now) c.args.files.now) _ _ _ c.in_ok-relays.relays.items site refl relays c.in_ok-found.ensures.few_relays
+          (all_paired (IsEntry site) _ c.in_ok-entries.entries.items entries)
+          (protections_of (site_with c.in_ok-relays.relays.items) site refl _ c.in_ok-protections.protections.items (rw c.as_slice-4.ensures.value at c.in_ok-protections.ensures.protections)),
+      (c.args.text.now, map (λ f. file f.0.now f.1.now) c.args.files.now, returns-clause-site c),
+    )
