@@ -1,5 +1,5 @@
 -- How a command over a site answers where it has nothing to print, and the words that call for one.
-use Rattle.std.proofs.Common.{◌≡◌, ℕ, Bool, List, [], ◌∷◌, ◌⊎◌, inl, inr, map, refl, sym, subst, ap, ◌∙◌}
+use Rattle.std.proofs.Common.{◌≡◌, ℕ, Bool, List, [], ◌∷◌, inl, inr, map, sym, subst, ap, ◌∙◌}
 use Rattle.std.specs.Prelude.{IfErr, IfOk, Option, Some, Result, Ok, Err, codes}
 use Rattle.sy_site.specs.Sites.{Site}
 use Rattle.syc.specs.HaltTexts.{halt_report}

@@ -1,9 +1,7 @@
 -- What is printed where a command over a site stops early (this profile's own).
-use Rattle.std.specs.Prelude.{ℕ, List, [], ◌∷◌, ◌++◌, codes, flat_map}
+use Rattle.std.specs.Prelude.{ℕ, List, [], ◌∷◌, codes, flat_map}
 use Rattle.std.specs.Fmt.{decimal}
-use Rattle.sy_script.specs.declared.fault.ScriptFault.{ScriptFault}
 use Rattle.sy_script.specs.Faults as script
-use Rattle.sy_rules.specs.declared.fault.PlanFault.{PlanFault}
 use Rattle.sy_rules.specs.Faults as plan
 use Rattle.sy_cert.specs.Faults as certificate
 use Rattle.sy_site.specs.declared.fault.RelayFault.{RelayFault}

@@ -46,8 +46,8 @@ AnswersOf Says bytes_of site_text status old new =
 abbrev pub Shows : ℕ → Streams → Streams → Type 0
 Shows status old new =
     ((status ≡ 0) × (text : List ℕ) × Appends old.output.contents new.output.contents text × (new.output.is_flushed ≡ true)
-      × (new.output.faults ≡ old.output.faults) × (new.errors ≡ old.errors))
+    × (new.output.faults ≡ old.output.faults) × (new.errors ≡ old.errors))
     ⊎ ((status ≡ 2) × (new.output ≡ old.output))
     ⊎ ((status ≡ 3) × (new.output ≡ old.output) × Tells old new (said (codes "no memory")))
     ⊎ ((status ≡ 4) × (text : List ℕ) × Torn old.output.contents new.output.contents text × Rose old.output.faults new.output.faults
-      × Tells old new (said (codes "write failed")))
+    × Tells old new (said (codes "write failed")))

@@ -1,5 +1,5 @@
 -- What a replay of an events file prints, and how it ends (this profile's own).
-use Rattle.std.specs.Prelude.{◌≡◌, ℕ, true, false, List, [], ◌∷◌, ◌++◌, ◌==◌, ◌⊎◌, Option, Some, None, codes, IfSome, drop, flat_map, length, map, slice_get}
+use Rattle.std.specs.Prelude.{◌≡◌, ℕ, true, false, List, [], ◌∷◌, ◌++◌, ◌==◌, ◌⊎◌, Option, Some, None, codes, drop, flat_map, length, slice_get}
 use Rattle.std.specs.Fmt.{decimal}
 use Rattle.std.specs.Io.KnownBytes.{Appends, Keeps}
 use Rattle.std.specs.List.{slice_split}

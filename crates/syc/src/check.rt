@@ -7,7 +7,7 @@ ghost use Rattle.syc.specs.Checks as spec;
 ghost use Rattle.syc.specs.Outcomes.{streams};
 ghost use Rattle.syc.specs.Reports.{seen};
 ghost use Rattle.syc.specs.SiteFiles.{IsSiteOf};
-ghost use Rattle.syc.specs.internal.Halts.{IsNoSite, IsReadHalt};
+ghost use Rattle.syc.specs.internal.Halts.{IsNoSite};
 
 use crate::answer::{Answer, print};
 use crate::files::Files;

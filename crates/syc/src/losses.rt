@@ -1,5 +1,5 @@
 //! The lines that a replay prints.
-ghost use Rattle.std.specs.Prelude.{◌≡◌, ◌++◌, OnOk, flat_map, option_map, slice_get};
+ghost use Rattle.std.specs.Prelude.{◌≡◌, ◌++◌, OnOk, flat_map, slice_get};
 ghost use Rattle.sy_replay.specs.Events.{cause_of, loss_of, losses_of};
 ghost use Rattle.sy_replay.specs.States.{state_at};
 ghost use Rattle.syc.specs.Replays as spec;

@@ -1,5 +1,5 @@
 //! The commands.
-ghost use Rattle.std.specs.Prelude.{◌≡◌, ◌≢◌, ◌≤◌, ◌+◌, ◌⊎◌, ◌∷◌, [], ℕ, List, Some, codes, map, string_bytes, true};
+ghost use Rattle.std.specs.Prelude.{◌≡◌, ◌≢◌, ◌≤◌, ◌+◌, ◌⊎◌, ℕ, List, Some, codes, map, string_bytes, true};
 ghost use Rattle.std.specs.Io.KnownBytes.{Keeps};
 ghost use Rattle.sy_wire.specs.Streams.{Rose};
 ghost use Rattle.syc.specs.Checks.{CertifyIs, CheckIs};

@@ -1,5 +1,5 @@
 //! The verdict on a certificate, and its line.
-ghost use Rattle.std.specs.Prelude.{◌≡◌, ◌++◌, IfErr, IfOk, OnOk, false, true};
+ghost use Rattle.std.specs.Prelude.{◌≡◌, ◌++◌, IfErr, IfOk, OnOk, false};
 ghost use Rattle.syc.specs.Verdicts as spec;
 
 use crate::answer::Answer;
