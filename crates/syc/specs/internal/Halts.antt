@@ -1,5 +1,5 @@
 -- Why a command over a site stops, and how far a replay has come.
-use Rattle.std.specs.Prelude.{◌≡◌, ℕ, Bool, true, false, List, [], ◌++◌, ◌==◌, ◌⊎◌, Option, Some, drop, flat_map, string_bytes}
+use Rattle.std.specs.Prelude.{◌≡◌, ℕ, Bool, true, false, List, ◌++◌, ◌==◌, ◌⊎◌, Option, Some, drop, flat_map, string_bytes}
 use Rattle.std.specs.Io.KnownBytes.{Appends, Keeps}
 use Rattle.std.specs.List.{All}
 use Rattle.sy_wire.specs.Streams.{ReadsPiece, Rose}

@@ -1,4 +1,4 @@
-use Rattle.std.proofs.Common.{ℕ, List, ◌∷◌, ◌++◌, ◌∙◌, subst, sym}
+use Rattle.std.proofs.Common.{ℕ, List, ◌++◌, ◌∙◌, subst, sym}
 use Rattle.std.proofs.lemmas.Result.{err_from_is_err_and}
 use Rattle.syc.specs.Replays.{lines_of}
 use Rattle.syc.specs.internal.Halts.{Comes, Place, Stops, place}

@@ -1,4 +1,4 @@
-use Rattle.std.proofs.Common.{◌≡◌, ◌++◌, ◌-◌, ◌∙◌, ap, drop, flat_map, length, subst, take}
+use Rattle.std.proofs.Common.{◌≡◌, ◌-◌, ◌∙◌, ap, drop, flat_map, length, subst, take}
 use Rattle.std.specs.Io.KnownBytes.{Appends}
 use Rattle.sy_replay.specs.Events.{losses_of}
 use Rattle.sy_replay.specs.States.{state_at}

@@ -1,6 +1,6 @@
-use Rattle.std.proofs.Common.{◌≡◌, inl, inr, subst, sym}
+use Rattle.std.proofs.Common.{inl, inr, subst, sym}
 use Rattle.syc.specs.Reports.{Reported, seen}
-use Rattle.syc.specs.internal.Halts.{Halted, Replayed}
+use Rattle.syc.specs.internal.Halts.{Halted}
 use Rattle.syc.proofs.Courses.{halted, halted_failing, replayed, rises_on}
 use Rattle.syc.proofs.replay.replay.Goals as goal
 

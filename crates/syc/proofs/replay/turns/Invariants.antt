@@ -1,5 +1,5 @@
 use Rattle.std.proofs.Common.{◌≡◌, ◌<◌, ℕ, List, ◌++◌, length}
-use Rattle.std.specs.Prelude.{Some, Option}
+use Rattle.std.specs.Prelude.{Some}
 use Rattle.syc.specs.Replays.{lines_of}
 use Rattle.syc.specs.internal.Halts.{Comes, IsOpenLine, place}
 use Rattle.syc.proofs.replay.turns.Given as goal
