@@ -7,6 +7,7 @@ import time
 from concurrent.futures import FIRST_COMPLETED, ThreadPoolExecutor, wait
 
 import edits
+import records
 import rounds
 import toolchain
 
@@ -17,9 +18,10 @@ def stop(why):
 
 
 def words_of(argv, usage):
-    """What the words say: the number of crates side by side, the checkout and the gate's log (None: none), and what is
-    named to be tried."""
+    """What the words say: the number of crates side by side, the checkout and the gate's log (None: none), which of the
+    flags about records are there, and what is named to be tried."""
     given, names, left = {"-j": os.environ.get("RT_JOBS") or None, "-t": None, "-w": None}, [], list(argv)
+    flags = {"-a": False, "-r": False}
     while left:
         word = left.pop(0)
         if word in ("-h", "--help"):
@@ -27,6 +29,8 @@ def words_of(argv, usage):
             sys.exit(0)
         elif word in given:
             given[word] = left.pop(0) if left else stop(f"{word} wants a value")
+        elif word in flags:
+            flags[word] = True
         elif word.startswith("-"):
             stop(f"unknown flag {word}: see -h")
         else:
@@ -35,7 +39,7 @@ def words_of(argv, usage):
     if not jobs.isdigit() or jobs == "0":
         stop(f"{jobs} is no number of jobs")
     tree, log = (given[it] and os.path.realpath(given[it]) for it in ("-t", "-w"))
-    return int(jobs), tree, log, names
+    return int(jobs), tree, log, flags, names
 
 
 def edits_of(top, crate, wanted):
@@ -67,14 +71,21 @@ def controls_of(top, crate):
     return [control], []
 
 
-def try_one(top, crate, wanted, share):
-    """Tries a crate's edits and its control, each check with as many jobs as `share` says by then: what came of each,
-    what that took, and the time."""
+def try_one(top, crate, wanted, share, flags):
+    """Tries a crate's edits and its control, each check with as many jobs as `share` says by then; of those that are
+    recorded as refused a sample, where all crates are to be tried. Answers what came of each, what that took, and the
+    time."""
     began = time.monotonic()
     good, bad = edits_of(top, crate.name, wanted)
     controls, lacking = controls_of(top, crate.name)
-    tried, cost = rounds.try_crate(crate, good, controls, share) if good or controls else ([], "no check")
-    return crate.name, [*bad, *lacking, *tried], cost, time.monotonic() - began
+    record = records.Record(top, crate.name, [it.name for it in crate.below()])
+    given = record.left(good) if flags["uses records"] else good
+    tried, cost = rounds.try_crate(crate, given, controls, share) if given or controls else ([], "no check")
+    if flags["-r"]:
+        refused = {it.label for it in tried if it.is_well}
+        record.write(given, [it for it in given if it.label in refused])
+    left = f", {len(good) - len(given)} more recorded as refused" if len(given) < len(good) else ""
+    return crate.name, [*bad, *lacking, *tried], cost + left, time.monotonic() - began
 
 
 def wanted_of(top, crates, names):
@@ -132,7 +143,8 @@ def readiness(crates, log):
 
 
 def main(top, argv, usage):
-    jobs, tree, log, names = words_of(argv, usage)
+    jobs, tree, log, flags, names = words_of(argv, usage)
+    flags["uses records"] = not names and not flags["-a"]
     crates = toolchain.crates_of(tree or top)
     wanted = wanted_of(top, crates, names)
     for name in [] if log else wanted:
@@ -152,7 +164,7 @@ def main(top, argv, usage):
             return name, lacking, "no check", 0
         running.add(name)
         try:
-            return try_one(top, crates[name], wanted[name], share)
+            return try_one(top, crates[name], wanted[name], share, flags)
         finally:
             running.discard(name)
 

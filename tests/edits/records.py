@@ -1,0 +1,111 @@
+"""Records of crates whose edits were all tried and refused, by the sum of all that the refusals rest on."""
+
+import hashlib
+import os
+import subprocess
+
+import edits
+
+HERE = os.path.dirname(os.path.realpath(__file__))
+# What decides how an edit is tried and judged.
+JUDGES = ("edits.py", "judge.py", "rounds.py", "toolchain.py")
+# The files that are a function's own proof, of which nothing above depends.
+OF_A_FUNCTION = {"Answers.antt", "Invariants.antt", "Proof.antt"}
+# One in so many edits of a recorded crate is tried again in each run.
+SHARE = 10
+
+
+def digest(parts):
+    """A sum of some texts, each with its name."""
+    found = hashlib.sha256()
+    for name, text in parts:
+        for it in (name, text):
+            data = it.encode("utf-8", "surrogateescape")
+            found.update(b"%d:" % len(data) + data)
+    return found.hexdigest()
+
+
+def text_of(file):
+    with open(file, encoding="utf-8", errors="surrogateescape") as it:
+        return it.read()
+
+
+def files_below(folder):
+    """The files of a folder and of those in it, in order, by their paths in it."""
+    for at, folders, names in os.walk(folder):
+        folders.sort()
+        for name in sorted(names):
+            file = f"{at}/{name}"
+            yield os.path.relpath(file, folder), file
+
+
+def own_parts(top, crate):
+    """What a crate itself has, but for its edits: its sources, definitions and proofs."""
+    for part in ("src", "specs", "proofs"):
+        for path, file in files_below(f"{top}/crates/{crate}/{part}"):
+            yield f"{crate}/{part}/{path}", text_of(file)
+
+
+def contracts(folder, path):
+    """A source with its functions emptied down to their contracts, without comments and empty lines."""
+    after, _ = edits.Sources(folder).emptied([path], lambda _: False)
+    lines = [it.rstrip() for it in after.text(path).split("\n")]
+    return "\n".join(it for it in lines if it and not it.lstrip().startswith("//"))
+
+
+def parts_below(top, crate):
+    """What a crate shows those above it: its contracts, its definitions, and lemmas that are no function's own."""
+    folder = f"{top}/crates/{crate}"
+    for path, file in files_below(f"{folder}/src"):
+        yield f"{crate}/src/{path}", contracts(folder, f"src/{path}") if path.endswith(".rt") else text_of(file)
+    for part in ("specs", "proofs"):
+        for path, file in files_below(f"{folder}/{part}"):
+            if os.path.basename(path) not in OF_A_FUNCTION:
+                yield f"{crate}/{part}/{path}", text_of(file)
+
+
+def sum_of(top, crate, below):
+    """The sum of all that the refusals of a crate's edits rest on, but for the edits; `below` are the crates that it
+    stands on."""
+    said = subprocess.run(["rt", "version"], stdout=subprocess.PIPE, stdin=subprocess.DEVNULL, text=True, check=True)
+    parts = [("kit", said.stdout), *((it, text_of(f"{HERE}/{it}")) for it in JUDGES), *own_parts(top, crate)]
+    for name in sorted(below):
+        parts += parts_below(top, name)
+    return digest(parts)
+
+
+class Record:
+    """Which edits of a crate were refused when all that this rests on was as it is now: of each the sum of its text."""
+
+    def __init__(self, top, crate, below):
+        self.folder, self.crate = f"{top}/crates/{crate}/must-fail", crate
+        self.file, self.sum, self.refused = f"{top}/tests/edits/refused/{crate}", sum_of(top, crate, below), {}
+        try:
+            head, *lines = text_of(self.file).splitlines()
+        except (FileNotFoundError, ValueError):
+            return
+        if head == f"sum: {self.sum}":
+            self.refused = dict(it.split(" ") for it in lines)
+
+    def sum_of(self, edit):
+        return digest([("edit", text_of(f"{self.folder}/{edit.name}.edit"))])
+
+    def has(self, edit):
+        return self.refused.get(edit.name) == self.sum_of(edit)
+
+    def left(self, given):
+        """Of these edits those that aren't recorded, and some of the others: one in ten, others in each state of the
+        crate, and one at least."""
+        recorded = sorted(filter(self.has, given), key=lambda it: digest([(it.label, self.sum)]))
+        again = {it.name for it in recorded[: (len(recorded) + SHARE - 1) // SHARE]}
+        return [it for it in given if it.name in again or not self.has(it)]
+
+    def write(self, given, refused):
+        """Writes that these edits were refused, of those given; what was recorded of others in this state stays."""
+        names = {it.name for it in given}
+        now = {name: it for name, it in self.refused.items() if name not in names}
+        now |= {it.name: self.sum_of(it) for it in refused}
+        now = {name: it for name, it in now.items() if os.path.isfile(f"{self.folder}/{name}.edit")}
+        os.makedirs(os.path.dirname(self.file), exist_ok=True)
+        with open(self.file, "w", encoding="utf-8") as it:
+            it.write("".join(f"{line}\n" for line in [f"sum: {self.sum}", *(f"{a} {b}" for a, b in sorted(now.items()))]))
