@@ -9,10 +9,10 @@ ghost use Rattle.sy_site.specs.machine.Steps.{Runs, SiteEvent};
 ghost use Rattle.sy_site.specs.machine.Lengths.{IsWithinMarks, IsWithinSizes};
 ghost use Rattle.sy_site.specs.machine.Findings.{IsFinding, IsWay, Kind, WayRow};
 ghost use Rattle.sy_site.specs.machine.Reach.{Forwards, MayAt, Reach};
-ghost use Rattle.sy_site.specs.machine.Soundness.{IsSound, IsSoundFor};
-ghost use Rattle.sy_site.specs.machine.Confinement.{AreConfined};
+ghost use Rattle.sy_site.specs.machine.Soundness.{AreRanks, IsSound, IsSoundFor};
+ghost use Rattle.sy_site.specs.machine.Confinement.{AreConfined, RanksFall};
 ghost use Rattle.sy_site.specs.machine.Lawful.{IsLawful};
-ghost use Rattle.sy_site.specs.machine.Safety.{AreSafe, IsWritten};
+ghost use Rattle.sy_site.specs.machine.Safety.{AreSafe, AreWrittenOrHead, IsWritten};
 ghost use Rattle.sy_site.specs.machine.Examples.{audit, example_events, example_site, narrow_events, narrow_site};
 ghost use Rattle.sy_site.specs.machine.Naming.{AreShaped, NumbersName, TagsName};
 
@@ -48,11 +48,26 @@ pub fn relays_keep_their_places()
         → Runs site events state → AreShaped site state }
 {}
 
-/// Where a site is sound for a class, its copies that came in at entries are held within the class's reach alone, and
-/// none is lost; and along the trail of each the ranks fall, so that it comes to no relay twice.
+/// Confinement: where a site is sound for a class, its copies that came in at entries are held within the class's reach
+/// alone, what is due of each the class may execute there, and none is lost.
 pub fn copies_are_confined()
-    ensures { (site : Site) → (class : Class) → (sound : IsSoundFor site class) → (events : List SiteEvent)
-        → (state : SiteState) → Runs site events state → AreConfined site class sound.rank state }
+    ensures { (site : Site) → (class : Class) → IsSoundFor site class → (events : List SiteEvent)
+        → (state : SiteState) → Runs site events state → AreConfined site class state }
+{}
+
+/// Falling ranks: along the trail of each of these copies, at a place, on a link or in a file, any ranks of the class
+/// fall, so that it comes to no relay twice.
+pub fn ranks_fall_along_trails()
+    ensures { (site : Site) → (class : Class) → IsSoundFor site class → (rank : ℕ → ℕ) → AreRanks site class rank
+        → (events : List SiteEvent) → (state : SiteState) → Runs site events state
+        → RanksFall site class rank state }
+{}
+
+/// Written or heading there: after every run of a sound site each message of a protected class that came from outside
+/// at an entry is, for each archive that is named for its class, written there, or held where it heads there.
+pub fn messages_are_written_or_head_there()
+    ensures { (site : Site) → IsLawful site → IsSound site → (events : List SiteEvent) → (state : SiteState)
+        → Runs site events state → AreWrittenOrHead site state }
 {}
 
 /// No loss: after every run of a sound site each message of a protected class that came from outside at an entry is,

@@ -28,11 +28,11 @@ use Rattle.sy_site.specs.machine.Steps.{Runs, SiteEvent}
 use Rattle.sy_site.specs.machine.Lengths.{Feeder, OnlyFullDelay}
 use Rattle.sy_site.specs.machine.Reach.{Forwards, MayAt, Reach, entry, occurrence_of, onward}
 use Rattle.sy_site.specs.machine.Findings.{IsFedFreely, Kind, queue_of}
-use Rattle.sy_site.specs.machine.Confinement.{AreConfined, Falls, IsFollowed, IsWithinReach}
+use Rattle.sy_site.specs.machine.Confinement.{AreConfined, Falls, IsFollowed, IsWithinReach, RanksFall}
 use Rattle.sy_site.specs.machine.Soundness.{IsSoundFor}
 use Rattle.sy_site.proofs.machine.Keeps.{Each, Kept, Owes, each_append, each_weaker}
 use Rattle.sy_site.proofs.machine.Marks.{AllMarks, InMarks, marks_start, not_delayed, site_marks}
-use Rattle.sy_site.proofs.machine.Spread.{Grows, Moves, Of, OutOf, run_keeps, start_keeps}
+use Rattle.sy_site.proofs.machine.Spread.{Grows, Moves, Of, OutOf, Spread, run_keeps, start_keeps}
 use Rattle.sy_site.proofs.machine.Naming.{each_in}
 
 -- a relay whose rank is below those of all before it
@@ -291,18 +291,28 @@ module _ (site : Site) (class : Class) (sound : IsSoundFor site class) where
         (work_may (body_at (plan_at site r) e.list) e.message class k (ap (λ m. m.class) g.message ∙ of.class_is) (g.due k b));
   }
 
-  pub confined_run : (es : List SiteEvent) (new : SiteState) → Runs site es new → AreConfined site class sound.rank new
-  confined_run es new run =
-      let all = run_keeps site (λ t. P) (λ t. D) (λ t. L) (λ r. InMarks (plan_at site r)) (λ t. good_moves) good_grows
+  -- what holds of all that a run leaves
+  spread_run : (es : List SiteEvent) (new : SiteState) → Runs site es new → Spread new.copies P D L new
+  spread_run es new run = run_keeps site (λ t. P) (λ t. D) (λ t. L) (λ r. InMarks (plan_at site r)) (λ t. good_moves) good_grows
       (λ s. AllMarks site s.relays) (site_marks site) (λ s i. i)
       (opening site) es new (λ r. marks_start (plan_at site r))
-      (start_keeps site (λ t. P) (λ t. D) (λ t. L) (λ r. InMarks (plan_at site r)) (λ t. good_moves) good_grows) run in
+      (start_keeps site (λ t. P) (λ t. D) (λ t. L) (λ r. InMarks (plan_at site r)) (λ t. good_moves) good_grows) run
+
+  pub confined_run : (es : List SiteEvent) (new : SiteState) → Runs site es new → AreConfined site class new
+  confined_run es new run =
+      let all = spread_run es new run in
       record {
         held = λ r k e i x f.
             let of = ours new e.tag x f in
             within_reach r x k e of (of_that new.copies (λ y. P r y k e) e.tag x (each_in _ _ (all.held r k) e i) f.is of);
         not_lost = λ l k x f. of_that new.copies (L l.relay l.cause) l.copy x (each_in _ new.losses all.losses l k) f.is (ours new l.copy x f);
-        held_falls = λ r k e i x f.
+      }
+
+  pub falls_run : (es : List SiteEvent) (new : SiteState) → Runs site es new → RanksFall site class sound.rank new
+  falls_run es new run =
+      let all = spread_run es new run in
+      record {
+        held = λ r k e i x f.
             (of_that new.copies (λ y. P r y k e) e.tag x (each_in _ _ (all.held r k) e i) f.is (ours new e.tag x f)).tracked.once;
-        passed_falls = λ d t i x f. (of_that new.copies (D d) t x (each_in _ (new.passed d) (all.passed d) t i) f.is (ours new t x f)).once;
+        passed = λ d t i x f. (of_that new.copies (D d) t x (each_in _ (new.passed d) (all.passed d) t i) f.is (ours new t x f)).once;
       }

@@ -13,10 +13,10 @@ use Rattle.sy_site.specs.machine.Steps.{Runs, SiteEvent, SiteStep, SiteSteps}
 use Rattle.sy_site.specs.machine.Reach.{LeadsTo, leads_on, list_of, writes}
 use Rattle.sy_site.specs.machine.Confinement.{IsFollowed}
 use Rattle.sy_site.specs.machine.Lawful.{IsLawful}
-use Rattle.sy_site.specs.machine.Safety.{AreSafe, Heads, IsCopyOf, IsHeld, IsOnLink, IsWritten, Left, forwards}
+use Rattle.sy_site.specs.machine.Safety.{AreSafe, AreWrittenOrHead, Heads, IsCopyOf, IsHeld, IsOnLink, IsWritten, IsWrittenOrHeads, Left, forwards}
 use Rattle.sy_site.specs.machine.Safety as safety
 use Rattle.sy_site.specs.machine.Soundness.{IsSound}
-use Rattle.sy_site.proofs.machine.Guarded.{confined_run, falls_apart}
+use Rattle.sy_site.proofs.machine.Guarded.{confined_run, falls_apart, falls_run}
 use Rattle.sy_site.proofs.machine.Heading.{IsCopied, Met, NoLoss, arrives_new, met_step}
 use Rattle.sy_site.proofs.machine.Keeps.{Each}
 use Rattle.sy_site.proofs.machine.Lawful.{archives_lead_nowhere}
@@ -131,7 +131,7 @@ module _ (site : Site) (law : IsLawful site) (sound : IsSound site) where
   abbrev copy_of : (s : SiteState) (n : ℕ) (m : Said) (t : ℕ) → IsCopied s.copies n m t → IsCopyOf s.copies n t
   copy_of s n m t c = record { copy = c.copy; is = c.is; numbered = c.number }
 
-  met_says : (s : SiteState) (d : SiteAction) (n : ℕ) (m : Said) → Met site d n m s → IsWritten s d n ⊎ (IsHeld site s d n ⊎ IsOnLink site s d n)
+  met_says : (s : SiteState) (d : SiteAction) (n : ℕ) (m : Said) → Met site d n m s → IsWrittenOrHeads site s d n
   met_says s d n m (inl h) =
       let f = some_in _ (at (s.relays h.0) h.1.0) h.1.1 in
       inr (inl (record {
@@ -157,16 +157,21 @@ module _ (site : Site) (law : IsLawful site) (sound : IsSound site) where
         }))
       ]
 
+  pub written_run : (es : List SiteEvent) (s : SiteState) → Runs site es s → AreWrittenOrHead site s
+  written_run es s run n a at protected entered d k =
+      let w = kept_steps (opening site) es s kept_start run in
+      met_says s d n a.message (w.met n a at (protected, entered) d k)
+
   pub safe_run : (es : List SiteEvent) (s : SiteState) → Runs site es s → AreSafe site s
   safe_run es s run n a at protected entered =
-      let w = kept_steps (opening site) es s kept_start run in
       let good = sound a.message.class protected in
       let never = confined_run site a.message.class good es s run in
+      let falls = falls_run site a.message.class good es s run in
       let ours : (t : ℕ) (c : IsCopyOf s.copies n t) → IsFollowed site s a.message.class t c.copy
       = λ t c. followed s es run n a at (protected, entered) t c.copy c.is c.numbered in
       record {
-        kept = λ d k. met_says s d n a.message (w.met n a at (protected, entered) d k);
+        kept = written_run es s run n a at protected entered;
         not_lost = λ l k c. never.not_lost l k c.copy (ours l.copy c);
-        held_once = λ r k e i c. falls_apart good.rank c.copy.trail (never.held_falls r k e i c.copy (ours e.tag c));
-        passed_once = λ d t i c. falls_apart good.rank c.copy.trail (never.passed_falls d t i c.copy (ours t c));
+        held_once = λ r k e i c. falls_apart good.rank c.copy.trail (falls.held r k e i c.copy (ours e.tag c));
+        passed_once = λ d t i c. falls_apart good.rank c.copy.trail (falls.passed d t i c.copy (ours t c));
       }

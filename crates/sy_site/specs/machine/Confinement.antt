@@ -25,13 +25,15 @@ pub record IsWithinReach (site : Site) (class : Class) (relay : ℕ) (entry : En
 abbrev pub Falls : (ℕ → ℕ) → List ℕ → Type 0
 Falls rank trail = AllPairs (λ earlier later. rank later < rank earlier) trail
 
--- The copies of the class that came in at entries are confined: they are held within its reach alone, none is lost, and the ranks fall along the
--- trail of each, at a place, on a link or in a file.
-pub record AreConfined (site : Site) (class : Class) (rank : ℕ → ℕ) (state : SiteState) : Type 0 where
+-- The copies of the class that came in at entries are confined: they are held within its reach alone, and none is lost.
+pub record AreConfined (site : Site) (class : Class) (state : SiteState) : Type 0 where
   pub held : (relay : ℕ) (cell : Cell) (entry : Entry) → Contains (at (state.relays relay) cell) entry
       → (copy : Copy) → IsFollowed site state class entry.tag copy → IsWithinReach site class relay entry
   pub not_lost : (loss : Loss) → Contains state.losses loss → (copy : Copy) → IsFollowed site state class loss.copy copy → ⊥
-  pub held_falls : (relay : ℕ) (cell : Cell) (entry : Entry) → Contains (at (state.relays relay) cell) entry
+
+-- The ranks fall along the trail of each of these copies, at a place, on a link or in a file.
+pub record RanksFall (site : Site) (class : Class) (rank : ℕ → ℕ) (state : SiteState) : Type 0 where
+  pub held : (relay : ℕ) (cell : Cell) (entry : Entry) → Contains (at (state.relays relay) cell) entry
       → (copy : Copy) → IsFollowed site state class entry.tag copy → Falls rank copy.trail
-  pub passed_falls : (action : SiteAction) (tag : ℕ) → Contains (state.passed action) tag
+  pub passed : (action : SiteAction) (tag : ℕ) → Contains (state.passed action) tag
       → (copy : Copy) → IsFollowed site state class tag copy → Falls rank copy.trail

@@ -77,13 +77,23 @@ pub record IsOnLink (site : Site) (state : SiteState) (archive : SiteAction) (nu
   pub copy : IsCopyOf state.copies number tag
   pub heads : Heads site archive copy.copy.message to.relay (list_of site to) Left.All
 
+-- the archive has a copy, or one is held where it heads there
+abbrev pub IsWrittenOrHeads : Site → SiteState → SiteAction → ℕ → Type 0
+IsWrittenOrHeads site state archive number = IsWritten state archive number ⊎ (IsHeld site state archive number ⊎ IsOnLink site state archive number)
+
+-- Each message of a protected class that came from outside at an entry is written to each archive that is named for its class, or is held where it
+-- heads there.
+abbrev pub AreWrittenOrHead : Site → SiteState → Type 0
+AreWrittenOrHead site state = (number : ℕ) (arrival : Arrival) → slice_get state.arrivals number ≡ Some arrival
+    → is_protected site arrival.message.class ≡ true → Contains site.entries arrival.origin
+    → (archive : SiteAction) → Contains (archives site arrival.message.class) archive → IsWrittenOrHeads site state archive number
+
 -- ---- safe
 
 -- The message of this number, of this class, is safe.
 pub record IsSafe (site : Site) (state : SiteState) (number : ℕ) (class : Class) : Type 0 where
   -- each archive that is named for the class has it, or it is held where it heads there
-  pub kept : (archive : SiteAction) → Contains (archives site class) archive
-      → IsWritten state archive number ⊎ (IsHeld site state archive number ⊎ IsOnLink site state archive number)
+  pub kept : (archive : SiteAction) → Contains (archives site class) archive → IsWrittenOrHeads site state archive number
   -- no copy of it was lost, nor any occurrence of its work
   pub not_lost : (loss : Loss) → Contains state.losses loss → IsCopyOf state.copies number loss.copy → ⊥
   -- no copy of it, at a place, on a link or in a file, came to a relay twice
