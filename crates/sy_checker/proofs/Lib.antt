@@ -26,3 +26,5 @@ pub mod Described
 pub mod Shaped
 pub mod Certified
 pub mod Checked
+pub mod Complete
+pub mod Fitting

@@ -3,6 +3,8 @@
 ghost use Rattle.std.specs.Prelude.{◌≡◌, ℕ, List};
 ghost use Rattle.sy_cert.specs.declared.row.Row.{Row};
 ghost use Rattle.sy_site.specs.Sites.{Site};
+ghost use Rattle.sy_site.specs.declared.site.SiteInput.{SiteInput};
+ghost use Rattle.sy_site.specs.machine.Findings.{IsFinding, Kind, WayRow};
 ghost use Rattle.sy_site.specs.machine.Lawful.{IsLawful};
 ghost use Rattle.sy_site.specs.machine.Safety.{AreSafe};
 ghost use Rattle.sy_site.specs.machine.Soundness.{IsSound};
@@ -30,6 +32,19 @@ pub fn fit_is_safe()
     fit_is_sound();
     sound_sites_are_safe()
 }
+
+/// A lawful site in which no finding of the nine kinds is true is sound. A sound site has no true finding
+/// (`sy_site::machine::sound_sites_have_no_finding`).
+pub fn sites_without_a_finding_are_sound()
+    ensures { (site : Site) → IsLawful site → ((class : Class) (way : List WayRow) (input : SiteInput) (kind : Kind)
+        → IsFinding site class way input kind → ⊥) → IsSound site }
+{}
+
+/// Each lawful sound site has the rows of a fit certificate: so a lawful site is sound exactly where it has one
+/// (`fit_is_sound`). Nothing is said of the size of its ranks, which a text of a certificate bounds.
+pub fn sound_sites_have_fit_certificates()
+    ensures { (site : Site) → IsLawful site → IsSound site → (rows : List Row) × IsFit site rows }
+{}
 
 /// One list of rows is wanted for a class of a site.
 pub fn one_wanted()

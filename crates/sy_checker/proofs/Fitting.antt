@@ -1,0 +1,267 @@
+-- Each lawful sound site has a fit certificate: its rows, made from what the class reaches, the site's ranks, and how each entry leads to each archive.
+use Rattle.std.proofs.Common.{◌≡◌, ℕ, suc, ◌<◌, ◌≤◌, ◌+◌, ◌*◌, ◌==◌, Bool, true, false, List, [], ◌∷◌, ◌++◌, drop, length, map, get_or, Some, None, refl, sym, ap, subst, ◌∙◌, arith, inl, inr}
+use Rattle.std.specs.Prelude.{Contains, flat_map, slice_get}
+use Rattle.std.specs.List.{list_any}
+use Rattle.std.proofs.lemmas.Bool.{cases_eq}
+use Rattle.std.proofs.lemmas.List.{drop-append-le, drop_all}
+use Rattle.std.proofs.lemmas.Map.Views.{Contains-from_any}
+use Rattle.sy_wire.specs.declared.class.Class.{Class}
+use Rattle.sy_cert.specs.declared.row.Row.{Row}
+use Rattle.sy_cert.specs.declared.row.Row.TheVariants as row
+use Rattle.sy_site.specs.declared.site.SiteAction.{SiteAction}
+use Rattle.sy_site.specs.declared.site.SiteInput.{SiteInput}
+use Rattle.sy_site.specs.Sites.{Site, archives, is_protected, plan_at}
+use Rattle.sy_site.specs.machine.Lawful.{IsLawful}
+use Rattle.sy_site.specs.machine.Reach.{LeadsTo, Reach, leads_on, onward, writes}
+use Rattle.sy_site.specs.machine.Soundness.{AreRanks, IsSound}
+use Rattle.sy_site.proofs.machine.Keeps.{Each, each_append}
+use Rattle.sy_site.proofs.machine.NoFinding.{no_finding}
+use Rattle.sy_checker.specs.Fit.{AreFit, AreRight, AreWanted, IsFit, IsPath, ListsAll, StandsBefore, action_name, name_of, paths, port_of}
+use Rattle.sy_checker.specs.Internal.{AreProtectedBelow, AreRelays, AreSorted, same_input}
+use Rattle.sy_checker.specs.Made.{IsMade, IsMadeAt}
+use Rattle.sy_checker.specs.declared.wanted.Wanted.{Wanted}
+use Rattle.sy_checker.specs.declared.wanted.Wanted.TheVariants as wanted
+use Rattle.sy_checker.proofs.Complete.{reached_list}
+use Rattle.sy_checker.proofs.Found.{not_among, same_is}
+use Rattle.sy_checker.proofs.Joined.{are_wanted}
+use Rattle.sy_checker.proofs.Numbered.{class_put, class_skip, classes_all, classes_first}
+use Rattle.sy_checker.proofs.PartsJoined.{right_append}
+use Rattle.sy_checker.proofs.RowsMade.{are_right}
+use Rattle.sy_checker.proofs.Sorted.{has_input, next_relay, no_input, relay_put, relay_skip, relays_all, relays_first, sorted_all, sorted_first, sorted_put, sorted_skip}
+use Rattle.sy_checker.proofs.There.{place_there, reach_there, relay_there}
+
+each_from : {A : Type 0} (P : A → Type 0) (xs : List A) → ((x : A) → Contains xs x → P x) → Each P xs
+each_from P [] f = tt
+each_from P (y ∷ ys) f = (f y (0, omega arith, refl), each_from P ys (λ x h. f x (ℕ.suc h.0, (let l = h.1 in omega (arith, l)), h.2)))
+
+each_map : {A B : Type 0} (P : B → Type 0) (f : A → B) (xs : List A) → Each (λ x. P (f x)) xs → Each P (map f xs)
+each_map P f [] e = tt
+each_map P f (x ∷ xs) e = (e.0, each_map P f xs e.1)
+
+each_flat : {A B : Type 0} (P : B → Type 0) (f : A → List B) (xs : List A) → Each (λ x. Each P (f x)) xs → Each P (flat_map f xs)
+each_flat P f [] e = tt
+each_flat P f (x ∷ xs) e = each_append P (f x) (flat_map f xs) e.0 (each_flat P f xs e.1)
+
+-- ---- classes
+
+record Parts (number : ℕ) : Type 0 where
+  pub facility : ℕ
+  pub severity : ℕ
+  pub low : severity < 8
+  pub is : 8 * facility + severity ≡ number
+
+parts : (number : ℕ) → Parts number
+parts ℕ.zero = record { facility = 0; severity = 0; low = omega arith; is = refl }
+parts (ℕ.suc n) =
+    let p = parts n in
+    elim (cases_eq p.severity 7) [
+      | inl last ↦ record { facility = p.facility + 1; severity = 0; low = omega arith; is = omega (arith, p.is, last) }
+      | inr apart ↦ record { facility = p.facility; severity = p.severity + 1; low = omega (arith, p.low, apart); is = omega (arith, p.is) }
+    ]
+
+of_number : (number : ℕ) → number < 192 → (class : Class) × (8 * class.facility + class.severity ≡ number)
+of_number number few =
+    let p = parts number in
+    (record { facility = p.facility; severity = p.severity; facility_in_range = omega (arith, p.is, few); severity_in_range = p.low }, p.is)
+
+-- ---- inputs and relays in their order
+
+module _ (site : Site) (found : List SiteInput) (few : (x : SiteInput) → Contains found x → x.relay < length site.relays)
+    (places : (x : SiteInput) → Contains found x → x.input < length (plan_at site x.relay).inputs) where
+  abbrev input_on : ℕ → ℕ → SiteInput
+  input_on relay input = record { relay = relay; input = input }
+
+  sorted_on : (relay : ℕ) (sorted : List SiteInput) → AreSorted found relay 0 sorted → (n : ℕ) → (new : List SiteInput) × AreSorted found relay n new
+  sorted_on relay sorted are ℕ.zero = (sorted, are)
+  sorted_on relay sorted are (ℕ.suc n) =
+      let before = sorted_on relay sorted are n in
+      let next : n + 1 ≡ suc n = omega arith in
+      go before.0 before.1 next (list_any (same_input (input_on relay n)) found) refl
+    where
+      go : (old : List SiteInput) → AreSorted found relay n old → n + 1 ≡ suc n → (b : Bool) → list_any (same_input (input_on relay n)) found ≡ b
+          → (new : List SiteInput) × AreSorted found relay (suc n) new
+      go old is next true e = (
+        old ++ input_on relay n ∷ [],
+        subst (λ k. AreSorted found relay k (old ++ input_on relay n ∷ [])) next
+            (sorted_put found relay n old is (Contains-from_any same_is (input_on relay n) found e)),
+      )
+      go old is next false e =
+          (old, subst (λ k. AreSorted found relay k old) next (sorted_skip found relay n old is (not_among found (input_on relay n) e)))
+
+  sorted_to : (m : ℕ) → (sorted : List SiteInput) × AreSorted found m 0 sorted
+  sorted_to ℕ.zero = ([], sorted_first found)
+  sorted_to (ℕ.suc m) =
+      let before = sorted_to m in
+      let most = length (plan_at site m).inputs in
+      let all = sorted_on m before.0 before.1 most in
+      let next : m + 1 ≡ suc m = omega arith in (
+        all.0,
+        subst (λ k. AreSorted found k 0 all.0) next
+            (next_relay found all.0 m most
+            (λ x there same. subst (λ r. x.input < length (plan_at site r).inputs) same (places x there)) all.1),
+      )
+
+  sorted : (inputs : List SiteInput) × ListsAll (Contains found) StandsBefore inputs
+  sorted = let s = sorted_to (length site.relays) in (s.0, sorted_all found s.0 (length site.relays) few s.1)
+
+relays_to : (inputs : List SiteInput) (m : ℕ) → (relays : List ℕ) × AreRelays inputs m relays
+relays_to inputs ℕ.zero = ([], relays_first inputs)
+relays_to inputs (ℕ.suc m) =
+    let before = relays_to inputs m in
+    let next : m + 1 ≡ suc m = omega arith in
+    go before.0 before.1 next (list_any (λ (i : SiteInput). i.relay == m) inputs) refl
+  where
+    go : (old : List ℕ) → AreRelays inputs m old → m + 1 ≡ suc m → (b : Bool) → list_any (λ (i : SiteInput). i.relay == m) inputs ≡ b
+        → (relays : List ℕ) × AreRelays inputs (suc m) relays
+    go old is next true e =
+        (old ++ m ∷ [], subst (λ k. AreRelays inputs k (old ++ m ∷ [])) next (relay_put inputs m old is (has_input inputs m e)))
+    go old is next false e = (old, subst (λ k. AreRelays inputs k old) next (relay_skip inputs m old is (no_input inputs m e)))
+
+-- ---- ranks as a list
+
+abbrev tabled : (ℕ → ℕ) → ℕ → List ℕ
+tabled f ℕ.zero = []
+tabled f (ℕ.suc n) = f 0 ∷ tabled (λ k. f (suc k)) n
+
+tabled_at : (f : ℕ → ℕ) (n k : ℕ) → k < n → get_or (tabled f n) k 0 ≡ f k
+tabled_at f ℕ.zero k low = absurd (omega (arith, low))
+tabled_at f (ℕ.suc n) ℕ.zero low = refl
+tabled_at f (ℕ.suc n) (ℕ.suc k) low = tabled_at (λ j. f (suc j)) n k (omega (arith, low))
+
+-- ---- the rows of a class
+
+path_of : (site : Site) (class : Class) (archive : SiteAction) (input : SiteInput) → LeadsTo site class archive input
+    → (path : List ℕ) × IsPath site class archive input path
+path_of site class archive input (writes number action must runs is) =
+    ([], record { number = number; must = must; action = action; runs = runs; writes = is })
+path_of site class archive input (leads_on {to = to} number must goes more) =
+    let p = path_of site class archive to more in (number ∷ p.0, (must, to, goes, p.1))
+
+abbrev Makes : Site → Class → List ℕ → Wanted → Type 0
+Makes site class ranks is = (r : Row) × IsMade site class ranks is r
+
+record Rows (site : Site) (class : Class) (ranks : List ℕ) (part : List Wanted) : Type 0 where
+  pub rows : List Row
+  pub many : length rows ≡ length part
+  pub made : (k : ℕ) (is : Wanted) → slice_get part k ≡ Some is → IsMadeAt site class ranks rows k is
+
+no_value : {A : Type 0} {x : A} → None ≡ Some x → ⊥
+no_value e = cc
+
+one_value : {A : Type 0} {x y : A} → Some x ≡ Some y → x ≡ y
+one_value e = cc
+
+rows_of : (site : Site) (class : Class) (ranks : List ℕ) (part : List Wanted) → Each (Makes site class ranks) part → Rows site class ranks part
+rows_of site class ranks [] each = record { rows = []; many = refl; made = λ k is there. absurd (no_value there) }
+rows_of site class ranks (w ∷ part) each =
+    let later = rows_of site class ranks part each.1 in
+    record {
+      rows = each.0.0 ∷ later.rows;
+      many = ap (λ n. suc n) later.many;
+      made = step later;
+    }
+  where
+    step : (later : Rows site class ranks part) (k : ℕ) (is : Wanted) → slice_get (w ∷ part) k ≡ Some is
+        → IsMadeAt site class ranks (each.0.0 ∷ later.rows) k is
+    step later ℕ.zero is there =
+        record { stands = each.0.0; there = refl; made = subst (λ x. IsMade site class ranks x each.0.0) (one_value there) each.0.1 }
+    step later (ℕ.suc k) is there =
+        let at = later.made k is there in record { stands = at.stands; there = at.there; made = at.made }
+
+record PartRows (site : Site) (class : Class) : Type 0 where
+  pub part : List Wanted
+  pub wanted_part : AreWanted site class part
+  pub rows : List Row
+  pub many : length rows ≡ length part
+  pub right : AreRight site class part rows
+
+part_rows : (site : Site) → IsLawful site → IsSound site → (class : Class) → is_protected site class ≡ true → PartRows site class
+part_rows site law all class protected =
+    let sound = all class protected in
+    let n = length site.relays in
+    let l = reached_list site law class (λ way input kind found. no_finding site all class way input kind (record { protected = protected; found = found })) in
+    let found = l.0 in
+    let reach = l.1 in
+    let there : (x : SiteInput) → Contains found x → x.relay < n = λ x is. relay_there site x (reach_there site law class x ((reach x).0 is)) in
+    let places : (x : SiteInput) → Contains found x → x.input < length (plan_at site x.relay).inputs
+    = λ x is. place_there site x (reach_there site law class x ((reach x).0 is)) in
+    let s = sorted site found there places in
+    let r = relays_to s.0 n in
+    let relays = relays_all s.0 r.0 n (λ x is. there x ((s.1.member x).0 is)) r.1 in
+    let part = ((([] ++ wanted.Class class ∷ []) ++ map wanted.Reach s.0) ++ map wanted.Rank r.0) ++ paths site class in
+    let ranks = tabled sound.rank n in
+    let low : (x : SiteInput) → Reach site class x → x.relay < n = λ x at. relay_there site x (reach_there site law class x at) in
+    let falls : AreRanks site class (λ relay. get_or ranks relay 0) = record {
+      falls = λ from to number at may goes.
+          let below = sound.ranks.falls from to number at may goes in
+          let a = tabled_at sound.rank n from.relay (low from at) in
+          let b = tabled_at sound.rank n to.relay (low to (onward number at may goes)) in
+          omega (arith, below, a, b);
+    } in
+    let inputs_made : Each (Makes site class ranks) (map wanted.Reach s.0) = each_map (Makes site class ranks) (λ x. wanted.Reach x) s.0
+    (each_from (λ x. Makes site class ranks (wanted.Reach x)) s.0
+    (λ x is. (row.Reach (name_of site x.relay) (port_of site x), (refl, refl, sound.clean x ((reach x).0 ((s.1.member x).0 is)))))) in
+    let ranks_made : Each (Makes site class ranks) (map wanted.Rank r.0) = each_map (Makes site class ranks) (λ x. wanted.Rank x) r.0
+    (each_from (λ x. Makes site class ranks (wanted.Rank x)) r.0 (λ x is. (row.Rank (name_of site x) (get_or ranks x 0), refl))) in
+    let paths_made : Each (Makes site class ranks) (paths site class) =
+    each_flat (Makes site class ranks) (λ (e : SiteInput). map (λ (a : SiteAction). wanted.Path e a) (archives site class)) site.entries
+    (each_from (λ e. Each (Makes site class ranks) (map (λ a. wanted.Path e a) (archives site class))) site.entries
+    (λ e is. each_map (Makes site class ranks) (λ a. wanted.Path e a) (archives site class)
+    (each_from (λ a. Makes site class ranks (wanted.Path e a)) (archives site class)
+    (λ a named. (let p = path_of site class a e (sound.leads e is a named) in
+    (row.Path (name_of site e.relay) (port_of site e) (name_of site a.relay) (action_name site a) p.0, (refl, refl, refl, refl, p.1))))))) in
+    let each : Each (Makes site class ranks) part =
+    each_append (Makes site class ranks) ((([] ++ wanted.Class class ∷ []) ++ map wanted.Reach s.0) ++ map wanted.Rank r.0) (paths site class)
+    (each_append (Makes site class ranks) (([] ++ wanted.Class class ∷ []) ++ map wanted.Reach s.0) (map wanted.Rank r.0)
+    (each_append (Makes site class ranks) ([] ++ wanted.Class class ∷ []) (map wanted.Reach s.0) ((row.Class class, refl), tt) inputs_made) ranks_made)
+    paths_made in
+    let rows = rows_of site class ranks part each in
+    record {
+      part = part;
+      wanted_part = are_wanted site class found s.0 r.0 part reach s.1 relays refl;
+      rows = rows.rows;
+      many = rows.many;
+      right = are_right site class part ranks rows.rows rows.made falls;
+    }
+
+-- ---- the rows of all classes
+
+rest_behind : (n : ℕ) (rows more : List Row) → length rows ≡ n → drop n (rows ++ more) ≡ more
+rest_behind n rows more many =
+    drop-append-le n rows more (omega (arith, many)) ∙ ap (λ l. l ++ more) (drop_all n rows (omega (arith, many)))
+
+fit_for : (site : Site) → IsLawful site → IsSound site → (classes : List Class) → Each (λ class. is_protected site class ≡ true) classes
+    → (rows : List Row) × AreFit site classes rows
+fit_for site law sound [] each = ([], refl)
+fit_for site law sound (class ∷ classes) each =
+    let one = part_rows site law sound class each.0 in
+    let more = fit_for site law sound classes each.1 in (
+      one.rows ++ more.0,
+      (
+        one.part,
+        one.wanted_part,
+        right_append site class one.part one.rows more.0 one.right,
+        subst (AreFit site classes) (sym (rest_behind (length one.part) one.rows more.0 one.many)) more.1,
+      ),
+    )
+
+classes_to : (site : Site) (n : ℕ) → n ≤ 192 → (classes : List Class) × AreProtectedBelow site n classes
+classes_to site ℕ.zero low = ([], classes_first site)
+classes_to site (ℕ.suc n) low =
+    let before = classes_to site n (omega (arith, low)) in
+    let class = of_number n (omega (arith, low)) in
+    let next : n + 1 ≡ suc n = omega arith in
+    go before.0 before.1 class.0 class.1 next (is_protected site class.0) refl
+  where
+    go : (old : List Class) → AreProtectedBelow site n old → (class : Class) → 8 * class.facility + class.severity ≡ n → n + 1 ≡ suc n
+        → (b : Bool) → is_protected site class ≡ b → (classes : List Class) × AreProtectedBelow site (suc n) classes
+    go old are class is next true e =
+        (old ++ class ∷ [], subst (λ k. AreProtectedBelow site k (old ++ class ∷ [])) next (class_put site n old class is are e))
+    go old are class is next false e = (old, subst (λ k. AreProtectedBelow site k old) next (class_skip site n old class is are e))
+
+pub sound_has_fit : (site : Site) → IsLawful site → IsSound site → (rows : List Row) × IsFit site rows
+sound_has_fit site law sound =
+    let c = classes_to site 192 (omega arith) in
+    let protected = classes_all site c.0 192 (omega arith) c.1 in
+    let fit = fit_for site law sound c.0 (each_from (λ class. is_protected site class ≡ true) c.0 (λ class is. (protected.member class).0 is)) in
+    (fit.0, record { classes = c.0; protected = protected; fit = fit.1 })
