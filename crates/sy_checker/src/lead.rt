@@ -10,7 +10,7 @@ ghost use Rattle.sy_checker.specs.Answer as spec;
 use crate::executed::Executed;
 use crate::finding::WayRow;
 use crate::path::must_write;
-use crate::reach::spread;
+use crate::reach::{Found, spread};
 use crate::way::way_to;
 use std::alloc::{AllocError, Global};
 use sy_script::Items;
@@ -54,15 +54,16 @@ fn lead_among(
     class: Class,
     archive: SiteAction,
     start: &[SiteInput],
-    found: &[SiteInput],
+    found: &Found,
 ) -> Result<Option<Items<u8>>, AllocError>
-    requires spread { IsSpread site.now class executed.Must start.now found.now }
+    requires spread { IsSpread site.now class executed.Must start.now found.now.inputs.items found.now.origins.items }
     ensures { IfOk result (λ path. (entry : AnyInput) → start.now ≡ entry ∷ []
         → spec.IsLead site.now class archive entry path) }
 {
-    match first_writing(site, class, archive, found) {
+    let _ = start;
+    match first_writing(site, class, archive, found.inputs.as_slice()) {
         Some(place) => {
-            let way = way_to(alloc, site, class, Executed::Must, start, found, place)?;
+            let way = way_to(alloc, found, place)?;
             let path = occurrences(alloc, way.as_slice())?;
             Ok(Some(path))
         }
@@ -83,5 +84,5 @@ pub fn lead(
 {
     let start = [entry];
     let found = spread(alloc, site, class, Executed::Must, &start)?;
-    lead_among(alloc, site, class, archive, &start, found.as_slice())
+    lead_among(alloc, site, class, archive, &start, &found)
 }

@@ -14,7 +14,7 @@ ghost use Rattle.sy_checker.specs.Answer as spec;
 use crate::executed::Executed;
 use crate::finding::{Finding, Kind, Refusal};
 use crate::kinds::{Risk, is_mark_above_size, is_mark_off, is_not_full, may_discard, may_risk};
-use crate::reach::spread;
+use crate::reach::{Found, spread};
 use crate::way::way_to;
 use std::alloc::{AllocError, Global};
 use sy_site::{Site, SiteInput};
@@ -77,25 +77,19 @@ fn finding_at(
     alloc: Global,
     site: &Site,
     class: Class,
-    found: &[SiteInput],
+    found: &Found,
     place: usize,
     kind: Kind,
 ) -> Result<Finding, AllocError>
     requires protected { sites.is_protected site.now class ≡ true }
-    requires spread { IsSpread site.now class executed.May site.now.entries found.now }
-    requires unclean { spec.IsUncleanAt site.now class found.now place kind }
+    requires spread { IsSpread site.now class executed.May site.now.entries
+        found.now.inputs.items found.now.origins.items }
+    requires unclean { spec.IsUncleanAt site.now class found.now.inputs.items place kind }
     ensures { IfOk result (λ f. IsTrueFinding site.now f) }
 {
-    let input = found[place];
-    let way = way_to(
-        alloc,
-        site,
-        class,
-        Executed::May,
-        site.entries(),
-        found,
-        place,
-    )?;
+    let _ = site;
+    let input = found.inputs[place];
+    let way = way_to(alloc, found, place)?;
     Ok(Finding {
         class,
         input,
@@ -116,9 +110,9 @@ pub fn first_finding(
 {
     site.is_lawful();
     let found = spread(alloc, site, class, Executed::May, site.entries())?;
-    match first_unclean(site, class, found.as_slice()) {
+    match first_unclean(site, class, found.inputs.as_slice()) {
         Some((place, kind)) => {
-            let finding = finding_at(alloc, site, class, found.as_slice(), place, kind)?;
+            let finding = finding_at(alloc, site, class, &found, place, kind)?;
             Ok(Some(finding))
         }
         None => Ok(None),

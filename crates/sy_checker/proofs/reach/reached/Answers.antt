@@ -1,10 +1,8 @@
 use Rattle.std.proofs.Common.{subst}
-use Rattle.std.specs.Prelude.{Contains, ◌↔◌}
-use Rattle.sy_site.specs.declared.site.SiteInput.{SiteInput}
-use Rattle.sy_site.specs.machine.Reach.{Reach}
+use Rattle.std.specs.Prelude.{Contains}
 use Rattle.sy_checker.specs.declared.executed.Executed.TheVariants as executed
 use Rattle.sy_checker.specs.Search.{IsSpread}
-use Rattle.sy_checker.proofs.Gone.{if_ok, reach_spread}
+use Rattle.sy_checker.proofs.Gone.{reach_spread}
 use Rattle.sy_checker.proofs.There.{entry_there}
 use Rattle.sy_checker.proofs.reach.reached.Goals as goal
 
@@ -15,8 +13,6 @@ spread-requires c = record {
 
 pub returns : goal.returns
 returns c =
-    if_ok (λ found. IsSpread c.args.site.now c.args.class executed.May c.entries.result.now found.items)
-    (λ found. (x : SiteInput) → Contains found.items x ↔ Reach c.args.site.now c.args.class x)
-    (λ found spread. reach_spread c.args.site.now c.args.class found.items
-    (subst (λ l. IsSpread c.args.site.now c.args.class executed.May l found.items) c.entries.ensures spread))
-    c.spread.result c.spread.ensures
+    reach_spread c.args.site.now c.args.class c.in_ok-found.found.inputs.items c.in_ok-found.found.origins.items
+    (subst (λ l. IsSpread c.args.site.now c.args.class executed.May l c.in_ok-found.found.inputs.items c.in_ok-found.found.origins.items)
+    c.entries.ensures c.in_ok-found.ensures)

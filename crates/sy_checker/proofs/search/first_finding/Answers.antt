@@ -7,7 +7,7 @@ use Rattle.sy_checker.proofs.search.first_finding.Goals as goal
 
 pub returns : goal.returns
 returns c = λ input reach.
-    let spread = subst (λ s. IsSpread c.args.site.now c.args.class executed.May s c.in_ok-found.found.items) c.entries.ensures c.in_ok-found.ensures in
+    let spread = subst (λ s. IsSpread c.args.site.now c.args.class executed.May s c.in_ok-found.found.inputs.items c.in_ok-found.found.origins.items) c.entries.ensures c.in_ok-found.ensures in
     c.in-None.ensures.none input
     (subst (λ l. Contains l input) (sym c.as_slice.ensures.value)
-    ((reach_spread c.args.site.now c.args.class c.in_ok-found.found.items spread input).1 reach))
+    ((reach_spread c.args.site.now c.args.class c.in_ok-found.found.inputs.items c.in_ok-found.found.origins.items spread input).1 reach))
