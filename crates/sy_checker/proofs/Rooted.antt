@@ -32,7 +32,7 @@ module _ {A : Type 0} where
   still old more j x is = same_place old more j (slice_get_within old j x is) ∙ is
 
   -- what stands there, stood there before, or is the new one
-  stood : (old : List A) (new : A) (j : ℕ) (x : A) → slice_get (old ++ new ∷ []) j ≡ Some x
+  pub stood : (old : List A) (new : A) (j : ℕ) (x : A) → slice_get (old ++ new ∷ []) j ≡ Some x
       → (slice_get old j ≡ Some x) ⊎ ((j ≡ length old) × (x ≡ new))
   stood old new j x is = elim (cases_lt j (length old)) [
     | inl low ↦ inl (sym (same_place old (new ∷ []) j low) ∙ is)

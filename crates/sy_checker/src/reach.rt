@@ -9,11 +9,14 @@ ghost use Rattle.sy_site.specs.declared.site.SiteInput.{SiteInput as AnyInput};
 ghost use Rattle.sy_site.specs.machine.Lawful.{IsInput};
 ghost use Rattle.sy_site.specs.machine.Reach.{Reach};
 ghost use Rattle.sy_checker.specs.declared.executed.Executed.{Executed as AnyExecuted};
+ghost use Rattle.sy_checker.specs.declared.executed.Executed.TheVariants as executed;
 ghost use Rattle.sy_checker.specs.Internal.{Adds, LeadsBy, same_input};
 ghost use Rattle.sy_checker.specs.Search.{ExecutedAt, IsOrigin, IsSpread, KeepsRoots, LeadsOn};
+ghost use Rattle.sy_checker.specs.Flows.{AreFlows};
 
 use crate::executed::{Executed, executed_at};
 use crate::finding::WayRow;
+use crate::flows::ClassFlows;
 use crate::inputs::{forward_at, has};
 use std::alloc::{AllocError, Global};
 use sy_site::{Site, SiteInput};
@@ -107,19 +110,21 @@ fn add_target(
 fn add_targets(
     site: &Site,
     class: Class,
+    flows: &ClassFlows,
     which: Executed,
     from: SiteInput,
     place: usize,
     found: &mut Found,
 ) -> Result<(), AllocError>
     requires there { IsInput site.now from }
+    requires flows { AreFlows site.now class flows.now }
     ensures inputs { OnOk result
         (Adds (LeadsOn site.now class which from) found.old.inputs.items found.new.inputs.items) }
     ensures roots { (start : List AnyInput) → slice_get found.old.inputs.items place ≡ Some from
         → OnOk result (KeepsRoots site.now class which start found.old.inputs.items found.old.origins.items
         found.new.inputs.items found.new.origins.items) }
 {
-    let set = executed_at(site, class, which, from);
+    let set = executed_at(site, class, flows, which, from);
     for number in 0..64 {
         add_target(site, from, place, set, number, found)?;
     }
@@ -142,10 +147,12 @@ pub fn spread(
     alloc: Global,
     site: &Site,
     class: Class,
+    flows: &ClassFlows,
     which: Executed,
     start: &[SiteInput],
 ) -> Result<Found, AllocError>
     requires there { (x : AnyInput) → Contains start.now x → IsInput site.now x }
+    requires flows { AreFlows site.now class flows.now }
     ensures { IfOk result
         (λ found. IsSpread site.now class which start.now found.inputs.items found.origins.items) }
 {
@@ -155,17 +162,26 @@ pub fn spread(
     let mut done = 0;
     while done < found.inputs.len() {
         let from = found.inputs[done];
-        add_targets(site, class, which, from, done, &mut found)?;
+        add_targets(site, class, flows, which, from, done, &mut found)?;
         done += 1;
     }
     Ok(found)
 }
 
 /// The inputs that messages of a class reach, in the order in which they are found.
-pub fn reached(alloc: Global, site: &Site, class: Class) -> Result<Vec<SiteInput>, AllocError>
-    ensures { IfOk result (λ found. (x : AnyInput) → Contains found.items x ↔ Reach site.now class x) }
+pub fn reached(
+    alloc: Global,
+    site: &Site,
+    class: Class,
+    flows: &ClassFlows,
+) -> Result<Found, AllocError>
+    requires flows { AreFlows site.now class flows.now }
+    ensures spread { IfOk result (λ found. IsSpread site.now class executed.May site.now.entries
+        found.inputs.items found.origins.items) }
+    ensures reached { IfOk result
+        (λ found. (x : AnyInput) → Contains found.inputs.items x ↔ Reach site.now class x) }
 {
     site.is_lawful();
-    let found = spread(alloc, site, class, Executed::May, site.entries())?;
-    Ok(found.inputs)
+    let found = spread(alloc, site, class, flows, Executed::May, site.entries())?;
+    Ok(found)
 }

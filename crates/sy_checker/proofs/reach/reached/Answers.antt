@@ -8,11 +8,17 @@ use Rattle.sy_checker.proofs.reach.reached.Goals as goal
 
 pub spread-requires : goal.spread-requires
 spread-requires c = record {
+  flows = c.requires.flows;
   there = λ x is. entry_there c.args.site.now c.is_lawful.ensures x (subst (λ l. Contains l x) c.entries.ensures is);
 }
 
-pub returns : goal.returns
-returns c =
+pub returns-clause-spread : goal.returns-clause-spread
+returns-clause-spread c =
+    subst (λ l. IsSpread c.args.site.now c.args.class executed.May l c.in_ok-found.found.inputs.items c.in_ok-found.found.origins.items)
+    c.entries.ensures c.in_ok-found.ensures
+
+pub returns-clause-reached : goal.returns-clause-reached
+returns-clause-reached c =
     reach_spread c.args.site.now c.args.class c.in_ok-found.found.inputs.items c.in_ok-found.found.origins.items
     (subst (λ l. IsSpread c.args.site.now c.args.class executed.May l c.in_ok-found.found.inputs.items c.in_ok-found.found.origins.items)
     c.entries.ensures c.in_ok-found.ensures)
