@@ -1,8 +1,8 @@
 -- Going through the inputs that are found, until nothing more is.
-use Rattle.std.proofs.Common.{◌≡◌, ℕ, suc, ◌<◌, ◌≤◌, ◌+◌, ◌*◌, Bool, true, false, ◌||◌, ◌==◌, List, [], ◌∷◌, ◌++◌, length, map, Option, Some, None, refl, sym, ap, subst, ◌∙◌, arith, inl, inr, eqb-true, eq-eqb}
+use Rattle.std.proofs.Common.{◌≡◌, ℕ, suc, ◌<◌, ◌≤◌, ◌+◌, ◌*◌, Bool, true, false, ◌||◌, ◌==◌, List, [], ◌∷◌, length, map, Option, Some, None, refl, sym, ap, subst, ◌∙◌, arith, inl, inr, eqb-true, eq-eqb}
 use Rattle.std.specs.Prelude.{Contains, ◌⊎◌, ◌↔◌, Result, Ok, Err, IfOk, slice_get}
 use Rattle.std.specs.List.{AllByRecursion, IsDistinct, list_any}
-use Rattle.std.proofs.lemmas.Bool.{cases_eq, cases_lt, false≢true, ne_eqb}
+use Rattle.std.proofs.lemmas.Bool.{cases_eq, false≢true, ne_eqb}
 use Rattle.std.proofs.lemmas.List.{length-map}
 use Rattle.std.proofs.lemmas.List.Elements.{Contains-append_left}
 use Rattle.std.proofs.lemmas.Map.Steps.{length-le_from_distinct_below}
@@ -16,8 +16,10 @@ use Rattle.sy_site.specs.machine.Reach.{Reach, entry, onward}
 use Rattle.sy_checker.specs.declared.executed.Executed.{Executed}
 use Rattle.sy_checker.specs.declared.executed.Executed.TheVariants as executed
 use Rattle.sy_checker.specs.Internal.{Adds, same_input}
-use Rattle.sy_checker.specs.Search.{AreRooted, ComesFrom, IsSpread, LeadsOn}
+use Rattle.sy_checker.specs.declared.reach.Origin.{Origin}
+use Rattle.sy_checker.specs.Search.{AreRooted, IsOrigin, IsSpread, KeepsRoots, LeadsOn}
 use Rattle.sy_checker.proofs.FitIsSound.{at_place}
+use Rattle.sy_checker.proofs.Rooted.{origin_at, rooted_none, same_place}
 use Rattle.sy_checker.proofs.There.{forward_there, place_there, relay_there}
 
 -- ---- whole plans
@@ -111,11 +113,12 @@ few site law found distinct each =
 
 -- ---- so many of those that are found were gone through
 
-pub record HasGone (site : Site) (class : Class) (which : Executed) (start found : List SiteInput) (done : ℕ) : Type 0 where
+pub record HasGone (site : Site) (class : Class) (which : Executed) (start found : List SiteInput) (origins : List (Option Origin)) (done : ℕ)
+    : Type 0 where
   pub there : (x : SiteInput) → Contains found x → IsInput site x
   pub starts : (x : SiteInput) → Contains start x → Contains found x
   pub closed : (j : ℕ) (from to : SiteInput) → j < done → slice_get found j ≡ Some from → LeadsOn site class which from to → Contains found to
-  pub rooted : AreRooted site class which start found
+  pub rooted : AreRooted site class which start found origins
   pub distinct : IsDistinct same_input found
 
 none_in : (x : SiteInput) → Contains [] x → ⊥
@@ -124,33 +127,31 @@ none_in x (k, low, is) = absurd (omega (arith, low))
 pub stands_in : (xs : List SiteInput) (k : ℕ) (x : SiteInput) → slice_get xs k ≡ Some x → Contains xs x
 stands_in xs k x is = (k, slice_get_within xs k x is, get_or_from_slice_get xs k x x is)
 
-module _ (site : Site) (class : Class) (which : Executed) (start found : List SiteInput) (added : Adds (Contains start) [] found) where
+module _ (site : Site) (class : Class) (which : Executed) (start found : List SiteInput) (origins : List (Option Origin))
+    (added : Adds (Contains start) [] found) (roots : KeepsRoots site class which start [] [] found origins) where
   is_start : (x : SiteInput) → Contains found x → Contains start x
   is_start x there = elim (added.only x there) [
     | inl before ↦ absurd (none_in x before)
     | inr is ↦ is
   ]
 
-  pub gone_first : ((x : SiteInput) → Contains start x → IsInput site x) → HasGone site class which start found 0
+  pub gone_first : ((x : SiteInput) → Contains start x → IsInput site x) → HasGone site class which start found origins 0
   unfolding IsDistinct
   gone_first there = record {
     there = λ x is. there x (is_start x is);
     starts = added.all;
     closed = λ j from to low is leads. absurd (omega (arith, low));
-    rooted = λ place to is. inl (is_start to (stands_in found place to is));
+    rooted = roots (rooted_none site class which start);
     distinct = added.distinct tt;
   }
 
 one_value : {A : Type 0} {x y : A} → Some x ≡ Some y → x ≡ y
 one_value e = cc
 
-same_place : (old more : List SiteInput) (j : ℕ) → j < length old → slice_get (old ++ more) j ≡ slice_get old j
-same_place [] more j low = absurd (omega (arith, low))
-same_place (x ∷ old) more ℕ.zero low = refl
-same_place (x ∷ old) more (ℕ.suc j) low = same_place old more j (omega (arith, low))
-
-module _ (site : Site) (class : Class) (which : Executed) (start old new : List SiteInput) (done : ℕ) (from : SiteInput)
-    (here : slice_get old done ≡ Some from) (gone : HasGone site class which start old done) (added : Adds (LeadsOn site class which from) old new) where
+module _ (site : Site) (class : Class) (which : Executed) (start old new : List SiteInput) (old_origins new_origins : List (Option Origin)) (done : ℕ)
+    (from : SiteInput) (here : slice_get old done ≡ Some from) (gone : HasGone site class which start old old_origins done)
+    (added : Adds (LeadsOn site class which from) old new)
+    (roots : KeepsRoots site class which start old old_origins new new_origins) where
   kept : (x : SiteInput) → Contains old x → Contains new x
   kept x there = subst (λ l. Contains l x) (sym added.whole) (Contains-append_left old added.more x there)
 
@@ -159,9 +160,6 @@ module _ (site : Site) (class : Class) (which : Executed) (start old new : List 
 
   in_old : (j : ℕ) (x : SiteInput) → j < length old → slice_get new j ≡ Some x → slice_get old j ≡ Some x
   in_old j x low is = sym (same_in j low) ∙ is
-
-  in_new : (j : ℕ) (x : SiteInput) → slice_get old j ≡ Some x → slice_get new j ≡ Some x
-  in_new j x is = same_in j (slice_get_within old j x is) ∙ is
 
   now_closed : (j : ℕ) (x to : SiteInput) → j < done + 1 → slice_get new j ≡ Some x → LeadsOn site class which x to → Contains new to
   now_closed j x to low is leads =
@@ -175,36 +173,7 @@ module _ (site : Site) (class : Class) (which : Executed) (start old new : List 
             kept to (gone.closed j x to (omega (arith, low, apart)) (in_old j x (omega (arith, low, apart, within)) is) leads)
       ]
 
-  -- what stood at a place has the same root at that place or later
-  root_stays : (k place : ℕ) (to : SiteInput) → k ≤ place → slice_get old k ≡ Some to → Contains start to ⊎ ComesFrom site class which new place to
-  root_stays k place to low is = elim (gone.rooted k to is) [
-    | inl starts ↦ inl starts
-    | inr comes ↦
-        let before = comes.before in
-        inr (record {
-          earlier = comes.earlier;
-          before = omega (arith, before, low);
-          from = comes.from;
-          stands = in_new comes.earlier comes.from comes.stands;
-          leads = comes.leads;
-        })
-  ]
-
-  now_rooted : AreRooted site class which start new
-  now_rooted place to is = elim (cases_lt place (length old)) [
-    | inl low ↦ root_stays place place to (omega arith) (in_old place to low is)
-    | inr high ↦ elim (added.only to (stands_in new place to is)) [
-      | inl had ↦
-          let at = at_place old to had in
-          let within = slice_get_within old at.0 to at.1 in
-          root_stays at.0 place to (omega (arith, within, high)) at.1
-      | inr leads ↦
-          let within = slice_get_within old done from here in
-          inr (record { earlier = done; before = omega (arith, within, high); from = from; stands = in_new done from here; leads = leads })
-    ]
-  ]
-
-  pub gone_more : HasGone site class which start new (done + 1)
+  pub gone_more : HasGone site class which start new new_origins (done + 1)
   gone_more = record {
     there = λ x is. elim (added.only x is) [
       | inl before ↦ gone.there x before
@@ -212,25 +181,25 @@ module _ (site : Site) (class : Class) (which : Executed) (start old new : List 
     ];
     starts = λ x is. kept x (gone.starts x is);
     closed = now_closed;
-    rooted = now_rooted;
+    rooted = roots gone.rooted;
     distinct = added.distinct gone.distinct;
   }
 
-pub gone_all : (site : Site) (class : Class) (which : Executed) (start found : List SiteInput) (done : ℕ) → HasGone site class which start found done
-    → length found ≤ done → IsSpread site class which start found
-gone_all site class which start found done gone all = record {
-  there = gone.there;
-  starts = gone.starts;
-  closed = λ from to is leads.
-      (let at = at_place found from is in
-      let within = slice_get_within found at.0 from at.1 in
-      gone.closed at.0 from to (omega (arith, within, all)) at.1 leads);
-  rooted = gone.rooted;
-}
+module _ (site : Site) (class : Class) (which : Executed) (start found : List SiteInput) (origins : List (Option Origin)) (done : ℕ)
+    (gone : HasGone site class which start found origins done) where
+  pub gone_all : length found ≤ done → IsSpread site class which start found origins
+  gone_all all = record {
+    there = gone.there;
+    starts = gone.starts;
+    closed = λ from to is leads.
+        (let at = at_place found from is in
+        let within = slice_get_within found at.0 from at.1 in
+        gone.closed at.0 from to (omega (arith, within, all)) at.1 leads);
+    rooted = gone.rooted;
+  }
 
-pub found_few : (site : Site) → IsLawful site → (class : Class) (which : Executed) (start found : List SiteInput) (done : ℕ)
-    → HasGone site class which start found done → length found ≤ 4096
-found_few site law class which start found done gone = few site law found gone.distinct gone.there
+  pub found_few : IsLawful site → length found ≤ 4096
+  found_few law = few site law found gone.distinct gone.there
 
 -- ---- what a class reaches
 
@@ -238,20 +207,23 @@ pub if_ok : {A E : Type 0} (P Q : A → Type 0) → ((x : A) → P x → Q x) �
 if_ok P Q f (Ok x) p = f x p
 if_ok P Q f (Err e) p = p
 
-module _ (site : Site) (class : Class) (found : List SiteInput) (spread : IsSpread site class executed.May site.entries found) where
+module _ (site : Site) (class : Class) (found : List SiteInput) (origins : List (Option Origin))
+    (spread : IsSpread site class executed.May site.entries found origins) where
   reach_found : (x : SiteInput) → Reach site class x → Contains found x
   reach_found x (entry is) = spread.starts x is
   reach_found x (onward {from} number before may goes) =
       spread.closed from x (reach_found from before) (record { number = number; done = may; goes = goes })
 
+  reached_by : (place : ℕ) (x : SiteInput) (origin : Option Origin) → IsOrigin site class executed.May site.entries found place x origin
+      → ((earlier : ℕ) (y : SiteInput) → earlier < place → slice_get found earlier ≡ Some y → Reach site class y) → Reach site class x
+  reached_by place x None starts before = entry starts
+  reached_by place x (Some o) from before = onward o.row.number (before o.place o.row.input from.0 from.1) from.2.1 from.2.2
+
   reached_below : (most place : ℕ) → place < most → (x : SiteInput) → slice_get found place ≡ Some x → Reach site class x
   reached_below ℕ.zero place low x is = absurd (omega (arith, low))
-  reached_below (ℕ.suc most) place low x is = elim (spread.rooted place x is) [
-    | inl starts ↦ entry starts
-    | inr comes ↦
-        let before = comes.before in
-        onward comes.leads.number (reached_below most comes.earlier (omega (arith, before, low)) comes.from comes.stands) comes.leads.done comes.leads.goes
-  ]
+  reached_below (ℕ.suc most) place low x is =
+      let origin = origin_at site class executed.May site.entries found origins spread.rooted place x is in
+      reached_by place x origin.0 origin.1 (λ earlier y less stands. reached_below most earlier (omega (arith, less, low)) y stands)
 
   pub reach_spread : (x : SiteInput) → Contains found x ↔ Reach site class x
   reach_spread x = (

@@ -1,6 +1,8 @@
 pub mod FitIsSound
 pub mod Found
 pub mod There
+pub mod Rooted
+pub mod Flowing
 pub mod Gone
 pub mod Sorted
 pub mod Paths

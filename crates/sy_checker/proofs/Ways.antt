@@ -1,13 +1,11 @@
 -- Ways to inputs that were found, and what follows from there.
-use Rattle.std.proofs.Common.{◌≡◌, ℕ, ◌<◌, ◌≤◌, ◌+◌, ◌^◌, true, List, [], ◌∷◌, ◌++◌, length, get_or, map, reverse, Option, Some, None, sym, subst, ◌∙◌, arith, inl, inr}
+use Rattle.std.proofs.Common.{◌≡◌, ℕ, ◌<◌, ◌≤◌, ◌+◌, true, List, [], ◌∷◌, ◌++◌, length, get_or, map, reverse, Option, Some, None, sym, subst, ◌∙◌, arith, inl, inr}
 use Rattle.std.specs.Prelude.{Contains, slice_get}
-use Rattle.std.proofs.lemmas.Bool.{cases_eq, cases_lt}
+use Rattle.std.proofs.lemmas.Bool.{cases_eq}
 use Rattle.std.proofs.lemmas.List.{reverse-append}
-use Rattle.std.proofs.lemmas.Nat.Bits.{bit_at_above}
 use Rattle.std.proofs.lemmas.Option.{slice_get-get_or, slice_get_within}
 use Rattle.sy_wire.specs.declared.class.Class.{Class}
 use Rattle.sy_cert.specs.Rows.{AreOccurrences}
-use Rattle.sy_rules.specs.lists.Sets.{Bits}
 use Rattle.sy_site.specs.declared.site.SiteAction.{SiteAction}
 use Rattle.sy_site.specs.declared.site.SiteInput.{SiteInput}
 use Rattle.sy_site.specs.Sites.{Site, is_protected}
@@ -18,74 +16,16 @@ use Rattle.sy_checker.specs.declared.executed.Executed.TheVariants as executed
 use Rattle.sy_checker.specs.declared.finding.Kind.{Kind}
 use Rattle.sy_checker.specs.declared.finding.Kind.TheVariants as kind
 use Rattle.sy_checker.specs.declared.finding.WayRow.{WayRow}
+use Rattle.sy_checker.specs.declared.reach.Origin.{Origin}
 use Rattle.sy_checker.specs.Answer.{AreSmall, IsKindAt, IsLead, IsRiskAt}
 use Rattle.sy_checker.specs.Finding.{kind_of, way_of}
 use Rattle.sy_checker.specs.Fit.{IsPath, MustWrite}
-use Rattle.sy_checker.specs.Internal.{LeadsBy}
 use Rattle.sy_checker.proofs.FitIsSound.{at_place}
 use Rattle.sy_checker.proofs.Risky.{all_clean}
-use Rattle.sy_checker.specs.Search.{ExecutedAt, IsLed, IsLedFrom, IsNumberTo, IsSpread, LeadsOn, StepsBack}
+use Rattle.sy_checker.specs.Search.{AreRooted, IsLed, IsLedFrom, IsNumberTo, IsSpread}
 
 pub one_value : {A : Type 0} {x y : A} → Some x ≡ Some y → x ≡ y
 one_value e = cc
-
--- ---- one occurrence
-
-abbrev pub IsNoneBelow : Site → ℕ → SiteInput → SiteInput → ℕ → Type 0
-IsNoneBelow site set from to most = (number : ℕ) → number < most → LeadsBy site set from number to → ⊥
-
-pub none_first : (site : Site) (set : ℕ) (from to : SiteInput) → IsNoneBelow site set from to 0
-none_first site set from to number low leads = omega (arith, low)
-
-pub none_more : (site : Site) (set : ℕ) (from to : SiteInput) (n : ℕ) → (LeadsBy site set from n to → ⊥) → IsNoneBelow site set from to n
-    → IsNoneBelow site set from to (n + 1)
-none_more site set from to n none before number low leads = elim (cases_eq number n) [
-  | inl same ↦ none (subst (λ k. LeadsBy site set from k to) same leads)
-  | inr apart ↦ before number (omega (arith, low, apart)) leads
-]
-
-pub none_leads : (site : Site) (class : Class) (which : Executed) (set : ℕ) (from to : SiteInput) (n : ℕ) → Bits (ExecutedAt site class which from) set
-    → set < 2 ^ 64 → 64 ≤ n → IsNoneBelow site set from to n → LeadsOn site class which from to → ⊥
-none_leads site class which set from to n bits fits most none on =
-    let bit = (bits on.number).1 on.done in
-    elim (cases_lt on.number 64) [
-      | inl low ↦ none on.number (omega (arith, low, most)) (record { member = bit; goes = on.goes })
-      | inr high ↦ (let above = bit_at_above set 64 on.number fits high in omega (arith, bit, above))
-    ]
-
-pub number_leads : (site : Site) (class : Class) (which : Executed) (set : ℕ) (from to : SiteInput) (n : ℕ) → Bits (ExecutedAt site class which from) set
-    → n < 64 → LeadsBy site set from n to → IsNumberTo site class which from to (Some n)
-number_leads site class which set from to n bits low leads = (low, (bits n).0 leads.member, leads.goes)
-
--- ---- one step back
-
-abbrev pub IsNoneBefore : Site → Class → Executed → List SiteInput → SiteInput → ℕ → Type 0
-IsNoneBefore site class which found to most = (j : ℕ) (from : SiteInput) → j < most → slice_get found j ≡ Some from
-    → LeadsOn site class which from to → ⊥
-
-pub none_before_first : (site : Site) (class : Class) (which : Executed) (found : List SiteInput) (to : SiteInput)
-    → IsNoneBefore site class which found to 0
-none_before_first site class which found to j from low is leads = omega (arith, low)
-
-pub none_before_more : (site : Site) (class : Class) (which : Executed) (found : List SiteInput) (to : SiteInput) (n : ℕ) (from : SiteInput)
-    → slice_get found n ≡ Some from → (LeadsOn site class which from to → ⊥) → IsNoneBefore site class which found to n
-    → IsNoneBefore site class which found to (n + 1)
-none_before_more site class which found to n from here none before j x low is leads = elim (cases_eq j n) [
-  | inl same ↦
-      let at : slice_get found n ≡ Some x = subst (λ k. slice_get found k ≡ Some x) same is in
-      none (subst (λ z. LeadsOn site class which z to) (one_value (sym at ∙ here)) leads)
-  | inr apart ↦ before j x (omega (arith, low, apart)) is leads
-]
-
-pub starts_at : (site : Site) (class : Class) (which : Executed) (start found : List SiteInput) (place : ℕ) (to : SiteInput)
-    → IsSpread site class which start found → slice_get found place ≡ Some to → (n : ℕ) → place ≤ n → IsNoneBefore site class which found to n
-    → Contains start to
-starts_at site class which start found place to spread is n all none = elim (spread.rooted place to is) [
-  | inl starts ↦ starts
-  | inr comes ↦
-      let before = comes.before in
-      absurd (none comes.earlier comes.from (omega (arith, before, all)) comes.stands comes.leads)
-]
 
 -- ---- a way, walked back
 
@@ -106,28 +46,28 @@ read_at found at low =
     let none : SiteInput = record { relay = 0; input = 0 } in
     (get_or found at none, slice_get-get_or found at none low)
 
-module _ (site : Site) (class : Class) (which : Executed) (start found : List SiteInput) (place at : ℕ) (back : List WayRow)
-    (has : HasWay site class which found place at back) where
-  pub way_more : (earlier : ℕ) (row : WayRow) → earlier < at
-      → ((to : SiteInput) → slice_get found at ≡ Some to → StepsBack site class which start found to (Some (earlier, row)))
-      → HasWay site class which found place earlier (back ++ row ∷ [])
-  way_more earlier row before steps =
-      let within = has.within in
-      let at_it = read_at found at within in
-      let step = steps at_it.0 at_it.1 in
-      record {
-        within = omega (arith, before, within);
-        led = λ x end here there.
-            (let same : row.input ≡ x = one_value (sym step.0 ∙ here) in
-            subst (λ way. IsLedFrom site class which x way end) (sym (reverse-append back (row ∷ [])))
-            (same, at_it.0, subst (λ z. IsNumberTo site class which z at_it.0 (Some row.number)) same step.1, has.led at_it.0 end at_it.1 there));
-      }
+module _ (site : Site) (class : Class) (which : Executed) (start found : List SiteInput) (origins : List (Option Origin))
+    (rooted : AreRooted site class which start found origins) (place at : ℕ) (back : List WayRow) (has : HasWay site class which found place at back)
+  where
+    pub way_more : (origin : Origin) → slice_get origins at ≡ Some (Some origin) → HasWay site class which found place origin.place (back ++ origin.row ∷ [])
+    way_more origin is =
+        let within = has.within in
+        let at_it = read_at found at within in
+        let from = rooted.each at at_it.0 (Some origin) at_it.1 is in
+        let before = from.0 in
+        record {
+          within = omega (arith, before, within);
+          led = λ x end here there.
+              (let same : origin.row.input ≡ x = one_value (sym from.1 ∙ here) in
+              subst (λ way. IsLedFrom site class which x way end) (sym (reverse-append back (origin.row ∷ [])))
+              (same, at_it.0, subst (λ z. IsNumberTo site class which z at_it.0 origin.row.number) same from.2, has.led at_it.0 end at_it.1 there));
+        }
 
-  pub way_whole : ((to : SiteInput) → slice_get found at ≡ Some to → StepsBack site class which start found to None) → (end : SiteInput)
-      → slice_get found place ≡ Some end → IsLed site class which start (reverse back) end
-  way_whole steps end there =
-      let at_it = read_at found at has.within in
-      record { from = at_it.0; starts = steps at_it.0 at_it.1; follows = has.led at_it.0 end at_it.1 there }
+    pub way_whole : slice_get origins at ≡ Some None → (end : SiteInput) → slice_get found place ≡ Some end
+        → IsLed site class which start (reverse back) end
+    way_whole is end there =
+        let at_it = read_at found at has.within in
+        record { from = at_it.0; starts = rooted.each at at_it.0 None at_it.1 is; follows = has.led at_it.0 end at_it.1 there }
 
 -- ---- ways as findings have them
 
@@ -195,8 +135,8 @@ path_is site class archive entry way end led write = (
   occurrences_from site class executed.Must way led.from end led.follows,
 )
 
-module _ (site : Site) (class : Class) (archive : SiteAction) (start found : List SiteInput) (spread : IsSpread site class executed.Must start found)
-    (none : (x : SiteInput) → Contains found x → MustWrite site class archive x → ⊥) where
+module _ (site : Site) (class : Class) (archive : SiteAction) (start found : List SiteInput) (origins : List (Option Origin))
+    (spread : IsSpread site class executed.Must start found origins) (none : (x : SiteInput) → Contains found x → MustWrite site class archive x → ⊥) where
   pub leads_not : (x : SiteInput) → Contains found x → LeadsTo site class archive x → ⊥
   leads_not x is (writes number action must runs same) =
       none x is (record { number = number; must = must; action = action; runs = runs; writes = same })

@@ -1,4 +1,5 @@
 pub mod Fit
+pub mod Flows
 pub mod Internal
 pub mod Risks
 pub mod Ranked

@@ -8,6 +8,7 @@ ghost use Rattle.sy_wire.specs.declared.class.Class.{Class as AnyClass};
 ghost use Rattle.sy_checker.specs.Acceptance as spec;
 ghost use Rattle.sy_checker.specs.Fit.{AreProtected};
 
+use crate::flows::flows_of;
 use crate::reach::reached;
 use std::alloc::{AllocError, Global};
 use std::marker::Model;
@@ -76,8 +77,9 @@ fn put_reached(
     ensures { OnOk result ((before : List AnyClass) → spec.AreReached site.now before pairs.old.items
         → spec.AreReached site.now (before ++ class ∷ []) pairs.new.items) }
 {
-    let inputs = reached(alloc, site, class)?;
-    put_pairs(pairs, inputs.as_slice(), class)
+    let flows = flows_of(alloc, site, class)?;
+    let found = reached(alloc, site, class, &flows)?;
+    put_pairs(pairs, found.inputs.as_slice(), class)
 }
 
 // Each input that one of the classes reaches, with that class.

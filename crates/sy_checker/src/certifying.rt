@@ -1,19 +1,23 @@
 //! Making a certificate: the rows of each protected class, or what is found in the site.
 
-ghost use Rattle.std.specs.Prelude.{◌≡◌, ◌<◌, ◌≤◌, ◌++◌, ◌∷◌, [], Contains, IfErr, IfOk, OnOk, length, true};
+ghost use Rattle.std.specs.Prelude.{◌≡◌, ◌<◌, ◌≤◌, ◌++◌, ◌∷◌, ◌↔◌, [], Contains, IfErr, IfOk, OnOk, length, true};
 ghost use Rattle.sy_wire.specs.declared.class.Class.{Class as AnyClass};
 ghost use Rattle.sy_cert.specs.declared.kinds.Kind.TheVariants as kinds;
 ghost use Rattle.sy_cert.specs.Rows.{IsRow, kind, last_kind, may_follow};
 ghost use Rattle.sy_site.specs.Sites as sites;
+ghost use Rattle.sy_site.specs.declared.site.SiteInput.{SiteInput as AnyInput};
+ghost use Rattle.sy_site.specs.machine.Reach.{Reach};
 ghost use Rattle.sy_site.specs.machine.Soundness.{AreRanks, IsSound};
 ghost use Rattle.sy_checker.specs.Certifying as spec;
 ghost use Rattle.sy_checker.specs.Finding.{IsTrueRefusal};
 ghost use Rattle.sy_checker.specs.declared.finding.Refusal.TheVariants as refusal;
 ghost use Rattle.sy_checker.specs.Fit.{AreFit, IsFit};
+ghost use Rattle.sy_checker.specs.Flows.{AreFlows};
 ghost use Rattle.sy_checker.specs.Loops.{HasNoRanks, rank_at};
 
 use crate::classes::protected_classes;
 use crate::finding::Refusal;
+use crate::flows::{ClassFlows, flows_of};
 use crate::laws::fit_is_sound;
 use crate::looped::looped;
 use crate::loops::{Unranked, ranks_of};
@@ -23,9 +27,9 @@ use crate::search::searched;
 use crate::wanted::wanted_rows;
 use std::alloc::{AllocError, Global};
 use sy_cert::{Certificate, Row};
-use sy_site::Site;
 use sy_site::laws::archives_are_those_named;
 use sy_site::machine::sound_sites_have_no_finding;
+use sy_site::{Site, SiteInput};
 use sy_wire::Class;
 
 // What is found where there are no ranks.
@@ -44,14 +48,21 @@ fn unranked(alloc: Global, site: &Site, class: Class, why: Unranked) -> Refusal
 }
 
 // Ranks of the relays for a class, or the finding of a loop.
-fn ranks_for(alloc: Global, site: &Site, class: Class) -> Result<Vec<u32>, Refusal>
+fn ranks_for(
+    alloc: Global,
+    site: &Site,
+    class: Class,
+    flows: &ClassFlows,
+    reached: &[SiteInput],
+) -> Result<Vec<u32>, Refusal>
     requires protected { sites.is_protected site.now class ≡ true }
+    requires flows { AreFlows site.now class flows.now }
+    requires reached { (x : AnyInput) → Contains reached.now x ↔ Reach site.now class x }
     ensures ranks { IfOk result (λ ranks. AreRanks site.now class (rank_at ranks.items)) }
     ensures many { IfOk result (λ ranks. length ranks.items ≡ length site.now.relays) }
     ensures err { IfErr result (λ why. IsTrueRefusal site.now why) }
 {
-    let reached = reached(alloc, site, class)?;
-    match ranks_of(alloc, site, class, reached.as_slice()) {
+    match ranks_of(alloc, site, class, flows, reached) {
         Ok(ranks) => Ok(ranks),
         Err(why) => Err(unranked(alloc, site, class, why)),
     }
@@ -64,10 +75,19 @@ fn rows_of_class(alloc: Global, site: &Site, class: Class) -> Result<Vec<Row>, R
     ensures ok { IfOk result (λ rows. spec.AreRowsOf site.now class rows.items) }
     ensures err { IfErr result (λ why. IsTrueRefusal site.now why) }
 {
-    searched(alloc, site, class)?;
-    let ranks = ranks_for(alloc, site, class)?;
-    let part = wanted_rows(alloc, site, class)?;
-    let rows = rows_for(alloc, site, class, part.as_slice(), ranks.as_slice())?;
+    let flows = flows_of(alloc, site, class)?;
+    let found = reached(alloc, site, class, &flows)?;
+    searched(alloc, site, class, &flows, &found)?;
+    let ranks = ranks_for(alloc, site, class, &flows, found.inputs.as_slice())?;
+    let part = wanted_rows(alloc, site, class, found.inputs.as_slice())?;
+    let rows = rows_for(
+        alloc,
+        site,
+        class,
+        &flows,
+        part.as_slice(),
+        ranks.as_slice(),
+    )?;
     Ok(rows)
 }
 

@@ -3,7 +3,9 @@
 ghost use Rattle.std.specs.Prelude.{◌≡◌, ◌<◌, ℕ, set, max, length};
 ghost use Rattle.sy_site.specs.machine.Lawful.{IsInput};
 ghost use Rattle.sy_checker.specs.Loops as spec;
+ghost use Rattle.sy_checker.specs.Flows.{AreFlows};
 
+use crate::flows::ClassFlows;
 use crate::inputs::{forward_at, has, may_at};
 use sy_site::{Site, SiteInput};
 use sy_wire::Class;
@@ -35,12 +37,13 @@ fn height_by(site: &Site, ranks: &[u32], from: SiteInput, set: u64, number: u32)
 }
 
 /// The rank that an input asks for.
-pub fn height(site: &Site, class: Class, ranks: &[u32], from: SiteInput) -> u32
+pub fn height(site: &Site, class: Class, flows: &ClassFlows, ranks: &[u32], from: SiteInput) -> u32
     requires there { IsInput site.now from }
     requires small { (relay : ℕ) → spec.rank_at ranks.now relay < 4294967295 }
+    requires flows { AreFlows site.now class flows.now }
     ensures { spec.IsHeight site.now class ranks.now from result }
 {
-    let may = may_at(site, class, from);
+    let may = may_at(site, class, flows, from);
     let mut most = 0;
     for number in 0..64 {
         let next = height_by(site, ranks, from, may, number);

@@ -8,8 +8,10 @@ ghost use Rattle.sy_site.specs.Sites.{plan_at};
 ghost use Rattle.sy_site.specs.machine.Lawful.{IsInput};
 ghost use Rattle.sy_site.specs.machine.Reach.{MayAt, MustAt, list_of};
 ghost use Rattle.sy_checker.specs.Internal as spec;
+ghost use Rattle.sy_checker.specs.Flows.{AreFlows};
 
-use sy_classes::flow_of;
+use crate::flows::ClassFlows;
+use sy_classes::Flows;
 use sy_rules::laws::plans_are_whole;
 use sy_rules::{Input, Occurrence};
 use sy_site::{Site, SiteInput};
@@ -41,20 +43,33 @@ pub fn list_at(site: &Site, input: SiteInput) -> u32
     input_at(site, input).list
 }
 
-/// What messages of a class may execute at an input.
-pub fn may_at(site: &Site, class: Class, input: SiteInput) -> u64
+// What is kept of the list of an input.
+fn flow_at(site: &Site, class: Class, flows: &ClassFlows, input: SiteInput) -> Flows
     requires there { IsInput site.now input }
+    requires flows { AreFlows site.now class flows.now }
+    ensures may { Bits (MayAt site.now class input) result.may }
+    ensures must { Bits (MustAt site.now class input) result.must }
+{
+    let relay = &flows.relays[input.relay as usize];
+    relay.lists[list_at(site, input) as usize]
+}
+
+/// What messages of a class may execute at an input.
+pub fn may_at(site: &Site, class: Class, flows: &ClassFlows, input: SiteInput) -> u64
+    requires there { IsInput site.now input }
+    requires flows { AreFlows site.now class flows.now }
     ensures { Bits (MayAt site.now class input) result }
 {
-    flow_of(site.plan(input.relay), list_at(site, input), class).may
+    flow_at(site, class, flows, input).may
 }
 
 /// What they must execute.
-pub fn must_at(site: &Site, class: Class, input: SiteInput) -> u64
+pub fn must_at(site: &Site, class: Class, flows: &ClassFlows, input: SiteInput) -> u64
     requires there { IsInput site.now input }
+    requires flows { AreFlows site.now class flows.now }
     ensures { Bits (MustAt site.now class input) result }
 {
-    flow_of(site.plan(input.relay), list_at(site, input), class).must
+    flow_at(site, class, flows, input).must
 }
 
 /// The occurrences of its list.

@@ -8,7 +8,9 @@ ghost use Rattle.sy_site.specs.machine.Findings.{HoldsAt, IsFedFreely, Kind, que
 ghost use Rattle.sy_site.specs.machine.Lawful.{IsInput};
 ghost use Rattle.sy_checker.specs.Fit.{IsClean};
 ghost use Rattle.sy_checker.specs.Risks as spec;
+ghost use Rattle.sy_checker.specs.Flows.{AreFlows};
 
+use crate::flows::ClassFlows;
 use crate::inputs::{has, input_at, may_at, occurrences_at};
 use sy_rules::laws::plans_are_whole;
 use sy_rules::{Destination, FlowControl, Input, Occurrence, Plan, QueueParameters};
@@ -203,11 +205,12 @@ fn has_risk(site: &Site, input: SiteInput, set: u64, number: u32, risk: Risk) ->
 }
 
 /// 5 InnerQueue, 6 GivesUp, 7 NoTarget: some occurrence that may be executed has the risk.
-pub fn may_risk(site: &Site, class: Class, input: SiteInput, risk: Risk) -> bool
+pub fn may_risk(site: &Site, class: Class, flows: &ClassFlows, input: SiteInput, risk: Risk) -> bool
     requires there { IsInput site.now input }
+    requires flows { AreFlows site.now class flows.now }
     ensures { Decides result (HoldsAt site.now class input (spec.kind_of risk)) }
 {
-    let may = may_at(site, class, input);
+    let may = may_at(site, class, flows, input);
     for number in 0..64 {
         if has_risk(site, input, may, number, risk) {
             return true;
@@ -217,19 +220,21 @@ pub fn may_risk(site: &Site, class: Class, input: SiteInput, risk: Risk) -> bool
 }
 
 // Whether one of the kinds 5 to 7 holds at an input.
-fn is_risky(site: &Site, class: Class, input: SiteInput) -> bool
+fn is_risky(site: &Site, class: Class, flows: &ClassFlows, input: SiteInput) -> bool
     requires there { IsInput site.now input }
+    requires flows { AreFlows site.now class flows.now }
     ensures { Decides result (spec.IsRisky site.now class input) }
 {
-    let posts = may_risk(site, class, input, Risk::Post);
-    let gives_up = may_risk(site, class, input, Risk::GivesUp);
-    let no_target = may_risk(site, class, input, Risk::NoTarget);
+    let posts = may_risk(site, class, flows, input, Risk::Post);
+    let gives_up = may_risk(site, class, flows, input, Risk::GivesUp);
+    let no_target = may_risk(site, class, flows, input, Risk::NoTarget);
     posts || gives_up || no_target
 }
 
 /// Whether none of the kinds 1 to 7 holds at an input.
-pub fn is_clean(site: &Site, class: Class, input: SiteInput) -> bool
+pub fn is_clean(site: &Site, class: Class, flows: &ClassFlows, input: SiteInput) -> bool
     requires there { IsInput site.now input }
+    requires flows { AreFlows site.now class flows.now }
     ensures { Decides result (IsClean site.now class input) }
 {
     if is_not_full(site, class, input) {
@@ -244,5 +249,5 @@ pub fn is_clean(site: &Site, class: Class, input: SiteInput) -> bool
     if may_discard(site, class, input) {
         return false;
     }
-    !is_risky(site, class, input)
+    !is_risky(site, class, flows, input)
 }

@@ -6,11 +6,13 @@ ghost use Rattle.sy_site.specs.machine.Lawful.{IsInput};
 ghost use Rattle.sy_checker.specs.declared.executed.Executed.TheVariants as executed;
 ghost use Rattle.sy_checker.specs.Search.{IsSpread};
 ghost use Rattle.sy_checker.specs.Answer as spec;
+ghost use Rattle.sy_checker.specs.Flows.{AreFlows};
 
 use crate::executed::Executed;
 use crate::finding::WayRow;
+use crate::flows::ClassFlows;
 use crate::path::must_write;
-use crate::reach::spread;
+use crate::reach::{Found, spread};
 use crate::way::way_to;
 use std::alloc::{AllocError, Global};
 use sy_script::Items;
@@ -21,14 +23,16 @@ use sy_wire::Class;
 fn first_writing(
     site: &Site,
     class: Class,
+    flows: &ClassFlows,
     archive: SiteAction,
     inputs: &[SiteInput],
 ) -> Option<usize>
     requires there { (x : AnyInput) → Contains inputs.now x → IsInput site.now x }
+    requires flows { AreFlows site.now class flows.now }
     ensures { spec.IsWriting site.now class archive inputs.now result }
 {
     for place in 0..inputs.len() {
-        if must_write(site, class, archive, inputs[place]) {
+        if must_write(site, class, flows, archive, inputs[place]) {
             return Some(place);
         }
     }
@@ -52,17 +56,20 @@ fn lead_among(
     alloc: Global,
     site: &Site,
     class: Class,
+    flows: &ClassFlows,
     archive: SiteAction,
     start: &[SiteInput],
-    found: &[SiteInput],
+    found: &Found,
 ) -> Result<Option<Items<u8>>, AllocError>
-    requires spread { IsSpread site.now class executed.Must start.now found.now }
+    requires spread { IsSpread site.now class executed.Must start.now found.now.inputs.items found.now.origins.items }
+    requires flows { AreFlows site.now class flows.now }
     ensures { IfOk result (λ path. (entry : AnyInput) → start.now ≡ entry ∷ []
         → spec.IsLead site.now class archive entry path) }
 {
-    match first_writing(site, class, archive, found) {
+    let _ = start;
+    match first_writing(site, class, flows, archive, found.inputs.as_slice()) {
         Some(place) => {
-            let way = way_to(alloc, site, class, Executed::Must, start, found, place)?;
+            let way = way_to(alloc, found, place)?;
             let path = occurrences(alloc, way.as_slice())?;
             Ok(Some(path))
         }
@@ -75,13 +82,15 @@ pub fn lead(
     alloc: Global,
     site: &Site,
     class: Class,
+    flows: &ClassFlows,
     archive: SiteAction,
     entry: SiteInput,
 ) -> Result<Option<Items<u8>>, AllocError>
     requires there { IsInput site.now entry }
+    requires flows { AreFlows site.now class flows.now }
     ensures { IfOk result (λ path. spec.IsLead site.now class archive entry path) }
 {
     let start = [entry];
-    let found = spread(alloc, site, class, Executed::Must, &start)?;
-    lead_among(alloc, site, class, archive, &start, found.as_slice())
+    let found = spread(alloc, site, class, flows, Executed::Must, &start)?;
+    lead_among(alloc, site, class, flows, archive, &start, &found)
 }

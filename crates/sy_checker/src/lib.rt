@@ -7,6 +7,7 @@ pub mod checking;
 mod classes;
 mod executed;
 pub mod finding;
+mod flows;
 mod height;
 mod inputs;
 mod kinds;

@@ -9,8 +9,10 @@ ghost use Rattle.sy_site.specs.machine.Reach.{Forwards, MayAt, Reach};
 ghost use Rattle.sy_site.specs.machine.Soundness.{AreRanks};
 ghost use Rattle.sy_checker.specs.Loops as spec;
 ghost use Rattle.sy_checker.specs.declared.finding.WayRow.{WayRow as AnyRow};
+ghost use Rattle.sy_checker.specs.Flows.{AreFlows};
 
 use crate::finding::WayRow;
+use crate::flows::ClassFlows;
 use crate::height::{height, raise};
 use crate::inputs::{forward_at, has, may_at};
 use crate::reach::is_among;
@@ -116,6 +118,7 @@ fn is_settled(settled: &[u32], relay: u32) -> bool
 fn visit(
     site: &Site,
     class: Class,
+    flows: &ClassFlows,
     reached: &[SiteInput],
     seen: &mut Seen,
     from: SiteInput,
@@ -124,6 +127,7 @@ fn visit(
     requires ranked { spec.AreRanked site.now class seen.old.done.items seen.old.settled.items seen.old.ranks.items }
     requires trail { spec.IsTrail site.now class (spec.way_of seen.old.way.items) from }
     requires there { Reach site.now class from }
+    requires flows { AreFlows site.now class flows.now }
     ensures way { OnOk result (seen.new.way.items ≡ seen.old.way.items) }
     ensures ranked { OnOk result
         (spec.AreRanked site.now class seen.new.done.items seen.new.settled.items seen.new.ranks.items) }
@@ -136,11 +140,11 @@ fn visit(
     if is_among(seen.done.as_slice(), from) {
         return Ok(());
     }
-    let may = may_at(site, class, from);
+    let may = may_at(site, class, flows, from);
     for number in 0..64 {
-        follow(site, class, reached, seen, from, may, number)?;
+        follow(site, class, flows, reached, seen, from, may, number)?;
     }
-    let height = height(site, class, seen.ranks.as_slice(), from);
+    let height = height(site, class, flows, seen.ranks.as_slice(), from);
     settle(seen, from, height)?;
     Ok(())
 }
@@ -150,6 +154,7 @@ fn visit(
 fn follow(
     site: &Site,
     class: Class,
+    flows: &ClassFlows,
     reached: &[SiteInput],
     seen: &mut Seen,
     from: SiteInput,
@@ -162,6 +167,7 @@ fn follow(
     requires there { Reach site.now class from }
     requires may { Bits (MayAt site.now class from) may }
     requires small { number < 64 }
+    requires flows { AreFlows site.now class flows.now }
     ensures way { OnOk result (seen.new.way.items ≡ seen.old.way.items) }
     ensures ranked { OnOk result
         (spec.AreRanked site.now class seen.new.done.items seen.new.settled.items seen.new.ranks.items) }
@@ -180,7 +186,7 @@ fn follow(
                 input: from,
                 number,
             };
-            forward(site, class, reached, seen, row, to)
+            forward(site, class, flows, reached, seen, row, to)
         }
         None => Ok(()),
     }
@@ -191,6 +197,7 @@ fn follow(
 fn forward(
     site: &Site,
     class: Class,
+    flows: &ClassFlows,
     reached: &[SiteInput],
     seen: &mut Seen,
     row: WayRow,
@@ -202,6 +209,7 @@ fn forward(
     requires there { Reach site.now class row.input }
     requires may { MayAt site.now class row.input row.number }
     requires goes { Forwards site.now row.input row.number to }
+    requires flows { AreFlows site.now class flows.now }
     ensures way { OnOk result (seen.new.way.items ≡ seen.old.way.items) }
     ensures ranked { OnOk result
         (spec.AreRanked site.now class seen.new.done.items seen.new.settled.items seen.new.ranks.items) }
@@ -215,7 +223,7 @@ fn forward(
     if is_on(seen.way.as_slice(), to.relay) {
         return Err(Halt::Loop(to));
     }
-    visit_relay(site, class, reached, seen, to)?;
+    visit_relay(site, class, flows, reached, seen, to)?;
     go_back(&mut seen.way);
     Ok(())
 }
@@ -225,6 +233,7 @@ fn forward(
 fn visit_relay(
     site: &Site,
     class: Class,
+    flows: &ClassFlows,
     reached: &[SiteInput],
     seen: &mut Seen,
     first: SiteInput,
@@ -234,6 +243,7 @@ fn visit_relay(
     requires trail { (x : AnyInput) → x.relay ≡ first.relay
         → spec.IsTrail site.now class (spec.way_of seen.old.way.items) x }
     requires there { Reach site.now class first }
+    requires flows { AreFlows site.now class flows.now }
     ensures way { OnOk result (seen.new.way.items ≡ seen.old.way.items) }
     ensures ranked { OnOk result
         (spec.AreRanked site.now class seen.new.done.items seen.new.settled.items seen.new.ranks.items) }
@@ -245,10 +255,10 @@ fn visit_relay(
     if is_settled(seen.settled.as_slice(), first.relay) {
         return Ok(());
     }
-    visit(site, class, reached, seen, first)?;
+    visit(site, class, flows, reached, seen, first)?;
     for input in reached {
         if input.relay == first.relay {
-            visit(site, class, reached, seen, *input)?;
+            visit(site, class, flows, reached, seen, *input)?;
         }
     }
     settle_relay(seen, first.relay)?;
@@ -259,12 +269,14 @@ fn visit_relay(
 fn visit_entries(
     site: &Site,
     class: Class,
+    flows: &ClassFlows,
     reached: &[SiteInput],
     seen: &mut Seen,
 ) -> Result<(), Halt>
     requires reached { (x : AnyInput) → Contains reached.now x ↔ Reach site.now class x }
     requires ranked { spec.AreRanked site.now class seen.old.done.items seen.old.settled.items seen.old.ranks.items }
     requires way { seen.old.way.items ≡ [] }
+    requires flows { AreFlows site.now class flows.now }
     ensures ranks { OnOk result (AreRanks site.now class (spec.rank_at seen.new.ranks.items)) }
     ensures most { OnOk result ((relay : ℕ) → spec.IsMost site.now class relay
         (spec.rank_at seen.new.ranks.items relay)) }
@@ -272,7 +284,7 @@ fn visit_entries(
     ensures halted { IfErr result (spec.IsHalted site.now class (spec.way_of seen.new.way.items)) }
 {
     for entry in site.entries() {
-        visit(site, class, reached, seen, *entry)?;
+        visit(site, class, flows, reached, seen, *entry)?;
     }
     Ok(())
 }
@@ -298,9 +310,11 @@ pub fn ranks_of(
     alloc: Global,
     site: &Site,
     class: Class,
+    flows: &ClassFlows,
     reached: &[SiteInput],
 ) -> Result<Vec<u32>, Unranked>
     requires reached { (x : AnyInput) → Contains reached.now x ↔ Reach site.now class x }
+    requires flows { AreFlows site.now class flows.now }
     ensures ranks { IfOk result (λ ranks. AreRanks site.now class (spec.rank_at ranks.items)) }
     ensures most { IfOk result (λ ranks. (relay : ℕ) → spec.IsMost site.now class relay
         (spec.rank_at ranks.items relay)) }
@@ -311,7 +325,7 @@ pub fn ranks_of(
         Ok(seen) => seen,
         Err(_) => return Err(Unranked::NoMemory),
     };
-    match visit_entries(site, class, reached, &mut seen) {
+    match visit_entries(site, class, flows, reached, &mut seen) {
         Ok(()) => Ok(seen.ranks),
         Err(Halt::Loop(end)) => Err(Unranked::Loop(seen.way, end)),
         Err(Halt::NoMemory) => Err(Unranked::NoMemory),

@@ -13,8 +13,10 @@ ghost use Rattle.sy_checker.specs.declared.wanted.Wanted.{Wanted as AnyWanted};
 ghost use Rattle.sy_checker.specs.Finding.{IsTrueRefusal};
 ghost use Rattle.sy_checker.specs.Fit as fit;
 ghost use Rattle.sy_checker.specs.Made as spec;
+ghost use Rattle.sy_checker.specs.Flows.{AreFlows};
 
 use crate::finding::Refusal;
+use crate::flows::ClassFlows;
 use crate::inputs::input_at;
 use crate::unmet::path_for;
 use crate::wanted::Wanted;
@@ -101,6 +103,7 @@ fn path_row(
     alloc: Global,
     site: &Site,
     class: Class,
+    flows: &ClassFlows,
     entry: SiteInput,
     archive: SiteAction,
 ) -> Result<Row, Refusal>
@@ -110,10 +113,11 @@ fn path_row(
     requires there { IsInput site.now entry }
     requires relay { entry.relay < length site.now.relays }
     requires archive { archive.relay < length site.now.relays }
+    requires flows { AreFlows site.now class flows.now }
     ensures ok { IfOk result (λ r. fit.IsPathRow site.now class entry archive r) }
     ensures err { IfErr result (λ why. IsTrueRefusal site.now why) }
 {
-    let path = path_for(alloc, site, class, entry, archive)?;
+    let path = path_for(alloc, site, class, flows, entry, archive)?;
     let row = named_path(alloc, site, class, entry, archive, path)?;
     Ok(row)
 }
@@ -123,6 +127,7 @@ fn row_for(
     alloc: Global,
     site: &Site,
     class: Class,
+    flows: &ClassFlows,
     part: &[Wanted],
     ranks: &[u32],
     is: Wanted,
@@ -132,6 +137,7 @@ fn row_for(
     requires wanted { fit.AreWanted site.now class part.now }
     requires member { Contains part.now is }
     requires many { length ranks.now ≡ length site.now.relays }
+    requires flows { AreFlows site.now class flows.now }
     ensures ok { IfOk result (λ r. spec.IsMade site.now class ranks.now is r) }
     ensures err { IfErr result (λ why. IsTrueRefusal site.now why) }
 {
@@ -142,7 +148,7 @@ fn row_for(
         Wanted::Class(of) => Ok(Row::Class(of)),
         Wanted::Reach(input) => Ok(reach_row(alloc, site, class, input)?),
         Wanted::Rank(of) => Ok(rank_row(alloc, site, of, ranks)?),
-        Wanted::Path(entry, archive) => path_row(alloc, site, class, entry, archive),
+        Wanted::Path(entry, archive) => path_row(alloc, site, class, flows, entry, archive),
     }
 }
 
@@ -159,6 +165,7 @@ pub fn rows_for(
     alloc: Global,
     site: &Site,
     class: Class,
+    flows: &ClassFlows,
     part: &[Wanted],
     ranks: &[u32],
 ) -> Result<Vec<Row>, Refusal>
@@ -167,13 +174,14 @@ pub fn rows_for(
     requires wanted { fit.AreWanted site.now class part.now }
     requires ranks { AreRanks site.now class (λ relay. get_or ranks.now relay 0) }
     requires many { length ranks.now ≡ length site.now.relays }
+    requires flows { AreFlows site.now class flows.now }
     ensures ok { IfOk result (λ rows. fit.AreRight site.now class part.now rows.items) }
     ensures length { IfOk result (λ rows. length rows.items ≡ length part.now) }
     ensures err { IfErr result (λ why. IsTrueRefusal site.now why) }
 {
     let mut rows = Vec::new(alloc);
     for is in part {
-        let row = row_for(alloc, site, class, part, ranks, *is)?;
+        let row = row_for(alloc, site, class, flows, part, ranks, *is)?;
         put(&mut rows, row)?;
     }
     Ok(rows)

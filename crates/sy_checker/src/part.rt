@@ -2,7 +2,9 @@
 
 ghost use Rattle.std.specs.Prelude.{◌≡◌, Contains, Decides, IfNone, IfSome};
 ghost use Rattle.sy_checker.specs.Fit as fit;
+ghost use Rattle.sy_checker.specs.Flows.{AreFlows};
 
+use crate::flows::ClassFlows;
 use crate::rows::is_right;
 use crate::wanted::{RowKind, Wanted};
 use sy_cert::Row;
@@ -37,6 +39,7 @@ pub fn row_kind(row: &Row) -> RowKind
 fn is_right_at(
     site: &Site,
     class: Class,
+    flows: &ClassFlows,
     part: &[Wanted],
     rows: &[Row],
     place: usize,
@@ -44,10 +47,11 @@ fn is_right_at(
 ) -> bool
     requires wanted { fit.AreWanted site.now class part.now }
     requires member { Contains part.now is }
+    requires flows { AreFlows site.now class flows.now }
     ensures { Decides result (fit.IsRightAt site.now class part.now rows.now place is) }
 {
     match rows.get(place) {
-        Some(row) => is_right(site, class, part, rows, is, row),
+        Some(row) => is_right(site, class, flows, part, rows, is, row),
         None => false,
     }
 }
@@ -57,16 +61,18 @@ fn is_right_at(
 pub fn first_wrong(
     site: &Site,
     class: Class,
+    flows: &ClassFlows,
     part: &[Wanted],
     rows: &[Row],
 ) -> Option<(usize, RowKind)>
     requires wanted { fit.AreWanted site.now class part.now }
+    requires flows { AreFlows site.now class flows.now }
     ensures none { IfNone result (fit.AreRight site.now class part.now rows.now) }
     ensures some { IfSome result (λ w. fit.IsWrongAt site.now class part.now rows.now w.0 w.1) }
 {
     for place in 0..part.len() {
         let is = part[place];
-        if !is_right_at(site, class, part, rows, place, is) {
+        if !is_right_at(site, class, flows, part, rows, place, is) {
             return Some((place, wanted_kind(is)));
         }
     }

@@ -4,7 +4,9 @@ ghost use Rattle.std.specs.Prelude.{◌<◌, Decides};
 ghost use Rattle.sy_site.specs.machine.Lawful.{IsInput};
 ghost use Rattle.sy_checker.specs.Fit.{IsPath, MustWrite};
 ghost use Rattle.sy_checker.specs.Internal as spec;
+ghost use Rattle.sy_checker.specs.Flows.{AreFlows};
 
+use crate::flows::ClassFlows;
 use crate::inputs::{forward_at, has, must_at, occurrences_at};
 use sy_rules::Occurrence;
 use sy_site::{Site, SiteAction, SiteInput};
@@ -33,11 +35,18 @@ fn writes(site: &Site, input: SiteInput, set: u64, number: u32, archive: SiteAct
 }
 
 /// Whether an occurrence of the archive must be executed at the input.
-pub fn must_write(site: &Site, class: Class, archive: SiteAction, input: SiteInput) -> bool
+pub fn must_write(
+    site: &Site,
+    class: Class,
+    flows: &ClassFlows,
+    archive: SiteAction,
+    input: SiteInput,
+) -> bool
     requires there { IsInput site.now input }
+    requires flows { AreFlows site.now class flows.now }
     ensures { Decides result (MustWrite site.now class archive input) }
 {
-    let must = must_at(site, class, input);
+    let must = must_at(site, class, flows, input);
     for number in 0..64 {
         if writes(site, input, must, number, archive) {
             return true;
@@ -47,11 +56,18 @@ pub fn must_write(site: &Site, class: Class, archive: SiteAction, input: SiteInp
 }
 
 // The input that an occurrence leads to, where it is a forward that must be executed.
-fn must_forward(site: &Site, class: Class, input: SiteInput, number: u32) -> Option<SiteInput>
+fn must_forward(
+    site: &Site,
+    class: Class,
+    flows: &ClassFlows,
+    input: SiteInput,
+    number: u32,
+) -> Option<SiteInput>
     requires there { IsInput site.now input }
+    requires flows { AreFlows site.now class flows.now }
     ensures { spec.IsMustForward site.now class input number result }
 {
-    let must = must_at(site, class, input);
+    let must = must_at(site, class, flows, input);
     if number >= 64 {
         return None;
     }
@@ -66,19 +82,21 @@ fn must_forward(site: &Site, class: Class, input: SiteInput, number: u32) -> Opt
 pub fn is_path(
     site: &Site,
     class: Class,
+    flows: &ClassFlows,
     archive: SiteAction,
     from: SiteInput,
     occurrences: &[u8],
 ) -> bool
     requires there { IsInput site.now from }
+    requires flows { AreFlows site.now class flows.now }
     ensures { Decides result (IsPath site.now class archive from occurrences.now) }
 {
     let mut input = from;
     for number in occurrences {
-        match must_forward(site, class, input, *number as u32) {
+        match must_forward(site, class, flows, input, *number as u32) {
             Some(to) => input = to,
             None => return false,
         }
     }
-    must_write(site, class, archive, input)
+    must_write(site, class, flows, archive, input)
 }

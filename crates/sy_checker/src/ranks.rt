@@ -5,7 +5,9 @@ ghost use Rattle.std.specs.Str.{bytes_eq};
 ghost use Rattle.sy_site.specs.machine.Lawful.{IsInput};
 ghost use Rattle.sy_checker.specs.Fit.{AreWanted, IsAbove, name_of};
 ghost use Rattle.sy_checker.specs.Ranked as spec;
+ghost use Rattle.sy_checker.specs.Flows.{AreFlows};
 
+use crate::flows::ClassFlows;
 use crate::inputs::{forward_at, has, may_at};
 use crate::wanted::Wanted;
 use sy_cert::Row;
@@ -123,15 +125,17 @@ fn leads_below(
 fn falls_from(
     site: &Site,
     class: Class,
+    flows: &ClassFlows,
     from: SiteInput,
     part: &[Wanted],
     rows: &[Row],
     rank: u32,
 ) -> bool
     requires there { IsInput site.now from }
+    requires flows { AreFlows site.now class flows.now }
     ensures { Decides result (spec.FallsFrom site.now class part.now rows.now rank from) }
 {
-    let may = may_at(site, class, from);
+    let may = may_at(site, class, flows, from);
     for number in 0..64 {
         if !leads_below(site, from, may, number, part, rows, rank) {
             return false;
@@ -144,6 +148,7 @@ fn falls_from(
 fn falls_at(
     site: &Site,
     class: Class,
+    flows: &ClassFlows,
     is: Wanted,
     part: &[Wanted],
     rows: &[Row],
@@ -151,6 +156,7 @@ fn falls_at(
     rank: u32,
 ) -> bool
     requires there { spec.IsInputThere site.now is }
+    requires flows { AreFlows site.now class flows.now }
     ensures { Decides result (spec.FallsAt site.now class part.now rows.now relay rank is) }
 {
     match is {
@@ -158,7 +164,7 @@ fn falls_at(
             if from.relay != relay {
                 return true;
             }
-            falls_from(site, class, from, part, rows, rank)
+            falls_from(site, class, flows, from, part, rows, rank)
         }
         Wanted::Class(_) | Wanted::Rank(_) | Wanted::Path(_, _) => true,
     }
@@ -169,17 +175,19 @@ fn falls_at(
 pub fn is_above(
     site: &Site,
     class: Class,
+    flows: &ClassFlows,
     part: &[Wanted],
     rows: &[Row],
     relay: u32,
     rank: u32,
 ) -> bool
     requires wanted { AreWanted site.now class part.now }
+    requires flows { AreFlows site.now class flows.now }
     ensures { Decides result (IsAbove site.now class part.now rows.now relay rank) }
 {
     site.is_lawful();
     for is in part {
-        if !falls_at(site, class, *is, part, rows, relay, rank) {
+        if !falls_at(site, class, flows, *is, part, rows, relay, rank) {
             return false;
         }
     }

@@ -1,18 +1,40 @@
 //! The inputs that are found by following occurrences, and those that messages of a class reach.
 
-ghost use Rattle.std.specs.Prelude.{◌≡◌, ◌<◌, ◌↔◌, Contains, IfOk, OnOk};
+ghost use Rattle.std.specs.Prelude.{◌≡◌, ◌<◌, ◌↔◌, [], Contains, IfOk, List, OnOk, Some, length, slice_get};
 ghost use Rattle.std.specs.List.{list_any};
+ghost use Rattle.sy_rules.specs.lists.Sets.{Bits};
+ghost use Rattle.sy_wire.specs.declared.class.Class.{Class as AnyClass};
+ghost use Rattle.sy_site.specs.Sites.{Site as AnySite};
 ghost use Rattle.sy_site.specs.declared.site.SiteInput.{SiteInput as AnyInput};
 ghost use Rattle.sy_site.specs.machine.Lawful.{IsInput};
 ghost use Rattle.sy_site.specs.machine.Reach.{Reach};
+ghost use Rattle.sy_checker.specs.declared.executed.Executed.{Executed as AnyExecuted};
+ghost use Rattle.sy_checker.specs.declared.executed.Executed.TheVariants as executed;
 ghost use Rattle.sy_checker.specs.Internal.{Adds, LeadsBy, same_input};
-ghost use Rattle.sy_checker.specs.Search.{IsSpread, LeadsOn};
+ghost use Rattle.sy_checker.specs.Search.{ExecutedAt, IsOrigin, IsSpread, KeepsRoots, LeadsOn};
+ghost use Rattle.sy_checker.specs.Flows.{AreFlows};
 
 use crate::executed::{Executed, executed_at};
+use crate::finding::WayRow;
+use crate::flows::ClassFlows;
 use crate::inputs::{forward_at, has};
 use std::alloc::{AllocError, Global};
 use sy_site::{Site, SiteInput};
 use sy_wire::Class;
+
+/// Where an input was found from: the place of an earlier one, and the row of a way from there.
+#[derive(Clone, Copy)]
+pub struct Origin {
+    pub place: usize,
+    pub row: WayRow,
+}
+
+/// Inputs that were found, and of each where it was found from; none where the search started from it.
+#[derive(Drop)]
+pub struct Found {
+    pub inputs: Vec<SiteInput>,
+    pub origins: Vec<Option<Origin>>,
+}
 
 /// Whether an input is one of these.
 pub fn is_among(inputs: &[SiteInput], input: SiteInput) -> bool
@@ -23,63 +45,100 @@ pub fn is_among(inputs: &[SiteInput], input: SiteInput) -> bool
         .any(|i| input.relay == i.relay && input.input == i.input)
 }
 
-// Puts an input behind the others, where it isn't one of them.
-fn add(found: &mut Vec<SiteInput>, input: SiteInput) -> Result<(), AllocError>
-    ensures { OnOk result (Adds (λ x. x ≡ input) found.old.items found.new.items) }
+// Puts an input behind the others, with where it was found from, where it isn't one of them.
+fn add(found: &mut Found, input: SiteInput, origin: Option<Origin>) -> Result<(), AllocError>
+    ensures inputs { OnOk result (Adds (λ x. x ≡ input) found.old.inputs.items found.new.inputs.items) }
+    ensures roots { (site : AnySite) (class : AnyClass) (which : AnyExecuted) (start : List AnyInput)
+        → IsOrigin site class which start found.old.inputs.items (length found.old.inputs.items) input origin
+        → OnOk result (KeepsRoots site class which start found.old.inputs.items found.old.origins.items
+        found.new.inputs.items found.new.origins.items) }
 {
-    if is_among(found.as_slice(), input) {
+    if is_among(found.inputs.as_slice(), input) {
         return Ok(());
     }
-    found.push(input)?;
+    found.inputs.push(input)?;
+    found.origins.push(origin)?;
     Ok(())
 }
 
-fn add_all(start: &[SiteInput], found: &mut Vec<SiteInput>) -> Result<(), AllocError>
-    ensures { OnOk result (Adds (Contains start.now) found.old.items found.new.items) }
+fn add_all(start: &[SiteInput], found: &mut Found) -> Result<(), AllocError>
+    ensures inputs { OnOk result (Adds (Contains start.now) found.old.inputs.items found.new.inputs.items) }
+    ensures roots { (site : AnySite) (class : AnyClass) (which : AnyExecuted)
+        → OnOk result (KeepsRoots site class which start.now found.old.inputs.items found.old.origins.items
+        found.new.inputs.items found.new.origins.items) }
 {
     for input in start {
-        add(found, *input)?;
+        add(found, *input, None)?;
     }
     Ok(())
 }
 
-// Puts what an occurrence of a set leads to.
+// Puts what an occurrence of a set leads to, from the input at a place.
 fn add_target(
     site: &Site,
     from: SiteInput,
+    place: usize,
     set: u64,
     number: u32,
-    found: &mut Vec<SiteInput>,
+    found: &mut Found,
 ) -> Result<(), AllocError>
     requires there { IsInput site.now from }
     requires small { number < 64 }
-    ensures { OnOk result (Adds (LeadsBy site.now set from number) found.old.items found.new.items) }
+    ensures inputs { OnOk result
+        (Adds (LeadsBy site.now set from number) found.old.inputs.items found.new.inputs.items) }
+    ensures roots { (class : AnyClass) (which : AnyExecuted) (start : List AnyInput)
+        → Bits (ExecutedAt site.now class which from) set → slice_get found.old.inputs.items place ≡ Some from
+        → OnOk result (KeepsRoots site.now class which start found.old.inputs.items found.old.origins.items
+        found.new.inputs.items found.new.origins.items) }
 {
     if !has(set, number) {
         return Ok(());
     }
     match forward_at(site, from, number) {
-        Some(to) => add(found, to),
+        Some(to) => {
+            let row = WayRow {
+                input: from,
+                number,
+            };
+            add(found, to, Some(Origin { place, row }))
+        }
         None => Ok(()),
     }
 }
 
-// Puts what the forwards at an input lead to that are followed.
+// Puts what the forwards lead to that are followed from the input at a place.
 fn add_targets(
     site: &Site,
     class: Class,
+    flows: &ClassFlows,
     which: Executed,
     from: SiteInput,
-    found: &mut Vec<SiteInput>,
+    place: usize,
+    found: &mut Found,
 ) -> Result<(), AllocError>
     requires there { IsInput site.now from }
-    ensures { OnOk result (Adds (LeadsOn site.now class which from) found.old.items found.new.items) }
+    requires flows { AreFlows site.now class flows.now }
+    ensures inputs { OnOk result
+        (Adds (LeadsOn site.now class which from) found.old.inputs.items found.new.inputs.items) }
+    ensures roots { (start : List AnyInput) → slice_get found.old.inputs.items place ≡ Some from
+        → OnOk result (KeepsRoots site.now class which start found.old.inputs.items found.old.origins.items
+        found.new.inputs.items found.new.origins.items) }
 {
-    let set = executed_at(site, class, which, from);
+    let set = executed_at(site, class, flows, which, from);
     for number in 0..64 {
-        add_target(site, from, set, number, found)?;
+        add_target(site, from, place, set, number, found)?;
     }
     Ok(())
+}
+
+fn nothing_found(alloc: Global) -> Found
+    ensures inputs { result.inputs.items ≡ [] }
+    ensures origins { result.origins.items ≡ [] }
+{
+    Found {
+        inputs: Vec::new(alloc),
+        origins: Vec::new(alloc),
+    }
 }
 
 /// The inputs that are found from some by following forwards, in the order in which they are found: what was found
@@ -88,28 +147,41 @@ pub fn spread(
     alloc: Global,
     site: &Site,
     class: Class,
+    flows: &ClassFlows,
     which: Executed,
     start: &[SiteInput],
-) -> Result<Vec<SiteInput>, AllocError>
+) -> Result<Found, AllocError>
     requires there { (x : AnyInput) → Contains start.now x → IsInput site.now x }
-    ensures { IfOk result (λ found. IsSpread site.now class which start.now found.items) }
+    requires flows { AreFlows site.now class flows.now }
+    ensures { IfOk result
+        (λ found. IsSpread site.now class which start.now found.inputs.items found.origins.items) }
 {
     site.is_lawful();
-    let mut found = Vec::new(alloc);
+    let mut found = nothing_found(alloc);
     add_all(start, &mut found)?;
     let mut done = 0;
-    while done < found.len() {
-        let from = found[done];
-        add_targets(site, class, which, from, &mut found)?;
+    while done < found.inputs.len() {
+        let from = found.inputs[done];
+        add_targets(site, class, flows, which, from, done, &mut found)?;
         done += 1;
     }
     Ok(found)
 }
 
 /// The inputs that messages of a class reach, in the order in which they are found.
-pub fn reached(alloc: Global, site: &Site, class: Class) -> Result<Vec<SiteInput>, AllocError>
-    ensures { IfOk result (λ found. (x : AnyInput) → Contains found.items x ↔ Reach site.now class x) }
+pub fn reached(
+    alloc: Global,
+    site: &Site,
+    class: Class,
+    flows: &ClassFlows,
+) -> Result<Found, AllocError>
+    requires flows { AreFlows site.now class flows.now }
+    ensures spread { IfOk result (λ found. IsSpread site.now class executed.May site.now.entries
+        found.inputs.items found.origins.items) }
+    ensures reached { IfOk result
+        (λ found. (x : AnyInput) → Contains found.inputs.items x ↔ Reach site.now class x) }
 {
     site.is_lawful();
-    spread(alloc, site, class, Executed::May, site.entries())
+    let found = spread(alloc, site, class, flows, Executed::May, site.entries())?;
+    Ok(found)
 }

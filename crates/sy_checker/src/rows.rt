@@ -5,7 +5,9 @@ ghost use Rattle.std.specs.Str.{bytes_eq};
 ghost use Rattle.sy_site.specs.machine.Lawful.{IsInput};
 ghost use Rattle.sy_checker.specs.Fit as fit;
 ghost use Rattle.sy_checker.specs.Judging as spec;
+ghost use Rattle.sy_checker.specs.Flows.{AreFlows};
 
+use crate::flows::ClassFlows;
 use crate::inputs::input_at;
 use crate::kinds::is_clean;
 use crate::path::is_path;
@@ -23,9 +25,17 @@ fn is_class(class: Class, given: Class) -> bool
 }
 
 // Whether a reach row names an input, and it is clean.
-fn is_reach(site: &Site, class: Class, input: SiteInput, relay: &[u8], port: u16) -> bool
+fn is_reach(
+    site: &Site,
+    class: Class,
+    flows: &ClassFlows,
+    input: SiteInput,
+    relay: &[u8],
+    port: u16,
+) -> bool
     requires there { IsInput site.now input }
     requires relay { input.relay < length site.now.relays }
+    requires flows { AreFlows site.now class flows.now }
     ensures { Decides result (spec.IsReach site.now class input relay.now port) }
 {
     if !is_name(site, input.relay, relay) {
@@ -34,7 +44,7 @@ fn is_reach(site: &Site, class: Class, input: SiteInput, relay: &[u8], port: u16
     if input_at(site, input).port != port {
         return false;
     }
-    is_clean(site, class, input)
+    is_clean(site, class, flows, input)
 }
 
 fn is_action_name(site: &Site, archive: SiteAction, name: &[u8]) -> bool
@@ -87,20 +97,30 @@ fn is_class_row(class: Class, row: &Row) -> bool
     }
 }
 
-fn is_reach_row(site: &Site, class: Class, input: SiteInput, row: &Row) -> bool
+fn is_reach_row(site: &Site, class: Class, flows: &ClassFlows, input: SiteInput, row: &Row) -> bool
     requires there { IsInput site.now input }
     requires relay { input.relay < length site.now.relays }
+    requires flows { AreFlows site.now class flows.now }
     ensures { Decides result (fit.IsReachRow site.now class input row.now) }
 {
     match row {
-        Row::Reach { relay, port } => is_reach(site, class, input, relay.as_slice(), *port),
+        Row::Reach { relay, port } => is_reach(site, class, flows, input, relay.as_slice(), *port),
         Row::Class(_) | Row::Rank { .. } | Row::Path { .. } => false,
     }
 }
 
-fn is_rank_row(site: &Site, class: Class, part: &[Wanted], rows: &[Row], of: u32, row: &Row) -> bool
+fn is_rank_row(
+    site: &Site,
+    class: Class,
+    flows: &ClassFlows,
+    part: &[Wanted],
+    rows: &[Row],
+    of: u32,
+    row: &Row,
+) -> bool
     requires wanted { fit.AreWanted site.now class part.now }
     requires relay { of < length site.now.relays }
+    requires flows { AreFlows site.now class flows.now }
     ensures { Decides result (fit.IsRankRow site.now class part.now rows.now of row.now) }
 {
     match row {
@@ -108,16 +128,24 @@ fn is_rank_row(site: &Site, class: Class, part: &[Wanted], rows: &[Row], of: u32
             if !is_name(site, of, relay.as_slice()) {
                 return false;
             }
-            is_above(site, class, part, rows, of, *rank)
+            is_above(site, class, flows, part, rows, of, *rank)
         }
         Row::Class(_) | Row::Reach { .. } | Row::Path { .. } => false,
     }
 }
 
-fn is_path_row(site: &Site, class: Class, entry: SiteInput, archive: SiteAction, row: &Row) -> bool
+fn is_path_row(
+    site: &Site,
+    class: Class,
+    flows: &ClassFlows,
+    entry: SiteInput,
+    archive: SiteAction,
+    row: &Row,
+) -> bool
     requires there { IsInput site.now entry }
     requires relay { entry.relay < length site.now.relays }
     requires archive { archive.relay < length site.now.relays }
+    requires flows { AreFlows site.now class flows.now }
     ensures { Decides result (fit.IsPathRow site.now class entry archive row.now) }
 {
     match row {
@@ -133,7 +161,7 @@ fn is_path_row(site: &Site, class: Class, entry: SiteInput, archive: SiteAction,
             if !names_path(site, entry, archive, relay, *port, archive_relay, action) {
                 return false;
             }
-            is_path(site, class, archive, entry, occurrences)
+            is_path(site, class, flows, archive, entry, occurrences)
         }
         Row::Class(_) | Row::Reach { .. } | Row::Rank { .. } => false,
     }
@@ -143,6 +171,7 @@ fn is_path_row(site: &Site, class: Class, entry: SiteInput, archive: SiteAction,
 pub fn is_right(
     site: &Site,
     class: Class,
+    flows: &ClassFlows,
     part: &[Wanted],
     rows: &[Row],
     is: Wanted,
@@ -150,14 +179,15 @@ pub fn is_right(
 ) -> bool
     requires wanted { fit.AreWanted site.now class part.now }
     requires member { Contains part.now is }
+    requires flows { AreFlows site.now class flows.now }
     ensures { Decides result (fit.IsRight site.now class part.now rows.now is row.now) }
 {
     site.is_lawful();
     archives_are_those_named();
     match is {
         Wanted::Class(of) => is_class_row(of, row),
-        Wanted::Reach(input) => is_reach_row(site, class, input, row),
-        Wanted::Rank(of) => is_rank_row(site, class, part, rows, of, row),
-        Wanted::Path(entry, archive) => is_path_row(site, class, entry, archive, row),
+        Wanted::Reach(input) => is_reach_row(site, class, flows, input, row),
+        Wanted::Rank(of) => is_rank_row(site, class, flows, part, rows, of, row),
+        Wanted::Path(entry, archive) => is_path_row(site, class, flows, entry, archive, row),
     }
 }

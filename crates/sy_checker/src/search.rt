@@ -10,36 +10,39 @@ ghost use Rattle.sy_checker.specs.Finding.{IsTrueFinding, IsTrueRefusal};
 ghost use Rattle.sy_checker.specs.Fit.{IsClean};
 ghost use Rattle.sy_checker.specs.Search.{IsSpread};
 ghost use Rattle.sy_checker.specs.Answer as spec;
+ghost use Rattle.sy_checker.specs.Flows.{AreFlows};
 
-use crate::executed::Executed;
 use crate::finding::{Finding, Kind, Refusal};
+use crate::flows::ClassFlows;
 use crate::kinds::{Risk, is_mark_above_size, is_mark_off, is_not_full, may_discard, may_risk};
-use crate::reach::spread;
+use crate::reach::Found;
 use crate::way::way_to;
 use std::alloc::{AllocError, Global};
 use sy_site::{Site, SiteInput};
 use sy_wire::Class;
 
 // The lowest of the kinds 5 to 7 that holds at an input.
-fn risk_at(site: &Site, class: Class, input: SiteInput) -> Option<Kind>
+fn risk_at(site: &Site, class: Class, flows: &ClassFlows, input: SiteInput) -> Option<Kind>
     requires there { IsInput site.now input }
+    requires flows { AreFlows site.now class flows.now }
     ensures { spec.IsRiskAt site.now class input result }
 {
-    if may_risk(site, class, input, Risk::Post) {
+    if may_risk(site, class, flows, input, Risk::Post) {
         return Some(Kind::InnerQueue);
     }
-    if may_risk(site, class, input, Risk::GivesUp) {
+    if may_risk(site, class, flows, input, Risk::GivesUp) {
         return Some(Kind::GivesUp);
     }
-    if may_risk(site, class, input, Risk::NoTarget) {
+    if may_risk(site, class, flows, input, Risk::NoTarget) {
         return Some(Kind::NoTarget);
     }
     None
 }
 
 // The lowest of the kinds 1 to 7.
-fn kind_at(site: &Site, class: Class, input: SiteInput) -> Option<Kind>
+fn kind_at(site: &Site, class: Class, flows: &ClassFlows, input: SiteInput) -> Option<Kind>
     requires there { IsInput site.now input }
+    requires flows { AreFlows site.now class flows.now }
     ensures { spec.IsKindAt site.now class input result }
 {
     if is_not_full(site, class, input) {
@@ -54,17 +57,23 @@ fn kind_at(site: &Site, class: Class, input: SiteInput) -> Option<Kind>
     if may_discard(site, class, input) {
         return Some(Kind::Discards);
     }
-    risk_at(site, class, input)
+    risk_at(site, class, flows, input)
 }
 
 // The first of inputs at which one of these kinds holds, by its place, and the lowest there.
-fn first_unclean(site: &Site, class: Class, inputs: &[SiteInput]) -> Option<(usize, Kind)>
+fn first_unclean(
+    site: &Site,
+    class: Class,
+    flows: &ClassFlows,
+    inputs: &[SiteInput],
+) -> Option<(usize, Kind)>
     requires there { (x : AnyInput) → Contains inputs.now x → IsInput site.now x }
+    requires flows { AreFlows site.now class flows.now }
     ensures some { IfSome result (λ w. spec.IsUncleanAt site.now class inputs.now w.0 w.1) }
     ensures none { IfNone result ((x : AnyInput) → Contains inputs.now x → IsClean site.now class x) }
 {
     for place in 0..inputs.len() {
-        match kind_at(site, class, inputs[place]) {
+        match kind_at(site, class, flows, inputs[place]) {
             Some(kind) => return Some((place, kind)),
             None => {}
         }
@@ -77,25 +86,19 @@ fn finding_at(
     alloc: Global,
     site: &Site,
     class: Class,
-    found: &[SiteInput],
+    found: &Found,
     place: usize,
     kind: Kind,
 ) -> Result<Finding, AllocError>
     requires protected { sites.is_protected site.now class ≡ true }
-    requires spread { IsSpread site.now class executed.May site.now.entries found.now }
-    requires unclean { spec.IsUncleanAt site.now class found.now place kind }
+    requires spread { IsSpread site.now class executed.May site.now.entries
+        found.now.inputs.items found.now.origins.items }
+    requires unclean { spec.IsUncleanAt site.now class found.now.inputs.items place kind }
     ensures { IfOk result (λ f. IsTrueFinding site.now f) }
 {
-    let input = found[place];
-    let way = way_to(
-        alloc,
-        site,
-        class,
-        Executed::May,
-        site.entries(),
-        found,
-        place,
-    )?;
+    let _ = site;
+    let input = found.inputs[place];
+    let way = way_to(alloc, found, place)?;
     Ok(Finding {
         class,
         input,
@@ -110,15 +113,18 @@ pub fn first_finding(
     alloc: Global,
     site: &Site,
     class: Class,
+    flows: &ClassFlows,
+    found: &Found,
 ) -> Result<Option<Finding>, AllocError>
     requires protected { sites.is_protected site.now class ≡ true }
+    requires flows { AreFlows site.now class flows.now }
+    requires spread { IsSpread site.now class executed.May site.now.entries
+        found.now.inputs.items found.now.origins.items }
     ensures { IfOk result (λ answer. spec.IsSearched site.now class answer) }
 {
-    site.is_lawful();
-    let found = spread(alloc, site, class, Executed::May, site.entries())?;
-    match first_unclean(site, class, found.as_slice()) {
+    match first_unclean(site, class, flows, found.inputs.as_slice()) {
         Some((place, kind)) => {
-            let finding = finding_at(alloc, site, class, found.as_slice(), place, kind)?;
+            let finding = finding_at(alloc, site, class, found, place, kind)?;
             Ok(Some(finding))
         }
         None => Ok(None),
@@ -126,12 +132,21 @@ pub fn first_finding(
 }
 
 /// The same as a refusal: each reached input is clean, or something is found.
-pub fn searched(alloc: Global, site: &Site, class: Class) -> Result<(), Refusal>
+pub fn searched(
+    alloc: Global,
+    site: &Site,
+    class: Class,
+    flows: &ClassFlows,
+    found: &Found,
+) -> Result<(), Refusal>
     requires protected { sites.is_protected site.now class ≡ true }
+    requires flows { AreFlows site.now class flows.now }
+    requires spread { IsSpread site.now class executed.May site.now.entries
+        found.now.inputs.items found.now.origins.items }
     ensures ok { OnOk result ((x : AnyInput) → Reach site.now class x → IsClean site.now class x) }
     ensures err { IfErr result (λ why. IsTrueRefusal site.now why) }
 {
-    match first_finding(alloc, site, class)? {
+    match first_finding(alloc, site, class, flows, found)? {
         Some(finding) => Err(Refusal::Finding(finding)),
         None => Ok(()),
     }

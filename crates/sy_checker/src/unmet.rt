@@ -6,8 +6,10 @@ ghost use Rattle.sy_site.specs.Sites as sites;
 ghost use Rattle.sy_site.specs.machine.Reach.{LeadsTo};
 ghost use Rattle.sy_checker.specs.Finding.{IsTrueFinding, IsTrueRefusal};
 ghost use Rattle.sy_checker.specs.Fit.{IsPath};
+ghost use Rattle.sy_checker.specs.Flows.{AreFlows};
 
 use crate::finding::{Finding, Kind, Refusal};
+use crate::flows::ClassFlows;
 use crate::lead::lead;
 use std::alloc::Global;
 use sy_script::Items;
@@ -36,17 +38,19 @@ pub fn path_for(
     alloc: Global,
     site: &Site,
     class: Class,
+    flows: &ClassFlows,
     entry: SiteInput,
     archive: SiteAction,
 ) -> Result<Items<u8>, Refusal>
     requires protected { sites.is_protected site.now class ≡ true }
     requires entry { Contains site.now.entries entry }
     requires named { Contains (sites.archives site.now class) archive }
+    requires flows { AreFlows site.now class flows.now }
     ensures ok { IfOk result (λ path. IsPath site.now class archive entry path × AreOccurrences path) }
     ensures err { IfErr result (λ why. IsTrueRefusal site.now why) }
 {
     site.is_lawful();
-    match lead(alloc, site, class, archive, entry)? {
+    match lead(alloc, site, class, flows, archive, entry)? {
         Some(path) => Ok(path),
         None => Err(Refusal::Finding(unmet(alloc, site, class, entry, archive))),
     }

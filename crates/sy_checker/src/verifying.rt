@@ -12,8 +12,10 @@ ghost use Rattle.sy_checker.specs.declared.verifying.CertFault.TheVariants as fa
 
 use crate::accepted::Accepted;
 use crate::classes::protected_classes;
+use crate::flows::flows_of;
 use crate::laws::{fit_is_safe, fit_is_sound};
 use crate::part::{first_wrong, row_kind};
+use crate::reach::reached;
 use crate::wanted::{RowKind, wanted_rows};
 use std::alloc::{AllocError, Global};
 use sy_cert::{Certificate, Row};
@@ -41,8 +43,10 @@ pub(crate) enum Judged {
 fn judge(alloc: Global, site: &Site, class: Class, rows: &[Row]) -> Result<Judged, AllocError>
     ensures { IfOk result (λ judged. spec.IsJudged site.now class rows.now judged) }
 {
-    let part = wanted_rows(alloc, site, class)?;
-    match first_wrong(site, class, part.as_slice(), rows) {
+    let flows = flows_of(alloc, site, class)?;
+    let found = reached(alloc, site, class, &flows)?;
+    let part = wanted_rows(alloc, site, class, found.inputs.as_slice())?;
+    match first_wrong(site, class, &flows, part.as_slice(), rows) {
         Some((place, kind)) => Ok(Judged::Wrong(place, kind)),
         None => Ok(Judged::Right(part.len())),
     }

@@ -1,15 +1,16 @@
 //! The rows that a site's certificate has to have.
 
-ghost use Rattle.std.specs.Prelude.{◌≡◌, ◌++◌, ◌∷◌, List, flat_map, map, IfOk, OnOk};
+ghost use Rattle.std.specs.Prelude.{◌≡◌, ◌++◌, ◌∷◌, ◌↔◌, Contains, List, flat_map, map, IfOk, OnOk};
 ghost use Rattle.std.specs.List.{list_any};
 ghost use Rattle.sy_site.specs.Sites as sites;
+ghost use Rattle.sy_site.specs.declared.site.SiteInput.{SiteInput as AnyInput};
+ghost use Rattle.sy_site.specs.machine.Reach.{Reach};
 ghost use Rattle.sy_checker.specs.Fit.{AreWanted};
 ghost use Rattle.sy_checker.specs.Internal.{AddsArchive};
 ghost use Rattle.sy_checker.specs.Verifying.{kind_words};
 ghost use Rattle.sy_checker.specs.declared.wanted.Wanted.TheVariants as spec;
 
 use crate::order::{relays_of, sorted};
-use crate::reach::reached;
 use std::alloc::{AllocError, Global};
 use sy_site::{Protection, Site, SiteAction, SiteInput};
 use sy_wire::Class;
@@ -133,13 +134,18 @@ fn put_all_paths(
     Ok(())
 }
 
-/// The rows that are wanted for a class.
-pub fn wanted_rows(alloc: Global, site: &Site, class: Class) -> Result<Vec<Wanted>, AllocError>
+/// The rows that are wanted for a class, which reaches these inputs.
+pub fn wanted_rows(
+    alloc: Global,
+    site: &Site,
+    class: Class,
+    reached: &[SiteInput],
+) -> Result<Vec<Wanted>, AllocError>
+    requires reached { (x : AnyInput) → Contains reached.now x ↔ Reach site.now class x }
     ensures { IfOk result (λ part. AreWanted site.now class part.items) }
 {
     site.is_lawful();
-    let found = reached(alloc, site, class)?;
-    let inputs = sorted(alloc, site, found.as_slice())?;
+    let inputs = sorted(alloc, site, reached)?;
     let relays = relays_of(alloc, site, inputs.as_slice())?;
     let archives = archives(alloc, site, class)?;
     let mut part = Vec::new(alloc);

@@ -27,6 +27,7 @@ visit-returns-then-is_among-clause-done t c =
 
 pub visit-may_at-may-requires : goal.visit-may_at-may-requires
 visit-may_at-may-requires t c = record {
+  flows = c.requires.flows;
   there = reach_there c.args.site.now c.is_lawful.ensures c.args.class c.args.from c.requires.there;
 }
 

@@ -31,6 +31,7 @@ path_row-requires c =
     let it = entry_there c.args.site.now c.is_lawful.ensures c.args.class c.args.part.now c.requires.wanted c.in-Path.entry c.in-Path.archive member in
     let is = meant c.args.site.now c.args.class c.args.part.now c.requires.wanted (wanted.Path c.in-Path.entry c.in-Path.archive) member in
     record {
+      flows = c.requires.flows;
       protected = c.requires.protected;
       entry = is.0;
       named = is.1;

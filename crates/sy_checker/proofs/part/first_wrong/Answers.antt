@@ -24,6 +24,7 @@ loop-place-preserved c = λ k is low there.
 
 pub is_right_at-requires : goal.is_right_at-requires
 is_right_at-requires c = record {
+  flows = c.requires.flows;
   wanted = c.requires.wanted;
   member = (c.loop-place.place, c.loop-place-test.true, sym c.index-part-place.is);
 }

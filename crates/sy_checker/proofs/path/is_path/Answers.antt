@@ -6,7 +6,7 @@ pub loop-number-init : goal.loop-number-init
 loop-number-init c = goes_first c.args.site.now c.args.class c.args.archive c.args.from c.args.occurrences.now c.requires.there
 
 pub must_forward-requires : goal.must_forward-requires
-must_forward-requires c = record { there = c.loop-number.invariant.there }
+must_forward-requires c = record { flows = c.requires.flows; there = c.loop-number.invariant.there }
 
 pub returns-in-None : goal.returns-in-None
 returns-in-None c = (
@@ -21,7 +21,7 @@ loop-number-preserved c =
     c.in-Some.to c.loop-number-test.true c.in-Some.ensures c.loop-number.invariant
 
 pub must_write-requires : goal.must_write-requires
-must_write-requires c = record { there = c.loop-number.invariant.there }
+must_write-requires c = record { flows = c.requires.flows; there = c.loop-number.invariant.there }
 
 pub returns : goal.returns
 returns c =

@@ -4,7 +4,7 @@ use Rattle.sy_checker.proofs.Comparing.{one_reach}
 use Rattle.sy_checker.proofs.ranks.falls_at.Goals as goal
 
 pub falls_from-requires : goal.falls_from-requires
-falls_from-requires c = record { there = c.requires.there c.in-Reach.from c.in-Reach.is }
+falls_from-requires c = record { flows = c.requires.flows; there = c.requires.there c.in-Reach.from c.in-Reach.is }
 
 pub returns-else-from-relay : goal.returns-else-from-relay
 returns-else-from-relay c = (

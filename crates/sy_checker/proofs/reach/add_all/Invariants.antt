@@ -1,7 +1,13 @@
 use Rattle.std.proofs.Common.{take}
 use Rattle.std.specs.Prelude.{Contains}
+use Rattle.sy_wire.specs.declared.class.Class.{Class}
+use Rattle.sy_site.specs.Sites.{Site}
+use Rattle.sy_checker.specs.declared.executed.Executed.{Executed}
 use Rattle.sy_checker.specs.Internal.{Adds}
+use Rattle.sy_checker.specs.Search.{KeepsRoots}
 use Rattle.sy_checker.proofs.reach.add_all.Given as goal
 
 abbrev pub invariant-loop-input : goal.invariant-loop-input
-invariant-loop-input l = Adds (Contains (take l.input-index l.start)) l.initial.found.items l.found.items
+invariant-loop-input l = Adds (Contains (take l.input-index l.start)) l.initial.found.inputs.items l.found.inputs.items
+    × ((site : Site) (class : Class) (which : Executed)
+    → KeepsRoots site class which l.start l.initial.found.inputs.items l.initial.found.origins.items l.found.inputs.items l.found.origins.items)

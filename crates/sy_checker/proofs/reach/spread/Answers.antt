@@ -1,39 +1,51 @@
-use Rattle.std.proofs.Common.{◌<◌, ◌≤◌, ◌+◌, ◌-◌, arith, length, refl, sym, subst}
-use Rattle.std.specs.Prelude.{Contains}
+use Rattle.std.proofs.Common.{◌≡◌, ◌<◌, ◌≤◌, ◌+◌, ◌-◌, [], Some, arith, length, refl, sym, subst}
+use Rattle.std.specs.Prelude.{Contains, slice_get}
 use Rattle.std.proofs.lemmas.Option.{slice_get_read}
 use Rattle.sy_checker.specs.Internal.{Adds}
+use Rattle.sy_checker.specs.Search.{KeepsRoots}
 use Rattle.sy_checker.proofs.Gone.{found_few, gone_all, gone_first, gone_more}
 use Rattle.sy_checker.proofs.reach.spread.Goals as goal
 
 pub loop-done-init : goal.loop-done-init
 loop-done-init c =
-    gone_first c.args.site.now c.args.class c.args.which c.args.start.now c.add_all.new.found.items
-    (subst (λ l. Adds (Contains c.args.start.now) l c.add_all.new.found.items) c.new-found.ensures.items c.in_ok-add_all.ensures) c.requires.there
+    gone_first c.args.site.now c.args.class c.args.which c.args.start.now c.add_all.new.found.inputs.items c.add_all.new.found.origins.items
+    (subst (λ l. Adds (Contains c.args.start.now) l c.add_all.new.found.inputs.items) c.nothing_found-found.ensures.inputs c.in_ok-add_all.ensures.inputs)
+    (subst (λ l. KeepsRoots c.args.site.now c.args.class c.args.which c.args.start.now l [] c.add_all.new.found.inputs.items
+    c.add_all.new.found.origins.items) c.nothing_found-found.ensures.inputs
+    (subst (λ o. KeepsRoots c.args.site.now c.args.class c.args.which c.args.start.now c.nothing_found-found.result.inputs.items o
+    c.add_all.new.found.inputs.items c.add_all.new.found.origins.items) c.nothing_found-found.ensures.origins
+    (c.in_ok-add_all.ensures.roots c.args.site.now c.args.class c.args.which)))
+    c.requires.there
 
 pub loop-done-preserved : goal.loop-done-preserved
 loop-done-preserved c =
-    let low : c.loop-done.done < length c.loop-done.found.items = omega (arith, c.loop-done-test.true, c.len.ensures) in
-    gone_more c.args.site.now c.args.class c.args.which c.args.start.now c.loop-done.found.items c.add_targets.new.found.items c.loop-done.done
-    c.index-from.result.now
-    (slice_get_read c.loop-done.found.items (length c.loop-done.found.items) c.loop-done.done c.index-from.result.now refl low c.index-from.ensures)
-    c.loop-done.invariant c.in_ok-add_targets.ensures
+    let low : c.loop-done.done < length c.loop-done.found.inputs.items = omega (arith, c.loop-done-test.true, c.len.ensures) in
+    let here : slice_get c.loop-done.found.inputs.items c.loop-done.done ≡ Some c.index-from.result.now =
+    slice_get_read c.loop-done.found.inputs.items (length c.loop-done.found.inputs.items) c.loop-done.done c.index-from.result.now refl low
+    c.index-from.ensures
+    in
+    gone_more c.args.site.now c.args.class c.args.which c.args.start.now c.loop-done.found.inputs.items c.add_targets.new.found.inputs.items
+    c.loop-done.found.origins.items c.add_targets.new.found.origins.items c.loop-done.done c.index-from.result.now here
+    c.loop-done.invariant c.in_ok-add_targets.ensures.inputs (c.in_ok-add_targets.ensures.roots c.args.start.now here)
 
 pub add_targets-requires : goal.add_targets-requires
 add_targets-requires c =
-    let low : c.loop-done.done < length c.loop-done.found.items = omega (arith, c.loop-done-test.true, c.len.ensures) in
+    let low : c.loop-done.done < length c.loop-done.found.inputs.items = omega (arith, c.loop-done-test.true, c.len.ensures) in
     record {
+      flows = c.requires.flows;
       there = c.loop-done.invariant.there c.index-from.result.now (c.loop-done.done, low, sym c.index-from.ensures);
     }
 
 pub loop-done-smaller : goal.loop-done-smaller
 loop-done-smaller c =
-    let few = found_few c.args.site.now c.is_lawful.ensures c.args.class c.args.which c.args.start.now c.loop-done.found.items c.loop-done.done
-    c.loop-done.invariant in
-    let low : c.loop-done.done < length c.loop-done.found.items = omega (arith, c.loop-done-test.true, c.len.ensures) in
+    let few = found_few c.args.site.now c.args.class c.args.which c.args.start.now c.loop-done.found.inputs.items c.loop-done.found.origins.items
+    c.loop-done.done c.loop-done.invariant c.is_lawful.ensures in
+    let low : c.loop-done.done < length c.loop-done.found.inputs.items = omega (arith, c.loop-done-test.true, c.len.ensures) in
     let less : 4096 - (c.loop-done.done + 1) < 4096 - c.loop-done.done = omega (arith, few, low) in
     less
 
 pub returns : goal.returns
 returns c =
-    let all : length c.loop-done.found.items ≤ c.loop-done.done = omega (arith, c.loop-done-test.false, c.len.ensures) in
-    gone_all c.args.site.now c.args.class c.args.which c.args.start.now c.loop-done.found.items c.loop-done.done c.loop-done.invariant all
+    let all : length c.loop-done.found.inputs.items ≤ c.loop-done.done = omega (arith, c.loop-done-test.false, c.len.ensures) in
+    gone_all c.args.site.now c.args.class c.args.which c.args.start.now c.loop-done.found.inputs.items c.loop-done.found.origins.items c.loop-done.done
+    c.loop-done.invariant all

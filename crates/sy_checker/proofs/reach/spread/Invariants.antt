@@ -3,7 +3,7 @@ use Rattle.sy_checker.proofs.Gone.{HasGone}
 use Rattle.sy_checker.proofs.reach.spread.Given as goal
 
 abbrev pub invariant-loop-done : goal.invariant-loop-done
-invariant-loop-done l = HasGone l.site l.class l.which l.start l.found.items l.done
+invariant-loop-done l = HasGone l.site l.class l.which l.start l.found.inputs.items l.found.origins.items l.done
 
 abbrev pub decreases-loop-done : goal.decreases-loop-done
 decreases-loop-done l = 4096 - l.done

@@ -9,10 +9,11 @@ pub is_reach_row-requires : goal.is_reach_row-requires
 is_reach_row-requires c =
     let it = input_there c.args.site.now c.args.class c.args.part.now c.requires.wanted c.is_lawful.ensures c.args.is c.requires.member c.in-Reach.input
     c.in-Reach.is in
-    record { there = it; relay = relay_there c.args.site.now c.in-Reach.input it }
+    record { flows = c.requires.flows; there = it; relay = relay_there c.args.site.now c.in-Reach.input it }
 
 pub is_rank_row-requires : goal.is_rank_row-requires
 is_rank_row-requires c = record {
+  flows = c.requires.flows;
   wanted = c.requires.wanted;
   relay = rank_there c.args.site.now c.is_lawful.ensures c.args.class c.args.part.now c.requires.wanted c.in-Rank.of
       (subst (Contains c.args.part.now) c.in-Rank.is c.requires.member);
@@ -23,6 +24,7 @@ is_path_row-requires c =
     let member = subst (Contains c.args.part.now) c.in-Path.is c.requires.member in
     let it = entry_there c.args.site.now c.is_lawful.ensures c.args.class c.args.part.now c.requires.wanted c.in-Path.entry c.in-Path.archive member in
     record {
+      flows = c.requires.flows;
       there = it;
       relay = relay_there c.args.site.now c.in-Path.entry it;
       archive = end_there c.args.site.now c.is_lawful.ensures c.args.class c.args.part.now c.requires.wanted
