@@ -7,7 +7,7 @@ use Rattle.syc.specs.Outcomes.{AnswersOf, Prints, Streams, Tells, streams}
 use Rattle.syc.specs.Reports.{Reported, SinkState}
 use Rattle.syc.specs.SiteFiles.{HasNoAnswer, IsSiteOf}
 use Rattle.syc.specs.Verdicts.{SaysOfFiles, VerifyIs}
-use Rattle.syc.specs.Words.{AreOneFile, AreOneFileOf, ArePass, ArePassAlone, AreReplay, AreReplayOf, AreVerify, AreVerifyOf}
+use Rattle.syc.specs.Words.{AreFlagged, AreFlaggedOf, AreOneFile, AreOneFileOf, ArePass, ArePassAlone, AreReplay, AreReplayOf, AreVerify, AreVerifyOf}
 use Rattle.syc.specs.declared.answer.Answer.{Answer}
 use Rattle.syc.specs.declared.halt.Halt.{Halt}
 use Rattle.syc.specs.declared.halt.Halt.TheVariants as halt
@@ -96,6 +96,15 @@ pub one_file : {X : Type 0} (now : X → List ℕ) (words items : List X) (after
 one_file now words items after word a site same is given named =
     same_file (sym (is ∙ ap (λ later. codes "syc" ∷ later) given.words_are) ∙ ap (map now) (sym same) ∙ named.words_are)
 
+same_flagged : {w v f a c : List ℕ} → w ∷ v ∷ f ∷ a ∷ [] ≡ w ∷ v ∷ f ∷ c ∷ [] → a ≡ c
+same_flagged e = cc
+
+-- the same with a flag
+pub one_flagged : {X : Type 0} (now : X → List ℕ) (words items : List X) (after : List (List ℕ)) (word flag a site : List ℕ)
+    → words ≡ items → map now items ≡ codes "syc" ∷ after → AreFlaggedOf word flag after a → AreFlagged word flag (map now words) site → a ≡ site
+one_flagged now words items after word flag a site same is given named =
+    same_flagged (sym (is ∙ ap (λ later. codes "syc" ∷ later) given.words_are) ∙ ap (map now) (sym same) ∙ named.words_are)
+
 -- ---- the words of a command, without the program's name
 
 rest_same : {w : List ℕ} {xs ys : List (List ℕ)} → w ∷ xs ≡ w ∷ ys → xs ≡ ys
@@ -110,6 +119,9 @@ module _ {X : Type 0} (now : X → List ℕ) (words items : List X) (after : Lis
 
   pub is_one_file : (word site : List ℕ) → AreOneFile word (map now words) site → AreOneFileOf word after site
   is_one_file word site h = record { words_are = behind _ h.words_are; site_plain = h.site_plain }
+
+  pub is_flagged : (word flag site : List ℕ) → AreFlagged word flag (map now words) site → AreFlaggedOf word flag after site
+  is_flagged word flag site h = record { words_are = behind _ h.words_are; site_plain = h.site_plain }
 
   pub is_replay : (site events : List ℕ) → AreReplay (map now words) site events → AreReplayOf after site events
   is_replay site events h = record { words_are = behind _ h.words_are; site_plain = h.site_plain; events_plain = h.events_plain }

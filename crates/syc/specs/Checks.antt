@@ -65,6 +65,14 @@ pub record SaysFound (site : Site) (text : List ℕ) (is_accepted : Bool) : Type
   pub text_is : text ≡ finding_text site found
   pub refused : is_accepted ≡ false
 
+-- what is found in it, and words for people behind that, of which nothing is said
+pub record SaysFoundInWords (site : Site) (text : List ℕ) (is_accepted : Bool) : Type 0 where
+  pub found : Finding
+  pub words : List ℕ
+  pub is_true : IsTrueFinding site found
+  pub text_is : text ≡ finding_text site found ++ words
+  pub refused : is_accepted ≡ false
+
 -- that it keeps all
 pub record SaysKept (site : Site) (text : List ℕ) (is_accepted : Bool) : Type 0 where
   pub count : ℕ
@@ -88,6 +96,10 @@ pub record SaysFit (site : Site) (text : List ℕ) (is_accepted : Bool) : Type 0
 abbrev pub SaysChecked : Site → List ℕ → Bool → Type 0
 SaysChecked site text is_accepted = SaysKept site text is_accepted ⊎ SaysFound site text is_accepted
 
+-- what a check that explains says
+abbrev pub SaysExplained : Site → List ℕ → Bool → Type 0
+SaysExplained site text is_accepted = SaysKept site text is_accepted ⊎ SaysFoundInWords site text is_accepted
+
 -- what a making of its certificate says
 abbrev pub SaysCertified : Site → List ℕ → Bool → Type 0
 SaysCertified site text is_accepted = SaysFit site text is_accepted ⊎ SaysFound site text is_accepted
@@ -97,6 +109,10 @@ SaysCertified site text is_accepted = SaysFit site text is_accepted ⊎ SaysFoun
 -- What a check of this site file answers.
 abbrev pub CheckIs : (List ℕ → Option (List ℕ)) → List ℕ → ℕ → Streams → Streams → Type 0
 CheckIs = AnswersOf SaysChecked
+
+-- What a check that explains answers.
+abbrev pub ExplainIs : (List ℕ → Option (List ℕ)) → List ℕ → ℕ → Streams → Streams → Type 0
+ExplainIs = AnswersOf SaysExplained
 
 -- What a making of the certificate answers.
 abbrev pub CertifyIs : (List ℕ → Option (List ℕ)) → List ℕ → ℕ → Streams → Streams → Type 0

@@ -1,10 +1,10 @@
 //! The words of the command line.
 ghost use Rattle.std.specs.Prelude.{◌≡◌, ◌∷◌, ◌↔◌, ℕ, List, codes, map, string_bytes, IfErr, IfNone, IfOk, IfSome, IsTrue};
 ghost use Rattle.syc.specs.Words as spec;
-ghost use Rattle.syc.specs.Words.{AreOneFile, ArePass, AreReplay, AreVerify, IsCommand};
+ghost use Rattle.syc.specs.Words.{AreFlagged, AreOneFile, ArePass, AreReplay, AreVerify, IsCommand};
 
 use clap::error::ErrorKind;
-use clap::{Arg, Command as Parser, Error};
+use clap::{Arg, ArgAction, Command as Parser, Error};
 use std::alloc::{AllocError, Global};
 
 /// What the program is to do.
@@ -14,6 +14,8 @@ pub enum Command<'a> {
     Pass,
     /// A verdict on a site: the name of the site file.
     Check(&'a str),
+    /// The same, with what is found explained.
+    Explain(&'a str),
     /// The certificate of a site: the name of the site file.
     Certify(&'a str),
     /// The events of a file at a site: the names of the site file and of the events file.
@@ -28,6 +30,9 @@ const PASS_ABOUT: &str =
     "Read messages in octet-counted frames from standard input and write one line a message";
 
 const CHECK_ABOUT: &str = "Say whether a site keeps the messages of its protected classes";
+
+const EXPLAIN_ABOUT: &str =
+    "Say also where it stands, why messages are lost by it, and what would change that";
 
 const CERTIFY_ABOUT: &str = "Print a certificate of a site, for others to verify";
 
@@ -92,6 +97,28 @@ fn named<'a>(words: &[&'a str], command: &str) -> Option<&'a str>
     }
 }
 
+// The name of the site file, where the words are those of this command, with this flag and one name, after the
+// program's name.
+fn flagged<'a>(words: &[&'a str], command: &str, flag: &str) -> Option<&'a str>
+    ensures some { IfSome result (λ site. AreFlagged command.now flag.now (map (λ s. s.now) words.now) site.now) }
+    ensures none { IfNone result ((site : List ℕ) → AreFlagged command.now flag.now (map (λ s. s.now) words.now) site → ⊥) }
+{
+    match words {
+        [program, word, behind, site] => {
+            if is_word(program, "syc")
+                && is_word(word, command)
+                && is_word(behind, flag)
+                && is_plain(site)
+            {
+                Some(site)
+            } else {
+                None
+            }
+        }
+        _ => None,
+    }
+}
+
 // The names of the files, where the words are `replay` with two after the program's name.
 fn replayed<'a>(words: &[&'a str]) -> Option<(&'a str, &'a str)>
     ensures some { IfSome result (λ names. AreReplay (map (λ s. s.now) words.now) names.0.now names.1.now) }
@@ -147,6 +174,16 @@ fn one_file_parser<'a>(
     Ok(parser)
 }
 
+// What clap knows of a check.
+fn check_parser<'a>(alloc: Global) -> Result<Parser<'a>, AllocError> {
+    let check = one_file_parser(alloc, "check", CHECK_ABOUT)?;
+    let explain = Arg::new(alloc, "explain")
+        .long("explain")
+        .help(EXPLAIN_ABOUT)
+        .action(ArgAction::SetTrue);
+    check.arg(explain)
+}
+
 // What clap knows of a replay.
 fn replay_parser<'a>(alloc: Global) -> Result<Parser<'a>, AllocError> {
     let site = Arg::new(alloc, "SITE").required(true);
@@ -167,11 +204,21 @@ fn verify_parser<'a>(alloc: Global) -> Result<Parser<'a>, AllocError> {
     Ok(verify)
 }
 
+// Why words are refused that clap reads as a command: it reads `pass --` as `pass`, and an option behind the names.
+fn unread(words: &[&str]) -> &'static str {
+    for word in words {
+        if is_word(word, "--") {
+            return "unexpected argument '--' found";
+        }
+    }
+    "an option stands right behind the word of its command, and none stands beside it"
+}
+
 // What clap answers for words that are no command as it is written here: a call for help or for the version, or what is
-// wrong with them. It reads `pass --` as `pass`, and such words are refused too.
+// wrong with them.
 fn ask_clap(alloc: Global, words: &[&str]) -> Result<Error, Error> {
     let pass = Parser::new(alloc, "pass").about(PASS_ABOUT);
-    let check = one_file_parser(alloc, "check", CHECK_ABOUT)?;
+    let check = check_parser(alloc)?;
     let certify = one_file_parser(alloc, "certify", CERTIFY_ABOUT)?;
     let verify = verify_parser(alloc)?;
     let replay = replay_parser(alloc)?;
@@ -185,7 +232,7 @@ fn ask_clap(alloc: Global, words: &[&str]) -> Result<Error, Error> {
         .subcommand(verify)?
         .subcommand(replay)?;
     parser.try_get_matches_from_mut(words)?;
-    let error = parser.error(ErrorKind::UnknownArgument, "unexpected argument '--' found")?;
+    let error = parser.error(ErrorKind::UnknownArgument, unread(words))?;
     Ok(error)
 }
 
@@ -204,6 +251,8 @@ pub fn command_of<'a>(alloc: Global, words: &[&'a str]) -> Result<Command<'a>, E
     ensures replay { (site events : List ℕ) → AreReplay (map (λ s. s.now) words.now) site events → IfErr result (λ _. ⊥) }
     ensures check { (site : List ℕ) → AreOneFile (codes "check") (map (λ s. s.now) words.now) site →
         IfErr result (λ _. ⊥) }
+    ensures explain { (site : List ℕ) → AreFlagged (codes "check") (codes "--explain") (map (λ s. s.now) words.now) site →
+        IfErr result (λ _. ⊥) }
     ensures certify { (site : List ℕ) → AreOneFile (codes "certify") (map (λ s. s.now) words.now) site →
         IfErr result (λ _. ⊥) }
     ensures verify { (site certificate : List ℕ) → AreVerify (map (λ s. s.now) words.now) site certificate →
@@ -214,6 +263,9 @@ pub fn command_of<'a>(alloc: Global, words: &[&'a str]) -> Result<Command<'a>, E
     }
     if let Some(site) = named(words, "check") {
         return Ok(Command::Check(site));
+    }
+    if let Some(site) = flagged(words, "check", "--explain") {
+        return Ok(Command::Explain(site));
     }
     if let Some(site) = named(words, "certify") {
         return Ok(Command::Certify(site));

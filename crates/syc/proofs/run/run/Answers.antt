@@ -2,7 +2,7 @@ use Rattle.std.proofs.Common.{◌≡◌, ◌∙◌, ap, map, subst, sym}
 use Rattle.std.specs.Prelude.{Some, string_bytes}
 use Rattle.syc.specs.Words.{AreReplay}
 use Rattle.syc.proofs.Commands.{one_replay, with_program}
-use Rattle.syc.proofs.Endings.{is_one_file, is_pass, is_replay, is_verify, one_file, one_verify}
+use Rattle.syc.proofs.Endings.{is_flagged, is_one_file, is_pass, is_replay, is_verify, one_file, one_flagged, one_verify}
 use Rattle.syc.proofs.Statuses.{nothing_passed}
 use Rattle.syc.proofs.run.run.Goals as goal
 
@@ -36,6 +36,12 @@ returns-in-Ok-Check-clause-check g c = λ site text given known.
     let same = one_file _ _ _ _ _ site _ c.as_slice.ensures.value c.in-Ok.ensures given named in
     c.check.ensures.check text (ap (g.F.Files.bytes_of c.args.files.now) (sym same) ∙ known)
 
+pub returns-in-Ok-Explain-clause-explain : goal.returns-in-Ok-Explain-clause-explain
+returns-in-Ok-Explain-clause-explain g c = λ site text given known.
+    let named = rw c.in-Ok-Explain.field-0-is at c.in-Ok-Explain.ensures.ok in
+    let same = one_flagged _ _ _ _ _ _ site _ c.as_slice.ensures.value c.in-Ok.ensures given named in
+    c.explain.ensures.explain text (ap (g.F.Files.bytes_of c.args.files.now) (sym same) ∙ known)
+
 pub returns-in-Ok-Certify-clause-certify : goal.returns-in-Ok-Certify-clause-certify
 returns-in-Ok-Certify-clause-certify g c = λ site text given known.
     let named = rw c.in-Ok-Certify.field-0-is at c.in-Ok-Certify.ensures.ok in
@@ -51,6 +57,11 @@ pub returns-in-Ok-Check-clause-other : goal.returns-in-Ok-Check-clause-other
 returns-in-Ok-Check-clause-other g c = λ none.
     let named = rw c.in-Ok-Check.field-0-is at c.in-Ok-Check.ensures.ok in
     absurd (none.no_check _ (is_one_file _ _ _ _ c.as_slice.ensures.value c.in-Ok.ensures _ _ named))
+
+pub returns-in-Ok-Explain-clause-other : goal.returns-in-Ok-Explain-clause-other
+returns-in-Ok-Explain-clause-other g c = λ none.
+    let named = rw c.in-Ok-Explain.field-0-is at c.in-Ok-Explain.ensures.ok in
+    absurd (none.no_explain _ (is_flagged _ _ _ _ c.as_slice.ensures.value c.in-Ok.ensures _ _ _ named))
 
 pub returns-in-Ok-Certify-clause-other : goal.returns-in-Ok-Certify-clause-other
 returns-in-Ok-Certify-clause-other g c = λ none.

@@ -1,0 +1,211 @@
+//! What of a relay a finding is about: its input, the input's queue and what feeds it, an occurrence, an action.
+
+use crate::places::{Places, Thing};
+use sy_checker::finding::{Finding, Kind, WayRow};
+use sy_rules::{Destination, FlowControl, Input, Occurrence, Plan, QueueParameters};
+use sy_site::{Site, SiteInput};
+
+/// An input of a relay, with the relay's plan.
+#[derive(Clone, Copy)]
+pub struct Spot<'a> {
+    pub plan: &'a Plan,
+    pub input: Input,
+}
+
+/// The input of this number.
+pub fn spot_at(site: &Site, at: SiteInput) -> Option<Spot<'_>> {
+    if at.relay >= site.relays() {
+        return None;
+    }
+    let plan = site.plan(at.relay);
+    match plan.inputs().get(at.input as usize) {
+        Some(input) => Some(Spot {
+            plan,
+            input: *input,
+        }),
+        None => None,
+    }
+}
+
+/// The queue that its messages are put into.
+pub fn queue_at(spot: Spot<'_>) -> Option<QueueParameters> {
+    match spot.plan.queues().get(spot.input.queue as usize) {
+        Some(queue) => Some(*queue),
+        None => None,
+    }
+}
+
+/// What a list executes.
+pub fn occurrences_of(plan: &Plan, list: u32) -> &[Occurrence] {
+    if (list as usize) < plan.list_names().len() {
+        return plan.occurrences(list);
+    }
+    &[]
+}
+
+/// The name of a list.
+pub fn name_of_list(plan: &Plan, list: u32) -> &[u8] {
+    if (list as usize) < plan.list_names().len() {
+        return plan.list_name(list);
+    }
+    b""
+}
+
+// The queue of a list, 0 where it has none of its own.
+fn queue_for(plan: &Plan, list: u32) -> u32 {
+    if (list as usize) >= plan.list_names().len() {
+        return 0;
+    }
+    match plan.list_queue(list) {
+        Some(queue) => queue,
+        None => 0,
+    }
+}
+
+// ---- what a queue belongs to
+
+// The action of this name.
+fn action_named(plan: &Plan, name: &[u8]) -> Option<u32> {
+    let mut number: u32 = 0;
+    for action in plan.actions() {
+        if action.name.as_slice() == name {
+            return Some(number);
+        }
+        number = number.saturating_add(1);
+    }
+    None
+}
+
+/// What has the queue of a list: the ruleset, or the action, that the list is of, or the whole relay. Lists are
+/// numbered from the default ruleset's, those of rulesets next, and then those of actions with a queue.
+pub fn owner_of(places: &Places, plan: &Plan, list: u32) -> Thing {
+    if queue_for(plan, list) == 0 || list == 0 {
+        return Thing::MainQueue;
+    }
+    if (list as usize) <= places.rulesets() {
+        return Thing::Ruleset(list - 1);
+    }
+    match action_named(plan, name_of_list(plan, list)) {
+        Some(action) => Thing::Action(action),
+        None => Thing::MainQueue,
+    }
+}
+
+// ---- what feeds a queue without waiting at its full-delay mark
+
+/// An input that isn't a full-delay one, or posts to a list.
+#[derive(Clone, Copy)]
+pub enum Feeder {
+    Input(u32),
+    Post(u32),
+}
+
+fn free_input(plan: &Plan, queue: u32) -> Option<Feeder> {
+    let mut number: u32 = 0;
+    for input in plan.inputs() {
+        if input.queue == queue && !matches!(input.flow, FlowControl::Full) {
+            return Some(Feeder::Input(number));
+        }
+        number = number.saturating_add(1);
+    }
+    None
+}
+
+// The first list to which a list posts and whose queue this is.
+fn posted_by(plan: &Plan, list: u32, queue: u32) -> Option<Feeder> {
+    for occurrence in occurrences_of(plan, list) {
+        match occurrence {
+            Occurrence::Post(to) if queue_for(plan, *to) == queue => return Some(Feeder::Post(*to)),
+            _ => {}
+        }
+    }
+    None
+}
+
+fn free_post(plan: &Plan, queue: u32) -> Option<Feeder> {
+    let mut list: u32 = 0;
+    for _ in plan.list_names() {
+        if let Some(feeder) = posted_by(plan, list, queue) {
+            return Some(feeder);
+        }
+        list = list.saturating_add(1);
+    }
+    None
+}
+
+/// What feeds an input's queue and doesn't wait at its full-delay mark.
+pub fn free_feeder(spot: Spot<'_>) -> Option<Feeder> {
+    match free_input(spot.plan, spot.input.queue) {
+        Some(feeder) => Some(feeder),
+        None => free_post(spot.plan, spot.input.queue),
+    }
+}
+
+// ---- occurrences
+
+fn gives_up(plan: &Plan, action: u32) -> bool {
+    match plan.actions().get(action as usize) {
+        Some(action) => action.retry.is_some(),
+        None => false,
+    }
+}
+
+fn leads_nowhere(site: &Site, relay: u32, plan: &Plan, action: u32) -> bool {
+    match plan.actions().get(action as usize) {
+        Some(found) => match &found.destination {
+            Destination::Archive(_) => false,
+            Destination::Forward(_, _) => site.target(relay, action).is_none(),
+        },
+        None => false,
+    }
+}
+
+// Whether a finding of this kind is about an occurrence.
+fn is_about(site: &Site, relay: u32, plan: &Plan, kind: Kind, occurrence: Occurrence) -> bool {
+    match occurrence {
+        Occurrence::Post(_) => matches!(kind, Kind::InnerQueue),
+        Occurrence::Run(action) => match kind {
+            Kind::GivesUp => gives_up(plan, action),
+            Kind::NoTarget => leads_nowhere(site, relay, plan, action),
+            _ => false,
+        },
+    }
+}
+
+// What messages of the class may execute of the input's list, as bits.
+fn may_of(spot: Spot<'_>, finding: &Finding) -> u64 {
+    if (spot.input.list as usize) >= spot.plan.list_names().len() {
+        return 0;
+    }
+    let (may, _) = spot.plan.flows(spot.input.list, finding.class);
+    may
+}
+
+/// The first occurrence that a finding is about, of those that messages of its class may execute at its input.
+pub fn occurrence_meant(site: &Site, spot: Spot<'_>, finding: &Finding) -> Option<Occurrence> {
+    let mut left = may_of(spot, finding);
+    for occurrence in occurrences_of(spot.plan, spot.input.list) {
+        if left % 2 == 1
+            && is_about(
+                site,
+                finding.input.relay,
+                spot.plan,
+                finding.kind,
+                *occurrence,
+            )
+        {
+            return Some(*occurrence);
+        }
+        left /= 2;
+    }
+    None
+}
+
+/// The action of a part of a way.
+pub fn action_by(site: &Site, row: WayRow) -> Option<u32> {
+    let spot = spot_at(site, row.input)?;
+    match occurrences_of(spot.plan, spot.input.list).get(row.number as usize) {
+        Some(Occurrence::Run(action)) => Some(*action),
+        Some(Occurrence::Post(_)) | None => None,
+    }
+}

@@ -1,0 +1,227 @@
+//! The lines of an explanation that say why messages are lost, and what would change that.
+
+use crate::culprit::{Spot, free_feeder};
+use crate::places::Thing;
+use crate::texts::relay_name;
+use crate::words::Words;
+use sy_checker::finding::{Finding, WayRow};
+use sy_rules::{Action, Destination, FlowControl, Plan, QueueParameters};
+use sy_site::Site;
+
+// ---- full queues
+
+// That a message is lost at a full queue after a while.
+fn put_wait(words: &mut Words, queue: QueueParameters) {
+    words.say(", so that messages may come to a full queue: there one waits ");
+    words.count(u64::from(queue.timeout_enqueue));
+    words.say(" ms at most, and is then lost\n");
+}
+
+// Whether a queue discards messages of some severity at some length.
+fn has_discards(queue: QueueParameters) -> bool {
+    queue.discard_severity < 8 && queue.discard_mark > 0
+}
+
+// A full-delay mark that is right for a queue: 97 hundredths of its size, but below the mark at which it discards.
+fn right_mark(queue: QueueParameters) -> u64 {
+    let mark = u64::from(queue.size) * 97 / 100;
+    if has_discards(queue) {
+        return mark
+            .min(u64::from(queue.discard_mark.saturating_sub(1)))
+            .max(1);
+    }
+    mark.max(1)
+}
+
+fn put_right_mark(words: &mut Words, queue: QueueParameters) {
+    words.say("queue.fullDelayMark=\"");
+    words.count(right_mark(queue));
+    words.say("\" there");
+}
+
+fn flow_word(flow: FlowControl) -> &'static str {
+    match flow {
+        FlowControl::On => "on",
+        FlowControl::Off => "off",
+        FlowControl::Full => "full",
+    }
+}
+
+/// Why an input that isn't a full-delay one loses messages.
+pub fn put_not_full(words: &mut Words, spot: Spot<'_>, queue: QueueParameters) {
+    words.say("why: its flowControl is ");
+    words.say(flow_word(spot.input.flow));
+    put_wait(words, queue);
+    words.say("change: flowControl=\"full\" there\n");
+}
+
+/// Why a queue without a full-delay mark does.
+pub fn put_mark_off(words: &mut Words, queue: QueueParameters) {
+    words.say("why: its queue.fullDelayMark is 0, which is off");
+    put_wait(words, queue);
+    words.say("change: ");
+    put_right_mark(words, queue);
+    words.say("\n");
+}
+
+/// Why a queue does that is smaller than its full-delay mark.
+pub fn put_mark_above_size(words: &mut Words, queue: QueueParameters) {
+    words.say("why: its queue.fullDelayMark is ");
+    words.count(u64::from(queue.full_delay_mark));
+    words.say(" and its queue.size ");
+    words.count(u64::from(queue.size));
+    put_wait(words, queue);
+    words.say("change: ");
+    put_right_mark(words, queue);
+    words.say("\n");
+}
+
+// ---- queues that discard
+
+// What a queue discards, and when.
+fn put_discards(words: &mut Words, queue: QueueParameters) {
+    words.say("why: with ");
+    words.count(u64::from(queue.discard_mark));
+    words.say(" messages waiting (queue.discardMark; its queue.size is ");
+    words.count(u64::from(queue.size));
+    words.say(") it discards those of severity ");
+    words.count(u64::from(queue.discard_severity));
+    words.say(" and less urgent ones,\n");
+}
+
+// That it comes to that.
+fn put_growth(words: &mut Words, queue: QueueParameters) {
+    if queue.full_delay_mark < queue.discard_mark {
+        words.say("  and not all that feeds it waits at ");
+    } else {
+        words.say("  and what feeds it waits only at ");
+    }
+    words.count(u64::from(queue.full_delay_mark));
+    words.say(" (queue.fullDelayMark)\n");
+}
+
+/// Why a queue that discards does.
+pub fn put_discarding(words: &mut Words, spot: Spot<'_>, queue: QueueParameters) {
+    put_discards(words, queue);
+    put_growth(words, queue);
+    words.say("change: ");
+    if free_feeder(spot).is_none() && queue.discard_mark > 1 {
+        put_right_mark(words, queue);
+        words.say(", or ");
+    }
+    words.say("queue.discardSeverity=\"8\" there, by which it discards nothing\n");
+}
+
+// ---- actions
+
+/// Why posts do.
+pub fn put_post(words: &mut Words) {
+    words.say(
+        "why: messages are posted to its queue, and one that is posted while that is full is lost\n",
+    );
+    words.say("change: without queue.type there, so that it has no queue of its own\n");
+}
+
+fn retries(action: &Action) -> u64 {
+    match action.retry {
+        Some(retry) => u64::from(retry),
+        None => 0,
+    }
+}
+
+/// Why an action that is given up does.
+pub fn put_gives_up(words: &mut Words, plan: &Plan, thing: Thing) {
+    let Some(action) = action_of(plan, thing) else {
+        return;
+    };
+    words.say("why: a message that couldn't be handed on is tried again ");
+    words.count(retries(action));
+    words.say(" times (action.resumeRetryCount), and is then given up and lost\n");
+    words.say("change: action.resumeRetryCount=\"-1\" there, by which it is tried without end\n");
+}
+
+fn action_of(plan: &Plan, thing: Thing) -> Option<&Action> {
+    match thing {
+        Thing::Action(number) => plan.actions().get(number as usize),
+        _ => None,
+    }
+}
+
+// The ports of a relay's inputs.
+fn put_ports(words: &mut Words, site: &Site, plan: &Plan, relay: u32) {
+    words.say("change: a port of ");
+    words.put(relay_name(site, relay));
+    words.say(" there:");
+    for input in plan.inputs() {
+        words.say(" ");
+        words.count(u64::from(input.port));
+    }
+    words.say("\n");
+}
+
+// The other relays of a site.
+fn put_relays(words: &mut Words, site: &Site, own: u32) {
+    words.say("change: a target of the site there:");
+    for relay in 0..site.relays() {
+        if relay != own {
+            words.say(" ");
+            words.put(relay_name(site, relay));
+        }
+    }
+    words.say("\n");
+}
+
+// What a forward may lead to in place of a target.
+fn put_targets(words: &mut Words, site: &Site, own: u32, target: &[u8]) {
+    match site.relay_named(target) {
+        Some(relay) if relay < site.relays() => put_ports(words, site, site.plan(relay), relay),
+        _ => put_relays(words, site, own),
+    }
+}
+
+/// Why a forward that leads to no input of the site does.
+pub fn put_no_target(words: &mut Words, site: &Site, own: u32, plan: &Plan, thing: Thing) {
+    let Some(action) = action_of(plan, thing) else {
+        return;
+    };
+    if let Destination::Forward(target, port) = &action.destination {
+        words.say("why: it forwards to ");
+        words.put(target.as_slice());
+        words.say(" ");
+        words.count(u64::from(*port));
+        words.say(", which is no input of the site, so that no archive of the site gets it\n");
+        put_targets(words, site, own, target.as_slice());
+    }
+}
+
+// ---- ways
+
+// The relays of a way.
+fn put_way(words: &mut Words, site: &Site, way: &[WayRow]) {
+    for row in way {
+        words.put(relay_name(site, row.input.relay));
+        words.say(", ");
+    }
+}
+
+/// Why a loop does.
+pub fn put_loop(words: &mut Words, site: &Site, finding: &Finding) {
+    words.say("why: by it a message may come to a relay once more: ");
+    put_way(words, site, finding.way.as_slice());
+    words.put(relay_name(site, finding.input.relay));
+    words.say("; what goes round fills the queues there\n");
+    words.say(
+        "change: that forward, or another one of the loop, left out, or put behind a test that the class doesn't pass\n",
+    );
+}
+
+/// Why an archive that isn't led to does.
+pub fn put_unmet(words: &mut Words) {
+    words.say(
+        "why: no occurrences that every message of the class executes lead from that input to that archive\n",
+    );
+    words.say(
+        "change: each forward of the way and the archive where every message of the class comes to it:\n",
+    );
+    words.say("  outside tests that the class alone doesn't decide, and before each stop\n");
+}
