@@ -117,7 +117,7 @@ path_from site class archive (row ∷ way) from end led write =
     let goes = led.2 in
     (goes.1, led.1, goes.2, path_from site class archive way led.1 end led.3 write)
 
-one_start : (entry x : SiteInput) → Contains (entry ∷ []) x → entry ≡ x
+pub one_start : (entry x : SiteInput) → Contains (entry ∷ []) x → entry ≡ x
 one_start entry x (ℕ.zero, low, is) = is
 one_start entry x (ℕ.suc k, low, is) = absurd (omega (arith, low))
 

@@ -1,5 +1,5 @@
 -- What the searches of the checker answer.
-use Rattle.std.specs.Prelude.{◌≡◌, ℕ, ◌<◌, All, Contains, List, Option, Some, None, slice_get}
+use Rattle.std.specs.Prelude.{◌≡◌, ℕ, ◌<◌, All, Contains, List, [], ◌∷◌, length, Option, Some, None, slice_get}
 use Rattle.sy_wire.specs.declared.class.Class.{Class}
 use Rattle.sy_cert.specs.Rows.{AreOccurrences}
 use Rattle.sy_site.specs.declared.site.SiteAction.{SiteAction}
@@ -11,6 +11,10 @@ use Rattle.sy_checker.specs.declared.finding.Finding.{Finding}
 use Rattle.sy_checker.specs.declared.finding.Kind.{Kind}
 use Rattle.sy_checker.specs.declared.finding.WayRow.{WayRow}
 use Rattle.sy_checker.specs.Finding.{IsTrueFinding, kind_of}
+use Rattle.sy_checker.specs.declared.executed.Executed.TheVariants as executed
+use Rattle.sy_checker.specs.declared.reach.Found.{Found}
+use Rattle.sy_checker.specs.Flows.{AreEach}
+use Rattle.sy_checker.specs.Search.{IsSpread}
 use Rattle.sy_checker.specs.Fit.{IsClean, IsPath, MustWrite}
 use Rattle.sy_checker.specs.Risks.{IsRisky}
 
@@ -38,6 +42,14 @@ IsSearched site class None = (input : SiteInput) → Reach site class input → 
 IsSearched site class (Some found) = IsTrueFinding site found
 
 -- ---- paths
+
+-- what must be executed leads on so from the entry at this place
+abbrev pub IsLeadOf : Site → Class → ℕ → Found → Type 0
+IsLeadOf site class place found = (entry : SiteInput) → slice_get site.entries place ≡ Some entry
+    → IsSpread site class executed.Must (entry ∷ []) found.inputs.items found.origins.items
+
+abbrev pub AreLeads : Site → Class → List Found → Type 0
+AreLeads site class leads = AreEach (IsLeadOf site class) (length site.entries) leads
 
 -- the archive must be written at the input at this place; at none, where there is none
 abbrev pub IsWriting : Site → Class → SiteAction → List SiteInput → Option ℕ → Type 0

@@ -19,6 +19,7 @@ use crate::classes::protected_classes;
 use crate::finding::Refusal;
 use crate::flows::{ClassFlows, flows_of};
 use crate::laws::fit_is_sound;
+use crate::lead::leads_of;
 use crate::looped::looped;
 use crate::loops::{Unranked, ranks_of};
 use crate::making::{parts_join, rows_for};
@@ -80,11 +81,13 @@ fn rows_of_class(alloc: Global, site: &Site, class: Class) -> Result<Vec<Row>, R
     searched(alloc, site, class, &flows, &found)?;
     let ranks = ranks_for(alloc, site, class, &flows, found.inputs.as_slice())?;
     let part = wanted_rows(alloc, site, class, found.inputs.as_slice())?;
+    let leads = leads_of(alloc, site, class, &flows)?;
     let rows = rows_for(
         alloc,
         site,
         class,
         &flows,
+        leads.as_slice(),
         part.as_slice(),
         ranks.as_slice(),
     )?;

@@ -1,11 +1,13 @@
 //! Paths that are looked for: from an entry to an archive, by forwards that must be executed.
 
+ghost use Rattle.std.specs.List.{position};
 ghost use Rattle.std.specs.Prelude.{◌≡◌, ◌∷◌, [], Contains, IfOk, map};
 ghost use Rattle.sy_site.specs.declared.site.SiteInput.{SiteInput as AnyInput};
 ghost use Rattle.sy_site.specs.machine.Lawful.{IsInput};
 ghost use Rattle.sy_checker.specs.declared.executed.Executed.TheVariants as executed;
 ghost use Rattle.sy_checker.specs.Search.{IsSpread};
 ghost use Rattle.sy_checker.specs.Answer as spec;
+ghost use Rattle.sy_checker.specs.Internal.{same_input};
 ghost use Rattle.sy_checker.specs.Flows.{AreFlows};
 
 use crate::executed::Executed;
@@ -77,20 +79,54 @@ fn lead_among(
     }
 }
 
+/// What forwards lead to that must be executed, from each entry.
+pub fn leads_of(
+    alloc: Global,
+    site: &Site,
+    class: Class,
+    flows: &ClassFlows,
+) -> Result<Vec<Found>, AllocError>
+    requires flows { AreFlows site.now class flows.now }
+    ensures { IfOk result (λ leads. spec.AreLeads site.now class leads.items) }
+{
+    site.is_lawful();
+    let mut leads = Vec::new(alloc);
+    for entry in site.entries() {
+        let start = [*entry];
+        let found = spread(alloc, site, class, flows, Executed::Must, &start)?;
+        leads.push(found)?;
+    }
+    Ok(leads)
+}
+
+fn place_of(inputs: &[SiteInput], input: SiteInput) -> Option<usize>
+    ensures { result ≡ position (same_input input) inputs.now }
+{
+    inputs
+        .iter()
+        .position(|i| input.relay == i.relay && input.input == i.input)
+}
+
 /// A shortest path from an entry to an archive, with the smallest occurrences first.
 pub fn lead(
     alloc: Global,
     site: &Site,
     class: Class,
     flows: &ClassFlows,
+    leads: &[Found],
     archive: SiteAction,
     entry: SiteInput,
 ) -> Result<Option<Items<u8>>, AllocError>
-    requires there { IsInput site.now entry }
+    requires entry { Contains site.now.entries entry }
     requires flows { AreFlows site.now class flows.now }
+    requires leads { spec.AreLeads site.now class leads.now }
     ensures { IfOk result (λ path. spec.IsLead site.now class archive entry path) }
 {
-    let start = [entry];
-    let found = spread(alloc, site, class, flows, Executed::Must, &start)?;
-    lead_among(alloc, site, class, flows, archive, &start, &found)
+    match place_of(site.entries(), entry) {
+        Some(place) => {
+            let start = [entry];
+            lead_among(alloc, site, class, flows, archive, &start, &leads[place])
+        }
+        None => unreachable!(),
+    }
 }

@@ -13,11 +13,13 @@ ghost use Rattle.sy_checker.specs.declared.wanted.Wanted.{Wanted as AnyWanted};
 ghost use Rattle.sy_checker.specs.Finding.{IsTrueRefusal};
 ghost use Rattle.sy_checker.specs.Fit as fit;
 ghost use Rattle.sy_checker.specs.Made as spec;
+ghost use Rattle.sy_checker.specs.Answer.{AreLeads};
 ghost use Rattle.sy_checker.specs.Flows.{AreFlows};
 
 use crate::finding::Refusal;
 use crate::flows::ClassFlows;
 use crate::inputs::input_at;
+use crate::reach::Found;
 use crate::unmet::path_for;
 use crate::wanted::Wanted;
 use std::alloc::{AllocError, Global};
@@ -104,6 +106,7 @@ fn path_row(
     site: &Site,
     class: Class,
     flows: &ClassFlows,
+    leads: &[Found],
     entry: SiteInput,
     archive: SiteAction,
 ) -> Result<Row, Refusal>
@@ -114,10 +117,11 @@ fn path_row(
     requires relay { entry.relay < length site.now.relays }
     requires archive { archive.relay < length site.now.relays }
     requires flows { AreFlows site.now class flows.now }
+    requires leads { AreLeads site.now class leads.now }
     ensures ok { IfOk result (λ r. fit.IsPathRow site.now class entry archive r) }
     ensures err { IfErr result (λ why. IsTrueRefusal site.now why) }
 {
-    let path = path_for(alloc, site, class, flows, entry, archive)?;
+    let path = path_for(alloc, site, class, flows, leads, entry, archive)?;
     let row = named_path(alloc, site, class, entry, archive, path)?;
     Ok(row)
 }
@@ -128,6 +132,7 @@ fn row_for(
     site: &Site,
     class: Class,
     flows: &ClassFlows,
+    leads: &[Found],
     part: &[Wanted],
     ranks: &[u32],
     is: Wanted,
@@ -138,6 +143,7 @@ fn row_for(
     requires member { Contains part.now is }
     requires many { length ranks.now ≡ length site.now.relays }
     requires flows { AreFlows site.now class flows.now }
+    requires leads { AreLeads site.now class leads.now }
     ensures ok { IfOk result (λ r. spec.IsMade site.now class ranks.now is r) }
     ensures err { IfErr result (λ why. IsTrueRefusal site.now why) }
 {
@@ -148,7 +154,7 @@ fn row_for(
         Wanted::Class(of) => Ok(Row::Class(of)),
         Wanted::Reach(input) => Ok(reach_row(alloc, site, class, input)?),
         Wanted::Rank(of) => Ok(rank_row(alloc, site, of, ranks)?),
-        Wanted::Path(entry, archive) => path_row(alloc, site, class, flows, entry, archive),
+        Wanted::Path(entry, archive) => path_row(alloc, site, class, flows, leads, entry, archive),
     }
 }
 
@@ -166,6 +172,7 @@ pub fn rows_for(
     site: &Site,
     class: Class,
     flows: &ClassFlows,
+    leads: &[Found],
     part: &[Wanted],
     ranks: &[u32],
 ) -> Result<Vec<Row>, Refusal>
@@ -175,13 +182,14 @@ pub fn rows_for(
     requires ranks { AreRanks site.now class (λ relay. get_or ranks.now relay 0) }
     requires many { length ranks.now ≡ length site.now.relays }
     requires flows { AreFlows site.now class flows.now }
+    requires leads { AreLeads site.now class leads.now }
     ensures ok { IfOk result (λ rows. fit.AreRight site.now class part.now rows.items) }
     ensures length { IfOk result (λ rows. length rows.items ≡ length part.now) }
     ensures err { IfErr result (λ why. IsTrueRefusal site.now why) }
 {
     let mut rows = Vec::new(alloc);
     for is in part {
-        let row = row_for(alloc, site, class, flows, part, ranks, *is)?;
+        let row = row_for(alloc, site, class, flows, leads, part, ranks, *is)?;
         put(&mut rows, row)?;
     }
     Ok(rows)

@@ -6,11 +6,13 @@ ghost use Rattle.sy_site.specs.Sites as sites;
 ghost use Rattle.sy_site.specs.machine.Reach.{LeadsTo};
 ghost use Rattle.sy_checker.specs.Finding.{IsTrueFinding, IsTrueRefusal};
 ghost use Rattle.sy_checker.specs.Fit.{IsPath};
+ghost use Rattle.sy_checker.specs.Answer.{AreLeads};
 ghost use Rattle.sy_checker.specs.Flows.{AreFlows};
 
 use crate::finding::{Finding, Kind, Refusal};
 use crate::flows::ClassFlows;
 use crate::lead::lead;
+use crate::reach::Found;
 use std::alloc::Global;
 use sy_script::Items;
 use sy_site::{Site, SiteAction, SiteInput};
@@ -39,6 +41,7 @@ pub fn path_for(
     site: &Site,
     class: Class,
     flows: &ClassFlows,
+    leads: &[Found],
     entry: SiteInput,
     archive: SiteAction,
 ) -> Result<Items<u8>, Refusal>
@@ -46,11 +49,12 @@ pub fn path_for(
     requires entry { Contains site.now.entries entry }
     requires named { Contains (sites.archives site.now class) archive }
     requires flows { AreFlows site.now class flows.now }
+    requires leads { AreLeads site.now class leads.now }
     ensures ok { IfOk result (λ path. IsPath site.now class archive entry path × AreOccurrences path) }
     ensures err { IfErr result (λ why. IsTrueRefusal site.now why) }
 {
     site.is_lawful();
-    match lead(alloc, site, class, flows, archive, entry)? {
+    match lead(alloc, site, class, flows, leads, archive, entry)? {
         Some(path) => Ok(path),
         None => Err(Refusal::Finding(unmet(alloc, site, class, entry, archive))),
     }

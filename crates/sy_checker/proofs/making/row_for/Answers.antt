@@ -32,6 +32,7 @@ path_row-requires c =
     let is = meant c.args.site.now c.args.class c.args.part.now c.requires.wanted (wanted.Path c.in-Path.entry c.in-Path.archive) member in
     record {
       flows = c.requires.flows;
+      leads = c.requires.leads;
       protected = c.requires.protected;
       entry = is.0;
       named = is.1;
