@@ -53,7 +53,6 @@ pub fn path_for(
     ensures ok { IfOk result (λ path. IsPath site.now class archive entry path × AreOccurrences path) }
     ensures err { IfErr result (λ why. IsTrueRefusal site.now why) }
 {
-    site.is_lawful();
     match lead(alloc, site, class, flows, leads, archive, entry)? {
         Some(path) => Ok(path),
         None => Err(Refusal::Finding(unmet(alloc, site, class, entry, archive))),
