@@ -134,9 +134,11 @@ pub fn put_gives_up(words: &mut Words, plan: &Plan, thing: Thing) {
     let Some(action) = action_of(plan, thing) else {
         return;
     };
-    words.say("why: a message that couldn't be handed on is tried again ");
+    words.say("why: its action.resumeRetryCount is ");
     words.count(retries(action));
-    words.say(" times (action.resumeRetryCount), and is then given up and lost\n");
+    words.say(
+        ": a message that couldn't be handed on is given up after so many retries, and lost\n",
+    );
     words.say("change: action.resumeRetryCount=\"-1\" there, by which it is tried without end\n");
 }
 
