@@ -100,13 +100,13 @@ def wanted_of(top, crates, names):
 
 
 def proved_in(log):
-    """The crates that the gate's log says to be proved, and whether the gate has ended."""
+    """The crates that the gate's log says to be proved, in this run or an earlier one, and whether the gate has ended."""
     try:
         with open(log, encoding="utf-8", errors="replace") as it:
             said = it.read()
     except FileNotFoundError:
         return set(), False
-    return set(re.findall(r"^rt: (\w+) proved$", said, re.M)), bool(re.search(r"^\d+ passed, \d+ failed$", said, re.M))
+    return set(re.findall(r"^rt: (\w+) (?:proved$|is kept: )", said, re.M)), bool(re.search(r"^\d+ passed, \d+ failed$", said, re.M))
 
 
 def side_by_side(names, jobs, is_ready, work):
