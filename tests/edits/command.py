@@ -106,7 +106,8 @@ def proved_in(log):
             said = it.read()
     except FileNotFoundError:
         return set(), False
-    return set(re.findall(r"^rt: (\w+) (?:proved$|is kept: )", said, re.M)), bool(re.search(r"^\d+ passed, \d+ failed$", said, re.M))
+    proved = set(re.findall(r"^rt: (\w+) (?:proved$|is kept: )", said, re.M))
+    return proved, bool(re.search(r"^\d+ passed, \d+ failed$", said, re.M))
 
 
 def side_by_side(names, jobs, is_ready, work):
