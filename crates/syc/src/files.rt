@@ -2,7 +2,7 @@
 ghost use Rattle.std.specs.Prelude.{◌≡◌, List, ℕ, Option, None, Some, IfOk, IfSome};
 
 use std::fs::{self, File};
-use std::io::{Empty, Error, ErrorKind, empty};
+use std::io::{Error, ErrorKind};
 use sy_wire::{FromRead, Source};
 
 /// Why a file's bytes aren't there.
@@ -63,20 +63,5 @@ impl Files for HostFiles<'_> {
             Ok(file) => Ok(FromRead::new(file)),
             Err(error) => Err(fault_of(&error)),
         }
-    }
-}
-
-/// No files at all, for a command that reads none.
-pub struct NoFiles;
-
-impl Files for NoFiles {
-    type Opened = FromRead<Empty>;
-
-    fn read(&self, _name: &str) -> Result<Vec<u8>, FileFault> {
-        Err(FileFault::Read)
-    }
-
-    fn open(&self, _name: &str) -> Result<FromRead<Empty>, FileFault> {
-        Err(FileFault::Read)
     }
 }

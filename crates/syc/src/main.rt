@@ -22,8 +22,6 @@ mod replay;
 mod run;
 mod site;
 mod stop;
-#[cfg(test)]
-mod tests;
 mod texts;
 mod things;
 mod verdict;
