@@ -12,7 +12,7 @@ JUDGES = ("edits.py", "judge.py", "rounds.py", "toolchain.py")
 # The files that are a function's own proof, of which nothing above depends.
 OF_A_FUNCTION = {"Answers.antt", "Invariants.antt", "Proof.antt"}
 # One in so many edits of a recorded crate is tried again in each run.
-SHARE = 10
+SHARE = 20
 
 
 def digest(parts):
@@ -94,7 +94,7 @@ class Record:
         return self.refused.get(edit.name) == self.sum_of(edit)
 
     def left(self, given):
-        """Of these edits those that aren't recorded, and some of the others: one in ten, others in each state of the
+        """Of these edits those that aren't recorded, and some of the others: one in twenty, others in each state of the
         crate, and one at least."""
         recorded = sorted(filter(self.has, given), key=lambda it: digest([(it.label, self.sum)]))
         again = {it.name for it in recorded[: (len(recorded) + SHARE - 1) // SHARE]}
