@@ -13,14 +13,16 @@ pub mod lookup;
 mod protected;
 mod read;
 pub mod relay;
+mod targets;
 
-use lookup::{input_at_port, relay_named};
+use lookup::relay_named;
 use relay::Relay;
 use std::marker::Model;
 use std::net::Ipv4Addr;
 use std::sync::Arc;
-use sy_rules::{Destination, Plan};
+use sy_rules::Plan;
 use sy_select::Selector;
+use targets::{Targets, target_in};
 
 /// An input of a relay, both by number.
 #[derive(Clone, Copy, PartialEq, Eq)]
@@ -52,6 +54,8 @@ pub struct Site {
     relays: Vec<Relay>,
     entries: Vec<SiteInput>,
     protections: Vec<Protection>,
+    // what each action of each relay leads to
+    targets: Vec<Targets>,
 }
 
 impl Model for Site {
@@ -141,18 +145,6 @@ impl Site {
     pub fn target(&self, relay: u32, action: u32) -> Option<SiteInput>
         ensures { result ≡ spec.target self.now (record { relay = relay; action = action }) }
     {
-        let action = self
-            .relays
-            .get(relay as usize)?
-            .plan
-            .actions()
-            .get(action as usize)?;
-        match &action.destination {
-            Destination::Archive(_) => None,
-            Destination::Forward(name, port) => {
-                let relay = relay_named(self.relays.as_slice(), name.as_slice())?;
-                input_at_port(self.relays.as_slice(), relay, u64::from(*port))
-            }
-        }
+        target_in(self.targets.as_slice(), relay, action)
     }
 }

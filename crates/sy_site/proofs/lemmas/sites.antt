@@ -3,3 +3,4 @@ pub mod Classes
 pub mod More
 pub mod Kept
 pub mod Archives
+pub mod Targets

@@ -8,6 +8,7 @@ ghost use Rattle.sy_site.specs.texts.HasFault.{HasFault};
 
 use super::Site;
 use super::protected::protects;
+use super::targets::targets_of;
 use crate::fault::SiteFault;
 use crate::texts::reading::read_lines;
 use crate::texts::references::{entries, protections};
@@ -28,10 +29,14 @@ impl Site {
         if entries.is_empty() || !protects(protections.as_slice()) {
             return Err(SiteFault::NothingProtected);
         }
+        let Ok(targets) = targets_of(alloc, relays.as_slice()) else {
+            return Err(SiteFault::NoMemory);
+        };
         Ok(Site {
             relays,
             entries,
             protections,
+            targets,
         })
     }
 

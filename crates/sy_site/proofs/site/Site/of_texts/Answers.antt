@@ -1,8 +1,9 @@
-use Rattle.std.proofs.Common.{rules, ◌≡◌, inr, map, length, refl, sym, ◌∙◌, arith, eqb-true}
+use Rattle.std.proofs.Common.{rules, ◌≡◌, inr, map, length, refl, subst, sym, ◌∙◌, arith, eqb-true}
 use Rattle.std.proofs.lemmas.Grind.{common_steps}
 use Rattle.sy_site.specs.internal.Given.{file}
 use Rattle.sy_site.specs.internal.Reading.{line_given}
-use Rattle.sy_site.specs.internal.SiteInside.{site_of, site_with}
+use Rattle.sy_site.specs.internal.SiteInside.{inputs_of, relay_of, site_of, site_with, targets_in}
+use Rattle.sy_site.specs.Sites.{Site}
 use Rattle.sy_site.specs.texts.Describes.{IsEntry, relay_lines}
 use Rattle.sy_site.specs.texts.HasFault.{HasFault}
 use Rattle.sy_site.proofs.lemmas.sites.Kept.{few_relays, lawful, protections_of}
@@ -21,6 +22,11 @@ pub protections-requires : goal.protections-requires
 protections-requires c =
     let relays = rw c.as_slice.ensures.value at c.in_ok-relays.ensures.relays in
     record { few = rw c.as_slice-4.ensures.value (few_relays _ _ c.in_ok-relays.relays.items relays c.in_ok-found.ensures.few_relays) }
+
+pub targets_of-requires : goal.targets_of-requires
+targets_of-requires c =
+    let relays = rw c.as_slice.ensures.value at c.in_ok-relays.ensures.relays in
+    record { few = rw c.as_slice-5.ensures.value (few_relays _ _ c.in_ok-relays.relays.items relays c.in_ok-found.ensures.few_relays) }
 
 pub returns-in_err-relays-clause-err : goal.returns-in_err-relays-clause-err
 returns-in_err-relays-clause-err c =
@@ -49,7 +55,7 @@ returns-in_err-protections-clause-err c =
 pub returns-then-is_empty-clause-err : goal.returns-then-is_empty-clause-err
 returns-then-is_empty-clause-err c =
     let entries = all_paired (IsEntry (site_with c.in_ok-relays.relays.items)) _ c.in_ok-entries.entries.items (rw (c.as_slice-2.ensures.value, c.as_slice-3.ensures.value) at c.in_ok-entries.ensures.entries) in
-    let site = site_of (record { relays = c.in_ok-relays.relays; entries = c.in_ok-entries.entries; protections = c.in_ok-protections.protections }) in
+    let site : Site = record { relays = map relay_of c.in_ok-relays.relays.items; entries = c.in_ok-entries.entries.items; protections = c.in_ok-protections.protections.items } in
     let protections = protections_of (site_with c.in_ok-relays.relays.items) site refl _ c.in_ok-protections.protections.items (rw c.as_slice-4.ensures.value at c.in_ok-protections.ensures.protections) in
     elim c.then-is_empty.branch [
       | then-is_empty-via-then-is_empty w ↦
@@ -62,7 +68,7 @@ returns-then-is_empty-clause-err c =
 pub returns-clause-site : goal.returns-clause-site
 returns-clause-site c =
     let files = map (λ f. file f.0.now f.1.now) c.args.files.now in
-    let site = site_of (record { relays = c.in_ok-relays.relays; entries = c.in_ok-entries.entries; protections = c.in_ok-protections.protections }) in
+    let site = site_of (record { relays = c.in_ok-relays.relays; entries = c.in_ok-entries.entries; protections = c.in_ok-protections.protections; targets = c.in-Ok.targets }) in
     let relays = rw c.as_slice.ensures.value at c.in_ok-relays.ensures.relays in
     let entries = rw (c.as_slice-2.ensures.value, c.as_slice-3.ensures.value) at c.in_ok-entries.ensures.entries in
     let protected = c.protects.ensures.yes c.if-not-protects.false in
@@ -84,11 +90,13 @@ returns-clause-site c =
 
 pub invariant_of-result : goal.invariant_of-result
 invariant_of-result c =
-    let site = site_of (record { relays = c.in_ok-relays.relays; entries = c.in_ok-entries.entries; protections = c.in_ok-protections.protections }) in
+    let site = site_of (record { relays = c.in_ok-relays.relays; entries = c.in_ok-entries.entries; protections = c.in_ok-protections.protections; targets = c.in-Ok.targets }) in
     let relays = rw c.as_slice.ensures.value at c.in_ok-relays.ensures.relays in
     let entries = rw (c.as_slice-2.ensures.value, c.as_slice-3.ensures.value) at c.in_ok-entries.ensures.entries in (
       lawful (map (λ f. file f.0.now f.1.now) c.args.files.now) _ _ _ c.in_ok-relays.relays.items site refl relays c.in_ok-found.ensures.few_relays
           (all_paired (IsEntry site) _ c.in_ok-entries.entries.items entries)
           (protections_of (site_with c.in_ok-relays.relays.items) site refl _ c.in_ok-protections.protections.items (rw c.as_slice-4.ensures.value at c.in_ok-protections.ensures.protections)),
       (c.args.text.now, map (λ f. file f.0.now f.1.now) c.args.files.now, returns-clause-site c),
+      subst (λ l. map inputs_of c.in-Ok.targets.items ≡ map (λ relay. targets_in (site_with l) (relay_of relay)) l) c.as_slice-5.ensures.value
+          c.in-Ok.ensures,
     )
