@@ -68,7 +68,7 @@ struct Judge<'p> {
 }
 
 impl Judge<'_> {
-    ghost use Rattle.std.specs.Prelude.{◌≡◌, ◌≤◌, ◌∷◌, length};
+    ghost use Rattle.std.specs.Prelude.{◌≡◌, ◌≤◌, ◌∷◌, ℕ, IfSome, length};
     ghost use Rattle.sy_rules.specs.internal.FlowWalk as spec;
 
     fn verdict(self, test: u32) -> Verdict
@@ -77,6 +77,28 @@ impl Judge<'_> {
         match expr_at(self.tests, test) {
             Some(expr) => eval_class(expr, self.class),
             None => Verdict::No,
+        }
+    }
+
+    // What follows a test that isn't met and has no other block, which does nothing; none for any other statement.
+    fn passed<'t>(self, statement: Statement, after: &'t [Statement]) -> Option<&'t [Statement]>
+        ensures same { (depth base : ℕ) → IfSome result (λ later. let walked = spec.flow_of_statements self.entry.class
+            self.entry.tests.now self.entry.tables.now depth
+            in walked (statement ∷ after.now) base ≡ walked later.now base) }
+        ensures shorter { IfSome result (λ later. length later.now ≤ length after.now) }
+    {
+        let Statement::If(test, done, otherwise) = statement else {
+            return None;
+        };
+        if otherwise != 0 {
+            return None;
+        }
+        match self.verdict(test) {
+            Verdict::No => {
+                let (_, later) = split(after, done);
+                Some(later)
+            }
+            Verdict::Yes | Verdict::Either => None,
         }
     }
 
@@ -153,6 +175,10 @@ impl Judge<'_> {
         let mut flow = both(nothing());
         let mut rest = statements;
         while let [statement, after @ ..] = rest {
+            if let Some(later) = self.passed(*statement, after) {
+                rest = later;
+                continue;
+            }
             let (next, after) = self.statement(depth, *statement, after, base);
             flow = flow_followed_by(flow, next);
             if !flow.may.goes_on && !flow.must.goes_on {

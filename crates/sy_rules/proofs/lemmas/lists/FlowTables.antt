@@ -1,8 +1,9 @@
 -- Both sets of a walk by verdicts at once, over tables.
-use Rattle.std.proofs.Common.{◌≡◌, ℕ, zero, suc, ◌-◌, ◌≢◌, false, List, ◌∷◌, take, drop, refl, sym, ap, ◌∙◌, arith}
+use Rattle.std.proofs.Common.{◌≡◌, ℕ, zero, suc, ◌-◌, ◌≢◌, false, List, [], ◌∷◌, take, drop, refl, sym, ap, ◌∙◌, arith}
 use Rattle.sy_wire.specs.declared.class.Class.{Class}
 use Rattle.sy_select.specs.declared.condition.Test.{Test}
 use Rattle.sy_select.specs.declared.verdict.Verdict.{Verdict}
+use Rattle.sy_select.specs.declared.verdict.Verdict.TheVariants as verdicts
 use Rattle.sy_select.specs.Truth.{Formula}
 use Rattle.sy_rules.specs.declared.lists.statement.Statement.{Statement}
 use Rattle.sy_rules.specs.declared.lists.statement.Statement.TheVariants as statement
@@ -38,6 +39,14 @@ flow_if class tests tables depth t d o after done other rest base v block ev ey 
     ∙ ap (λ y. flow_take (judged class tests t) (flow_of_statements class tests tables depth y base) (flow_of_statements class tests tables depth other base)) ey
     ∙ ap (λ y. flow_take (judged class tests t) (flow_of_statements class tests tables depth (take d after) base) (flow_of_statements class tests tables depth y base)) en))
     ∙ ap (λ r. flow_followed_by block (flow_of_statements class tests tables depth r base)) (sym er)
+
+-- a test that isn't met, without another block
+pub flow_passed : (class : Class) (tests : List (Formula Test)) (tables : List (List Statement)) (depth t d o : ℕ) (after rest : List Statement) (base : ℕ)
+    → o ≡ 0 → verdicts.No ≡ judged class tests t → rest ≡ drop d after
+    → flow_of_statements class tests tables depth (statement.If t d o ∷ after) base ≡ flow_of_statements class tests tables depth rest base
+flow_passed class tests tables depth t d zero after rest base none unmet behind =
+    flow_if class tests tables depth t d 0 after (take d after) [] rest base verdicts.No (both nothing) unmet refl refl behind refl
+flow_passed class tests tables depth t d (suc o) after rest base none unmet behind = absurd (omega (arith, none))
 
 pub list_is_body : (class : Class) (tests : List (Formula Test)) (tables : List (List Statement)) (depth list base : ℕ) (table : List Statement) → depth ≢ 0 → table ≡ table_at tables list
     → flow_of_statements class tests tables (depth - 1) table base ≡ flow_of_list class tests tables depth list base

@@ -43,6 +43,13 @@ statements-returns-then-not-flow-2 t c =
     flow_over c.flow_followed_by-flow.result w whole (not_true _ c.if-not-flow.true) (not_true _ c.if-not-flow-2.true)
     (flow_more c.loop-rest.flow c.statement.result.0 c.flow_followed_by-flow.result w (walked c.loop-rest.rest.now c.args.base) whole c.flow_followed_by-flow.ensures (sym (ap (λ r. walked r c.args.base) (first_and_rest _ c.loop-rest.rest.now _ c.in-len1-up.len_at_least)) ∙ c.statement.ensures.reached) c.loop-rest.invariant.same)
 
+pub statements-loop-rest-preserved-in-Some : goal.statements-loop-rest-preserved-in-Some
+statements-loop-rest-preserved-in-Some t c =
+    let walked = spec.flow_of_statements c.args.self.class c.args.self.tests.now c.args.self.tables.now c.args.depth in
+    let same = ap (spec.flow_followed_by c.loop-rest.flow) (sym (c.in-Some.ensures.same c.args.depth c.args.base)
+    ∙ ap (λ r. walked r c.args.base) (first_and_rest _ c.loop-rest.rest.now _ c.in-len1-up.len_at_least)) ∙ c.loop-rest.invariant.same in
+    search (rules, same)
+
 pub statements-loop-rest-preserved : goal.statements-loop-rest-preserved
 statements-loop-rest-preserved t c =
     let walked = spec.flow_of_statements c.args.self.class c.args.self.tests.now c.args.self.tables.now c.args.depth in
