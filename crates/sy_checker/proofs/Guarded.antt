@@ -114,8 +114,8 @@ guard_is pairs relay found (Ok g) are same = subst (ArePairsAt pairs relay) (sym
 guard_is pairs relay found (Err e) are same = same
 
 pub all_reached : {A E : Type 0} (site : Site) (class : Class) (old new : List (SiteInput × Class)) (inputs : List SiteInput) (result : Result A E)
-    → ((x : SiteInput) → Contains inputs x ↔ Reach site class x) → OnOk result (new ≡ old ++ map (λ input. (input, class)) inputs)
+    → ((x : SiteInput) → Contains inputs x ↔ Reach site class x) → new ≡ old ++ map (λ input. (input, class)) inputs
     → OnOk result ((before : List Class) → AreReached site before old → AreReached site (before ++ class ∷ []) new)
 all_reached site class old new inputs (Ok x) reach is = λ before are.
     subst (AreReached site (before ++ class ∷ [])) (sym is) (reached_more site class before old inputs reach are)
-all_reached site class old new inputs (Err e) reach is = is
+all_reached site class old new inputs (Err e) reach is = record { }

@@ -30,3 +30,4 @@ pub mod Certified
 pub mod Checked
 pub mod Complete
 pub mod Fitting
+pub mod MadeRight

@@ -8,8 +8,6 @@ ghost use Rattle.sy_wire.specs.declared.class.Class.{Class as AnyClass};
 ghost use Rattle.sy_checker.specs.Acceptance as spec;
 ghost use Rattle.sy_checker.specs.Fit.{AreProtected};
 
-use crate::flows::flows_of;
-use crate::reach::reached;
 use std::alloc::{AllocError, Global};
 use std::marker::Model;
 use std::sync::Arc;
@@ -53,8 +51,8 @@ fn plans_of(alloc: Global, site: &Site) -> Result<Vec<Arc<Plan>>, AllocError>
     Ok(plans)
 }
 
-// Puts each of some inputs with a class.
-fn put_pairs(
+/// Puts each of some inputs with a class.
+pub(crate) fn put_pairs(
     pairs: &mut Vec<(SiteInput, Class)>,
     inputs: &[SiteInput],
     class: Class,
@@ -65,36 +63,6 @@ fn put_pairs(
         pairs.push((*input, class))?;
     }
     Ok(())
-}
-
-// Puts the inputs that a class reaches with it, behind those of the classes before.
-fn put_reached(
-    alloc: Global,
-    site: &Site,
-    class: Class,
-    pairs: &mut Vec<(SiteInput, Class)>,
-) -> Result<(), AllocError>
-    ensures { OnOk result ((before : List AnyClass) → spec.AreReached site.now before pairs.old.items
-        → spec.AreReached site.now (before ++ class ∷ []) pairs.new.items) }
-{
-    let flows = flows_of(alloc, site, class)?;
-    let found = reached(alloc, site, class, &flows)?;
-    put_pairs(pairs, found.inputs.as_slice(), class)
-}
-
-// Each input that one of the classes reaches, with that class.
-fn pairs_of(
-    alloc: Global,
-    site: &Site,
-    classes: &[Class],
-) -> Result<Vec<(SiteInput, Class)>, AllocError>
-    ensures { IfOk result (λ pairs. spec.AreReached site.now classes.now pairs.items) }
-{
-    let mut pairs = Vec::new(alloc);
-    for class in classes {
-        put_reached(alloc, site, *class, &mut pairs)?;
-    }
-    Ok(pairs)
 }
 
 // Puts a pair behind those before that are this relay's, where it is one too.
@@ -129,17 +97,18 @@ fn pairs_at(
 }
 
 impl Accepted {
-    // What is kept of a site with these protected classes.
+    // What is kept of a site with these protected classes, and with each input that one of them reaches.
     pub(crate) fn new(
         alloc: Global,
         site: &Site,
         classes: Vec<Class>,
+        pairs: Vec<(SiteInput, Class)>,
     ) -> Result<Accepted, AllocError>
         requires protected { AreProtected site.now classes.items }
+        requires pairs { spec.AreReached site.now classes.items pairs.items }
         ensures { IfOk result (λ accepted. spec.IsOf site.now accepted) }
     {
         let plans = plans_of(alloc, site)?;
-        let pairs = pairs_of(alloc, site, classes.as_slice())?;
         Ok(Accepted {
             plans,
             classes,

@@ -71,22 +71,27 @@ fn ranks_for(
 
 // The rows of a class, or what is found of it: first at the inputs that it reaches, then a loop, then an archive that
 // an entry doesn't lead to.
-fn rows_of_class(alloc: Global, site: &Site, class: Class) -> Result<Vec<Row>, Refusal>
+pub(crate) fn rows_of_class(
+    alloc: Global,
+    site: &Site,
+    class: Class,
+    flows: &ClassFlows,
+) -> Result<Vec<Row>, Refusal>
     requires protected { sites.is_protected site.now class ≡ true }
+    requires flows { AreFlows site.now class flows.now }
     ensures ok { IfOk result (λ rows. spec.AreRowsOf site.now class rows.items) }
     ensures err { IfErr result (λ why. IsTrueRefusal site.now why) }
 {
-    let flows = flows_of(alloc, site, class)?;
-    let found = reached(alloc, site, class, &flows)?;
-    searched(alloc, site, class, &flows, &found)?;
-    let ranks = ranks_for(alloc, site, class, &flows, found.inputs.as_slice())?;
+    let found = reached(alloc, site, class, flows)?;
+    searched(alloc, site, class, flows, &found)?;
+    let ranks = ranks_for(alloc, site, class, flows, found.inputs.as_slice())?;
     let part = wanted_rows(alloc, site, class, found.inputs.as_slice())?;
-    let leads = leads_of(alloc, site, class, &flows)?;
+    let leads = leads_of(alloc, site, class, flows)?;
     let rows = rows_for(
         alloc,
         site,
         class,
-        &flows,
+        flows,
         leads.as_slice(),
         part.as_slice(),
         ranks.as_slice(),
@@ -111,7 +116,8 @@ fn rows_of_classes(alloc: Global, site: &Site, classes: &[Class]) -> Result<Vec<
     parts_join();
     let mut rows = Vec::new(alloc);
     for class in classes {
-        let more = rows_of_class(alloc, site, *class)?;
+        let flows = flows_of(alloc, site, *class)?;
+        let more = rows_of_class(alloc, site, *class, &flows)?;
         put_all(&mut rows, more)?;
     }
     Ok(rows)

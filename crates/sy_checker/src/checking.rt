@@ -1,6 +1,7 @@
 //! Checking: whether a site's texts describe one that keeps each message of its protected classes.
 
-ghost use Rattle.std.specs.Prelude.{◌≡◌, List, map, IfErr, IfOk, OnOk};
+ghost use Rattle.std.specs.Prelude.{◌≡◌, ◌++◌, ◌∷◌, [], Contains, List, map, true, IfErr, IfOk, OnOk};
+ghost use Rattle.sy_wire.specs.declared.class.Class.{Class as AnyClass};
 ghost use Rattle.sy_site.specs.Sites as sites;
 ghost use Rattle.sy_site.specs.internal.Given.{file};
 ghost use Rattle.sy_site.specs.machine.Safety.{AreSafe};
@@ -8,20 +9,27 @@ ghost use Rattle.sy_site.specs.machine.Soundness.{IsSound};
 ghost use Rattle.sy_site.specs.machine.States.{SiteState};
 ghost use Rattle.sy_site.specs.machine.Steps.{Runs, SiteEvent};
 ghost use Rattle.sy_site.specs.texts.Describes.{Describes};
-ghost use Rattle.sy_checker.specs.Acceptance.{IsOf};
+ghost use Rattle.sy_checker.specs.Acceptance.{AreReached, IsOf};
+ghost use Rattle.sy_checker.specs.Certifying.{AreRowsOf};
 ghost use Rattle.sy_checker.specs.Checking as spec;
 ghost use Rattle.sy_checker.specs.Finding.{IsTrueRefusal};
-ghost use Rattle.sy_checker.specs.Fit.{IsFit};
+ghost use Rattle.sy_checker.specs.Flows.{AreFlows};
 ghost use Rattle.sy_checker.specs.declared.finding.Refusal.TheVariants as refusal;
 
 use crate::accepted::Accepted;
-use crate::certifying::certify;
+use crate::certifying::rows_of_class;
+use crate::classes::protected_classes;
 use crate::finding::Refusal;
-use crate::verifying::{CertFault, verify};
+use crate::flows::{ClassFlows, flows_of};
+use crate::laws::{fit_is_safe, fit_is_sound};
+use crate::making::parts_join;
+use crate::verifying::{Judged, judge_class};
 use std::alloc::{AllocError, Global};
-use sy_cert::Certificate;
+use sy_cert::Row;
 use sy_site::laws::one_site;
-use sy_site::{Site, SiteFault};
+use sy_site::machine::sound_sites_have_no_finding;
+use sy_site::{Site, SiteFault, SiteInput};
+use sy_wire::Class;
 
 /// Why a site's texts aren't accepted.
 #[derive(Drop)]
@@ -32,24 +40,82 @@ pub enum CheckFault {
     Refused(Refusal),
 }
 
-// What verifying says of a fit certificate.
-fn accepted(alloc: Global, site: &Site, certificate: &Certificate) -> Result<Accepted, AllocError>
-    requires fit { IsFit site.now certificate.now.rows }
-    ensures kept { IfOk result (λ accepted. IsOf site.now accepted) }
-    ensures sound { OnOk result (IsSound site.now) }
-    ensures safe { OnOk result ((events : List SiteEvent) (state : SiteState) → Runs site.now events state
-        → AreSafe site.now state) }
+// What judging says of rows that were made as they are wanted: each is right.
+fn judge_made(
+    alloc: Global,
+    site: &Site,
+    class: Class,
+    flows: &ClassFlows,
+    rows: &[Row],
+    pairs: &mut Vec<(SiteInput, Class)>,
+) -> Result<(), AllocError>
+    requires flows { AreFlows site.now class flows.now }
+    requires rows { AreRowsOf site.now class rows.now }
+    ensures { OnOk result ((before : List AnyClass) → AreReached site.now before pairs.old.items
+        → AreReached site.now (before ++ class ∷ []) pairs.new.items) }
 {
-    match verify(alloc, site, certificate) {
-        Ok(accepted) => Ok(accepted),
-        Err(CertFault::Wrong { .. }) => unreachable!(),
-        Err(CertFault::NoMemory) => Err(AllocError),
+    match judge_class(alloc, site, class, flows, rows, pairs)? {
+        Judged::Right(_) => Ok(()),
+        Judged::Wrong(_, _) => unreachable!(),
     }
 }
 
-/// What is kept of a site, by a certificate that is made and then verified; or what is found in it, as making the
-/// certificate finds it. Where it is accepted, no message of a protected class is lost in any run of the site; a sound
-/// site is refused for want of memory alone.
+// Makes the rows of a class and judges them, as those of a certificate are. What the class executes is worked out once,
+// and no other class's rows are kept. Each input that it reaches is put with it behind the pairs of the classes before.
+fn check_class(
+    alloc: Global,
+    site: &Site,
+    class: Class,
+    pairs: &mut Vec<(SiteInput, Class)>,
+) -> Result<(), Refusal>
+    requires protected { sites.is_protected site.now class ≡ true }
+    ensures rows { OnOk result (spec.HasRows site.now class) }
+    ensures pairs { OnOk result ((before : List AnyClass) → AreReached site.now before pairs.old.items
+        → AreReached site.now (before ++ class ∷ []) pairs.new.items) }
+    ensures err { IfErr result (λ why. IsTrueRefusal site.now why) }
+{
+    let flows = flows_of(alloc, site, class)?;
+    let rows = rows_of_class(alloc, site, class, &flows)?;
+    judge_made(alloc, site, class, &flows, rows.as_slice(), pairs)?;
+    Ok(())
+}
+
+// Each input that one of these classes reaches with that class, where each class has its rows; or what is found of the
+// first of which something is.
+fn check_classes(
+    alloc: Global,
+    site: &Site,
+    classes: &[Class],
+) -> Result<Vec<(SiteInput, Class)>, Refusal>
+    requires protected { (class : AnyClass) → Contains classes.now class
+        → sites.is_protected site.now class ≡ true }
+    ensures fit { OnOk result (spec.HasFit site.now classes.now) }
+    ensures pairs { IfOk result (λ pairs. AreReached site.now classes.now pairs.items) }
+    ensures err { IfErr result (λ why. IsTrueRefusal site.now why) }
+{
+    parts_join();
+    let mut pairs = Vec::new(alloc);
+    for class in classes {
+        check_class(alloc, site, *class, &mut pairs)?;
+    }
+    Ok(pairs)
+}
+
+// What is kept of a site that has a fit certificate.
+fn accepted(alloc: Global, site: &Site) -> Result<Accepted, Refusal>
+    ensures kept { IfOk result (λ accepted. IsOf site.now accepted) }
+    ensures fit { OnOk result (spec.HasCertificate site.now) }
+    ensures err { IfErr result (λ why. IsTrueRefusal site.now why) }
+{
+    let classes = protected_classes(alloc, site)?;
+    let pairs = check_classes(alloc, site, classes.as_slice())?;
+    let accepted = Accepted::new(alloc, site, classes, pairs)?;
+    Ok(accepted)
+}
+
+/// What is kept of a site whose certificate's rows are made and then judged, class by class; or what is found in it, as
+/// making the certificate finds it. Where it is accepted, no message of a protected class is lost in any run of the
+/// site; a sound site is refused for want of memory alone.
 pub fn check_site(alloc: Global, site: &Site) -> Result<Accepted, Refusal>
     ensures kept { IfOk result (λ accepted. IsOf site.now accepted) }
     ensures sound { OnOk result (IsSound site.now) }
@@ -58,13 +124,13 @@ pub fn check_site(alloc: Global, site: &Site) -> Result<Accepted, Refusal>
     ensures found { IfErr result (λ why. IsTrueRefusal site.now why) }
     ensures only { IfErr result (λ why. IsSound site.now → why ≡ refusal.NoMemory) }
 {
-    let certificate = match certify(alloc, site) {
-        Ok(certificate) => certificate,
-        Err(why) => return Err(why),
-    };
-    match accepted(alloc, site, &certificate) {
+    site.is_lawful();
+    fit_is_sound();
+    fit_is_safe();
+    sound_sites_have_no_finding();
+    match accepted(alloc, site) {
         Ok(accepted) => Ok(accepted),
-        Err(_) => Err(Refusal::NoMemory),
+        Err(why) => Err(why),
     }
 }
 

@@ -1,25 +1,29 @@
 //! Verifying: whether a certificate is fit for a site.
 
-ghost use Rattle.std.specs.Prelude.{◌≡◌, List, IfErr, IfOk, OnOk};
+ghost use Rattle.std.specs.Prelude.{◌≡◌, ◌++◌, ◌∷◌, ◌↔◌, [], Contains, List, IfErr, IfOk, OnOk};
+ghost use Rattle.sy_wire.specs.declared.class.Class.{Class as AnyClass};
+ghost use Rattle.sy_site.specs.declared.site.SiteInput.{SiteInput as AnyInput};
+ghost use Rattle.sy_site.specs.machine.Reach.{Reach};
 ghost use Rattle.sy_site.specs.machine.Safety.{AreSafe};
 ghost use Rattle.sy_site.specs.machine.Soundness.{IsSound};
 ghost use Rattle.sy_site.specs.machine.States.{SiteState};
 ghost use Rattle.sy_site.specs.machine.Steps.{Runs, SiteEvent};
-ghost use Rattle.sy_checker.specs.Acceptance.{IsOf};
+ghost use Rattle.sy_checker.specs.Acceptance.{AreReached, IsOf};
 ghost use Rattle.sy_checker.specs.Fit.{AreFit, IsFit};
+ghost use Rattle.sy_checker.specs.Flows.{AreFlows};
 ghost use Rattle.sy_checker.specs.Verifying as spec;
 ghost use Rattle.sy_checker.specs.declared.verifying.CertFault.TheVariants as faults;
 
-use crate::accepted::Accepted;
+use crate::accepted::{Accepted, put_pairs};
 use crate::classes::protected_classes;
-use crate::flows::flows_of;
+use crate::flows::{ClassFlows, flows_of};
 use crate::laws::{fit_is_safe, fit_is_sound};
 use crate::part::{first_wrong, row_kind};
 use crate::reach::reached;
 use crate::wanted::{RowKind, wanted_rows};
 use std::alloc::{AllocError, Global};
 use sy_cert::{Certificate, Row};
-use sy_site::Site;
+use sy_site::{Site, SiteInput};
 use sy_wire::Class;
 
 /// Why a certificate isn't accepted.
@@ -39,27 +43,77 @@ pub(crate) enum Judged {
     Wrong(usize, RowKind),
 }
 
-// Judges the rows of a class, which these begin with.
-fn judge(alloc: Global, site: &Site, class: Class, rows: &[Row]) -> Result<Judged, AllocError>
+// Judges the rows of a class that reaches these inputs: those which these rows begin with.
+fn judge(
+    alloc: Global,
+    site: &Site,
+    class: Class,
+    flows: &ClassFlows,
+    reached: &[SiteInput],
+    rows: &[Row],
+) -> Result<Judged, AllocError>
+    requires flows { AreFlows site.now class flows.now }
+    requires reached { (x : AnyInput) → Contains reached.now x ↔ Reach site.now class x }
     ensures { IfOk result (λ judged. spec.IsJudged site.now class rows.now judged) }
 {
-    let flows = flows_of(alloc, site, class)?;
-    let found = reached(alloc, site, class, &flows)?;
-    let part = wanted_rows(alloc, site, class, found.inputs.as_slice())?;
-    match first_wrong(site, class, &flows, part.as_slice(), rows) {
+    let part = wanted_rows(alloc, site, class, reached)?;
+    match first_wrong(site, class, flows, part.as_slice(), rows) {
         Some((place, kind)) => Ok(Judged::Wrong(place, kind)),
         None => Ok(Judged::Right(part.len())),
     }
 }
 
-// Whether the rows are those that are wanted for these classes.
-fn check_rows(alloc: Global, site: &Site, classes: &[Class], rows: &[Row]) -> Result<(), CertFault>
+// Judges the rows of a class, and puts each input that it reaches with it behind the pairs of the classes before.
+pub(crate) fn judge_class(
+    alloc: Global,
+    site: &Site,
+    class: Class,
+    flows: &ClassFlows,
+    rows: &[Row],
+    pairs: &mut Vec<(SiteInput, Class)>,
+) -> Result<Judged, AllocError>
+    requires flows { AreFlows site.now class flows.now }
+    ensures judged { IfOk result (λ judged. spec.IsJudged site.now class rows.now judged) }
+    ensures pairs { OnOk result ((before : List AnyClass) → AreReached site.now before pairs.old.items
+        → AreReached site.now (before ++ class ∷ []) pairs.new.items) }
+{
+    let found = reached(alloc, site, class, flows)?;
+    put_pairs(pairs, found.inputs.as_slice(), class)?;
+    judge(alloc, site, class, flows, found.inputs.as_slice(), rows)
+}
+
+// The same, with what the class executes worked out for it.
+fn judge_next(
+    alloc: Global,
+    site: &Site,
+    class: Class,
+    rows: &[Row],
+    pairs: &mut Vec<(SiteInput, Class)>,
+) -> Result<Judged, AllocError>
+    ensures judged { IfOk result (λ judged. spec.IsJudged site.now class rows.now judged) }
+    ensures pairs { OnOk result ((before : List AnyClass) → AreReached site.now before pairs.old.items
+        → AreReached site.now (before ++ class ∷ []) pairs.new.items) }
+{
+    let flows = flows_of(alloc, site, class)?;
+    judge_class(alloc, site, class, &flows, rows, pairs)
+}
+
+// Whether the rows are those that are wanted for these classes. Each input that one of them reaches is put with it.
+fn check_rows(
+    alloc: Global,
+    site: &Site,
+    classes: &[Class],
+    rows: &[Row],
+    pairs: &mut Vec<(SiteInput, Class)>,
+) -> Result<(), CertFault>
+    requires none { pairs.old.items ≡ [] }
     ensures ok { OnOk result (AreFit site.now classes.now rows.now) }
+    ensures pairs { OnOk result (AreReached site.now classes.now pairs.new.items) }
     ensures err { IfErr result (λ fault. spec.IsFirstWrong site.now classes.now rows.now fault) }
 {
     let mut done = 0;
     for class in classes {
-        let Ok(judged) = judge(alloc, site, *class, &rows[done..]) else {
+        let Ok(judged) = judge_next(alloc, site, *class, &rows[done..], pairs) else {
             return Err(CertFault::NoMemory);
         };
         match judged {
@@ -96,10 +150,17 @@ pub fn verify(alloc: Global, site: &Site, certificate: &Certificate) -> Result<A
     let Ok(classes) = protected_classes(alloc, site) else {
         return Err(CertFault::NoMemory);
     };
-    if let Err(fault) = check_rows(alloc, site, classes.as_slice(), certificate.rows()) {
+    let mut pairs = Vec::new(alloc);
+    if let Err(fault) = check_rows(
+        alloc,
+        site,
+        classes.as_slice(),
+        certificate.rows(),
+        &mut pairs,
+    ) {
         return Err(fault);
     }
-    let Ok(accepted) = Accepted::new(alloc, site, classes) else {
+    let Ok(accepted) = Accepted::new(alloc, site, classes, pairs) else {
         return Err(CertFault::NoMemory);
     };
     Ok(accepted)

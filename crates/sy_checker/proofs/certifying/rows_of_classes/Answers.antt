@@ -11,6 +11,7 @@ rows_of_class-requires c = record {
   protected = c.requires.protected c.class-item.result
       (subst (Contains c.args.classes.now) (sym c.class-item.is)
       (Contains-get_or c.args.classes.now c.loop-class.class-index c.class-item.result c.loop-class-test.true));
+  flows = c.in_ok-flows.ensures;
 }
 
 pub loop-class-preserved : goal.loop-class-preserved

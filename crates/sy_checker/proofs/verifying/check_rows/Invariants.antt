@@ -1,6 +1,7 @@
-use Rattle.std.proofs.Common.{drop}
+use Rattle.std.proofs.Common.{drop, take}
+use Rattle.sy_checker.specs.Acceptance.{AreReached}
 use Rattle.sy_checker.specs.Verifying.{AreDone}
 use Rattle.sy_checker.proofs.verifying.check_rows.Given as goal
 
 abbrev pub invariant-loop-class : goal.invariant-loop-class
-invariant-loop-class l = AreDone l.site l.classes l.rows (drop l.class-index l.classes) l.done
+invariant-loop-class l = AreDone l.site l.classes l.rows (drop l.class-index l.classes) l.done × AreReached l.site (take l.class-index l.classes) l.pairs.items

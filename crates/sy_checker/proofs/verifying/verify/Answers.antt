@@ -1,3 +1,5 @@
+use Rattle.std.proofs.Common.{subst}
+use Rattle.sy_checker.specs.Acceptance.{AreReached}
 use Rattle.sy_checker.proofs.Uniqueness.{only_memory}
 use Rattle.sy_checker.proofs.Verified.{fit_by}
 use Rattle.sy_checker.proofs.verifying.verify.Goals as goal
@@ -19,3 +21,7 @@ pub returns-in-Err-clause-only : goal.returns-in-Err-clause-only
 returns-in-Err-clause-only c =
     only_memory c.args.site.now c.in-Ok.classes.items c.as_slice.result.now c.rows.result.now c.args.certificate.now.rows c.in-Err.fault
     c.in-Ok.ensures c.as_slice.ensures.value c.rows.ensures c.in-Err.ensures.err
+
+pub new-requires-clause-pairs : goal.new-requires-clause-pairs
+new-requires-clause-pairs c =
+    subst (λ l. AreReached c.args.site.now l c.check_rows.new.pairs.items) c.as_slice.ensures.value c.in_default-check_rows.ensures.pairs

@@ -1,0 +1,21 @@
+use Rattle.std.proofs.Common.{subst}
+use Rattle.std.specs.Prelude.{Contains}
+use Rattle.sy_checker.specs.Acceptance.{AreReached}
+use Rattle.sy_checker.specs.Checking.{HasFit}
+use Rattle.sy_checker.proofs.checking.accepted.Goals as goal
+
+pub check_classes-requires : goal.check_classes-requires
+check_classes-requires c = record {
+  protected = λ class there. (c.in_ok-classes.ensures.member class).0 (subst (λ l. Contains l class) c.as_slice.ensures.value there);
+}
+
+pub new-requires : goal.new-requires
+new-requires c = record {
+  protected = c.in_ok-classes.ensures;
+  pairs = subst (λ l. AreReached c.args.site.now l c.in_ok-pairs.pairs.items) c.as_slice.ensures.value c.in_ok-pairs.ensures.pairs;
+}
+
+pub returns-clause-fit : goal.returns-clause-fit
+returns-clause-fit c =
+    let fit = subst (HasFit c.args.site.now) c.as_slice.ensures.value c.in_ok-pairs.ensures.fit in
+    (fit.0, record { classes = c.in_ok-classes.classes.items; protected = c.in_ok-classes.ensures; fit = fit.1 })

@@ -1,0 +1,9 @@
+use Rattle.std.proofs.Common.{subst}
+use Rattle.sy_checker.specs.Verifying.{IsJudged}
+use Rattle.sy_checker.proofs.MadeRight.{never_wrong}
+use Rattle.sy_checker.proofs.checking.judge_made.Goals as goal
+
+pub unreachable-requires : goal.unreachable-requires
+unreachable-requires c =
+    never_wrong c.args.site.now c.args.class c.args.rows.now c.requires.rows c.in-Wrong.field-0 c.in-Wrong.field-1
+    (subst (IsJudged c.args.site.now c.args.class c.args.rows.now) c.in-Wrong.is c.in_ok-judge_class.ensures.judged)
