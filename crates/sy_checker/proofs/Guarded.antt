@@ -118,4 +118,4 @@ pub all_reached : {A E : Type 0} (site : Site) (class : Class) (old new : List (
     → OnOk result ((before : List Class) → AreReached site before old → AreReached site (before ++ class ∷ []) new)
 all_reached site class old new inputs (Ok x) reach is = λ before are.
     subst (AreReached site (before ++ class ∷ [])) (sym is) (reached_more site class before old inputs reach are)
-all_reached site class old new inputs (Err e) reach is = record { }
+all_reached site class old new inputs (Err e) reach is = record {}

@@ -14,8 +14,7 @@ loop-class-preserved c =
     let rows = c.args.rows.now in
     let done = c.loop-class.done in
     let judged =
-    subst (λ l. IsJudged site c.class-item.result l c.in-Ok.judged) (whole_rest rows done) c.in-Ok.ensures.judged in
-    (
+    subst (λ l. IsJudged site c.class-item.result l c.in-Ok.judged) (whole_rest rows done) c.in-Ok.ensures.judged in (
       next_right site c.args.classes.now rows done c.loop-class.class-index c.class-item.result c.loop-class-test.true c.loop-class.invariant.0
           c.in-Right.count
           (subst (λ j. IsJudged site (get_or c.args.classes.now c.loop-class.class-index c.class-item.result) (drop done rows) j) c.in-Right.is
