@@ -1,5 +1,5 @@
 -- What each exit status says.
-use Rattle.std.proofs.Common.{◌≡◌, ◌≢◌, ℕ, ◌+◌, ◌≤◌, inl, inr, List, ◌++◌, refl, subst, arith}
+use Rattle.std.proofs.Common.{◌≡◌, ◌≢◌, ◌⊎◌, ℕ, ◌+◌, ◌≤◌, inl, inr, List, ◌++◌, refl, subst, arith}
 use Rattle.std.specs.Prelude.{Option}
 use Rattle.std.specs.Io.KnownBytes.{Keeps}
 use Rattle.std.proofs.KnownBytes.{Appends-kept, Keeps-refl}
@@ -85,6 +85,12 @@ has_failed IsReported e before now w le le' cause (inr write) = inr (
     | inr rose ↦ more_rose before.writes_failed now.writes_failed w le rose
   ],
 )
+
+-- a write failed before the last steps, or in them
+pub rose_by : (e : Stop) (before now : Counts) (w : ℕ) → before.writes_failed ≤ now.writes_failed → now.writes_failed ≤ w → PassCause e before now
+    → (e ≡ WriteFailed) ⊎ Rose now.writes_failed w → Rose before.writes_failed w
+rose_by e before now w le le' cause (inl is) = let h : PassCause WriteFailed before now = subst (λ (s : Stop). PassCause s before now) is cause in rose_more before.writes_failed now.writes_failed w le' h
+rose_by e before now w le le' cause (inr rose) = more_rose before.writes_failed now.writes_failed w le rose
 
 -- the last flush may have failed
 pub gives_up : (IsReported : List ℕ → Type 0) (e : Stop) (frame w w' : ℕ) → status_shown e ≡ 4 → IsReported (report e frame) → GivesUpFailing IsReported e w w'

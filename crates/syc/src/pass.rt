@@ -254,7 +254,7 @@ fn pass_all<R: Source, W: Sink>(
 }
 
 // Hands on the lines that were written before the stop, and reports it.
-fn give_up<W: Sink, E: Sink>(writer: &mut W, errors: &mut E, stopped: Stopped) -> u8
+fn hand_on<W: Sink, E: Sink>(writer: &mut W, errors: &mut E, stopped: Stopped) -> u8
     ensures pass { (input : List ℕ) (first : Option (List ℕ)) →
         StopsIn stopped.stop stopped.frame input first (W.contents writer.old) →
         PassIs result input first (W.contents writer.new)
@@ -275,6 +275,35 @@ fn give_up<W: Sink, E: Sink>(writer: &mut W, errors: &mut E, stopped: Stopped) -
     };
     tell(errors, stop, stopped.frame);
     status_of(stop)
+}
+
+// Reports the stop, once the lines that were written before it are handed on. After a failed write nothing more is
+// written, so that none is tried again.
+fn give_up<W: Sink, E: Sink>(writer: &mut W, errors: &mut E, stopped: Stopped) -> u8
+    ensures pass { (input : List ℕ) (first : Option (List ℕ)) →
+        StopsIn stopped.stop stopped.frame input first (W.contents writer.old) →
+        PassIs result input first (W.contents writer.new)
+        (Reported (seen E.contents E.is_flushed E.faults errors.old)
+        (seen E.contents E.is_flushed E.faults errors.new)) }
+    ensures status { (result ≡ 2) ⊎ (result ≡ 3) ⊎ (result ≡ 4) }
+    ensures untouched { stopped.stop ≡ Stop.WriteFailed → writer.new ≡ writer.old }
+    ensures flushed { (W.is_flushed writer.new ≡ true)
+        ⊎ ((result ≡ 4) × ((stopped.stop ≡ Stop.WriteFailed) ⊎ Rose (W.faults writer.old) (W.faults writer.new))) }
+    ensures writes { W.faults writer.old ≤ W.faults writer.new }
+    ensures none_failed { result ≢ 4 → (status_shown stopped.stop ≢ 4) × (W.faults writer.new ≡ W.faults writer.old) }
+    ensures cause { result ≡ 4 → GivesUpFailing
+        (Reported (seen E.contents E.is_flushed E.faults errors.old) (seen E.contents E.is_flushed E.faults errors.new))
+        stopped.stop (W.faults writer.old) (W.faults writer.new) }
+{
+    match stopped.stop {
+        Stop::WriteFailed => {
+            tell(errors, stopped.stop, stopped.frame);
+            4
+        }
+        Stop::Frame(_) | Stop::Message(_) | Stop::NoMemory | Stop::ReadFailed => {
+            hand_on(writer, errors, stopped)
+        }
+    }
 }
 
 /// Reads the input as frames to its end or up to the first fault, and writes each message and a line

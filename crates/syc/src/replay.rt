@@ -383,7 +383,7 @@ fn replay_files<F: Files, W: Sink>(
 }
 
 // Hands on what was printed before the halt, and reports it.
-fn give_up<W: Sink, E: Sink>(writer: &mut W, errors: &mut E, halt: &Halt) -> u8
+fn hand_on<W: Sink, E: Sink>(writer: &mut W, errors: &mut E, halt: &Halt) -> u8
     ensures status { ((result ≡ internal.status_at halt.now) × (W.is_flushed writer.new ≡ true)
         × (W.faults writer.new ≡ W.faults writer.old) × Reported
         (seen E.contents E.is_flushed E.faults errors.old) (seen E.contents E.is_flushed E.faults errors.new)
@@ -403,6 +403,29 @@ fn give_up<W: Sink, E: Sink>(writer: &mut W, errors: &mut E, halt: &Halt) -> u8
             tell(errors, &Halt::WriteFailed);
             4
         }
+    }
+}
+
+// Reports the halt, once what was printed before it is handed on. After a failed write nothing more is written, so that
+// none is tried again.
+fn give_up<W: Sink, E: Sink>(writer: &mut W, errors: &mut E, halt: &Halt) -> u8
+    ensures status { ((result ≡ internal.status_at halt.now) × (W.is_flushed writer.new ≡ true)
+        × (W.faults writer.new ≡ W.faults writer.old) × Reported
+        (seen E.contents E.is_flushed E.faults errors.old) (seen E.contents E.is_flushed E.faults errors.new)
+        (halt_report halt.now))
+        ⊎ ((result ≡ 4) × ((halt.now ≡ Halt.WriteFailed) ⊎ Rose (W.faults writer.old) (W.faults writer.new)) × Reported
+        (seen E.contents E.is_flushed E.faults errors.old) (seen E.contents E.is_flushed E.faults errors.new)
+        (halt_report Halt.WriteFailed)) }
+    ensures untouched { halt.now ≡ Halt.WriteFailed → writer.new ≡ writer.old }
+    ensures failed { result ≢ 0 }
+    ensures kept { Keeps (W.contents writer.old) (W.contents writer.new) }
+{
+    match halt {
+        Halt::WriteFailed => {
+            tell(errors, halt);
+            status_of(halt)
+        }
+        _ => hand_on(writer, errors, halt),
     }
 }
 

@@ -1,33 +1,22 @@
-use Rattle.std.proofs.Common.{◌∙◌, inl, inr, ap, sym}
-use Rattle.syc.specs.Reports.{Reported, seen, status_shown}
-use Rattle.syc.proofs.Statuses.{flush_failed, gives_up, stopped}
+use Rattle.std.proofs.Common.{inl, inr, subst}
+use Rattle.std.proofs.KnownBytes.{Keeps-refl}
+use Rattle.syc.specs.Reports.{Reported, report, seen}
+use Rattle.syc.specs.internal.Stops.{StopsIn}
+use Rattle.syc.specs.declared.stop.Stop.TheVariants.{WriteFailed}
+use Rattle.syc.proofs.Statuses.{stopped}
 use Rattle.syc.proofs.pass.give_up.Goals as goal
-use Rattle.syc.proofs.pass.give_up.Goals.{in-Ok, in-Err}
 
-pub returns-clause-pass : goal.returns-clause-pass
-returns-clause-pass g c = λ input first s.
-    elim c.match-flush.branch [
-      | in-Ok w ↦ rw (c.status_of.ensures, w.stop-is) (stopped input first _ _ c.flush.ensures.bytes _ c.args.stopped.stop c.args.stopped.frame s (rw w.stop-is at c.tell.ensures))
-      | in-Err w ↦ rw (c.status_of.ensures, w.stop-is) (flush_failed input first _ _ c.flush.ensures.bytes _ c.args.stopped.stop c.args.stopped.frame s (rw w.stop-is at c.tell.ensures))
-    ]
+pub returns-in-WriteFailed-clause-pass : goal.returns-in-WriteFailed-clause-pass
+returns-in-WriteFailed-clause-pass g c = λ input first s.
+    let wrote = g.W.Sink.contents c.args.writer.now in
+    let is_reported = Reported (seen g.E.Sink.contents g.E.Sink.is_flushed g.E.Sink.faults c.args.errors.now)
+    (seen g.E.Sink.contents g.E.Sink.is_flushed g.E.Sink.faults c.tell.new.errors) in
+    stopped input first wrote wrote (Keeps-refl wrote) is_reported WriteFailed c.args.stopped.frame
+    (subst (λ e. StopsIn e c.args.stopped.frame input first wrote) c.in-WriteFailed.is s)
+    (subst (λ e. is_reported (report e c.args.stopped.frame)) c.in-WriteFailed.is c.tell.ensures)
 
-pub returns-clause-flushed : goal.returns-clause-flushed
-returns-clause-flushed g c =
-    elim c.match-flush.branch [
-      | in-Ok w ↦ inl w.in-Ok.ensures.flushed
-      | in-Err w ↦ inr (c.status_of.ensures ∙ ap status_shown w.stop-is, w.in-Err.ensures.err)
-    ]
-
-pub returns-clause-cause : goal.returns-clause-cause
-returns-clause-cause g c = λ is.
-    elim c.match-flush.branch [
-      | in-Ok w ↦ gives_up (Reported (seen g.E.Sink.contents g.E.Sink.is_flushed g.E.Sink.faults c.args.errors.now) (seen g.E.Sink.contents g.E.Sink.is_flushed g.E.Sink.faults c.tell.new.errors)) c.args.stopped.stop c.args.stopped.frame _ _ (ap status_shown (sym w.stop-is) ∙ sym c.status_of.ensures ∙ is) (rw w.stop-is at c.tell.ensures)
-      | in-Err w ↦ inr (rw w.stop-is at c.tell.ensures, inr w.in-Err.ensures.err)
-    ]
-
-pub returns-clause-none_failed : goal.returns-clause-none_failed
-returns-clause-none_failed g c = λ other.
-    elim c.match-flush.branch [
-      | in-Ok w ↦ ((λ is. other (c.status_of.ensures ∙ ap status_shown w.stop-is ∙ is)), w.in-Ok.ensures.ok)
-      | in-Err w ↦ absurd (other (c.status_of.ensures ∙ ap status_shown w.stop-is))
-    ]
+pub returns-in-WriteFailed-clause-cause : goal.returns-in-WriteFailed-clause-cause
+returns-in-WriteFailed-clause-cause g c = λ four.
+    let is_reported = Reported (seen g.E.Sink.contents g.E.Sink.is_flushed g.E.Sink.faults c.args.errors.now)
+    (seen g.E.Sink.contents g.E.Sink.is_flushed g.E.Sink.faults c.tell.new.errors) in
+    inr (subst (λ e. is_reported (report e c.args.stopped.frame)) c.in-WriteFailed.is c.tell.ensures, inl c.in-WriteFailed.is)

@@ -1,6 +1,6 @@
 use Rattle.syc.specs.Reports.{Reported, seen}
-use Rattle.std.proofs.Common.{◌∙◌}
-use Rattle.syc.proofs.Statuses.{has_failed, none_failed}
+use Rattle.std.proofs.Common.{◌∙◌, inl, inr}
+use Rattle.syc.proofs.Statuses.{has_failed, none_failed, rose_by}
 use Rattle.syc.proofs.pass.pass.Goals as goal
 
 pub returns-in-Err-clause-cause : goal.returns-in-Err-clause-cause
@@ -16,3 +16,10 @@ returns-in-Err-clause-none_failed g c = λ other.
 
 pub returns-in-Err-clause-pass : goal.returns-in-Err-clause-pass
 returns-in-Err-clause-pass g c = λ input known. c.give_up.ensures.pass input _ (c.in-Err.ensures.err input known)
+
+pub returns-in-Err-clause-flushed : goal.returns-in-Err-clause-flushed
+returns-in-Err-clause-flushed g c =
+    elim c.give_up.ensures.flushed [
+      | inl a ↦ inl a
+      | inr b ↦ inr (b.0, rose_by c.in-Err.stopped.stop _ _ _ c.in-Err.ensures.writes c.give_up.ensures.writes c.in-Err.ensures.cause b.1)
+    ]

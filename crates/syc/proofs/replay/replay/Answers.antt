@@ -1,6 +1,8 @@
 use Rattle.std.proofs.Common.{inl, inr, subst, sym}
 use Rattle.syc.specs.Reports.{Reported, seen}
-use Rattle.syc.specs.internal.Halts.{Halted}
+use Rattle.sy_wire.specs.Streams.{Rose}
+use Rattle.syc.specs.declared.halt.Halt.TheVariants as halts
+use Rattle.syc.specs.internal.Halts.{Halted, IsCause}
 use Rattle.syc.proofs.Courses.{halted, halted_failing, replayed, rises_on}
 use Rattle.syc.proofs.replay.replay.Goals as goal
 
@@ -21,6 +23,13 @@ returns-in-Err-clause-replay g c = λ text events site_known events_known.
     elim c.give_up.ensures.status [
       | inl a ↦ rw a.0 (halted bytes_of text events halt old new mid is_reported
           (subst (λ f. Halted bytes_of text events halt old.contents old.faults mid f) (sym a.2) stopped) c.give_up.ensures.kept a.1 a.3)
-      | inr b ↦ rw b.0 (halted_failing bytes_of text events halt old new mid _ is_reported stopped c.give_up.ensures.kept
-          (rises_on halt old.faults _ new.faults c.in-Err.ensures.cause b.1) b.2)
+      | inr b ↦
+          let rose : Rose old.faults new.faults = elim b.1 [
+            | inl is ↦
+                let failed : IsCause halts.WriteFailed old.faults (g.W.Sink.faults c.replay_files.new.writer) =
+                subst (λ h. IsCause h old.faults (g.W.Sink.faults c.replay_files.new.writer)) is c.in-Err.ensures.cause in
+                subst (λ w. Rose old.faults (g.W.Sink.faults w)) (sym (c.give_up.ensures.untouched is)) failed
+            | inr rose ↦ rises_on halt old.faults _ new.faults c.in-Err.ensures.cause rose
+          ] in
+          rw b.0 (halted_failing bytes_of text events halt old new mid _ is_reported stopped c.give_up.ensures.kept rose b.2)
     ]
