@@ -1,10 +1,9 @@
 -- Ranks that stand where they are wanted.
-use Rattle.std.proofs.Common.{◌≡◌, ℕ, ◌<◌, ◌≤◌, ◌+◌, ◌^◌, Bool, true, false, ◌==◌, if◌then◌else◌, List, [], ◌∷◌, ◌++◌, length, map, Option, Some, None, refl, sym, ap, subst, ◌∙◌, arith, inl, inr, eqb-true, eq-eqb}
+use Rattle.std.proofs.Common.{◌≡◌, ℕ, ◌<◌, ◌≤◌, ◌+◌, Bool, true, false, ◌==◌, if◌then◌else◌, List, [], ◌∷◌, ◌++◌, length, map, Option, Some, None, refl, sym, ap, subst, ◌∙◌, arith, inl, inr, eqb-true, eq-eqb}
 use Rattle.std.specs.Prelude.{Contains, flat_map, slice_get}
 use Rattle.std.specs.Str.{bytes_eq}
-use Rattle.std.proofs.lemmas.Bool.{cases_eq, cases_lt}
+use Rattle.std.proofs.lemmas.Bool.{cases_eq}
 use Rattle.std.proofs.lemmas.List.Elements.{Contains-append_cases, Contains-append_left}
-use Rattle.std.proofs.lemmas.Nat.Bits.{bit_at_above}
 use Rattle.std.proofs.lemmas.Option.{slice_get_within}
 use Rattle.std.proofs.lemmas.Slice.Eq.{bytes_eq-Decides}
 use Rattle.sy_wire.specs.declared.class.Class.{Class}
@@ -16,8 +15,10 @@ use Rattle.sy_site.specs.Sites.{Site, archives}
 use Rattle.sy_site.specs.machine.Lawful.{IsLawful}
 use Rattle.sy_site.specs.machine.Reach.{MayAt, Reach}
 use Rattle.sy_checker.specs.Fit.{AreWanted, HasRank, IsAbove, name_of, paths}
+use Rattle.sy_checker.specs.Internal.{HasNoneFrom, IsNextIn}
 use Rattle.sy_checker.specs.Ranked.{FallsAt, FallsFrom, IsBelow, IsBelowAt, IsInputThere, LeadsBelow, rank_at}
 use Rattle.sy_checker.specs.declared.wanted.Wanted.{Wanted}
+use Rattle.sy_checker.proofs.Members.{all_members, more_members}
 use Rattle.sy_checker.specs.declared.wanted.Wanted.TheVariants as wanted
 use Rattle.sy_checker.proofs.FitIsSound.{at_place, in_map, one_behind}
 use Rattle.sy_checker.proofs.There.{reach_there}
@@ -93,15 +94,18 @@ more_below P n here before k low =
       | inr apart ↦ before k (omega (arith, low, apart))
     ]
 
-pub falls_all : (site : Site) (class : Class) (part : List Wanted) (rows : List Row) (rank : ℕ) (from : SiteInput) (may most : ℕ)
-    → Bits (MayAt site class from) may → may < 2 ^ 64 → 64 ≤ most
-    → ((number : ℕ) → number < most → LeadsBelow site part rows from rank may number) → FallsFrom site class part rows rank from
-falls_all site class part rows rank from may most bits fits high each to number is goes =
-    let bit = (bits number).1 is in
-    elim (cases_lt number 64) [
-      | inl low ↦ each number (omega (arith, low, high)) to bit goes
-      | inr past ↦ (let above = bit_at_above may 64 number fits past in absurd (omega (arith, above, bit)))
-    ]
+-- up to the next member, and with it
+pub more_fall : (site : Site) (part : List Wanted) (rows : List Row) (rank : ℕ) (from : SiteInput) (may behind number : ℕ) → IsNextIn may behind number
+    → ((k : ℕ) → k < behind → LeadsBelow site part rows from rank may k) → LeadsBelow site part rows from rank may number
+    → (k : ℕ) → k < number + 1 → LeadsBelow site part rows from rank may k
+more_fall site part rows rank from may behind number next before here =
+    more_members (LeadsBelow site part rows from rank may) may behind number next (λ k no to member goes. absurd (no member)) before here
+
+pub falls_all : (site : Site) (class : Class) (part : List Wanted) (rows : List Row) (rank : ℕ) (from : SiteInput) (may behind : ℕ)
+    → Bits (MayAt site class from) may → HasNoneFrom may behind
+    → ((number : ℕ) → number < behind → LeadsBelow site part rows from rank may number) → FallsFrom site class part rows rank from
+falls_all site class part rows rank from may behind bits none each to number is goes =
+    all_members (LeadsBelow site part rows from rank may) may behind none (λ k no x member by. absurd (no member)) each number to ((bits number).1 is) goes
 
 -- ---- what is wanted, is there
 

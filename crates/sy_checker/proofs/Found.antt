@@ -1,5 +1,5 @@
 -- Inputs that are found, one after another.
-use Rattle.std.proofs.Common.{◌≡◌, ℕ, ◌<◌, ◌≤◌, ◌+◌, ◌^◌, Bool, true, false, ◌&&◌, ◌==◌, List, [], ◌∷◌, ◌++◌, length, take, get_or, Option, Some, None, refl, sym, ap, subst, ◌∙◌, arith, inl, inr, eqb-true, eq-eqb, append-nil, append_assoc}
+use Rattle.std.proofs.Common.{◌≡◌, ℕ, ◌<◌, ◌≤◌, ◌+◌, Bool, true, false, ◌&&◌, ◌==◌, List, [], ◌∷◌, ◌++◌, length, take, get_or, Option, Some, None, refl, sym, ap, subst, ◌∙◌, arith, inl, inr, eqb-true, eq-eqb, append-nil, append_assoc}
 use Rattle.std.specs.Prelude.{Contains, ◌⊎◌, Result, Ok, Err, OnOk}
 use Rattle.std.specs.Cmp.{IsEquivalence}
 use Rattle.std.specs.Int.{bit_at}
@@ -10,7 +10,6 @@ use Rattle.std.proofs.lemmas.List.{take_more}
 use Rattle.std.proofs.lemmas.List.Elements.{Contains-append_left, Contains-push, Contains-push_cases}
 use Rattle.std.proofs.lemmas.Map.Keys.{IsDistinct-push}
 use Rattle.std.proofs.lemmas.Map.Views.{Contains-from_any, list_any-from_Contains}
-use Rattle.std.proofs.lemmas.Nat.Bits.{bit_at_above}
 use Rattle.sy_wire.specs.declared.class.Class.{Class}
 use Rattle.sy_rules.specs.declared.lists.occurrence.Occurrence.{Occurrence}
 use Rattle.sy_rules.specs.declared.lists.occurrence.Occurrence.TheVariants as occurrence
@@ -19,7 +18,7 @@ use Rattle.sy_site.specs.declared.site.SiteInput.{SiteInput}
 use Rattle.sy_site.specs.Sites.{Site}
 use Rattle.sy_site.specs.machine.Reach.{Forwards, occurrence_of}
 use Rattle.sy_checker.specs.declared.executed.Executed.{Executed}
-use Rattle.sy_checker.specs.Internal.{Adds, LeadsBy, forward_in, forward_of, same_input}
+use Rattle.sy_checker.specs.Internal.{Adds, HasNoneFrom, IsNextIn, LeadsBy, forward_in, forward_of, same_input}
 use Rattle.sy_checker.specs.Search.{ExecutedAt, LeadsOn}
 
 -- ---- inputs are the same by their numbers
@@ -165,29 +164,43 @@ below_or_last site set from n x leads =
       | inr apart ↦ inl (record { number = leads.number; below = omega (arith, low, apart); leads = leads.leads })
     ]
 
-pub more_leads : (site : Site) (set : ℕ) (from : SiteInput) (n : ℕ) (old mid new : List SiteInput) → Adds (LeadsBelow site set from n) old mid
-    → Adds (LeadsBy site set from n) mid new → Adds (LeadsBelow site set from (n + 1)) old new
-more_leads site set from n old mid new first second =
+-- up to the next member nothing leads on
+pub up_to_leads : (site : Site) (set : ℕ) (from : SiteInput) (behind n : ℕ) (old new : List SiteInput) → IsNextIn set behind n
+    → Adds (LeadsBelow site set from behind) old new → Adds (LeadsBelow site set from n) old new
+up_to_leads site set from behind n old new next added =
+    let least = next.behind in
+    added_as (LeadsBelow site set from behind) (LeadsBelow site set from n) old new added
+    (λ x leads. record { number = leads.number; below = sooner leads.number leads.below leads.leads.member (cases_lt leads.number behind); leads = leads.leads })
+    (λ x leads. let low = leads.below in record { number = leads.number; below = omega (arith, low, least); leads = leads.leads })
+  where
+    sooner : (k : ℕ) → k < n → bit_at set k ≡ 1 → (k < behind) ⊎ (behind ≤ k) → k < behind
+    sooner k low bit (inl earlier) = earlier
+    sooner k low bit (inr later) = absurd (next.lowest k later low bit)
+
+pub more_leads : (site : Site) (set : ℕ) (from : SiteInput) (behind n : ℕ) (old mid new : List SiteInput) → IsNextIn set behind n
+    → Adds (LeadsBelow site set from behind) old mid → Adds (LeadsBy site set from n) mid new → Adds (LeadsBelow site set from (n + 1)) old new
+more_leads site set from behind n old mid new next before second =
+    let first = up_to_leads site set from behind n old mid next before in
     both_added (LeadsBelow site set from n) (LeadsBy site set from n) (LeadsBelow site set from (n + 1)) old mid new first second
     (below_or_last site set from n)
     (λ x leads. let low = leads.below in record { number = leads.number; below = omega (arith, low); leads = leads.leads })
     (λ x leads. record { number = n; below = omega arith; leads = leads })
 
--- all that are executed are below 64
-pub all_leads : (site : Site) (class : Class) (which : Executed) (set : ℕ) (from : SiteInput) (n : ℕ) (old new : List SiteInput) → set < 2 ^ 64
-    → 64 ≤ n → Bits (ExecutedAt site class which from) set → Adds (LeadsBelow site set from n) old new → Adds (LeadsOn site class which from) old new
-all_leads site class which set from n old new fits most bits added =
+-- none that is executed is behind
+pub all_leads : (site : Site) (class : Class) (which : Executed) (set : ℕ) (from : SiteInput) (n : ℕ) (old new : List SiteInput) → HasNoneFrom set n
+    → Bits (ExecutedAt site class which from) set → Adds (LeadsBelow site set from n) old new → Adds (LeadsOn site class which from) old new
+all_leads site class which set from n old new none bits added =
     added_as (LeadsBelow site set from n) (LeadsOn site class which from) old new added
     (λ x on. let bit = (bits on.number).1 on.done in record {
       number = on.number;
-      below = below_all on.number bit (cases_lt on.number 64);
+      below = below_all on.number bit (cases_lt on.number n);
       leads = record { member = bit; goes = on.goes };
     })
     (λ x leads. record { number = leads.number; done = (bits leads.number).0 leads.leads.member; goes = leads.leads.goes })
   where
-    below_all : (k : ℕ) → bit_at set k ≡ 1 → (k < 64) ⊎ (64 ≤ k) → k < n
-    below_all k bit (inl low) = omega (arith, low, most)
-    below_all k bit (inr high) = let above = bit_at_above set 64 k fits high in omega (arith, bit, above)
+    below_all : (k : ℕ) → bit_at set k ≡ 1 → (k < n) ⊎ (n ≤ k) → k < n
+    below_all k bit (inl low) = low
+    below_all k bit (inr high) = absurd (none k high bit)
 
 -- ---- forwards
 

@@ -1,16 +1,15 @@
 -- The greatest rank that occurrences ask for, one after another.
-use Rattle.std.proofs.Common.{◌≡◌, ℕ, ◌<◌, ◌≤◌, ◌+◌, ◌^◌, List, refl, subst, arith, inl, inr}
+use Rattle.std.proofs.Common.{◌≡◌, ℕ, ◌<◌, ◌≤◌, ◌+◌, List, refl, subst, arith, inl, inr}
 use Rattle.std.specs.Prelude.{◌⊎◌}
-use Rattle.std.specs.Int.{bit_at}
-use Rattle.std.proofs.lemmas.Bool.{cases_eq, cases_lt}
-use Rattle.std.proofs.lemmas.Nat.Bits.{bit_at_above}
+use Rattle.std.proofs.lemmas.Bool.{cases_eq}
 use Rattle.sy_wire.specs.declared.class.Class.{Class}
 use Rattle.sy_rules.specs.lists.Sets.{Bits}
 use Rattle.sy_site.specs.declared.site.SiteInput.{SiteInput}
 use Rattle.sy_site.specs.Sites.{Site}
 use Rattle.sy_site.specs.machine.Reach.{MayAt}
-use Rattle.sy_checker.specs.Internal.{LeadsBy}
+use Rattle.sy_checker.specs.Internal.{HasNoneFrom, IsNextIn, LeadsBy}
 use Rattle.sy_checker.specs.Loops.{IsHeight, IsHeightBy, rank_at}
+use Rattle.sy_checker.proofs.Members.{all_members, up_to_next}
 
 -- of the occurrences below a number
 pub record IsHeightBelow (site : Site) (ranks : List ℕ) (set : ℕ) (from : SiteInput) (most height : ℕ) : Type 0 where
@@ -24,12 +23,15 @@ none_below site ranks set from = record {
   least = inl refl;
 }
 
--- no occurrence is at 64 or above
-pub below_64 : (set number : ℕ) → set < 2 ^ 64 → bit_at set number ≡ 1 → number < 64
-below_64 set number fits bit = elim (cases_lt number 64) [
-  | inl low ↦ low
-  | inr high ↦ let above = bit_at_above set 64 number fits high in absurd (omega (arith, bit, above))
-]
+-- up to the next member nothing asks for more
+pub up_to_height : (site : Site) (ranks : List ℕ) (set : ℕ) (from : SiteInput) (behind number most : ℕ) → IsNextIn set behind number
+    → IsHeightBelow site ranks set from behind most → IsHeightBelow site ranks set from number most
+up_to_height site ranks set from behind number most next is = record {
+  above = λ to k low leads.
+      up_to_next (λ n. (to : SiteInput) → LeadsBy site set from n to → rank_at ranks to.relay < most) set behind number next
+      (λ n no x by. absurd (no by.member)) (λ n less x by. is.above x n less by) k low to leads;
+  least = is.least;
+}
 
 module _ (site : Site) (ranks : List ℕ) (set : ℕ) (from : SiteInput) (number most next : ℕ)
     (so_far : IsHeightBelow site ranks set from number most) (one : IsHeightBy site ranks set from number next) where
@@ -55,12 +57,11 @@ module _ (site : Site) (ranks : List ℕ) (set : ℕ) (from : SiteInput) (number
   }
 
 pub height_all : (site : Site) (class : Class) (ranks : List ℕ) (set : ℕ) (from : SiteInput) (number height : ℕ) → Bits (MayAt site class from) set
-    → set < 2 ^ 64 → 64 ≤ number → IsHeightBelow site ranks set from number height → IsHeight site class ranks from height
-height_all site class ranks set from number height may fits most is = record {
+    → HasNoneFrom set number → IsHeightBelow site ranks set from number height → IsHeight site class ranks from height
+height_all site class ranks set from number height may none is = record {
   above = λ to k can goes.
-      let bit = (may k).1 can in
-      let low = below_64 set k fits bit in
-      is.above to k (omega (arith, low, most)) (record { member = bit; goes = goes });
+      all_members (λ n. (x : SiteInput) → LeadsBy site set from n x → rank_at ranks x.relay < height) set number none (λ n no x by. absurd (no by.member))
+      (λ n low x by. is.above x n low by) k to (record { member = (may k).1 can; goes = goes });
   least = elim is.least [
     | inl none ↦ inl none
     | inr some ↦ inr (some.0, some.1, (may some.1).0 some.2.member, some.2.goes, some.3)

@@ -3,6 +3,7 @@ pub mod Found
 pub mod There
 pub mod Rooted
 pub mod Flowing
+pub mod Members
 pub mod Gone
 pub mod Sorted
 pub mod Paths
@@ -31,3 +32,4 @@ pub mod Checked
 pub mod Complete
 pub mod Fitting
 pub mod MadeRight
+pub mod Alike

@@ -1,5 +1,5 @@
 -- Paths, occurrence by occurrence.
-use Rattle.std.proofs.Common.{◌≡◌, ℕ, suc, ◌<◌, ◌≤◌, ◌+◌, ◌^◌, List, [], ◌∷◌, drop, drop-cons, length, get_or, Some, None, sym, subst, ◌∙◌, arith, inl, inr}
+use Rattle.std.proofs.Common.{◌≡◌, ℕ, suc, ◌<◌, ◌≤◌, ◌+◌, ◌^◌, List, [], ◌∷◌, drop, drop-cons, length, get_or, Some, None, sym, ap, subst, ◌∙◌, arith, inl, inr}
 use Rattle.std.specs.Int.{bit_at}
 use Rattle.std.proofs.lemmas.Bool.{cases_eq, cases_lt}
 use Rattle.std.proofs.lemmas.List.{drop_all}
@@ -12,7 +12,7 @@ use Rattle.sy_site.specs.Sites.{Site}
 use Rattle.sy_site.specs.machine.Lawful.{IsInput}
 use Rattle.sy_site.specs.machine.Reach.{Forwards, MustAt}
 use Rattle.sy_checker.specs.Fit.{IsPath, MustWrite}
-use Rattle.sy_checker.specs.Internal.{IsMustForward, Writes}
+use Rattle.sy_checker.specs.Internal.{HasNoneFrom, IsMustForward, IsNextIn, Writes}
 use Rattle.sy_checker.proofs.Found.{goes_so}
 use Rattle.sy_checker.proofs.There.{forward_there}
 
@@ -87,14 +87,18 @@ written site class archive input must number bits member w = record {
 }
 
 pub not_written : (site : Site) (class : Class) (archive : SiteAction) (input : SiteInput) (must number : ℕ) → Bits (MustAt site class input) must
-    → (bit_at must number ≡ 1 → Writes site input number archive → ⊥) → IsNotWritten site class archive input number
-    → IsNotWritten site class archive input (number + 1)
-not_written site class archive input must number bits none before w low =
+    → (from : ℕ) → IsNextIn must from number → (bit_at must number ≡ 1 → Writes site input number archive → ⊥)
+    → IsNotWritten site class archive input from → IsNotWritten site class archive input (number + 1)
+not_written site class archive input must number bits from next none before w low =
+    let member = (bits w.number).1 w.must in
     elim (cases_eq w.number number) [
       | inl same ↦
-          none (subst (λ k. bit_at must k ≡ 1) same ((bits w.number).1 w.must))
+          none (subst (λ k. bit_at must k ≡ 1) same member)
           (subst (λ k. Writes site input k archive) same (record { action = w.action; runs = w.runs; is = w.writes }))
-      | inr apart ↦ before w (omega (arith, low, apart))
+      | inr apart ↦ elim (cases_lt w.number from) [
+        | inl earlier ↦ before w earlier
+        | inr behind ↦ next.lowest w.number behind (omega (arith, low, apart)) member
+      ]
     ]
 
 pub beyond : (site : Site) (class : Class) (input : SiteInput) (must number : ℕ) → Bits (MustAt site class input) must → must < 2 ^ 64 → 64 ≤ number
@@ -104,10 +108,15 @@ beyond site class input must number bits fits high is =
     let bit = (bits number).1 is in
     omega (arith, above, bit)
 
-pub never_written : (site : Site) (class : Class) (archive : SiteAction) (input : SiteInput) (must number : ℕ) → Bits (MustAt site class input) must
-    → must < 2 ^ 64 → 64 ≤ number → IsNotWritten site class archive input number → MustWrite site class archive input → ⊥
-never_written site class archive input must number bits fits most none w =
-    elim (cases_lt w.number 64) [
-      | inl low ↦ none w (omega (arith, low, most))
-      | inr high ↦ beyond site class input must w.number bits fits high w.must
+pub never_written : (site : Site) (class : Class) (archive : SiteAction) (input : SiteInput) (must from : ℕ) → Bits (MustAt site class input) must
+    → HasNoneFrom must from → IsNotWritten site class archive input from → MustWrite site class archive input → ⊥
+never_written site class archive input must from bits none before w =
+    elim (cases_lt w.number from) [
+      | inl earlier ↦ before w earlier
+      | inr behind ↦ none w.number behind ((bits w.number).1 w.must)
     ]
+
+-- An archive is written at its own relay.
+pub own_relay : (site : Site) (class : Class) (archive : SiteAction) (input : SiteInput) → MustWrite site class archive input
+    → input.relay ≡ archive.relay
+own_relay site class archive input w = ap (λ (a : SiteAction). a.relay) w.writes

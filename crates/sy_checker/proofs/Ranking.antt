@@ -1,5 +1,5 @@
 -- Ranks that grow as inputs are done.
-use Rattle.std.proofs.Common.{◌≡◌, ℕ, ◌<◌, ◌≤◌, ◌+◌, ◌^◌, max, Bool, true, false, List, [], ◌∷◌, ◌++◌, length, set, replicate, refl, sym, ap, subst, ◌∙◌, arith, inl, inr, length-set}
+use Rattle.std.proofs.Common.{◌≡◌, ℕ, ◌<◌, ◌≤◌, ◌+◌, max, Bool, true, false, List, [], ◌∷◌, ◌++◌, length, set, replicate, refl, sym, ap, subst, ◌∙◌, arith, inl, inr, length-set}
 use Rattle.std.specs.Prelude.{Contains}
 use Rattle.std.specs.List.{IsDistinct, list_any}
 use Rattle.std.proofs.lemmas.Bool.{cases_eq, cases_lt}
@@ -15,11 +15,11 @@ use Rattle.sy_site.specs.machine.Findings.{WayRow}
 use Rattle.sy_site.specs.machine.Lawful.{IsLawful}
 use Rattle.sy_site.specs.machine.Reach.{Forwards, MayAt, Reach, entry, onward}
 use Rattle.sy_site.specs.machine.Soundness.{AreRanks}
-use Rattle.sy_checker.specs.Internal.{same_input}
+use Rattle.sy_checker.specs.Internal.{HasNoneFrom, IsNextIn, same_input}
 use Rattle.sy_checker.specs.Loops.{AreRanked, DoesMore, IsDone, IsFollowed, IsHeight, IsLeast, IsMet, IsMost, IsOneMore, Follow, ends, goes_on, rank_at}
 use Rattle.sy_checker.proofs.Found.{same_is, same_laws}
 use Rattle.sy_checker.proofs.Gone.{few}
-use Rattle.sy_checker.proofs.Heights.{below_64}
+use Rattle.sy_checker.proofs.Members.{all_members, more_members}
 use Rattle.sy_checker.proofs.There.{reach_there, relay_there}
 
 -- ---- what is done
@@ -327,18 +327,16 @@ module _ (site : Site) (class : Class) (set : ℕ) (from : SiteInput) where
   pub follows_none : (done : List SiteInput) (k : ℕ) → k < 0 → IsFollowed site class done set from k
   follows_none done k low = absurd (omega (arith, low))
 
-  pub follows_more : (P : ℕ → Type 0) (old new : List SiteInput) (number : ℕ) → DoesMore P old new
-      → ((k : ℕ) → k < number → IsFollowed site class old set from k) → IsFollowed site class new set from number
+  pub follows_more : (P : ℕ → Type 0) (old new : List SiteInput) (behind number : ℕ) → IsNextIn set behind number → DoesMore P old new
+      → ((k : ℕ) → k < behind → IsFollowed site class old set from k) → IsFollowed site class new set from number
       → (k : ℕ) → k < number + 1 → IsFollowed site class new set from k
-  follows_more P old new number more before here k low = elim (cases_eq k number) [
-    | inl same ↦ subst (IsFollowed site class new set from) (sym same) here
-    | inr apart ↦ λ to leads. done_still site class P old new more to.relay (before k (omega (arith, low, apart)) to leads)
-  ]
+  follows_more P old new behind number next more before here =
+      more_members (IsFollowed site class new set from) set behind number next (λ k no to leads. absurd (no leads.member))
+      (λ k low to leads. done_still site class P old new more to.relay (before k low to leads)) here
 
-  pub follows_all : (done : List SiteInput) (number : ℕ) → Bits (MayAt site class from) set → set < 2 ^ 64 → 64 ≤ number
-      → ((k : ℕ) → k < number → IsFollowed site class done set from k) → (to : SiteInput) (n : ℕ) → MayAt site class from n
+  pub follows_all : (done : List SiteInput) (behind : ℕ) → Bits (MayAt site class from) set → HasNoneFrom set behind
+      → ((k : ℕ) → k < behind → IsFollowed site class done set from k) → (to : SiteInput) (n : ℕ) → MayAt site class from n
       → Forwards site from n to → IsDone site class done to.relay
-  follows_all done number may fits most followed to n can goes =
-      let bit = (may n).1 can in
-      let low = below_64 set n fits bit in
-      followed n (omega (arith, low, most)) to (record { member = bit; goes = goes })
+  follows_all done behind may none followed to n can goes =
+      all_members (IsFollowed site class done set from) set behind none (λ k no x leads. absurd (no leads.member)) followed n to
+      (record { member = (may n).1 can; goes = goes })

@@ -1,8 +1,7 @@
 -- What may be wrong with occurrences.
-use Rattle.std.proofs.Common.{◌≡◌, ℕ, ◌<◌, ◌≤◌, ◌+◌, ◌^◌, Bool, true, false, ◌&&◌, ◌||◌, not, Option, Some, None, refl, ap, subst, ◌∙◌, arith, inl, inr}
+use Rattle.std.proofs.Common.{◌≡◌, ℕ, ◌<◌, ◌+◌, Bool, true, false, ◌&&◌, ◌||◌, not, Option, Some, None, refl, ap, ◌∙◌, arith}
 use Rattle.std.specs.Prelude.{Decides, is_none, is_some, slice_get}
-use Rattle.std.proofs.lemmas.Bool.{cases_eq, cases_lt, false≢true}
-use Rattle.std.proofs.lemmas.Nat.Bits.{bit_at_above}
+use Rattle.std.proofs.lemmas.Bool.{false≢true}
 use Rattle.sy_wire.specs.declared.class.Class.{Class}
 use Rattle.sy_rules.specs.declared.lists.occurrence.Occurrence.{Occurrence}
 use Rattle.sy_rules.specs.declared.lists.occurrence.Occurrence.TheVariants as occurrence
@@ -16,9 +15,11 @@ use Rattle.sy_site.specs.Sites.{Site, plan_at, target}
 use Rattle.sy_site.specs.machine.Findings.{HoldsAt, IsForward, Kind}
 use Rattle.sy_site.specs.machine.Reach.{MayAt, action_of, occurrence_of}
 use Rattle.sy_checker.specs.Fit.{IsClean}
+use Rattle.sy_checker.specs.Internal.{HasNoneFrom, IsNextIn}
 use Rattle.sy_checker.specs.Risks.{IsRisky, RisksBy, is_forward, is_risk, kind_of}
 use Rattle.sy_checker.specs.declared.kinds.Risk.{Risk}
 use Rattle.sy_checker.specs.declared.kinds.Risk.TheVariants as risks
+use Rattle.sy_checker.proofs.Members.{all_members, more_members}
 
 first_true : (a b : Bool) → (a && b) ≡ true → a ≡ true
 first_true true b e = refl
@@ -115,25 +116,16 @@ IsSafeBelow site input may risk most = (number : ℕ) → number < most → Risk
 pub safe_first : (site : Site) (input : SiteInput) (may : ℕ) (risk : Risk) → IsSafeBelow site input may risk 0
 safe_first site input may risk number low r = omega (arith, low)
 
-pub safe_more : (site : Site) (input : SiteInput) (may : ℕ) (risk : Risk) (n : ℕ) → (RisksBy site input may n risk → ⊥)
-    → IsSafeBelow site input may risk n → IsSafeBelow site input may risk (n + 1)
-safe_more site input may risk n none before number low r =
-    elim (cases_eq number n) [
-      | inl same ↦ none (subst (λ k. RisksBy site input may k risk) same r)
-      | inr apart ↦ before number (omega (arith, low, apart)) r
-    ]
+pub safe_more : (site : Site) (input : SiteInput) (may : ℕ) (risk : Risk) (from n : ℕ) → IsNextIn may from n → (RisksBy site input may n risk → ⊥)
+    → IsSafeBelow site input may risk from → IsSafeBelow site input may risk (n + 1)
+safe_more site input may risk from n next none before =
+    more_members (λ k. RisksBy site input may k risk → ⊥) may from n next (λ k no r. no r.member) before none
 
-pub safe_all : (site : Site) (class : Class) (input : SiteInput) (may : ℕ) (risk : Risk) (n : ℕ) → Bits (MayAt site class input) may → may < 2 ^ 64
-    → 64 ≤ n → IsSafeBelow site input may risk n → HoldsAt site class input (kind_of risk) → ⊥
-safe_all site class input may risk n bits fits most safe h =
+pub safe_all : (site : Site) (class : Class) (input : SiteInput) (may : ℕ) (risk : Risk) (from : ℕ) → Bits (MayAt site class input) may
+    → HasNoneFrom may from → IsSafeBelow site input may risk from → HoldsAt site class input (kind_of risk) → ⊥
+safe_all site class input may risk from bits none safe h =
     let shown_by = shows site class input may risk bits h in
-    elim (cases_lt shown_by.0 64) [
-      | inl low ↦ safe shown_by.0 (omega (arith, low, most)) shown_by.1
-      | inr high ↦
-          let above = bit_at_above may 64 shown_by.0 fits high in
-          let bit = shown_by.1.member in
-          omega (arith, above, bit)
-    ]
+    all_members (λ k. RisksBy site input may k risk → ⊥) may from none (λ k no r. no r.member) safe shown_by.0 shown_by.1
 
 -- ---- all kinds
 

@@ -1,5 +1,5 @@
 -- What the functions say that make a certificate.
-use Rattle.std.specs.Prelude.{◌≡◌, ◌<◌, ◌≤◌, true, List, [], ◌∷◌, length}
+use Rattle.std.specs.Prelude.{◌≡◌, ◌<◌, ◌≤◌, true, List, [], ◌∷◌, ◌++◌, length}
 use Rattle.sy_wire.specs.declared.class.Class.{Class}
 use Rattle.sy_cert.specs.declared.kinds.Kind.{Kind}
 use Rattle.sy_cert.specs.declared.row.Row.{Row}
@@ -15,6 +15,12 @@ pub record AreRowsOf (site : Site) (class : Class) (rows : List Row) : Type 0 wh
   pub are_wanted : AreWanted site class part
   pub right : AreRight site class part rows
   pub many : length rows ≡ length part
+
+-- They are put behind the others.
+pub record AddsRowsOf (site : Site) (class : Class) (old new : List Row) : Type 0 where
+  pub more : List Row
+  pub are : AreRowsOf site class more
+  pub whole : new ≡ old ++ more
 
 -- ---- rows of a certificate
 

@@ -11,5 +11,6 @@ pub mod Finding
 pub mod Answer
 pub mod Made
 pub mod Loops
+pub mod Course
 pub mod Certifying
 pub mod Checking

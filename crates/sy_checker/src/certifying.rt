@@ -1,100 +1,52 @@
 //! Making a certificate: the rows of each protected class, or what is found in the site.
 
-ghost use Rattle.std.specs.Prelude.{◌≡◌, ◌<◌, ◌≤◌, ◌++◌, ◌∷◌, ◌↔◌, [], Contains, IfErr, IfOk, OnOk, length, true};
+ghost use Rattle.std.specs.Prelude.{◌≡◌, ◌<◌, ◌≤◌, ◌++◌, ◌∷◌, [], Contains, IfErr, IfOk, OnOk, true};
 ghost use Rattle.sy_wire.specs.declared.class.Class.{Class as AnyClass};
 ghost use Rattle.sy_cert.specs.declared.kinds.Kind.TheVariants as kinds;
 ghost use Rattle.sy_cert.specs.Rows.{IsRow, kind, last_kind, may_follow};
 ghost use Rattle.sy_site.specs.Sites as sites;
-ghost use Rattle.sy_site.specs.declared.site.SiteInput.{SiteInput as AnyInput};
-ghost use Rattle.sy_site.specs.machine.Reach.{Reach};
-ghost use Rattle.sy_site.specs.machine.Soundness.{AreRanks, IsSound};
+ghost use Rattle.sy_site.specs.machine.Soundness.{IsSound};
 ghost use Rattle.sy_checker.specs.Certifying as spec;
 ghost use Rattle.sy_checker.specs.Finding.{IsTrueRefusal};
 ghost use Rattle.sy_checker.specs.declared.finding.Refusal.TheVariants as refusal;
 ghost use Rattle.sy_checker.specs.Fit.{AreFit, IsFit};
-ghost use Rattle.sy_checker.specs.Flows.{AreFlows};
-ghost use Rattle.sy_checker.specs.Loops.{HasNoRanks, rank_at};
+ghost use Rattle.sy_checker.specs.Course.{AreClean, IsBefore, IsCourse};
 
 use crate::classes::protected_classes;
+use crate::course::{Course, course_for};
 use crate::finding::Refusal;
-use crate::flows::{ClassFlows, flows_of};
 use crate::laws::fit_is_sound;
-use crate::lead::leads_of;
-use crate::looped::looped;
-use crate::loops::{Unranked, ranks_of};
 use crate::making::{parts_join, rows_for};
-use crate::reach::reached;
-use crate::search::searched;
 use crate::wanted::wanted_rows;
 use std::alloc::{AllocError, Global};
 use sy_cert::{Certificate, Row};
+use sy_site::Site;
 use sy_site::laws::archives_are_those_named;
 use sy_site::machine::sound_sites_have_no_finding;
-use sy_site::{Site, SiteInput};
 use sy_wire::Class;
 
-// What is found where there are no ranks.
-fn unranked(alloc: Global, site: &Site, class: Class, why: Unranked) -> Refusal
-    requires protected { sites.is_protected site.now class ≡ true }
-    requires none { HasNoRanks site.now class why }
-    ensures { IsTrueRefusal site.now result }
-{
-    match why {
-        Unranked::NoMemory => Refusal::NoMemory,
-        Unranked::Loop(way, end) => match looped(alloc, site, class, way.as_slice(), end) {
-            Ok(finding) => Refusal::Finding(finding),
-            Err(_) => Refusal::NoMemory,
-        },
-    }
-}
-
-// Ranks of the relays for a class, or the finding of a loop.
-fn ranks_for(
-    alloc: Global,
-    site: &Site,
-    class: Class,
-    flows: &ClassFlows,
-    reached: &[SiteInput],
-) -> Result<Vec<u32>, Refusal>
-    requires protected { sites.is_protected site.now class ≡ true }
-    requires flows { AreFlows site.now class flows.now }
-    requires reached { (x : AnyInput) → Contains reached.now x ↔ Reach site.now class x }
-    ensures ranks { IfOk result (λ ranks. AreRanks site.now class (rank_at ranks.items)) }
-    ensures many { IfOk result (λ ranks. length ranks.items ≡ length site.now.relays) }
-    ensures err { IfErr result (λ why. IsTrueRefusal site.now why) }
-{
-    match ranks_of(alloc, site, class, flows, reached) {
-        Ok(ranks) => Ok(ranks),
-        Err(why) => Err(unranked(alloc, site, class, why)),
-    }
-}
-
-// The rows of a class, or what is found of it: first at the inputs that it reaches, then a loop, then an archive that
-// an entry doesn't lead to.
+// The rows of a class, or what is found of it: an archive that an entry doesn't lead to.
 pub(crate) fn rows_of_class(
     alloc: Global,
     site: &Site,
     class: Class,
-    flows: &ClassFlows,
+    course: &Course,
 ) -> Result<Vec<Row>, Refusal>
     requires protected { sites.is_protected site.now class ≡ true }
-    requires flows { AreFlows site.now class flows.now }
+    requires course { IsCourse site.now class course.now }
+    requires clean { AreClean site.now class }
     ensures ok { IfOk result (λ rows. spec.AreRowsOf site.now class rows.items) }
     ensures err { IfErr result (λ why. IsTrueRefusal site.now why) }
 {
-    let found = reached(alloc, site, class, flows)?;
-    searched(alloc, site, class, flows, &found)?;
-    let ranks = ranks_for(alloc, site, class, flows, found.inputs.as_slice())?;
-    let part = wanted_rows(alloc, site, class, found.inputs.as_slice())?;
-    let leads = leads_of(alloc, site, class, flows)?;
+    let part = wanted_rows(alloc, site, class, course.found.inputs.as_slice())?;
     let rows = rows_for(
         alloc,
         site,
         class,
-        flows,
-        leads.as_slice(),
+        &course.flows,
+        course.leads.as_slice(),
         part.as_slice(),
-        ranks.as_slice(),
+        course.ranks.as_slice(),
     )?;
     Ok(rows)
 }
@@ -106,6 +58,26 @@ fn put_all(rows: &mut Vec<Row>, mut more: Vec<Row>) -> Result<(), AllocError>
     rows.append(&mut more)
 }
 
+// Puts the rows of a class behind those of the classes before, the last of which had this course.
+fn put_class(
+    alloc: Global,
+    site: &Site,
+    class: Class,
+    before: Option<Course>,
+    rows: &mut Vec<Row>,
+) -> Result<Course, Refusal>
+    requires protected { sites.is_protected site.now class ≡ true }
+    requires before { IsBefore site.now before }
+    ensures course { IfOk result (λ course. IsCourse site.now class course) }
+    ensures rows { OnOk result (spec.AddsRowsOf site.now class rows.old.items rows.new.items) }
+    ensures err { IfErr result (λ why. IsTrueRefusal site.now why) }
+{
+    let course = course_for(alloc, site, class, before)?;
+    let more = rows_of_class(alloc, site, class, &course)?;
+    put_all(rows, more)?;
+    Ok(course)
+}
+
 // The rows of these classes, or what is found of the first of which something is.
 fn rows_of_classes(alloc: Global, site: &Site, classes: &[Class]) -> Result<Vec<Row>, Refusal>
     requires protected { (class : AnyClass) → Contains classes.now class
@@ -115,10 +87,10 @@ fn rows_of_classes(alloc: Global, site: &Site, classes: &[Class]) -> Result<Vec<
 {
     parts_join();
     let mut rows = Vec::new(alloc);
+    let mut before = None;
     for class in classes {
-        let flows = flows_of(alloc, site, *class)?;
-        let more = rows_of_class(alloc, site, *class, &flows)?;
-        put_all(&mut rows, more)?;
+        let course = put_class(alloc, site, *class, before, &mut rows)?;
+        before = Some(course);
     }
     Ok(rows)
 }

@@ -13,14 +13,14 @@ ghost use Rattle.sy_checker.specs.Acceptance.{AreReached, IsOf};
 ghost use Rattle.sy_checker.specs.Certifying.{AreRowsOf};
 ghost use Rattle.sy_checker.specs.Checking as spec;
 ghost use Rattle.sy_checker.specs.Finding.{IsTrueRefusal};
-ghost use Rattle.sy_checker.specs.Flows.{AreFlows};
+ghost use Rattle.sy_checker.specs.Course.{IsBefore, IsCourse};
 ghost use Rattle.sy_checker.specs.declared.finding.Refusal.TheVariants as refusal;
 
 use crate::accepted::Accepted;
 use crate::certifying::rows_of_class;
 use crate::classes::protected_classes;
+use crate::course::{Course, course_for};
 use crate::finding::Refusal;
-use crate::flows::{ClassFlows, flows_of};
 use crate::laws::{fit_is_safe, fit_is_sound};
 use crate::making::parts_join;
 use crate::verifying::{Judged, judge_class};
@@ -45,39 +45,44 @@ fn judge_made(
     alloc: Global,
     site: &Site,
     class: Class,
-    flows: &ClassFlows,
+    course: &Course,
     rows: &[Row],
     pairs: &mut Vec<(SiteInput, Class)>,
 ) -> Result<(), AllocError>
-    requires flows { AreFlows site.now class flows.now }
+    requires course { IsCourse site.now class course.now }
     requires rows { AreRowsOf site.now class rows.now }
     ensures { OnOk result ((before : List AnyClass) → AreReached site.now before pairs.old.items
         → AreReached site.now (before ++ class ∷ []) pairs.new.items) }
 {
-    match judge_class(alloc, site, class, flows, rows, pairs)? {
+    let reached = course.found.inputs.as_slice();
+    match judge_class(alloc, site, class, &course.flows, reached, rows, pairs)? {
         Judged::Right(_) => Ok(()),
         Judged::Wrong(_, _) => unreachable!(),
     }
 }
 
-// Makes the rows of a class and judges them, as those of a certificate are. What the class executes is worked out once,
-// and no other class's rows are kept. Each input that it reaches is put with it behind the pairs of the classes before.
+// Makes the rows of a class and judges them, as those of a certificate are. Its course is worked out once, or is that of
+// the class before, and no other class's rows are kept. Each input that it reaches is put with it behind the pairs of the
+// classes before.
 fn check_class(
     alloc: Global,
     site: &Site,
     class: Class,
+    before: Option<Course>,
     pairs: &mut Vec<(SiteInput, Class)>,
-) -> Result<(), Refusal>
+) -> Result<Course, Refusal>
     requires protected { sites.is_protected site.now class ≡ true }
+    requires before { IsBefore site.now before }
+    ensures course { IfOk result (λ course. IsCourse site.now class course) }
     ensures rows { OnOk result (spec.HasRows site.now class) }
     ensures pairs { OnOk result ((before : List AnyClass) → AreReached site.now before pairs.old.items
         → AreReached site.now (before ++ class ∷ []) pairs.new.items) }
     ensures err { IfErr result (λ why. IsTrueRefusal site.now why) }
 {
-    let flows = flows_of(alloc, site, class)?;
-    let rows = rows_of_class(alloc, site, class, &flows)?;
-    judge_made(alloc, site, class, &flows, rows.as_slice(), pairs)?;
-    Ok(())
+    let course = course_for(alloc, site, class, before)?;
+    let rows = rows_of_class(alloc, site, class, &course)?;
+    judge_made(alloc, site, class, &course, rows.as_slice(), pairs)?;
+    Ok(course)
 }
 
 // Each input that one of these classes reaches with that class, where each class has its rows; or what is found of the
@@ -95,8 +100,10 @@ fn check_classes(
 {
     parts_join();
     let mut pairs = Vec::new(alloc);
+    let mut before = None;
     for class in classes {
-        check_class(alloc, site, *class, &mut pairs)?;
+        let course = check_class(alloc, site, *class, before, &mut pairs)?;
+        before = Some(course);
     }
     Ok(pairs)
 }

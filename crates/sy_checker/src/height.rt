@@ -6,7 +6,7 @@ ghost use Rattle.sy_checker.specs.Loops as spec;
 ghost use Rattle.sy_checker.specs.Flows.{AreFlows};
 
 use crate::flows::ClassFlows;
-use crate::inputs::{forward_at, has, may_at};
+use crate::inputs::{forward_at, has, may_at, next_in};
 use sy_site::{Site, SiteInput};
 use sy_wire::Class;
 
@@ -45,11 +45,13 @@ pub fn height(site: &Site, class: Class, flows: &ClassFlows, ranks: &[u32], from
 {
     let may = may_at(site, class, flows, from);
     let mut most = 0;
-    for number in 0..64 {
+    let mut behind = 0;
+    while let Some(number) = next_in(may, behind) {
         let next = height_by(site, ranks, from, may, number);
         if most < next {
             most = next;
         }
+        behind = number + 1;
     }
     most
 }

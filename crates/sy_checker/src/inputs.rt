@@ -1,6 +1,6 @@
 //! What an input of a site has: its part of the plan, the occurrences of its list, and where these lead.
 
-ghost use Rattle.std.specs.Prelude.{◌≡◌, ◌<◌, length, Decides};
+ghost use Rattle.std.specs.Prelude.{◌≡◌, ◌<◌, length, Decides, IfNone, IfSome};
 ghost use Rattle.std.specs.Int.{bit_at};
 ghost use Rattle.sy_board.specs.relay.Plans as plans;
 ghost use Rattle.sy_rules.specs.lists.Sets.{Bits};
@@ -25,6 +25,21 @@ pub fn has(set: u64, number: u32) -> bool
     (set >> number) & 1 == 1
 }
 
+/// The lowest occurrence of a set from a number on.
+pub fn next_in(set: u64, from: u32) -> Option<u32>
+    ensures some { IfSome result (λ number. spec.IsNextIn set from number) }
+    ensures none { IfNone result (spec.HasNoneFrom set from) }
+{
+    if from >= 64 {
+        return None;
+    }
+    let rest = set >> from;
+    if rest == 0 {
+        return None;
+    }
+    Some(from + rest.trailing_zeros())
+}
+
 /// The input's port, flow control, list and queue.
 pub fn input_at(site: &Site, input: SiteInput) -> Input
     requires there { IsInput site.now input }
@@ -43,7 +58,7 @@ pub fn list_at(site: &Site, input: SiteInput) -> u32
     input_at(site, input).list
 }
 
-// What is kept of the list of an input.
+// What is kept of an input.
 fn flow_at(site: &Site, class: Class, flows: &ClassFlows, input: SiteInput) -> Flows
     requires there { IsInput site.now input }
     requires flows { AreFlows site.now class flows.now }
@@ -51,7 +66,7 @@ fn flow_at(site: &Site, class: Class, flows: &ClassFlows, input: SiteInput) -> F
     ensures must { Bits (MustAt site.now class input) result.must }
 {
     let relay = &flows.relays[input.relay as usize];
-    relay.lists[list_at(site, input) as usize]
+    relay.inputs[input.input as usize]
 }
 
 /// What messages of a class may execute at an input.

@@ -11,7 +11,7 @@ ghost use Rattle.sy_checker.specs.Risks as spec;
 ghost use Rattle.sy_checker.specs.Flows.{AreFlows};
 
 use crate::flows::ClassFlows;
-use crate::inputs::{has, input_at, may_at, occurrences_at};
+use crate::inputs::{has, input_at, may_at, next_in, occurrences_at};
 use sy_rules::laws::plans_are_whole;
 use sy_rules::{Destination, FlowControl, Input, Occurrence, Plan, QueueParameters};
 use sy_site::{Site, SiteInput};
@@ -211,10 +211,12 @@ pub fn may_risk(site: &Site, class: Class, flows: &ClassFlows, input: SiteInput,
     ensures { Decides result (HoldsAt site.now class input (spec.kind_of risk)) }
 {
     let may = may_at(site, class, flows, input);
-    for number in 0..64 {
+    let mut from = 0;
+    while let Some(number) = next_in(may, from) {
         if has_risk(site, input, may, number, risk) {
             return true;
         }
+        from = number + 1;
     }
     false
 }

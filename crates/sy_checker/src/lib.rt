@@ -5,6 +5,7 @@ pub mod accepted;
 mod certifying;
 pub mod checking;
 mod classes;
+mod course;
 mod executed;
 pub mod finding;
 mod flows;

@@ -14,7 +14,7 @@ ghost use Rattle.sy_checker.specs.Flows.{AreFlows};
 use crate::finding::WayRow;
 use crate::flows::ClassFlows;
 use crate::height::{height, raise};
-use crate::inputs::{forward_at, has, may_at};
+use crate::inputs::{forward_at, has, may_at, next_in};
 use crate::reach::is_among;
 use std::alloc::{AllocError, Global};
 use sy_site::{Site, SiteInput};
@@ -141,8 +141,10 @@ fn visit(
         return Ok(());
     }
     let may = may_at(site, class, flows, from);
-    for number in 0..64 {
+    let mut next = 0;
+    while let Some(number) = next_in(may, next) {
         follow(site, class, flows, reached, seen, from, may, number)?;
+        next = number + 1;
     }
     let height = height(site, class, flows, seen.ranks.as_slice(), from);
     settle(seen, from, height)?;

@@ -7,7 +7,7 @@ ghost use Rattle.sy_checker.specs.Internal as spec;
 ghost use Rattle.sy_checker.specs.Flows.{AreFlows};
 
 use crate::flows::ClassFlows;
-use crate::inputs::{forward_at, has, must_at, occurrences_at};
+use crate::inputs::{forward_at, has, must_at, next_in, occurrences_at};
 use sy_rules::Occurrence;
 use sy_site::{Site, SiteAction, SiteInput};
 use sy_wire::Class;
@@ -46,11 +46,16 @@ pub fn must_write(
     requires flows { AreFlows site.now class flows.now }
     ensures { Decides result (MustWrite site.now class archive input) }
 {
+    if input.relay != archive.relay {
+        return false;
+    }
     let must = must_at(site, class, flows, input);
-    for number in 0..64 {
+    let mut from = 0;
+    while let Some(number) = next_in(must, from) {
         if writes(site, input, must, number, archive) {
             return true;
         }
+        from = number + 1;
     }
     false
 }

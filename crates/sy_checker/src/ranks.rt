@@ -8,7 +8,7 @@ ghost use Rattle.sy_checker.specs.Ranked as spec;
 ghost use Rattle.sy_checker.specs.Flows.{AreFlows};
 
 use crate::flows::ClassFlows;
-use crate::inputs::{forward_at, has, may_at};
+use crate::inputs::{forward_at, has, may_at, next_in};
 use crate::wanted::Wanted;
 use sy_cert::Row;
 use sy_site::{Site, SiteInput};
@@ -136,10 +136,12 @@ fn falls_from(
     ensures { Decides result (spec.FallsFrom site.now class part.now rows.now rank from) }
 {
     let may = may_at(site, class, flows, from);
-    for number in 0..64 {
+    let mut next = 0;
+    while let Some(number) = next_in(may, next) {
         if !leads_below(site, from, may, number, part, rows, rank) {
             return false;
         }
+        next = number + 1;
     }
     true
 }

@@ -17,7 +17,7 @@ ghost use Rattle.sy_checker.specs.Flows.{AreFlows};
 use crate::executed::{Executed, executed_at};
 use crate::finding::WayRow;
 use crate::flows::ClassFlows;
-use crate::inputs::{forward_at, has};
+use crate::inputs::{forward_at, has, next_in};
 use std::alloc::{AllocError, Global};
 use sy_site::{Site, SiteInput};
 use sy_wire::Class;
@@ -125,8 +125,10 @@ fn add_targets(
         found.new.inputs.items found.new.origins.items) }
 {
     let set = executed_at(site, class, flows, which, from);
-    for number in 0..64 {
+    let mut next = 0;
+    while let Some(number) = next_in(set, next) {
         add_target(site, from, place, set, number, found)?;
+        next = number + 1;
     }
     Ok(())
 }

@@ -63,26 +63,28 @@ fn judge(
     }
 }
 
-// Judges the rows of a class, and puts each input that it reaches with it behind the pairs of the classes before.
+// Judges the rows of a class, and puts each input that it reaches, which are these, with it behind the pairs of the
+// classes before.
 pub(crate) fn judge_class(
     alloc: Global,
     site: &Site,
     class: Class,
     flows: &ClassFlows,
+    reached: &[SiteInput],
     rows: &[Row],
     pairs: &mut Vec<(SiteInput, Class)>,
 ) -> Result<Judged, AllocError>
     requires flows { AreFlows site.now class flows.now }
+    requires reached { (x : AnyInput) → Contains reached.now x ↔ Reach site.now class x }
     ensures judged { IfOk result (λ judged. spec.IsJudged site.now class rows.now judged) }
     ensures pairs { OnOk result ((before : List AnyClass) → AreReached site.now before pairs.old.items
         → AreReached site.now (before ++ class ∷ []) pairs.new.items) }
 {
-    let found = reached(alloc, site, class, flows)?;
-    put_pairs(pairs, found.inputs.as_slice(), class)?;
-    judge(alloc, site, class, flows, found.inputs.as_slice(), rows)
+    put_pairs(pairs, reached, class)?;
+    judge(alloc, site, class, flows, reached, rows)
 }
 
-// The same, with what the class executes worked out for it.
+// The same, with what the class executes and reaches worked out for it.
 fn judge_next(
     alloc: Global,
     site: &Site,
@@ -95,7 +97,16 @@ fn judge_next(
         → AreReached site.now (before ++ class ∷ []) pairs.new.items) }
 {
     let flows = flows_of(alloc, site, class)?;
-    judge_class(alloc, site, class, &flows, rows, pairs)
+    let found = reached(alloc, site, class, &flows)?;
+    judge_class(
+        alloc,
+        site,
+        class,
+        &flows,
+        found.inputs.as_slice(),
+        rows,
+        pairs,
+    )
 }
 
 // Whether the rows are those that are wanted for these classes. Each input that one of them reaches is put with it.

@@ -6,26 +6,32 @@ use Rattle.sy_checker.specs.Fit.{AreFit}
 use Rattle.sy_checker.proofs.Guarded.{take_next}
 use Rattle.sy_checker.proofs.certifying.rows_of_classes.Goals as goal
 
-pub rows_of_class-requires : goal.rows_of_class-requires
-rows_of_class-requires c = record {
+pub loop-class-init : goal.loop-class-init
+loop-class-init c = (c.new-rows.ensures.items, tt)
+
+pub put_class-requires : goal.put_class-requires
+put_class-requires c = record {
   protected = c.requires.protected c.class-item.result
       (subst (Contains c.args.classes.now) (sym c.class-item.is)
       (Contains-get_or c.args.classes.now c.loop-class.class-index c.class-item.result c.loop-class-test.true));
-  flows = c.in_ok-flows.ensures;
+  before = c.loop-class.invariant.1;
 }
 
 pub loop-class-preserved : goal.loop-class-preserved
 loop-class-preserved c =
     let site = c.args.site.now in
     let before = take c.loop-class.class-index c.args.classes.now in
-    let it = c.in_ok-more.ensures.ok in
-    subst (λ l. AreFit site l c.put_all.new.rows.items)
-    (take_next c.args.classes.now c.loop-class.class-index c.class-item.result c.loop-class-test.true c.class-item.is)
-    (subst (AreFit site (before ++ c.class-item.result ∷ [])) (sym c.in_ok-put_all.ensures)
-    (c.parts_join.ensures site before c.class-item.result it.part c.loop-class.rows.items c.in_ok-more.more.items c.loop-class.invariant it.are_wanted
-    it.right it.many))
+    let added = c.in_ok-course.ensures.rows in
+    let it = added.are in (
+      subst (λ l. AreFit site l c.put_class.new.rows.items)
+          (take_next c.args.classes.now c.loop-class.class-index c.class-item.result c.loop-class-test.true c.class-item.is)
+          (subst (AreFit site (before ++ c.class-item.result ∷ [])) (sym added.whole)
+          (c.parts_join.ensures site before c.class-item.result it.part c.loop-class.rows.items added.more c.loop-class.invariant.0 it.are_wanted
+          it.right it.many)),
+      (c.class-item.result, c.in_ok-course.ensures.course),
+    )
 
 pub returns-clause-ok : goal.returns-clause-ok
 returns-clause-ok c =
     subst (λ l. AreFit c.args.site.now l c.loop-class.rows.items) (take_all c.loop-class.class-index c.args.classes.now c.loop-class-test.false)
-    c.loop-class.invariant
+    c.loop-class.invariant.0

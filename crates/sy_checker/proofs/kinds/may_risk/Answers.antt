@@ -8,12 +8,12 @@ loop-number-init c = safe_first c.args.site.now c.args.input c.may_at-may.result
 
 pub loop-number-preserved : goal.loop-number-preserved
 loop-number-preserved c =
-    safe_more c.args.site.now c.args.input c.may_at-may.result c.args.risk c.loop-number.number
+    safe_more c.args.site.now c.args.input c.may_at-may.result c.args.risk c.loop-number.from c.in-Some.number c.in-Some.ensures.some
     (λ r. false≢true (sym c.if-has_risk.false ∙ c.has_risk.ensures.1 r)) c.loop-number.invariant
 
 pub returns-then-has_risk : goal.returns-then-has_risk
 returns-then-has_risk c = (
-  λ yes. shown c.args.site.now c.args.class c.args.input c.may_at-may.result c.loop-number.number c.args.risk c.may_at-may.ensures
+  λ yes. shown c.args.site.now c.args.class c.args.input c.may_at-may.result c.in-Some.number c.args.risk c.may_at-may.ensures
       (c.has_risk.ensures.0 c.if-has_risk.true),
   λ h. refl,
 )
@@ -21,6 +21,6 @@ returns-then-has_risk c = (
 pub returns : goal.returns
 returns c = (
   λ no. absurd (false≢true no),
-  λ h. absurd (safe_all c.args.site.now c.args.class c.args.input c.may_at-may.result c.args.risk c.loop-number.number c.may_at-may.ensures
-      c.may_at-may.type_inv c.loop-number-test.false c.loop-number.invariant h),
+  λ h. absurd (safe_all c.args.site.now c.args.class c.args.input c.may_at-may.result c.args.risk c.loop-number.from c.may_at-may.ensures
+      c.in_default.ensures.none c.loop-number.invariant h),
 )

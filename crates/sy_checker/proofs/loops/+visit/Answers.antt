@@ -41,8 +41,8 @@ visit-loop-number-preserved t c =
       more = more_and (IsMet (way_of c.args.seen.now.way.items) c.args.from) c.args.seen.now.done.items c.loop-number.seen.done.items
           c.follow.new.seen.done.items c.loop-number.invariant.more more;
       followed = follows_more c.args.site.now c.args.class c.may_at-may.result c.args.from (IsMet (way_of c.args.seen.now.way.items) c.args.from)
-          c.loop-number.seen.done.items c.follow.new.seen.done.items c.loop-number.number more c.loop-number.invariant.followed
-          c.in_ok-follow.ensures.followed;
+          c.loop-number.seen.done.items c.follow.new.seen.done.items c.loop-number.next c.in-Some.number c.in-Some.ensures.some more
+          c.loop-number.invariant.followed c.in_ok-follow.ensures.followed;
     }
 
 pub visit-height-height-requires-clause-there : goal.visit-height-height-requires-clause-there
@@ -70,8 +70,8 @@ visit-returns-clause-ranked t c =
     let fresh = fresh_still (way_of c.args.seen.now.way.items) c.args.from before done c.loop-number.invariant.more
     (not_among before c.args.from
     (ap (list_any (same_input c.args.from)) (sym c.as_slice.ensures.value) ∙ sym c.is_among.ensures ∙ c.if-is_among.false)) in
-    let followed = follows_all c.args.site.now c.args.class c.may_at-may.result c.args.from done c.loop-number.number c.may_at-may.ensures
-    c.may_at-may.type_inv c.loop-number-test.false c.loop-number.invariant.followed in
+    let followed = follows_all c.args.site.now c.args.class c.may_at-may.result c.args.from done c.loop-number.next c.may_at-may.ensures
+    c.in_default.ensures.none c.loop-number.invariant.followed in
     ranked_as c.args.site.now c.args.class (done ++ c.args.from ∷ []) c.settle.new.seen.done.items settled c.settle.new.seen.settled.items
     (raised ranks c.args.from.relay height) c.settle.new.seen.ranks.items c.in_ok-settle.ensures.done c.in_ok-settle.ensures.settled
     c.in_ok-settle.ensures.ranks

@@ -22,8 +22,11 @@ invariant-visit-loop-number l = record {
   way : l.seen.way.items ≡ l.initial.seen.way.items;
   ranked : AreRanked l.site l.class l.seen.done.items l.seen.settled.items l.seen.ranks.items;
   more : DoesMore (IsMet (way_of l.initial.seen.way.items) l.from) l.initial.seen.done.items l.seen.done.items;
-  followed : (k : ℕ) → k < l.number → IsFollowed l.site l.class l.seen.done.items l.may l.from k;
+  followed : (k : ℕ) → k < l.next → IsFollowed l.site l.class l.seen.done.items l.may l.from k;
 }
+
+abbrev pub decreases-visit-loop-number : goal.decreases-visit-loop-number
+decreases-visit-loop-number l = 64 - l.next
 
 abbrev pub invariant-visit_relay-loop-input : goal.invariant-visit_relay-loop-input
 invariant-visit_relay-loop-input l = record {

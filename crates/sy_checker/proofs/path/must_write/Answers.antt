@@ -1,20 +1,27 @@
 use Rattle.std.proofs.Common.{refl, sym, ◌∙◌}
 use Rattle.std.proofs.lemmas.Bool.{false≢true}
-use Rattle.sy_checker.proofs.Paths.{never_written, none_written, not_written, written}
+use Rattle.sy_checker.proofs.Paths.{never_written, none_written, not_written, own_relay, written}
 use Rattle.sy_checker.proofs.path.must_write.Goals as goal
+
+pub returns-then-input-archive : goal.returns-then-input-archive
+returns-then-input-archive c = (
+  λ no. absurd (false≢true no),
+  λ w. absurd (c.if-input-archive.true (own_relay c.args.site.now c.args.class c.args.archive c.args.input w)),
+)
 
 pub loop-number-init : goal.loop-number-init
 loop-number-init c = none_written c.args.site.now c.args.class c.args.archive c.args.input
 
 pub loop-number-preserved : goal.loop-number-preserved
 loop-number-preserved c =
-    not_written c.args.site.now c.args.class c.args.archive c.args.input c.must_at-must.result c.loop-number.number c.must_at-must.ensures
-    (λ member writes. false≢true (sym c.if-writes.false ∙ c.writes.ensures.1 (member, writes))) c.loop-number.invariant
+    not_written c.args.site.now c.args.class c.args.archive c.args.input c.must_at-must.result c.in-Some.number c.must_at-must.ensures
+    c.loop-number.from c.in-Some.ensures.some (λ member writes. false≢true (sym c.if-writes.false ∙ c.writes.ensures.1 (member, writes)))
+    c.loop-number.invariant
 
 pub returns-then-writes : goal.returns-then-writes
 returns-then-writes c =
     let it = c.writes.ensures.0 c.if-writes.true in (
-      λ yes. written c.args.site.now c.args.class c.args.archive c.args.input c.must_at-must.result c.loop-number.number
+      λ yes. written c.args.site.now c.args.class c.args.archive c.args.input c.must_at-must.result c.in-Some.number
           c.must_at-must.ensures it.0 it.1,
       λ w. refl,
     )
@@ -22,6 +29,6 @@ returns-then-writes c =
 pub returns : goal.returns
 returns c = (
   λ no. absurd (false≢true no),
-  λ w. absurd (never_written c.args.site.now c.args.class c.args.archive c.args.input c.must_at-must.result c.loop-number.number
-      c.must_at-must.ensures c.must_at-must.type_inv c.loop-number-test.false c.loop-number.invariant w),
+  λ w. absurd (never_written c.args.site.now c.args.class c.args.archive c.args.input c.must_at-must.result c.loop-number.from
+      c.must_at-must.ensures c.in_default.ensures.none c.loop-number.invariant w),
 )

@@ -1,0 +1,173 @@
+//! The course of a class through a site, which classes share whose flows are the same at each input.
+
+ghost use Rattle.std.specs.Prelude.{◌≡◌, ◌↔◌, Contains, Decides, IfErr, IfOk, OnOk, length, true};
+ghost use Rattle.sy_site.specs.Sites as sites;
+ghost use Rattle.sy_site.specs.declared.site.SiteInput.{SiteInput as AnyInput};
+ghost use Rattle.sy_site.specs.machine.Reach.{Reach};
+ghost use Rattle.sy_site.specs.machine.Soundness.{AreRanks};
+ghost use Rattle.sy_checker.specs.Course as spec;
+ghost use Rattle.sy_checker.specs.Finding.{IsTrueRefusal};
+ghost use Rattle.sy_checker.specs.Flows.{AreFlows};
+ghost use Rattle.sy_checker.specs.Loops.{HasNoRanks, rank_at};
+
+use crate::finding::Refusal;
+use crate::flows::{ClassFlows, flows_of};
+use crate::lead::leads_of;
+use crate::looped::looped;
+use crate::loops::{Unranked, ranks_of};
+use crate::reach::{Found, reached};
+use crate::search::searched;
+use std::alloc::{AllocError, Global};
+use sy_classes::Flows;
+use sy_site::{Site, SiteInput};
+use sy_wire::Class;
+
+/// What a class executes, and what follows from that alone.
+#[derive(Drop)]
+pub struct Course {
+    pub flows: ClassFlows,
+    /// the inputs that its messages reach
+    pub found: Found,
+    /// a rank for each relay
+    pub ranks: Vec<u32>,
+    /// what forwards lead to that its messages must run, from each entry
+    pub leads: Vec<Found>,
+}
+
+fn is_same(one: Flows, other: Flows) -> bool
+    ensures { Decides result (one ≡ other) }
+{
+    one.may == other.may && one.must == other.must
+}
+
+// Whether the flows at each input of a relay are the same.
+fn same_inputs(one: &[Flows], other: &[Flows]) -> bool
+    ensures { Decides result (one.now ≡ other.now) }
+{
+    if one.len() != other.len() {
+        return false;
+    }
+    for place in 0..one.len() {
+        if !is_same(one[place], other[place]) {
+            return false;
+        }
+    }
+    true
+}
+
+// Whether they are at each relay.
+fn same_flows(one: &ClassFlows, other: &ClassFlows) -> bool
+    ensures { Decides result (spec.AreSame one.now other.now) }
+{
+    if one.relays.len() != other.relays.len() {
+        return false;
+    }
+    for relay in 0..one.relays.len() {
+        let (here, there) = (&one.relays[relay].inputs, &other.relays[relay].inputs);
+        if !same_inputs(here.as_slice(), there.as_slice()) {
+            return false;
+        }
+    }
+    true
+}
+
+// What is found where there are no ranks.
+fn unranked(alloc: Global, site: &Site, class: Class, why: Unranked) -> Refusal
+    requires protected { sites.is_protected site.now class ≡ true }
+    requires none { HasNoRanks site.now class why }
+    ensures { IsTrueRefusal site.now result }
+{
+    match why {
+        Unranked::NoMemory => Refusal::NoMemory,
+        Unranked::Loop(way, end) => match looped(alloc, site, class, way.as_slice(), end) {
+            Ok(finding) => Refusal::Finding(finding),
+            Err(_) => Refusal::NoMemory,
+        },
+    }
+}
+
+// Ranks of the relays for a class, or the finding of a loop.
+fn ranks_for(
+    alloc: Global,
+    site: &Site,
+    class: Class,
+    flows: &ClassFlows,
+    reached: &[SiteInput],
+) -> Result<Vec<u32>, Refusal>
+    requires protected { sites.is_protected site.now class ≡ true }
+    requires flows { AreFlows site.now class flows.now }
+    requires reached { (x : AnyInput) → Contains reached.now x ↔ Reach site.now class x }
+    ensures ranks { IfOk result (λ ranks. AreRanks site.now class (rank_at ranks.items)) }
+    ensures many { IfOk result (λ ranks. length ranks.items ≡ length site.now.relays) }
+    ensures err { IfErr result (λ why. IsTrueRefusal site.now why) }
+{
+    match ranks_of(alloc, site, class, flows, reached) {
+        Ok(ranks) => Ok(ranks),
+        Err(why) => Err(unranked(alloc, site, class, why)),
+    }
+}
+
+// The course of a class with these flows, or what is found of it: first at the inputs that it reaches, then a loop.
+fn new_course(
+    alloc: Global,
+    site: &Site,
+    class: Class,
+    flows: ClassFlows,
+) -> Result<Course, Refusal>
+    requires protected { sites.is_protected site.now class ≡ true }
+    requires flows { AreFlows site.now class flows }
+    ensures ok { IfOk result (λ course. spec.IsCourse site.now class course) }
+    ensures clean { OnOk result (spec.AreClean site.now class) }
+    ensures err { IfErr result (λ why. IsTrueRefusal site.now why) }
+{
+    let found = reached(alloc, site, class, &flows)?;
+    searched(alloc, site, class, &flows, &found)?;
+    let ranks = ranks_for(alloc, site, class, &flows, found.inputs.as_slice())?;
+    let leads = leads_of(alloc, site, class, &flows)?;
+    Ok(Course {
+        flows,
+        found,
+        ranks,
+        leads,
+    })
+}
+
+// A course that is the class's too, or what is found of the class at the inputs that it reaches.
+fn same_course(alloc: Global, site: &Site, class: Class, course: Course) -> Result<Course, Refusal>
+    requires protected { sites.is_protected site.now class ≡ true }
+    requires course { spec.IsCourse site.now class course }
+    ensures ok { IfOk result (λ course. spec.IsCourse site.now class course) }
+    ensures clean { OnOk result (spec.AreClean site.now class) }
+    ensures err { IfErr result (λ why. IsTrueRefusal site.now why) }
+{
+    searched(alloc, site, class, &course.flows, &course.found)?;
+    Ok(course)
+}
+
+/// The course of a class whose reached inputs are clean; or what is found of it, first at these inputs, then a loop.
+/// The course of a class before is taken over where the flows of both are the same.
+pub fn course_for(
+    alloc: Global,
+    site: &Site,
+    class: Class,
+    before: Option<Course>,
+) -> Result<Course, Refusal>
+    requires protected { sites.is_protected site.now class ≡ true }
+    requires before { spec.IsBefore site.now before }
+    ensures ok { IfOk result (λ course. spec.IsCourse site.now class course) }
+    ensures clean { OnOk result (spec.AreClean site.now class) }
+    ensures err { IfErr result (λ why. IsTrueRefusal site.now why) }
+{
+    site.is_lawful();
+    let flows = flows_of(alloc, site, class)?;
+    match before {
+        Some(course) => {
+            if same_flows(&course.flows, &flows) {
+                same_course(alloc, site, class, course)
+            } else {
+                new_course(alloc, site, class, flows)
+            }
+        }
+        None => new_course(alloc, site, class, flows),
+    }
+}
