@@ -33,3 +33,5 @@ pub mod Complete
 pub mod Fitting
 pub mod MadeRight
 pub mod Alike
+pub mod Grouping
+pub mod Telling

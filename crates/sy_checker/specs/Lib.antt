@@ -13,4 +13,5 @@ pub mod Made
 pub mod Loops
 pub mod Course
 pub mod Certifying
+pub mod Survey
 pub mod Checking

@@ -1,0 +1,20 @@
+use Rattle.sy_site.specs.machine.Findings.{HoldsAt}
+use Rattle.sy_site.specs.machine.Reach.{Reach}
+use Rattle.sy_site.specs.Sites.{archives}
+use Rattle.sy_checker.specs.Finding.{kind_of}
+use Rattle.sy_checker.specs.Survey.{Among, IsNothing, IsUnmetBy}
+use Rattle.sy_checker.proofs.Telling.{all_of, both_told}
+use Rattle.sy_checker.proofs.surveying.put_all.Goals as goal
+
+pub returns-clause-tells : goal.returns-clause-tells
+returns-clause-tells c =
+    let site = c.args.site.now in
+    both_told site c.args.class (λ i j. Reach site c.args.class i × HoldsAt site c.args.class i (kind_of j))
+    (λ i j. Among site.entries (λ entry. Among (archives site c.args.class) (λ archive. IsUnmetBy site c.args.class entry archive i j))) IsNothing
+    c.args.found.now.groups.items c.put_reached.new.found.groups.items c.put_all_unmet.new.found.groups.items c.in_ok-put_reached.ensures.tells
+    c.in_ok-put_all_unmet.ensures (λ i j p. absurd p)
+
+pub returns-clause-told : goal.returns-clause-told
+returns-clause-told c =
+    all_of c.args.site.now c.args.class c.args.found.now.groups.items c.put_reached.new.found.groups.items c.put_all_unmet.new.found.groups.items
+    c.in_ok-put_reached.ensures.tells c.in_ok-put_reached.ensures.ranked c.in_ok-put_all_unmet.ensures

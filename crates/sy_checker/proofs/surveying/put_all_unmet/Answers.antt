@@ -1,0 +1,26 @@
+use Rattle.std.proofs.Common.{subst, sym, ◌∙◌}
+use Rattle.std.specs.Prelude.{Contains}
+use Rattle.sy_checker.specs.Answer.{AreLeads}
+use Rattle.sy_checker.specs.Survey.{Among, IsUnmetBy, Tells}
+use Rattle.sy_checker.proofs.surveying.put_all_unmet.Goals as goal
+
+pub put_entries-requires : goal.put_entries-requires
+put_entries-requires c = record {
+  protected = c.requires.protected;
+  flows = c.requires.flows;
+  leads = subst (AreLeads c.args.site.now c.args.class) (sym c.as_slice.ensures.value) c.in_ok-leads.ensures;
+  entries = λ x is. subst (λ l. Contains l x) c.entries.ensures is;
+  named = λ a is. subst (λ l. Contains l a) (c.as_slice-2.ensures.value ∙ c.in_ok-named.ensures) is;
+}
+
+pub returns : goal.returns
+returns c =
+    let site = c.args.site.now in
+    subst (λ archives. Tells site c.args.class
+    (λ i j. Among site.entries (λ entry. Among archives (λ archive. IsUnmetBy site c.args.class entry archive i j))) c.args.found.now.groups.items
+    c.put_entries.new.found.groups.items)
+    (c.as_slice-2.ensures.value ∙ c.in_ok-named.ensures)
+    (subst (λ entries. Tells site c.args.class
+    (λ i j. Among entries (λ entry. Among c.as_slice-2.result.now (λ archive. IsUnmetBy site c.args.class entry archive i j)))
+    c.args.found.now.groups.items c.put_entries.new.found.groups.items)
+    c.entries.ensures c.in_ok-put_entries.ensures)

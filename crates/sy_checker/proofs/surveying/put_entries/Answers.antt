@@ -1,0 +1,26 @@
+use Rattle.std.proofs.lemmas.List.Elements.{Contains-get_or}
+use Rattle.sy_checker.specs.Survey.{Among, IsUnmetBy}
+use Rattle.sy_checker.proofs.Telling.{all_told, more_told}
+use Rattle.sy_checker.proofs.surveying.put_entries.Goals as goal
+
+pub put_archives-requires : goal.put_archives-requires
+put_archives-requires c = record {
+  protected = c.requires.protected;
+  flows = c.requires.flows;
+  leads = c.requires.leads;
+  entry = c.requires.entries _ (Contains-get_or c.args.entries.now c.loop-entry.entry-index _ c.loop-entry-test.true);
+  named = c.requires.named;
+}
+
+pub loop-entry-preserved : goal.loop-entry-preserved
+loop-entry-preserved c =
+    more_told c.args.site.now c.args.class
+    (λ entry i j. Among c.args.archives.now (λ archive. IsUnmetBy c.args.site.now c.args.class entry archive i j)) c.args.entries.now
+    c.loop-entry.entry-index _ c.args.found.now.groups.items c.loop-entry.found.groups.items c.put_archives.new.found.groups.items
+    c.loop-entry-test.true c.loop-entry.invariant c.in_ok-put_archives.ensures
+
+pub returns : goal.returns
+returns c =
+    all_told c.args.site.now c.args.class
+    (λ entry i j. Among c.args.archives.now (λ archive. IsUnmetBy c.args.site.now c.args.class entry archive i j)) c.args.entries.now
+    c.loop-entry.entry-index c.args.found.now.groups.items c.loop-entry.found.groups.items c.loop-entry-test.false c.loop-entry.invariant

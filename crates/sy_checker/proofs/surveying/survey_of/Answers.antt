@@ -1,0 +1,33 @@
+use Rattle.std.proofs.Common.{◌∷◌, ◌++◌, [], subst, sym, take}
+use Rattle.std.specs.Prelude.{Contains}
+use Rattle.std.proofs.lemmas.List.{take_all}
+use Rattle.std.proofs.lemmas.List.Elements.{Contains-get_or}
+use Rattle.sy_checker.specs.Survey.{IsSurveyOf}
+use Rattle.sy_checker.proofs.Guarded.{take_next}
+use Rattle.sy_checker.proofs.Telling.{survey_first, survey_more}
+use Rattle.sy_checker.proofs.surveying.survey_of.Goals as goal
+
+pub put_all-requires : goal.put_all-requires
+put_all-requires c = record {
+  protected = c.requires.protected c.class-item.result
+      (subst (Contains c.args.classes.now) (sym c.class-item.is)
+      (Contains-get_or c.args.classes.now c.loop-class.class-index c.class-item.result c.loop-class-test.true));
+}
+
+pub loop-class-init : goal.loop-class-init
+loop-class-init c =
+    subst (IsSurveyOf c.args.site.now (Contains [])) (sym c.nothing_gathered-found.ensures) (survey_first c.args.site.now)
+
+pub loop-class-preserved : goal.loop-class-preserved
+loop-class-preserved c =
+    let site = c.args.site.now in
+    let before = take c.loop-class.class-index c.args.classes.now in
+    subst (λ l. IsSurveyOf site (Contains l) c.put_all.new.found.groups.items)
+    (take_next c.args.classes.now c.loop-class.class-index c.class-item.result c.loop-class-test.true c.class-item.is)
+    (survey_more site before c.class-item.result c.loop-class.found.groups.items c.put_all.new.found.groups.items c.loop-class.invariant
+    c.in_ok-put_all.ensures.tells c.in_ok-put_all.ensures.told)
+
+pub returns : goal.returns
+returns c =
+    subst (λ l. IsSurveyOf c.args.site.now (Contains l) c.loop-class.found.groups.items)
+    (take_all c.loop-class.class-index c.args.classes.now c.loop-class-test.false) c.loop-class.invariant

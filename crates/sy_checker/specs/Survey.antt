@@ -1,0 +1,100 @@
+-- All that is found in a site, in groups: the classes of which the same kind is found at the same input.
+use Rattle.std.specs.Prelude.{◌≡◌, ℕ, true, ◌⊎◌, AllPairs, Contains, List, Some, map, slice_get}
+use Rattle.sy_wire.specs.declared.class.Class.{Class}
+use Rattle.sy_site.specs.declared.site.SiteAction.{SiteAction}
+use Rattle.sy_site.specs.declared.site.SiteInput.{SiteInput}
+use Rattle.sy_site.specs.Sites.{Site, archives, is_protected}
+use Rattle.sy_site.specs.machine.Findings.{HoldsAt, IsFinding, WayRow}
+use Rattle.sy_site.specs.machine.Reach.{LeadsTo, Reach}
+use Rattle.sy_site.specs.machine.Soundness.{AreRanks}
+use Rattle.sy_checker.specs.declared.finding.Kind.{Kind}
+use Rattle.sy_checker.specs.declared.finding.Kind.TheVariants as kind
+use Rattle.sy_checker.specs.declared.groups.Group.{Group}
+use Rattle.sy_checker.specs.Finding.{kind_of}
+
+-- ---- groups
+
+-- what is found, and where
+abbrev pub subject : Group → SiteInput × Kind
+subject group = (group.input, group.kind)
+
+-- The group of the kind at the input names the class.
+pub record Names (groups : List Group) (class : Class) (input : SiteInput) (kind : Kind) : Type 0 where
+  pub group : Group
+  pub there : Contains groups group
+  pub is_of : subject group ≡ (input, kind)
+  pub named : Contains group.classes.items class
+
+-- No two are of the same kind at the same input, and each names a class.
+pub record AreGroups (groups : List Group) : Type 0 where
+  pub apart : AllPairs (λ a b. a ≡ b → ⊥) (map subject groups)
+  pub filled : (group : Group) → Contains groups group → (class : Class) × Contains group.classes.items class
+
+-- ---- what is found
+
+-- The kind is found at the input for the class: some way shows it.
+abbrev pub IsThere : Site → Class → SiteInput → Kind → Type 0
+IsThere site class input k = (way : List WayRow) × IsFinding site class way input (kind_of k)
+
+abbrev pub HasRanks : Site → Class → Type 0
+HasRanks site class = (rank : ℕ → ℕ) × AreRanks site class rank
+
+-- Nothing of the class is left out: each of the kinds 1 to 7 that holds at an input that it reaches, each entry with each named archive that it
+-- doesn't lead to; and a loop, or there are ranks, so that there is none.
+pub record IsToldOf (site : Site) (class : Class) (groups : List Group) : Type 0 where
+  pub kinds : (input : SiteInput) → Reach site class input → (k : Kind) → HoldsAt site class input (kind_of k) → Names groups class input k
+  pub unmet : (entry : SiteInput) → Contains site.entries entry → (archive : SiteAction) → Contains (archives site class) archive
+      → (LeadsTo site class archive entry → ⊥) → Names groups class entry (kind.Unmet archive)
+  pub ranked : HasRanks site class ⊎ ((input : SiteInput) × Names groups class input kind.Loop)
+
+-- All that is found of these classes: what a group says is true of each class that it names, and nothing of one of these is left out.
+pub record IsSurveyOf (site : Site) (Asked : Class → Type 0) (groups : List Group) : Type 0 where
+  pub only : (class : Class) (input : SiteInput) (k : Kind) → Names groups class input k → IsThere site class input k
+  pub all : (class : Class) → Asked class → IsToldOf site class groups
+  pub are_groups : AreGroups groups
+
+-- all that is found in a site: of its protected classes
+abbrev pub IsSurvey : Site → List Group → Type 0
+IsSurvey site groups = IsSurveyOf site (λ class. is_protected site class ≡ true) groups
+
+-- ---- how it is gathered
+
+-- the group at this place is of this kind at this input
+pub record IsAt (groups : List Group) (place : ℕ) (input : SiteInput) (k : Kind) : Type 0 where
+  pub group : Group
+  pub stands : slice_get groups place ≡ Some group
+  pub is_of : subject group ≡ (input, k)
+
+-- the kind at the input is put to the class
+pub record Puts (class : Class) (input : SiteInput) (k : Kind) (old new : List Group) : Type 0 where
+  pub kept : (c : Class) (i : SiteInput) (j : Kind) → Names old c i j → Names new c i j
+  pub put : Names new class input k
+  pub only : (c : Class) (i : SiteInput) (j : Kind) → Names new c i j → Names old c i j ⊎ ((c ≡ class) × (i ≡ input) × (j ≡ k))
+  pub groups : AreGroups old → AreGroups new
+
+-- All of this is put to a class, and nothing that isn't true.
+pub record Tells (site : Site) (class : Class) (P : SiteInput → Kind → Type 0) (old new : List Group) : Type 0 where
+  pub kept : (c : Class) (i : SiteInput) (j : Kind) → Names old c i j → Names new c i j
+  pub all : (i : SiteInput) (j : Kind) → P i j → Names new class i j
+  pub only : (c : Class) (i : SiteInput) (j : Kind) → Names new c i j → Names old c i j ⊎ IsThere site c i j
+  pub groups : AreGroups old → AreGroups new
+
+-- one of a list
+abbrev pub Among : {A : Type 0} → List A → (A → Type 0) → Type 0
+Among {A = A} xs P = (x : A) × Contains xs x × P x
+
+-- this kind, where it holds at the input
+abbrev pub IsHeld : Site → Class → SiteInput → Kind → SiteInput → Kind → Type 0
+IsHeld site class input k i j = (i ≡ input) × (j ≡ k) × HoldsAt site class input (kind_of k)
+
+-- each of the kinds 1 to 7 that does
+abbrev pub AreHeld : Site → Class → SiteInput → SiteInput → Kind → Type 0
+AreHeld site class input i j = (i ≡ input) × HoldsAt site class input (kind_of j)
+
+-- that the entry doesn't lead to the archive
+abbrev pub IsUnmetBy : Site → Class → SiteInput → SiteAction → SiteInput → Kind → Type 0
+IsUnmetBy site class entry archive i j = (i ≡ entry) × (j ≡ kind.Unmet archive) × (LeadsTo site class archive entry → ⊥)
+
+-- nothing
+abbrev pub IsNothing : SiteInput → Kind → Type 0
+IsNothing input k = ⊥

@@ -1,0 +1,401 @@
+//! All that is found in a site: of each protected class each kind at each input that it reaches, a loop, and each archive
+//! that an entry doesn't lead to.
+
+ghost use Rattle.std.specs.Prelude.{◌≡◌, ◌↔◌, ◌⊎◌, [], Contains, Decides, IfOk, OnOk, true};
+ghost use Rattle.sy_site.specs.Sites as sites;
+ghost use Rattle.sy_site.specs.declared.site.SiteInput.{SiteInput as AnyInput};
+ghost use Rattle.sy_site.specs.declared.site.SiteAction.{SiteAction as AnyAction};
+ghost use Rattle.sy_site.specs.machine.Findings.{HoldsAt};
+ghost use Rattle.sy_site.specs.machine.Lawful.{IsInput};
+ghost use Rattle.sy_site.specs.machine.Reach.{LeadsTo, Reach};
+ghost use Rattle.sy_site.specs.machine.Soundness.{IsSound};
+ghost use Rattle.sy_wire.specs.declared.class.Class.{Class as AnyClass};
+ghost use Rattle.sy_checker.specs.Answer.{AreLeads};
+ghost use Rattle.sy_checker.specs.Finding.{kind_of};
+ghost use Rattle.sy_checker.specs.Fit.{AreProtected};
+ghost use Rattle.sy_checker.specs.Flows.{AreFlows};
+ghost use Rattle.sy_checker.specs.Loops.{HasNoRanks};
+ghost use Rattle.sy_checker.specs.Survey as spec;
+ghost use Rattle.sy_checker.specs.declared.finding.Kind.TheVariants as kinds;
+
+use crate::classes::protected_classes;
+use crate::finding::Kind;
+use crate::flows::{ClassFlows, flows_of};
+use crate::groups::{Gathered, Group, nothing_gathered, put};
+use crate::kinds::{Risk, is_mark_above_size, is_mark_off, is_not_full, may_discard, may_risk};
+use crate::laws::sites_without_a_finding_are_sound;
+use crate::lead::{lead, leads_of};
+use crate::loops::{Unranked, ranks_of};
+use crate::order::sorted;
+use crate::reach::{Found, reached};
+use crate::wanted::archives;
+use std::alloc::{AllocError, Global};
+use sy_site::machine::sound_sites_have_no_finding;
+use sy_site::{Site, SiteAction, SiteInput};
+use sy_wire::Class;
+
+// Whether a kind holds at an input, of the kinds 1 to 7.
+fn holds(site: &Site, class: Class, flows: &ClassFlows, input: SiteInput, kind: Kind) -> bool
+    requires there { IsInput site.now input }
+    requires flows { AreFlows site.now class flows.now }
+    ensures { Decides result (HoldsAt site.now class input (kind_of kind)) }
+{
+    match kind {
+        Kind::NotFull => is_not_full(site, class, input),
+        Kind::MarkOff => is_mark_off(site, class, input),
+        Kind::MarkAboveSize => is_mark_above_size(site, class, input),
+        Kind::Discards => may_discard(site, class, input),
+        Kind::InnerQueue => may_risk(site, class, flows, input, Risk::Post),
+        Kind::GivesUp => may_risk(site, class, flows, input, Risk::GivesUp),
+        Kind::NoTarget => may_risk(site, class, flows, input, Risk::NoTarget),
+        Kind::Loop | Kind::Unmet(_) => false,
+    }
+}
+
+// Puts a kind at a reached input, where it holds there.
+fn put_kind(
+    alloc: Global,
+    site: &Site,
+    class: Class,
+    flows: &ClassFlows,
+    input: SiteInput,
+    kind: Kind,
+    found: &mut Gathered,
+) -> Result<(), AllocError>
+    requires protected { sites.is_protected site.now class ≡ true }
+    requires flows { AreFlows site.now class flows.now }
+    requires there { IsInput site.now input }
+    requires reached { Reach site.now class input }
+    ensures { OnOk result (spec.Tells site.now class (spec.IsHeld site.now class input kind)
+        found.old.groups.items found.new.groups.items) }
+{
+    if !holds(site, class, flows, input, kind) {
+        return Ok(());
+    }
+    put(alloc, found, class, input, kind)?;
+    Ok(())
+}
+
+// Puts each of some kinds that holds at a reached input.
+fn put_kinds(
+    alloc: Global,
+    site: &Site,
+    class: Class,
+    flows: &ClassFlows,
+    input: SiteInput,
+    kinds: &[Kind],
+    found: &mut Gathered,
+) -> Result<(), AllocError>
+    requires protected { sites.is_protected site.now class ≡ true }
+    requires flows { AreFlows site.now class flows.now }
+    requires there { IsInput site.now input }
+    requires reached { Reach site.now class input }
+    ensures { OnOk result (spec.Tells site.now class
+        (λ i j. spec.Among kinds.now (λ kind. spec.IsHeld site.now class input kind i j))
+        found.old.groups.items found.new.groups.items) }
+{
+    for kind in kinds {
+        put_kind(alloc, site, class, flows, input, *kind, found)?;
+    }
+    Ok(())
+}
+
+// Puts each of the kinds 1 to 7 that holds at a reached input.
+fn put_input(
+    alloc: Global,
+    site: &Site,
+    class: Class,
+    flows: &ClassFlows,
+    input: SiteInput,
+    found: &mut Gathered,
+) -> Result<(), AllocError>
+    requires protected { sites.is_protected site.now class ≡ true }
+    requires flows { AreFlows site.now class flows.now }
+    requires there { IsInput site.now input }
+    requires reached { Reach site.now class input }
+    ensures { OnOk result (spec.Tells site.now class (spec.AreHeld site.now class input)
+        found.old.groups.items found.new.groups.items) }
+{
+    let kinds = [
+        Kind::NotFull,
+        Kind::MarkOff,
+        Kind::MarkAboveSize,
+        Kind::Discards,
+        Kind::InnerQueue,
+        Kind::GivesUp,
+        Kind::NoTarget,
+    ];
+    put_kinds(alloc, site, class, flows, input, &kinds, found)?;
+    Ok(())
+}
+
+// Puts them at each of some inputs.
+fn put_inputs(
+    alloc: Global,
+    site: &Site,
+    class: Class,
+    flows: &ClassFlows,
+    inputs: &[SiteInput],
+    found: &mut Gathered,
+) -> Result<(), AllocError>
+    requires protected { sites.is_protected site.now class ≡ true }
+    requires flows { AreFlows site.now class flows.now }
+    requires there { (x : AnyInput) → Contains inputs.now x → IsInput site.now x }
+    requires reached { (x : AnyInput) → Contains inputs.now x → Reach site.now class x }
+    ensures { OnOk result (spec.Tells site.now class
+        (λ i j. spec.Among inputs.now (λ input. spec.AreHeld site.now class input i j))
+        found.old.groups.items found.new.groups.items) }
+{
+    for input in inputs {
+        put_input(alloc, site, class, flows, *input, found)?;
+    }
+    Ok(())
+}
+
+// Puts a loop, where there are no ranks.
+fn put_looped(
+    alloc: Global,
+    site: &Site,
+    class: Class,
+    why: Unranked,
+    found: &mut Gathered,
+) -> Result<(), AllocError>
+    requires protected { sites.is_protected site.now class ≡ true }
+    requires none { HasNoRanks site.now class why }
+    ensures tells { OnOk result (spec.Tells site.now class spec.IsNothing
+        found.old.groups.items found.new.groups.items) }
+    ensures told { OnOk result
+        ((input : AnyInput) × spec.Names found.new.groups.items class input kinds.Loop) }
+{
+    let _ = site;
+    match why {
+        Unranked::NoMemory => Err(AllocError),
+        Unranked::Loop(_way, end) => put(alloc, found, class, end, Kind::Loop),
+    }
+}
+
+// Puts the loop that is met first, or there are ranks.
+fn put_loop(
+    alloc: Global,
+    site: &Site,
+    class: Class,
+    flows: &ClassFlows,
+    reached: &[SiteInput],
+    found: &mut Gathered,
+) -> Result<(), AllocError>
+    requires protected { sites.is_protected site.now class ≡ true }
+    requires flows { AreFlows site.now class flows.now }
+    requires reached { (x : AnyInput) → Contains reached.now x ↔ Reach site.now class x }
+    ensures tells { OnOk result (spec.Tells site.now class spec.IsNothing
+        found.old.groups.items found.new.groups.items) }
+    ensures ranked { OnOk result (spec.HasRanks site.now class
+        ⊎ ((input : AnyInput) × spec.Names found.new.groups.items class input kinds.Loop)) }
+{
+    match ranks_of(alloc, site, class, flows, reached) {
+        Ok(_) => Ok(()),
+        Err(why) => put_looped(alloc, site, class, why, found),
+    }
+}
+
+// Whether an entry leads to an archive that is named for the class.
+fn leads_to(
+    alloc: Global,
+    site: &Site,
+    class: Class,
+    flows: &ClassFlows,
+    leads: &[Found],
+    entry: SiteInput,
+    archive: SiteAction,
+) -> Result<bool, AllocError>
+    requires flows { AreFlows site.now class flows.now }
+    requires leads { AreLeads site.now class leads.now }
+    requires entry { Contains site.now.entries entry }
+    ensures { IfOk result (λ leads. Decides leads (LeadsTo site.now class archive entry)) }
+{
+    let path = lead(alloc, site, class, flows, leads, archive, entry)?;
+    Ok(path.is_some())
+}
+
+// Puts that an entry doesn't lead to an archive, where it doesn't.
+fn put_unmet(
+    alloc: Global,
+    site: &Site,
+    class: Class,
+    flows: &ClassFlows,
+    leads: &[Found],
+    entry: SiteInput,
+    archive: SiteAction,
+    found: &mut Gathered,
+) -> Result<(), AllocError>
+    requires protected { sites.is_protected site.now class ≡ true }
+    requires flows { AreFlows site.now class flows.now }
+    requires leads { AreLeads site.now class leads.now }
+    requires entry { Contains site.now.entries entry }
+    requires named { Contains (sites.archives site.now class) archive }
+    ensures { OnOk result (spec.Tells site.now class (spec.IsUnmetBy site.now class entry archive)
+        found.old.groups.items found.new.groups.items) }
+{
+    if leads_to(alloc, site, class, flows, leads, entry, archive)? {
+        return Ok(());
+    }
+    put(alloc, found, class, entry, Kind::Unmet(archive))?;
+    Ok(())
+}
+
+// The same for each of some archives.
+fn put_archives(
+    alloc: Global,
+    site: &Site,
+    class: Class,
+    flows: &ClassFlows,
+    leads: &[Found],
+    entry: SiteInput,
+    archives: &[SiteAction],
+    found: &mut Gathered,
+) -> Result<(), AllocError>
+    requires protected { sites.is_protected site.now class ≡ true }
+    requires flows { AreFlows site.now class flows.now }
+    requires leads { AreLeads site.now class leads.now }
+    requires entry { Contains site.now.entries entry }
+    requires named { (a : AnyAction) → Contains archives.now a → Contains (sites.archives site.now class) a }
+    ensures { OnOk result (spec.Tells site.now class
+        (λ i j. spec.Among archives.now (λ archive. spec.IsUnmetBy site.now class entry archive i j))
+        found.old.groups.items found.new.groups.items) }
+{
+    for archive in archives {
+        put_unmet(alloc, site, class, flows, leads, entry, *archive, found)?;
+    }
+    Ok(())
+}
+
+// The same for each of some entries.
+fn put_entries(
+    alloc: Global,
+    site: &Site,
+    class: Class,
+    flows: &ClassFlows,
+    leads: &[Found],
+    entries: &[SiteInput],
+    archives: &[SiteAction],
+    found: &mut Gathered,
+) -> Result<(), AllocError>
+    requires protected { sites.is_protected site.now class ≡ true }
+    requires flows { AreFlows site.now class flows.now }
+    requires leads { AreLeads site.now class leads.now }
+    requires entries { (x : AnyInput) → Contains entries.now x → Contains site.now.entries x }
+    requires named { (a : AnyAction) → Contains archives.now a → Contains (sites.archives site.now class) a }
+    ensures { OnOk result (spec.Tells site.now class (λ i j. spec.Among entries.now (λ entry. spec.Among archives.now
+        (λ archive. spec.IsUnmetBy site.now class entry archive i j)))
+        found.old.groups.items found.new.groups.items) }
+{
+    for entry in entries {
+        put_archives(alloc, site, class, flows, leads, *entry, archives, found)?;
+    }
+    Ok(())
+}
+
+// Puts each archive that is named for the class at each entry that doesn't lead to it.
+fn put_all_unmet(
+    alloc: Global,
+    site: &Site,
+    class: Class,
+    flows: &ClassFlows,
+    found: &mut Gathered,
+) -> Result<(), AllocError>
+    requires protected { sites.is_protected site.now class ≡ true }
+    requires flows { AreFlows site.now class flows.now }
+    ensures { OnOk result (spec.Tells site.now class (λ i j. spec.Among site.now.entries (λ entry.
+        spec.Among (sites.archives site.now class) (λ archive. spec.IsUnmetBy site.now class entry archive i j)))
+        found.old.groups.items found.new.groups.items) }
+{
+    let leads = leads_of(alloc, site, class, flows)?;
+    let named = archives(alloc, site, class)?;
+    put_entries(
+        alloc,
+        site,
+        class,
+        flows,
+        leads.as_slice(),
+        site.entries(),
+        named.as_slice(),
+        found,
+    )?;
+    Ok(())
+}
+
+// Puts each of the kinds 1 to 7 at each input that the class reaches, and a loop.
+fn put_reached(
+    alloc: Global,
+    site: &Site,
+    class: Class,
+    flows: &ClassFlows,
+    found: &mut Gathered,
+) -> Result<(), AllocError>
+    requires protected { sites.is_protected site.now class ≡ true }
+    requires flows { AreFlows site.now class flows.now }
+    ensures tells { OnOk result (spec.Tells site.now class
+        (λ i j. Reach site.now class i × HoldsAt site.now class i (kind_of j))
+        found.old.groups.items found.new.groups.items) }
+    ensures ranked { OnOk result (spec.HasRanks site.now class
+        ⊎ ((input : AnyInput) × spec.Names found.new.groups.items class input kinds.Loop)) }
+{
+    site.is_lawful();
+    let reached = reached(alloc, site, class, flows)?;
+    let inputs = sorted(alloc, site, reached.inputs.as_slice())?;
+    put_inputs(alloc, site, class, flows, inputs.as_slice(), found)?;
+    put_loop(alloc, site, class, flows, reached.inputs.as_slice(), found)?;
+    Ok(())
+}
+
+// Puts all that is found of a class.
+fn put_all(alloc: Global, site: &Site, class: Class, found: &mut Gathered) -> Result<(), AllocError>
+    requires protected { sites.is_protected site.now class ≡ true }
+    ensures tells { OnOk result (spec.Tells site.now class spec.IsNothing
+        found.old.groups.items found.new.groups.items) }
+    ensures told { OnOk result (spec.IsToldOf site.now class found.new.groups.items) }
+{
+    let flows = flows_of(alloc, site, class)?;
+    put_reached(alloc, site, class, &flows, found)?;
+    put_all_unmet(alloc, site, class, &flows, found)?;
+    Ok(())
+}
+
+// All that is found of some classes.
+fn survey_of(alloc: Global, site: &Site, classes: &[Class]) -> Result<Vec<Group>, AllocError>
+    requires protected { (class : AnyClass) → Contains classes.now class
+        → sites.is_protected site.now class ≡ true }
+    ensures { IfOk result (λ groups. spec.IsSurveyOf site.now (Contains classes.now) groups.items) }
+{
+    let mut found = nothing_gathered(alloc);
+    for class in classes {
+        put_all(alloc, site, *class, &mut found)?;
+    }
+    Ok(found.groups)
+}
+
+// All that is found of the protected classes.
+fn survey_all(alloc: Global, site: &Site) -> Result<Vec<Group>, AllocError>
+    ensures { IfOk result (λ groups. spec.IsSurvey site.now groups.items) }
+{
+    let classes = protected_classes(alloc, site)?;
+    let groups = survey_of(alloc, site, classes.as_slice())?;
+    Ok(groups)
+}
+
+/// All that is found in a site, in groups: of each protected class each of the kinds 1 to 7 that holds at an input that
+/// it reaches, each entry with each named archive that it doesn't lead to, and a loop where there are no ranks. Nothing
+/// is found exactly in a sound site. Want of memory is the only refusal.
+///
+/// The groups stand in the order in which they are met: classes by rising number, of each its inputs in the order of the
+/// site with the kinds by number, then the loop, then entries and archives in the order of the file.
+pub fn survey(alloc: Global, site: &Site) -> Result<Vec<Group>, AllocError>
+    ensures survey { IfOk result (λ groups. spec.IsSurvey site.now groups.items) }
+    ensures sound { IfOk result (λ groups. groups.items ≡ [] → IsSound site.now) }
+    ensures found { IfOk result (λ groups. IsSound site.now → groups.items ≡ []) }
+{
+    site.is_lawful();
+    sites_without_a_finding_are_sound();
+    sound_sites_have_no_finding();
+    let groups = survey_all(alloc, site)?;
+    Ok(groups)
+}
