@@ -1,8 +1,8 @@
 -- Classes whose flows are the same at each input have the same course.
-use Rattle.std.proofs.Common.{◌≡◌, ℕ, ◌<◌, List, [], ◌∷◌, length, Option, Some, None, refl, sym, ap, subst, ◌∙◌, arith}
+use Rattle.std.proofs.Common.{◌≡◌, ℕ, ◌<◌, List, [], ◌∷◌, ◌++◌, length, get_or, Option, Some, None, refl, sym, ap, subst, ◌∙◌, arith, inl, inr}
 use Rattle.std.specs.Prelude.{Contains, slice_get, unwrap_or}
 use Rattle.std.proofs.lemmas.List.{ext_get_or}
-use Rattle.std.proofs.lemmas.Option.{slice_get_within, unwrap_or-slice_get}
+use Rattle.std.proofs.lemmas.Option.{slice_get_read, slice_get_within, unwrap_or-slice_get}
 use Rattle.sy_wire.specs.declared.class.Class.{Class}
 use Rattle.sy_classes.specs.declared.Flows.{Flows}
 use Rattle.sy_site.specs.declared.site.SiteInput.{SiteInput}
@@ -16,14 +16,18 @@ use Rattle.sy_checker.specs.declared.executed.Executed.TheVariants as executed
 use Rattle.sy_checker.specs.declared.flows.ClassFlows.{ClassFlows}
 use Rattle.sy_checker.specs.declared.flows.RelayFlows.{RelayFlows}
 use Rattle.sy_checker.specs.declared.reach.Origin.{Origin}
-use Rattle.sy_checker.specs.Course.{AreAlike, AreSame, IsCourse}
+use Rattle.sy_checker.specs.Course.{AreAlike, AreCourses, AreSame, IsCourse, IsCourseAt, IsSameAt}
 use Rattle.sy_checker.specs.Flows.{AreEach, AreFlows, IsInputFlow}
 use Rattle.sy_checker.specs.Loops.{rank_at}
 use Rattle.sy_checker.specs.Search.{ExecutedAt, IsOrigin, IsSpread}
 use Rattle.sy_checker.proofs.Gone.{stands_in}
+use Rattle.sy_checker.proofs.Rooted.{last_place, stood}
 use Rattle.sy_checker.proofs.There.{place_there, reach_there, relay_there}
 
 -- ---- lists
+
+pub one_value : {A : Type 0} {x y : A} → Some x ≡ Some y → x ≡ y
+one_value e = cc
 
 there : {A : Type 0} (xs : List A) (k : ℕ) → k < length xs → (x : A) × (slice_get xs k ≡ Some x)
 there [] k low = absurd (omega (arith, low))
@@ -161,3 +165,40 @@ course_as site law one other course flows is are same =
             spread_to site one other both executed.Must (entry ∷ []) found.inputs.items found.origins.items (is.leads.each place found stands entry at);
       };
     }
+
+-- ---- the courses so far
+
+pub no_courses : (site : Site) → AreCourses site []
+no_courses site place course is = let low = slice_get_within [] place course is in absurd (omega (arith, low))
+
+pub more_courses : (site : Site) (class : Class) (courses : List Course) (course : Course) → AreCourses site courses → IsCourse site class course
+    → AreCourses site (courses ++ course ∷ [])
+more_courses site class courses course are is place x stands = elim (stood courses course place x stands) [
+  | inl before ↦ are place x before
+  | inr last ↦ (class, subst (IsCourse site class) (sym last.1) is)
+]
+
+pub last_course : (site : Site) (class : Class) (courses : List Course) (course : Course) → IsCourse site class course
+    → IsCourseAt site class (courses ++ course ∷ []) (length courses)
+last_course site class courses course is = record { course = course; stands = last_place courses course; is = is }
+
+pub same_course_at : (site : Site) → IsLawful site → (class : Class) (courses : List Course) (flows : ClassFlows) (place : ℕ) → AreCourses site courses
+    → AreFlows site class flows → IsSameAt courses flows place → IsCourseAt site class courses place
+same_course_at site law class courses flows place are own at =
+    let before = are place at.course at.stands in
+    record {
+      course = at.course;
+      stands = at.stands;
+      is = course_as site law before.0 class at.course flows before.1 own at.same;
+    }
+
+-- the one that is read there
+pub course_read : (site : Site) (class : Class) (courses : List Course) (place : ℕ) (x : Course) → IsCourseAt site class courses place
+    → x ≡ get_or courses place x → IsCourse site class x
+course_read site class courses place x at is =
+    let low = slice_get_within courses place at.course at.stands in
+    let here = slice_get_read courses (length courses) place x refl low is in
+    subst (IsCourse site class) (one_value (sym at.stands ∙ here)) at.is
+
+pub course_within : (site : Site) (class : Class) (courses : List Course) (place : ℕ) → IsCourseAt site class courses place → place < length courses
+course_within site class courses place at = slice_get_within courses place at.course at.stands

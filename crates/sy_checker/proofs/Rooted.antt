@@ -24,7 +24,7 @@ module _ {A : Type 0} where
   same_place (x ∷ old) more ℕ.zero low = refl
   same_place (x ∷ old) more (ℕ.suc j) low = same_place old more j (omega (arith, low))
 
-  last_place : (old : List A) (x : A) → slice_get (old ++ x ∷ []) (length old) ≡ Some x
+  pub last_place : (old : List A) (x : A) → slice_get (old ++ x ∷ []) (length old) ≡ Some x
   last_place [] x = refl
   last_place (y ∷ old) x = last_place old x
 

@@ -1,5 +1,5 @@
 -- What is put to classes, one thing after another, and all that is found.
-use Rattle.std.proofs.Common.{◌≡◌, ℕ, ◌<◌, ◌≤◌, ◌+◌, List, [], ◌∷◌, ◌++◌, length, get_or, take, map, refl, sym, ap, subst, ◌∙◌, arith, inl, inr}
+use Rattle.std.proofs.Common.{◌≡◌, ℕ, ◌<◌, ◌≤◌, ◌+◌, List, [], ◌∷◌, ◌++◌, length, get_or, take, map, refl, sym, ap, subst, arith, inl, inr}
 use Rattle.std.specs.Prelude.{Contains, Decides, ◌⊎◌, Option, Some, None, is_some, true}
 use Rattle.std.proofs.lemmas.Bool.{false≢true}
 use Rattle.std.proofs.lemmas.List.{take_all, take_more}
@@ -19,7 +19,7 @@ use Rattle.sy_checker.specs.declared.groups.Group.{Group}
 use Rattle.sy_checker.specs.Answer.{IsLead}
 use Rattle.sy_checker.specs.Finding.{kind_of}
 use Rattle.sy_checker.specs.Fit.{IsPath}
-use Rattle.sy_checker.specs.Survey.{Among, AreGroups, AreHeld, HasRanks, IsHeld, IsNothing, IsSurvey, IsSurveyOf, IsThere, IsToldOf, IsUnmetBy, Names, Puts, Tells}
+use Rattle.sy_checker.specs.Survey.{Among, AreHeld, HasRanks, IsHeld, IsNothing, IsSurvey, IsSurveyOf, IsThere, IsToldOf, IsUnmetBy, Names, Puts, Tells}
 use Rattle.sy_checker.proofs.Complete.{without_findings}
 use Rattle.sy_checker.proofs.Grouping.{none_there}
 

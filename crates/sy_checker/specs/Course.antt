@@ -1,6 +1,6 @@
 -- The course of a class through a site: what it executes, which inputs it reaches, how the relays rank by that, and where
 -- its entries lead. Classes whose flows are the same have the same one.
-use Rattle.std.specs.Prelude.{◌≡◌, ℕ, ◌↔◌, Contains, Option, Some, None, length, slice_get}
+use Rattle.std.specs.Prelude.{◌≡◌, ℕ, ◌↔◌, Contains, List, Some, length, slice_get}
 use Rattle.sy_wire.specs.declared.class.Class.{Class}
 use Rattle.sy_site.specs.declared.site.SiteInput.{SiteInput}
 use Rattle.sy_site.specs.Sites.{Site}
@@ -37,10 +37,25 @@ pub record IsCourse (site : Site) (class : Class) (course : Course) : Type 0 whe
   pub many : length course.ranks.items ≡ length site.relays
   pub leads : AreLeads site class course.leads.items
 
--- that of some class, where there is one
-abbrev pub IsBefore : Site → Option Course → Type 0
-IsBefore site None = Unit {0}
-IsBefore site (Some course) = (other : Class) × IsCourse site other course
+-- each is that of some class
+abbrev pub AreCourses : Site → List Course → Type 0
+AreCourses site courses = (place : ℕ) (course : Course) → slice_get courses place ≡ Some course → (other : Class) × IsCourse site other course
+
+-- at this place stands one with these flows
+pub record IsSameAt (courses : List Course) (flows : ClassFlows) (place : ℕ) : Type 0 where
+  pub course : Course
+  pub stands : slice_get courses place ≡ Some course
+  pub same : AreSame course.flows flows
+
+-- none has them
+abbrev pub IsNew : List Course → ClassFlows → Type 0
+IsNew courses flows = (place : ℕ) (course : Course) → slice_get courses place ≡ Some course → AreSame course.flows flows → ⊥
+
+-- at this place stands that of the class
+pub record IsCourseAt (site : Site) (class : Class) (courses : List Course) (place : ℕ) : Type 0 where
+  pub course : Course
+  pub stands : slice_get courses place ≡ Some course
+  pub is : IsCourse site class course
 
 -- none of the kinds 1 to 7 is found of the class
 abbrev pub AreClean : Site → Class → Type 0

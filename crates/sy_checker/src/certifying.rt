@@ -10,7 +10,7 @@ ghost use Rattle.sy_checker.specs.Certifying as spec;
 ghost use Rattle.sy_checker.specs.Finding.{IsTrueRefusal};
 ghost use Rattle.sy_checker.specs.declared.finding.Refusal.TheVariants as refusal;
 ghost use Rattle.sy_checker.specs.Fit.{AreFit, IsFit};
-ghost use Rattle.sy_checker.specs.Course.{AreClean, IsBefore, IsCourse};
+ghost use Rattle.sy_checker.specs.Course.{AreClean, AreCourses, IsCourse};
 
 use crate::classes::protected_classes;
 use crate::course::{Course, course_for};
@@ -58,24 +58,24 @@ fn put_all(rows: &mut Vec<Row>, mut more: Vec<Row>) -> Result<(), AllocError>
     rows.append(&mut more)
 }
 
-// Puts the rows of a class behind those of the classes before, the last of which had this course.
+// Puts the rows of a class behind those of the classes before, whose courses these are.
 fn put_class(
     alloc: Global,
     site: &Site,
     class: Class,
-    before: Option<Course>,
+    courses: &mut Vec<Course>,
     rows: &mut Vec<Row>,
-) -> Result<Course, Refusal>
+) -> Result<(), Refusal>
     requires protected { sites.is_protected site.now class ≡ true }
-    requires before { IsBefore site.now before }
-    ensures course { IfOk result (λ course. IsCourse site.now class course) }
+    requires courses { AreCourses site.now courses.old.items }
+    ensures courses { OnOk result (AreCourses site.now courses.new.items) }
     ensures rows { OnOk result (spec.AddsRowsOf site.now class rows.old.items rows.new.items) }
     ensures err { IfErr result (λ why. IsTrueRefusal site.now why) }
 {
-    let course = course_for(alloc, site, class, before)?;
-    let more = rows_of_class(alloc, site, class, &course)?;
+    let place = course_for(alloc, site, class, courses)?;
+    let more = rows_of_class(alloc, site, class, &courses[place])?;
     put_all(rows, more)?;
-    Ok(course)
+    Ok(())
 }
 
 // The rows of these classes, or what is found of the first of which something is.
@@ -87,10 +87,9 @@ fn rows_of_classes(alloc: Global, site: &Site, classes: &[Class]) -> Result<Vec<
 {
     parts_join();
     let mut rows = Vec::new(alloc);
-    let mut before = None;
+    let mut courses = Vec::new(alloc);
     for class in classes {
-        let course = put_class(alloc, site, *class, before, &mut rows)?;
-        before = Some(course);
+        put_class(alloc, site, *class, &mut courses, &mut rows)?;
     }
     Ok(rows)
 }

@@ -13,7 +13,7 @@ ghost use Rattle.sy_checker.specs.Acceptance.{AreReached, IsOf};
 ghost use Rattle.sy_checker.specs.Certifying.{AreRowsOf};
 ghost use Rattle.sy_checker.specs.Checking as spec;
 ghost use Rattle.sy_checker.specs.Finding.{IsTrueRefusal};
-ghost use Rattle.sy_checker.specs.Course.{IsBefore, IsCourse};
+ghost use Rattle.sy_checker.specs.Course.{AreCourses, IsCourse};
 ghost use Rattle.sy_checker.specs.declared.finding.Refusal.TheVariants as refusal;
 
 use crate::accepted::Accepted;
@@ -61,28 +61,29 @@ fn judge_made(
     }
 }
 
-// Makes the rows of a class and judges them, as those of a certificate are. Its course is worked out once, or is that of
-// the class before, and no other class's rows are kept. Each input that it reaches is put with it behind the pairs of the
-// classes before.
+// Makes the rows of a class and judges them, as those of a certificate are. Its course is worked out once for all
+// classes with the same flows, and no other class's rows are kept. Each input that it reaches is put with it behind the
+// pairs of the classes before.
 fn check_class(
     alloc: Global,
     site: &Site,
     class: Class,
-    before: Option<Course>,
+    courses: &mut Vec<Course>,
     pairs: &mut Vec<(SiteInput, Class)>,
-) -> Result<Course, Refusal>
+) -> Result<(), Refusal>
     requires protected { sites.is_protected site.now class ≡ true }
-    requires before { IsBefore site.now before }
-    ensures course { IfOk result (λ course. IsCourse site.now class course) }
+    requires courses { AreCourses site.now courses.old.items }
+    ensures courses { OnOk result (AreCourses site.now courses.new.items) }
     ensures rows { OnOk result (spec.HasRows site.now class) }
     ensures pairs { OnOk result ((before : List AnyClass) → AreReached site.now before pairs.old.items
         → AreReached site.now (before ++ class ∷ []) pairs.new.items) }
     ensures err { IfErr result (λ why. IsTrueRefusal site.now why) }
 {
-    let course = course_for(alloc, site, class, before)?;
-    let rows = rows_of_class(alloc, site, class, &course)?;
-    judge_made(alloc, site, class, &course, rows.as_slice(), pairs)?;
-    Ok(course)
+    let place = course_for(alloc, site, class, courses)?;
+    let course = &courses[place];
+    let rows = rows_of_class(alloc, site, class, course)?;
+    judge_made(alloc, site, class, course, rows.as_slice(), pairs)?;
+    Ok(())
 }
 
 // Each input that one of these classes reaches with that class, where each class has its rows; or what is found of the
@@ -100,10 +101,9 @@ fn check_classes(
 {
     parts_join();
     let mut pairs = Vec::new(alloc);
-    let mut before = None;
+    let mut courses = Vec::new(alloc);
     for class in classes {
-        let course = check_class(alloc, site, *class, before, &mut pairs)?;
-        before = Some(course);
+        check_class(alloc, site, *class, &mut courses, &mut pairs)?;
     }
     Ok(pairs)
 }

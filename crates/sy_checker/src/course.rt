@@ -1,6 +1,6 @@
 //! The course of a class through a site, which classes share whose flows are the same at each input.
 
-ghost use Rattle.std.specs.Prelude.{◌≡◌, ◌↔◌, Contains, Decides, IfErr, IfOk, OnOk, length, true};
+ghost use Rattle.std.specs.Prelude.{◌≡◌, ◌↔◌, ◌++◌, ◌∷◌, [], Contains, Decides, IfErr, IfNone, IfOk, IfSome, OnOk, length, true};
 ghost use Rattle.sy_site.specs.Sites as sites;
 ghost use Rattle.sy_site.specs.declared.site.SiteInput.{SiteInput as AnyInput};
 ghost use Rattle.sy_site.specs.machine.Reach.{Reach};
@@ -132,42 +132,88 @@ fn new_course(
     })
 }
 
-// A course that is the class's too, or what is found of the class at the inputs that it reaches.
-fn same_course(alloc: Global, site: &Site, class: Class, course: Course) -> Result<Course, Refusal>
+// The first of these courses that has these flows, by its place.
+fn same_at(courses: &[Course], flows: &ClassFlows) -> Option<usize>
+    ensures some { IfSome result (λ place. spec.IsSameAt courses.now flows.now place) }
+    ensures none { IfNone result (spec.IsNew courses.now flows.now) }
+{
+    for place in 0..courses.len() {
+        if same_flows(&courses[place].flows, flows) {
+            return Some(place);
+        }
+    }
+    None
+}
+
+// The place of a course that is the class's too; or what is found of the class at the inputs that it reaches.
+fn same_course(
+    alloc: Global,
+    site: &Site,
+    class: Class,
+    courses: &[Course],
+    place: usize,
+) -> Result<usize, Refusal>
     requires protected { sites.is_protected site.now class ≡ true }
-    requires course { spec.IsCourse site.now class course }
-    ensures ok { IfOk result (λ course. spec.IsCourse site.now class course) }
+    requires course { spec.IsCourseAt site.now class courses.now place }
+    ensures at { IfOk result (λ at. spec.IsCourseAt site.now class courses.now at) }
     ensures clean { OnOk result (spec.AreClean site.now class) }
     ensures err { IfErr result (λ why. IsTrueRefusal site.now why) }
 {
+    let course = &courses[place];
     searched(alloc, site, class, &course.flows, &course.found)?;
-    Ok(course)
+    Ok(place)
 }
 
-/// The course of a class whose reached inputs are clean; or what is found of it, first at these inputs, then a loop.
-/// The course of a class before is taken over where the flows of both are the same.
+// Puts a course behind the others, and answers its place.
+fn put_course(courses: &mut Vec<Course>, course: Course) -> Result<usize, AllocError>
+    ensures place { IfOk result (λ place. place ≡ length courses.old.items) }
+    ensures courses { OnOk result (courses.new.items ≡ courses.old.items ++ course ∷ []) }
+{
+    let place = courses.len();
+    courses.push(course)?;
+    Ok(place)
+}
+
+// Puts the course of a class with these flows behind the others; or what is found of it.
+fn more_course(
+    alloc: Global,
+    site: &Site,
+    class: Class,
+    flows: ClassFlows,
+    courses: &mut Vec<Course>,
+) -> Result<usize, Refusal>
+    requires protected { sites.is_protected site.now class ≡ true }
+    requires flows { AreFlows site.now class flows }
+    requires courses { spec.AreCourses site.now courses.old.items }
+    ensures courses { OnOk result (spec.AreCourses site.now courses.new.items) }
+    ensures at { IfOk result (λ place. spec.IsCourseAt site.now class courses.new.items place) }
+    ensures clean { OnOk result (spec.AreClean site.now class) }
+    ensures err { IfErr result (λ why. IsTrueRefusal site.now why) }
+{
+    let course = new_course(alloc, site, class, flows)?;
+    let place = put_course(courses, course)?;
+    Ok(place)
+}
+
+/// The place of the course of a class whose reached inputs are clean, among those of the classes before, behind which it
+/// is put where none has the same flows; or what is found of it, first at these inputs, then a loop.
 pub fn course_for(
     alloc: Global,
     site: &Site,
     class: Class,
-    before: Option<Course>,
-) -> Result<Course, Refusal>
+    courses: &mut Vec<Course>,
+) -> Result<usize, Refusal>
     requires protected { sites.is_protected site.now class ≡ true }
-    requires before { spec.IsBefore site.now before }
-    ensures ok { IfOk result (λ course. spec.IsCourse site.now class course) }
+    requires courses { spec.AreCourses site.now courses.old.items }
+    ensures courses { OnOk result (spec.AreCourses site.now courses.new.items) }
+    ensures at { IfOk result (λ place. spec.IsCourseAt site.now class courses.new.items place) }
     ensures clean { OnOk result (spec.AreClean site.now class) }
     ensures err { IfErr result (λ why. IsTrueRefusal site.now why) }
 {
     site.is_lawful();
     let flows = flows_of(alloc, site, class)?;
-    match before {
-        Some(course) => {
-            if same_flows(&course.flows, &flows) {
-                same_course(alloc, site, class, course)
-            } else {
-                new_course(alloc, site, class, flows)
-            }
-        }
-        None => new_course(alloc, site, class, flows),
+    match same_at(courses.as_slice(), &flows) {
+        Some(place) => same_course(alloc, site, class, courses.as_slice(), place),
+        None => more_course(alloc, site, class, flows, courses),
     }
 }

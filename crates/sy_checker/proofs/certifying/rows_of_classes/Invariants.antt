@@ -1,7 +1,7 @@
 use Rattle.std.proofs.Common.{take}
-use Rattle.sy_checker.specs.Course.{IsBefore}
+use Rattle.sy_checker.specs.Course.{AreCourses}
 use Rattle.sy_checker.specs.Fit.{AreFit}
 use Rattle.sy_checker.proofs.certifying.rows_of_classes.Given as goal
 
 abbrev pub invariant-loop-class : goal.invariant-loop-class
-invariant-loop-class l = AreFit l.site (take l.class-index l.classes) l.rows.items × IsBefore l.site l.before
+invariant-loop-class l = AreFit l.site (take l.class-index l.classes) l.rows.items × AreCourses l.site l.courses.items

@@ -4,19 +4,25 @@ use Rattle.std.proofs.lemmas.List.{take_all}
 use Rattle.std.proofs.lemmas.List.Elements.{Contains-get_or}
 use Rattle.sy_checker.specs.Acceptance.{AreReached}
 use Rattle.sy_checker.specs.Checking.{HasFit}
+use Rattle.sy_checker.specs.Course.{AreCourses}
+use Rattle.sy_checker.proofs.Alike.{no_courses}
 use Rattle.sy_checker.proofs.Guarded.{reached_first, take_next}
 use Rattle.sy_checker.proofs.MadeRight.{fit_more}
 use Rattle.sy_checker.proofs.checking.check_classes.Goals as goal
 
 pub loop-class-init : goal.loop-class-init
-loop-class-init c = (([], refl), subst (AreReached c.args.site.now []) (sym c.new-pairs.ensures.items) (reached_first c.args.site.now), tt)
+loop-class-init c = (
+  ([], refl),
+  subst (AreReached c.args.site.now []) (sym c.new-pairs.ensures.items) (reached_first c.args.site.now),
+  subst (AreCourses c.args.site.now) (sym c.new-courses.ensures.items) (no_courses c.args.site.now),
+)
 
 pub check_class-requires : goal.check_class-requires
 check_class-requires c = record {
   protected = c.requires.protected c.class-item.result
       (subst (Contains c.args.classes.now) (sym c.class-item.is)
       (Contains-get_or c.args.classes.now c.loop-class.class-index c.class-item.result c.loop-class-test.true));
-  before = c.loop-class.invariant.2;
+  courses = c.loop-class.invariant.2;
 }
 
 pub loop-class-preserved : goal.loop-class-preserved
@@ -24,9 +30,9 @@ loop-class-preserved c =
     let site = c.args.site.now in
     let before = take c.loop-class.class-index c.args.classes.now in
     let next = take_next c.args.classes.now c.loop-class.class-index c.class-item.result c.loop-class-test.true c.class-item.is in (
-      subst (HasFit site) next (fit_more c.parts_join.ensures site before c.class-item.result c.loop-class.invariant.0 c.in_ok-course.ensures.rows),
-      subst (λ l. AreReached site l c.check_class.new.pairs.items) next (c.in_ok-course.ensures.pairs before c.loop-class.invariant.1),
-      (c.class-item.result, c.in_ok-course.ensures.course),
+      subst (HasFit site) next (fit_more c.parts_join.ensures site before c.class-item.result c.loop-class.invariant.0 c.in_ok-check_class.ensures.rows),
+      subst (λ l. AreReached site l c.check_class.new.pairs.items) next (c.in_ok-check_class.ensures.pairs before c.loop-class.invariant.1),
+      c.in_ok-check_class.ensures.courses,
     )
 
 pub returns-clause-fit : goal.returns-clause-fit

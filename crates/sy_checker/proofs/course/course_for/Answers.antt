@@ -1,10 +1,16 @@
-use Rattle.std.proofs.Common.{subst}
-use Rattle.sy_checker.specs.Course.{IsBefore}
-use Rattle.sy_checker.proofs.Alike.{course_as}
+use Rattle.std.proofs.Common.{subst, sym}
+use Rattle.std.specs.Prelude.{IfOk}
+use Rattle.sy_checker.specs.Course.{IsCourseAt, IsSameAt}
+use Rattle.sy_checker.proofs.Alike.{same_course_at}
 use Rattle.sy_checker.proofs.course.course_for.Goals as goal
 
 pub same_course-requires-clause-course : goal.same_course-requires-clause-course
 same_course-requires-clause-course c =
-    let before = subst (IsBefore c.args.site.now) c.in-Some.is c.requires.before in
-    course_as c.args.site.now c.is_lawful.ensures before.0 c.args.class c.in-Some.course c.in_ok-flows.flows before.1 c.in_ok-flows.ensures
-    (c.same_flows.ensures.0 c.if-same_flows.true)
+    subst (λ l. IsCourseAt c.args.site.now c.args.class l c.in-Some.place) (sym c.as_slice-in-Some.ensures.value)
+    (same_course_at c.args.site.now c.is_lawful.ensures c.args.class c.args.courses.now.items c.in_ok-flows.flows c.in-Some.place c.requires.courses
+    c.in_ok-flows.ensures (subst (λ l. IsSameAt l c.in_ok-flows.flows c.in-Some.place) c.as_slice.ensures.value c.in-Some.ensures.some))
+
+pub returns-in-Some-clause-at : goal.returns-in-Some-clause-at
+returns-in-Some-clause-at c =
+    subst (λ l. IfOk c.same_course.result (λ at. IsCourseAt c.args.site.now c.args.class l at)) c.as_slice-in-Some.ensures.value
+    c.same_course.ensures.at

@@ -1,5 +1,5 @@
-use Rattle.std.proofs.Common.{◌∷◌, List, [], ap, refl, subst, sym, ◌∙◌}
-use Rattle.sy_site.specs.machine.Findings.{IsLoop, Kind}
+use Rattle.std.proofs.Common.{subst}
+use Rattle.sy_site.specs.machine.Findings.{IsLoop}
 use Rattle.sy_checker.specs.declared.finding.Kind.TheVariants as kind
 use Rattle.sy_checker.specs.Loops.{HasNoRanks, way_of}
 use Rattle.sy_checker.specs.Survey.{IsNothing, Puts, Tells}
