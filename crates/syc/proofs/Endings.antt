@@ -1,5 +1,5 @@
 -- How a command over a site answers where it has nothing to print, and the words that call for one.
-use Rattle.std.proofs.Common.{◌≡◌, ℕ, Bool, List, [], ◌∷◌, inl, inr, map, sym, subst, ap, ◌∙◌}
+use Rattle.std.proofs.Common.{◌≡◌, ℕ, Bool, List, [], ◌∷◌, inl, inr, map, length, refl, sym, subst, ap, ◌∙◌, arith}
 use Rattle.std.specs.Prelude.{IfErr, IfOk, Option, Some, Result, Ok, Err, codes}
 use Rattle.sy_site.specs.Sites.{Site}
 use Rattle.syc.specs.HaltTexts.{halt_report}
@@ -7,8 +7,10 @@ use Rattle.syc.specs.Outcomes.{AnswersOf, Prints, Streams, Tells, streams}
 use Rattle.syc.specs.Reports.{Reported, SinkState}
 use Rattle.syc.specs.SiteFiles.{HasNoAnswer, IsSiteOf}
 use Rattle.syc.specs.Verdicts.{SaysOfFiles, VerifyIs}
-use Rattle.syc.specs.Words.{AreFlagged, AreFlaggedOf, AreOneFile, AreOneFileOf, ArePass, ArePassAlone, AreReplay, AreReplayOf, AreVerify, AreVerifyOf}
+use Rattle.syc.specs.Words.{AreFlagged, AreFlaggedOf, AreOneFile, AreOneFileOf, ArePass, ArePassAlone, AreReplay, AreReplayOf, AreVerify, AreVerifyOf, flag}
 use Rattle.syc.specs.declared.answer.Answer.{Answer}
+use Rattle.syc.specs.declared.command.Detail.{Detail}
+use Rattle.syc.specs.declared.command.Detail.TheVariants as details
 use Rattle.syc.specs.declared.halt.Halt.{Halt}
 use Rattle.syc.specs.declared.halt.Halt.TheVariants as halt
 use Rattle.syc.specs.internal.Halts.{IsNoSite, status_at}
@@ -96,14 +98,37 @@ pub one_file : {X : Type 0} (now : X → List ℕ) (words items : List X) (after
 one_file now words items after word a site same is given named =
     same_file (sym (is ∙ ap (λ later. codes "syc" ∷ later) given.words_are) ∙ ap (map now) (sym same) ∙ named.words_are)
 
-same_flagged : {w v f a c : List ℕ} → w ∷ v ∷ f ∷ a ∷ [] ≡ w ∷ v ∷ f ∷ c ∷ [] → a ≡ c
-same_flagged e = cc
+-- ---- checks that say more
 
--- the same with a flag
-pub one_flagged : {X : Type 0} (now : X → List ℕ) (words items : List X) (after : List (List ℕ)) (word flag a site : List ℕ)
-    → words ≡ items → map now items ≡ codes "syc" ∷ after → AreFlaggedOf word flag after a → AreFlagged word flag (map now words) site → a ≡ site
-one_flagged now words items after word flag a site same is given named =
-    same_flagged (sym (is ∙ ap (λ later. codes "syc" ∷ later) given.words_are) ∙ ap (map now) (sym same) ∙ named.words_are)
+nine_or_five : (a b : ℕ) → a ≡ 9 → b ≡ 5 → a ≡ b → ⊥
+nine_or_five a b nine five same = omega (arith, nine, five, same)
+
+-- the flags differ in length
+apart : codes "--explain" ≡ codes "--all" → ⊥
+apart e = nine_or_five (length (codes "--explain")) (length (codes "--all")) refl refl (ap length e)
+
+flags_same : {w v f g a c : List ℕ} → w ∷ v ∷ f ∷ a ∷ [] ≡ w ∷ v ∷ g ∷ c ∷ [] → (f ≡ g) × (a ≡ c)
+flags_same e = (cc, cc)
+
+one_detail : (a b : Detail) → flag a ≡ flag b → a ≡ b
+one_detail details.Explain details.Explain e = refl
+one_detail details.Explain details.All e = absurd (apart e)
+one_detail details.All details.Explain e = absurd (apart (sym e))
+one_detail details.All details.All e = refl
+
+-- what such a check is to say, and its file, are those that the words give
+pub one_more : {X : Type 0} (now : X → List ℕ) (words items : List X) (after : List (List ℕ)) (word : List ℕ) (a b : Detail) (given site : List ℕ)
+    → words ≡ items → map now items ≡ codes "syc" ∷ after → AreFlaggedOf word (flag a) after given → AreFlagged word (flag b) (map now words) site
+    → (a ≡ b) × (given ≡ site)
+one_more now words items after word a b given site same is are named =
+    let both = flags_same (sym (is ∙ ap (λ later. codes "syc" ∷ later) are.words_are) ∙ ap (map now) (sym same) ∙ named.words_are) in
+    (one_detail a b both.0, both.1)
+
+pub neither : (words : List (List ℕ)) → ((site : List ℕ) → AreFlagged (codes "check") (codes "--explain") words site → ⊥)
+    → ((site : List ℕ) → AreFlagged (codes "check") (codes "--all") words site → ⊥)
+    → (detail : Detail) (site : List ℕ) → AreFlagged (codes "check") (flag detail) words site → ⊥
+neither words first second details.Explain site are = first site are
+neither words first second details.All site are = second site are
 
 -- ---- the words of a command, without the program's name
 

@@ -16,6 +16,10 @@ use Rattle.sy_checker.specs.declared.finding.Finding.{Finding}
 use Rattle.sy_checker.specs.declared.finding.Kind.{Kind}
 use Rattle.sy_checker.specs.declared.finding.Kind.TheVariants as kind
 use Rattle.sy_checker.specs.declared.finding.WayRow.{WayRow}
+use Rattle.sy_checker.specs.declared.groups.Group.{Group}
+use Rattle.sy_checker.specs.Survey.{IsSurvey}
+use Rattle.syc.specs.declared.command.Detail.{Detail}
+use Rattle.syc.specs.declared.command.Detail.TheVariants as details
 use Rattle.syc.specs.Outcomes.{AnswersOf, Streams}
 use Rattle.syc.specs.Reports.{line_feed}
 use Rattle.syc.specs.Texts.{class_text, input_text}
@@ -39,6 +43,20 @@ kind_text site kind = words kind ++ archive_text site kind
 abbrev pub finding_line : Site → Finding → List ℕ
 finding_line site found =
     codes "refused: " ++ class_text found.class ++ codes " at " ++ input_text site found.input ++ codes ": " ++ kind_text site found.kind ++ line_feed ∷ []
+
+-- behind the classes of a group: at RELAY PORT: K KIND
+abbrev pub group_text : Site → Group → List ℕ
+group_text site group = codes " at " ++ input_text site group.input ++ codes ": " ++ kind_text site group.kind ++ line_feed ∷ []
+
+-- such a line is put behind a text
+abbrev pub PutsLine : Site → Group → List ℕ → List ℕ → Type 0
+PutsLine site group old new = (names : List ℕ) × (new ≡ old ++ names ++ group_text site group)
+
+-- a line for each group, which begins with words for its classes, of which nothing is said
+abbrev pub AreLines : Site → List Group → List ℕ → Type 0
+AreLines site [] text = text ≡ []
+AreLines site (group ∷ groups) text =
+    (names : List ℕ) × (rest : List ℕ) × (text ≡ names ++ group_text site group ++ rest) × AreLines site groups rest
 
 --   RELAY PORT by N
 abbrev pub way_line : Site → WayRow → List ℕ
@@ -73,6 +91,21 @@ pub record SaysFoundInWords (site : Site) (text : List ℕ) (is_accepted : Bool)
   pub text_is : text ≡ finding_text site found ++ words
   pub refused : is_accepted ≡ false
 
+-- words, and then a line for each group
+pub record IsTally (site : Site) (groups : List Group) (text : List ℕ) : Type 0 where
+  pub head : List ℕ
+  pub lines : List ℕ
+  pub text_is : text ≡ head ++ lines
+  pub are_lines : AreLines site groups lines
+
+-- It isn't sound, and this is all that is found in it.
+pub record SaysSurvey (site : Site) (text : List ℕ) (is_accepted : Bool) : Type 0 where
+  pub groups : List Group
+  pub is_survey : IsSurvey site groups
+  pub unsound : IsSound site → ⊥
+  pub is_tally : IsTally site groups text
+  pub refused : is_accepted ≡ false
+
 -- that it keeps all
 pub record SaysKept (site : Site) (text : List ℕ) (is_accepted : Bool) : Type 0 where
   pub count : ℕ
@@ -100,6 +133,10 @@ SaysChecked site text is_accepted = SaysKept site text is_accepted ⊎ SaysFound
 abbrev pub SaysExplained : Site → List ℕ → Bool → Type 0
 SaysExplained site text is_accepted = SaysKept site text is_accepted ⊎ SaysFoundInWords site text is_accepted
 
+-- what a check that tells all says
+abbrev pub SaysAll : Site → List ℕ → Bool → Type 0
+SaysAll site text is_accepted = SaysKept site text is_accepted ⊎ SaysSurvey site text is_accepted
+
 -- what a making of its certificate says
 abbrev pub SaysCertified : Site → List ℕ → Bool → Type 0
 SaysCertified site text is_accepted = SaysFit site text is_accepted ⊎ SaysFound site text is_accepted
@@ -113,6 +150,15 @@ CheckIs = AnswersOf SaysChecked
 -- What a check that explains answers.
 abbrev pub ExplainIs : (List ℕ → Option (List ℕ)) → List ℕ → ℕ → Streams → Streams → Type 0
 ExplainIs = AnswersOf SaysExplained
+
+-- What a check that tells all answers.
+abbrev pub AllIs : (List ℕ → Option (List ℕ)) → List ℕ → ℕ → Streams → Streams → Type 0
+AllIs = AnswersOf SaysAll
+
+-- What a check answers that says more.
+abbrev pub DetailIs : Detail → (List ℕ → Option (List ℕ)) → List ℕ → ℕ → Streams → Streams → Type 0
+DetailIs details.Explain = ExplainIs
+DetailIs details.All = AllIs
 
 -- What a making of the certificate answers.
 abbrev pub CertifyIs : (List ℕ → Option (List ℕ)) → List ℕ → ℕ → Streams → Streams → Type 0

@@ -1,11 +1,21 @@
 //! The words of the command line.
 ghost use Rattle.std.specs.Prelude.{◌≡◌, ◌∷◌, ◌↔◌, ℕ, List, codes, map, string_bytes, IfErr, IfNone, IfOk, IfSome, IsTrue};
 ghost use Rattle.syc.specs.Words as spec;
+ghost use Rattle.syc.specs.declared.command.Detail.{Detail as AnyDetail};
 ghost use Rattle.syc.specs.Words.{AreFlagged, AreOneFile, ArePass, AreReplay, AreVerify, IsCommand};
 
 use clap::error::ErrorKind;
 use clap::{Arg, ArgAction, Command as Parser, Error};
 use std::alloc::{AllocError, Global};
+
+/// What a check says beside its verdict.
+#[derive(Clone, Copy)]
+pub enum Detail {
+    /// What the first thing that is found means.
+    Explain,
+    /// All that is found.
+    All,
+}
 
 /// What the program is to do.
 #[derive(Clone, Copy)]
@@ -14,8 +24,8 @@ pub enum Command<'a> {
     Pass,
     /// A verdict on a site: the name of the site file.
     Check(&'a str),
-    /// The same, with what is found explained.
-    Explain(&'a str),
+    /// A verdict on a site that says more: what it says, and the name of the site file.
+    CheckMore(Detail, &'a str),
     /// The certificate of a site: the name of the site file.
     Certify(&'a str),
     /// The events of a file at a site: the names of the site file and of the events file.
@@ -33,6 +43,9 @@ const CHECK_ABOUT: &str = "Say whether a site keeps the messages of its protecte
 
 const EXPLAIN_ABOUT: &str =
     "Say also where it stands, why messages are lost by it, and what would change that";
+
+const ALL_ABOUT: &str =
+    "Say all that is found, in place of the first, in a line for all classes that it is found of";
 
 const CERTIFY_ABOUT: &str = "Print a certificate of a site, for others to verify";
 
@@ -119,6 +132,21 @@ fn flagged<'a>(words: &[&'a str], command: &str, flag: &str) -> Option<&'a str>
     }
 }
 
+// What a check is to say beside its verdict, and the name of the site file, where the words are those of such a check.
+fn detailed<'a>(words: &[&'a str]) -> Option<(Detail, &'a str)>
+    ensures some { IfSome result (λ check. AreFlagged (codes "check") (spec.flag check.0) (map (λ s. s.now) words.now) check.1.now) }
+    ensures none { IfNone result ((detail : AnyDetail) (site : List ℕ) →
+        AreFlagged (codes "check") (spec.flag detail) (map (λ s. s.now) words.now) site → ⊥) }
+{
+    if let Some(site) = flagged(words, "check", "--explain") {
+        return Some((Detail::Explain, site));
+    }
+    match flagged(words, "check", "--all") {
+        Some(site) => Some((Detail::All, site)),
+        None => None,
+    }
+}
+
 // The names of the files, where the words are `replay` with two after the program's name.
 fn replayed<'a>(words: &[&'a str]) -> Option<(&'a str, &'a str)>
     ensures some { IfSome result (λ names. AreReplay (map (λ s. s.now) words.now) names.0.now names.1.now) }
@@ -180,8 +208,15 @@ fn check_parser<'a>(alloc: Global) -> Result<Parser<'a>, AllocError> {
     let explain = Arg::new(alloc, "explain")
         .long("explain")
         .help(EXPLAIN_ABOUT)
+        .action(ArgAction::SetTrue)
+        .conflicts_with("all")?;
+    let all = Arg::new(alloc, "all")
+        .long("all")
+        .help(ALL_ABOUT)
         .action(ArgAction::SetTrue);
-    check.arg(explain)
+    let check = check.arg(explain)?;
+    let check = check.arg(all)?;
+    Ok(check)
 }
 
 // What clap knows of a replay.
@@ -251,8 +286,8 @@ pub fn command_of<'a>(alloc: Global, words: &[&'a str]) -> Result<Command<'a>, E
     ensures replay { (site events : List ℕ) → AreReplay (map (λ s. s.now) words.now) site events → IfErr result (λ _. ⊥) }
     ensures check { (site : List ℕ) → AreOneFile (codes "check") (map (λ s. s.now) words.now) site →
         IfErr result (λ _. ⊥) }
-    ensures explain { (site : List ℕ) → AreFlagged (codes "check") (codes "--explain") (map (λ s. s.now) words.now) site →
-        IfErr result (λ _. ⊥) }
+    ensures detailed { (detail : AnyDetail) (site : List ℕ) →
+        AreFlagged (codes "check") (spec.flag detail) (map (λ s. s.now) words.now) site → IfErr result (λ _. ⊥) }
     ensures certify { (site : List ℕ) → AreOneFile (codes "certify") (map (λ s. s.now) words.now) site →
         IfErr result (λ _. ⊥) }
     ensures verify { (site certificate : List ℕ) → AreVerify (map (λ s. s.now) words.now) site certificate →
@@ -264,8 +299,8 @@ pub fn command_of<'a>(alloc: Global, words: &[&'a str]) -> Result<Command<'a>, E
     if let Some(site) = named(words, "check") {
         return Ok(Command::Check(site));
     }
-    if let Some(site) = flagged(words, "check", "--explain") {
-        return Ok(Command::Explain(site));
+    if let Some((detail, site)) = detailed(words) {
+        return Ok(Command::CheckMore(detail, site));
     }
     if let Some(site) = named(words, "certify") {
         return Ok(Command::Certify(site));

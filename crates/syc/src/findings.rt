@@ -18,8 +18,8 @@ fn put_archive(text: &mut Vec<u8>, site: &Site, archive: SiteAction) -> Result<(
     Ok(())
 }
 
-// Puts what is found behind a text.
-fn put_kind(text: &mut Vec<u8>, site: &Site, kind: Kind) -> Result<(), AllocError>
+/// Puts what is found behind a text.
+pub fn put_kind(text: &mut Vec<u8>, site: &Site, kind: Kind) -> Result<(), AllocError>
     ensures { OnOk result (text.new.items ≡ text.old.items ++ spec.kind_text site.now kind) }
 {
     text.extend_from_slice(kind.words().as_bytes())?;

@@ -1,11 +1,13 @@
 //! The program `syc`.
 #![tactic(auto)]
 
+mod all;
 mod answer;
 mod carry;
 mod check;
 mod command;
 mod culprit;
+mod detail;
 mod explain;
 mod explanation;
 mod files;
@@ -22,6 +24,7 @@ mod replay;
 mod run;
 mod site;
 mod stop;
+mod tally;
 mod texts;
 mod things;
 mod verdict;

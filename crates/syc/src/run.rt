@@ -2,17 +2,18 @@
 ghost use Rattle.std.specs.Prelude.{◌≡◌, ◌≢◌, ◌≤◌, ◌+◌, ◌⊎◌, ℕ, List, Some, codes, map, string_bytes, true};
 ghost use Rattle.std.specs.Io.KnownBytes.{Keeps};
 ghost use Rattle.sy_wire.specs.Streams.{Rose};
-ghost use Rattle.syc.specs.Checks.{CertifyIs, CheckIs, ExplainIs};
+ghost use Rattle.syc.specs.Checks.{CertifyIs, CheckIs, DetailIs};
 ghost use Rattle.syc.specs.Outcomes.{Shows, streams};
 ghost use Rattle.syc.specs.Pass.{HasFailed, IsStatus, NoneFailed, PassIs, counts};
 ghost use Rattle.syc.specs.Replays.{ReplayIs};
 ghost use Rattle.syc.specs.Reports.{Reported, seen};
 ghost use Rattle.syc.specs.Verdicts.{VerifyIs};
-ghost use Rattle.syc.specs.Words.{AreFlaggedOf, AreNoCommandOf, AreOneFileOf, ArePassAlone, AreReplayOf, AreVerifyOf};
+ghost use Rattle.syc.specs.Words.{AreFlaggedOf, AreNoCommandOf, AreOneFileOf, ArePassAlone, AreReplayOf, AreVerifyOf, flag};
+ghost use Rattle.syc.specs.declared.command.Detail.{Detail as AnyDetail};
 
 use crate::check::{certify, check};
 use crate::command::{Command, all_words, command_of};
-use crate::explain::explain;
+use crate::detail::detailed;
 use crate::files::Files;
 use crate::output::send;
 use crate::pass::{READS, pass};
@@ -92,9 +93,9 @@ pub fn run<R: Source, W: Sink, E: Sink, F: Files>(
         F.bytes_of files.now site ≡ Some text → CheckIs (F.bytes_of files.now) text result
         (streams (seen W.contents W.is_flushed W.faults writer.old) (seen E.contents E.is_flushed E.faults errors.old))
         (streams (seen W.contents W.is_flushed W.faults writer.new) (seen E.contents E.is_flushed E.faults errors.new)) }
-    ensures explain { (site text : List ℕ) →
-        AreFlaggedOf (codes "check") (codes "--explain") (map string_bytes args.now) site →
-        F.bytes_of files.now site ≡ Some text → ExplainIs (F.bytes_of files.now) text result
+    ensures detailed { (detail : AnyDetail) (site text : List ℕ) →
+        AreFlaggedOf (codes "check") (flag detail) (map string_bytes args.now) site →
+        F.bytes_of files.now site ≡ Some text → DetailIs detail (F.bytes_of files.now) text result
         (streams (seen W.contents W.is_flushed W.faults writer.old) (seen E.contents E.is_flushed E.faults errors.old))
         (streams (seen W.contents W.is_flushed W.faults writer.new) (seen E.contents E.is_flushed E.faults errors.new)) }
     ensures other { AreNoCommandOf (map string_bytes args.now) → Shows result
@@ -111,7 +112,9 @@ pub fn run<R: Source, W: Sink, E: Sink, F: Files>(
     match command_of(alloc, words.as_slice()) {
         Ok(Command::Pass) => pass(alloc, reader, writer, errors),
         Ok(Command::Check(site)) => check(alloc, files, site, writer, errors),
-        Ok(Command::Explain(site)) => explain(alloc, files, site, writer, errors),
+        Ok(Command::CheckMore(detail, site)) => {
+            detailed(alloc, files, detail, site, writer, errors)
+        }
         Ok(Command::Certify(site)) => certify(alloc, files, site, writer, errors),
         Ok(Command::Replay(site, events)) => replay(alloc, files, site, events, writer, errors),
         Ok(Command::Verify(site, certificate)) => {

@@ -1,8 +1,11 @@
 use Rattle.std.proofs.Common.{◌≡◌, ◌∙◌, ap, map, subst, sym}
 use Rattle.std.specs.Prelude.{Some, string_bytes}
+use Rattle.syc.specs.Checks.{DetailIs}
+use Rattle.syc.specs.Outcomes.{streams}
+use Rattle.syc.specs.Reports.{seen}
 use Rattle.syc.specs.Words.{AreReplay}
 use Rattle.syc.proofs.Commands.{one_replay, with_program}
-use Rattle.syc.proofs.Endings.{is_flagged, is_one_file, is_pass, is_replay, is_verify, one_file, one_flagged, one_verify}
+use Rattle.syc.proofs.Endings.{is_flagged, is_one_file, is_pass, is_replay, is_verify, one_file, one_more, one_verify}
 use Rattle.syc.proofs.Statuses.{nothing_passed}
 use Rattle.syc.proofs.run.run.Goals as goal
 
@@ -36,11 +39,17 @@ returns-in-Ok-Check-clause-check g c = λ site text given known.
     let same = one_file _ _ _ _ _ site _ c.as_slice.ensures.value c.in-Ok.ensures given named in
     c.check.ensures.check text (ap (g.F.Files.bytes_of c.args.files.now) (sym same) ∙ known)
 
-pub returns-in-Ok-Explain-clause-explain : goal.returns-in-Ok-Explain-clause-explain
-returns-in-Ok-Explain-clause-explain g c = λ site text given known.
-    let named = rw c.in-Ok-Explain.field-0-is at c.in-Ok-Explain.ensures.ok in
-    let same = one_flagged _ _ _ _ _ _ site _ c.as_slice.ensures.value c.in-Ok.ensures given named in
-    c.explain.ensures.explain text (ap (g.F.Files.bytes_of c.args.files.now) (sym same) ∙ known)
+pub returns-in-Ok-CheckMore-clause-detailed : goal.returns-in-Ok-CheckMore-clause-detailed
+returns-in-Ok-CheckMore-clause-detailed g c = λ detail site text given known.
+    let bytes_of = g.F.Files.bytes_of c.args.files.now in
+    let old = streams (seen g.W.Sink.contents g.W.Sink.is_flushed g.W.Sink.faults c.args.writer.now)
+    (seen g.E.Sink.contents g.E.Sink.is_flushed g.E.Sink.faults c.args.errors.now) in
+    let new = streams (seen g.W.Sink.contents g.W.Sink.is_flushed g.W.Sink.faults c.detailed.new.writer)
+    (seen g.E.Sink.contents g.E.Sink.is_flushed g.E.Sink.faults c.detailed.new.errors) in
+    let named = rw c.in-Ok-CheckMore.field-0-is at c.in-Ok-CheckMore.ensures.ok in
+    let same = one_more _ _ _ _ _ detail c.in-Ok-CheckMore.detail site _ c.as_slice.ensures.value c.in-Ok.ensures given named in
+    subst (λ d. DetailIs d bytes_of text c.detailed.result old new) (sym same.0)
+    (c.detailed.ensures.detailed text (ap bytes_of (sym same.1) ∙ known))
 
 pub returns-in-Ok-Certify-clause-certify : goal.returns-in-Ok-Certify-clause-certify
 returns-in-Ok-Certify-clause-certify g c = λ site text given known.
@@ -58,10 +67,10 @@ returns-in-Ok-Check-clause-other g c = λ none.
     let named = rw c.in-Ok-Check.field-0-is at c.in-Ok-Check.ensures.ok in
     absurd (none.no_check _ (is_one_file _ _ _ _ c.as_slice.ensures.value c.in-Ok.ensures _ _ named))
 
-pub returns-in-Ok-Explain-clause-other : goal.returns-in-Ok-Explain-clause-other
-returns-in-Ok-Explain-clause-other g c = λ none.
-    let named = rw c.in-Ok-Explain.field-0-is at c.in-Ok-Explain.ensures.ok in
-    absurd (none.no_explain _ (is_flagged _ _ _ _ c.as_slice.ensures.value c.in-Ok.ensures _ _ _ named))
+pub returns-in-Ok-CheckMore-clause-other : goal.returns-in-Ok-CheckMore-clause-other
+returns-in-Ok-CheckMore-clause-other g c = λ none.
+    let named = rw c.in-Ok-CheckMore.field-0-is at c.in-Ok-CheckMore.ensures.ok in
+    absurd (none.no_more c.in-Ok-CheckMore.detail _ (is_flagged _ _ _ _ c.as_slice.ensures.value c.in-Ok.ensures _ _ _ named))
 
 pub returns-in-Ok-Certify-clause-other : goal.returns-in-Ok-Certify-clause-other
 returns-in-Ok-Certify-clause-other g c = λ none.
