@@ -33,5 +33,6 @@ pub mod Complete
 pub mod Fitting
 pub mod MadeRight
 pub mod Alike
+pub mod Shared
 pub mod Grouping
 pub mod Telling

@@ -1,15 +1,13 @@
 -- What is said of a site's texts that are checked.
-use Rattle.std.specs.Prelude.{◌≡◌, ◌⊎◌, ℕ, List}
+use Rattle.std.specs.Prelude.{◌≡◌, ◌⊎◌, ℕ, Contains, List}
 use Rattle.sy_wire.specs.declared.class.Class.{Class}
-use Rattle.sy_cert.specs.declared.row.Row.{Row}
 use Rattle.sy_site.specs.Sites.{Site}
 use Rattle.sy_site.specs.declared.fault.SiteFault.TheVariants as site_fault
+use Rattle.sy_site.specs.machine.Soundness.{IsSoundFor}
 use Rattle.sy_site.specs.texts.Describes.{Describes, File}
 use Rattle.sy_site.specs.texts.HasFault.{HasFault}
 use Rattle.sy_checker.specs.Acceptance.{Acceptance, IsOf}
-use Rattle.sy_checker.specs.Certifying.{AreRowsOf}
 use Rattle.sy_checker.specs.Finding.{IsTrueRefusal}
-use Rattle.sy_checker.specs.Fit.{AreFit, IsFit}
 use Rattle.sy_checker.specs.declared.checking.CheckFault.{CheckFault}
 use Rattle.sy_checker.specs.declared.checking.CheckFault.TheVariants as faults
 use Rattle.sy_checker.specs.declared.finding.Refusal.TheVariants as refusal
@@ -30,16 +28,8 @@ abbrev pub IsNoMemory : CheckFault → Type 0
 IsNoMemory (faults.Site why) = why ≡ site_fault.NoMemory
 IsNoMemory (faults.Refused why) = why ≡ refusal.NoMemory
 
--- ---- what was made and judged, class by class
+-- ---- class by class
 
--- some rows are those of the class
-abbrev pub HasRows : Site → Class → Type 0
-HasRows site class = (rows : List Row) × AreRowsOf site class rows
-
--- some are those of these classes, one behind the other
-abbrev pub HasFit : Site → List Class → Type 0
-HasFit site classes = (rows : List Row) × AreFit site classes rows
-
--- some certificate is fit
-abbrev pub HasCertificate : Site → Type 0
-HasCertificate site = (rows : List Row) × IsFit site rows
+-- The site is sound for each of these classes.
+abbrev pub AreSound : Site → List Class → Type 0
+AreSound site classes = (class : Class) → Contains classes class → IsSoundFor site class

@@ -57,6 +57,10 @@ pub record IsCourseAt (site : Site) (class : Class) (courses : List Course) (pla
   pub stands : slice_get courses place ≡ Some course
   pub is : IsCourse site class course
 
+-- what is a class's course among these, is its course at the same place among those
+abbrev pub AreKept : Site → List Course → List Course → Type 0
+AreKept site old new = (class : Class) (place : ℕ) → IsCourseAt site class old place → IsCourseAt site class new place
+
 -- none of the kinds 1 to 7 is found of the class
 abbrev pub AreClean : Site → Class → Type 0
 AreClean site class = (x : SiteInput) → Reach site class x → IsClean site class x

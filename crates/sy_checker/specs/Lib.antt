@@ -12,6 +12,7 @@ pub mod Answer
 pub mod Made
 pub mod Loops
 pub mod Course
+pub mod Met
 pub mod Certifying
 pub mod Survey
 pub mod Checking

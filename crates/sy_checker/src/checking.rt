@@ -5,7 +5,7 @@ ghost use Rattle.sy_wire.specs.declared.class.Class.{Class as AnyClass};
 ghost use Rattle.sy_site.specs.Sites as sites;
 ghost use Rattle.sy_site.specs.internal.Given.{file};
 ghost use Rattle.sy_site.specs.machine.Safety.{AreSafe};
-ghost use Rattle.sy_site.specs.machine.Soundness.{IsSound};
+ghost use Rattle.sy_site.specs.machine.Soundness.{IsSound, IsSoundFor};
 ghost use Rattle.sy_site.specs.machine.States.{SiteState};
 ghost use Rattle.sy_site.specs.machine.Steps.{Runs, SiteEvent};
 ghost use Rattle.sy_site.specs.texts.Describes.{Describes};
@@ -13,21 +13,22 @@ ghost use Rattle.sy_checker.specs.Acceptance.{AreReached, IsOf};
 ghost use Rattle.sy_checker.specs.Certifying.{AreRowsOf};
 ghost use Rattle.sy_checker.specs.Checking as spec;
 ghost use Rattle.sy_checker.specs.Finding.{IsTrueRefusal};
-ghost use Rattle.sy_checker.specs.Course.{AreCourses, IsCourse};
+ghost use Rattle.sy_checker.specs.Course.{AreClean, AreCourses, IsCourse, IsCourseAt};
+ghost use Rattle.sy_checker.specs.Met.{AreMet};
 ghost use Rattle.sy_checker.specs.declared.finding.Refusal.TheVariants as refusal;
 
-use crate::accepted::Accepted;
+use crate::accepted::{Accepted, put_pairs};
 use crate::certifying::rows_of_class;
 use crate::classes::protected_classes;
 use crate::course::{Course, course_for};
 use crate::finding::Refusal;
-use crate::laws::{fit_is_safe, fit_is_sound};
-use crate::making::parts_join;
-use crate::verifying::{Judged, judge_class};
+use crate::met::{Met, are_met, put_met};
+use crate::verifying::{Judged, judge};
+use crate::wanted::archives;
 use std::alloc::{AllocError, Global};
 use sy_cert::Row;
 use sy_site::laws::one_site;
-use sy_site::machine::sound_sites_have_no_finding;
+use sy_site::machine::{sound_sites_are_safe, sound_sites_have_no_finding};
 use sy_site::{Site, SiteFault, SiteInput};
 use sy_wire::Class;
 
@@ -40,54 +41,111 @@ pub enum CheckFault {
     Refused(Refusal),
 }
 
-// What judging says of rows that were made as they are wanted: each is right.
+// Judges rows that were made as they are wanted, as those of a certificate are: each is right.
 fn judge_made(
     alloc: Global,
     site: &Site,
     class: Class,
     course: &Course,
     rows: &[Row],
-    pairs: &mut Vec<(SiteInput, Class)>,
 ) -> Result<(), AllocError>
     requires course { IsCourse site.now class course.now }
     requires rows { AreRowsOf site.now class rows.now }
-    ensures { OnOk result ((before : List AnyClass) → AreReached site.now before pairs.old.items
-        → AreReached site.now (before ++ class ∷ []) pairs.new.items) }
+    ensures { OnOk result (IsSoundFor site.now class) }
 {
     let reached = course.found.inputs.as_slice();
-    match judge_class(alloc, site, class, &course.flows, reached, rows, pairs)? {
+    match judge(alloc, site, class, &course.flows, reached, rows)? {
         Judged::Right(_) => Ok(()),
         Judged::Wrong(_, _) => unreachable!(),
     }
 }
 
-// Makes the rows of a class and judges them, as those of a certificate are. Its course is worked out once for all
-// classes with the same flows, and no other class's rows are kept. Each input that it reaches is put with it behind the
-// pairs of the classes before.
+// Makes the rows of a class and judges them. They aren't kept.
+fn check_rows(alloc: Global, site: &Site, class: Class, course: &Course) -> Result<(), Refusal>
+    requires protected { sites.is_protected site.now class ≡ true }
+    requires course { IsCourse site.now class course.now }
+    requires clean { AreClean site.now class }
+    ensures sound { OnOk result (IsSoundFor site.now class) }
+    ensures err { IfErr result (λ why. IsTrueRefusal site.now why) }
+{
+    let rows = rows_of_class(alloc, site, class, course)?;
+    judge_made(alloc, site, class, course, rows.as_slice())?;
+    Ok(())
+}
+
+// Whether each entry leads to each archive that is named for a class whose course stands at this place: it does where
+// it was shown for classes before with the same course, and else the class's rows show it.
+fn check_archives(
+    alloc: Global,
+    site: &Site,
+    class: Class,
+    courses: &[Course],
+    place: usize,
+    met: &mut Vec<Met>,
+) -> Result<(), Refusal>
+    requires protected { sites.is_protected site.now class ≡ true }
+    requires course { IsCourseAt site.now class courses.now place }
+    requires clean { AreClean site.now class }
+    requires met { AreMet site.now courses.now met.old.items }
+    ensures sound { OnOk result (IsSoundFor site.now class) }
+    ensures met { OnOk result (AreMet site.now courses.now met.new.items) }
+    ensures err { IfErr result (λ why. IsTrueRefusal site.now why) }
+{
+    site.is_lawful();
+    let named = archives(alloc, site, class)?;
+    if are_met(met.as_slice(), place, named.as_slice()) {
+        return Ok(());
+    }
+    check_rows(alloc, site, class, &courses[place])?;
+    put_met(met, place, named.as_slice())?;
+    Ok(())
+}
+
+// Puts each input that a class with this course reaches with it behind the pairs of the classes before.
+fn put_reached(
+    pairs: &mut Vec<(SiteInput, Class)>,
+    site: &Site,
+    class: Class,
+    course: &Course,
+) -> Result<(), AllocError>
+    requires course { IsCourse site.now class course.now }
+    ensures { OnOk result ((before : List AnyClass) → AreReached site.now before pairs.old.items
+        → AreReached site.now (before ++ class ∷ []) pairs.new.items) }
+{
+    let _ = site;
+    put_pairs(pairs, course.found.inputs.as_slice(), class)?;
+    Ok(())
+}
+
+// Shows that the site is sound for a class. Its course is worked out once for all classes with the same flows, and its
+// rows are made and judged only where it has an archive that wasn't met for such a class before. Each input that it
+// reaches is put with it behind the pairs of the classes before.
 fn check_class(
     alloc: Global,
     site: &Site,
     class: Class,
     courses: &mut Vec<Course>,
+    met: &mut Vec<Met>,
     pairs: &mut Vec<(SiteInput, Class)>,
 ) -> Result<(), Refusal>
     requires protected { sites.is_protected site.now class ≡ true }
     requires courses { AreCourses site.now courses.old.items }
+    requires met { AreMet site.now courses.old.items met.old.items }
     ensures courses { OnOk result (AreCourses site.now courses.new.items) }
-    ensures rows { OnOk result (spec.HasRows site.now class) }
+    ensures met { OnOk result (AreMet site.now courses.new.items met.new.items) }
+    ensures sound { OnOk result (IsSoundFor site.now class) }
     ensures pairs { OnOk result ((before : List AnyClass) → AreReached site.now before pairs.old.items
         → AreReached site.now (before ++ class ∷ []) pairs.new.items) }
     ensures err { IfErr result (λ why. IsTrueRefusal site.now why) }
 {
     let place = course_for(alloc, site, class, courses)?;
-    let course = &courses[place];
-    let rows = rows_of_class(alloc, site, class, course)?;
-    judge_made(alloc, site, class, course, rows.as_slice(), pairs)?;
+    check_archives(alloc, site, class, courses.as_slice(), place, met)?;
+    put_reached(pairs, site, class, &courses[place])?;
     Ok(())
 }
 
-// Each input that one of these classes reaches with that class, where each class has its rows; or what is found of the
-// first of which something is.
+// Each input that one of these classes reaches with that class, where the site is sound for each; or what is found of
+// the first of which something is.
 fn check_classes(
     alloc: Global,
     site: &Site,
@@ -95,23 +153,23 @@ fn check_classes(
 ) -> Result<Vec<(SiteInput, Class)>, Refusal>
     requires protected { (class : AnyClass) → Contains classes.now class
         → sites.is_protected site.now class ≡ true }
-    ensures fit { OnOk result (spec.HasFit site.now classes.now) }
+    ensures sound { OnOk result (spec.AreSound site.now classes.now) }
     ensures pairs { IfOk result (λ pairs. AreReached site.now classes.now pairs.items) }
     ensures err { IfErr result (λ why. IsTrueRefusal site.now why) }
 {
-    parts_join();
     let mut pairs = Vec::new(alloc);
     let mut courses = Vec::new(alloc);
+    let mut met = Vec::new(alloc);
     for class in classes {
-        check_class(alloc, site, *class, &mut courses, &mut pairs)?;
+        check_class(alloc, site, *class, &mut courses, &mut met, &mut pairs)?;
     }
     Ok(pairs)
 }
 
-// What is kept of a site that has a fit certificate.
+// What is kept of a sound site.
 fn accepted(alloc: Global, site: &Site) -> Result<Accepted, Refusal>
     ensures kept { IfOk result (λ accepted. IsOf site.now accepted) }
-    ensures fit { OnOk result (spec.HasCertificate site.now) }
+    ensures sound { OnOk result (IsSound site.now) }
     ensures err { IfErr result (λ why. IsTrueRefusal site.now why) }
 {
     let classes = protected_classes(alloc, site)?;
@@ -120,9 +178,9 @@ fn accepted(alloc: Global, site: &Site) -> Result<Accepted, Refusal>
     Ok(accepted)
 }
 
-/// What is kept of a site whose certificate's rows are made and then judged, class by class; or what is found in it, as
-/// making the certificate finds it. Where it is accepted, no message of a protected class is lost in any run of the
-/// site; a sound site is refused for want of memory alone.
+/// What is kept of a site whose certificate's rows are made and then judged, class by class, but for classes of which
+/// they would say the same again; or what is found in it, as making the certificate finds it. Where it is accepted, no
+/// message of a protected class is lost in any run of the site; a sound site is refused for want of memory alone.
 pub fn check_site(alloc: Global, site: &Site) -> Result<Accepted, Refusal>
     ensures kept { IfOk result (λ accepted. IsOf site.now accepted) }
     ensures sound { OnOk result (IsSound site.now) }
@@ -132,8 +190,7 @@ pub fn check_site(alloc: Global, site: &Site) -> Result<Accepted, Refusal>
     ensures only { IfErr result (λ why. IsSound site.now → why ≡ refusal.NoMemory) }
 {
     site.is_lawful();
-    fit_is_sound();
-    fit_is_safe();
+    sound_sites_are_safe();
     sound_sites_have_no_finding();
     match accepted(alloc, site) {
         Ok(accepted) => Ok(accepted),

@@ -186,6 +186,7 @@ fn more_course(
     requires flows { AreFlows site.now class flows }
     requires courses { spec.AreCourses site.now courses.old.items }
     ensures courses { OnOk result (spec.AreCourses site.now courses.new.items) }
+    ensures kept { OnOk result (spec.AreKept site.now courses.old.items courses.new.items) }
     ensures at { IfOk result (λ place. spec.IsCourseAt site.now class courses.new.items place) }
     ensures clean { OnOk result (spec.AreClean site.now class) }
     ensures err { IfErr result (λ why. IsTrueRefusal site.now why) }
@@ -206,6 +207,7 @@ pub fn course_for(
     requires protected { sites.is_protected site.now class ≡ true }
     requires courses { spec.AreCourses site.now courses.old.items }
     ensures courses { OnOk result (spec.AreCourses site.now courses.new.items) }
+    ensures kept { OnOk result (spec.AreKept site.now courses.old.items courses.new.items) }
     ensures at { IfOk result (λ place. spec.IsCourseAt site.now class courses.new.items place) }
     ensures clean { OnOk result (spec.AreClean site.now class) }
     ensures err { IfErr result (λ why. IsTrueRefusal site.now why) }

@@ -18,6 +18,7 @@ mod lead;
 mod looped;
 mod loops;
 mod making;
+mod met;
 mod order;
 mod part;
 mod path;

@@ -44,7 +44,7 @@ pub(crate) enum Judged {
 }
 
 // Judges the rows of a class that reaches these inputs: those which these rows begin with.
-fn judge(
+pub(crate) fn judge(
     alloc: Global,
     site: &Site,
     class: Class,
@@ -65,7 +65,7 @@ fn judge(
 
 // Judges the rows of a class, and puts each input that it reaches, which are these, with it behind the pairs of the
 // classes before.
-pub(crate) fn judge_class(
+fn judge_class(
     alloc: Global,
     site: &Site,
     class: Class,

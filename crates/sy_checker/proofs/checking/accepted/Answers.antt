@@ -1,7 +1,6 @@
-use Rattle.std.proofs.Common.{subst}
+use Rattle.std.proofs.Common.{subst, sym}
 use Rattle.std.specs.Prelude.{Contains}
 use Rattle.sy_checker.specs.Acceptance.{AreReached}
-use Rattle.sy_checker.specs.Checking.{HasFit}
 use Rattle.sy_checker.proofs.checking.accepted.Goals as goal
 
 pub check_classes-requires : goal.check_classes-requires
@@ -15,7 +14,7 @@ new-requires c = record {
   pairs = subst (λ l. AreReached c.args.site.now l c.in_ok-pairs.pairs.items) c.as_slice.ensures.value c.in_ok-pairs.ensures.pairs;
 }
 
-pub returns-clause-fit : goal.returns-clause-fit
-returns-clause-fit c =
-    let fit = subst (HasFit c.args.site.now) c.as_slice.ensures.value c.in_ok-pairs.ensures.fit in
-    (fit.0, record { classes = c.in_ok-classes.classes.items; protected = c.in_ok-classes.ensures; fit = fit.1 })
+pub returns-clause-sound : goal.returns-clause-sound
+returns-clause-sound c = λ class protected.
+    c.in_ok-pairs.ensures.sound class
+    (subst (λ l. Contains l class) (sym c.as_slice.ensures.value) ((c.in_ok-classes.ensures.member class).1 protected))

@@ -1,20 +1,22 @@
-use Rattle.std.proofs.Common.{[], refl, subst, sym, take}
+use Rattle.std.proofs.Common.{[], subst, sym, take}
 use Rattle.std.specs.Prelude.{Contains}
 use Rattle.std.proofs.lemmas.List.{take_all}
 use Rattle.std.proofs.lemmas.List.Elements.{Contains-get_or}
 use Rattle.sy_checker.specs.Acceptance.{AreReached}
-use Rattle.sy_checker.specs.Checking.{HasFit}
+use Rattle.sy_checker.specs.Checking.{AreSound}
 use Rattle.sy_checker.specs.Course.{AreCourses}
+use Rattle.sy_checker.specs.Met.{AreMet}
 use Rattle.sy_checker.proofs.Alike.{no_courses}
 use Rattle.sy_checker.proofs.Guarded.{reached_first, take_next}
-use Rattle.sy_checker.proofs.MadeRight.{fit_more}
+use Rattle.sy_checker.proofs.Shared.{more_sound, none_sound, nothing_met}
 use Rattle.sy_checker.proofs.checking.check_classes.Goals as goal
 
 pub loop-class-init : goal.loop-class-init
 loop-class-init c = (
-  ([], refl),
+  none_sound c.args.site.now,
   subst (AreReached c.args.site.now []) (sym c.new-pairs.ensures.items) (reached_first c.args.site.now),
   subst (AreCourses c.args.site.now) (sym c.new-courses.ensures.items) (no_courses c.args.site.now),
+  subst (AreMet c.args.site.now c.new-courses.result.items) (sym c.new-met.ensures.items) (nothing_met c.args.site.now c.new-courses.result.items),
 )
 
 pub check_class-requires : goal.check_class-requires
@@ -23,6 +25,7 @@ check_class-requires c = record {
       (subst (Contains c.args.classes.now) (sym c.class-item.is)
       (Contains-get_or c.args.classes.now c.loop-class.class-index c.class-item.result c.loop-class-test.true));
   courses = c.loop-class.invariant.2;
+  met = c.loop-class.invariant.3;
 }
 
 pub loop-class-preserved : goal.loop-class-preserved
@@ -30,14 +33,15 @@ loop-class-preserved c =
     let site = c.args.site.now in
     let before = take c.loop-class.class-index c.args.classes.now in
     let next = take_next c.args.classes.now c.loop-class.class-index c.class-item.result c.loop-class-test.true c.class-item.is in (
-      subst (HasFit site) next (fit_more c.parts_join.ensures site before c.class-item.result c.loop-class.invariant.0 c.in_ok-check_class.ensures.rows),
+      subst (AreSound site) next (more_sound site before c.class-item.result c.loop-class.invariant.0 c.in_ok-check_class.ensures.sound),
       subst (λ l. AreReached site l c.check_class.new.pairs.items) next (c.in_ok-check_class.ensures.pairs before c.loop-class.invariant.1),
       c.in_ok-check_class.ensures.courses,
+      c.in_ok-check_class.ensures.met,
     )
 
-pub returns-clause-fit : goal.returns-clause-fit
-returns-clause-fit c =
-    subst (HasFit c.args.site.now) (take_all c.loop-class.class-index c.args.classes.now c.loop-class-test.false) c.loop-class.invariant.0
+pub returns-clause-sound : goal.returns-clause-sound
+returns-clause-sound c =
+    subst (AreSound c.args.site.now) (take_all c.loop-class.class-index c.args.classes.now c.loop-class-test.false) c.loop-class.invariant.0
 
 pub returns-clause-pairs : goal.returns-clause-pairs
 returns-clause-pairs c =

@@ -1,12 +1,8 @@
 use Rattle.sy_checker.proofs.Certified.{memory_alone}
 use Rattle.sy_checker.proofs.checking.check_site.Goals as goal
 
-pub returns-in-Ok-clause-sound : goal.returns-in-Ok-clause-sound
-returns-in-Ok-clause-sound c = c.fit_is_sound.ensures c.args.site.now c.in-Ok.ensures.fit.0 c.in-Ok.ensures.fit.1
-
 pub returns-in-Ok-clause-safe : goal.returns-in-Ok-clause-safe
-returns-in-Ok-clause-safe c = λ events state runs.
-    c.fit_is_safe.ensures c.args.site.now c.in-Ok.ensures.fit.0 c.is_lawful.ensures c.in-Ok.ensures.fit.1 events state runs
+returns-in-Ok-clause-safe c = c.sound_sites_are_safe.ensures c.args.site.now c.is_lawful.ensures c.in-Ok.ensures.sound
 
 pub returns-in-Err-clause-only : goal.returns-in-Err-clause-only
 returns-in-Err-clause-only c = memory_alone c.args.site.now c.sound_sites_have_no_finding.ensures c.in-Err.why c.in-Err.ensures.err

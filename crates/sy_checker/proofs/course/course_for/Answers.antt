@@ -1,7 +1,8 @@
 use Rattle.std.proofs.Common.{subst, sym}
 use Rattle.std.specs.Prelude.{IfOk}
-use Rattle.sy_checker.specs.Course.{IsCourseAt, IsSameAt}
+use Rattle.sy_checker.specs.Course.{AreKept, IsCourseAt, IsSameAt}
 use Rattle.sy_checker.proofs.Alike.{same_course_at}
+use Rattle.sy_checker.proofs.Shared.{on_any}
 use Rattle.sy_checker.proofs.course.course_for.Goals as goal
 
 pub same_course-requires-clause-course : goal.same_course-requires-clause-course
@@ -14,3 +15,7 @@ pub returns-in-Some-clause-at : goal.returns-in-Some-clause-at
 returns-in-Some-clause-at c =
     subst (λ l. IfOk c.same_course.result (λ at. IsCourseAt c.args.site.now c.args.class l at)) c.as_slice-in-Some.ensures.value
     c.same_course.ensures.at
+
+pub returns-in-Some-clause-kept : goal.returns-in-Some-clause-kept
+returns-in-Some-clause-kept c =
+    on_any (AreKept c.args.site.now c.args.courses.now.items c.args.courses.now.items) (λ class place at. at) c.same_course.result

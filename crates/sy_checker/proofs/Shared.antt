@@ -1,0 +1,131 @@
+-- What was met for a class holds for those with its course.
+use Rattle.std.proofs.Common.{◌≡◌, ℕ, ◌<◌, ◌==◌, ◌&&◌, Bool, true, false, List, [], ◌∷◌, ◌++◌, length, map, refl, sym, subst, ◌∙◌, arith, inl, inr, eqb-true}
+use Rattle.std.specs.List.{list_all}
+use Rattle.std.specs.Prelude.{Contains, OnOk, Result, Ok, Err, slice_get}
+use Rattle.std.proofs.lemmas.Bool.{false≢true}
+use Rattle.std.proofs.lemmas.List.Elements.{Contains-append_cases, Contains-push_cases}
+use Rattle.std.proofs.lemmas.Map.Views.{Contains-from_any}
+use Rattle.std.proofs.lemmas.Option.{slice_get_within}
+use Rattle.sy_wire.specs.declared.class.Class.{Class}
+use Rattle.sy_site.specs.declared.site.SiteAction.{SiteAction}
+use Rattle.sy_site.specs.declared.site.SiteInput.{SiteInput}
+use Rattle.sy_site.specs.Sites.{Site, archives, same_action}
+use Rattle.sy_site.specs.machine.Lawful.{IsInput, IsLawful}
+use Rattle.sy_site.specs.machine.Reach.{LeadsTo, leads_on, writes}
+use Rattle.sy_site.specs.machine.Soundness.{IsSoundFor}
+use Rattle.sy_checker.specs.declared.course.Course.{Course}
+use Rattle.sy_checker.specs.declared.met.Met.{Met}
+use Rattle.sy_checker.specs.Checking.{AreSound}
+use Rattle.sy_checker.specs.Course.{AreAlike, AreClean, AreKept, IsCourseAt}
+use Rattle.sy_checker.specs.Flows.{AreFlows}
+use Rattle.sy_checker.specs.Loops.{rank_at}
+use Rattle.sy_checker.specs.Met.{AreMet, IsMet, is_met, met_at, same_met}
+use Rattle.sy_checker.proofs.Alike.{alike, one_value}
+use Rattle.sy_checker.proofs.Comparing.{from_map}
+use Rattle.sy_checker.proofs.There.{entry_there, forward_there}
+
+-- ---- which are among them
+
+both : (a b : Bool) → (a && b) ≡ true → (a ≡ true) × (b ≡ true)
+both true b e = (refl, e)
+both false b e = absurd (false≢true e)
+
+same_place : (a b : Met) → a.place ≡ b.place → a.archive.relay ≡ b.archive.relay → a.archive.action ≡ b.archive.action → a ≡ b
+same_place a b p r n = λ i. record { place = p i; archive = record { relay = r i; action = n i } }
+
+same_is : (a b : Met) → same_met a b ≡ true → a ≡ b
+same_is a b e =
+    let first = both (a.place == b.place) (same_action a.archive b.archive) e in
+    let second = both (a.archive.relay == b.archive.relay) (a.archive.action == b.archive.action) first.1 in
+    same_place a b (eqb-true a.place b.place first.0) (eqb-true a.archive.relay b.archive.relay second.0)
+    (eqb-true a.archive.action b.archive.action second.1)
+
+all_at : (test : SiteAction → Bool) (xs : List SiteAction) (x : SiteAction) → list_all test xs ≡ true → Contains xs x → test x ≡ true
+all_at test [] x all (k, low, is) = absurd (omega (arith, low))
+all_at test (y ∷ ys) x all (ℕ.zero, low, is) = subst (λ z. test z ≡ true) is (both (test y) (list_all test ys) all).0
+all_at test (y ∷ ys) x all (ℕ.suc k, low, is) =
+    all_at test ys x (both (test y) (list_all test ys) all).1 (k, omega (arith, low), is)
+
+-- ---- classes of one course
+
+leads_as : (site : Site) (one other : Class) → AreAlike site one other → (archive : SiteAction) (x : SiteInput) → IsInput site x
+    → LeadsTo site one archive x → LeadsTo site other archive x
+leads_as site one other same archive x there (writes number action must runs is) = writes number action ((same.must x number there).0 must) runs is
+leads_as site one other same archive x there (leads_on {from} {to} number must goes later) =
+    leads_on number ((same.must x number there).0 must) goes (leads_as site one other same archive to (forward_there site from number to goes) later)
+
+alike_at : (site : Site) (one other : Class) (courses : List Course) (place : ℕ) → IsCourseAt site one courses place
+    → IsCourseAt site other courses place → AreAlike site one other
+alike_at site one other courses place a b =
+    alike site one other a.course.flows a.is.flows
+    (subst (λ (c : Course). AreFlows site other c.flows) (one_value (sym b.stands ∙ a.stands)) b.is.flows)
+
+pub sound_by : (site : Site) → IsLawful site → (class : Class) (courses : List Course) (place : ℕ) (met : List Met) (named : List SiteAction)
+    → IsCourseAt site class courses place → AreClean site class → AreMet site courses met → named ≡ archives site class
+    → list_all (is_met met place) named ≡ true → IsSoundFor site class
+sound_by site law class courses place met named at clean are is all = record {
+  clean = clean;
+  rank = rank_at at.course.ranks.items;
+  ranks = at.is.ranks;
+  leads = λ entry is_entry archive is_named.
+      let there = Contains-from_any same_is (met_at place archive) met
+      (all_at (is_met met place) named archive all (subst (λ l. Contains l archive) (sym is) is_named)) in
+      let it = are (met_at place archive) there in
+      leads_as site it.class class (alike_at site it.class class courses place it.course at) archive entry (entry_there site law entry is_entry)
+      (it.leads entry is_entry);
+}
+
+-- ---- what is known so far
+
+pub nothing_met : (site : Site) (courses : List Course) → AreMet site courses []
+nothing_met site courses m (k, low, is) = absurd (omega (arith, low))
+
+pub still_met : (site : Site) (old new : List Course) (met : List Met) → AreKept site old new → AreMet site old met → AreMet site new met
+still_met site old new met kept are m there =
+    let it = are m there in
+    record { class = it.class; course = kept it.class m.place it.course; leads = it.leads }
+
+pub more_met : (site : Site) (class : Class) (courses : List Course) (place : ℕ) (met : List Met) (named : List SiteAction)
+    → IsCourseAt site class courses place → AreMet site courses met → named ≡ archives site class → IsSoundFor site class
+    → AreMet site courses (met ++ map (met_at place) named)
+more_met site class courses place met named at are is sound m there = elim (Contains-append_cases met (map (met_at place) named) m there) [
+  | inl before ↦ are m before
+  | inr new ↦
+      (let found = from_map (met_at place) named m new in
+      subst (IsMet site courses) found.2
+      (record {
+        class = class;
+        course = at;
+        leads = λ entry is_entry. sound.leads entry is_entry found.0 (subst (λ l. Contains l found.0) is found.1);
+      }))
+]
+
+-- ---- courses that are put behind others
+
+still : (old more : List Course) (j : ℕ) → j < length old → slice_get (old ++ more) j ≡ slice_get old j
+still [] more j low = absurd (omega (arith, low))
+still (x ∷ old) more ℕ.zero low = refl
+still (x ∷ old) more (ℕ.suc j) low = still old more j (omega (arith, low))
+
+pub course_kept : (site : Site) (courses more : List Course) → AreKept site courses (courses ++ more)
+course_kept site courses more class place at = record {
+  course = at.course;
+  stands = still courses more place (slice_get_within courses place at.course at.stands) ∙ at.stands;
+  is = at.is;
+}
+
+pub on_any : {A E : Type 0} (P : Type 0) → P → (r : Result A E) → OnOk r P
+on_any P p (Ok x) = p
+on_any P p (Err e) = record {}
+
+-- ---- class after class
+
+pub none_sound : (site : Site) → AreSound site []
+none_sound site class (k, low, is) = absurd (omega (arith, low))
+
+pub more_sound : (site : Site) (before : List Class) (class : Class) → AreSound site before → IsSoundFor site class
+    → AreSound site (before ++ class ∷ [])
+more_sound site before class are is other there = elim (Contains-push_cases before class other there) [
+  | inl old ↦ are other old
+  | inr same ↦ subst (IsSoundFor site) same is
+]
