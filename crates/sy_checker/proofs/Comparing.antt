@@ -1,6 +1,6 @@
 -- Ranks that stand where they are wanted.
 use Rattle.std.proofs.Common.{◌≡◌, ℕ, ◌<◌, ◌≤◌, ◌+◌, Bool, true, false, ◌==◌, if◌then◌else◌, List, [], ◌∷◌, ◌++◌, length, map, Option, Some, None, refl, sym, ap, subst, ◌∙◌, arith, inl, inr, eqb-true, eq-eqb}
-use Rattle.std.specs.Prelude.{Contains, flat_map, slice_get}
+use Rattle.std.specs.Prelude.{Contains, IfSome, flat_map, slice_get}
 use Rattle.std.specs.Str.{bytes_eq}
 use Rattle.std.proofs.lemmas.Bool.{cases_eq}
 use Rattle.std.proofs.lemmas.List.Elements.{Contains-append_cases, Contains-append_left}
@@ -106,6 +106,12 @@ pub falls_all : (site : Site) (class : Class) (part : List Wanted) (rows : List 
     → ((number : ℕ) → number < behind → LeadsBelow site part rows from rank may number) → FallsFrom site class part rows rank from
 falls_all site class part rows rank from may behind bits none each to number is goes =
     all_members (LeadsBelow site part rows from rank may) may behind none (λ k no x member by. absurd (no member)) each number to ((bits number).1 is) goes
+
+-- the relay that is known
+pub known_below : (site : Site) (part : List Wanted) (rows : List Row) (rank : ℕ) (known : Option ℕ) (relay : ℕ)
+    → IfSome known (λ r. IsBelow site part rows r rank) → known ≡ Some relay → IsBelow site part rows relay rank
+known_below site part rows rank (Some r) relay below same = subst (λ x. IsBelow site part rows x rank) (one_value same) below
+known_below site part rows rank None relay below same = absurd (no_value same)
 
 -- ---- what is wanted, is there
 

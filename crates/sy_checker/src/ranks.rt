@@ -1,6 +1,6 @@
 //! Ranks: whether that of a relay is above those of the relays that it forwards messages of a class to.
 
-ghost use Rattle.std.specs.Prelude.{◌≡◌, ◌<◌, Decides, length, slice_get};
+ghost use Rattle.std.specs.Prelude.{◌≡◌, ◌<◌, Decides, IfSome, Some, length, slice_get, true};
 ghost use Rattle.std.specs.Str.{bytes_eq};
 ghost use Rattle.sy_site.specs.machine.Lawful.{IsInput};
 ghost use Rattle.sy_checker.specs.Fit.{AreWanted, IsAbove, name_of};
@@ -98,7 +98,14 @@ fn is_below(site: &Site, part: &[Wanted], rows: &[Row], relay: u32, rank: u32) -
     true
 }
 
-// Whether what an occurrence of a set leads to has a rank below.
+fn is_known(known: Option<u32>, relay: u32) -> bool
+    ensures { Decides result (known ≡ Some relay) }
+{
+    known == Some(relay)
+}
+
+// Whether what an occurrence of a set leads to has a rank below. The relay that was found to have one last is known, and
+// most often the next forward goes there too.
 fn leads_below(
     site: &Site,
     from: SiteInput,
@@ -107,16 +114,25 @@ fn leads_below(
     part: &[Wanted],
     rows: &[Row],
     rank: u32,
+    known: &mut Option<u32>,
 ) -> bool
     requires there { IsInput site.now from }
     requires small { number < 64 }
-    ensures { Decides result (spec.LeadsBelow site.now part.now rows.now from rank set number) }
+    requires known { IfSome known.old (λ relay. spec.IsBelow site.now part.now rows.now relay rank) }
+    ensures below { Decides result (spec.LeadsBelow site.now part.now rows.now from rank set number) }
+    ensures known { result ≡ true → IfSome known.new (λ relay. spec.IsBelow site.now part.now rows.now relay rank) }
 {
     if !has(set, number) {
         return true;
     }
     match forward_at(site, from, number) {
-        Some(to) => is_below(site, part, rows, to.relay, rank),
+        Some(to) => {
+            if is_known(*known, to.relay) {
+                return true;
+            }
+            *known = Some(to.relay);
+            is_below(site, part, rows, to.relay, rank)
+        }
         None => true,
     }
 }
@@ -137,8 +153,9 @@ fn falls_from(
 {
     let may = may_at(site, class, flows, from);
     let mut next = 0;
+    let mut known = None;
     while let Some(number) = next_in(may, next) {
-        if !leads_below(site, from, may, number, part, rows, rank) {
+        if !leads_below(site, from, may, number, part, rows, rank, &mut known) {
             return false;
         }
         next = number + 1;
