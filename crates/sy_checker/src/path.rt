@@ -1,6 +1,9 @@
 //! Paths: occurrences that must be executed, from an entry to an archive.
 
-ghost use Rattle.std.specs.Prelude.{◌<◌, Decides};
+ghost use Rattle.std.specs.Prelude.{◌≡◌, ◌<◌, Decides};
+ghost use Rattle.sy_board.specs.relay.Plans.{occurrences_at};
+ghost use Rattle.sy_site.specs.Sites.{plan_at};
+ghost use Rattle.sy_site.specs.machine.Reach.{list_of};
 ghost use Rattle.sy_site.specs.machine.Lawful.{IsInput};
 ghost use Rattle.sy_checker.specs.Fit.{IsPath, MustWrite};
 ghost use Rattle.sy_checker.specs.Internal as spec;
@@ -12,12 +15,19 @@ use sy_rules::Occurrence;
 use sy_site::{Site, SiteAction, SiteInput};
 use sy_wire::Class;
 
-// Whether an occurrence of the input's list runs this action of the relay.
-fn runs(site: &Site, input: SiteInput, number: u32, archive: SiteAction) -> bool
-    requires there { IsInput site.now input }
+// Whether an occurrence of the input's list, which these are, runs this action of the relay.
+fn runs(
+    site: &Site,
+    input: SiteInput,
+    occurrences: &[Occurrence],
+    number: u32,
+    archive: SiteAction,
+) -> bool
+    requires list { occurrences.now ≡ occurrences_at (plan_at site.now input.relay) (list_of site.now input) }
     ensures { Decides result (spec.Writes site.now input number archive) }
 {
-    match occurrences_at(site, input).get(number as usize) {
+    let _ = site;
+    match occurrences.get(number as usize) {
         Some(Occurrence::Run(action)) => {
             input.relay == archive.relay && *action == archive.action
         }
@@ -26,12 +36,19 @@ fn runs(site: &Site, input: SiteInput, number: u32, archive: SiteAction) -> bool
 }
 
 // Whether an occurrence of a set does.
-fn writes(site: &Site, input: SiteInput, set: u64, number: u32, archive: SiteAction) -> bool
-    requires there { IsInput site.now input }
+fn writes(
+    site: &Site,
+    input: SiteInput,
+    occurrences: &[Occurrence],
+    set: u64,
+    number: u32,
+    archive: SiteAction,
+) -> bool
+    requires list { occurrences.now ≡ occurrences_at (plan_at site.now input.relay) (list_of site.now input) }
     requires small { number < 64 }
     ensures { Decides result (spec.WritesBy site.now input set number archive) }
 {
-    has(set, number) && runs(site, input, number, archive)
+    has(set, number) && runs(site, input, occurrences, number, archive)
 }
 
 /// Whether an occurrence of the archive must be executed at the input.
@@ -50,9 +67,10 @@ pub fn must_write(
         return false;
     }
     let must = must_at(site, class, flows, input);
+    let occurrences = occurrences_at(site, input);
     let mut from = 0;
     while let Some(number) = next_in(must, from) {
-        if writes(site, input, must, number, archive) {
+        if writes(site, input, occurrences, must, number, archive) {
             return true;
         }
         from = number + 1;
