@@ -1,4 +1,5 @@
 -- What only private functions cite.
+pub mod Commands
 pub mod Halts
 pub mod Stops
 pub mod Unverified

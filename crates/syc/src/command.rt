@@ -2,7 +2,8 @@
 ghost use Rattle.std.specs.Prelude.{◌≡◌, ◌∷◌, ◌↔◌, ℕ, List, codes, map, string_bytes, IfErr, IfNone, IfOk, IfSome, IsTrue};
 ghost use Rattle.syc.specs.Words as spec;
 ghost use Rattle.syc.specs.declared.command.Detail.{Detail as AnyDetail};
-ghost use Rattle.syc.specs.Words.{AreFlagged, AreOneFile, ArePass, AreReplay, AreVerify, IsCommand};
+ghost use Rattle.syc.specs.Words.{AreFlagged, AreOneFile, ArePass, AreReplay, AreVerify, IsCommand, IsSiteCommand};
+ghost use Rattle.syc.specs.internal.Commands.{AreNoCommand, AreNoSiteCommand};
 
 use clap::error::ErrorKind;
 use clap::{Arg, ArgAction, Command as Parser, Error};
@@ -17,21 +18,28 @@ pub enum Detail {
     All,
 }
 
+/// What the program is to do with the files of a site.
+#[derive(Clone, Copy)]
+pub enum SiteCommand<'a> {
+    /// A verdict on the site: the name of the site file.
+    Check(&'a str),
+    /// A verdict on the site that says more: what it says, and the name of the site file.
+    CheckMore(Detail, &'a str),
+    /// The certificate of the site: the name of the site file.
+    Certify(&'a str),
+    /// The events of a file at the site: the names of the site file and of the events file.
+    Replay(&'a str, &'a str),
+    /// A verdict on a certificate: the names of the site file and of the certificate's file.
+    Verify(&'a str, &'a str),
+}
+
 /// What the program is to do.
 #[derive(Clone, Copy)]
 pub enum Command<'a> {
     /// Frames on standard input to lines on standard output.
     Pass,
-    /// A verdict on a site: the name of the site file.
-    Check(&'a str),
-    /// A verdict on a site that says more: what it says, and the name of the site file.
-    CheckMore(Detail, &'a str),
-    /// The certificate of a site: the name of the site file.
-    Certify(&'a str),
-    /// The events of a file at a site: the names of the site file and of the events file.
-    Replay(&'a str, &'a str),
-    /// A verdict on a certificate: the names of the site file and of the certificate's file.
-    Verify(&'a str, &'a str),
+    /// What it says of a site.
+    OverSite(SiteCommand<'a>),
 }
 
 const ABOUT: &str = "A relay for syslog messages in octet-counted frames";
@@ -278,38 +286,40 @@ fn refusal(alloc: Global, words: &[&str]) -> Error {
     }
 }
 
+// What the words, the program's name being the first of them, want of a site.
+fn site_command<'a>(words: &[&'a str]) -> Option<SiteCommand<'a>>
+    ensures some { IfSome result (IsSiteCommand (map (λ s. s.now) words.now)) }
+    ensures none { IfNone result (AreNoSiteCommand (map (λ s. s.now) words.now)) }
+{
+    if let Some(site) = named(words, "check") {
+        return Some(SiteCommand::Check(site));
+    }
+    if let Some((detail, site)) = detailed(words) {
+        return Some(SiteCommand::CheckMore(detail, site));
+    }
+    if let Some(site) = named(words, "certify") {
+        return Some(SiteCommand::Certify(site));
+    }
+    if let Some((site, events)) = replayed(words) {
+        return Some(SiteCommand::Replay(site, events));
+    }
+    match verified(words) {
+        Some((site, certificate)) => Some(SiteCommand::Verify(site, certificate)),
+        None => None,
+    }
+}
+
 /// The command that the words name, the program's name being the first of them: words that are those of a command. Of
 /// all others clap says what is wrong with them; a call for help or for the version is an error of that kind.
 pub fn command_of<'a>(alloc: Global, words: &[&'a str]) -> Result<Command<'a>, Error>
     ensures ok { IfOk result (IsCommand (map (λ s. s.now) words.now)) }
-    ensures pass { ArePass (map (λ s. s.now) words.now) → IfErr result (λ _. ⊥) }
-    ensures replay { (site events : List ℕ) → AreReplay (map (λ s. s.now) words.now) site events → IfErr result (λ _. ⊥) }
-    ensures check { (site : List ℕ) → AreOneFile (codes "check") (map (λ s. s.now) words.now) site →
-        IfErr result (λ _. ⊥) }
-    ensures detailed { (detail : AnyDetail) (site : List ℕ) →
-        AreFlagged (codes "check") (spec.flag detail) (map (λ s. s.now) words.now) site → IfErr result (λ _. ⊥) }
-    ensures certify { (site : List ℕ) → AreOneFile (codes "certify") (map (λ s. s.now) words.now) site →
-        IfErr result (λ _. ⊥) }
-    ensures verify { (site certificate : List ℕ) → AreVerify (map (λ s. s.now) words.now) site certificate →
-        IfErr result (λ _. ⊥) }
+    ensures err { IfErr result (λ _. AreNoCommand (map (λ s. s.now) words.now)) }
 {
     if are_pass(words) {
         return Ok(Command::Pass);
     }
-    if let Some(site) = named(words, "check") {
-        return Ok(Command::Check(site));
-    }
-    if let Some((detail, site)) = detailed(words) {
-        return Ok(Command::CheckMore(detail, site));
-    }
-    if let Some(site) = named(words, "certify") {
-        return Ok(Command::Certify(site));
-    }
-    if let Some((site, events)) = replayed(words) {
-        return Ok(Command::Replay(site, events));
-    }
-    match verified(words) {
-        Some((site, certificate)) => Ok(Command::Verify(site, certificate)),
+    match site_command(words) {
+        Some(command) => Ok(Command::OverSite(command)),
         None => Err(refusal(alloc, words)),
     }
 }

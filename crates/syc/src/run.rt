@@ -10,9 +10,10 @@ ghost use Rattle.syc.specs.Reports.{Reported, seen};
 ghost use Rattle.syc.specs.Verdicts.{VerifyIs};
 ghost use Rattle.syc.specs.Words.{AreFlaggedOf, AreNoCommandOf, AreOneFileOf, ArePassAlone, AreReplayOf, AreVerifyOf, flag};
 ghost use Rattle.syc.specs.declared.command.Detail.{Detail as AnyDetail};
+ghost use Rattle.syc.specs.internal.Commands.{Answers};
 
 use crate::check::{certify, check};
-use crate::command::{Command, all_words, command_of};
+use crate::command::{Command, SiteCommand, all_words, command_of};
 use crate::detail::detailed;
 use crate::files::Files;
 use crate::output::send;
@@ -45,6 +46,34 @@ fn show<W: Sink, E: Sink>(alloc: Global, writer: &mut W, errors: &mut E, error: 
         return write_failed(errors);
     };
     0
+}
+
+// Runs a command over a site, and answers the exit status.
+fn over_site<W: Sink, E: Sink, F: Files>(
+    alloc: Global,
+    command: SiteCommand<'_>,
+    files: &F,
+    writer: &mut W,
+    errors: &mut E,
+) -> u8
+    ensures answers { Answers (F.bytes_of files.now) command.entry result
+        (streams (seen W.contents W.is_flushed W.faults writer.old) (seen E.contents E.is_flushed E.faults errors.old))
+        (streams (seen W.contents W.is_flushed W.faults writer.new) (seen E.contents E.is_flushed E.faults errors.new)) }
+    ensures status { result ≤ 4 }
+    ensures none_failed { result ≢ 4 → W.faults writer.new ≡ W.faults writer.old }
+    ensures quiet { result ≡ 0 → Keeps (E.contents errors.old) (E.contents errors.new) }
+{
+    match command {
+        SiteCommand::Check(site) => check(alloc, files, site, writer, errors),
+        SiteCommand::CheckMore(detail, site) => {
+            detailed(alloc, files, detail, site, writer, errors)
+        }
+        SiteCommand::Certify(site) => certify(alloc, files, site, writer, errors),
+        SiteCommand::Replay(site, events) => replay(alloc, files, site, events, writer, errors),
+        SiteCommand::Verify(site, certificate) => {
+            verify(alloc, files, site, certificate, writer, errors)
+        }
+    }
 }
 
 /// Runs the command that the words name, those after the program's name, and answers the exit status: 0
@@ -111,15 +140,7 @@ pub fn run<R: Source, W: Sink, E: Sink, F: Files>(
     };
     match command_of(alloc, words.as_slice()) {
         Ok(Command::Pass) => pass(alloc, reader, writer, errors),
-        Ok(Command::Check(site)) => check(alloc, files, site, writer, errors),
-        Ok(Command::CheckMore(detail, site)) => {
-            detailed(alloc, files, detail, site, writer, errors)
-        }
-        Ok(Command::Certify(site)) => certify(alloc, files, site, writer, errors),
-        Ok(Command::Replay(site, events)) => replay(alloc, files, site, events, writer, errors),
-        Ok(Command::Verify(site, certificate)) => {
-            verify(alloc, files, site, certificate, writer, errors)
-        }
+        Ok(Command::OverSite(command)) => over_site(alloc, command, files, writer, errors),
         Err(error) => match error.kind() {
             ErrorKind::OutOfMemory => out_of_memory(errors),
             _ => show(alloc, writer, errors, &error),

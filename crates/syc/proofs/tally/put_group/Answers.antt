@@ -1,5 +1,3 @@
-use Rattle.std.proofs.Common.{◌++◌, ap, subst, ◌∙◌}
-use Rattle.syc.specs.Checks.{group_text}
 use Rattle.syc.proofs.tally.put_group.Goals as goal
 
 pub returns : goal.returns

@@ -1,0 +1,7 @@
+use Rattle.syc.proofs.run.over_site.Goals as goal
+
+pub returns-in-Replay-clause-answers : goal.returns-in-Replay-clause-answers
+returns-in-Replay-clause-answers g c = rw c.in-Replay.is (λ text input is_site is_events. c.replay.ensures.replay text input is_site is_events)
+
+pub returns-in-Verify-clause-answers : goal.returns-in-Verify-clause-answers
+returns-in-Verify-clause-answers g c = rw c.in-Verify.is (λ site_text text is_site is_text. c.verify.ensures.verdict site_text text is_site is_text)
