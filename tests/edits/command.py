@@ -21,7 +21,7 @@ def words_of(argv, usage):
     """What the words say: the number of crates side by side, the checkout and the gate's log (None: none), which of the
     flags about records are there, and what is named to be tried."""
     given, names, left = {"-j": os.environ.get("RT_JOBS") or None, "-t": None, "-w": None}, [], list(argv)
-    flags = {"-a": False, "-r": False}
+    flags = {"-a": False, "-k": False, "-r": False}
     while left:
         word = left.pop(0)
         if word in ("-h", "--help"):
@@ -145,7 +145,7 @@ def readiness(crates, log):
 
 def main(top, argv, usage):
     jobs, tree, log, flags, names = words_of(argv, usage)
-    flags["uses records"] = not names and not flags["-a"]
+    flags["uses records"] = (flags["-k"] or not names) and not flags["-a"]
     crates = toolchain.crates_of(tree or top)
     wanted = wanted_of(top, crates, names)
     for name in [] if log else wanted:
@@ -174,7 +174,7 @@ def main(top, argv, usage):
     for name, tried, cost, seconds in side_by_side(largest_first, jobs, readiness(crates, log), work):
         for it in tried:
             passed, failed = passed + it.is_well, failed + (not it.is_well)
-            if not it.is_well or names or it.label.endswith("/control"):
+            if not it.is_well or names and not flags["-k"] or it.label.endswith("/control"):
                 print(f"edits: {it.label}: {it.text}", flush=True)
         print(f"edits: {name}: {len(tried)} tried, {cost}, {seconds:.0f} s", flush=True)
     print(f"edits: {passed} passed, {failed} failed")
