@@ -2,6 +2,7 @@
 
 import hashlib
 import os
+import re
 import subprocess
 
 import edits
@@ -11,6 +12,10 @@ HERE = os.path.dirname(os.path.realpath(__file__))
 JUDGES = ("edits.py", "judge.py", "rounds.py", "toolchain.py")
 # The files that are a function's own proof, of which nothing above depends.
 OF_A_FUNCTION = {"Answers.antt", "Invariants.antt", "Proof.antt"}
+# A private table of a source, with its name.
+TABLE = re.compile(r"^static (\w+): .*?;\n", re.MULTILINE | re.DOTALL)
+# A file of lemmas where another one imports it.
+LEMMAS = re.compile(r"\bRattle\.(\w+\.proofs\.[\w.]*\w)")
 # One in so many edits of a recorded crate is tried again in each run.
 SHARE = 20
 
@@ -47,21 +52,56 @@ def own_parts(top, crate):
 
 
 def contracts(folder, path):
-    """A source with its functions emptied down to their contracts, without comments and empty lines."""
+    """A source with its functions emptied down to their contracts, without comments and empty lines, and without what
+    only says to the compiler which calls to put into the callers."""
     after, _ = edits.Sources(folder).emptied([path], lambda _: False)
     lines = [it.rstrip() for it in after.text(path).split("\n")]
-    return "\n".join(it for it in lines if it and not it.lstrip().startswith("//"))
+    return "\n".join(it for it in lines if it and not it.lstrip().startswith(("//", "#[inline")))
+
+
+def without_tables(texts):
+    """These texts, by path, without the private tables in them that none of them names elsewhere: only bodies read
+    those, and proofs of functions."""
+    whole = "\n".join(texts.values())
+    for path, text in texts.items():
+        for table in TABLE.finditer(text):
+            if path.endswith(".rt") and len(re.findall(rf"\b{table[1]}\b", whole)) == 1:
+                text = text.replace(table[0], "")
+        yield path, text
+
+
+def lemmas_below(top, below):
+    """The files of lemmas of these crates, as one that imports them names them: of each its path and its text."""
+    for crate in below:
+        for path, file in files_below(f"{top}/crates/{crate}/proofs"):
+            if os.path.basename(path) not in OF_A_FUNCTION:
+                name = path.removesuffix(".antt").replace("/", ".")
+                yield f"{crate}.proofs.{name}", (f"{crate}/proofs/{path}", text_of(file))
+
+
+def lemmas_named(top, crate, below):
+    """The files of lemmas below that a crate or its edits import, or the sources and definitions below, and those that
+    these import in turn."""
+    lemmas, found = dict(lemmas_below(top, below)), {}
+    folders = [f"{crate}/{it}" for it in ("src", "specs", "proofs", "must-fail")]
+    folders += [f"{it}/{part}" for it in below for part in ("src", "specs")]
+    left = [text_of(file) for it in folders for _, file in files_below(f"{top}/crates/{it}")]
+    while left:
+        for name in (set(LEMMAS.findall(left.pop())) & lemmas.keys()) - found.keys():
+            found[name] = lemmas[name]
+            left.append(lemmas[name][1])
+    return sorted(found.values())
 
 
 def parts_below(top, crate):
-    """What a crate shows those above it: its contracts, its definitions, and lemmas that are no function's own."""
+    """What a crate shows those above it, but for its lemmas: its contracts and its definitions."""
     folder = f"{top}/crates/{crate}"
+    texts = {}
     for path, file in files_below(f"{folder}/src"):
-        yield f"{crate}/src/{path}", contracts(folder, f"src/{path}") if path.endswith(".rt") else text_of(file)
-    for part in ("specs", "proofs"):
-        for path, file in files_below(f"{folder}/{part}"):
-            if os.path.basename(path) not in OF_A_FUNCTION:
-                yield f"{crate}/{part}/{path}", text_of(file)
+        texts[f"{crate}/src/{path}"] = contracts(folder, f"src/{path}") if path.endswith(".rt") else text_of(file)
+    for path, file in files_below(f"{folder}/specs"):
+        texts[f"{crate}/specs/{path}"] = text_of(file)
+    return without_tables(texts)
 
 
 def sum_of(top, crate, below):
@@ -69,9 +109,10 @@ def sum_of(top, crate, below):
     stands on."""
     said = subprocess.run(["rt", "version"], stdout=subprocess.PIPE, stdin=subprocess.DEVNULL, text=True, check=True)
     parts = [("kit", said.stdout), *((it, text_of(f"{HERE}/{it}")) for it in JUDGES), *own_parts(top, crate)]
-    for name in sorted(below):
+    below = sorted(below)
+    for name in below:
         parts += parts_below(top, name)
-    return digest(parts)
+    return digest([*parts, *lemmas_named(top, crate, below)])
 
 
 class Record:
