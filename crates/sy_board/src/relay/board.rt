@@ -102,6 +102,7 @@ fn idle_workers(alloc: Global, count: usize) -> Result<Vec<Worker>, AllocError>
 }
 
 // Where an input's hand is.
+#[inline(always)]
 fn place(input: u32, hand: u32) -> usize
     ensures { result ≡ 64 * input + hand }
 {
@@ -109,6 +110,7 @@ fn place(input: u32, hand: u32) -> usize
 }
 
 // Whether an entry is discarded at the length of a queue.
+#[inline(always)]
 fn is_discarded(queue: &MarkQueue, node: &Node) -> bool
     ensures { result ≡ discards queue.now.marks node.now.message.class.severity (length queue.now.entries) }
 {
@@ -117,6 +119,7 @@ fn is_discarded(queue: &MarkQueue, node: &Node) -> bool
 }
 
 // Whether the losses of an entry are counted apart.
+#[inline(always)]
 fn is_guarded(guard: &Option<Guard>, node: &Node) -> bool
     ensures { result ≡ spec.is_guarded (unwrap_or guard.now []) node.now }
 {

@@ -63,6 +63,7 @@ fn make_room(entries: &mut VecDeque<Node>, count: usize) -> Result<(), AllocErro
 
 // Takes so many entries from the front of a queue where none may be lost: those with something due come to the end of these, and what they
 // have due became due.
+#[inline(always)]
 fn move_kept(
     count: usize,
     queue: &mut MarkQueue,
@@ -110,6 +111,7 @@ impl Board {
     }
 
     /// The same as `grab`, and the lost entries are dropped.
+    #[inline(always)]
     pub fn grab_out(&mut self, worker: u32) -> Result<usize, BoardFault>
         requires { worker < length self.old.plan.workers }
         ensures ok { IfOk result (λ count. (lost : List Entry) × GrabIs count lost self.old worker self.new) }
@@ -124,6 +126,7 @@ impl Board {
     }
 
     // Whether an entry that a worker takes now may be lost.
+    #[inline(always)]
     fn may_lose(&self, worker: u32) -> bool
         requires { worker < length self.now.plan.workers }
         ensures { result ≡ is_reached (marks_at self.now.plan (queue_of_worker self.now.plan worker)).discard_mark
@@ -134,6 +137,7 @@ impl Board {
     }
 
     // The same as `grab`, where none may be lost.
+    #[inline(always)]
     fn grab_kept(&mut self, worker: u32) -> Result<usize, BoardFault>
         requires there { worker < length self.old.plan.workers }
         requires none { is_reached (marks_at self.old.plan (queue_of_worker self.old.plan worker)).discard_mark

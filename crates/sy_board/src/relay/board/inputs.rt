@@ -43,6 +43,7 @@ fn expires(hold: Hold) -> bool
 }
 
 // Brings a hand's entry to the end of a queue.
+#[inline(always)]
 fn bring(
     queue: &mut MarkQueue,
     hand: &mut Option<Node>,
@@ -97,6 +98,7 @@ fn lose(
 
 impl Board {
     /// A message comes to a free hand of an input. Where it is discarded at the length of the input's queue, it is lost.
+    #[inline(always)]
     pub fn take(&mut self, input: u32, hand: u32, node: Node) -> Result<Taken, (Node, BoardFault)>
         requires there { IsHand self.old.plan input hand }
         requires made { IsOfInput self.old.plan input node }
@@ -124,6 +126,7 @@ impl Board {
 
     /// A hand's message goes to the end of the input's queue, unless the full-delay mark or a full queue holds it. The light-delay mark doesn't hold
     /// it here: how long a message waits there is its caller's.
+    #[inline(always)]
     pub fn enter(&mut self, input: u32, hand: u32) -> Result<Entry, BoardFault>
         requires there { IsHand self.old.plan input hand }
         ensures ok { IfOk result (λ entry. EnterIs entry self.old input hand self.new) }

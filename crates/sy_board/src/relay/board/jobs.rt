@@ -17,6 +17,7 @@ use sy_wire::Message;
 use sy_wire::message::laws::equal_bytes;
 
 // The lowest occurrence due of the first of a worker's entries, and the set that is left without it.
+#[inline(always)]
 pub(super) fn next_of(plan: &Plan, entries: &VecDeque<Node>) -> Option<(Occurrence, u64)>
     ensures some { IfSome result (λ next. IsNext plan.now entries.now.items next.0 next.1) }
     ensures none { IfNone result (HasNext plan.now entries.now.items → ⊥) }
@@ -32,6 +33,7 @@ pub(super) fn next_of(plan: &Plan, entries: &VecDeque<Node>) -> Option<(Occurren
 }
 
 // The action of the run that is next for a worker with these entries, and the set that is left without it.
+#[inline(always)]
 fn run_of(plan: &Plan, entries: &VecDeque<Node>) -> Option<(u32, u64)>
     ensures some { IfSome result (λ run. IsNext plan.now entries.now.items (occurrence.Run run.0) run.1) }
     ensures none { IfNone result (HasNextRun plan.now entries.now.items → ⊥) }
@@ -43,6 +45,7 @@ fn run_of(plan: &Plan, entries: &VecDeque<Node>) -> Option<(u32, u64)>
 }
 
 // Whether the first of a worker's entries is of this message. Equal bytes are one message.
+#[inline(always)]
 fn is_first_of(entries: &VecDeque<Node>, message: &Message) -> bool
     ensures { IsTrue result ↔ IsFirstOf entries.now.items message.now }
 {
@@ -63,6 +66,7 @@ fn was_offered(failure: &Failure) -> bool
 }
 
 // What is left due of the first of a worker's entries without the run that is next, where a device's answer about a message is of that run.
+#[inline(always)]
 fn left_by(
     plan: &Plan,
     entries: &VecDeque<Node>,
@@ -86,6 +90,7 @@ fn left_by(
 
 // The present occurrence is dealt with: this is left due of the first entry, which leaves where it is nothing. The next occurrence hasn't
 // failed yet.
+#[inline(always)]
 pub(super) fn advance(worker: &mut Worker, left: u64) -> Option<Node>
     requires { 0 < length worker.old.entries.items }
     ensures entries { worker.new.entries.items ≡ advanced_entries worker.old.entries.items left }
@@ -105,6 +110,7 @@ pub(super) fn advance(worker: &mut Worker, left: u64) -> Option<Node>
 
 impl Board {
     /// The lowest occurrence due of a worker's first entry, if there is one.
+    #[inline(always)]
     pub fn job(&self, worker: u32) -> Option<Job<'_>>
         requires { worker < length self.now.plan.workers }
         ensures some { IfSome result (λ job. JobIs job self.now worker) }
@@ -142,6 +148,7 @@ impl Board {
     }
 
     /// The same as `settle`, and the entry is handed out where nothing more is due for it.
+    #[inline(always)]
     pub fn settle_out(
         &mut self,
         worker: u32,
