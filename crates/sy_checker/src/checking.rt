@@ -201,8 +201,8 @@ pub fn check_site(alloc: Global, site: &Site) -> Result<Accepted, Refusal>
 /// Accepts the texts of a site, its file and those of its relays, where it is sound; of two files of one name the
 /// first counts. Where they are accepted, no message of a protected class is lost in any run of the site.
 ///
-/// Refuses texts with a fault, as reading them does, and else a site for what is found in it, as making its
-/// certificate does. The certificate is verified. Texts of a sound site are refused for want of memory alone.
+/// Refuses texts with a fault, as reading them does, and else a site for what is found in it, as `check_site` does.
+/// Texts of a sound site are refused for want of memory alone.
 pub fn check(alloc: Global, text: &[u8], files: &[(&str, &[u8])]) -> Result<Accepted, CheckFault>
     ensures kept { IfOk result (λ accepted. spec.IsAccepted text.now
         (map (λ f. file f.0.now f.1.now) files.now) accepted) }
