@@ -59,10 +59,10 @@ def contracts(folder, path):
     return "\n".join(it for it in lines if it and not it.lstrip().startswith(("//", "#[inline")))
 
 
-def without_tables(texts):
-    """These texts, by path, without the private tables in them that none of them names elsewhere: only bodies read
-    those, and proofs of functions."""
-    whole = "\n".join(texts.values())
+def without_tables(texts, lemmas):
+    """These texts, by path, without the private tables in them that neither they nor the lemmas name elsewhere: only
+    bodies read those, and proofs of functions."""
+    whole = "\n".join([*texts.values(), *(text for _, text in lemmas)])
     for path, text in texts.items():
         for table in TABLE.finditer(text):
             if path.endswith(".rt") and len(re.findall(rf"\b{table[1]}\b", whole)) == 1:
@@ -93,15 +93,15 @@ def lemmas_named(top, crate, below):
     return sorted(found.values())
 
 
-def parts_below(top, crate):
-    """What a crate shows those above it, but for its lemmas: its contracts and its definitions."""
+def parts_below(top, crate, lemmas):
+    """What a crate shows those above it beside these lemmas: its contracts and its definitions."""
     folder = f"{top}/crates/{crate}"
     texts = {}
     for path, file in files_below(f"{folder}/src"):
         texts[f"{crate}/src/{path}"] = contracts(folder, f"src/{path}") if path.endswith(".rt") else text_of(file)
     for path, file in files_below(f"{folder}/specs"):
         texts[f"{crate}/specs/{path}"] = text_of(file)
-    return without_tables(texts)
+    return without_tables(texts, lemmas)
 
 
 def sum_of(top, crate, below):
@@ -110,9 +110,10 @@ def sum_of(top, crate, below):
     said = subprocess.run(["rt", "version"], stdout=subprocess.PIPE, stdin=subprocess.DEVNULL, text=True, check=True)
     parts = [("kit", said.stdout), *((it, text_of(f"{HERE}/{it}")) for it in JUDGES), *own_parts(top, crate)]
     below = sorted(below)
+    lemmas = lemmas_named(top, crate, below)
     for name in below:
-        parts += parts_below(top, name)
-    return digest([*parts, *lemmas_named(top, crate, below)])
+        parts += parts_below(top, name, lemmas)
+    return digest([*parts, *lemmas])
 
 
 class Record:
