@@ -1,13 +1,13 @@
 -- Which command the words are.
-use Rattle.std.proofs.Common.{◌≡◌, ℕ, List, [], ◌∷◌, length, map, refl, sym, subst, ap, ◌∙◌, arith}
+use Rattle.std.proofs.Common.{◌≡◌, ℕ, List, [], ◌∷◌, ◌++◌, length, map, refl, sym, subst, ap, ◌∙◌, arith}
 use Rattle.std.specs.Prelude.{Option, Some, codes}
-use Rattle.syc.specs.Checks.{CertifyIs, CheckIs, DetailIs}
-use Rattle.syc.specs.Outcomes.{Streams, Tells}
+use Rattle.syc.specs.Checks.{AskedIs}
+use Rattle.syc.specs.Reports.{Streams}
 use Rattle.syc.specs.Replays.{ReplayIs}
 use Rattle.syc.specs.Verdicts.{VerifyIs}
-use Rattle.syc.specs.Words.{AreFlagged, AreFlaggedOf, AreNoCommandOf, AreOneFileOf, ArePass, ArePassAlone, AreReplayOf, AreVerifyOf, IsSiteCommand, flag}
-use Rattle.syc.specs.declared.command.Detail.{Detail}
-use Rattle.syc.specs.declared.command.Detail.TheVariants as details
+use Rattle.syc.specs.Words.{AreAsking, AreAskingOf, AreNoCommandOf, ArePass, ArePassAlone, AreReplayOf, AreVerifyOf, IsSiteCommand, asking}
+use Rattle.syc.specs.declared.command.Asked.{Asked}
+use Rattle.syc.specs.declared.command.Asked.TheVariants as asked
 use Rattle.syc.specs.declared.command.SiteCommand.{SiteCommand}
 use Rattle.syc.specs.declared.command.SiteCommand.TheVariants as of_site
 use Rattle.syc.specs.internal.Commands.{AreNoCommand, Answers, IsSiteCommandOf}
@@ -48,18 +48,15 @@ replay_or_verify e = r_or_v 114 118 refl refl (head_same e)
 apart : codes "--explain" ≡ codes "--all" → ⊥
 apart e = nine_or_five (length (codes "--explain")) (length (codes "--all")) refl refl (ap length e)
 
-one_detail : (a b : Detail) → flag a ≡ flag b → a ≡ b
-one_detail details.Explain details.Explain e = refl
-one_detail details.Explain details.All e = absurd (apart e)
-one_detail details.All details.Explain e = absurd (apart (sym e))
-one_detail details.All details.All e = refl
-
--- none of the two
-pub neither : (words : List (List ℕ)) → ((site : List ℕ) → AreFlagged (codes "check") (codes "--explain") words site → ⊥)
-    → ((site : List ℕ) → AreFlagged (codes "check") (codes "--all") words site → ⊥)
-    → (detail : Detail) (site : List ℕ) → AreFlagged (codes "check") (flag detail) words site → ⊥
-neither words first second details.Explain site are = first site are
-neither words first second details.All site are = second site are
+-- none of the four
+pub none_asked : (words : List (List ℕ)) → ((site : List ℕ) → AreAsking asked.Check words site → ⊥)
+    → ((site : List ℕ) → AreAsking asked.Explain words site → ⊥) → ((site : List ℕ) → AreAsking asked.All words site → ⊥)
+    → ((site : List ℕ) → AreAsking asked.Certify words site → ⊥)
+    → (question : Asked) (site : List ℕ) → AreAsking question words site → ⊥
+none_asked words check explain all certify asked.Check site are = check site are
+none_asked words check explain all certify asked.Explain site are = explain site are
+none_asked words check explain all certify asked.All site are = all site are
+none_asked words check explain all certify asked.Certify site are = certify site are
 
 -- ---- lists of words that differ in length
 
@@ -77,6 +74,43 @@ second_same e = cc
 
 others_same : {a b c d e f : List ℕ} → a ∷ b ∷ c ∷ [] ≡ d ∷ e ∷ f ∷ [] → (b ≡ e) × (c ≡ f)
 others_same e = (cc, cc)
+
+-- What is asked, and of which site, is fixed by the words.
+one_question : (a b : Asked) (s t : List ℕ) → asking a ++ s ∷ [] ≡ asking b ++ t ∷ [] → (a ≡ b) × (s ≡ t)
+one_question asked.Check asked.Check s t e = (refl, second_same e)
+one_question asked.Check asked.Explain s t e = absurd (two_three e)
+one_question asked.Check asked.All s t e = absurd (two_three e)
+one_question asked.Check asked.Certify s t e = absurd (check_or_certify (first_same e))
+one_question asked.Explain asked.Check s t e = absurd (two_three (sym e))
+one_question asked.Explain asked.Explain s t e = (refl, (others_same e).1)
+one_question asked.Explain asked.All s t e = absurd (apart (others_same e).0)
+one_question asked.Explain asked.Certify s t e = absurd (two_three (sym e))
+one_question asked.All asked.Check s t e = absurd (two_three (sym e))
+one_question asked.All asked.Explain s t e = absurd (apart (sym (others_same e).0))
+one_question asked.All asked.All s t e = (refl, (others_same e).1)
+one_question asked.All asked.Certify s t e = absurd (two_three (sym e))
+one_question asked.Certify asked.Check s t e = absurd (check_or_certify (first_same (sym e)))
+one_question asked.Certify asked.Explain s t e = absurd (two_three e)
+one_question asked.Certify asked.All s t e = absurd (two_three e)
+one_question asked.Certify asked.Certify s t e = (refl, second_same e)
+
+pass_no_question : (question : Asked) (word s : List ℕ) → word ∷ [] ≡ asking question ++ s ∷ [] → ⊥
+pass_no_question asked.Check word s e = one_two e
+pass_no_question asked.Explain word s e = one_three e
+pass_no_question asked.All word s e = one_three e
+pass_no_question asked.Certify word s e = one_two e
+
+replay_no_question : (question : Asked) (s a b : List ℕ) → asking question ++ s ∷ [] ≡ codes "replay" ∷ a ∷ b ∷ [] → ⊥
+replay_no_question asked.Check s a b e = two_three e
+replay_no_question asked.Explain s a b e = check_or_replay (first_same e)
+replay_no_question asked.All s a b e = check_or_replay (first_same e)
+replay_no_question asked.Certify s a b e = two_three e
+
+verify_no_question : (question : Asked) (s a b : List ℕ) → asking question ++ s ∷ [] ≡ codes "verify" ∷ a ∷ b ∷ [] → ⊥
+verify_no_question asked.Check s a b e = two_three e
+verify_no_question asked.Explain s a b e = check_or_verify (first_same e)
+verify_no_question asked.All s a b e = check_or_verify (first_same e)
+verify_no_question asked.Certify s a b e = two_three e
 
 -- ---- the words after the program's name
 
@@ -98,9 +132,7 @@ module _ {X : Type 0} (now : X → List ℕ) (words items : List X) (after : Lis
 
   -- what they want of a site
   pub without_name : (command : SiteCommand) → IsSiteCommand (map now words) command → IsSiteCommandOf after command
-  without_name (of_site.Check site) h = record { words_are = behind _ h.words_are; site_plain = h.site_plain }
-  without_name (of_site.CheckMore detail site) h = record { words_are = behind _ h.words_are; site_plain = h.site_plain }
-  without_name (of_site.Certify site) h = record { words_are = behind _ h.words_are; site_plain = h.site_plain }
+  without_name (of_site.Ask question site) h = record { words_are = behind _ h.words_are; site_plain = h.site_plain }
   without_name (of_site.Replay site events) h = record { words_are = behind _ h.words_are; site_plain = h.site_plain; events_plain = h.events_plain }
   without_name (of_site.Verify site certificate) h =
       record { words_are = behind _ h.words_are; site_plain = h.site_plain; certificate_plain = h.certificate_plain }
@@ -109,9 +141,7 @@ module _ {X : Type 0} (now : X → List ℕ) (words items : List X) (after : Lis
   pub none_without_name : AreNoCommand (map now words) → AreNoCommandOf after
   none_without_name none = record {
     no_pass = λ e. none.no_pass (before _ e);
-    no_check = λ site h. none.over_no_site.no_check site (record { words_are = before _ h.words_are; site_plain = h.site_plain });
-    no_more = λ detail site h. none.over_no_site.no_more detail site (record { words_are = before _ h.words_are; site_plain = h.site_plain });
-    no_certify = λ site h. none.over_no_site.no_certify site (record { words_are = before _ h.words_are; site_plain = h.site_plain });
+    no_asking = λ question site h. none.over_no_site.no_asking question site (record { words_are = before _ h.words_are; site_plain = h.site_plain });
     no_verify = λ site certificate h. none.over_no_site.no_verify site certificate
         (record { words_are = before _ h.words_are; site_plain = h.site_plain; certificate_plain = h.certificate_plain });
     no_replay = λ site events h. none.over_no_site.no_replay site events
@@ -122,27 +152,20 @@ module _ {X : Type 0} (now : X → List ℕ) (words items : List X) (after : Lis
 
 -- a pass is no command over a site
 pub pass_is_apart : (after : List (List ℕ)) (command : SiteCommand) → ArePassAlone after → IsSiteCommandOf after command → ⊥
-pass_is_apart after (of_site.Check site) pass h = one_two (sym pass ∙ h.words_are)
-pass_is_apart after (of_site.CheckMore detail site) pass h = one_three (sym pass ∙ h.words_are)
-pass_is_apart after (of_site.Certify site) pass h = one_two (sym pass ∙ h.words_are)
+pass_is_apart after (of_site.Ask question site) pass h = pass_no_question question _ _ (sym pass ∙ h.words_are)
 pass_is_apart after (of_site.Replay site events) pass h = one_three (sym pass ∙ h.words_are)
 pass_is_apart after (of_site.Verify site certificate) pass h = one_three (sym pass ∙ h.words_are)
 
 -- and where words are no command they want nothing of a site
 pub none_of_site : (after : List (List ℕ)) (command : SiteCommand) → AreNoCommandOf after → IsSiteCommandOf after command → ⊥
-none_of_site after (of_site.Check site) none h = none.no_check _ h
-none_of_site after (of_site.CheckMore detail site) none h = none.no_more detail _ h
-none_of_site after (of_site.Certify site) none h = none.no_certify _ h
+none_of_site after (of_site.Ask question site) none h = none.no_asking question _ h
 none_of_site after (of_site.Replay site events) none h = none.no_replay _ _ h
 none_of_site after (of_site.Verify site certificate) none h = none.no_verify _ _ h
 
 -- the words of a pass are those of no other command
 module _ (after : List (List ℕ)) (pass : ArePassAlone after) where
-  pub pass_no_file : (word site : List ℕ) → AreOneFileOf word after site → ⊥
-  pass_no_file word site h = one_two (sym pass ∙ h.words_are)
-
-  pub pass_no_more : (word flag site : List ℕ) → AreFlaggedOf word flag after site → ⊥
-  pass_no_more word flag site h = one_three (sym pass ∙ h.words_are)
+  pub pass_asks_nothing : (question : Asked) (site : List ℕ) → AreAskingOf question after site → ⊥
+  pass_asks_nothing question site h = pass_no_question question _ _ (sym pass ∙ h.words_are)
 
   pub pass_no_replay : (site events : List ℕ) → AreReplayOf after site events → ⊥
   pass_no_replay site events h = one_three (sym pass ∙ h.words_are)
@@ -152,41 +175,22 @@ module _ (after : List (List ℕ)) (pass : ArePassAlone after) where
 
 -- What a command over a site answers is what the words that call for it promise.
 module _ (bytes_of : List ℕ → Option (List ℕ)) (status : ℕ) (old new : Streams) (after : List (List ℕ)) where
-  pub for_check : (command : SiteCommand) → IsSiteCommandOf after command → Answers bytes_of command status old new
-      → (site text : List ℕ) → AreOneFileOf (codes "check") after site → bytes_of site ≡ Some text → CheckIs bytes_of text status old new
-  for_check (of_site.Check name) h answers site text are known = answers text (ap bytes_of (second_same (sym h.words_are ∙ are.words_are)) ∙ known)
-  for_check (of_site.CheckMore detail name) h answers site text are known = absurd (two_three (sym are.words_are ∙ h.words_are))
-  for_check (of_site.Certify name) h answers site text are known = absurd (check_or_certify (first_same (sym are.words_are ∙ h.words_are)))
-  for_check (of_site.Replay name events) h answers site text are known = absurd (two_three (sym are.words_are ∙ h.words_are))
-  for_check (of_site.Verify name certificate) h answers site text are known = absurd (two_three (sym are.words_are ∙ h.words_are))
-
-  pub for_certify : (command : SiteCommand) → IsSiteCommandOf after command → Answers bytes_of command status old new
-      → (site text : List ℕ) → AreOneFileOf (codes "certify") after site → bytes_of site ≡ Some text → CertifyIs bytes_of text status old new
-  for_certify (of_site.Check name) h answers site text are known = absurd (check_or_certify (first_same (sym h.words_are ∙ are.words_are)))
-  for_certify (of_site.CheckMore detail name) h answers site text are known = absurd (two_three (sym are.words_are ∙ h.words_are))
-  for_certify (of_site.Certify name) h answers site text are known = answers text (ap bytes_of (second_same (sym h.words_are ∙ are.words_are)) ∙ known)
-  for_certify (of_site.Replay name events) h answers site text are known = absurd (two_three (sym are.words_are ∙ h.words_are))
-  for_certify (of_site.Verify name certificate) h answers site text are known = absurd (two_three (sym are.words_are ∙ h.words_are))
-
-  pub for_more : (command : SiteCommand) → IsSiteCommandOf after command → Answers bytes_of command status old new
-      → (detail : Detail) (site text : List ℕ) → AreFlaggedOf (codes "check") (flag detail) after site → bytes_of site ≡ Some text
-      → DetailIs detail bytes_of text status old new
-  for_more (of_site.Check name) h answers detail site text are known = absurd (two_three (sym h.words_are ∙ are.words_are))
-  for_more (of_site.CheckMore said name) h answers detail site text are known =
-      let both = others_same (sym h.words_are ∙ are.words_are) in
-      subst (λ d. DetailIs d bytes_of text status old new) (one_detail said detail both.0) (answers text (ap bytes_of both.1 ∙ known))
-  for_more (of_site.Certify name) h answers detail site text are known = absurd (two_three (sym h.words_are ∙ are.words_are))
-  for_more (of_site.Replay name events) h answers detail site text are known = absurd (check_or_replay (first_same (sym are.words_are ∙ h.words_are)))
-  for_more (of_site.Verify name certificate) h answers detail site text are known =
-      absurd (check_or_verify (first_same (sym are.words_are ∙ h.words_are)))
+  pub for_asked : (command : SiteCommand) → IsSiteCommandOf after command → Answers bytes_of command status old new
+      → (question : Asked) (site text : List ℕ) → AreAskingOf question after site → bytes_of site ≡ Some text
+      → AskedIs question bytes_of text status old new
+  for_asked (of_site.Ask said name) h answers question site text are known =
+      let both = one_question said question _ _ (sym h.words_are ∙ are.words_are) in
+      subst (λ q. AskedIs q bytes_of text status old new) both.0 (answers text (ap bytes_of both.1 ∙ known))
+  for_asked (of_site.Replay name events) h answers question site text are known =
+      absurd (replay_no_question question _ _ _ (sym are.words_are ∙ h.words_are))
+  for_asked (of_site.Verify name certificate) h answers question site text are known =
+      absurd (verify_no_question question _ _ _ (sym are.words_are ∙ h.words_are))
 
   pub for_replay : (command : SiteCommand) → IsSiteCommandOf after command → Answers bytes_of command status old new
       → (site events text input : List ℕ) → AreReplayOf after site events → bytes_of site ≡ Some text → bytes_of events ≡ Some input
-      → ReplayIs bytes_of text input status old.output new.output (Tells old new)
-  for_replay (of_site.Check name) h answers site events text input are known read = absurd (two_three (sym h.words_are ∙ are.words_are))
-  for_replay (of_site.CheckMore detail name) h answers site events text input are known read =
-      absurd (check_or_replay (first_same (sym h.words_are ∙ are.words_are)))
-  for_replay (of_site.Certify name) h answers site events text input are known read = absurd (two_three (sym h.words_are ∙ are.words_are))
+      → ReplayIs bytes_of text input status old new
+  for_replay (of_site.Ask question name) h answers site events text input are known read =
+      absurd (replay_no_question question _ _ _ (sym h.words_are ∙ are.words_are))
   for_replay (of_site.Replay name others) h answers site events text input are known read =
       let both = others_same (sym h.words_are ∙ are.words_are) in
       answers text input (ap bytes_of both.0 ∙ known) (ap bytes_of both.1 ∙ read)
@@ -196,10 +200,8 @@ module _ (bytes_of : List ℕ → Option (List ℕ)) (status : ℕ) (old new : S
   pub for_verify : (command : SiteCommand) → IsSiteCommandOf after command → Answers bytes_of command status old new
       → (site certificate site_text text : List ℕ) → AreVerifyOf after site certificate → bytes_of site ≡ Some site_text
       → bytes_of certificate ≡ Some text → VerifyIs bytes_of site_text text status old new
-  for_verify (of_site.Check name) h answers site certificate site_text text are known read = absurd (two_three (sym h.words_are ∙ are.words_are))
-  for_verify (of_site.CheckMore detail name) h answers site certificate site_text text are known read =
-      absurd (check_or_verify (first_same (sym h.words_are ∙ are.words_are)))
-  for_verify (of_site.Certify name) h answers site certificate site_text text are known read = absurd (two_three (sym h.words_are ∙ are.words_are))
+  for_verify (of_site.Ask question name) h answers site certificate site_text text are known read =
+      absurd (verify_no_question question _ _ _ (sym h.words_are ∙ are.words_are))
   for_verify (of_site.Replay name events) h answers site certificate site_text text are known read =
       absurd (replay_or_verify (first_same (sym h.words_are ∙ are.words_are)))
   for_verify (of_site.Verify name other) h answers site certificate site_text text are known read =

@@ -20,7 +20,7 @@ use Rattle.sy_replay.specs.Held.{opened_parts}
 use Rattle.sy_replay.specs.States.{Applies, Contents, IsIllegalAt, holding, state_in}
 use Rattle.syc.specs.Reports.{SinkState, Torn}
 use Rattle.syc.specs.HaltTexts.{halt_report}
-use Rattle.syc.specs.Replays.{Ending, IsLeft, IsReplayed, IsTold, ReplayIs, Replays, end_line, lines_of, loss_lines, next, opened, status_of}
+use Rattle.syc.specs.Replays.{Ending, EndsReplay, IsLeft, IsReplayed, IsTold, Replays, end_line, lines_of, loss_lines, next, opened, status_of}
 use Rattle.syc.specs.Replays.Replays.{done, end_torn, faulty, full, no_memory, no_step, skips, steps, torn, unread, unwritten}
 use Rattle.syc.specs.SiteFiles.{AreGiven, HasNoAnswer}
 use Rattle.syc.specs.internal.Halts.{Comes, Finishes, Halted, HasCause, IsCause, IsNoSite, IsReadHalt, IsTorn, Place, Replayed, ReplaysFrom, Stops, Turns, ending_of, file_of, halt_of, start, status_at, with_lines}
@@ -294,7 +294,7 @@ keeps_on (Some xs) (Some ys) (Some zs) p q = q ∙ p
 -- what a replay that was halted answers, once that is told
 pub halted : (bytes_of : List ℕ → Option (List ℕ)) (text events : List ℕ) (why : Halt) (old new : SinkState) (mid : Option (List ℕ)) (IsReported : List ℕ → Type 0)
     → Halted bytes_of text events why old.contents old.faults mid new.faults → Keeps mid new.contents → new.is_flushed ≡ true
-    → IsReported (halt_report why) → ReplayIs bytes_of text events (status_at why) old new IsReported
+    → IsReported (halt_report why) → EndsReplay bytes_of text events (status_at why) old new IsReported
 halted bytes_of text events why old new mid IsReported h kept flushed told = elim h [
   | inl none ↦ inl (keeps_on old.contents mid new.contents none.1 kept, inl (no_site bytes_of text why IsReported none.0 told, none.2, flushed))
   | inr some ↦ inr (some.0, some.1, replayed_up_to some.0 events why old new mid IsReported some.2 kept flushed told)
@@ -303,14 +303,14 @@ halted bytes_of text events why old new mid IsReported h kept flushed told = eli
 pub halted_failing : (bytes_of : List ℕ → Option (List ℕ)) (text events : List ℕ) (why : Halt) (old new : SinkState) (mid : Option (List ℕ)) (faults : ℕ)
     (IsReported : List ℕ → Type 0)
     → Halted bytes_of text events why old.contents old.faults mid faults → Keeps mid new.contents → Rose old.faults new.faults
-    → IsReported (halt_report halt.WriteFailed) → ReplayIs bytes_of text events 4 old new IsReported
+    → IsReported (halt_report halt.WriteFailed) → EndsReplay bytes_of text events 4 old new IsReported
 halted_failing bytes_of text events why old new mid faults IsReported h kept rose told = elim h [
   | inl none ↦ inl (keeps_on old.contents mid new.contents none.1 kept, inr (inr (refl, rose, told)))
   | inr some ↦ inr (some.0, some.1, replayed_failing some.0 events why old new mid faults IsReported some.2 kept rose told)
 ]
 
 pub replayed : (bytes_of : List ℕ → Option (List ℕ)) (text events : List ℕ) (old new : SinkState) (IsReported : List ℕ → Type 0)
-    → Replayed bytes_of text events old.contents old.faults new.contents new.faults → new.is_flushed ≡ true → ReplayIs bytes_of text events 0 old new IsReported
+    → Replayed bytes_of text events old.contents old.faults new.contents new.faults → new.is_flushed ≡ true → EndsReplay bytes_of text events 0 old new IsReported
 replayed bytes_of text events old new IsReported r flushed = inr (r.0, r.1, replayed_whole r.0 events old new IsReported r.2 flushed)
 
 -- ---- between two reads

@@ -1,10 +1,10 @@
--- How a command over a site answers where it has nothing to print, and the words that call for one.
-use Rattle.std.proofs.Common.{◌≡◌, ℕ, Bool, List, inl, inr, sym, subst, ap}
+-- How a command over a site answers where it has nothing to print.
+use Rattle.std.proofs.Common.{◌≡◌, ℕ, Bool, List, inl, inr, sym, subst}
 use Rattle.std.specs.Prelude.{IfErr, IfOk, Option, Some, Result, Ok, Err}
 use Rattle.sy_site.specs.Sites.{Site}
 use Rattle.syc.specs.HaltTexts.{halt_report}
-use Rattle.syc.specs.Outcomes.{AnswersOf, Prints, Streams, Tells, streams}
-use Rattle.syc.specs.Reports.{Reported, SinkState}
+use Rattle.syc.specs.Outcomes.{AnswersOf, Prints}
+use Rattle.syc.specs.Reports.{Streams, Tells}
 use Rattle.syc.specs.SiteFiles.{HasNoAnswer, IsSiteOf}
 use Rattle.syc.specs.Verdicts.{SaysOfFiles, VerifyIs}
 use Rattle.syc.specs.declared.answer.Answer.{Answer}
@@ -21,18 +21,18 @@ site_gone bytes_of site why status IsReported none is told =
     subst (λ (s : ℕ). HasNoAnswer bytes_of site s IsReported) (sym is) (no_site bytes_of site why IsReported none told)
 
 -- what a command over one site answers
-pub answered : {W : Type 0} (Says : Site → List ℕ → Bool → Type 0) (bytes_of : List ℕ → Option (List ℕ)) (name text : List ℕ)
-    (answer : Result Answer Halt) (status : ℕ) (shown : W → SinkState) (before after : W) (errors errors' : SinkState)
+pub answered : (Says : Site → List ℕ → Bool → Type 0) (bytes_of : List ℕ → Option (List ℕ)) (name text : List ℕ)
+    (answer : Result Answer Halt) (status : ℕ) (old new : Streams)
     → IfOk answer (λ a. (t : List ℕ) → bytes_of name ≡ Some t → (site : Site) × IsSiteOf bytes_of t site × Says site a.text.items a.is_accepted)
     → IfErr answer (λ why. (t : List ℕ) → bytes_of name ≡ Some t → IsNoSite bytes_of t why)
-    → IfOk answer (λ a. Prints a.text.items a.is_accepted status (streams (shown before) errors) (streams (shown after) errors'))
-    → IfErr answer (λ why. (status ≡ status_at why) × (after ≡ before) × Reported errors errors' (halt_report why))
-    → bytes_of name ≡ Some text → AnswersOf Says bytes_of text status (streams (shown before) errors) (streams (shown after) errors')
-answered Says bytes_of name text (Ok a) status shown before after errors errors' ok err printed stopped known =
+    → IfOk answer (λ a. Prints a.text.items a.is_accepted status old new)
+    → IfErr answer (λ why. (status ≡ status_at why) × (new.output ≡ old.output) × Tells old new (halt_report why))
+    → bytes_of name ≡ Some text → AnswersOf Says bytes_of text status old new
+answered Says bytes_of name text (Ok a) status old new ok err printed stopped known =
     let said = ok text known in
     inl (said.0, said.1, a.text.items, a.is_accepted, said.2, printed)
-answered Says bytes_of name text (Err why) status shown before after errors errors' ok err printed stopped known =
-    inr (site_gone bytes_of text why status (Reported errors errors') (err text known) stopped.0 stopped.2, ap shown stopped.1)
+answered Says bytes_of name text (Err why) status old new ok err printed stopped known =
+    inr (site_gone bytes_of text why status (Tells old new) (err text known) stopped.0 stopped.2, stopped.1)
 
 module _ (bytes_of : List ℕ → Option (List ℕ)) (site text : List ℕ) (old new : Streams) (status : ℕ) (same : new.output ≡ old.output) where
   gone : (why : Halt) → IsNoSite bytes_of site why → status ≡ status_at why → Tells old new (halt_report why)
@@ -52,16 +52,14 @@ module _ (bytes_of : List ℕ → Option (List ℕ)) (site text : List ℕ) (old
   no_verdict halt.WriteFailed none is told = gone halt.WriteFailed none is told
 
 -- what a verify answers
-pub judged : {W : Type 0} (bytes_of : List ℕ → Option (List ℕ)) (name other site text : List ℕ)
-    (answer : Result Answer Halt) (status : ℕ) (shown : W → SinkState) (before after : W) (errors errors' : SinkState)
+pub judged : (bytes_of : List ℕ → Option (List ℕ)) (name other site text : List ℕ)
+    (answer : Result Answer Halt) (status : ℕ) (old new : Streams)
     → IfOk answer (λ a. (s t : List ℕ) → bytes_of name ≡ Some s → bytes_of other ≡ Some t → SaysOfFiles bytes_of s t a.text.items a.is_accepted)
     → IfErr answer (λ why. (s t : List ℕ) → bytes_of name ≡ Some s → bytes_of other ≡ Some t → HasNoVerdict bytes_of s t why)
-    → IfOk answer (λ a. Prints a.text.items a.is_accepted status (streams (shown before) errors) (streams (shown after) errors'))
-    → IfErr answer (λ why. (status ≡ status_at why) × (after ≡ before) × Reported errors errors' (halt_report why))
-    → bytes_of name ≡ Some site → bytes_of other ≡ Some text
-    → VerifyIs bytes_of site text status (streams (shown before) errors) (streams (shown after) errors')
-judged bytes_of name other site text (Ok a) status shown before after errors errors' ok err printed stopped is_site is_text =
+    → IfOk answer (λ a. Prints a.text.items a.is_accepted status old new)
+    → IfErr answer (λ why. (status ≡ status_at why) × (new.output ≡ old.output) × Tells old new (halt_report why))
+    → bytes_of name ≡ Some site → bytes_of other ≡ Some text → VerifyIs bytes_of site text status old new
+judged bytes_of name other site text (Ok a) status old new ok err printed stopped is_site is_text =
     inl (a.text.items, a.is_accepted, ok site text is_site is_text, printed)
-judged bytes_of name other site text (Err why) status shown before after errors errors' ok err printed stopped is_site is_text =
-    no_verdict bytes_of site text (streams (shown before) errors) (streams (shown after) errors') status (ap shown stopped.1) why
-    (err site text is_site is_text) stopped.0 stopped.2
+judged bytes_of name other site text (Err why) status old new ok err printed stopped is_site is_text =
+    no_verdict bytes_of site text old new status stopped.1 why (err site text is_site is_text) stopped.0 stopped.2

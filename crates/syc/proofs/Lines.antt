@@ -6,8 +6,7 @@ use Rattle.std.proofs.lemmas.Fmt.{decimal_digit, decimal_step}
 use Rattle.std.specs.Io.KnownBytes.{Appends, Keeps}
 use Rattle.std.proofs.KnownBytes.{Appends-trans, Appends-kept}
 use Rattle.std.proofs.lemmas.List.{append_assoc, append-nil, take-append-drop, drop-take, take-take}
-use Rattle.syc.specs.HaltTexts.{joined}
-use Rattle.syc.specs.Reports.{Torn}
+use Rattle.syc.specs.Reports.{Torn, joined}
 
 pub torn_at : (a b c : Option (List ℕ)) (bytes : List ℕ) (at : ℕ) → Appends a b (take at bytes) → Keeps b c → Torn a c bytes
 torn_at a b c bytes at wrote kept = record { part = take at bytes; tail = drop at bytes; wrote = Appends-kept a b c (take at bytes) wrote kept; front = sym (take-append-drop at bytes) }

@@ -4,7 +4,7 @@ use Rattle.std.specs.Prelude.{Option}
 use Rattle.std.specs.Io.KnownBytes.{Keeps}
 use Rattle.std.proofs.KnownBytes.{Appends-kept, Keeps-refl}
 use Rattle.sy_wire.specs.Streams.{Rose}
-use Rattle.syc.specs.Pass.{Counts, GivesUpFailing, HasFailed, NoneFailed, PartPassed, PassIs, lines}
+use Rattle.syc.specs.Pass.{Counts, EndsPass, GivesUpFailing, HasFailed, NoneFailed, PartPassed, lines}
 use Rattle.syc.specs.Reports.{report, status_shown}
 use Rattle.syc.specs.internal.Stops.{PassCause, StopIs, StopsAt, StopsIn}
 use Rattle.syc.specs.declared.stop.Stop.{Stop}
@@ -34,10 +34,10 @@ stop_part WriteFailed input a b i j h = h
 
 module _ (input : List ℕ) (a b c : Option (List ℕ)) (kept : Keeps b c) (IsReported : List ℕ → Type 0) where
   -- the last flush failed
-  pub flush_failed : (e : Stop) (frame : ℕ) → StopsIn e frame input a b → IsReported (report WriteFailed frame) → PassIs 4 input a c IsReported
+  pub flush_failed : (e : Stop) (frame : ℕ) → StopsIn e frame input a b → IsReported (report WriteFailed frame) → EndsPass 4 input a c IsReported
   flush_failed e frame s reported = inr (inr (inr (refl, record { part = part_flushed input a b c (stop_part e input a b 0 s.taken s.stops) kept; reported = inr reported })))
 
-  at_fault : (e : Stop) (frame taken : ℕ) → StopsAt e input a b 0 taken → frame ≡ taken + 1 → IsReported (report e frame) → PassIs 2 input a c IsReported
+  at_fault : (e : Stop) (frame taken : ℕ) → StopsAt e input a b 0 taken → frame ≡ taken + 1 → IsReported (report e frame) → EndsPass 2 input a c IsReported
   at_fault e frame taken s number reported =
       let n_is : frame ≡ s.advances.n + 1 = omega (arith, number, s.advances.taken) in
       inr (inl (
@@ -52,7 +52,7 @@ module _ (input : List ℕ) (a b c : Option (List ℕ)) (kept : Keeps b c) (IsRe
         },
       ))
 
-  pub stopped : (e : Stop) (frame : ℕ) → StopsIn e frame input a b → IsReported (report e frame) → PassIs (status_shown e) input a c IsReported
+  pub stopped : (e : Stop) (frame : ℕ) → StopsIn e frame input a b → IsReported (report e frame) → EndsPass (status_shown e) input a c IsReported
   stopped (Frame f) frame s reported = at_fault (Frame f) frame s.taken s.stops s.number reported
   stopped (Message f) frame s reported = at_fault (Message f) frame s.taken s.stops s.number reported
   stopped NoMemory frame s reported = inr (inr (inl (refl, record { rest = s.stops.0; n = s.stops.1; passed = passed_kept input s.stops.0 s.stops.1 a b c s.stops.2 kept; reported = reported })))
@@ -60,7 +60,7 @@ module _ (input : List ℕ) (a b c : Option (List ℕ)) (kept : Keeps b c) (IsRe
   stopped WriteFailed frame s reported = inr (inr (inr (refl, record { part = part_flushed input a b c s.stops kept; reported = inr reported })))
 
 -- memory ran out before anything was read
-pub nothing_passed : (input : List ℕ) (a : Option (List ℕ)) (IsReported : List ℕ → Type 0) → IsReported (report NoMemory 0) → PassIs 3 input a a IsReported
+pub nothing_passed : (input : List ℕ) (a : Option (List ℕ)) (IsReported : List ℕ → Type 0) → IsReported (report NoMemory 0) → EndsPass 3 input a a IsReported
 nothing_passed input a IsReported reported = inr (inr (inl (refl, record { rest = input; n = 0; passed = passed_nothing input a a (Keeps-refl a); reported = reported })))
 
 rose_more : (a b c : ℕ) → b ≤ c → Rose a b → Rose a c

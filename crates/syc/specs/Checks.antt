@@ -18,10 +18,10 @@ use Rattle.sy_checker.specs.declared.finding.Kind.TheVariants as kind
 use Rattle.sy_checker.specs.declared.finding.WayRow.{WayRow}
 use Rattle.sy_checker.specs.declared.groups.Group.{Group}
 use Rattle.sy_checker.specs.Survey.{IsSurvey}
-use Rattle.syc.specs.declared.command.Detail.{Detail}
-use Rattle.syc.specs.declared.command.Detail.TheVariants as details
-use Rattle.syc.specs.Outcomes.{AnswersOf, Streams}
-use Rattle.syc.specs.Reports.{line_feed}
+use Rattle.syc.specs.declared.command.Asked.{Asked}
+use Rattle.syc.specs.declared.command.Asked.TheVariants as asked
+use Rattle.syc.specs.Outcomes.{AnswersOf}
+use Rattle.syc.specs.Reports.{Streams, line_feed}
 use Rattle.syc.specs.Texts.{class_text, input_text}
 
 -- ---- what is printed
@@ -141,25 +141,15 @@ SaysAll site text is_accepted = SaysKept site text is_accepted ⊎ SaysSurvey si
 abbrev pub SaysCertified : Site → List ℕ → Bool → Type 0
 SaysCertified site text is_accepted = SaysFit site text is_accepted ⊎ SaysFound site text is_accepted
 
+-- what is said of a site, by what is asked
+abbrev pub Says : Asked → Site → List ℕ → Bool → Type 0
+Says asked.Check = SaysChecked
+Says asked.Explain = SaysExplained
+Says asked.All = SaysAll
+Says asked.Certify = SaysCertified
+
 -- ---- the commands
 
--- What a check of this site file answers.
-abbrev pub CheckIs : (List ℕ → Option (List ℕ)) → List ℕ → ℕ → Streams → Streams → Type 0
-CheckIs = AnswersOf SaysChecked
-
--- What a check that explains answers.
-abbrev pub ExplainIs : (List ℕ → Option (List ℕ)) → List ℕ → ℕ → Streams → Streams → Type 0
-ExplainIs = AnswersOf SaysExplained
-
--- What a check that tells all answers.
-abbrev pub AllIs : (List ℕ → Option (List ℕ)) → List ℕ → ℕ → Streams → Streams → Type 0
-AllIs = AnswersOf SaysAll
-
--- What a check answers that says more.
-abbrev pub DetailIs : Detail → (List ℕ → Option (List ℕ)) → List ℕ → ℕ → Streams → Streams → Type 0
-DetailIs details.Explain = ExplainIs
-DetailIs details.All = AllIs
-
--- What a making of the certificate answers.
-abbrev pub CertifyIs : (List ℕ → Option (List ℕ)) → List ℕ → ℕ → Streams → Streams → Type 0
-CertifyIs = AnswersOf SaysCertified
+-- What a command over one site answers, with this site file.
+abbrev pub AskedIs : Asked → (List ℕ → Option (List ℕ)) → List ℕ → ℕ → Streams → Streams → Type 0
+AskedIs question = AnswersOf (Says question)

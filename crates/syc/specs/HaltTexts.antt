@@ -1,5 +1,5 @@
 -- What is printed where a command over a site stops early (this profile's own).
-use Rattle.std.specs.Prelude.{ℕ, List, [], ◌∷◌, codes, flat_map}
+use Rattle.std.specs.Prelude.{ℕ, List, [], ◌∷◌, codes}
 use Rattle.std.specs.Fmt.{decimal}
 use Rattle.sy_script.specs.Faults as script
 use Rattle.sy_rules.specs.Faults as plan
@@ -9,17 +9,9 @@ use Rattle.sy_site.specs.declared.fault.RelayFault.TheVariants as why
 use Rattle.sy_site.specs.declared.fault.SiteFault.{SiteFault}
 use Rattle.sy_site.specs.declared.fault.SiteFault.TheVariants as site_fault
 use Rattle.sy_site.specs.texts.Faults as site
-use Rattle.syc.specs.Reports.{line_feed}
+use Rattle.syc.specs.Reports.{joined, line_feed, said}
 use Rattle.syc.specs.declared.halt.Halt.{Halt}
 use Rattle.syc.specs.declared.halt.Halt.TheVariants as halt
-
--- texts one behind the other
-abbrev pub joined : List (List ℕ) → List ℕ
-joined texts = flat_map (λ text. text) texts
-
--- the line on standard error
-abbrev pub said : List ℕ → List ℕ
-said text = joined (codes "syc: " ∷ text ∷ (line_feed ∷ []) ∷ [])
 
 -- a fault of a line of the site file, or of the events file
 abbrev pub in_line : List ℕ → ℕ → List ℕ

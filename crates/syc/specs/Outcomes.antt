@@ -3,21 +3,8 @@ use Rattle.std.specs.Prelude.{◌≡◌, ℕ, Bool, true, false, ◌⊎◌, List
 use Rattle.std.specs.Io.KnownBytes.{Appends}
 use Rattle.sy_wire.specs.Streams.{Rose}
 use Rattle.sy_site.specs.Sites.{Site}
-use Rattle.syc.specs.HaltTexts.{said}
-use Rattle.syc.specs.Reports.{Reported, SinkState, Torn}
+use Rattle.syc.specs.Reports.{Streams, Tells, Torn, said}
 use Rattle.syc.specs.SiteFiles.{HasNoAnswer, IsSiteOf}
-
--- standard output and standard error
-pub record Streams : Type 0 where
-  pub output : SinkState
-  pub errors : SinkState
-
-abbrev pub streams : SinkState → SinkState → Streams
-streams output errors = record { output = output; errors = errors }
-
--- The line was written to standard error, as far as that could be done.
-abbrev pub Tells : Streams → Streams → List ℕ → Type 0
-Tells old new line = Reported old.errors new.errors line
 
 -- the exit status: 0 accepted, 1 refused
 abbrev pub status_for : Bool → ℕ

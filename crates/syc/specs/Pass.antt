@@ -1,5 +1,5 @@
 -- What a pass reads and writes.
-use Rattle.std.specs.Prelude.{◌≡◌, ◌≢◌, ℕ, ◌+◌, List, [], ◌∷◌, ◌++◌, ◌⊎◌, length, Option}
+use Rattle.std.specs.Prelude.{◌≡◌, ◌≢◌, ℕ, ◌+◌, true, List, [], ◌∷◌, ◌++◌, ◌⊎◌, length, Option}
 use Rattle.std.specs.List.{AllByRecursion, flat_map}
 use Rattle.std.specs.Io.KnownBytes.{Appends}
 use Rattle.sy_wire.specs.Frames.{IsBadLength, IsOpen, IsSize, IsTooLong, frame, stream}
@@ -7,7 +7,7 @@ use Rattle.sy_wire.specs.Messages.{IsFault, IsMessage, Said}
 use Rattle.sy_wire.specs.Streams.{Rose, count_after}
 use Rattle.sy_wire.specs.declared.framer.FrameFault.TheVariants.{BadLength, TooLong, Truncated, NoMemory as OutOfMemory, Failed}
 use Rattle.sy_wire.specs.declared.message.MsgFault.{MsgFault}
-use Rattle.syc.specs.Reports.{line_feed, report}
+use Rattle.syc.specs.Reports.{Streams, Tells, line_feed, report}
 use Rattle.syc.specs.declared.stop.Stop.{Stop}
 use Rattle.syc.specs.declared.stop.Stop.TheVariants.{Frame, Message, NoMemory, ReadFailed, WriteFailed}
 
@@ -98,12 +98,16 @@ pub record EndsFailing (input : List ℕ) (old new : Option (List ℕ)) (IsRepor
   pub reported : IsReported (report ReadFailed 0) ⊎ IsReported (report WriteFailed 0)
 
 -- the exit status of a pass over an input
-abbrev pub PassIs : ℕ → List ℕ → Option (List ℕ) → Option (List ℕ) → (List ℕ → Type 0) → Type 0
-PassIs status input old new IsReported =
+abbrev pub EndsPass : ℕ → List ℕ → Option (List ℕ) → Option (List ℕ) → (List ℕ → Type 0) → Type 0
+EndsPass status input old new IsReported =
     ((status ≡ 0) × EndsWhole input old new)
     ⊎ ((status ≡ 2) × EndsAtFault input old new IsReported)
     ⊎ ((status ≡ 3) × EndsForMemory input old new IsReported)
     ⊎ ((status ≡ 4) × EndsFailing input old new IsReported)
+
+-- the same of the two streams
+abbrev pub PassIs : ℕ → List ℕ → Streams → Streams → Type 0
+PassIs status input old new = EndsPass status input old.output.contents new.output.contents (Tells old new)
 
 -- how many reads a pass makes at most
 abbrev pub READS : ℕ
@@ -126,6 +130,14 @@ counts faults calls write_faults reader writer = record {
   writes_failed = write_faults writer;
 }
 
+-- the same where standard output is what is written to
+abbrev pub counted : {R : Type 0} → (R → ℕ) → (R → ℕ) → R → Streams → Counts
+counted faults calls reader out = record {
+  reads_failed = faults reader;
+  reads = calls reader;
+  writes_failed = out.output.faults;
+}
+
 -- no read, write or flush failed, as the counts of those that did tell
 abbrev pub NoneFailed : Counts → Counts → Type 0
 NoneFailed before after = (after.reads_failed ≡ before.reads_failed) × (after.writes_failed ≡ before.writes_failed)
@@ -136,6 +148,13 @@ abbrev pub HasFailed : (List ℕ → Type 0) → Counts → Counts → Type 0
 HasFailed IsReported before after =
     (IsReported (report ReadFailed 0) × (Rose before.reads_failed after.reads_failed ⊎ AreReadsUsed before.reads after.reads))
     ⊎ (IsReported (report WriteFailed 0) × Rose before.writes_failed after.writes_failed)
+
+-- How a pass leaves standard output, and why: what was written has been handed on, unless a write or a flush failed; where it ended with the input
+-- or at a fault it has been in any case; and where it says that something failed, something did.
+pub record Leaves (status : ℕ) (old new : Streams) (before after : Counts) : Type 0 where
+  pub flushed : (old.output.is_flushed ≡ true → new.output.is_flushed ≡ true) ⊎ ((status ≡ 4) × Rose old.output.faults new.output.faults)
+  pub done : (status ≡ 0) ⊎ (status ≡ 2) → new.output.is_flushed ≡ true
+  pub cause : status ≡ 4 → HasFailed (Tells old new) before after
 
 -- the same of the last steps, after this stop
 abbrev pub GivesUpFailing : (List ℕ → Type 0) → Stop → ℕ → ℕ → Type 0

@@ -13,8 +13,8 @@ use Rattle.sy_replay.specs.Lines.{IsNoEvent, StandsFor, is_skipped}
 use Rattle.sy_replay.specs.Held.{opened_parts}
 use Rattle.sy_replay.specs.States.{Applies, Contents, IsIllegalAt, holding, state_in}
 use Rattle.sy_replay.specs.declared.event.Illegal.TheVariants as illegal
-use Rattle.syc.specs.HaltTexts.{in_line, said}
-use Rattle.syc.specs.Reports.{SinkState, line_feed}
+use Rattle.syc.specs.HaltTexts.{in_line}
+use Rattle.syc.specs.Reports.{SinkState, Streams, Tells, line_feed, said}
 use Rattle.syc.specs.SiteFiles.{HasNoAnswer, IsSiteOf}
 use Rattle.syc.specs.Texts.{class_text}
 
@@ -154,7 +154,11 @@ IsNoReplay bytes_of site_text status old new IsReported = Keeps old.contents new
     ⊎ ((status ≡ 4) × Rose old.faults new.faults × IsReported (said (codes "write failed"))))
 
 -- What a replay of these files answers: there is no site; or the events were replayed.
-abbrev pub ReplayIs : (List ℕ → Option (List ℕ)) → (site events : List ℕ) → ℕ → SinkState → SinkState → (List ℕ → Type 0) → Type 0
-ReplayIs bytes_of site_text events status old new IsReported =
+abbrev pub EndsReplay : (List ℕ → Option (List ℕ)) → (site events : List ℕ) → ℕ → SinkState → SinkState → (List ℕ → Type 0) → Type 0
+EndsReplay bytes_of site_text events status old new IsReported =
     IsNoReplay bytes_of site_text status old new IsReported
     ⊎ ((site : Site) × IsSiteOf bytes_of site_text site × IsReplayed site events status old new IsReported)
+
+-- the same of the two streams
+abbrev pub ReplayIs : (List ℕ → Option (List ℕ)) → (site events : List ℕ) → ℕ → Streams → Streams → Type 0
+ReplayIs bytes_of site_text events status old new = EndsReplay bytes_of site_text events status old.output new.output (Tells old new)

@@ -6,7 +6,8 @@ use Rattle.sy_site.specs.declared.fault.SiteFault.TheVariants as site_fault
 use Rattle.sy_site.specs.texts.Describes.{Describes, File}
 use Rattle.sy_site.specs.texts.Files.{IsFirstRelayFault, file_names}
 use Rattle.sy_site.specs.texts.HasFault.{HasFault}
-use Rattle.syc.specs.HaltTexts.{said, site_report}
+use Rattle.syc.specs.HaltTexts.{site_report}
+use Rattle.syc.specs.Reports.{said}
 
 -- The files that were given are those whose bytes are known by their names.
 abbrev pub AreGiven : (List ℕ → Option (List ℕ)) → List File → Type 0

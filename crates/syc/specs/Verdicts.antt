@@ -10,8 +10,8 @@ use Rattle.sy_checker.specs.Verifying.{kind_words}
 use Rattle.sy_checker.specs.declared.wanted.RowKind.{RowKind}
 use Rattle.syc.specs.Checks.{IsCertificate, KeepsAll, accepted_line}
 use Rattle.syc.specs.HaltTexts.{halt_report}
-use Rattle.syc.specs.Outcomes.{Prints, Streams, Tells}
-use Rattle.syc.specs.Reports.{line_feed}
+use Rattle.syc.specs.Outcomes.{Prints}
+use Rattle.syc.specs.Reports.{Streams, Tells, line_feed}
 use Rattle.syc.specs.SiteFiles.{HasNoAnswer, IsSiteOf}
 use Rattle.syc.specs.declared.halt.Halt.TheVariants as halt
 

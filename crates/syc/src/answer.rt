@@ -2,12 +2,13 @@
 ghost use Rattle.std.specs.Prelude.{◌≡◌, ◌≢◌, ◌≤◌, IfErr, IfOk};
 ghost use Rattle.std.specs.Io.KnownBytes.{Keeps};
 ghost use Rattle.syc.specs.HaltTexts.{halt_report};
-ghost use Rattle.syc.specs.Outcomes.{Prints, status_for, streams};
-ghost use Rattle.syc.specs.Reports.{Reported, seen};
+ghost use Rattle.syc.specs.Outcomes.{Prints, status_for};
+ghost use Rattle.syc.specs.Reports.{Tells};
 ghost use Rattle.syc.specs.internal.Halts.{status_at};
 
 use crate::halt::{Halt, status_of, tell};
 use crate::output::send;
+use crate::outputs::Outputs;
 use sy_wire::Sink;
 
 /// What a command prints of a site, and whether the site, or the certificate, is accepted.
@@ -18,14 +19,13 @@ pub struct Answer {
 }
 
 // Tells why a command stops, and answers the exit status.
-fn stop<E: Sink>(errors: &mut E, halt: &Halt) -> u8
+fn stop<W: Sink, E: Sink>(out: &mut Outputs<W, E>, halt: &Halt) -> u8
     ensures status { result ≡ status_at halt.now }
-    ensures told { Reported
-        (seen E.contents E.is_flushed E.faults errors.old) (seen E.contents E.is_flushed E.faults errors.new)
-        (halt_report halt.now) }
+    ensures told { Tells out.old out.new (halt_report halt.now) }
+    ensures same { out.new.output ≡ out.old.output }
     ensures failed { result ≢ 0 }
 {
-    tell(errors, halt);
+    tell(&mut out.errors, halt);
     status_of(halt)
 }
 
@@ -37,22 +37,19 @@ fn status(is_accepted: bool) -> u8
 }
 
 /// Prints an answer, or tells why there is none, and answers the exit status.
-pub fn print<W: Sink, E: Sink>(answer: Result<Answer, Halt>, writer: &mut W, errors: &mut E) -> u8
-    ensures printed { IfOk answer (λ a. Prints a.text.items a.is_accepted result
-        (streams (seen W.contents W.is_flushed W.faults writer.old) (seen E.contents E.is_flushed E.faults errors.old))
-        (streams (seen W.contents W.is_flushed W.faults writer.new) (seen E.contents E.is_flushed E.faults errors.new))) }
-    ensures stopped { IfErr answer (λ halt. (result ≡ status_at halt) × (writer.new ≡ writer.old) × Reported
-        (seen E.contents E.is_flushed E.faults errors.old) (seen E.contents E.is_flushed E.faults errors.new)
-        (halt_report halt)) }
+pub fn print<W: Sink, E: Sink>(answer: Result<Answer, Halt>, out: &mut Outputs<W, E>) -> u8
+    ensures printed { IfOk answer (λ a. Prints a.text.items a.is_accepted result out.old out.new) }
+    ensures stopped { IfErr answer (λ halt. (result ≡ status_at halt) × (out.new.output ≡ out.old.output)
+        × Tells out.old out.new (halt_report halt)) }
     ensures status { result ≤ 4 }
-    ensures none_failed { result ≢ 4 → W.faults writer.new ≡ W.faults writer.old }
-    ensures quiet { result ≡ 0 → Keeps (E.contents errors.old) (E.contents errors.new) }
+    ensures none_failed { result ≢ 4 → out.new.output.faults ≡ out.old.output.faults }
+    ensures quiet { result ≡ 0 → Keeps out.old.errors.contents out.new.errors.contents }
 {
     match answer {
-        Ok(answer) => match send(writer, answer.text.as_slice()) {
+        Ok(answer) => match send(&mut out.writer, answer.text.as_slice()) {
             Ok(()) => status(answer.is_accepted),
-            Err(_) => stop(errors, &Halt::WriteFailed),
+            Err(_) => stop(out, &Halt::WriteFailed),
         },
-        Err(halt) => stop(errors, &halt),
+        Err(halt) => stop(out, &halt),
     }
 }

@@ -1,32 +1,32 @@
 //! The words of the command line.
-ghost use Rattle.std.specs.Prelude.{◌≡◌, ◌∷◌, ◌↔◌, ℕ, List, codes, map, string_bytes, IfErr, IfNone, IfOk, IfSome, IsTrue};
+ghost use Rattle.std.specs.Prelude.{◌≡◌, [], ◌∷◌, ◌↔◌, ℕ, List, codes, map, string_bytes, IfErr, IfNone, IfOk, IfSome, IsTrue};
 ghost use Rattle.syc.specs.Words as spec;
-ghost use Rattle.syc.specs.declared.command.Detail.{Detail as AnyDetail};
-ghost use Rattle.syc.specs.Words.{AreFlagged, AreOneFile, ArePass, AreReplay, AreVerify, IsCommand, IsSiteCommand};
+ghost use Rattle.syc.specs.Words.{AreAsking, ArePass, AreReplay, AreVerify, AreWithName, IsCommand, IsSiteCommand};
+ghost use Rattle.syc.specs.declared.command.Asked.{Asked as AnyAsked};
 ghost use Rattle.syc.specs.internal.Commands.{AreNoCommand, AreNoSiteCommand};
 
 use clap::error::ErrorKind;
 use clap::{Arg, ArgAction, Command as Parser, Error};
 use std::alloc::{AllocError, Global};
 
-/// What a check says beside its verdict.
+/// What a command asks of a site.
 #[derive(Clone, Copy)]
-pub enum Detail {
-    /// What the first thing that is found means.
+pub enum Asked {
+    /// A verdict.
+    Check,
+    /// A verdict, and what the first thing that is found means.
     Explain,
-    /// All that is found.
+    /// A verdict, with all that is found.
     All,
+    /// A certificate.
+    Certify,
 }
 
 /// What the program is to do with the files of a site.
 #[derive(Clone, Copy)]
 pub enum SiteCommand<'a> {
-    /// A verdict on the site: the name of the site file.
-    Check(&'a str),
-    /// A verdict on the site that says more: what it says, and the name of the site file.
-    CheckMore(Detail, &'a str),
-    /// The certificate of the site: the name of the site file.
-    Certify(&'a str),
+    /// What is asked of the site, and the name of the site file.
+    Ask(Asked, &'a str),
     /// The events of a file at the site: the names of the site file and of the events file.
     Replay(&'a str, &'a str),
     /// A verdict on a certificate: the names of the site file and of the certificate's file.
@@ -103,8 +103,10 @@ fn is_plain(word: &str) -> bool
 
 // The name of the site file, where the words are those of this command, with one name, after the program's name.
 fn named<'a>(words: &[&'a str], command: &str) -> Option<&'a str>
-    ensures some { IfSome result (λ site. AreOneFile command.now (map (λ s. s.now) words.now) site.now) }
-    ensures none { IfNone result ((site : List ℕ) → AreOneFile command.now (map (λ s. s.now) words.now) site → ⊥) }
+    ensures some { IfSome result (λ site.
+        AreWithName (codes "syc" ∷ command.now ∷ []) (map (λ s. s.now) words.now) site.now) }
+    ensures none { IfNone result ((site : List ℕ) →
+        AreWithName (codes "syc" ∷ command.now ∷ []) (map (λ s. s.now) words.now) site → ⊥) }
 {
     match words {
         [program, word, site] => {
@@ -121,8 +123,10 @@ fn named<'a>(words: &[&'a str], command: &str) -> Option<&'a str>
 // The name of the site file, where the words are those of this command, with this flag and one name, after the
 // program's name.
 fn flagged<'a>(words: &[&'a str], command: &str, flag: &str) -> Option<&'a str>
-    ensures some { IfSome result (λ site. AreFlagged command.now flag.now (map (λ s. s.now) words.now) site.now) }
-    ensures none { IfNone result ((site : List ℕ) → AreFlagged command.now flag.now (map (λ s. s.now) words.now) site → ⊥) }
+    ensures some { IfSome result (λ site.
+        AreWithName (codes "syc" ∷ command.now ∷ flag.now ∷ []) (map (λ s. s.now) words.now) site.now) }
+    ensures none { IfNone result ((site : List ℕ) →
+        AreWithName (codes "syc" ∷ command.now ∷ flag.now ∷ []) (map (λ s. s.now) words.now) site → ⊥) }
 {
     match words {
         [program, word, behind, site] => {
@@ -140,17 +144,36 @@ fn flagged<'a>(words: &[&'a str], command: &str, flag: &str) -> Option<&'a str>
     }
 }
 
-// What a check is to say beside its verdict, and the name of the site file, where the words are those of such a check.
-fn detailed<'a>(words: &[&'a str]) -> Option<(Detail, &'a str)>
-    ensures some { IfSome result (λ check. AreFlagged (codes "check") (spec.flag check.0) (map (λ s. s.now) words.now) check.1.now) }
-    ensures none { IfNone result ((detail : AnyDetail) (site : List ℕ) →
-        AreFlagged (codes "check") (spec.flag detail) (map (λ s. s.now) words.now) site → ⊥) }
+// The name of the site file, where the words ask this of a site, after the program's name.
+fn asking<'a>(words: &[&'a str], asked: Asked) -> Option<&'a str>
+    ensures some { IfSome result (λ site. AreAsking asked (map (λ s. s.now) words.now) site.now) }
+    ensures none { IfNone result ((site : List ℕ) → AreAsking asked (map (λ s. s.now) words.now) site → ⊥) }
 {
-    if let Some(site) = flagged(words, "check", "--explain") {
-        return Some((Detail::Explain, site));
+    match asked {
+        Asked::Check => named(words, "check"),
+        Asked::Explain => flagged(words, "check", "--explain"),
+        Asked::All => flagged(words, "check", "--all"),
+        Asked::Certify => named(words, "certify"),
     }
-    match flagged(words, "check", "--all") {
-        Some(site) => Some((Detail::All, site)),
+}
+
+// What the words ask of a site, and the name of the site file.
+fn question_of<'a>(words: &[&'a str]) -> Option<(Asked, &'a str)>
+    ensures some { IfSome result (λ found. AreAsking found.0 (map (λ s. s.now) words.now) found.1.now) }
+    ensures none { IfNone result ((question : AnyAsked) (site : List ℕ) →
+        AreAsking question (map (λ s. s.now) words.now) site → ⊥) }
+{
+    if let Some(site) = asking(words, Asked::Check) {
+        return Some((Asked::Check, site));
+    }
+    if let Some(site) = asking(words, Asked::Explain) {
+        return Some((Asked::Explain, site));
+    }
+    if let Some(site) = asking(words, Asked::All) {
+        return Some((Asked::All, site));
+    }
+    match asking(words, Asked::Certify) {
+        Some(site) => Some((Asked::Certify, site)),
         None => None,
     }
 }
@@ -291,14 +314,8 @@ fn site_command<'a>(words: &[&'a str]) -> Option<SiteCommand<'a>>
     ensures some { IfSome result (IsSiteCommand (map (λ s. s.now) words.now)) }
     ensures none { IfNone result (AreNoSiteCommand (map (λ s. s.now) words.now)) }
 {
-    if let Some(site) = named(words, "check") {
-        return Some(SiteCommand::Check(site));
-    }
-    if let Some((detail, site)) = detailed(words) {
-        return Some(SiteCommand::CheckMore(detail, site));
-    }
-    if let Some(site) = named(words, "certify") {
-        return Some(SiteCommand::Certify(site));
+    if let Some((question, site)) = question_of(words) {
+        return Some(SiteCommand::Ask(question, site));
     }
     if let Some((site, events)) = replayed(words) {
         return Some(SiteCommand::Replay(site, events));

@@ -1,18 +1,15 @@
 //! Why a command over a site stops early, and what it prints then.
-ghost use Rattle.std.specs.Prelude.{◌≡◌, OnErr, OnOk, true};
-ghost use Rattle.std.specs.Io.KnownBytes.{Appends};
-ghost use Rattle.sy_wire.specs.Streams.{Rose};
-ghost use Rattle.syc.specs.HaltTexts.{at_place, halt_report, in_line, relay_report, said, site_report, with_word};
-ghost use Rattle.syc.specs.Reports.{Reported, Torn, seen};
+ghost use Rattle.std.specs.Prelude.{◌≡◌};
+ghost use Rattle.syc.specs.HaltTexts.{at_place, halt_report, in_line, relay_report, site_report, with_word};
+ghost use Rattle.syc.specs.Reports.{Reported, seen};
 ghost use Rattle.syc.specs.internal.Halts as spec;
 
-use crate::output::write_texts;
+use crate::report::{tell_text, tell_texts};
 use itoa::Buffer;
 use sy_cert::TextFault;
-use sy_rules::PlanFault;
 use sy_script::ScriptFault;
 use sy_site::{RelayFault, SiteFault};
-use sy_wire::{Sink, WriteFault};
+use sy_wire::Sink;
 
 /// Why a command over a site stops early. Lines are counted from 1.
 #[derive(Drop)]
@@ -32,166 +29,97 @@ pub enum Halt {
     WriteFailed,
 }
 
-fn write_said<E: Sink>(errors: &mut E, text: &str) -> Result<(), WriteFault>
-    ensures ok { OnOk result (Appends (E.contents errors.old) (E.contents errors.new) (said text.now)) }
-    ensures torn { OnErr result (Torn (E.contents errors.old) (E.contents errors.new) (said text.now)) }
-    ensures same { OnOk result (E.faults errors.new ≡ E.faults errors.old) }
-    ensures err { OnErr result (Rose (E.faults errors.old) (E.faults errors.new)) }
-{
-    write_texts(errors, &[b"syc: ", text.as_bytes(), b"\n"])
-}
-
 // Where a fault lies.
-fn write_in_line<E: Sink>(errors: &mut E, words: &str, line: u64) -> Result<(), WriteFault>
-    ensures ok { OnOk result (Appends (E.contents errors.old) (E.contents errors.new) (in_line words.now line)) }
-    ensures torn { OnErr result (Torn (E.contents errors.old) (E.contents errors.new) (in_line words.now line)) }
-    ensures same { OnOk result (E.faults errors.new ≡ E.faults errors.old) }
-    ensures err { OnErr result (Rose (E.faults errors.old) (E.faults errors.new)) }
+fn tell_in_line<E: Sink>(errors: &mut E, words: &str, line: u64)
+    ensures { Reported
+        (seen E.contents E.is_flushed E.faults errors.old) (seen E.contents E.is_flushed E.faults errors.new)
+        (in_line words.now line) }
 {
     let mut digits = Buffer::new();
     let line = digits.format(line).as_bytes();
-    write_texts(
+    tell_texts(
         errors,
         &[b"syc: ", words.as_bytes(), b" in line ", line, b"\n"],
-    )
+    );
 }
 
 // A fault of a relay's script, its number and name, and its line and column in digits.
-fn write_at_place<'a, E: Sink>(
+fn tell_at_place<'a, E: Sink>(
     errors: &mut E,
     words: &'a [u8],
     line: &'a [u8],
     column: &'a [u8],
     relay: &'a [u8],
-) -> Result<(), WriteFault>
-    ensures ok { OnOk result (Appends (E.contents errors.old) (E.contents errors.new) (at_place words.now line.now column.now relay.now)) }
-    ensures torn { OnErr result (Torn (E.contents errors.old) (E.contents errors.new) (at_place words.now line.now column.now relay.now)) }
-    ensures same { OnOk result (E.faults errors.new ≡ E.faults errors.old) }
-    ensures err { OnErr result (Rose (E.faults errors.old) (E.faults errors.new)) }
+)
+    ensures { Reported
+        (seen E.contents E.is_flushed E.faults errors.old) (seen E.contents E.is_flushed E.faults errors.new)
+        (at_place words.now line.now column.now relay.now) }
 {
-    write_texts(
+    tell_texts(
         errors,
         &[
             b"syc: ", words, b" at ", line, b":", column, b" of ", relay, b"\n",
         ],
-    )
+    );
 }
 
-fn write_script_fault<E: Sink>(
-    errors: &mut E,
-    relay: &[u8],
-    fault: &ScriptFault,
-) -> Result<(), WriteFault>
-    ensures ok { OnOk result (Appends (E.contents errors.old) (E.contents errors.new) (relay_report relay.now (RelayFault.Script fault.now))) }
-    ensures torn { OnErr result (Torn (E.contents errors.old) (E.contents errors.new) (relay_report relay.now (RelayFault.Script fault.now))) }
-    ensures same { OnOk result (E.faults errors.new ≡ E.faults errors.old) }
-    ensures err { OnErr result (Rose (E.faults errors.old) (E.faults errors.new)) }
+fn tell_script_fault<E: Sink>(errors: &mut E, relay: &[u8], fault: &ScriptFault)
+    ensures { Reported
+        (seen E.contents E.is_flushed E.faults errors.old) (seen E.contents E.is_flushed E.faults errors.new)
+        (relay_report relay.now (RelayFault.Script fault.now)) }
 {
     let mut line = Buffer::new();
     let mut column = Buffer::new();
-    write_at_place(
+    tell_at_place(
         errors,
         fault.code.words().as_bytes(),
         line.format(fault.line as u64).as_bytes(),
         column.format(fault.column as u64).as_bytes(),
         relay,
-    )
+    );
 }
 
 // A fault of a relay's plan, its number and name, and its word.
-fn write_with_word<'a, E: Sink>(
-    errors: &mut E,
-    words: &'a [u8],
-    relay: &'a [u8],
-    word: &'a [u8],
-) -> Result<(), WriteFault>
-    ensures ok { OnOk result (Appends (E.contents errors.old) (E.contents errors.new) (with_word words.now relay.now word.now)) }
-    ensures torn { OnErr result (Torn (E.contents errors.old) (E.contents errors.new) (with_word words.now relay.now word.now)) }
-    ensures same { OnOk result (E.faults errors.new ≡ E.faults errors.old) }
-    ensures err { OnErr result (Rose (E.faults errors.old) (E.faults errors.new)) }
+fn tell_with_word<'a, E: Sink>(errors: &mut E, words: &'a [u8], relay: &'a [u8], word: &'a [u8])
+    ensures { Reported
+        (seen E.contents E.is_flushed E.faults errors.old) (seen E.contents E.is_flushed E.faults errors.new)
+        (with_word words.now relay.now word.now) }
 {
-    write_texts(
+    tell_texts(
         errors,
         &[b"syc: ", words, b" of ", relay, b": ", word, b"\n"],
-    )
+    );
 }
 
-fn write_plan_fault<E: Sink>(
-    errors: &mut E,
-    relay: &[u8],
-    fault: &PlanFault,
-) -> Result<(), WriteFault>
-    ensures ok { OnOk result (Appends (E.contents errors.old) (E.contents errors.new) (relay_report relay.now (RelayFault.Plan fault.now))) }
-    ensures torn { OnErr result (Torn (E.contents errors.old) (E.contents errors.new) (relay_report relay.now (RelayFault.Plan fault.now))) }
-    ensures same { OnOk result (E.faults errors.new ≡ E.faults errors.old) }
-    ensures err { OnErr result (Rose (E.faults errors.old) (E.faults errors.new)) }
-{
-    let words = fault.code.words().as_bytes();
-    write_with_word(errors, words, relay, fault.word.as_slice())
-}
-
-fn write_relay_fault<E: Sink>(
-    errors: &mut E,
-    relay: &[u8],
-    fault: &RelayFault,
-) -> Result<(), WriteFault>
-    ensures ok { OnOk result (Appends (E.contents errors.old) (E.contents errors.new) (relay_report relay.now fault.now)) }
-    ensures torn { OnErr result (Torn (E.contents errors.old) (E.contents errors.new) (relay_report relay.now fault.now)) }
-    ensures same { OnOk result (E.faults errors.new ≡ E.faults errors.old) }
-    ensures err { OnErr result (Rose (E.faults errors.old) (E.faults errors.new)) }
+fn tell_relay_fault<E: Sink>(errors: &mut E, relay: &[u8], fault: &RelayFault)
+    ensures { Reported
+        (seen E.contents E.is_flushed E.faults errors.old) (seen E.contents E.is_flushed E.faults errors.new)
+        (relay_report relay.now fault.now) }
 {
     match fault {
-        RelayFault::Script(fault) => write_script_fault(errors, relay, fault),
-        RelayFault::Plan(fault) => write_plan_fault(errors, relay, fault),
+        RelayFault::Script(fault) => tell_script_fault(errors, relay, fault),
+        RelayFault::Plan(fault) => {
+            let words = fault.code.words().as_bytes();
+            tell_with_word(errors, words, relay, fault.word.as_slice());
+        }
     }
 }
 
-fn write_site_fault<E: Sink>(errors: &mut E, fault: &SiteFault) -> Result<(), WriteFault>
-    ensures ok { OnOk result (Appends (E.contents errors.old) (E.contents errors.new) (site_report fault.now)) }
-    ensures torn { OnErr result (Torn (E.contents errors.old) (E.contents errors.new) (site_report fault.now)) }
-    ensures same { OnOk result (E.faults errors.new ≡ E.faults errors.old) }
-    ensures err { OnErr result (Rose (E.faults errors.old) (E.faults errors.new)) }
+fn tell_site_fault<E: Sink>(errors: &mut E, fault: &SiteFault)
+    ensures { Reported
+        (seen E.contents E.is_flushed E.faults errors.old) (seen E.contents E.is_flushed E.faults errors.new)
+        (site_report fault.now) }
 {
     match fault {
         SiteFault::Line(line)
         | SiteFault::Duplicate(line)
         | SiteFault::NoFile(line)
         | SiteFault::NoSuchEntry(line)
-        | SiteFault::NoSuchArchive(line) => write_in_line(errors, fault.words(), *line as u64),
-        SiteFault::NothingProtected => write_in_line(errors, fault.words(), 1),
-        SiteFault::Relay(_, name, why) => write_relay_fault(errors, name.as_slice(), why),
-        SiteFault::NoMemory => write_said(errors, "no memory"),
+        | SiteFault::NoSuchArchive(line) => tell_in_line(errors, fault.words(), *line as u64),
+        SiteFault::NothingProtected => tell_in_line(errors, fault.words(), 1),
+        SiteFault::Relay(_, name, why) => tell_relay_fault(errors, name.as_slice(), why),
+        SiteFault::NoMemory => tell_text(errors, "no memory"),
     }
-}
-
-fn write_halt<E: Sink>(errors: &mut E, halt: &Halt) -> Result<(), WriteFault>
-    ensures ok { OnOk result (Appends (E.contents errors.old) (E.contents errors.new) (halt_report halt.now)) }
-    ensures torn { OnErr result (Torn (E.contents errors.old) (E.contents errors.new) (halt_report halt.now)) }
-    ensures same { OnOk result (E.faults errors.new ≡ E.faults errors.old) }
-    ensures err { OnErr result (Rose (E.faults errors.old) (E.faults errors.new)) }
-{
-    match halt {
-        Halt::Site(fault) => write_site_fault(errors, fault),
-        Halt::Certificate(fault) => { write_in_line(errors, fault.code.words(), fault.line as u64) }
-        Halt::Line(line) => write_in_line(errors, "51 Line", *line),
-        Halt::Illegal(line) => write_in_line(errors, "illegal event", *line),
-        Halt::TotalsFull(line) => write_in_line(errors, "86 TotalsFull", *line),
-        Halt::NoMemory => write_said(errors, "no memory"),
-        Halt::ReadFailed => write_said(errors, "read failed"),
-        Halt::WriteFailed => write_said(errors, "write failed"),
-    }
-}
-
-fn write_report<E: Sink>(errors: &mut E, halt: &Halt) -> Result<(), WriteFault>
-    ensures ok { OnOk result (Appends (E.contents errors.old) (E.contents errors.new) (halt_report halt.now)) }
-    ensures flushed { OnOk result (E.is_flushed errors.new ≡ true) }
-    ensures same { OnOk result (E.faults errors.new ≡ E.faults errors.old) }
-    ensures torn { OnErr result (Torn (E.contents errors.old) (E.contents errors.new) (halt_report halt.now)) }
-    ensures err { OnErr result (Rose (E.faults errors.old) (E.faults errors.new)) }
-{
-    write_halt(errors, halt)?;
-    errors.flush()?;
-    Ok(())
 }
 
 /// Prints why a command stopped, as far as that can be written.
@@ -200,7 +128,16 @@ pub fn tell<E: Sink>(errors: &mut E, halt: &Halt)
         (seen E.contents E.is_flushed E.faults errors.old) (seen E.contents E.is_flushed E.faults errors.new)
         (halt_report halt.now) }
 {
-    let _ = write_report(errors, halt);
+    match halt {
+        Halt::Site(fault) => tell_site_fault(errors, fault),
+        Halt::Certificate(fault) => tell_in_line(errors, fault.code.words(), fault.line as u64),
+        Halt::Line(line) => tell_in_line(errors, "51 Line", *line),
+        Halt::Illegal(line) => tell_in_line(errors, "illegal event", *line),
+        Halt::TotalsFull(line) => tell_in_line(errors, "86 TotalsFull", *line),
+        Halt::NoMemory => tell_text(errors, "no memory"),
+        Halt::ReadFailed => tell_text(errors, "read failed"),
+        Halt::WriteFailed => tell_text(errors, "write failed"),
+    }
 }
 
 /// The exit status of a command that stopped: 1 for an event that isn't made, 2 for faulty input, 3 for no memory, 4

@@ -3,11 +3,11 @@
 
 mod all;
 mod answer;
+mod ask;
 mod carry;
 mod check;
 mod command;
 mod culprit;
-mod detail;
 mod explain;
 mod explanation;
 mod files;
@@ -17,10 +17,12 @@ mod losses;
 mod meant;
 mod outline;
 mod output;
+mod outputs;
 mod pass;
 mod places;
 mod remedies;
 mod replay;
+mod report;
 mod run;
 mod site;
 mod stop;
@@ -32,6 +34,7 @@ mod verify;
 mod words;
 
 use files::HostFiles;
+use outputs::Outputs;
 use run::run;
 use std::env;
 use std::io::BufWriter;
@@ -62,7 +65,7 @@ fn start(rt: &HostRuntime) -> u8 {
         return stop::out_of_memory(&mut errors);
     };
     let stdout = FromWrite::new(rt.stdout());
-    let Ok(mut writer) = Buffered::with_capacity(alloc, OUTPUT_BUFFER, stdout) else {
+    let Ok(writer) = Buffered::with_capacity(alloc, OUTPUT_BUFFER, stdout) else {
         return stop::out_of_memory(&mut errors);
     };
     let mut reader = FromRead::new(rt.stdin());
@@ -71,7 +74,6 @@ fn start(rt: &HostRuntime) -> u8 {
         words.as_slice(),
         &HostFiles::new(rt),
         &mut reader,
-        &mut writer,
-        &mut errors,
+        &mut Outputs { writer, errors },
     )
 }

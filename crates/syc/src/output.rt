@@ -1,10 +1,8 @@
 //! Writing whole texts by as many writes as it takes.
 ghost use Rattle.std.specs.Prelude.{◌≡◌, ◌≤◌, OnErr, OnOk, map, true};
-ghost use Rattle.std.specs.Fmt.{decimal};
 ghost use Rattle.std.specs.Io.KnownBytes.{Appends};
 ghost use Rattle.sy_wire.specs.Streams.{Rose};
-ghost use Rattle.syc.specs.HaltTexts.{joined};
-ghost use Rattle.syc.specs.Reports.{Torn};
+ghost use Rattle.syc.specs.Reports.{Torn, joined};
 
 use sy_wire::{Sink, WriteFault};
 
@@ -49,20 +47,4 @@ pub fn send<S: Sink>(sink: &mut S, text: &[u8]) -> Result<(), WriteFault>
 {
     write_all(sink, text)?;
     sink.flush()
-}
-
-/// Writes a number in decimal digits.
-pub fn write_decimal<W: Sink>(writer: &mut W, number: u64) -> Result<(), WriteFault>
-    ensures ok { OnOk result (Appends (W.contents writer.old) (W.contents writer.new) (decimal number)) }
-    ensures torn { OnErr result (Torn (W.contents writer.old) (W.contents writer.new) (decimal number)) }
-    ensures same { OnOk result (W.faults writer.new ≡ W.faults writer.old) }
-    ensures count { W.faults writer.old ≤ W.faults writer.new }
-    ensures err { OnErr result (Rose (W.faults writer.old) (W.faults writer.new)) }
-{
-    if number >= 10 {
-        write_decimal(writer, number / 10)?;
-    }
-    let digit = b'0' + (number % 10) as u8;
-    write_all(writer, &[digit])?;
-    Ok(())
 }

@@ -4,12 +4,13 @@ ghost use Rattle.sy_wire.specs.Frames.{IsOpen};
 ghost use Rattle.sy_wire.specs.Steps.{Fills};
 ghost use Rattle.sy_wire.specs.Streams.{Rose, count_after};
 ghost use Rattle.std.specs.Io.KnownBytes.{Keeps};
-ghost use Rattle.syc.specs.Pass.{EndsWhole, GivesUpFailing, HasFailed, IsStatus, NoneFailed, PassIs, counts};
-ghost use Rattle.syc.specs.Reports.{Reported, seen, status_shown};
+ghost use Rattle.syc.specs.Pass.{EndsPass, EndsWhole, GivesUpFailing, HasFailed, IsStatus, NoneFailed, PassIs, counted, counts};
+ghost use Rattle.syc.specs.Reports.{Tells, status_shown};
 ghost use Rattle.syc.specs.internal.Stops.{Advances, DrainFails, FailCause, IsBetween, IsIdle, PassCause, ReadCause, StopIs, StopsIn, TurnIs, WriteCause};
 ghost use Rattle.syc.specs.internal.Ways.{IsWhole, idle};
 
 use crate::carry::{CarryFault, carry, entry};
+use crate::outputs::Outputs;
 use crate::stop::{Stop, status_of, tell};
 use std::alloc::{AllocError, Global};
 use std::sync::Arc;
@@ -254,54 +255,46 @@ fn pass_all<R: Source, W: Sink>(
 }
 
 // Hands on the lines that were written before the stop, and reports it.
-fn hand_on<W: Sink, E: Sink>(writer: &mut W, errors: &mut E, stopped: Stopped) -> u8
+fn hand_on<W: Sink, E: Sink>(out: &mut Outputs<W, E>, stopped: Stopped) -> u8
     ensures pass { (input : List ℕ) (first : Option (List ℕ)) →
-        StopsIn stopped.stop stopped.frame input first (W.contents writer.old) →
-        PassIs result input first (W.contents writer.new)
-        (Reported (seen E.contents E.is_flushed E.faults errors.old)
-        (seen E.contents E.is_flushed E.faults errors.new)) }
+        StopsIn stopped.stop stopped.frame input first out.old.output.contents →
+        EndsPass result input first out.new.output.contents (Tells out.old out.new) }
     ensures status { (result ≡ 2) ⊎ (result ≡ 3) ⊎ (result ≡ 4) }
-    ensures flushed { (W.is_flushed writer.new ≡ true)
-        ⊎ ((result ≡ 4) × Rose (W.faults writer.old) (W.faults writer.new)) }
-    ensures writes { W.faults writer.old ≤ W.faults writer.new }
-    ensures none_failed { result ≢ 4 → (status_shown stopped.stop ≢ 4) × (W.faults writer.new ≡ W.faults writer.old) }
-    ensures cause { result ≡ 4 → GivesUpFailing
-        (Reported (seen E.contents E.is_flushed E.faults errors.old) (seen E.contents E.is_flushed E.faults errors.new))
-        stopped.stop (W.faults writer.old) (W.faults writer.new) }
+    ensures flushed { (out.new.output.is_flushed ≡ true)
+        ⊎ ((result ≡ 4) × Rose out.old.output.faults out.new.output.faults) }
+    ensures writes { out.old.output.faults ≤ out.new.output.faults }
+    ensures none_failed { result ≢ 4 → (status_shown stopped.stop ≢ 4) × (out.new.output.faults ≡ out.old.output.faults) }
+    ensures cause { result ≡ 4 → GivesUpFailing (Tells out.old out.new) stopped.stop out.old.output.faults out.new.output.faults }
 {
-    let stop = match writer.flush() {
+    let stop = match out.writer.flush() {
         Ok(()) => stopped.stop,
         Err(_) => Stop::WriteFailed,
     };
-    tell(errors, stop, stopped.frame);
+    tell(&mut out.errors, stop, stopped.frame);
     status_of(stop)
 }
 
 // Reports the stop, once the lines that were written before it are handed on. After a failed write nothing more is
 // written, so that none is tried again.
-fn give_up<W: Sink, E: Sink>(writer: &mut W, errors: &mut E, stopped: Stopped) -> u8
+fn give_up<W: Sink, E: Sink>(out: &mut Outputs<W, E>, stopped: Stopped) -> u8
     ensures pass { (input : List ℕ) (first : Option (List ℕ)) →
-        StopsIn stopped.stop stopped.frame input first (W.contents writer.old) →
-        PassIs result input first (W.contents writer.new)
-        (Reported (seen E.contents E.is_flushed E.faults errors.old)
-        (seen E.contents E.is_flushed E.faults errors.new)) }
+        StopsIn stopped.stop stopped.frame input first out.old.output.contents →
+        EndsPass result input first out.new.output.contents (Tells out.old out.new) }
     ensures status { (result ≡ 2) ⊎ (result ≡ 3) ⊎ (result ≡ 4) }
-    ensures untouched { stopped.stop ≡ Stop.WriteFailed → writer.new ≡ writer.old }
-    ensures flushed { (W.is_flushed writer.new ≡ true)
-        ⊎ ((result ≡ 4) × ((stopped.stop ≡ Stop.WriteFailed) ⊎ Rose (W.faults writer.old) (W.faults writer.new))) }
-    ensures writes { W.faults writer.old ≤ W.faults writer.new }
-    ensures none_failed { result ≢ 4 → (status_shown stopped.stop ≢ 4) × (W.faults writer.new ≡ W.faults writer.old) }
-    ensures cause { result ≡ 4 → GivesUpFailing
-        (Reported (seen E.contents E.is_flushed E.faults errors.old) (seen E.contents E.is_flushed E.faults errors.new))
-        stopped.stop (W.faults writer.old) (W.faults writer.new) }
+    ensures untouched { stopped.stop ≡ Stop.WriteFailed → out.new.output ≡ out.old.output }
+    ensures flushed { (out.new.output.is_flushed ≡ true)
+        ⊎ ((result ≡ 4) × ((stopped.stop ≡ Stop.WriteFailed) ⊎ Rose out.old.output.faults out.new.output.faults)) }
+    ensures writes { out.old.output.faults ≤ out.new.output.faults }
+    ensures none_failed { result ≢ 4 → (status_shown stopped.stop ≢ 4) × (out.new.output.faults ≡ out.old.output.faults) }
+    ensures cause { result ≡ 4 → GivesUpFailing (Tells out.old out.new) stopped.stop out.old.output.faults out.new.output.faults }
 {
     match stopped.stop {
         Stop::WriteFailed => {
-            tell(errors, stopped.stop, stopped.frame);
+            tell(&mut out.errors, stopped.stop, stopped.frame);
             4
         }
         Stop::Frame(_) | Stop::Message(_) | Stop::NoMemory | Stop::ReadFailed => {
-            hand_on(writer, errors, stopped)
+            hand_on(out, stopped)
         }
     }
 }
@@ -311,28 +304,21 @@ fn give_up<W: Sink, E: Sink>(writer: &mut W, errors: &mut E, stopped: Stopped) -
 pub fn pass<R: Source, W: Sink, E: Sink>(
     alloc: Global,
     reader: &mut R,
-    writer: &mut W,
-    errors: &mut E,
+    out: &mut Outputs<W, E>,
 ) -> u8
-    ensures pass { (input : List ℕ) → R.remaining reader.old ≡ Some input →
-        PassIs result input (W.contents writer.old) (W.contents writer.new)
-        (Reported (seen E.contents E.is_flushed E.faults errors.old)
-        (seen E.contents E.is_flushed E.faults errors.new)) }
+    ensures pass { (input : List ℕ) → R.remaining reader.old ≡ Some input → PassIs result input out.old out.new }
     ensures status { IsStatus result }
-    ensures quiet { result ≡ 0 → Keeps (E.contents errors.old) (E.contents errors.new) }
-    ensures flushed { (W.is_flushed writer.new ≡ true)
-        ⊎ ((result ≡ 4) × Rose (W.faults writer.old) (W.faults writer.new)) }
+    ensures quiet { result ≡ 0 → Keeps out.old.errors.contents out.new.errors.contents }
+    ensures flushed { (out.new.output.is_flushed ≡ true)
+        ⊎ ((result ≡ 4) × Rose out.old.output.faults out.new.output.faults) }
     ensures calls { R.calls reader.new ≤ R.calls reader.old + READS }
     ensures none_failed { result ≢ 4 → NoneFailed
-        (counts R.faults R.calls W.faults reader.old writer.old)
-        (counts R.faults R.calls W.faults reader.new writer.new) }
-    ensures cause { result ≡ 4 → HasFailed
-        (Reported (seen E.contents E.is_flushed E.faults errors.old) (seen E.contents E.is_flushed E.faults errors.new))
-        (counts R.faults R.calls W.faults reader.old writer.old)
-        (counts R.faults R.calls W.faults reader.new writer.new) }
+        (counted R.faults R.calls reader.old out.old) (counted R.faults R.calls reader.new out.new) }
+    ensures cause { result ≡ 4 → HasFailed (Tells out.old out.new)
+        (counted R.faults R.calls reader.old out.old) (counted R.faults R.calls reader.new out.new) }
 {
-    match pass_all(alloc, reader, writer) {
+    match pass_all(alloc, reader, &mut out.writer) {
         Ok(()) => 0,
-        Err(stopped) => give_up(writer, errors, stopped),
+        Err(stopped) => give_up(out, stopped),
     }
 }

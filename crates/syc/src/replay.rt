@@ -6,7 +6,7 @@ ghost use Rattle.sy_replay.specs.Events.{site_event};
 ghost use Rattle.sy_replay.specs.Lines.{StandsFor};
 ghost use Rattle.syc.specs.Replays.{ReplayIs, lines_of};
 ghost use Rattle.syc.specs.HaltTexts.{halt_report};
-ghost use Rattle.syc.specs.Reports.{Reported, seen};
+ghost use Rattle.syc.specs.Reports.{Tells};
 ghost use Rattle.syc.specs.internal.Halts as internal;
 ghost use Rattle.syc.specs.internal.Halts.{Comes, Finishes, Stops, place, start};
 
@@ -14,6 +14,7 @@ use crate::files::{FileFault, Files};
 use crate::halt::{Halt, status_of, tell};
 use crate::losses::{put_end, put_losses};
 use crate::output::write_all;
+use crate::outputs::Outputs;
 use crate::pass::READS;
 use crate::site::read_site;
 use memchr::memchr;
@@ -383,24 +384,20 @@ fn replay_files<F: Files, W: Sink>(
 }
 
 // Hands on what was printed before the halt, and reports it.
-fn hand_on<W: Sink, E: Sink>(writer: &mut W, errors: &mut E, halt: &Halt) -> u8
-    ensures status { ((result ≡ internal.status_at halt.now) × (W.is_flushed writer.new ≡ true)
-        × (W.faults writer.new ≡ W.faults writer.old) × Reported
-        (seen E.contents E.is_flushed E.faults errors.old) (seen E.contents E.is_flushed E.faults errors.new)
-        (halt_report halt.now))
-        ⊎ ((result ≡ 4) × Rose (W.faults writer.old) (W.faults writer.new) × Reported
-        (seen E.contents E.is_flushed E.faults errors.old) (seen E.contents E.is_flushed E.faults errors.new)
-        (halt_report Halt.WriteFailed)) }
+fn hand_on<W: Sink, E: Sink>(out: &mut Outputs<W, E>, halt: &Halt) -> u8
+    ensures status { ((result ≡ internal.status_at halt.now) × (out.new.output.is_flushed ≡ true)
+        × (out.new.output.faults ≡ out.old.output.faults) × Tells out.old out.new (halt_report halt.now))
+        ⊎ ((result ≡ 4) × Rose out.old.output.faults out.new.output.faults × Tells out.old out.new (halt_report Halt.WriteFailed)) }
     ensures failed { result ≢ 0 }
-    ensures kept { Keeps (W.contents writer.old) (W.contents writer.new) }
+    ensures kept { Keeps out.old.output.contents out.new.output.contents }
 {
-    match writer.flush() {
+    match out.writer.flush() {
         Ok(()) => {
-            tell(errors, halt);
+            tell(&mut out.errors, halt);
             status_of(halt)
         }
         Err(_) => {
-            tell(errors, &Halt::WriteFailed);
+            tell(&mut out.errors, &Halt::WriteFailed);
             4
         }
     }
@@ -408,24 +405,21 @@ fn hand_on<W: Sink, E: Sink>(writer: &mut W, errors: &mut E, halt: &Halt) -> u8
 
 // Reports the halt, once what was printed before it is handed on. After a failed write nothing more is written, so that
 // none is tried again.
-fn give_up<W: Sink, E: Sink>(writer: &mut W, errors: &mut E, halt: &Halt) -> u8
-    ensures status { ((result ≡ internal.status_at halt.now) × (W.is_flushed writer.new ≡ true)
-        × (W.faults writer.new ≡ W.faults writer.old) × Reported
-        (seen E.contents E.is_flushed E.faults errors.old) (seen E.contents E.is_flushed E.faults errors.new)
-        (halt_report halt.now))
-        ⊎ ((result ≡ 4) × ((halt.now ≡ Halt.WriteFailed) ⊎ Rose (W.faults writer.old) (W.faults writer.new)) × Reported
-        (seen E.contents E.is_flushed E.faults errors.old) (seen E.contents E.is_flushed E.faults errors.new)
-        (halt_report Halt.WriteFailed)) }
-    ensures untouched { halt.now ≡ Halt.WriteFailed → writer.new ≡ writer.old }
+fn give_up<W: Sink, E: Sink>(out: &mut Outputs<W, E>, halt: &Halt) -> u8
+    ensures status { ((result ≡ internal.status_at halt.now) × (out.new.output.is_flushed ≡ true)
+        × (out.new.output.faults ≡ out.old.output.faults) × Tells out.old out.new (halt_report halt.now))
+        ⊎ ((result ≡ 4) × ((halt.now ≡ Halt.WriteFailed) ⊎ Rose out.old.output.faults out.new.output.faults)
+        × Tells out.old out.new (halt_report Halt.WriteFailed)) }
+    ensures untouched { halt.now ≡ Halt.WriteFailed → out.new.output ≡ out.old.output }
     ensures failed { result ≢ 0 }
-    ensures kept { Keeps (W.contents writer.old) (W.contents writer.new) }
+    ensures kept { Keeps out.old.output.contents out.new.output.contents }
 {
     match halt {
         Halt::WriteFailed => {
-            tell(errors, halt);
+            tell(&mut out.errors, halt);
             status_of(halt)
         }
-        _ => hand_on(writer, errors, halt),
+        _ => hand_on(out, halt),
     }
 }
 
@@ -438,20 +432,17 @@ pub fn replay<F: Files, W: Sink, E: Sink>(
     files: &F,
     site_name: &str,
     events_name: &str,
-    writer: &mut W,
-    errors: &mut E,
+    out: &mut Outputs<W, E>,
 ) -> u8
     ensures replay { (text events : List ℕ)
         → F.bytes_of files.now site_name.now ≡ Some text → F.bytes_of files.now events_name.now ≡ Some events
-        → ReplayIs (F.bytes_of files.now) text events result
-        (seen W.contents W.is_flushed W.faults writer.old) (seen W.contents W.is_flushed W.faults writer.new)
-        (Reported (seen E.contents E.is_flushed E.faults errors.old) (seen E.contents E.is_flushed E.faults errors.new)) }
-    ensures quiet { result ≡ 0 → Keeps (E.contents errors.old) (E.contents errors.new) }
+        → ReplayIs (F.bytes_of files.now) text events result out.old out.new }
+    ensures quiet { result ≡ 0 → Keeps out.old.errors.contents out.new.errors.contents }
     ensures status { result ≤ 4 }
-    ensures none_failed { result ≢ 4 → W.faults writer.new ≡ W.faults writer.old }
+    ensures none_failed { result ≢ 4 → out.new.output.faults ≡ out.old.output.faults }
 {
-    match replay_files(alloc, files, site_name, events_name, writer) {
+    match replay_files(alloc, files, site_name, events_name, &mut out.writer) {
         Ok(()) => 0,
-        Err(halt) => give_up(writer, errors, &halt),
+        Err(halt) => give_up(out, &halt),
     }
 }

@@ -1,22 +1,20 @@
 //! The commands.
-ghost use Rattle.std.specs.Prelude.{◌≡◌, ◌≢◌, ◌≤◌, ◌+◌, ◌⊎◌, ℕ, List, Some, codes, map, string_bytes, true};
+ghost use Rattle.std.specs.Prelude.{◌≡◌, ◌≢◌, ◌≤◌, ◌+◌, ℕ, List, Some, map, string_bytes};
 ghost use Rattle.std.specs.Io.KnownBytes.{Keeps};
-ghost use Rattle.sy_wire.specs.Streams.{Rose};
-ghost use Rattle.syc.specs.Checks.{CertifyIs, CheckIs, DetailIs};
-ghost use Rattle.syc.specs.Outcomes.{Shows, streams};
-ghost use Rattle.syc.specs.Pass.{HasFailed, IsStatus, NoneFailed, PassIs, counts};
+ghost use Rattle.syc.specs.Checks.{AskedIs};
+ghost use Rattle.syc.specs.Outcomes.{Shows};
+ghost use Rattle.syc.specs.Pass.{IsStatus, Leaves, NoneFailed, PassIs, counted};
 ghost use Rattle.syc.specs.Replays.{ReplayIs};
-ghost use Rattle.syc.specs.Reports.{Reported, seen};
 ghost use Rattle.syc.specs.Verdicts.{VerifyIs};
-ghost use Rattle.syc.specs.Words.{AreFlaggedOf, AreNoCommandOf, AreOneFileOf, ArePassAlone, AreReplayOf, AreVerifyOf, flag};
-ghost use Rattle.syc.specs.declared.command.Detail.{Detail as AnyDetail};
+ghost use Rattle.syc.specs.Words.{AreAskingOf, AreNoCommandOf, ArePassAlone, AreReplayOf, AreVerifyOf};
+ghost use Rattle.syc.specs.declared.command.Asked.{Asked as AnyAsked};
 ghost use Rattle.syc.specs.internal.Commands.{Answers};
 
-use crate::check::{certify, check};
+use crate::ask::ask;
 use crate::command::{Command, SiteCommand, all_words, command_of};
-use crate::detail::detailed;
 use crate::files::Files;
 use crate::output::send;
+use crate::outputs::Outputs;
 use crate::pass::{READS, pass};
 use crate::replay::replay;
 use crate::stop::{out_of_memory, write_failed};
@@ -27,23 +25,21 @@ use std::alloc::Global;
 use sy_wire::{Sink, Source};
 
 // Prints what clap answers in place of a command, and answers the exit status.
-fn show<W: Sink, E: Sink>(alloc: Global, writer: &mut W, errors: &mut E, error: &Error) -> u8
+fn show<W: Sink, E: Sink>(alloc: Global, out: &mut Outputs<W, E>, error: &Error) -> u8
     ensures status { IsStatus result }
-    ensures none_failed { result ≢ 4 → W.faults writer.new ≡ W.faults writer.old }
-    ensures quiet { result ≡ 0 → Keeps (E.contents errors.old) (E.contents errors.new) }
-    ensures shown { Shows result
-        (streams (seen W.contents W.is_flushed W.faults writer.old) (seen E.contents E.is_flushed E.faults errors.old))
-        (streams (seen W.contents W.is_flushed W.faults writer.new) (seen E.contents E.is_flushed E.faults errors.new)) }
+    ensures none_failed { result ≢ 4 → out.new.output.faults ≡ out.old.output.faults }
+    ensures quiet { result ≡ 0 → Keeps out.old.errors.contents out.new.errors.contents }
+    ensures shown { Shows result out.old out.new }
 {
     let Ok(text) = format!(in alloc; "{error}") else {
-        return out_of_memory(errors);
+        return out_of_memory(&mut out.errors);
     };
     if error.use_stderr() {
-        let _ = send(errors, text.as_bytes());
+        let _ = send(&mut out.errors, text.as_bytes());
         return 2;
     }
-    let Ok(()) = send(writer, text.as_bytes()) else {
-        return write_failed(errors);
+    let Ok(()) = send(&mut out.writer, text.as_bytes()) else {
+        return write_failed(&mut out.errors);
     };
     0
 }
@@ -53,26 +49,17 @@ fn over_site<W: Sink, E: Sink, F: Files>(
     alloc: Global,
     command: SiteCommand<'_>,
     files: &F,
-    writer: &mut W,
-    errors: &mut E,
+    out: &mut Outputs<W, E>,
 ) -> u8
-    ensures answers { Answers (F.bytes_of files.now) command.entry result
-        (streams (seen W.contents W.is_flushed W.faults writer.old) (seen E.contents E.is_flushed E.faults errors.old))
-        (streams (seen W.contents W.is_flushed W.faults writer.new) (seen E.contents E.is_flushed E.faults errors.new)) }
+    ensures answers { Answers (F.bytes_of files.now) command.entry result out.old out.new }
     ensures status { result ≤ 4 }
-    ensures none_failed { result ≢ 4 → W.faults writer.new ≡ W.faults writer.old }
-    ensures quiet { result ≡ 0 → Keeps (E.contents errors.old) (E.contents errors.new) }
+    ensures none_failed { result ≢ 4 → out.new.output.faults ≡ out.old.output.faults }
+    ensures quiet { result ≡ 0 → Keeps out.old.errors.contents out.new.errors.contents }
 {
     match command {
-        SiteCommand::Check(site) => check(alloc, files, site, writer, errors),
-        SiteCommand::CheckMore(detail, site) => {
-            detailed(alloc, files, detail, site, writer, errors)
-        }
-        SiteCommand::Certify(site) => certify(alloc, files, site, writer, errors),
-        SiteCommand::Replay(site, events) => replay(alloc, files, site, events, writer, errors),
-        SiteCommand::Verify(site, certificate) => {
-            verify(alloc, files, site, certificate, writer, errors)
-        }
+        SiteCommand::Ask(asked, site) => ask(alloc, files, asked, site, out),
+        SiteCommand::Replay(site, events) => replay(alloc, files, site, events, out),
+        SiteCommand::Verify(site, certificate) => verify(alloc, files, site, certificate, out),
     }
 }
 
@@ -83,67 +70,37 @@ pub fn run<R: Source, W: Sink, E: Sink, F: Files>(
     args: &[String],
     files: &F,
     reader: &mut R,
-    writer: &mut W,
-    errors: &mut E,
+    out: &mut Outputs<W, E>,
 ) -> u8
     ensures pass { ArePassAlone (map string_bytes args.now) → (input : List ℕ) → R.remaining reader.old ≡ Some input →
-        PassIs result input (W.contents writer.old) (W.contents writer.new)
-        (Reported (seen E.contents E.is_flushed E.faults errors.old)
-        (seen E.contents E.is_flushed E.faults errors.new)) }
+        PassIs result input out.old out.new }
     ensures replay { (site events text input : List ℕ) → AreReplayOf (map string_bytes args.now) site events →
         F.bytes_of files.now site ≡ Some text → F.bytes_of files.now events ≡ Some input →
-        ReplayIs (F.bytes_of files.now) text input result
-        (seen W.contents W.is_flushed W.faults writer.old) (seen W.contents W.is_flushed W.faults writer.new)
-        (Reported (seen E.contents E.is_flushed E.faults errors.old)
-        (seen E.contents E.is_flushed E.faults errors.new)) }
+        ReplayIs (F.bytes_of files.now) text input result out.old out.new }
+    ensures asked { (question : AnyAsked) (site text : List ℕ) → AreAskingOf question (map string_bytes args.now) site →
+        F.bytes_of files.now site ≡ Some text → AskedIs question (F.bytes_of files.now) text result out.old out.new }
+    ensures verify { (site certificate site_text text : List ℕ) → AreVerifyOf (map string_bytes args.now) site certificate →
+        F.bytes_of files.now site ≡ Some site_text → F.bytes_of files.now certificate ≡ Some text →
+        VerifyIs (F.bytes_of files.now) site_text text result out.old out.new }
+    ensures other { AreNoCommandOf (map string_bytes args.now) → Shows result out.old out.new }
     ensures status { result ≤ 4 }
-    ensures quiet { result ≡ 0 → Keeps (E.contents errors.old) (E.contents errors.new) }
-    ensures flushed { ArePassAlone (map string_bytes args.now) →
-        (W.is_flushed writer.old ≡ true → W.is_flushed writer.new ≡ true)
-        ⊎ ((result ≡ 4) × Rose (W.faults writer.old) (W.faults writer.new)) }
-    ensures done { ArePassAlone (map string_bytes args.now) → (result ≡ 0) ⊎ (result ≡ 2) →
-        W.is_flushed writer.new ≡ true }
+    ensures quiet { result ≡ 0 → Keeps out.old.errors.contents out.new.errors.contents }
+    ensures leaves { ArePassAlone (map string_bytes args.now) → Leaves result out.old out.new
+        (counted R.faults R.calls reader.old out.old) (counted R.faults R.calls reader.new out.new) }
     ensures calls { R.calls reader.new ≤ R.calls reader.old + READS }
     ensures none_failed { result ≢ 4 → NoneFailed
-        (counts R.faults R.calls W.faults reader.old writer.old)
-        (counts R.faults R.calls W.faults reader.new writer.new) }
+        (counted R.faults R.calls reader.old out.old) (counted R.faults R.calls reader.new out.new) }
     ensures untouched { (ArePassAlone (map string_bytes args.now) → ⊥) → reader.new ≡ reader.old }
-    ensures cause { ArePassAlone (map string_bytes args.now) → result ≡ 4 → HasFailed
-        (Reported (seen E.contents E.is_flushed E.faults errors.old) (seen E.contents E.is_flushed E.faults errors.new))
-        (counts R.faults R.calls W.faults reader.old writer.old)
-        (counts R.faults R.calls W.faults reader.new writer.new) }
-    ensures verify { (site certificate : List ℕ) → AreVerifyOf (map string_bytes args.now) site certificate →
-        (site_text text : List ℕ) → F.bytes_of files.now site ≡ Some site_text →
-        F.bytes_of files.now certificate ≡ Some text →
-        VerifyIs (F.bytes_of files.now) site_text text result
-        (streams (seen W.contents W.is_flushed W.faults writer.old) (seen E.contents E.is_flushed E.faults errors.old))
-        (streams (seen W.contents W.is_flushed W.faults writer.new) (seen E.contents E.is_flushed E.faults errors.new)) }
-    ensures check { (site text : List ℕ) → AreOneFileOf (codes "check") (map string_bytes args.now) site →
-        F.bytes_of files.now site ≡ Some text → CheckIs (F.bytes_of files.now) text result
-        (streams (seen W.contents W.is_flushed W.faults writer.old) (seen E.contents E.is_flushed E.faults errors.old))
-        (streams (seen W.contents W.is_flushed W.faults writer.new) (seen E.contents E.is_flushed E.faults errors.new)) }
-    ensures detailed { (detail : AnyDetail) (site text : List ℕ) →
-        AreFlaggedOf (codes "check") (flag detail) (map string_bytes args.now) site →
-        F.bytes_of files.now site ≡ Some text → DetailIs detail (F.bytes_of files.now) text result
-        (streams (seen W.contents W.is_flushed W.faults writer.old) (seen E.contents E.is_flushed E.faults errors.old))
-        (streams (seen W.contents W.is_flushed W.faults writer.new) (seen E.contents E.is_flushed E.faults errors.new)) }
-    ensures other { AreNoCommandOf (map string_bytes args.now) → Shows result
-        (streams (seen W.contents W.is_flushed W.faults writer.old) (seen E.contents E.is_flushed E.faults errors.old))
-        (streams (seen W.contents W.is_flushed W.faults writer.new) (seen E.contents E.is_flushed E.faults errors.new)) }
-    ensures certify { (site text : List ℕ) → AreOneFileOf (codes "certify") (map string_bytes args.now) site →
-        F.bytes_of files.now site ≡ Some text → CertifyIs (F.bytes_of files.now) text result
-        (streams (seen W.contents W.is_flushed W.faults writer.old) (seen E.contents E.is_flushed E.faults errors.old))
-        (streams (seen W.contents W.is_flushed W.faults writer.new) (seen E.contents E.is_flushed E.faults errors.new)) }
 {
     let Ok(words) = all_words(alloc, args) else {
-        return out_of_memory(errors);
+        return out_of_memory(&mut out.errors);
     };
     match command_of(alloc, words.as_slice()) {
-        Ok(Command::Pass) => pass(alloc, reader, writer, errors),
-        Ok(Command::OverSite(command)) => over_site(alloc, command, files, writer, errors),
+        Ok(Command::Pass) => pass(alloc, reader, out),
+        Ok(Command::OverSite(command)) => over_site(alloc, command, files, out),
         Err(error) => match error.kind() {
-            ErrorKind::OutOfMemory => out_of_memory(errors),
-            _ => show(alloc, writer, errors, &error),
+            ErrorKind::OutOfMemory => out_of_memory(&mut out.errors),
+            _ => show(alloc, out, &error),
         },
     }
 }

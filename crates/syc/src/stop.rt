@@ -1,14 +1,12 @@
-//! Why a command stops early, and what it prints then.
-ghost use Rattle.std.specs.Prelude.{◌≡◌, ◌≤◌, true, OnErr, OnOk};
-ghost use Rattle.std.specs.Io.KnownBytes.{Appends};
-ghost use Rattle.sy_wire.specs.Faults.{message_fault_text};
-ghost use Rattle.sy_wire.specs.Streams.{Rose};
-ghost use Rattle.syc.specs.Reports.{Reported, Torn, cause, frame_number, report, seen, status_shown};
+//! Why a pass stops early, and what it prints then.
+ghost use Rattle.std.specs.Prelude.{◌≡◌};
+ghost use Rattle.syc.specs.Reports.{Reported, at_offset, report, seen, status_shown};
 
-use crate::output::{write_all, write_decimal};
-use sy_wire::{FrameFault, MsgFault, Sink, WriteFault};
+use crate::report::{tell_text, tell_texts};
+use itoa::Buffer;
+use sy_wire::{FrameFault, MsgFault, Sink};
 
-/// Why a command stops early.
+/// Why a pass stops early.
 #[derive(Clone, Copy)]
 pub enum Stop {
     /// The input is no stream of frames.
@@ -20,107 +18,73 @@ pub enum Stop {
     WriteFailed,
 }
 
-// Where a fault lies.
-fn write_frame_number<E: Sink>(errors: &mut E, frame: u64) -> Result<(), WriteFault>
-    ensures ok { OnOk result (Appends (E.contents errors.old) (E.contents errors.new) (frame_number frame)) }
-    ensures torn { OnErr result (Torn (E.contents errors.old) (E.contents errors.new) (frame_number frame)) }
-    ensures same { OnOk result (E.faults errors.new ≡ E.faults errors.old) }
-    ensures count { E.faults errors.old ≤ E.faults errors.new }
-    ensures err { OnErr result (Rose (E.faults errors.old) (E.faults errors.new)) }
+fn tell_frame_fault<E: Sink>(errors: &mut E, fault: FrameFault, frame: u64)
+    ensures { Reported
+        (seen E.contents E.is_flushed E.faults errors.old) (seen E.contents E.is_flushed E.faults errors.new)
+        (report (Stop.Frame fault) frame) }
 {
-    write_all(errors, b" in frame ")?;
-    write_decimal(errors, frame)?;
-    Ok(())
+    let mut digits = Buffer::new();
+    let frame = digits.format(frame).as_bytes();
+    tell_texts(
+        errors,
+        &[
+            b"syc: ",
+            fault.words().as_bytes(),
+            b" in frame ",
+            frame,
+            b"\n",
+        ],
+    );
 }
 
-fn write_frame_fault<E: Sink>(
-    errors: &mut E,
-    fault: FrameFault,
-    frame: u64,
-) -> Result<(), WriteFault>
-    ensures ok { OnOk result (Appends (E.contents errors.old) (E.contents errors.new) (cause
-        (Stop.Frame fault) frame)) }
-    ensures torn { OnErr result (Torn (E.contents errors.old) (E.contents errors.new) (cause
-        (Stop.Frame fault) frame)) }
-    ensures same { OnOk result (E.faults errors.new ≡ E.faults errors.old) }
-    ensures count { E.faults errors.old ≤ E.faults errors.new }
-    ensures err { OnErr result (Rose (E.faults errors.old) (E.faults errors.new)) }
+// A fault of a message, its number and name, with its offset and the frame's number in digits.
+fn tell_at_offset<'a, E: Sink>(errors: &mut E, words: &'a [u8], offset: &'a [u8], frame: &'a [u8])
+    ensures { Reported
+        (seen E.contents E.is_flushed E.faults errors.old) (seen E.contents E.is_flushed E.faults errors.new)
+        (at_offset words.now offset.now frame.now) }
 {
-    write_all(errors, fault.words().as_bytes())?;
-    write_frame_number(errors, frame)?;
-    Ok(())
+    tell_texts(
+        errors,
+        &[
+            b"syc: ",
+            words,
+            b" at ",
+            offset,
+            b" in frame ",
+            frame,
+            b"\n",
+        ],
+    );
 }
 
-// What the fault shows.
-fn write_message_text<E: Sink>(errors: &mut E, fault: MsgFault) -> Result<(), WriteFault>
-    ensures ok { OnOk result (Appends (E.contents errors.old) (E.contents errors.new) (message_fault_text fault)) }
-    ensures torn { OnErr result (Torn (E.contents errors.old) (E.contents errors.new) (message_fault_text fault)) }
-    ensures same { OnOk result (E.faults errors.new ≡ E.faults errors.old) }
-    ensures count { E.faults errors.old ≤ E.faults errors.new }
-    ensures err { OnErr result (Rose (E.faults errors.old) (E.faults errors.new)) }
+fn tell_message_fault<E: Sink>(errors: &mut E, fault: MsgFault, frame: u64)
+    ensures { Reported
+        (seen E.contents E.is_flushed E.faults errors.old) (seen E.contents E.is_flushed E.faults errors.new)
+        (report (Stop.Message fault) frame) }
 {
-    write_all(errors, fault.code.words().as_bytes())?;
-    write_all(errors, b" at ")?;
-    write_decimal(errors, fault.offset as u64)?;
-    Ok(())
+    let mut offset = Buffer::new();
+    let mut number = Buffer::new();
+    tell_at_offset(
+        errors,
+        fault.code.words().as_bytes(),
+        offset.format(fault.offset as u64).as_bytes(),
+        number.format(frame).as_bytes(),
+    );
 }
 
-fn write_message_fault<E: Sink>(
-    errors: &mut E,
-    fault: MsgFault,
-    frame: u64,
-) -> Result<(), WriteFault>
-    ensures ok { OnOk result (Appends (E.contents errors.old) (E.contents errors.new) (cause
-        (Stop.Message fault) frame)) }
-    ensures torn { OnErr result (Torn (E.contents errors.old) (E.contents errors.new) (cause
-        (Stop.Message fault) frame)) }
-    ensures same { OnOk result (E.faults errors.new ≡ E.faults errors.old) }
-    ensures count { E.faults errors.old ≤ E.faults errors.new }
-    ensures err { OnErr result (Rose (E.faults errors.old) (E.faults errors.new)) }
-{
-    write_message_text(errors, fault)?;
-    write_frame_number(errors, frame)?;
-    Ok(())
-}
-
-fn write_cause<E: Sink>(errors: &mut E, stop: Stop, frame: u64) -> Result<(), WriteFault>
-    ensures ok { OnOk result (Appends (E.contents errors.old) (E.contents errors.new) (cause stop frame)) }
-    ensures torn { OnErr result (Torn (E.contents errors.old) (E.contents errors.new) (cause stop frame)) }
-    ensures same { OnOk result (E.faults errors.new ≡ E.faults errors.old) }
-    ensures count { E.faults errors.old ≤ E.faults errors.new }
-    ensures err { OnErr result (Rose (E.faults errors.old) (E.faults errors.new)) }
-{
-    match stop {
-        Stop::Frame(fault) => write_frame_fault(errors, fault, frame),
-        Stop::Message(fault) => write_message_fault(errors, fault, frame),
-        Stop::NoMemory => write_all(errors, b"no memory"),
-        Stop::ReadFailed => write_all(errors, b"read failed"),
-        Stop::WriteFailed => write_all(errors, b"write failed"),
-    }
-}
-
-fn write_report<E: Sink>(errors: &mut E, stop: Stop, frame: u64) -> Result<(), WriteFault>
-    ensures ok { OnOk result (Appends (E.contents errors.old) (E.contents errors.new) (report stop frame)) }
-    ensures torn { OnErr result (Torn (E.contents errors.old) (E.contents errors.new) (report stop frame)) }
-    ensures flushed { OnOk result (E.is_flushed errors.new ≡ true) }
-    ensures same { OnOk result (E.faults errors.new ≡ E.faults errors.old) }
-    ensures count { E.faults errors.old ≤ E.faults errors.new }
-    ensures err { OnErr result (Rose (E.faults errors.old) (E.faults errors.new)) }
-{
-    write_all(errors, b"syc: ")?;
-    write_cause(errors, stop, frame)?;
-    write_all(errors, b"\n")?;
-    errors.flush()?;
-    Ok(())
-}
-
-/// Prints why the command stopped. That this fails changes nothing else.
+/// Prints why the pass stopped, and in which frame, counted from 1, as far as that can be written.
 pub fn tell<E: Sink>(errors: &mut E, stop: Stop, frame: u64)
     ensures { Reported
         (seen E.contents E.is_flushed E.faults errors.old) (seen E.contents E.is_flushed E.faults errors.new)
         (report stop frame) }
 {
-    let _ = write_report(errors, stop, frame);
+    match stop {
+        Stop::Frame(fault) => tell_frame_fault(errors, fault, frame),
+        Stop::Message(fault) => tell_message_fault(errors, fault, frame),
+        Stop::NoMemory => tell_text(errors, "no memory"),
+        Stop::ReadFailed => tell_text(errors, "read failed"),
+        Stop::WriteFailed => tell_text(errors, "write failed"),
+    }
 }
 
 /// The exit status of a command that stopped.

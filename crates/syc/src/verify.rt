@@ -2,14 +2,13 @@
 ghost use Rattle.std.specs.Prelude.{◌≡◌, ◌≢◌, ◌≤◌, ℕ, List, Some, IfErr, IfOk, IfSome};
 ghost use Rattle.std.specs.Io.KnownBytes.{Keeps};
 ghost use Rattle.syc.specs.Checks.{IsCertificate};
-ghost use Rattle.syc.specs.Outcomes.{streams};
-ghost use Rattle.syc.specs.Reports.{seen};
 ghost use Rattle.syc.specs.Verdicts as spec;
 ghost use Rattle.syc.specs.internal.Unverified as internal;
 
 use crate::answer::{Answer, print};
 use crate::files::{FileFault, Files};
 use crate::halt::Halt;
+use crate::outputs::Outputs;
 use crate::site::read_site;
 use crate::verdict::verdict;
 use std::alloc::Global;
@@ -74,18 +73,15 @@ pub fn verify<F: Files, W: Sink, E: Sink>(
     files: &F,
     site_name: &str,
     certificate_name: &str,
-    writer: &mut W,
-    errors: &mut E,
+    out: &mut Outputs<W, E>,
 ) -> u8
     ensures verdict { (site text : List ℕ) → F.bytes_of files.now site_name.now ≡ Some site →
         F.bytes_of files.now certificate_name.now ≡ Some text →
-        spec.VerifyIs (F.bytes_of files.now) site text result
-        (streams (seen W.contents W.is_flushed W.faults writer.old) (seen E.contents E.is_flushed E.faults errors.old))
-        (streams (seen W.contents W.is_flushed W.faults writer.new) (seen E.contents E.is_flushed E.faults errors.new)) }
-    ensures quiet { result ≡ 0 → Keeps (E.contents errors.old) (E.contents errors.new) }
+        spec.VerifyIs (F.bytes_of files.now) site text result out.old out.new }
+    ensures quiet { result ≡ 0 → Keeps out.old.errors.contents out.new.errors.contents }
     ensures status { result ≤ 4 }
-    ensures none_failed { result ≢ 4 → W.faults writer.new ≡ W.faults writer.old }
+    ensures none_failed { result ≢ 4 → out.new.output.faults ≡ out.old.output.faults }
 {
     let answer = judge(alloc, files, site_name, certificate_name);
-    print(answer, writer, errors)
+    print(answer, out)
 }

@@ -1,19 +1,17 @@
 -- Which words are no command, and what a command over a site answers.
-use Rattle.std.specs.Prelude.{◌≡◌, ℕ, List, Option, Some, codes}
-use Rattle.syc.specs.Checks.{CertifyIs, CheckIs, DetailIs}
-use Rattle.syc.specs.Outcomes.{Streams, Tells}
+use Rattle.std.specs.Prelude.{◌≡◌, ℕ, List, Option, Some}
+use Rattle.syc.specs.Checks.{AskedIs}
+use Rattle.syc.specs.Reports.{Streams}
 use Rattle.syc.specs.Replays.{ReplayIs}
 use Rattle.syc.specs.Verdicts.{VerifyIs}
-use Rattle.syc.specs.Words.{AreFlagged, AreFlaggedOf, AreOneFile, AreOneFileOf, ArePass, AreReplay, AreReplayOf, AreVerify, AreVerifyOf, flag}
-use Rattle.syc.specs.declared.command.Detail.{Detail}
+use Rattle.syc.specs.Words.{AreAsking, AreAskingOf, ArePass, AreReplay, AreReplayOf, AreVerify, AreVerifyOf}
+use Rattle.syc.specs.declared.command.Asked.{Asked}
 use Rattle.syc.specs.declared.command.SiteCommand.{SiteCommand}
 use Rattle.syc.specs.declared.command.SiteCommand.TheVariants as of_site
 
 -- no command over a site, with the program's name before it
 pub record AreNoSiteCommand (words : List (List ℕ)) : Type 0 where
-  pub no_check : (site : List ℕ) → AreOneFile (codes "check") words site → ⊥
-  pub no_more : (detail : Detail) (site : List ℕ) → AreFlagged (codes "check") (flag detail) words site → ⊥
-  pub no_certify : (site : List ℕ) → AreOneFile (codes "certify") words site → ⊥
+  pub no_asking : (question : Asked) (site : List ℕ) → AreAsking question words site → ⊥
   pub no_replay : (site events : List ℕ) → AreReplay words site events → ⊥
   pub no_verify : (site certificate : List ℕ) → AreVerify words site certificate → ⊥
 
@@ -24,21 +22,17 @@ pub record AreNoCommand (words : List (List ℕ)) : Type 0 where
 
 -- what the words after the program's name want of a site
 abbrev pub IsSiteCommandOf : List (List ℕ) → SiteCommand → Type 0
-IsSiteCommandOf words (of_site.Check site) = AreOneFileOf (codes "check") words site.now
-IsSiteCommandOf words (of_site.CheckMore detail site) = AreFlaggedOf (codes "check") (flag detail) words site.now
-IsSiteCommandOf words (of_site.Certify site) = AreOneFileOf (codes "certify") words site.now
+IsSiteCommandOf words (of_site.Ask question site) = AreAskingOf question words site.now
 IsSiteCommandOf words (of_site.Replay site events) = AreReplayOf words site.now events.now
 IsSiteCommandOf words (of_site.Verify site certificate) = AreVerifyOf words site.now certificate.now
 
 -- what a command over a site answers, where these are the bytes of its files
 abbrev pub Answers : (List ℕ → Option (List ℕ)) → SiteCommand → ℕ → Streams → Streams → Type 0
-Answers bytes_of (of_site.Check site) status old new = (text : List ℕ) → bytes_of site.now ≡ Some text → CheckIs bytes_of text status old new
-Answers bytes_of (of_site.CheckMore detail site) status old new =
-    (text : List ℕ) → bytes_of site.now ≡ Some text → DetailIs detail bytes_of text status old new
-Answers bytes_of (of_site.Certify site) status old new = (text : List ℕ) → bytes_of site.now ≡ Some text → CertifyIs bytes_of text status old new
+Answers bytes_of (of_site.Ask question site) status old new =
+    (text : List ℕ) → bytes_of site.now ≡ Some text → AskedIs question bytes_of text status old new
 Answers bytes_of (of_site.Replay site events) status old new =
     (text input : List ℕ) → bytes_of site.now ≡ Some text → bytes_of events.now ≡ Some input
-    → ReplayIs bytes_of text input status old.output new.output (Tells old new)
+    → ReplayIs bytes_of text input status old new
 Answers bytes_of (of_site.Verify site certificate) status old new =
     (site_text text : List ℕ) → bytes_of site.now ≡ Some site_text → bytes_of certificate.now ≡ Some text
     → VerifyIs bytes_of site_text text status old new

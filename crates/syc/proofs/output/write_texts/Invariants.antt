@@ -1,6 +1,6 @@
 use Rattle.std.proofs.Common.{◌≡◌, map, take}
 use Rattle.std.specs.Io.KnownBytes.{Appends}
-use Rattle.syc.specs.HaltTexts.{joined}
+use Rattle.syc.specs.Reports.{joined}
 use Rattle.syc.proofs.output.write_texts.Given as goal
 
 abbrev pub invariant-loop-text : goal.invariant-loop-text

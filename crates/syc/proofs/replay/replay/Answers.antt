@@ -1,5 +1,5 @@
 use Rattle.std.proofs.Common.{inl, inr, subst, sym}
-use Rattle.syc.specs.Reports.{Reported, seen}
+use Rattle.syc.specs.Reports.{Reported, SinkState, seen}
 use Rattle.sy_wire.specs.Streams.{Rose}
 use Rattle.syc.specs.declared.halt.Halt.TheVariants as halts
 use Rattle.syc.specs.internal.Halts.{Halted, IsCause}
@@ -7,18 +7,17 @@ use Rattle.syc.proofs.Courses.{halted, halted_failing, replayed, rises_on}
 use Rattle.syc.proofs.replay.replay.Goals as goal
 
 pub returns-in-Ok-clause-replay : goal.returns-in-Ok-clause-replay
-returns-in-Ok-clause-replay g c = λ text events site_known events_known.
-    replayed _ text events _ _ _ (c.in-Ok.ensures.ok text events site_known events_known) c.in-Ok.ensures.flushed
+returns-in-Ok-clause-replay g c = rw (← c.out.view_is) (λ text events site_known events_known.
+    replayed _ text events _ _ _ (c.in-Ok.ensures.ok text events site_known events_known) c.in-Ok.ensures.flushed)
 
 pub returns-in-Err-clause-replay : goal.returns-in-Err-clause-replay
-returns-in-Err-clause-replay g c = λ text events site_known events_known.
+returns-in-Err-clause-replay g c = rw (← c.out.view_is) (λ text events site_known events_known.
     let bytes_of = g.F.Files.bytes_of c.args.files.now in
     let halt = c.in-Err.halt in
-    let old = seen g.W.Sink.contents g.W.Sink.is_flushed g.W.Sink.faults c.args.writer.now in
-    let new = seen g.W.Sink.contents g.W.Sink.is_flushed g.W.Sink.faults c.give_up.new.writer in
+    let old = seen g.W.Sink.contents g.W.Sink.is_flushed g.W.Sink.faults c.out.inside.writer in
+    let new = c.give_up.new.out.output in
     let mid = g.W.Sink.contents c.replay_files.new.writer in
-    let is_reported = Reported (seen g.E.Sink.contents g.E.Sink.is_flushed g.E.Sink.faults c.args.errors.now)
-    (seen g.E.Sink.contents g.E.Sink.is_flushed g.E.Sink.faults c.give_up.new.errors) in
+    let is_reported = Reported (seen g.E.Sink.contents g.E.Sink.is_flushed g.E.Sink.faults c.out.inside.errors) c.give_up.new.out.errors in
     let stopped = c.in-Err.ensures.err text events site_known events_known in
     elim c.give_up.ensures.status [
       | inl a ↦ rw a.0 (halted bytes_of text events halt old new mid is_reported
@@ -28,8 +27,8 @@ returns-in-Err-clause-replay g c = λ text events site_known events_known.
             | inl is ↦
                 let failed : IsCause halts.WriteFailed old.faults (g.W.Sink.faults c.replay_files.new.writer) =
                 subst (λ h. IsCause h old.faults (g.W.Sink.faults c.replay_files.new.writer)) is c.in-Err.ensures.cause in
-                subst (λ w. Rose old.faults (g.W.Sink.faults w)) (sym (c.give_up.ensures.untouched is)) failed
+                subst (λ (s : SinkState). Rose old.faults s.faults) (sym (c.give_up.ensures.untouched is)) failed
             | inr rose ↦ rises_on halt old.faults _ new.faults c.in-Err.ensures.cause rose
           ] in
           rw b.0 (halted_failing bytes_of text events halt old new mid _ is_reported stopped c.give_up.ensures.kept rose b.2)
-    ]
+    ])
