@@ -221,53 +221,76 @@ fn verified<'a>(words: &[&'a str]) -> Option<(&'a str, &'a str)>
     }
 }
 
-// What clap knows of a command with one name.
-fn one_file_parser<'a>(
+// The flags of a check, of which one alone may be given: the name of each, what it does, and what it stands against.
+static FLAGS: [(&str, &str, &str); 2] = [
+    ("explain", EXPLAIN_ABOUT, "all"),
+    ("all", ALL_ABOUT, "explain"),
+];
+
+// What clap knows of a command with names of files behind it, but for its flags.
+fn plain_parser<'a>(
     alloc: Global,
     word: &'a str,
     about: &'a str,
+    names: &[&'a str],
 ) -> Result<Parser<'a>, AllocError> {
-    let site = Arg::new(alloc, "SITE").required(true);
-    let parser = Parser::new(alloc, word).about(about);
-    let parser = parser.arg(site)?;
+    let mut parser = Parser::new(alloc, word).about(about);
+    for name in names {
+        parser = parser.arg(Arg::new(alloc, name).required(true))?;
+    }
     Ok(parser)
 }
 
-// What clap knows of a check.
-fn check_parser<'a>(alloc: Global) -> Result<Parser<'a>, AllocError> {
-    let check = one_file_parser(alloc, "check", CHECK_ABOUT)?;
-    let explain = Arg::new(alloc, "explain")
-        .long("explain")
-        .help(EXPLAIN_ABOUT)
-        .action(ArgAction::SetTrue)
-        .conflicts_with("all")?;
-    let all = Arg::new(alloc, "all")
-        .long("all")
-        .help(ALL_ABOUT)
-        .action(ArgAction::SetTrue);
-    let check = check.arg(explain)?;
-    let check = check.arg(all)?;
-    Ok(check)
+// The same with the flags of a check.
+fn with_flags<'a>(alloc: Global, check: Parser<'a>) -> Result<Parser<'a>, AllocError> {
+    let mut parser = check;
+    for (name, about, other) in &FLAGS {
+        let flag = Arg::new(alloc, name).long(name).help(about);
+        let flag = flag.action(ArgAction::SetTrue).conflicts_with(other)?;
+        parser = parser.arg(flag)?;
+    }
+    Ok(parser)
 }
 
-// What clap knows of a replay.
-fn replay_parser<'a>(alloc: Global) -> Result<Parser<'a>, AllocError> {
-    let site = Arg::new(alloc, "SITE").required(true);
-    let events = Arg::new(alloc, "EVENTS").required(true);
-    let replay = Parser::new(alloc, "replay").about(REPLAY_ABOUT);
-    let replay = replay.arg(site)?;
-    let replay = replay.arg(events)?;
-    Ok(replay)
+// What clap knows of a command.
+fn parser_of<'a>(
+    alloc: Global,
+    word: &'a str,
+    about: &'a str,
+    names: &[&'a str],
+) -> Result<Parser<'a>, AllocError> {
+    match plain_parser(alloc, word, about, names) {
+        Ok(check) if is_word(word, "check") => with_flags(alloc, check),
+        made => made,
+    }
 }
 
-// What clap knows of a verdict on a certificate.
-fn verify_parser<'a>(alloc: Global) -> Result<Parser<'a>, AllocError> {
-    let site = Arg::new(alloc, "SITE").required(true);
-    let certificate = Arg::new(alloc, "CERT").required(true);
-    let verify = Parser::new(alloc, "verify").about(VERIFY_ABOUT);
-    let verify = verify.arg(site)?;
-    let verify = verify.arg(certificate)?;
-    Ok(verify)
+// The program's parser with one command more. Nothing else is owned where memory runs out, which would be dearer to prove.
+fn with_command<'a>(
+    alloc: Global,
+    parser: Parser<'a>,
+    word: &'a str,
+    about: &'a str,
+    names: &[&'a str],
+) -> Result<Parser<'a>, AllocError> {
+    match parser_of(alloc, word, about, names) {
+        Ok(command) => parser.subcommand(command),
+        Err(why) => Err(why),
+    }
+}
+
+// What clap knows of the program.
+fn whole_parser<'a>(alloc: Global) -> Result<Parser<'a>, AllocError> {
+    let parser = Parser::new(alloc, "syc")
+        .version("0.1.0")
+        .about(ABOUT)
+        .subcommand_required(true);
+    let parser = with_command(alloc, parser, "pass", PASS_ABOUT, &[])?;
+    let parser = with_command(alloc, parser, "check", CHECK_ABOUT, &["SITE"])?;
+    let parser = with_command(alloc, parser, "certify", CERTIFY_ABOUT, &["SITE"])?;
+    let parser = with_command(alloc, parser, "verify", VERIFY_ABOUT, &["SITE", "CERT"])?;
+    let parser = with_command(alloc, parser, "replay", REPLAY_ABOUT, &["SITE", "EVENTS"])?;
+    Ok(parser)
 }
 
 // Why words are refused that clap reads as a command: it reads `pass --` as `pass`, and an option behind the names.
@@ -283,20 +306,7 @@ fn unread(words: &[&str]) -> &'static str {
 // What clap answers for words that are no command as it is written here: a call for help or for the version, or what is
 // wrong with them.
 fn ask_clap(alloc: Global, words: &[&str]) -> Result<Error, Error> {
-    let pass = Parser::new(alloc, "pass").about(PASS_ABOUT);
-    let check = check_parser(alloc)?;
-    let certify = one_file_parser(alloc, "certify", CERTIFY_ABOUT)?;
-    let verify = verify_parser(alloc)?;
-    let replay = replay_parser(alloc)?;
-    let mut parser = Parser::new(alloc, "syc")
-        .version("0.1.0")
-        .about(ABOUT)
-        .subcommand_required(true)
-        .subcommand(pass)?
-        .subcommand(check)?
-        .subcommand(certify)?
-        .subcommand(verify)?
-        .subcommand(replay)?;
+    let mut parser = whole_parser(alloc)?;
     parser.try_get_matches_from_mut(words)?;
     let error = parser.error(ErrorKind::UnknownArgument, unread(words))?;
     Ok(error)
