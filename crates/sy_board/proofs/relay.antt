@@ -2,7 +2,6 @@ pub mod Put
 pub mod DueBits
 pub mod GuardTables
 pub mod Tallies
-pub mod Unreached
 pub mod Shapes
 pub mod There
 pub mod AccountLaws

@@ -1,7 +1,7 @@
 -- The numbers of a board's faults, and what they print.
 use Rattle.std.specs.Prelude.{ℕ, List, codes}
 use Rattle.sy_board.specs.declared.fault.BoardFault.{BoardFault}
-use Rattle.sy_board.specs.declared.fault.BoardFault.TheVariants.{HandEmpty, HandTaken, NoJob, NoMemory, NotExpired, SlotBusy, TotalsFull, WrongReceipt}
+use Rattle.sy_board.specs.declared.fault.BoardFault.TheVariants.{HandEmpty, HandTaken, NoJob, NotExpired, SlotBusy, TotalsFull, WrongReceipt}
 
 abbrev pub fault_number : BoardFault → ℕ
 fault_number HandTaken = 81
@@ -11,7 +11,6 @@ fault_number NoJob = 84
 fault_number WrongReceipt = 85
 fault_number TotalsFull = 86
 fault_number NotExpired = 87
-fault_number NoMemory = 88
 
 -- the number and the name
 abbrev pub fault_words : BoardFault → List ℕ
@@ -22,4 +21,3 @@ fault_words NoJob = codes "84 NoJob"
 fault_words WrongReceipt = codes "85 WrongReceipt"
 fault_words TotalsFull = codes "86 TotalsFull"
 fault_words NotExpired = codes "87 NotExpired"
-fault_words NoMemory = codes "88 NoMemory"

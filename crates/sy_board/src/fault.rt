@@ -24,12 +24,10 @@ pub enum BoardFault {
     TotalsFull,
     /// The hand's message hasn't expired: the full-delay mark holds it, or its queue isn't full. Or the queue of a post isn't full.
     NotExpired,
-    /// Memory ran out.
-    NoMemory,
 }
 
 impl BoardFault {
-    /// The number of the fault: 81 for `HandTaken` to 88 for `NoMemory`.
+    /// The number of the fault: 81 for `HandTaken` to 87 for `NotExpired`.
     pub fn number(self) -> u8
         ensures { result ≡ fault_number self }
     {
@@ -41,7 +39,6 @@ impl BoardFault {
             BoardFault::WrongReceipt => 85,
             BoardFault::TotalsFull => 86,
             BoardFault::NotExpired => 87,
-            BoardFault::NoMemory => 88,
         }
     }
 
@@ -57,7 +54,6 @@ impl BoardFault {
             BoardFault::WrongReceipt => "85 WrongReceipt",
             BoardFault::TotalsFull => "86 TotalsFull",
             BoardFault::NotExpired => "87 NotExpired",
-            BoardFault::NoMemory => "88 NoMemory",
         }
     }
 }

@@ -40,7 +40,6 @@ take_refused fault.NoJob old i h node e = absurd e
 take_refused fault.WrongReceipt old i h node e = absurd e
 take_refused fault.TotalsFull old i h node (lost, new, takes, full) = (new, if_so lost (Out.Lost Cause.Take node), (lost, takes, refl), full)
 take_refused fault.NotExpired old i h node e = absurd e
-take_refused fault.NoMemory old i h node e = tt
 
 pub enter_held : (by : Hold) (old : BoardState) (i h : ℕ) → IsHeldBy by old.plan old.state i → IsIllegal illegal.NotAStep old (Event.Enter i h)
 enter_held hold.FullDelay old i h held = λ new outs (node, enters, is). held_enters old.plan old.state i h node new held enters
@@ -56,7 +55,6 @@ enter_refused fault.NoJob old i h e = absurd e
 enter_refused fault.WrongReceipt old i h e = absurd e
 enter_refused fault.TotalsFull old i h (node, new, enters, full) = (new, [], (node, enters, refl), full)
 enter_refused fault.NotExpired old i h e = absurd e
-enter_refused fault.NoMemory old i h e = tt
 
 pub expire_refused : (f : BoardFault) (old : BoardState) (i h : ℕ) → ExpireFails f old i h → IsIllegal (illegal_of f) old (Event.Expire i h)
 expire_refused fault.HandTaken old i h e = absurd e
@@ -69,7 +67,6 @@ expire_refused fault.NotExpired old i h (some, why) = λ new outs (node, expires
   | inl held ↦ held_expires old.plan old.state i h node new held expires
   | inr room ↦ (let full = expires.full in omega (arith, room, full))
 ]
-expire_refused fault.NoMemory old i h e = absurd e
 
 pub nothing_grabbed : (old : BoardState) (w : ℕ) → NothingWaits old w → IsIllegal illegal.NotAStep old (Event.Grab w)
 nothing_grabbed old w waits = λ new outs (lost, grabs, is). let some = grabs.some in let none = waits.none in omega (arith, some, none)
@@ -82,7 +79,6 @@ grab_refused fault.NoJob old w e = absurd e
 grab_refused fault.WrongReceipt old w e = absurd e
 grab_refused fault.TotalsFull old w (lost, new, grabs, full) = (new, map (Out.Lost Cause.Grab) lost, (lost, grabs, refl), full)
 grab_refused fault.NotExpired old w e = absurd e
-grab_refused fault.NoMemory old w e = tt
 
 -- ---- a worker's job
 
@@ -100,7 +96,6 @@ settle_refused fault.WrongReceipt old w action tag message job e = absurd (e.1 (
 settle_refused fault.TotalsFull old w action tag message job (of, new, settles, full) =
     λ took. (new, Out.Passed action of.run.entry ∷ [], (action, of.run.entry, settles, refl), full)
 settle_refused fault.NotExpired old w action tag message job e = absurd e
-settle_refused fault.NoMemory old w action tag message job e = absurd e
 
 -- a failure of the job's action and message is of the job
 is_of : (old : BoardState) (w action tag : ℕ) (message : Said) (failure : Refused) → IsRunJob old w action message tag
@@ -122,7 +117,6 @@ fail_refused fault.WrongReceipt old w action tag message failure job d m o may e
 fail_refused fault.TotalsFull old w action tag message failure job d m o may (is, new, gives, full) =
     absurd (again (retry_at old.plan action) (failures_at old.state w) may (subst (λ a. retry_at old.plan a ≡ Some (failures_at old.state w)) d gives.last))
 fail_refused fault.NotExpired old w action tag message failure job d m o may e = absurd e
-fail_refused fault.NoMemory old w action tag message failure job d m o may e = absurd e
 
 -- whether the device took the message, isn't counted
 still_full : (old : BoardState) (w : ℕ) (new : RelayState) (action : ℕ) (e : Entry) (took : Bool)
@@ -147,7 +141,6 @@ give_up_refused fault.TotalsFull old w action tag message failure job d m o (is,
       still_full old w new failure.device is.of.run.entry took full,
     )
 give_up_refused fault.NotExpired old w action tag message failure job d m o e = absurd e
-give_up_refused fault.NoMemory old w action tag message failure job d m o e = absurd e
 
 run_or_post : (a l : ℕ) → occurrence.Run a ≡ occurrence.Post l → ⊥
 run_or_post a l h = cc
@@ -216,7 +209,6 @@ post_refused fault.NoJob old w node e = λ new outs (l, n, lost, posts, is). e l
 post_refused fault.WrongReceipt old w node e = absurd e
 post_refused fault.TotalsFull old w node (l, lost, new, posts, full) = (new, if_so lost (Out.Lost (Cause.Post l) posts.job.entry), (l, node, lost, posts, refl), full)
 post_refused fault.NotExpired old w node e = absurd e
-post_refused fault.NoMemory old w node e = tt
 
 not_lost : (no_memory : Bool) (waits size : ℕ) → no_memory ≡ false → waits < size → (no_memory ≡ true) ⊎ (size ≤ waits) → ⊥
 not_lost no_memory waits size e room (inl t) = cc
@@ -234,7 +226,6 @@ post_lost_refused fault.NotExpired why old w (full, list, job, room) = λ new ou
     let other : l ≡ list = one_list old.plan old.state w l list loses.job job in
     not_lost (is_no_memory why) (waiting old.state (queue_for old.plan l)) (parameters_at old.plan (queue_for old.plan l)).size full
     (subst (λ q. waiting old.state (queue_for old.plan q) < (parameters_at old.plan (queue_for old.plan q)).size) (sym other) room) loses.cause
-post_lost_refused fault.NoMemory why old w e = absurd e
 
 -- the entry that is made of a post is the job's
 pub posts_made : (old : BoardState) (w list input tag : ℕ) (message : Said) → IsPostJob old w list input message tag → (due : ℕ) (node : Entry)

@@ -66,6 +66,5 @@ IsIllegal illegal.TotalsFull old event =
 
 -- what a board's refusal of a step means
 abbrev pub illegal_of : BoardFault → Illegal
-illegal_of fault.NoMemory = illegal.NoMemory
 illegal_of fault.TotalsFull = illegal.TotalsFull
 illegal_of _ = illegal.NotAStep

@@ -62,7 +62,6 @@ pub(crate) fn illegal_of(fault: BoardFault) -> Illegal
     ensures { result ≡ spec.illegal_of fault }
 {
     match fault {
-        BoardFault::NoMemory => Illegal::NoMemory,
         BoardFault::TotalsFull => Illegal::TotalsFull,
         BoardFault::HandTaken
         | BoardFault::HandEmpty

@@ -115,11 +115,10 @@ entered n m (entry.Held hold.FullDelay) new h = absurd (let no : false ≡ true 
 entered n m (entry.Held hold.Full) new h = absurd (let no : 50000 ≤ 0 = h.2.1 in omega (arith, no))
 entered n m (entry.Held _) new h = absurd h.2
 
-pub enters_but_for_memory : (n : ℕ) (m : Said) (f : BoardFault) → n + 1 < 2 ^ 64 → EnterFails f (in_hand n m) 0 0 → f ≡ fault.NoMemory
-enters_but_for_memory n m fault.NoMemory room h = refl
-enters_but_for_memory n m fault.HandEmpty room h = absurd (let no : entry_of m ∷ [] ≡ [] = h in cc)
-enters_but_for_memory n m fault.TotalsFull room h = absurd (h.3 (subst (λ (b : BoardState). Fits (account_of b)) (sym (enters n m h.0 h.1 h.2)) (queued_fits n m room)))
-enters_but_for_memory n m _ room h = absurd h
+pub enters_it : (n : ℕ) (m : Said) (f : BoardFault) → n + 1 < 2 ^ 64 → EnterFails f (in_hand n m) 0 0 → ⊥
+enters_it n m fault.HandEmpty room h = (let no : entry_of m ∷ [] ≡ [] = h in cc)
+enters_it n m fault.TotalsFull room h = h.3 (subst (λ (b : BoardState). Fits (account_of b)) (sym (enters n m h.0 h.1 h.2)) (queued_fits n m room))
+enters_it n m _ room h = h
 
 -- ---- grab
 
@@ -133,11 +132,10 @@ pub grabbed : (n : ℕ) (m : Said) (count : ℕ) (lost : List Entry) (new : Boar
 grabbed n m count lost new (inl h) = absurd (let no : 1 ≡ 0 = h.1.none in omega (arith, no))
 grabbed n m count lost new (inr h) = h.2 ∙ grabs n m lost new.state h.0
 
-pub grabs_but_for_memory : (n : ℕ) (m : Said) (f : BoardFault) → n + 1 < 2 ^ 64 → GrabFails f (queued n m) 0 → f ≡ fault.NoMemory
-grabs_but_for_memory n m fault.NoMemory room h = refl
-grabs_but_for_memory n m fault.SlotBusy room h = absurd (h refl)
-grabs_but_for_memory n m fault.TotalsFull room h = absurd (h.3 (subst (λ (b : BoardState). Fits (account_of b)) (sym (grabs n m h.0 h.1 h.2)) (ready_fits n m room)))
-grabs_but_for_memory n m _ room h = absurd h
+pub grabs_it : (n : ℕ) (m : Said) (f : BoardFault) → n + 1 < 2 ^ 64 → GrabFails f (queued n m) 0 → ⊥
+grabs_it n m fault.SlotBusy room h = h refl
+grabs_it n m fault.TotalsFull room h = h.3 (subst (λ (b : BoardState). Fits (account_of b)) (sym (grabs n m h.0 h.1 h.2)) (ready_fits n m room))
+grabs_it n m _ room h = h
 
 -- ---- the worker's job
 
@@ -228,11 +226,11 @@ board_ready b new n m count lost is h = record {
   text = refl;
 }
 
-pub enter_refused : (b : BoardState) (n : ℕ) (m : Said) (f : BoardFault) → n + 1 < 2 ^ 64 → b ≡ in_hand n m → EnterFails f b 0 0 → f ≡ fault.NoMemory
-enter_refused b n m f room is h = enters_but_for_memory n m f room (subst (λ (x : BoardState). EnterFails f x 0 0) is h)
+pub enter_refused : (b : BoardState) (n : ℕ) (m : Said) (f : BoardFault) → n + 1 < 2 ^ 64 → b ≡ in_hand n m → EnterFails f b 0 0 → ⊥
+enter_refused b n m f room is h = enters_it n m f room (subst (λ (x : BoardState). EnterFails f x 0 0) is h)
 
-pub grab_refused : (b : BoardState) (n : ℕ) (m : Said) (f : BoardFault) → n + 1 < 2 ^ 64 → b ≡ queued n m → GrabFails f b 0 → f ≡ fault.NoMemory
-grab_refused b n m f room is h = grabs_but_for_memory n m f room (subst (λ (x : BoardState). GrabFails f x 0) is h)
+pub grab_refused : (b : BoardState) (n : ℕ) (m : Said) (f : BoardFault) → n + 1 < 2 ^ 64 → b ≡ queued n m → GrabFails f b 0 → ⊥
+grab_refused b n m f room is h = grabs_it n m f room (subst (λ (x : BoardState). GrabFails f x 0) is h)
 
 pub job_there : (b : BoardState) (raw : List ℕ) → IsReady b raw → HasNoJob b 0 → ⊥
 job_there b raw r none = has_job r.before r.message (subst (λ (x : BoardState). HasNoJob x 0) r.board none)

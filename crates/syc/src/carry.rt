@@ -1,17 +1,16 @@
 //! A message's way over the board, from its frame to its line.
 ghost use Rattle.std.specs.Prelude.{◌≡◌, ◌+◌, ◌<◌, ◌≤◌, ◌^◌, ℕ, List, Err, IfErr, IfOk, OnOk};
 ghost use Rattle.std.specs.Io.KnownBytes.{Appends};
-ghost use Rattle.sy_board.specs.declared.fault.BoardFault.TheVariants as fault;
 ghost use Rattle.syc.specs.Pass.{line};
 ghost use Rattle.syc.specs.internal.Stops.{Carries, CarryCause, CarryFails, EntryFails, IsIdle, IsReady};
 ghost use Rattle.syc.specs.internal.Ways.{IsCarryFault, IsEntry, IsReceiptOf, IsWhole};
 
 use crate::stop::Stop;
-use std::alloc::{AllocError, Global};
+use std::alloc::Global;
 use std::mem;
 use std::sync::Arc;
 use sy_actions::{DeviceFault, Failure, Hatch, LineSink, Receipt};
-use sy_board::{Board, BoardFault, Entry, Job, Taken};
+use sy_board::{Board, Entry, Job, Taken};
 use sy_chain::{Node, RenewFault};
 use sy_wire::{Message, Sink};
 
@@ -74,35 +73,23 @@ pub fn entry(alloc: Global, used: Option<Node>, raw: &mut Vec<u8>) -> Result<Nod
     }
 }
 
-// A board's refusal of a step, where nothing but memory can be missing.
-fn only_for_memory(refusal: BoardFault) -> AllocError
-    requires { refusal ≡ fault.NoMemory }
-{
-    let _ = refusal;
-    AllocError
-}
-
 // Brings an entry through its hand and the queue to the worker.
-fn put(board: &mut Board, node: Node) -> Result<(), AllocError>
+fn put(board: &mut Board, node: Node)
     requires idle { IsIdle board.old }
     requires room { board.old.totals.taken + 1 < 2 ^ 64 }
     requires node { IsEntry node }
-    ensures ok { OnOk result (IsReady board.new node.message.raw) }
-    ensures taken { OnOk result (board.new.totals.taken ≡ board.old.totals.taken + 1) }
-    ensures bound { board.new.totals.taken ≤ board.old.totals.taken + 1 }
+    ensures ready { IsReady board.new node.message.raw }
+    ensures taken { board.new.totals.taken ≡ board.old.totals.taken + 1 }
 {
     let Ok(Taken::InHand) = board.take(INPUT, HAND, node) else {
         unreachable!()
     };
-    match board.enter(INPUT, HAND) {
-        Ok(Entry::Entered) => {}
-        Ok(Entry::Held(_)) => unreachable!(),
-        Err(refusal) => return Err(only_for_memory(refusal)),
-    }
-    match board.grab_out(WORKER) {
-        Ok(_count) => Ok(()),
-        Err(refusal) => Err(only_for_memory(refusal)),
-    }
+    let Ok(Entry::Entered) = board.enter(INPUT, HAND) else {
+        unreachable!()
+    };
+    let Ok(_grabbed) = board.grab(WORKER) else {
+        unreachable!()
+    };
 }
 
 // What a refusal of the line sink stops a pass with.
@@ -178,9 +165,7 @@ pub fn carry<W: Sink + Drop>(
     ensures cause { IfErr result (λ e. CarryCause e (W.faults hatch.old.device.writer)
         (W.faults hatch.new.device.writer)) }
 {
-    let Ok(()) = put(board, node) else {
-        return Err(CarryFault::NoMemory);
-    };
+    put(board, node);
     let receipt = match offer(board, hatch) {
         Ok(receipt) => receipt,
         Err(fault) => return Err(fault),

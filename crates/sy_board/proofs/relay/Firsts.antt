@@ -1,5 +1,5 @@
 -- The first of a worker's entries and the lowest occurrence due of it, as the code finds them.
-use Rattle.std.proofs.Common.{◌≡◌, ℕ, ◌*◌, ◌%◌, ◌^◌, ◌<◌, min, Bool, true, false, List, [], ◌∷◌, length, refl, sym, subst, ap, ◌∙◌, arith, bit_and, nat_lt, get_or, Option, Some, None}
+use Rattle.std.proofs.Common.{◌≡◌, ℕ, ◌*◌, ◌%◌, ◌^◌, ◌<◌, min, Bool, true, false, List, [], ◌∷◌, length, refl, sym, subst, ap, ◌∙◌, arith, bit_and, nat_lt, get_or, drop, Option, Some, None}
 use Rattle.std.specs.Prelude.{◌≢◌, slice_get}
 use Rattle.std.specs.Int.{bit_at, Width, bit_not, trailing_zeros}
 use Rattle.std.proofs.lemmas.Bool.Decides.{nat_tests}
@@ -13,6 +13,9 @@ use Rattle.sy_rules.specs.lists.Sets.{IsLowest}
 use Rattle.sy_rules.proofs.lemmas.lists.Lowest.{one_lowest}
 use Rattle.sy_board.specs.relay.Plans.{occurrences_at}
 use Rattle.sy_board.specs.internal.Jobs.{HasNext, IsFirstOf, IsNext, IsNextOf}
+
+pub front_read : (entries : List Entry) (first : Entry) → entries ≡ first ∷ drop 1 entries → first ≡ get_or entries 0 first
+front_read entries first is = subst (λ es. first ≡ get_or es 0 first) (sym is) refl
 
 min_zero : (x : ℕ) → min 0 x ≡ 0
 min_zero x = omega arith

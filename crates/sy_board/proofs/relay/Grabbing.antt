@@ -1,20 +1,18 @@
 -- What a grab reads and writes, and the step that it makes.
-use Rattle.std.proofs.Common.{◌≡◌, ℕ, ◌<◌, ◌≤◌, Bool, true, false, List, [], ◌∷◌, ◌++◌, length, map, drop, refl, sym, subst, ap, ◌∙◌, arith, get_or, set, inr, ◌==◌, eqb-true}
+use Rattle.std.proofs.Common.{◌≡◌, ℕ, ◌<◌, ◌≤◌, List, [], ◌∷◌, ◌++◌, length, map, drop, refl, sym, subst, ap, ◌∙◌, arith, get_or, set, inr}
 use Rattle.std.specs.Prelude.{min}
 use Rattle.std.specs.Arc.{arc_value}
 use Rattle.std.specs.Vec.{with_item}
-use Rattle.std.specs.VecDeque.{deque_len}
-use Rattle.std.proofs.lemmas.List.{drop_min, get_or-map, get_or_default, length-map, map-set, nil_from_length}
+use Rattle.std.proofs.lemmas.List.{drop_min, get_or-map, get_or_default, length-map, map-set}
 use Rattle.sy_chain.specs.Entries.{Entry}
-use Rattle.sy_marks.specs.Marks.{QueueState, is_reached, kept_of, lost_of}
-use Rattle.sy_marks.specs.declared.marks.Marks.{Marks}
+use Rattle.sy_marks.specs.Marks.{QueueState, kept_of, lost_of}
 use Rattle.sy_marks.proofs.Fronts.{kept_min, lost_min}
 use Rattle.sy_rules.specs.PlanValue.{Plan}
 use Rattle.sy_board.specs.declared.relay.board.Board.TheInside.{Inside}
 use Rattle.sy_board.specs.declared.relay.board.Worker.{Worker}
 use Rattle.sy_board.specs.declared.fault.BoardFault.TheVariants as fault
 use Rattle.sy_board.specs.relay.Boards.{Account, BoardState, Fits, GrabFails, GrabIs, account_of, pairs}
-use Rattle.sy_board.specs.relay.Cells.{Cell, RelayState, at, waiting}
+use Rattle.sy_board.specs.relay.Cells.{Cell, RelayState, at}
 use Rattle.sy_board.specs.relay.Plans.{marks_at, marks_of, parameters_at, queue_of_worker}
 use Rattle.sy_board.specs.relay.Steps.{Event, Grabs}
 use Rattle.sy_board.specs.relay.Totals.{guarded_losses}
@@ -42,7 +40,7 @@ pub record Reads (b : Inside) (worker count number : ℕ) (slot : Worker) (queue
   pub number_is : number ≡ queue_of_worker (arc_value b.plan) worker
   pub there : worker < length (arc_value b.plan).workers
   pub slot_is : slot ≡ get_or b.workers.items worker slot
-  pub idle : slot.entries.items ≡ []
+  pub idle : slot.entries ≡ []
   pub queue_is : queue ≡ get_or b.queues.items (queue_of_worker (arc_value b.plan) worker) queue
   pub count_is : count ≡ min (parameters_at (arc_value b.plan) (queue_of_worker (arc_value b.plan) worker)).batch (length queue.entries)
 
@@ -73,7 +71,7 @@ module _ {b : Inside} {worker count number : ℕ} {slot : Worker} {queue : Queue
   idle_at : at old (Cell.Worker worker) ≡ []
   idle_at =
       let l : worker < length b.workers.items = rw length-map at slot_there in
-      read_as (λ (w : Worker). w.entries.items) b.workers.items worker slot [] l reads.slot_is ∙ reads.idle
+      read_as (λ (w : Worker). w.entries) b.workers.items worker slot [] l reads.slot_is ∙ reads.idle
 
   waits_at : at old (Cell.Queue q) ≡ queue.entries
   waits_at =
@@ -87,16 +85,6 @@ module _ {b : Inside} {worker count number : ℕ} {slot : Worker} {queue : Queue
       sym (read_as (λ (x : QueueState). x.marks) b.queues.items q queue (marks_of (parameters_at plan q)) l reads.queue_is)
       ∙ ap (λ xs. get_or xs q (marks_of (parameters_at plan q))) kept.marks
       ∙ read_as marks_of plan.queues q (parameters_at plan q) (marks_of (parameters_at plan q)) m (get_or_default plan.queues q _ (parameters_at plan q) m)
-
-  -- the discard mark isn't reached, by what is seen of the board
-  pub unreached : (value : BoardState) → board ≡ value
-      → is_reached (marks_at value.plan (queue_of_worker value.plan worker)).discard_mark (waiting value.state (queue_of_worker value.plan worker)) ≡ false
-      → is_reached queue.marks.discard_mark (length queue.entries) ≡ false
-  unreached value is h =
-      let seen = subst (λ (x : BoardState). is_reached (marks_at x.plan (queue_of_worker x.plan worker)).discard_mark (waiting x.state (queue_of_worker x.plan worker)) ≡ false) (sym is) h in
-      ap (λ (m : Marks). is_reached m.discard_mark (length queue.entries)) marks_are
-      ∙ ap (λ (es : List Entry). is_reached (marks_at plan q).discard_mark (length es)) (sym waits_at)
-      ∙ seen
 
   count_now : count ≡ count_by plan old worker
   count_now = reads.count_is ∙ ap (λ es. min (parameters_at plan q).batch (length es)) (sym waits_at)
@@ -140,25 +128,25 @@ module _ {b : Inside} {worker count number : ℕ} {slot : Worker} {queue : Queue
 
   -- ---- nothing but room was made
 
-  back_state : (slot2 : Worker) → slot2.entries.items ≡ slot.entries.items → slot2.failures ≡ slot.failures → (a : Account)
+  back_state : (slot2 : Worker) → slot2.entries ≡ slot.entries → slot2.failures ≡ slot.failures → (a : Account)
       → state_inside (written b q queue worker slot2 a) ≡ state_inside b
   back_state slot2 items failures a =
       let state : List (List Entry) → List (List Entry) → List ℕ → RelayState = λ qs ws fs. record { hands = old.hands; queues = qs; workers = ws; failures = fs } in
       let qs = set_back (λ (x : QueueState). x.entries) b.queues.items q queue queue reads.queue_is refl in
-      let ws = set_back (λ (x : Worker). x.entries.items) b.workers.items worker slot2 slot reads.slot_is items in
+      let ws = set_back (λ (x : Worker). x.entries) b.workers.items worker slot2 slot reads.slot_is items in
       let fs = set_back (λ (x : Worker). x.failures) b.workers.items worker slot2 slot reads.slot_is failures in
-      ap (λ x. state x (map (λ (x : Worker). x.entries.items) (set b.workers.items worker slot2)) (map (λ (x : Worker). x.failures) (set b.workers.items worker slot2))) qs
+      ap (λ x. state x (map (λ (x : Worker). x.entries) (set b.workers.items worker slot2)) (map (λ (x : Worker). x.failures) (set b.workers.items worker slot2))) qs
       ∙ ap (λ x. state old.queues x (map (λ (x : Worker). x.failures) (set b.workers.items worker slot2))) ws
       ∙ ap (λ x. state old.queues old.workers x) fs
 
-  pub back_board : (slot2 : Worker) → slot2.entries.items ≡ slot.entries.items → slot2.failures ≡ slot.failures → (a : Account) → a ≡ b.accounts
+  pub back_board : (slot2 : Worker) → slot2.entries ≡ slot.entries → slot2.failures ≡ slot.failures → (a : Account) → a ≡ b.accounts
       → board_inside (written b number queue worker slot2 a) ≡ board
   back_board slot2 items failures a is =
       ap (λ n. board_inside (written b n queue worker slot2 a)) reads.number_is
       ∙ ap (λ s. record { plan = plan; guard = b.guard; state = s; totals = a.totals }) (back_state slot2 items failures a)
       ∙ ap (λ (x : Account). record { plan = plan; guard = b.guard; state = old; totals = x.totals }) is
 
-  pub back_kept : (slot2 : Worker) → slot2.entries.items ≡ slot.entries.items → slot2.failures ≡ slot.failures → (a : Account) → a ≡ b.accounts
+  pub back_kept : (slot2 : Worker) → slot2.entries ≡ slot.entries → slot2.failures ≡ slot.failures → (a : Account) → a ≡ b.accounts
       → IsKept (written b number queue worker slot2 a)
   back_kept slot2 items failures a is = subst (λ n. IsKept (written b n queue worker slot2 a)) (sym reads.number_is) (record {
     marks = set_back (λ (x : QueueState). x.marks) b.queues.items q queue queue reads.queue_is refl ∙ kept.marks;
@@ -169,8 +157,8 @@ module _ {b : Inside} {worker count number : ℕ} {slot : Worker} {queue : Queue
   -- ---- the entries were taken
 
   module _ {queue2 : QueueState} (slot2 : Worker) (rest : queue2 ≡ record queue { entries = drop count queue.entries })
-      (items : slot2.entries.items ≡ slot.entries.items ++ kept_of queue.marks count queue.entries) (failures : slot2.failures ≡ slot.failures) where
-    pub kept_items : slot2.entries.items ≡ kept_by plan old worker
+      (items : slot2.entries ≡ slot.entries ++ kept_of queue.marks count queue.entries) (failures : slot2.failures ≡ slot.failures) where
+    pub kept_items : slot2.entries ≡ kept_by plan old worker
     kept_items = items ∙ ap (λ es. es ++ kept_of queue.marks count queue.entries) reads.idle ∙ kept_are
 
     rest_entries : queue2.entries ≡ drop (parameters_at plan q).batch (at old (Cell.Queue q))
@@ -184,9 +172,9 @@ module _ {b : Inside} {worker count number : ℕ} {slot : Worker} {queue : Queue
     after_state a =
         let state : List (List Entry) → List (List Entry) → List ℕ → RelayState = λ qs ws fs. record { hands = old.hands; queues = qs; workers = ws; failures = fs } in
         let qs = map-set (λ (x : QueueState). x.entries) b.queues.items q queue2 ∙ ap (λ es. set old.queues q es) rest_entries in
-        let ws = map-set (λ (x : Worker). x.entries.items) b.workers.items worker slot2 ∙ ap (λ es. set old.workers worker es) kept_items in
+        let ws = map-set (λ (x : Worker). x.entries) b.workers.items worker slot2 ∙ ap (λ es. set old.workers worker es) kept_items in
         let fs = set_back (λ (x : Worker). x.failures) b.workers.items worker slot2 slot reads.slot_is failures in
-        ap (λ x. state x (map (λ (x : Worker). x.entries.items) (set b.workers.items worker slot2)) (map (λ (x : Worker). x.failures) (set b.workers.items worker slot2))) qs
+        ap (λ x. state x (map (λ (x : Worker). x.entries) (set b.workers.items worker slot2)) (map (λ (x : Worker). x.failures) (set b.workers.items worker slot2))) qs
         ∙ ap (λ x. state (set old.queues q (drop (parameters_at plan q).batch (at old (Cell.Queue q)))) x (map (λ (x : Worker). x.failures) (set b.workers.items worker slot2))) ws
         ∙ ap (λ x. state (set old.queues q (drop (parameters_at plan q).batch (at old (Cell.Queue q)))) (set old.workers worker (kept_by plan old worker)) x) fs
 
@@ -228,9 +216,6 @@ module _ {b : Inside} {worker count number : ℕ} {slot : Worker} {queue : Queue
     λ fits. full (subst Fits (sym (counted_is lost guarded many few)) (fits_before plan (kept_by plan old worker) (grab_counted board worker) (subst Fits account_is fits))),
   )
 
-  pub no_memory : 0 < count → (value : BoardState) → board ≡ value → GrabFails fault.NoMemory value worker
-  no_memory some value is = subst (λ x. GrabFails fault.NoMemory x worker) is (lost_by plan old worker, grabbed_state plan old worker, grabs some)
-
   -- the accounts have room for what the kept entries have due
   pub room : (lost guarded : ℕ) → lost ≡ length (lost_of queue.marks count queue.entries)
       → guarded ≡ guarded_losses (pairs board) (losses_of (lost_of queue.marks count queue.entries))
@@ -258,23 +243,19 @@ module _ {b : Inside} {worker count number : ℕ} {slot : Worker} {queue : Queue
 
 -- ---- from what the calls said
 
--- the worker has no entries where `is_empty` says so
-idle_by : (slot : Worker) (empty : Bool) → empty ≡ (deque_len slot.entries == 0) → empty ≡ true → slot.entries.items ≡ []
-idle_by slot empty is true_is = let none = eqb-true (deque_len slot.entries) 0 (sym is ∙ true_is) in nil_from_length slot.entries.items (omega (arith, none))
-
-pub reads_by : {b : Inside} {value : BoardState} {worker count number batch len : ℕ} {plan : Plan} {slot : Worker} {queue : QueueState} {empty : Bool}
+pub reads_by : {b : Inside} {value : BoardState} {worker count number batch len : ℕ} {plan : Plan} {slot : Worker} {queue : QueueState}
     → board_inside b ≡ value → worker < length value.plan.workers → plan ≡ arc_value b.plan
-    → slot ≡ get_or b.workers.items worker slot → empty ≡ (deque_len slot.entries == 0) → empty ≡ true
+    → slot ≡ get_or b.workers.items worker slot → slot.entries ≡ []
     → number ≡ queue_of_worker plan worker → batch ≡ (parameters_at plan number).batch → queue ≡ get_or b.queues.items number queue
     → len ≡ length queue.entries → count ≡ min batch len
     → Reads b worker count number slot queue
-reads_by {b} {value} {worker} {count} {number} {batch} {len} {plan} {slot} {queue} {empty} view there same slot_is empty_is is_true number_is batch_is queue_is len_is count_is =
+reads_by {b} {value} {worker} {count} {number} {batch} {len} {plan} {slot} {queue} view there same slot_is idle number_is batch_is queue_is len_is count_is =
     let of : number ≡ queue_of_worker (arc_value b.plan) worker = number_is ∙ ap (λ (p : Plan). queue_of_worker p worker) same in
     record {
       number_is = of;
       there = subst (λ (x : BoardState). worker < length x.plan.workers) (sym view) there;
       slot_is = slot_is;
-      idle = idle_by slot empty empty_is is_true;
+      idle = idle;
       queue_is = queue_is ∙ ap (λ x. get_or b.queues.items x queue) of;
       count_is = count_is ∙ ap (min batch) len_is
           ∙ ap (λ x. min x (length queue.entries)) (batch_is ∙ ap (λ p. (parameters_at p number).batch) same ∙ ap (λ x. (parameters_at (arc_value b.plan) x).batch) of);

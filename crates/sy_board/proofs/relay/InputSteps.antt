@@ -144,7 +144,6 @@ room_seen b i q queue is holds free = rw (queue.entries, queue.marks) ((clear_if
 
 -- why it can't be brought there
 pub bring_fails : (b : Inside) (i h : ℕ) (x : Option Entry) → EnterSeen b i h x → (f : BoardFault) → BringFails f b.accounts → EnterFails f (board_inside b) i h
-bring_fails b i h x seen fault.NoMemory is = (seen.node, _, seen.enters)
 bring_fails b i h x seen fault.TotalsFull is = (seen.node, _, seen.enters, λ fits. (let n = (subst Fits seen.counted fits).queues in omega (arith, is, n)))
 bring_fails b i h x seen fault.HandTaken is = absurd is
 bring_fails b i h x seen fault.HandEmpty is = absurd is
@@ -202,4 +201,3 @@ lose_fails b kept i h there x read is holds full fault.SlotBusy f = absurd f
 lose_fails b kept i h there x read is holds full fault.NoJob f = absurd f
 lose_fails b kept i h there x read is holds full fault.WrongReceipt f = absurd f
 lose_fails b kept i h there x read is holds full fault.NotExpired f = absurd f
-lose_fails b kept i h there x read is holds full fault.NoMemory f = absurd f

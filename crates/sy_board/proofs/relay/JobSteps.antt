@@ -32,23 +32,23 @@ use Rattle.sy_board.proofs.relay.Slots.{IsSlot, advanced_state, failed_state, jo
 pub record IsTurn (b : Inside) (w : ℕ) (slot : Worker) (o : Occurrence) (left : ℕ) : Type 0 where
   pub kept : IsKept b
   pub is : IsSlot b w slot
-  pub next : IsNext (arc_value b.plan) slot.entries.items o left
+  pub next : IsNext (arc_value b.plan) slot.entries o left
 
 -- a slot as a method reads it
 pub slot_in : (b : Inside) (old : BoardState) (w : ℕ) (slot : Worker) → board_inside b ≡ old → IsKept b → w < length old.plan.workers → slot ≡ get_or b.workers.items w slot → IsSlot b w slot
 slot_in b old w slot view kept there read = slot_of b w slot kept (subst (λ (x : BoardState). w < length x.plan.workers) (sym view) there) read
 
 pub turn_of : (b : Inside) (old : BoardState) (w : ℕ) (slot : Worker) (plan : Plan) (o : Occurrence) (left : ℕ) → board_inside b ≡ old → IsKept b → w < length old.plan.workers
-    → slot ≡ get_or b.workers.items w slot → plan ≡ arc_value b.plan → IsNext plan slot.entries.items o left → IsTurn b w slot o left
+    → slot ≡ get_or b.workers.items w slot → plan ≡ arc_value b.plan → IsNext plan slot.entries o left → IsTurn b w slot o left
 turn_of b old w slot plan o left view kept there read same next = record {
   kept = kept;
   is = slot_in b old w slot view kept there read;
-  next = subst (λ (p : Plan). IsNext p slot.entries.items o left) same next;
+  next = subst (λ (p : Plan). IsNext p slot.entries o left) same next;
 }
 
 -- the worker went on
 pub record IsAdvanced (slot new : Worker) (left : ℕ) : Type 0 where
-  pub entries : new.entries.items ≡ advanced_entries slot.entries.items left
+  pub entries : new.entries ≡ advanced_entries slot.entries left
   pub failures : new.failures ≡ 0
 
 -- ---- what a device answered
@@ -60,34 +60,34 @@ pub record IsRun (b : Inside) (w : ℕ) (slot : Worker) (device : ℕ) (message 
 
 pub run_as : (b : Inside) (old : BoardState) (w : ℕ) (slot : Worker) (plan : Plan) (device d : ℕ) (message m : Said) (left : ℕ) → board_inside b ≡ old → IsKept b
     → w < length old.plan.workers → slot ≡ get_or b.workers.items w slot → plan ≡ arc_value b.plan → d ≡ device → m ≡ message
-    → IsNextOf plan slot.entries.items d m left → IsRun b w slot device message left
+    → IsNextOf plan slot.entries d m left → IsRun b w slot device message left
 run_as b old w slot plan device d message m left view kept there read same from told is =
-    let next : IsNextOf (arc_value b.plan) slot.entries.items device message left =
-    subst (λ (x : Said). IsNextOf (arc_value b.plan) slot.entries.items device x left) told
-    (subst (λ (x : ℕ). IsNextOf (arc_value b.plan) slot.entries.items x m left) from (subst (λ (p : Plan). IsNextOf p slot.entries.items d m left) same is)) in
+    let next : IsNextOf (arc_value b.plan) slot.entries device message left =
+    subst (λ (x : Said). IsNextOf (arc_value b.plan) slot.entries device x left) told
+    (subst (λ (x : ℕ). IsNextOf (arc_value b.plan) slot.entries x m left) from (subst (λ (p : Plan). IsNextOf p slot.entries d m left) same is)) in
     record { turn = record { kept = kept; is = slot_in b old w slot view kept there read; next = next.next }; its = next.its }
 
 abbrev its_run : (b : Inside) (w : ℕ) (slot : Worker) (device : ℕ) (message : Said) (left : ℕ) → IsRun b w slot device message left → IsOf (board_inside b) w device message
 its_run b w slot device message left run = record { run = job_of b w slot (occurrence.Run device) left run.turn.is run.turn.next; its = run.its }
 
 next_of_answer : (b : Inside) (w : ℕ) (slot : Worker) (device : ℕ) (message : Said) → IsSlot b w slot → (of : IsOf (board_inside b) w device message)
-    → IsNextOf (arc_value b.plan) slot.entries.items device message of.run.left
+    → IsNextOf (arc_value b.plan) slot.entries device message of.run.left
 next_of_answer b w slot device message is of = record { next = next_of_job b w slot (occurrence.Run device) is of.run; its = of.its }
 
-no_run : (b : Inside) (w : ℕ) (slot : Worker) → IsSlot b w slot → (HasNextRun (arc_value b.plan) slot.entries.items → ⊥) → HasNoRun (board_inside b) w
+no_run : (b : Inside) (w : ℕ) (slot : Worker) → IsSlot b w slot → (HasNextRun (arc_value b.plan) slot.entries → ⊥) → HasNoRun (board_inside b) w
 no_run b w slot is none action job = none (action, job.left, next_of_job b w slot (occurrence.Run action) is job)
 
-has_run : (b : Inside) (w : ℕ) (slot : Worker) → IsSlot b w slot → HasNextRun (arc_value b.plan) slot.entries.items → HasRun (board_inside b) w
+has_run : (b : Inside) (w : ℕ) (slot : Worker) → IsSlot b w slot → HasNextRun (arc_value b.plan) slot.entries → HasRun (board_inside b) w
 has_run b w slot is (action, left, next) = (action, job_of b w slot (occurrence.Run action) left is next)
 
 run_fails : (why : BoardFault) (b : Inside) (w : ℕ) (slot : Worker) (plan : Plan) (device d : ℕ) (message m : Said) → IsSlot b w slot → plan ≡ arc_value b.plan → d ≡ device
-    → m ≡ message → RunFails why plan slot.entries.items d m → RunFails why (arc_value b.plan) slot.entries.items device message
+    → m ≡ message → RunFails why plan slot.entries d m → RunFails why (arc_value b.plan) slot.entries device message
 run_fails why b w slot plan device d message m is same from told fails =
-    subst (λ (x : Said). RunFails why (arc_value b.plan) slot.entries.items device x) told
-    (subst (λ (x : ℕ). RunFails why (arc_value b.plan) slot.entries.items x m) from (subst (λ (p : Plan). RunFails why p slot.entries.items d m) same fails))
+    subst (λ (x : Said). RunFails why (arc_value b.plan) slot.entries device x) told
+    (subst (λ (x : ℕ). RunFails why (arc_value b.plan) slot.entries x m) from (subst (λ (p : Plan). RunFails why p slot.entries d m) same fails))
 
 settle_fails_by : (why : BoardFault) (b : Inside) (w : ℕ) (slot : Worker) (receipt : Delivered) → IsSlot b w slot
-    → RunFails why (arc_value b.plan) slot.entries.items receipt.device receipt.message → SettleFails why (board_inside b) w receipt
+    → RunFails why (arc_value b.plan) slot.entries receipt.device receipt.message → SettleFails why (board_inside b) w receipt
 settle_fails_by fault.HandTaken b w slot receipt is fails = absurd fails
 settle_fails_by fault.HandEmpty b w slot receipt is fails = absurd fails
 settle_fails_by fault.SlotBusy b w slot receipt is fails = absurd fails
@@ -96,10 +96,9 @@ settle_fails_by fault.WrongReceipt b w slot receipt is fails =
     (has_run b w slot is fails.0, λ of. fails.1 of.run.left (next_of_answer b w slot receipt.device receipt.message is of))
 settle_fails_by fault.TotalsFull b w slot receipt is fails = absurd fails
 settle_fails_by fault.NotExpired b w slot receipt is fails = absurd fails
-settle_fails_by fault.NoMemory b w slot receipt is fails = absurd fails
 
 fail_fails_by : (why : BoardFault) (b : Inside) (w : ℕ) (slot : Worker) (failure : Refused) → IsSlot b w slot
-    → RunFails why (arc_value b.plan) slot.entries.items failure.device failure.message → FailFails why (board_inside b) w failure
+    → RunFails why (arc_value b.plan) slot.entries failure.device failure.message → FailFails why (board_inside b) w failure
 fail_fails_by fault.HandTaken b w slot failure is fails = absurd fails
 fail_fails_by fault.HandEmpty b w slot failure is fails = absurd fails
 fail_fails_by fault.SlotBusy b w slot failure is fails = absurd fails
@@ -108,15 +107,14 @@ fail_fails_by fault.WrongReceipt b w slot failure is fails =
     (has_run b w slot is fails.0, λ answer. fails.1 answer.of.run.left (next_of_answer b w slot failure.device failure.message is answer.of))
 fail_fails_by fault.TotalsFull b w slot failure is fails = absurd fails
 fail_fails_by fault.NotExpired b w slot failure is fails = absurd fails
-fail_fails_by fault.NoMemory b w slot failure is fails = absurd fails
 
 pub settle_fails : (why : BoardFault) (b : Inside) (w : ℕ) (slot : Worker) (plan : Plan) (receipt : Delivered) (d : ℕ) (m : Said) → IsSlot b w slot → plan ≡ arc_value b.plan
-    → d ≡ receipt.device → m ≡ receipt.message → RunFails why plan slot.entries.items d m → SettleFails why (board_inside b) w receipt
+    → d ≡ receipt.device → m ≡ receipt.message → RunFails why plan slot.entries d m → SettleFails why (board_inside b) w receipt
 settle_fails why b w slot plan receipt d m is same from told fails =
     settle_fails_by why b w slot receipt is (run_fails why b w slot plan receipt.device d receipt.message m is same from told fails)
 
 pub fail_fails : (why : BoardFault) (b : Inside) (w : ℕ) (slot : Worker) (plan : Plan) (failure : Refused) (d : ℕ) (m : Said) → IsSlot b w slot → plan ≡ arc_value b.plan
-    → d ≡ failure.device → m ≡ failure.message → RunFails why plan slot.entries.items d m → FailFails why (board_inside b) w failure
+    → d ≡ failure.device → m ≡ failure.message → RunFails why plan slot.entries d m → FailFails why (board_inside b) w failure
 fail_fails why b w slot plan failure d m is same from told fails =
     fail_fails_by why b w slot failure is (run_fails why b w slot plan failure.device d failure.message m is same from told fails)
 
@@ -132,11 +130,11 @@ pub front_is : (plan : Plan) (es : List Entry) (o : Occurrence) (left : ℕ) (no
 front_is plan es o left node next read = read ∙ ap (λ (xs : List Entry). get_or xs 0 node) next.held
 
 -- what a job tells of the entry that was read
-pub told : (b : Inside) (w : ℕ) (slot : Worker) (o : Occurrence) (left : ℕ) (turn : IsTurn b w slot o left) (node : Entry) (said : Said) (input tag : ℕ) → node ≡ get_or slot.entries.items 0 node
+pub told : (b : Inside) (w : ℕ) (slot : Worker) (o : Occurrence) (left : ℕ) (turn : IsTurn b w slot o left) (node : Entry) (said : Said) (input tag : ℕ) → node ≡ get_or slot.entries 0 node
     → said ≡ node.message → input ≡ node.input → tag ≡ node.tag
     → (is : Job (arc_value b.plan) (state_inside b) w o) × (said ≡ is.entry.message) × (input ≡ is.entry.input) × (tag ≡ is.entry.tag)
 told b w slot o left turn node said input tag read message from tagged =
-    let same = front_is (arc_value b.plan) slot.entries.items o left node turn.next read in
+    let same = front_is (arc_value b.plan) slot.entries o left node turn.next read in
     (job_of b w slot o left turn.is turn.next, message ∙ ap (λ (e : Entry). e.message) same, from ∙ ap (λ (e : Entry). e.input) same, tagged ∙ ap (λ (e : Entry). e.tag) same)
 
 -- ---- settle
@@ -181,14 +179,14 @@ settle_full b w slot receipt left run full =
 
 -- what is handed out
 pub left_is : (b : Inside) (w : ℕ) (slot new : Worker) (a : Account) (out : Option Entry) → IsSlot b w slot
-    → IfSome out (λ node. slot.entries.items ≡ node ∷ new.entries.items) → IfNone out (length new.entries.items ≡ length slot.entries.items)
+    → IfSome out (λ node. slot.entries ≡ node ∷ new.entries) → IfNone out (length new.entries ≡ length slot.entries)
     → LeftIs out (state_inside b) w (state_inside (with_worker b w new a))
 left_is b w slot new a out is some none = go out some none
   where
-    now : get_or (map (λ (x : Worker). x.entries.items) (set b.workers.items w new)) w [] ≡ new.entries.items
-    now = rw map-set (set_same (map (λ (x : Worker). x.entries.items) b.workers.items) w new.entries.items [] (rw length-map is.within))
+    now : get_or (map (λ (x : Worker). x.entries) (set b.workers.items w new)) w [] ≡ new.entries
+    now = rw map-set (set_same (map (λ (x : Worker). x.entries) b.workers.items) w new.entries [] (rw length-map is.within))
 
-    go : (out : Option Entry) → IfSome out (λ node. slot.entries.items ≡ node ∷ new.entries.items) → IfNone out (length new.entries.items ≡ length slot.entries.items)
+    go : (out : Option Entry) → IfSome out (λ node. slot.entries ≡ node ∷ new.entries) → IfNone out (length new.entries ≡ length slot.entries)
         → LeftIs out (state_inside b) w (state_inside (with_worker b w new a))
     go None some none = ap length now ∙ none ∙ sym (ap length (slot_entries b w slot is))
     go (Some node) some none = slot_entries b w slot is ∙ some ∙ ap (λ (es : List Entry). node ∷ es) (sym now)
@@ -198,13 +196,13 @@ left_is b w slot new a out is some none = go out some none
 -- the same entries are left, and the failure is counted where there is a limit
 pub record IsAgain (limit : Option ℕ) (slot new : Worker) : Type 0 where
   pub may : MayTry limit slot.failures
-  pub entries : new.entries.items ≡ slot.entries.items
+  pub entries : new.entries ≡ slot.entries
   pub failures : new.failures ≡ one_more limit slot.failures
 
-pub again_forever : (limit : Option ℕ) (slot new : Worker) → limit ≡ None → new.entries.items ≡ slot.entries.items → new.failures ≡ slot.failures → IsAgain limit slot new
+pub again_forever : (limit : Option ℕ) (slot new : Worker) → limit ≡ None → new.entries ≡ slot.entries → new.failures ≡ slot.failures → IsAgain limit slot new
 again_forever limit slot new none entries failures = subst (λ l. IsAgain l slot new) (sym none) (record { may = tt; entries = entries; failures = failures })
 
-pub again_counted : (limit : Option ℕ) (slot new : Worker) (r : ℕ) → limit ≡ Some r → slot.failures < r → new.entries.items ≡ slot.entries.items → new.failures ≡ slot.failures + 1
+pub again_counted : (limit : Option ℕ) (slot new : Worker) (r : ℕ) → limit ≡ Some r → slot.failures < r → new.entries ≡ slot.entries → new.failures ≡ slot.failures + 1
     → IsAgain limit slot new
 again_counted limit slot new r some less entries failures = subst (λ l. IsAgain l slot new) (sym some) (record { may = less; entries = entries; failures = failures })
 
@@ -258,7 +256,7 @@ pub record IsLast (b : Inside) (w : ℕ) (slot : Worker) (failure : Refused) (le
   pub marked : guarded ≡ is_guarded (pairs (board_inside b)) is.run.turn.next.entry
 
 pub last_of : (b : Inside) (w : ℕ) (slot : Worker) (failure : Refused) (left r : ℕ) (guarded : Bool) (node : Entry) → IsRefused b w slot failure left
-    → retry_at (arc_value b.plan) failure.device ≡ Some r → r ≤ slot.failures → node ≡ get_or slot.entries.items 0 node
+    → retry_at (arc_value b.plan) failure.device ≡ Some r → r ≤ slot.failures → node ≡ get_or slot.entries 0 node
     → guarded ≡ is_guarded (pairs (board_inside b)) node → IsLast b w slot failure left guarded
 last_of b w slot failure left r guarded node is limit most read marked =
     let turn = is.run.turn in
@@ -268,7 +266,7 @@ last_of b w slot failure left r guarded node is limit most read marked =
     record {
       is = is;
       last = limit ∙ ap (λ (n : ℕ). Some n) same;
-      marked = marked ∙ ap (is_guarded (pairs (board_inside b))) (front_is (arc_value b.plan) slot.entries.items (occurrence.Run failure.device) left node turn.next read);
+      marked = marked ∙ ap (is_guarded (pairs (board_inside b))) (front_is (arc_value b.plan) slot.entries (occurrence.Run failure.device) left node turn.next read);
     }
 
 gives_as : (b : Inside) (w : ℕ) (slot new : Worker) (failure : Refused) (left : ℕ) (guarded : Bool) (a : Account) (last : IsLast b w slot failure left guarded)

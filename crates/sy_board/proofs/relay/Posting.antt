@@ -35,7 +35,7 @@ use Rattle.sy_board.proofs.relay.There.{list_queue_there}
 
 -- ---- without a post
 
-pub no_post : (b : Inside) (w : ℕ) (slot : Worker) → IsSlot b w slot → ((list left : ℕ) → IsNext (arc_value b.plan) slot.entries.items (occurrence.Post list) left → ⊥)
+pub no_post : (b : Inside) (w : ℕ) (slot : Worker) → IsSlot b w slot → ((list left : ℕ) → IsNext (arc_value b.plan) slot.entries (occurrence.Post list) left → ⊥)
     → HasNoPost (board_inside b) w
 no_post b w slot is none list job = none list job.left (next_of_job b w slot (occurrence.Post list) is job)
 
@@ -91,7 +91,7 @@ queue_back b q queue read kept = record {
 
 worker_back_board : (b : Inside) (w : ℕ) (slot : Worker) → slot ≡ get_or b.workers.items w slot → board_inside (with_worker b w slot b.accounts) ≡ board_inside b
 worker_back_board b w slot read =
-    same_board b _ _ _ refl (ap (map (λ (x : Worker). x.entries.items)) (back b.workers.items w slot read)) (ap (map (λ (x : Worker). x.failures)) (back b.workers.items w slot read))
+    same_board b _ _ _ refl (ap (map (λ (x : Worker). x.entries)) (back b.workers.items w slot read)) (ap (map (λ (x : Worker). x.failures)) (back b.workers.items w slot read))
 
 worker_back : (b : Inside) (w : ℕ) (slot : Worker) → slot ≡ get_or b.workers.items w slot → IsKept b → IsKept (with_worker b w slot b.accounts)
 worker_back b w slot read kept = record { marks = kept.marks; orderly = subst (λ x. IsOrderly x b.accounts) (sym (worker_back_board b w slot read)) kept.orderly }
@@ -153,9 +153,6 @@ module _ {b : Inside} {w list left : ℕ} {slot : Worker} (turn : IsTurn b w slo
       pub post_held : discards queue.marks node.message.class.severity (length queue.entries) ≡ false → queue.marks.size ≤ length queue.entries
           → PostIs (posted.Held node) board w node (board_inside (with_worker (with_queue b q queue) w slot b.accounts))
       post_held stays full = (refl, board_back, list, job, rw (is.marks, is.entries) at stays, rw (is.marks, is.entries) at full)
-
-      pub post_no_memory : discards queue.marks node.message.class.severity (length queue.entries) ≡ false → length queue.entries < queue.marks.size → PostFails fault.NoMemory board w node
-      post_no_memory stays room = (list, grown, posts stays room)
 
       pub post_full : discards queue.marks node.message.class.severity (length queue.entries) ≡ false → length queue.entries < queue.marks.size
           → ((b.accounts.totals.posted + 1 < 2 ^ 64) × (b.accounts.held_in_queues + 1 < 2 ^ 64) → ⊥) → PostFails fault.TotalsFull board w node
@@ -233,12 +230,12 @@ module _ {b : Inside} {w list left : ℕ} {slot : Worker} (turn : IsTurn b w slo
     pub post_not_lost : (why : PostCause) → is_no_memory why ≡ false → length queue.entries < queue.marks.size → PostLostFails fault.NotExpired why board w
     post_not_lost why only room = (only, list, job, rw (is.marks, is.entries) at room)
 
-    module _ (why : PostCause) (reason : (is_no_memory why ≡ true) ⊎ (queue.marks.size ≤ length queue.entries)) {node : Entry} (first : node ≡ get_or slot.entries.items 0 node)
+    module _ (why : PostCause) (reason : (is_no_memory why ≡ true) ⊎ (queue.marks.size ≤ length queue.entries)) {node : Entry} (first : node ≡ get_or slot.entries 0 node)
         {guarded : Bool} (marked : guarded ≡ is_guarded (pairs board) node) where
       loses : LosesPost plan old w list (is_no_memory why) node moved
       loses = record {
         job = job;
-        its = sym (front_is plan slot.entries.items (occurrence.Post list) left node turn.next first);
+        its = sym (front_is plan slot.entries (occurrence.Post list) left node turn.next first);
         cause = rw (is.marks, is.entries) at reason;
         after = refl;
       }

@@ -31,15 +31,15 @@ slot_of b w slot kept there read =
 slot_read : {A B : Type 0} (f : A → B) (xs : List A) (k : ℕ) (x : A) (d : B) → k < length xs → x ≡ get_or xs k x → get_or (map f xs) k d ≡ f x
 slot_read f xs k x d l e = get_or-map f xs k x d l ∙ ap f (sym e)
 
-pub slot_entries : (b : Inside) (w : ℕ) (slot : Worker) → IsSlot b w slot → at (state_inside b) (Cell.Worker w) ≡ slot.entries.items
-slot_entries b w slot is = slot_read (λ (x : Worker). x.entries.items) b.workers.items w slot [] is.within is.read
+pub slot_entries : (b : Inside) (w : ℕ) (slot : Worker) → IsSlot b w slot → at (state_inside b) (Cell.Worker w) ≡ slot.entries
+slot_entries b w slot is = slot_read (λ (x : Worker). x.entries) b.workers.items w slot [] is.within is.read
 
 pub slot_failures : (b : Inside) (w : ℕ) (slot : Worker) → IsSlot b w slot → failures_at (state_inside b) w ≡ slot.failures
 slot_failures b w slot is = slot_read (λ (x : Worker). x.failures) b.workers.items w slot 0 is.within is.read
 
 -- ---- its job
 
-abbrev pub job_of : (b : Inside) (w : ℕ) (slot : Worker) (o : Occurrence) (left : ℕ) → IsSlot b w slot → IsNext (arc_value b.plan) slot.entries.items o left
+abbrev pub job_of : (b : Inside) (w : ℕ) (slot : Worker) (o : Occurrence) (left : ℕ) → IsSlot b w slot → IsNext (arc_value b.plan) slot.entries o left
     → Job (arc_value b.plan) (state_inside b) w o
 job_of b w slot o left is next = record {
   there = is.there;
@@ -53,7 +53,7 @@ job_of b w slot o left is next = record {
 }
 
 abbrev pub next_of_job : (b : Inside) (w : ℕ) (slot : Worker) (o : Occurrence) → IsSlot b w slot → (job : Job (arc_value b.plan) (state_inside b) w o)
-    → IsNext (arc_value b.plan) slot.entries.items o job.left
+    → IsNext (arc_value b.plan) slot.entries o job.left
 next_of_job b w slot o is job = record {
   entry = job.entry;
   others = job.others;
@@ -64,7 +64,7 @@ next_of_job b w slot o is job = record {
 }
 
 -- without a next occurrence there is no job
-pub no_job : (b : Inside) (w : ℕ) (slot : Worker) → IsSlot b w slot → (HasNext (arc_value b.plan) slot.entries.items → ⊥)
+pub no_job : (b : Inside) (w : ℕ) (slot : Worker) → IsSlot b w slot → (HasNext (arc_value b.plan) slot.entries → ⊥)
     → (o : Occurrence) → Job (arc_value b.plan) (state_inside b) w o → ⊥
 no_job b w slot is none o job = none (o, job.left, next_of_job b w slot o is job)
 
@@ -76,11 +76,11 @@ same_state : (hands queues old new : List (List Entry)) (less more : List ℕ) �
 same_state hands queues old new less more e f = rw (e, f) refl
 
 pub advanced_state : (b : Inside) (w : ℕ) (slot new : Worker) (o : Occurrence) (left : ℕ) (a : Account) (is : IsSlot b w slot)
-    (next : IsNext (arc_value b.plan) slot.entries.items o left) → new.entries.items ≡ advanced_entries slot.entries.items left → new.failures ≡ 0
+    (next : IsNext (arc_value b.plan) slot.entries o left) → new.entries ≡ advanced_entries slot.entries left → new.failures ≡ 0
     → state_inside (with_worker b w new a) ≡ advanced (arc_value b.plan) (state_inside b) w o (job_of b w slot o left is next)
 advanced_state b w slot new o left a is next entries failures = same_state _ _ _ _ _ _
-    (map-set (λ (x : Worker). x.entries.items) b.workers.items w new
-    ∙ ap (set (map (λ (x : Worker). x.entries.items) b.workers.items) w) (entries ∙ ap (λ (es : List Entry). advanced_entries es left) next.held))
+    (map-set (λ (x : Worker). x.entries) b.workers.items w new
+    ∙ ap (set (map (λ (x : Worker). x.entries) b.workers.items) w) (entries ∙ ap (λ (es : List Entry). advanced_entries es left) next.held))
     (map-set (λ (x : Worker). x.failures) b.workers.items w new ∙ ap (set (map (λ (x : Worker). x.failures) b.workers.items) w) failures)
 
 set_back : {A : Type 0} (xs : List A) (k : ℕ) (x d : A) → get_or xs k d ≡ x → set xs k x ≡ xs
@@ -89,9 +89,9 @@ set_back (y ∷ xs) ℕ.zero x d e = ap (λ z. z ∷ xs) (sym e)
 set_back (y ∷ xs) (ℕ.suc k) x d e = ap (λ z. y ∷ z) (set_back xs k x d e)
 
 -- the same entries, and so many failures
-pub failed_state : (b : Inside) (w : ℕ) (slot new : Worker) (count : ℕ) (a : Account) → IsSlot b w slot → new.entries.items ≡ slot.entries.items → new.failures ≡ count
+pub failed_state : (b : Inside) (w : ℕ) (slot new : Worker) (count : ℕ) (a : Account) → IsSlot b w slot → new.entries ≡ slot.entries → new.failures ≡ count
     → state_inside (with_worker b w new a) ≡ put_failures (state_inside b) w count
 failed_state b w slot new count a is entries failures = same_state _ _ _ _ _ _
-    (map-set (λ (x : Worker). x.entries.items) b.workers.items w new
-    ∙ set_back (map (λ (x : Worker). x.entries.items) b.workers.items) w new.entries.items [] (slot_entries b w slot is ∙ sym entries))
+    (map-set (λ (x : Worker). x.entries) b.workers.items w new
+    ∙ set_back (map (λ (x : Worker). x.entries) b.workers.items) w new.entries [] (slot_entries b w slot is ∙ sym entries))
     (map-set (λ (x : Worker). x.failures) b.workers.items w new ∙ ap (set (map (λ (x : Worker). x.failures) b.workers.items) w) failures)

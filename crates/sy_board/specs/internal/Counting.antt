@@ -126,9 +126,8 @@ after_lost_post guarded a = record a {
   totals = record a.totals { lost_post = a.totals.lost_post + 1; guarded_lost = a.totals.guarded_lost + one_if guarded };
 }
 
--- why an entry can't be brought into a queue, but for memory: it can't be counted there
+-- why an entry can't be brought into a queue: it can't be counted there
 abbrev pub BringFails : BoardFault → Account → Type 0
-BringFails fault.NoMemory a = Unit {0}
 BringFails fault.TotalsFull a = 2 ^ 64 ≤ a.held_in_queues + 1
 BringFails _ a = ⊥
 

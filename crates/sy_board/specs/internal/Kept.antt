@@ -15,7 +15,7 @@ abbrev pub state_inside : Inside → RelayState
 state_inside b = record {
   hands = map option_to_list b.hands.items;
   queues = map (λ q. q.entries) b.queues.items;
-  workers = map (λ w. w.entries.items) b.workers.items;
+  workers = map (λ w. w.entries) b.workers.items;
   failures = map (λ w. w.failures) b.workers.items;
 }
 

@@ -124,10 +124,9 @@ EnterIs entry.Entered old input number new =
 EnterIs (entry.Held by) old input number new =
     (new ≡ old) × (at old.state (hand input number) ≢ []) × IsHeldBy by old.plan old.state input
 
--- why `enter` refuses: the hand is free; or a message there may enter, but memory runs out, or a total is full
+-- why `enter` refuses: the hand is free; or a message there may enter, and a total is full
 abbrev pub EnterFails : BoardFault → BoardState → ℕ → ℕ → Type 0
 EnterFails fault.HandEmpty old input number = at old.state (hand input number) ≡ []
-EnterFails fault.NoMemory old input number = (node : Entry) × (new : RelayState) × Enters old.plan old.state input number node new
 EnterFails fault.TotalsFull old input number = (node : Entry) × (new : RelayState) × Enters old.plan old.state input number node new
     × IsTooFull (stepped old (Event.Enter input number) new [])
 EnterFails _ old input number = ⊥
@@ -165,10 +164,9 @@ GrabIs count lost old worker new =
     × (count ≡ min (parameters_at old.plan (queue_of_worker old.plan worker)).batch (waiting old.state (queue_of_worker old.plan worker)))
     × (new ≡ stepped old (Event.Grab worker) new.state (map (Out.Lost Cause.Grab) lost)))
 
--- why `grab` refuses: the worker has entries; or it could grab, but memory runs out, or a total is full
+-- why `grab` refuses: the worker has entries; or it could grab, and a total is full
 abbrev pub GrabFails : BoardFault → BoardState → ℕ → Type 0
 GrabFails fault.SlotBusy old worker = at old.state (Cell.Worker worker) ≢ []
-GrabFails fault.NoMemory old worker = (lost : List Entry) × (new : RelayState) × Grabs old.plan old.state worker lost new
 GrabFails fault.TotalsFull old worker = (lost : List Entry) × (new : RelayState) × Grabs old.plan old.state worker lost new
     × IsTooFull (stepped old (Event.Grab worker) new (map (Out.Lost Cause.Grab) lost))
 GrabFails _ old worker = ⊥
@@ -264,11 +262,9 @@ PostIs (posted.Discarded lost) old worker node new =
     (lost ≡ node) × (list : ℕ) × (posts : Posts old.plan old.state worker list node true new.state)
     × (new ≡ stepped old (Event.Post worker) new.state (Out.Lost (Cause.Post list) posts.job.entry ∷ []))
 
--- why `post` refuses: the worker's job isn't a post; or it could post, but memory runs out, or a total is full
+-- why `post` refuses: the worker's job isn't a post; or it could post, and a total is full
 abbrev pub PostFails : BoardFault → BoardState → ℕ → Entry → Type 0
 PostFails fault.NoJob old worker node = HasNoPost old worker
-PostFails fault.NoMemory old worker node =
-    (list : ℕ) × (new : RelayState) × Posts old.plan old.state worker list node false new
 PostFails fault.TotalsFull old worker node =
     (list : ℕ) × (lost : Bool) × (new : RelayState) × (posts : Posts old.plan old.state worker list node lost new)
     × IsTooFull (stepped old (Event.Post worker) new (if_so lost (Out.Lost (Cause.Post list) posts.job.entry)))

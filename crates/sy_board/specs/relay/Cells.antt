@@ -1,5 +1,5 @@
 -- What a relay holds: entries, each at one place.
-use Rattle.std.specs.Prelude.{◌≡◌, ℕ, ◌+◌, ◌*◌, List, [], length, replicate, slice_index_or, slice_set}
+use Rattle.std.specs.Prelude.{◌≡◌, ℕ, ◌+◌, ◌*◌, List, [], ◌∷◌, ◌++◌, length, replicate, slice_index_or, slice_set}
 use Rattle.sy_chain.specs.Entries.{Entry}
 use Rattle.sy_rules.specs.PlanValue.{Plan}
 
@@ -16,6 +16,11 @@ pub record RelayState : Type 0 where
   pub queues : List (List Entry)
   pub workers : List (List Entry)
   pub failures : List ℕ
+
+-- the entries of some places, one place after the other
+abbrev pub all_of : List (List Entry) → List Entry
+all_of [] = []
+all_of (entries ∷ others) = entries ++ all_of others
 
 -- the entries at a place, in order
 abbrev pub at : RelayState → Cell → List Entry
@@ -42,6 +47,10 @@ hand input number = Cell.Hand (64 * input + number)
 -- How many entries wait in a queue; that those in workers' batches don't count is this profile's own.
 abbrev pub waiting : RelayState → ℕ → ℕ
 waiting part queue = length (at part (Cell.Queue queue))
+
+-- All that a relay holds: what is in hands, then what waits in queues, then what workers have, each entry with what is still due for it.
+abbrev pub held : RelayState → List Entry
+held part = all_of part.hands ++ all_of part.queues ++ all_of part.workers
 
 -- The relay has the places of its plan.
 pub record IsShaped (plan : Plan) (state : RelayState) : Type 0 where

@@ -7,9 +7,7 @@ ghost use Rattle.sy_board.specs.relay.Boards.{counts_of};
 
 use super::reading::occurrence_of;
 use std::alloc::{AllocError, Global};
-use std::collections::VecDeque;
 use std::marker::Model;
-use sy_chain::Node;
 use sy_rules::{Occurrence, Plan};
 
 /// The runs of one action: those done, those given up, and those still to be done for entries that workers have.
@@ -290,19 +288,6 @@ impl Accounts {
                 Some(Occurrence::Post(_)) => self.posts_left += 1,
                 None => {}
             }
-        }
-    }
-
-    /// What these entries have due became due.
-    pub(crate) fn count_due(&mut self, plan: &Plan, entries: &VecDeque<Node>)
-        requires { counting.HasRoomFor plan.now entries.now.items self.old }
-        ensures { self.new ≡ counting.became_due plan.now entries.now.items self.old }
-    {
-        for place in 0..entries.len() {
-            let Some(node) = entries.get(place) else {
-                return;
-            };
-            self.count_entry(plan, node.list(), node.due());
         }
     }
 

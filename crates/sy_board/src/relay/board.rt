@@ -10,6 +10,7 @@ ghost use Rattle.sy_board.specs.relay.Plans.{flow_at, marks_at, queue_of_input};
 ghost use Rattle.sy_board.specs.relay.Totals.{Laws};
 ghost use Rattle.sy_board.specs.relay.Totals as spec;
 
+mod draining;
 mod grabbing;
 mod inputs;
 mod jobs;
@@ -19,10 +20,9 @@ use super::accounts::Accounts;
 use super::guard::Guard;
 use super::reading::{marks_of, way_of};
 use std::alloc::{AllocError, Global};
-use std::collections::VecDeque;
 use std::marker::Model;
 use std::sync::Arc;
-use sy_chain::Node;
+use sy_chain::{Chain, Node};
 use sy_marks::{Hold, MarkQueue};
 use sy_rules::Plan;
 use sy_rules::laws::plans_are_whole;
@@ -33,7 +33,7 @@ const HANDS: usize = 64;
 // A worker's entries, and how often the present occurrence of the first has failed.
 #[derive(Drop)]
 struct Worker {
-    entries: VecDeque<Node>,
+    entries: Chain,
     failures: u32,
 }
 
@@ -42,7 +42,6 @@ struct Worker {
 /// Each call is one step of the relay, or changes nothing.
 #[derive(Drop)]
 pub struct Board {
-    alloc: Global,
     plan: Arc<Plan>,
     guard: Option<Guard>,
     hands: Vec<Option<Node>>,
@@ -82,19 +81,19 @@ fn empty_queues(alloc: Global, plan: &Plan) -> Result<Vec<MarkQueue>, AllocError
 {
     let mut queues = Vec::with_capacity(alloc, plan.queues().len())?;
     for parameters in plan.queues() {
-        queues.push(MarkQueue::new(alloc, marks_of(parameters)))?;
+        queues.push(MarkQueue::new(marks_of(parameters)))?;
     }
     Ok(queues)
 }
 
 fn idle_workers(alloc: Global, count: usize) -> Result<Vec<Worker>, AllocError>
-    ensures entries { IfOk result (λ workers. map (λ w. w.entries.items) workers.items ≡ replicate count []) }
+    ensures entries { IfOk result (λ workers. map (λ w. w.entries) workers.items ≡ replicate count []) }
     ensures failures { IfOk result (λ workers. map (λ w. w.failures) workers.items ≡ replicate count 0) }
 {
     let mut workers = Vec::with_capacity(alloc, count)?;
     for _ in 0..count {
         workers.push(Worker {
-            entries: VecDeque::new(alloc),
+            entries: Chain::new(),
             failures: 0,
         })?;
     }
@@ -141,7 +140,6 @@ impl Board {
         let workers = idle_workers(alloc, plan.workers().len())?;
         let accounts = Accounts::new(alloc, plan.actions().len())?;
         Ok(Board {
-            alloc,
             plan,
             guard,
             hands,

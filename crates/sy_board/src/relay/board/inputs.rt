@@ -57,15 +57,10 @@ fn bring(
     ensures err { IfErr result (λ fault. BringFails fault accounts.old) }
     ensures unchanged { OnErr result ((queue.new ≡ queue.old) × (hand.new ≡ hand.old) × (accounts.new ≡ accounts.old)) }
 {
-    let Ok(()) = queue.reserve() else {
-        return Err(BoardFault::NoMemory);
-    };
     if !accounts.has_room_in_queues() {
         return Err(BoardFault::TotalsFull);
     }
-    let Ok(()) = queue.push_from(hand) else {
-        return Err(BoardFault::NoMemory);
-    };
+    queue.push_from(hand);
     accounts.count_enter();
     Ok(())
 }

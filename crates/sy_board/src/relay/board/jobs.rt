@@ -9,18 +9,17 @@ use super::{Board, Worker, is_guarded};
 use crate::fault::BoardFault;
 use crate::relay::answers::{Job, Retry};
 use crate::relay::reading::{occurrence_of, retry_of};
-use std::collections::VecDeque;
 use sy_actions::{DeviceFault, Failure, Receipt};
-use sy_chain::Node;
+use sy_chain::{Chain, Node};
 use sy_rules::{Occurrence, Plan};
 use sy_wire::Message;
 use sy_wire::message::laws::equal_bytes;
 
 // The lowest occurrence due of the first of a worker's entries, and the set that is left without it.
 #[inline(always)]
-pub(super) fn next_of(plan: &Plan, entries: &VecDeque<Node>) -> Option<(Occurrence, u64)>
-    ensures some { IfSome result (λ next. IsNext plan.now entries.now.items next.0 next.1) }
-    ensures none { IfNone result (HasNext plan.now entries.now.items → ⊥) }
+pub(super) fn next_of(plan: &Plan, entries: &Chain) -> Option<(Occurrence, u64)>
+    ensures some { IfSome result (λ next. IsNext plan.now entries.now next.0 next.1) }
+    ensures none { IfNone result (HasNext plan.now entries.now → ⊥) }
 {
     let first = entries.front()?;
     let due = first.due();
@@ -34,9 +33,9 @@ pub(super) fn next_of(plan: &Plan, entries: &VecDeque<Node>) -> Option<(Occurren
 
 // The action of the run that is next for a worker with these entries, and the set that is left without it.
 #[inline(always)]
-fn run_of(plan: &Plan, entries: &VecDeque<Node>) -> Option<(u32, u64)>
-    ensures some { IfSome result (λ run. IsNext plan.now entries.now.items (occurrence.Run run.0) run.1) }
-    ensures none { IfNone result (HasNextRun plan.now entries.now.items → ⊥) }
+fn run_of(plan: &Plan, entries: &Chain) -> Option<(u32, u64)>
+    ensures some { IfSome result (λ run. IsNext plan.now entries.now (occurrence.Run run.0) run.1) }
+    ensures none { IfNone result (HasNextRun plan.now entries.now → ⊥) }
 {
     match next_of(plan, entries)? {
         (Occurrence::Run(action), left) => Some((action, left)),
@@ -46,8 +45,8 @@ fn run_of(plan: &Plan, entries: &VecDeque<Node>) -> Option<(u32, u64)>
 
 // Whether the first of a worker's entries is of this message. Equal bytes are one message.
 #[inline(always)]
-fn is_first_of(entries: &VecDeque<Node>, message: &Message) -> bool
-    ensures { IsTrue result ↔ IsFirstOf entries.now.items message.now }
+fn is_first_of(entries: &Chain, message: &Message) -> bool
+    ensures { IsTrue result ↔ IsFirstOf entries.now message.now }
 {
     let Some(node) = entries.front() else {
         return false;
@@ -69,12 +68,12 @@ fn was_offered(failure: &Failure) -> bool
 #[inline(always)]
 fn left_by(
     plan: &Plan,
-    entries: &VecDeque<Node>,
+    entries: &Chain,
     device: u32,
     message: &Message,
 ) -> Result<u64, BoardFault>
-    ensures ok { IfOk result (λ left. IsNextOf plan.now entries.now.items device message.now left) }
-    ensures err { IfErr result (λ fault. RunFails fault plan.now entries.now.items device message.now) }
+    ensures ok { IfOk result (λ left. IsNextOf plan.now entries.now device message.now left) }
+    ensures err { IfErr result (λ fault. RunFails fault plan.now entries.now device message.now) }
 {
     let Some((action, left)) = run_of(plan, entries) else {
         return Err(BoardFault::NoJob);
@@ -92,19 +91,17 @@ fn left_by(
 // failed yet.
 #[inline(always)]
 pub(super) fn advance(worker: &mut Worker, left: u64) -> Option<Node>
-    requires { 0 < length worker.old.entries.items }
-    ensures entries { worker.new.entries.items ≡ advanced_entries worker.old.entries.items left }
+    requires { 0 < length worker.old.entries }
+    ensures entries { worker.new.entries ≡ advanced_entries worker.old.entries left }
     ensures failures { worker.new.failures ≡ 0 }
-    ensures out { IfSome result (λ node. worker.old.entries.items ≡ node ∷ worker.new.entries.items) }
-    ensures stays { IfNone result (length worker.new.entries.items ≡ length worker.old.entries.items) }
+    ensures out { IfSome result (λ node. worker.old.entries ≡ node ∷ worker.new.entries) }
+    ensures stays { IfNone result (length worker.new.entries ≡ length worker.old.entries) }
 {
     worker.failures = 0;
     if left == 0 {
         return worker.entries.pop_front();
     }
-    if let Some(node) = worker.entries.front_mut() {
-        node.set_due(left);
-    }
+    worker.entries.set_due(left);
     None
 }
 

@@ -9,14 +9,13 @@ use super::{Board, is_guarded};
 use crate::fault::BoardFault;
 use crate::relay::answers::{PostCause, Posted};
 use crate::relay::reading::queue_of_list;
-use std::collections::VecDeque;
-use sy_chain::Node;
+use sy_chain::{Chain, Node};
 use sy_rules::{Occurrence, Plan};
 
 // The list of the post that is next for a worker with these entries, and the set that is left without it.
-fn post_of(plan: &Plan, entries: &VecDeque<Node>) -> Option<(u32, u64)>
-    ensures some { IfSome result (λ post. IsNext plan.now entries.now.items (occurrence.Post post.0) post.1) }
-    ensures none { IfNone result ((list left : ℕ) → IsNext plan.now entries.now.items (occurrence.Post list) left → ⊥) }
+fn post_of(plan: &Plan, entries: &Chain) -> Option<(u32, u64)>
+    ensures some { IfSome result (λ post. IsNext plan.now entries.now (occurrence.Post post.0) post.1) }
+    ensures none { IfNone result ((list left : ℕ) → IsNext plan.now entries.now (occurrence.Post list) left → ⊥) }
 {
     match next_of(plan, entries)? {
         (Occurrence::Post(list), left) => Some((list, left)),
@@ -51,15 +50,10 @@ impl Board {
         if queue.is_full() {
             return Ok(Posted::Held(node));
         }
-        let Ok(()) = queue.reserve() else {
-            return Err((node, BoardFault::NoMemory));
-        };
         if !self.accounts.has_room_for_post() {
             return Err((node, BoardFault::TotalsFull));
         }
-        if let Err(node) = queue.push(node) {
-            return Err((node, BoardFault::NoMemory));
-        }
+        queue.push(node);
         self.accounts.count_post();
         advance(slot, left);
         Ok(Posted::Done)

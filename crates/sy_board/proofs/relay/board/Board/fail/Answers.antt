@@ -8,6 +8,7 @@ use Rattle.sy_board.specs.internal.Kept.{board_inside}
 use Rattle.sy_board.proofs.relay.JobAccounts.{run_left}
 use Rattle.sy_board.proofs.relay.JobSteps.{IsAdvanced, IsRefused, again_counted, again_forever, again_is, again_kept, fail_fails, give_up_full, given_up_is, given_up_kept, last_of, not_offered, run_as, slot_in}
 use Rattle.sy_board.proofs.relay.Slots.{job_of, with_worker}
+use Rattle.sy_board.proofs.relay.Firsts.{front_read}
 use Rattle.sy_board.proofs.relay.board.Board.fail.Goals as goal
 
 pub returns-in_err-left-clause-err : goal.returns-in_err-left-clause-err
@@ -79,7 +80,7 @@ returns-in_default-count_give_up-clause-err c =
     let limit : retry_at (arc_value c.self.inside.plan) c.args.failure.now.device ≡ Some c.in-Some.retry =
     rw (c.deref-3.ensures, c.device-device.ensures) at (sym c.retry_of.ensures ∙ c.in-Some.is) in
     let last = last_of c.self.inside c.args.worker c.index_mut-slot.result.now c.args.failure.now c.in_ok-left.left c.in-Some.retry c.is_guarded-guarded.result c.in-Some-front.node.now
-    is limit c.if-slot-retry.false c.in-Some-front.ensures.lookup c.is_guarded-guarded.ensures in
+    is limit c.if-slot-retry.false (front_read _ _ c.in-Some-front.ensures.some) c.is_guarded-guarded.ensures in
     rw (← c.self.view_is)
     (give_up_full c.self.inside c.args.worker c.index_mut-slot.result.now c.args.failure.now c.in_ok-left.left c.is_guarded-guarded.result last (rw c.device-device.ensures at c.in_default-count_give_up.ensures.full))
 
@@ -93,7 +94,7 @@ invariant_of-self-2 c =
     let limit : retry_at (arc_value c.self.inside.plan) c.args.failure.now.device ≡ Some c.in-Some.retry =
     rw (c.deref-3.ensures, c.device-device.ensures) at (sym c.retry_of.ensures ∙ c.in-Some.is) in
     let last = last_of c.self.inside c.args.worker c.index_mut-slot.result.now c.args.failure.now c.in_ok-left.left c.in-Some.retry c.is_guarded-guarded.result c.in-Some-front.node.now
-    is limit c.if-slot-retry.false c.in-Some-front.ensures.lookup c.is_guarded-guarded.ensures in
+    is limit c.if-slot-retry.false (front_read _ _ c.in-Some-front.ensures.some) c.is_guarded-guarded.ensures in
     let on : IsAdvanced c.index_mut-slot.result.now c.advance.new.worker c.in_ok-left.left = record { entries = c.advance.ensures.entries; failures = c.advance.ensures.failures } in
     given_up_kept c.self.inside c.args.worker c.index_mut-slot.result.now c.advance.new.worker c.args.failure.now c.in_ok-left.left c.is_guarded-guarded.result c.count_give_up.new.self
     last on (rw c.device-device.ensures at c.in-Ok.ensures.ok)
@@ -108,7 +109,7 @@ returns-clause-ok c =
     let limit : retry_at (arc_value c.self.inside.plan) c.args.failure.now.device ≡ Some c.in-Some.retry =
     rw (c.deref-3.ensures, c.device-device.ensures) at (sym c.retry_of.ensures ∙ c.in-Some.is) in
     let last = last_of c.self.inside c.args.worker c.index_mut-slot.result.now c.args.failure.now c.in_ok-left.left c.in-Some.retry c.is_guarded-guarded.result c.in-Some-front.node.now
-    is limit c.if-slot-retry.false c.in-Some-front.ensures.lookup c.is_guarded-guarded.ensures in
+    is limit c.if-slot-retry.false (front_read _ _ c.in-Some-front.ensures.some) c.is_guarded-guarded.ensures in
     let on : IsAdvanced c.index_mut-slot.result.now c.advance.new.worker c.in_ok-left.left = record { entries = c.advance.ensures.entries; failures = c.advance.ensures.failures } in
     subst (λ (old : BoardState). FailIs retry.GaveUp old c.args.worker c.args.failure.now (board_inside (with_worker c.self.inside c.args.worker c.advance.new.worker c.count_give_up.new.self))) c.self.view_is
     (given_up_is c.self.inside c.args.worker c.index_mut-slot.result.now c.advance.new.worker c.args.failure.now c.in_ok-left.left c.is_guarded-guarded.result c.count_give_up.new.self

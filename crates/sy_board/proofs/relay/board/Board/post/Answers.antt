@@ -6,7 +6,7 @@ use Rattle.sy_marks.specs.Marks.{discards}
 use Rattle.sy_board.specs.relay.Boards.{IsForPost}
 use Rattle.sy_board.specs.internal.Kept.{board_inside}
 use Rattle.sy_board.proofs.relay.JobSteps.{IsTurn, slot_in, turn_of}
-use Rattle.sy_board.proofs.relay.Posting.{IsListQueue, full_by, kept_back, left_to_count, list_queue, no_post, post_discarded, post_discarded_full, post_discarded_kept, post_done, post_done_kept, post_full, post_held, post_no_memory, queue_there, room_by}
+use Rattle.sy_board.proofs.relay.Posting.{IsListQueue, full_by, kept_back, left_to_count, list_queue, no_post, post_discarded, post_discarded_full, post_discarded_kept, post_done, post_done_kept, post_full, post_held, queue_there, room_by}
 use Rattle.sy_board.proofs.relay.board.Board.post.Goals as goal
 use Rattle.sy_board.proofs.relay.board.Board.post.Goals.{In-Some, After-discards, After-is_full}
 
@@ -84,22 +84,11 @@ returns-then-is_full-clause-ok c =
     rw (← c.self.view_is) (post_held (turn before.In-Some) (queue before.After-discards) (made before.In-Some) (judged before.After-discards ∙ c.if-discards.false)
     (full_by _ _ c.is_full.result c.is_full.ensures c.if-is_full.true))
 
-pub invariant_of-self-in_default-reserve : goal.invariant_of-self-in_default-reserve
-invariant_of-self-in_default-reserve c =
-    let before = goal.at.invariant_of-self-in_default-reserve c in
-    kept_back (turn before.In-Some) (queue before.After-discards) c.reserve.new.self c.self.inside.accounts c.reserve.ensures refl
-
-pub returns-in_default-reserve-clause-err : goal.returns-in_default-reserve-clause-err
-returns-in_default-reserve-clause-err c =
-    let before = goal.at.returns-in_default-reserve-clause-err c in
-    rw (← c.self.view_is) (post_no_memory (turn before.In-Some) (queue before.After-discards) (made before.In-Some) (judged before.After-discards ∙ c.if-discards.false)
-    (has_room before.After-is_full c.if-is_full.false))
-
 pub invariant_of-self-then-not-has_room_for_post :
     goal.invariant_of-self-then-not-has_room_for_post
 invariant_of-self-then-not-has_room_for_post c =
     let before = goal.at.invariant_of-self-then-not-has_room_for_post c in
-    kept_back (turn before.In-Some) (queue before.After-discards) c.reserve.new.self c.self.inside.accounts c.reserve.ensures refl
+    kept_back (turn before.In-Some) (queue before.After-discards) c.index_mut-queue.result.now c.self.inside.accounts refl refl
 
 pub returns-then-not-has_room_for_post-clause-err :
     goal.returns-then-not-has_room_for_post-clause-err
@@ -109,17 +98,6 @@ returns-then-not-has_room_for_post-clause-err c =
     (has_room before.After-is_full c.if-is_full.false)
     (λ fits. let told : false ≡ true = sym c.if-not-has_room_for_post.true ∙ c.has_room_for_post.ensures.1 fits in cc))
 
-pub invariant_of-self-in-Err : goal.invariant_of-self-in-Err
-invariant_of-self-in-Err c =
-    let before = goal.at.invariant_of-self-in-Err c in
-    kept_back (turn before.In-Some) (queue before.After-discards) c.push.new.self c.self.inside.accounts (c.in-Err.ensures.unchanged ∙ c.reserve.ensures) refl
-
-pub returns-in-Err-clause-err : goal.returns-in-Err-clause-err
-returns-in-Err-clause-err c =
-    let before = goal.at.returns-in-Err-clause-err c in
-    rw (← c.self.view_is) (post_no_memory (turn before.In-Some) (queue before.After-discards) (made before.In-Some) (judged before.After-discards ∙ c.if-discards.false)
-    (has_room before.After-is_full c.if-is_full.false))
-
 pub count_post-requires-clause-left : goal.count_post-requires-clause-left
 count_post-requires-clause-left c = left_to_count (turn (goal.at.count_post-requires-clause-left c).In-Some)
 
@@ -127,11 +105,11 @@ pub invariant_of-self-2 : goal.invariant_of-self-2
 invariant_of-self-2 c =
     let before = goal.at.invariant_of-self-2 c in
     post_done_kept (turn before.In-Some) (queue before.After-discards) (made before.In-Some) (record { entries = c.advance-2.ensures.entries; failures = c.advance-2.ensures.failures })
-    (rw c.reserve.ensures at c.in_default-push.ensures.ok) c.count_post.ensures (judged before.After-discards ∙ c.if-discards.false) (has_room before.After-is_full c.if-is_full.false)
+    c.push.ensures c.count_post.ensures (judged before.After-discards ∙ c.if-discards.false) (has_room before.After-is_full c.if-is_full.false)
 
 pub returns-clause-ok : goal.returns-clause-ok
 returns-clause-ok c =
     let before = goal.at.returns-clause-ok c in
     rw (← c.self.view_is) (post_done (turn before.In-Some) (queue before.After-discards) (made before.In-Some)
-    (record { entries = c.advance-2.ensures.entries; failures = c.advance-2.ensures.failures }) (rw c.reserve.ensures at c.in_default-push.ensures.ok) c.count_post.ensures
+    (record { entries = c.advance-2.ensures.entries; failures = c.advance-2.ensures.failures }) c.push.ensures c.count_post.ensures
     (judged before.After-discards ∙ c.if-discards.false) (has_room before.After-is_full c.if-is_full.false))

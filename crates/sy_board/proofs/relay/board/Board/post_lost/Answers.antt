@@ -3,6 +3,7 @@ use Rattle.sy_rules.specs.declared.lists.occurrence.Occurrence.TheVariants as oc
 use Rattle.sy_board.specs.relay.Boards.{is_no_memory}
 use Rattle.sy_board.proofs.relay.JobSteps.{IsTurn, slot_in, turn_of}
 use Rattle.sy_board.proofs.relay.Posting.{IsListQueue, left_to_count, list_queue, no_post, only_full, post_lost, post_lost_full, post_lost_kept, post_not_lost, queue_there, room_by, why_lost}
+use Rattle.sy_board.proofs.relay.Firsts.{front_read}
 use Rattle.sy_board.proofs.relay.board.Board.post_lost.Goals as goal
 use Rattle.sy_board.proofs.relay.board.Board.post_lost.Goals.{In-Some, After-is_full-full, In-Some-front, else-eq-via-then-eq+else-not-full, else-eq-via-else-eq}
 
@@ -44,17 +45,17 @@ pub returns-in_default-count_lost_post-clause-err :
     goal.returns-in_default-count_lost_post-clause-err
 returns-in_default-count_lost_post-clause-err c =
     let before = goal.at.returns-in_default-count_lost_post-clause-err c in
-    rw (← c.self.view_is) (post_lost_full (turn before.In-Some) (queue before.After-is_full-full) c.args.cause (reason before.In-Some-front) c.in-Some-front.ensures.lookup
+    rw (← c.self.view_is) (post_lost_full (turn before.In-Some) (queue before.After-is_full-full) c.args.cause (reason before.In-Some-front) (front_read _ _ c.in-Some-front.ensures.some)
     c.is_guarded-guarded.ensures c.in_default-count_lost_post.ensures.full)
 
 pub invariant_of-self-2 : goal.invariant_of-self-2
 invariant_of-self-2 c =
     let before = goal.at.invariant_of-self-2 c in
-    post_lost_kept (turn before.In-Some) (queue before.After-is_full-full) c.args.cause (reason before.In-Some-front) c.in-Some-front.ensures.lookup c.is_guarded-guarded.ensures
+    post_lost_kept (turn before.In-Some) (queue before.After-is_full-full) c.args.cause (reason before.In-Some-front) (front_read _ _ c.in-Some-front.ensures.some) c.is_guarded-guarded.ensures
     (record { entries = c.advance.ensures.entries; failures = c.advance.ensures.failures }) c.in-Ok.ensures.ok
 
 pub returns-clause-ok : goal.returns-clause-ok
 returns-clause-ok c =
     let before = goal.at.returns-clause-ok c in
-    rw (← c.self.view_is) (post_lost (turn before.In-Some) (queue before.After-is_full-full) c.args.cause (reason before.In-Some-front) c.in-Some-front.ensures.lookup
+    rw (← c.self.view_is) (post_lost (turn before.In-Some) (queue before.After-is_full-full) c.args.cause (reason before.In-Some-front) (front_read _ _ c.in-Some-front.ensures.some)
     c.is_guarded-guarded.ensures (record { entries = c.advance.ensures.entries; failures = c.advance.ensures.failures }) c.in-Ok.ensures.ok)

@@ -1,9 +1,13 @@
-use Rattle.std.proofs.Common.{◌≡◌, ◌≤◌, Bool, if◌then◌else◌, [], length, ap, refl, sym, ◌∙◌, arith, unwrap_or, true, false}
+use Rattle.std.proofs.Common.{◌≡◌, ◌-◌, ◌<◌, ◌≤◌, ◌++◌, ◌∷◌, Bool, if◌then◌else◌, List, [], length, ap, refl, sym, ◌∙◌, append_assoc, arith, unwrap_or, true, false}
 use mir.Val.{bool_byte}
+use Rattle.sy_chain.specs.Entries.{Entry}
+use Rattle.sy_marks.specs.Marks.{is_lost, lost_of}
+use Rattle.sy_marks.specs.declared.marks.Marks.{Marks}
+use Rattle.sy_marks.proofs.Fronts.{front_next, front_skip}
 use Rattle.sy_board.specs.relay.Totals.{guarded_losses, is_guarded}
-use Rattle.sy_board.proofs.relay.Losses.{guarded_kept, guarded_lost, losses_of, none_lost, number_kept, number_lost}
+use Rattle.sy_board.proofs.relay.Losses.{losses_of, none_lost}
 use Rattle.sy_board.proofs.relay.board.grabbing.losses.Goals as goal
-use Rattle.sy_board.proofs.relay.board.grabbing.losses.Goals.{in-Some, in_default}
+use Rattle.sy_board.proofs.relay.board.grabbing.losses.Goals.{then-loses, else-loses}
 
 pub returns-then-not-may_lose-clause-lost : goal.returns-then-not-may_lose-clause-lost
 returns-then-not-may_lose-clause-lost c =
@@ -22,37 +26,46 @@ at_most_one : (b : Bool) → (if b then 1 else 0) ≤ 1
 at_most_one true = omega arith
 at_most_one false = omega arith
 
-pub loop-place-preserved : goal.loop-place-preserved
-loop-place-preserved c =
+pub loop-left-preserved : goal.loop-left-preserved
+loop-left-preserved c =
+    let e = c.in-Some.node in
+    let new = c.pop_front.new.self in
+    let es = new.entries in
+    let xs = c.loop-left.queue.entries in
+    let r = c.loop-left.left in
     let pairs = unwrap_or c.args.guard.now [] in
-    let marks = c.args.queue.now.marks in
-    let es = c.args.queue.now.entries in
-    let n = c.args.count in
-    let k = c.loop-place.place in
-    let l = c.loop-place-test.true in
-    elim c.match-lost_at.branch [
-      | in-Some w ↦
-          let at = w.in-Some.ensures.some in
-          let a = number_lost pairs marks es n k w.in-Some.node.now l at.0 at.1 in
-          let b = guarded_lost pairs marks es n k w.in-Some.node.now l at.0 at.1 in
-          let one : w.from-guarded.result ≡ (if is_guarded pairs w.in-Some.node.now then 1 else 0) =
-          w.from-guarded.ensures ∙ ap bool_byte w.is_guarded.ensures ∙ byte_of (is_guarded pairs w.in-Some.node.now) in
-          let few = at_most_one (is_guarded pairs w.in-Some.node.now) in
-          let before = c.loop-place.invariant in
+    let before = c.loop-left.invariant in
+    let some : 0 < r = c.loop-left-test.true in
+    let is : xs ≡ e ∷ es = c.in-Some.ensures.some in
+    let same : new.marks ≡ c.loop-left.queue.marks = c.in-Some.ensures.marks in
+    elim c.before.before.if-loses.branch [
+      | then-loses w ↦
+          let d : is_lost new.marks e (length es) ≡ true = sym c.loses.ensures ∙ w.if-loses.true in
+          let next : lost_of c.loop-left.queue.marks r xs ≡ e ∷ lost_of new.marks (r - 1) es =
+          ap (λ (m : Marks). lost_of m r xs) (sym same) ∙ front_next (is_lost new.marks) e es r xs some is d in
+          let one : w.from-guarded.result ≡ (if is_guarded pairs e then 1 else 0) =
+          w.from-guarded.ensures ∙ ap bool_byte w.is_guarded.ensures ∙ byte_of (is_guarded pairs e) in
+          let few = at_most_one (is_guarded pairs e) in
           record {
+            there = omega (arith, ap length is);
+            marks = same ∙ before.marks;
+            same = rw (c.push_back.ensures, append_assoc) (ap (λ (z : List Entry). c.loop-left.front ++ z) (sym is) ∙ before.same);
             few = omega (arith, before.few);
             few_guarded = omega (arith, before.few_guarded, one, few);
-            lost = omega (arith, a, before.lost);
-            guarded = omega (arith, b, one, before.guarded);
+            lost = omega (arith, ap length next, before.lost);
+            guarded = omega (arith, ap (λ (z : List Entry). guarded_losses pairs (losses_of z)) next, one, before.guarded);
           }
-      | in_default w ↦
-          let a = number_kept pairs marks es n k l c.requires w.in_default.ensures.none in
-          let b = guarded_kept pairs marks es n k l c.requires w.in_default.ensures.none in
-          let before = c.loop-place.invariant in
+      | else-loses w ↦
+          let d : is_lost new.marks e (length es) ≡ false = sym c.loses.ensures ∙ w.if-loses.false in
+          let next : lost_of c.loop-left.queue.marks r xs ≡ lost_of new.marks (r - 1) es =
+          ap (λ (m : Marks). lost_of m r xs) (sym same) ∙ front_skip (is_lost new.marks) e es r xs some is d in
           record {
+            there = omega (arith, ap length is);
+            marks = same ∙ before.marks;
+            same = rw (c.push_back.ensures, append_assoc) (ap (λ (z : List Entry). c.loop-left.front ++ z) (sym is) ∙ before.same);
             few = omega (arith, before.few);
             few_guarded = omega (arith, before.few_guarded);
-            lost = omega (arith, a, before.lost);
-            guarded = omega (arith, b, before.guarded);
+            lost = omega (arith, ap length next, before.lost);
+            guarded = omega (arith, ap (λ (z : List Entry). guarded_losses pairs (losses_of z)) next, before.guarded);
           }
     ]

@@ -1,13 +1,22 @@
-use Rattle.std.proofs.Common.{◌≡◌, ◌+◌, ◌≤◌, [], unwrap_or}
-use Rattle.sy_board.proofs.relay.Losses.{guarded_from, number_from}
+use Rattle.std.proofs.Common.{◌≡◌, ◌+◌, ◌≤◌, ◌++◌, [], length, unwrap_or}
+use Rattle.sy_marks.specs.Marks.{lost_of}
+use Rattle.sy_board.specs.relay.Totals.{guarded_losses}
+use Rattle.sy_board.proofs.relay.Losses.{losses_of}
 use Rattle.sy_board.proofs.relay.board.grabbing.losses.Given as goal
 
--- what was counted so far, and what is lost from here on, is all that is lost
-abbrev pub invariant-loop-place : goal.invariant-loop-place
-invariant-loop-place l = record {
-  few : l.lost ≤ l.place;
-  few_guarded : l.guarded ≤ l.place;
-  lost : l.lost + number_from l.queue.marks l.count l.queue.entries l.place ≡ number_from l.queue.marks l.count l.queue.entries 0;
-  guarded : l.guarded + guarded_from (unwrap_or l.guard []) l.queue.marks l.count l.queue.entries l.place
-      ≡ guarded_from (unwrap_or l.guard []) l.queue.marks l.count l.queue.entries 0;
+-- the entries taken out and those that wait are all; what was counted so far, and what is lost from here on, is all that is lost
+abbrev pub invariant-loop-left : goal.invariant-loop-left
+invariant-loop-left l = record {
+  there : l.left ≤ length l.queue.entries;
+  marks : l.queue.marks ≡ l.initial.queue.marks;
+  same : l.front ++ l.queue.entries ≡ l.initial.queue.entries;
+  few : l.lost + l.left ≤ l.count;
+  few_guarded : l.guarded + l.left ≤ l.count;
+  lost : l.lost + length (lost_of l.queue.marks l.left l.queue.entries)
+      ≡ length (lost_of l.initial.queue.marks l.count l.initial.queue.entries);
+  guarded : l.guarded + guarded_losses (unwrap_or l.guard []) (losses_of (lost_of l.queue.marks l.left l.queue.entries))
+      ≡ guarded_losses (unwrap_or l.guard []) (losses_of (lost_of l.initial.queue.marks l.count l.initial.queue.entries));
 }
+
+abbrev pub decreases-loop-left : goal.decreases-loop-left
+decreases-loop-left l = l.left
