@@ -134,7 +134,7 @@ impl MarkQueue {
         ensures empty { place.new ≡ None }
     {
         if let Some(node) = place.take() {
-            self.nodes.push_back(node);
+            self.push(node);
         }
     }
 
@@ -175,7 +175,8 @@ impl MarkQueue {
     pub fn into_chain(self) -> Chain
         ensures { result ≡ self.entries }
     {
-        self.nodes
+        let MarkQueue { marks: _, nodes } = self;
+        nodes
     }
 
     /// Takes n entries from the front, or all where fewer wait, one after the other: those that are kept, and those

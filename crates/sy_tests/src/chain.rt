@@ -69,16 +69,16 @@ fn carries_another_message(rt: HostRuntime) -> Result<(), Fail> {
 fn push(alloc: Global, chain: &mut Chain, tags: &str) -> Option<()> {
     for tag in tags.split_whitespace() {
         let tag = u64::from(number(Some(tag)));
-        chain.push_back(node(alloc, tag)?).ok()?;
+        chain.push_back(node(alloc, tag)?);
     }
     Some(())
 }
 
 fn joined(alloc: Global, first: &str, second: &str) -> Option<Chain> {
-    let (mut chain, mut other) = (Chain::new(alloc), Chain::new(alloc));
+    let (mut chain, mut other) = (Chain::new(), Chain::new());
     push(alloc, &mut chain, first)?;
     push(alloc, &mut other, second)?;
-    chain.append(other).ok()?;
+    chain.append(other);
     Some(chain)
 }
 
@@ -130,10 +130,8 @@ impl Judge for Chains {
         if chain.len() < count {
             return Ok(false);
         }
-        match chain.cut_front(count) {
-            Ok(mut cut) => Ok(has_tags(&mut cut, front) && has_tags(&mut chain, rest)),
-            Err(_) => Err(AllocError),
-        }
+        let mut cut = chain.cut_front(count);
+        Ok(has_tags(&mut cut, front) && has_tags(&mut chain, rest))
     }
 }
 

@@ -1,8 +1,7 @@
 //! Queues with marks.
 use super::chain::{RAW, entry};
-use std::alloc::{AllocError, Global};
+use std::alloc::Global;
 use std::process::Abort;
-use std::test::Fail;
 use sy_chain::{Chain, Node};
 use sy_marks::{Flow, Hold, MarkQueue, Marks};
 
@@ -32,12 +31,13 @@ fn put(queue: &mut MarkQueue, node: Node) -> Result<(), Node> {
     if queue.len() >= queue.marks().size as usize {
         return Err(node);
     }
-    queue.push(node)
+    queue.push(node);
+    Ok(())
 }
 
 // A queue of these messages with their due sets, tagged by their places from 0 on.
 fn queue_of(alloc: Global, marks: Marks, entries: &[(&[u8], u64)]) -> Option<MarkQueue> {
-    let mut queue = MarkQueue::new(alloc, marks);
+    let mut queue = MarkQueue::new(marks);
     for (raw, due) in entries {
         let tag = queue.len() as u64;
         put(&mut queue, entry(alloc, raw, *due, tag)?).ok()?;
@@ -85,13 +85,9 @@ fn has_tags(rt: &impl Abort, chain: &mut Chain, tags: &[u64]) {
 }
 
 fn is_taken(rt: &impl Abort, queue: &mut MarkQueue, row: &Row) {
-    match queue.grab(row.2) {
-        Ok((mut kept, mut lost)) => {
-            has_tags(rt, &mut kept, row.3);
-            has_tags(rt, &mut lost, row.4);
-        }
-        Err(_) => panic!(rt; "no memory"),
-    }
+    let (mut kept, mut lost) = queue.grab(row.2);
+    has_tags(rt, &mut kept, row.3);
+    has_tags(rt, &mut lost, row.4);
     assert!(rt; queue.len() == row.5 && queue.is_empty() == (row.5 == 0));
 }
 
@@ -140,43 +136,6 @@ fn each_holds(
 
 #[test]
 fn holds_at_its_marks(rt: HostRuntime) {
-    let mut queue = MarkQueue::new(rt.alloc(), MARKS);
+    let mut queue = MarkQueue::new(MARKS);
     assert!(rt; each_holds(&rt, rt.alloc(), &mut queue, &HOLDS).is_some());
-}
-
-// Memory that is refused leaves the queue as it was, and the entry comes back.
-fn is_put(queue: &mut MarkQueue, node: Node) -> bool {
-    let (length, tag) = (queue.len(), node.tag());
-    match put(queue, node) {
-        Ok(()) => queue.len() > length,
-        Err(node) => queue.len() == length && node.tag() == tag,
-    }
-}
-
-// Of four such messages the first is discarded at the mark, of fewer none.
-fn is_grabbed(queue: &mut MarkQueue) -> bool {
-    let length = queue.len();
-    let lost_of = usize::from(length == 4);
-    match queue.grab(2) {
-        Ok((kept, lost)) => kept.len() == 2 - lost_of && lost.len() == lost_of,
-        Err(AllocError) => queue.len() == length,
-    }
-}
-
-fn fill(rt: &impl Abort, alloc: Global, queue: &mut MarkQueue) -> Result<(), AllocError> {
-    for tag in 0..4 {
-        let Some(node) = entry(alloc, CRITICAL, 1, tag) else {
-            return Err(AllocError);
-        };
-        assert!(rt; is_put(queue, node));
-    }
-    Ok(())
-}
-
-#[test]
-fn a_queue_where_memory_is_refused(rt: HostRuntime) -> Result<(), Fail> {
-    let mut queue = MarkQueue::new(rt.alloc(), MARKS);
-    fill(&rt, rt.alloc(), &mut queue)?;
-    assert!(rt; is_grabbed(&mut queue));
-    Ok(())
 }

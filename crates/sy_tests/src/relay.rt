@@ -457,27 +457,30 @@ fn balances(accounts: &Accounts) -> bool {
     came == here + went && accounts.posts_due() == posts
 }
 
-// Whether a call's answer is right, and the totals after it. A call that found no memory, where that may be, has changed
-// nothing: it is made again.
+// Whether a call's answer is right, and the totals after it.
 fn goes_well(
     alloc: Global,
     board: &mut Board,
     call: Call,
     tag: u64,
-    is_refused: bool,
 ) -> Result<bool, AllocError> {
-    let mut answered = answer(alloc, board, call, tag)?;
-    if is_refused && matches!(answered, Err(BoardFault::NoMemory)) {
-        if !balances(board.accounts()) {
-            return Ok(false);
-        }
-        answered = answer(alloc, board, call, tag)?;
-    }
-    let is_right = match answered {
+    let is_right = match answer(alloc, board, call, tag)? {
         Ok(is_right) => is_right,
         Err(fault) => number(Some(call.wanted)) == u32::from(fault.number()),
     };
     Ok(is_right && balances(board.accounts()))
+}
+
+// Whether all calls of a text are.
+fn all_go_well(alloc: Global, board: &mut Board, text: &[u8]) -> Result<bool, AllocError> {
+    let mut tag = 0u64;
+    let mut is_right = true;
+    for word in str::from_utf8(text).unwrap_or("").split_whitespace() {
+        let call = call_of(word);
+        tag = tag.saturating_add(u64::from(call.name == "take"));
+        is_right = is_right && goes_well(alloc, board, call, tag)?;
+    }
+    Ok(is_right)
 }
 
 fn class(priority: u32) -> Option<Class> {
@@ -547,14 +550,46 @@ impl Judge for Calls {
         };
         let plan = Arc::new(alloc, plan).map_err(|_| AllocError)?;
         let mut board = self.opened(alloc, &plan, &pairs(alloc, guarded)?)?;
-        let mut tag = 0u64;
-        let mut is_right = true;
-        for word in str::from_utf8(text).unwrap_or("").split_whitespace() {
-            let call = call_of(word);
-            tag = tag.saturating_add(u64::from(call.name == "take"));
-            is_right = is_right && goes_well(alloc, &mut board, call, tag, self.is_refused)?;
+        all_go_well(alloc, &mut board, text)
+    }
+}
+
+// What is left of a board once the calls of a text were made: of each entry its tag and, behind a `/`, what is due for it.
+#[derive(Drop)]
+struct Drained;
+
+// Whether these entries, and no others, are left.
+fn are_left(mut left: Chain, wanted: &str) -> bool {
+    for word in wanted.split_whitespace() {
+        let (tag, due) = cut(word, '/');
+        let is_next = match left.pop_front() {
+            Some(node) => is_tag(tag, node.tag()) && node.due() == u64::from(number(Some(due))),
+            None => false,
+        };
+        if !is_next {
+            return false;
         }
-        Ok(is_right)
+    }
+    left.is_empty()
+}
+
+impl Judge for Drained {
+    fn is_right(
+        &self,
+        alloc: Global,
+        text: &[u8],
+        script: &str,
+        wanted: &str,
+    ) -> Result<bool, AllocError> {
+        let Ok(plan) = planned(alloc, script.as_bytes())? else {
+            return Ok(false);
+        };
+        let plan = Arc::new(alloc, plan).map_err(|_| AllocError)?;
+        let mut board = opened(alloc, &plan, &[])?;
+        let is_right = all_go_well(alloc, &mut board, text)?;
+        let taken = board.accounts().taken();
+        let (accounts, left) = board.drain();
+        Ok(is_right && accounts.taken() == taken && balances(&accounts) && are_left(left, wanted))
     }
 }
 
@@ -688,5 +723,21 @@ static REFUSED: [(&str, &str); 2] = [
 #[test]
 fn a_relays_board_where_memory_is_refused(rt: HostRuntime) -> Result<(), Fail> {
     each_is_right_in(&rt, rt.alloc(), &REFUSED, &Calls { is_refused: true })?;
+    Ok(())
+}
+
+// Hands come first, by their places, then queues, then workers.
+const DRAINED: &str = "
+| taken=0
+#2/3 #1/3 | take/0/5/8=hand take/0/4/8=hand
+#5/3 #4/3 #6/3 #1/1 #1/2 #2/3 #3/3 | %[3]take/0/0/9=hand enter/0/0=in %[1]grab/0=3 post/0=put take/0/5/8=hand take/0/4/8=hand take/0/1/9=hand enter/0/1=in
+#5/3 #4/3 #6/3 #1/2 #2/3 #3/3 #1/1 | %[3]take/0/0/9=hand enter/0/0=in %[1]grab/0=3 post/0=put take/0/5/8=hand take/0/4/8=hand take/0/1/9=hand enter/0/1=in grab/1=1
+";
+
+static DRAINS: [(&str, &str); 1] = [(POSTS, DRAINED)];
+
+#[test]
+fn what_is_left_of_a_board(rt: HostRuntime) -> Result<(), Fail> {
+    each_is_right_in(&rt, rt.alloc(), &DRAINS, &Drained)?;
     Ok(())
 }

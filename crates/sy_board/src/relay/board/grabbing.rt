@@ -30,24 +30,24 @@ fn losses(queue: &mut MarkQueue, count: usize, guard: &Option<Guard>) -> (usize,
         return (0, 0);
     }
     let mut front = Chain::new();
-    let mut left = count;
-    while left > 0 {
-        let Some(node) = queue.pop_front() else {
+    let mut unjudged = count;
+    while unjudged > 0 {
+        let Some(entry) = queue.pop_front() else {
             unreachable!()
         };
-        left -= 1;
-        if queue.loses(&node) {
+        unjudged -= 1;
+        if queue.loses(&entry) {
             lost += 1;
-            guarded += usize::from(is_guarded(guard, &node));
+            guarded += usize::from(is_guarded(guard, &entry));
         }
-        front.push_back(node);
+        front.push_back(entry);
     }
     queue.prepend(front);
     (lost, guarded)
 }
 
 // Takes so many entries from the front of a queue: those that are kept come to the end of these, and what they have due
-// became due. The answer are those that are lost.
+// became due. The answer is those that are lost.
 #[inline(always)]
 fn move_batch(
     count: usize,

@@ -26,22 +26,22 @@ at_most_one : (b : Bool) → (if b then 1 else 0) ≤ 1
 at_most_one true = omega arith
 at_most_one false = omega arith
 
-pub loop-left-preserved : goal.loop-left-preserved
-loop-left-preserved c =
-    let e = c.in-Some.node in
+pub loop-unjudged-preserved : goal.loop-unjudged-preserved
+loop-unjudged-preserved c =
+    let e = c.in-Some.entry in
     let new = c.pop_front.new.self in
     let es = new.entries in
-    let xs = c.loop-left.queue.entries in
-    let r = c.loop-left.left in
+    let xs = c.loop-unjudged.queue.entries in
+    let r = c.loop-unjudged.unjudged in
     let pairs = unwrap_or c.args.guard.now [] in
-    let before = c.loop-left.invariant in
-    let some : 0 < r = c.loop-left-test.true in
+    let before = c.loop-unjudged.invariant in
+    let some : 0 < r = c.loop-unjudged-test.true in
     let is : xs ≡ e ∷ es = c.in-Some.ensures.some in
-    let same : new.marks ≡ c.loop-left.queue.marks = c.in-Some.ensures.marks in
+    let same : new.marks ≡ c.loop-unjudged.queue.marks = c.in-Some.ensures.marks in
     elim c.before.before.if-loses.branch [
       | then-loses w ↦
           let d : is_lost new.marks e (length es) ≡ true = sym c.loses.ensures ∙ w.if-loses.true in
-          let next : lost_of c.loop-left.queue.marks r xs ≡ e ∷ lost_of new.marks (r - 1) es =
+          let next : lost_of c.loop-unjudged.queue.marks r xs ≡ e ∷ lost_of new.marks (r - 1) es =
           ap (λ (m : Marks). lost_of m r xs) (sym same) ∙ front_next (is_lost new.marks) e es r xs some is d in
           let one : w.from-guarded.result ≡ (if is_guarded pairs e then 1 else 0) =
           w.from-guarded.ensures ∙ ap bool_byte w.is_guarded.ensures ∙ byte_of (is_guarded pairs e) in
@@ -49,7 +49,7 @@ loop-left-preserved c =
           record {
             there = omega (arith, ap length is);
             marks = same ∙ before.marks;
-            same = rw (c.push_back.ensures, append_assoc) (ap (λ (z : List Entry). c.loop-left.front ++ z) (sym is) ∙ before.same);
+            same = rw (c.push_back.ensures, append_assoc) (ap (λ (z : List Entry). c.loop-unjudged.front ++ z) (sym is) ∙ before.same);
             few = omega (arith, before.few);
             few_guarded = omega (arith, before.few_guarded, one, few);
             lost = omega (arith, ap length next, before.lost);
@@ -57,12 +57,12 @@ loop-left-preserved c =
           }
       | else-loses w ↦
           let d : is_lost new.marks e (length es) ≡ false = sym c.loses.ensures ∙ w.if-loses.false in
-          let next : lost_of c.loop-left.queue.marks r xs ≡ lost_of new.marks (r - 1) es =
+          let next : lost_of c.loop-unjudged.queue.marks r xs ≡ lost_of new.marks (r - 1) es =
           ap (λ (m : Marks). lost_of m r xs) (sym same) ∙ front_skip (is_lost new.marks) e es r xs some is d in
           record {
             there = omega (arith, ap length is);
             marks = same ∙ before.marks;
-            same = rw (c.push_back.ensures, append_assoc) (ap (λ (z : List Entry). c.loop-left.front ++ z) (sym is) ∙ before.same);
+            same = rw (c.push_back.ensures, append_assoc) (ap (λ (z : List Entry). c.loop-unjudged.front ++ z) (sym is) ∙ before.same);
             few = omega (arith, before.few);
             few_guarded = omega (arith, before.few_guarded);
             lost = omega (arith, ap length next, before.lost);

@@ -5,18 +5,18 @@ use Rattle.sy_board.proofs.relay.Losses.{losses_of}
 use Rattle.sy_board.proofs.relay.board.grabbing.losses.Given as goal
 
 -- the entries taken out and those that wait are all; what was counted so far, and what is lost from here on, is all that is lost
-abbrev pub invariant-loop-left : goal.invariant-loop-left
-invariant-loop-left l = record {
-  there : l.left ≤ length l.queue.entries;
+abbrev pub invariant-loop-unjudged : goal.invariant-loop-unjudged
+invariant-loop-unjudged l = record {
+  there : l.unjudged ≤ length l.queue.entries;
   marks : l.queue.marks ≡ l.initial.queue.marks;
   same : l.front ++ l.queue.entries ≡ l.initial.queue.entries;
-  few : l.lost + l.left ≤ l.count;
-  few_guarded : l.guarded + l.left ≤ l.count;
-  lost : l.lost + length (lost_of l.queue.marks l.left l.queue.entries)
+  few : l.lost + l.unjudged ≤ l.count;
+  few_guarded : l.guarded + l.unjudged ≤ l.count;
+  lost : l.lost + length (lost_of l.queue.marks l.unjudged l.queue.entries)
       ≡ length (lost_of l.initial.queue.marks l.count l.initial.queue.entries);
-  guarded : l.guarded + guarded_losses (unwrap_or l.guard []) (losses_of (lost_of l.queue.marks l.left l.queue.entries))
+  guarded : l.guarded + guarded_losses (unwrap_or l.guard []) (losses_of (lost_of l.queue.marks l.unjudged l.queue.entries))
       ≡ guarded_losses (unwrap_or l.guard []) (losses_of (lost_of l.initial.queue.marks l.count l.initial.queue.entries));
 }
 
-abbrev pub decreases-loop-left : goal.decreases-loop-left
-decreases-loop-left l = l.left
+abbrev pub decreases-loop-unjudged : goal.decreases-loop-unjudged
+decreases-loop-unjudged l = l.unjudged
