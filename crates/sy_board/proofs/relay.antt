@@ -10,6 +10,7 @@ pub mod Lengths
 pub mod Batches
 pub mod Patience
 pub mod Firsts
+pub mod Running
 pub mod Orderly
 pub mod Seen
 pub mod InputAccounts

@@ -2,6 +2,7 @@
 pub mod Plans
 pub mod Cells
 pub mod Steps
+pub mod Runs
 pub mod Totals
 pub mod Moves
 pub mod Boards

@@ -30,6 +30,7 @@ use Rattle.sy_board.specs.declared.relay.answers.PostCause.{PostCause}
 use Rattle.sy_board.specs.declared.relay.answers.PostCause.TheVariants as cause
 use Rattle.sy_board.specs.relay.Cells.{Cell, RelayState, at, hand, opening, waiting}
 use Rattle.sy_board.specs.relay.Plans.{flow_at, marks_at, parameters_at, queue_of_input, queue_of_worker}
+use Rattle.sy_board.specs.relay.Runs.{AreRuns}
 use Rattle.sy_board.specs.relay.Steps.{Cause, Enters, Event, Expires, Fails, GivesUp, Grabs, IsPosted, Job, LosesPost, Out, Posts, Settles, Step, Takes, if_so}
 use Rattle.sy_board.specs.relay.Totals.{Counts, Pairs, Totals, counted, in_hands, in_queues, nothing_counted}
 
@@ -201,6 +202,13 @@ HasRun board worker = (action : ℕ) × Job board.plan board.state worker (occur
 pub record IsOf (board : BoardState) (worker device : ℕ) (message : Said) : Type 0 where
   pub run : Job board.plan board.state worker (occurrence.Run device)
   pub its : run.entry.message ≡ message
+
+-- of many jobs at once: the action of the worker's job, and the messages of the runs of it that stand next; or there is no run
+abbrev pub RunsIs : Option ℕ → BoardState → ℕ → ℕ → List Said → Type 0
+RunsIs (Some action) board worker most messages =
+    Job board.plan board.state worker (occurrence.Run action)
+    × AreRuns board.plan action most (at board.state (Cell.Worker worker)) messages
+RunsIs None board worker most messages = HasNoRun board worker × (messages ≡ [])
 
 abbrev pub SettleIs : BoardState → ℕ → Delivered → BoardState → Type 0
 SettleIs old worker receipt new = (of : IsOf old worker receipt.device receipt.message)

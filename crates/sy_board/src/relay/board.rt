@@ -15,6 +15,7 @@ mod grabbing;
 mod inputs;
 mod jobs;
 mod posts;
+mod runs;
 
 use super::accounts::Accounts;
 use super::guard::Guard;

@@ -33,7 +33,7 @@ pub(super) fn next_of(plan: &Plan, entries: &Chain) -> Option<(Occurrence, u64)>
 
 // The action of the run that is next for a worker with these entries, and the set that is left without it.
 #[inline(always)]
-fn run_of(plan: &Plan, entries: &Chain) -> Option<(u32, u64)>
+pub(super) fn run_of(plan: &Plan, entries: &Chain) -> Option<(u32, u64)>
     ensures some { IfSome result (λ run. IsNext plan.now entries.now (occurrence.Run run.0) run.1) }
     ensures none { IfNone result (HasNextRun plan.now entries.now → ⊥) }
 {
