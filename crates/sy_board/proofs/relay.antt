@@ -11,6 +11,9 @@ pub mod Lengths
 pub mod Batches
 pub mod Patience
 pub mod Firsts
+pub mod Keeps
+pub mod Marks
+pub mod Guards
 pub mod Orderly
 pub mod Seen
 pub mod InputAccounts

@@ -4,5 +4,8 @@ pub mod Cells
 pub mod Steps
 pub mod Totals
 pub mod Moves
+pub mod Feeders
+pub mod Kinds
+pub mod Guards
 pub mod Boards
 pub mod Patience

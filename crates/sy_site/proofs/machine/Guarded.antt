@@ -30,7 +30,7 @@ use Rattle.sy_site.specs.machine.Reach.{Forwards, MayAt, Reach, entry, occurrenc
 use Rattle.sy_site.specs.machine.Findings.{IsFedFreely, Kind, queue_of}
 use Rattle.sy_site.specs.machine.Confinement.{AreConfined, Falls, IsFollowed, IsWithinReach, RanksFall}
 use Rattle.sy_site.specs.machine.Soundness.{IsSoundFor}
-use Rattle.sy_site.proofs.machine.Keeps.{Each, Kept, Owes, each_append, each_weaker}
+use Rattle.sy_board.proofs.relay.Keeps.{Each, Kept, Owes, each_append, each_weaker}
 use Rattle.sy_site.proofs.machine.Marks.{AllMarks, InMarks, marks_start, not_delayed, site_marks}
 use Rattle.sy_site.proofs.machine.Spread.{Grows, Moves, Of, OutOf, Spread, run_keeps, start_keeps}
 use Rattle.sy_site.proofs.machine.Naming.{each_in}

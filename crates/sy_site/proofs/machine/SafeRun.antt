@@ -18,7 +18,7 @@ use Rattle.sy_site.specs.machine.Safety as safety
 use Rattle.sy_site.specs.machine.Soundness.{IsSound}
 use Rattle.sy_site.proofs.machine.Guarded.{confined_run, falls_apart, falls_run}
 use Rattle.sy_site.proofs.machine.Heading.{IsCopied, Met, NoLoss, arrives_new, met_step}
-use Rattle.sy_site.proofs.machine.Keeps.{Each}
+use Rattle.sy_board.proofs.relay.Keeps.{Each}
 use Rattle.sy_site.proofs.machine.Lawful.{archives_lead_nowhere}
 use Rattle.sy_site.proofs.machine.Naming.{AllShaped, get_cases, named_run, relay_arrivals, shaped_start, shaped_step}
 use Rattle.sy_site.proofs.machine.Stays.{SomeOf}
