@@ -11,6 +11,7 @@ pub mod Lengths
 pub mod Batches
 pub mod Patience
 pub mod Firsts
+pub mod SamePairs
 pub mod Keeps
 pub mod Marks
 pub mod Guards

@@ -1,9 +1,7 @@
 -- Where a plan meets the condition of a guard, nothing guarded is lost.
-use Rattle.std.proofs.Common.{◌≡◌, ℕ, ◌+◌, ◌*◌, ◌<◌, ◌≤◌, ◌==◌, ◌&&◌, ◌||◌, Bool, true, false, if◌then◌else◌, List, [], ◌∷◌, length, All, refl, sym, subst, ap, ◌∙◌, arith, inl, inr, Some, get_or}
+use Rattle.std.proofs.Common.{◌≡◌, ℕ, ◌+◌, ◌*◌, ◌<◌, ◌≤◌, ◌==◌, ◌||◌, Bool, true, false, if◌then◌else◌, List, [], ◌∷◌, length, All, refl, sym, subst, ap, ◌∙◌, arith, inl, inr, Some}
 use Rattle.std.specs.Prelude.{◌≢◌, Contains, slice_get}
-use Rattle.std.specs.Coded.{le_prop}
 use Rattle.std.specs.Int.{bit_at}
-use mathlib.Core.HLevel.{is_prop→PathP}
 use Rattle.std.proofs.lemmas.Bool.{and_parts, eqb-true, eqb-false, false_from_ne_true}
 use Rattle.std.proofs.lemmas.Bool.Decides.{nat_tests}
 use Rattle.sy_wire.specs.Messages.{Said}
@@ -22,13 +20,14 @@ use Rattle.sy_rules.specs.Whole.{body_at}
 use Rattle.sy_rules.proofs.lemmas.lists.WorkLaws.{work_may}
 use Rattle.sy_board.specs.relay.Cells.{Cell, RelayState, at, hand, opening, waiting}
 use Rattle.sy_board.specs.relay.Feeders.{Feeder, IsFedFreely, IsWithinMarks, OnlyFullDelay}
-use Rattle.sy_board.specs.relay.Guards.{IsGuarding, IsOnItsWay, IsPairOf, IsWithinGuard, MayGuard}
+use Rattle.sy_board.specs.relay.Guards.{IsGuarding, IsOnItsWay, IsWithinGuard, MayGuard}
 use Rattle.sy_board.specs.relay.Kinds.{HoldsAt, Kind, MayAt, MayRun, occurrence_of, queue_of}
 use Rattle.sy_board.specs.relay.Plans.{flow_at, input_at, marks_at, occurrences_at, queue_of_input}
 use Rattle.sy_board.specs.relay.Steps.{Event, IsHand, Out, Step}
-use Rattle.sy_board.specs.relay.Totals.{Pairs, guarded_losses, guards, is_guarded}
+use Rattle.sy_board.specs.relay.Totals.{Pairs, guarded_losses, guards}
 use Rattle.sy_board.proofs.relay.GuardTables.{is_pair}
-use Rattle.sy_board.proofs.relay.Keeps.{Comes, Each, Everywhere, Kept, Owes, step_keeps}
+use Rattle.sy_board.proofs.relay.SamePairs.{same_class}
+use Rattle.sy_board.proofs.relay.Keeps.{Comes, Each, Kept, Owes, step_keeps}
 use Rattle.sy_board.proofs.relay.Marks.{InMarks, empty_everywhere, marks_start, marks_step, not_delayed}
 
 -- ---- each element
@@ -43,15 +42,6 @@ all_of P (x ∷ xs) each ℕ.zero d l = each.0
 all_of P (x ∷ xs) each (ℕ.suc k) d l = all_of P xs each.1 k d (omega (arith, l))
 
 -- ---- pairs
-
--- that the two numbers are in range has one proof each
-pub same_class : (a b : Class) → a.facility ≡ b.facility → a.severity ≡ b.severity → a ≡ b
-same_class a b f s = λ i. record {
-  facility = f i;
-  severity = s i;
-  facility_in_range = is_prop→PathP (λ j. f j < 24) (λ j. hlevel le_prop) a.facility_in_range b.facility_in_range i;
-  severity_in_range = is_prop→PathP (λ j. s j < 8) (λ j. hlevel le_prop) a.severity_in_range b.severity_in_range i;
-}
 
 -- what the guard tells is one of its pairs
 pub guards_one : (pairs : Pairs) (input : ℕ) (class : Class) → guards pairs input class ≡ true → Contains pairs (input, class)
