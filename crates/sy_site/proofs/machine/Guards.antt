@@ -1,5 +1,5 @@
 -- A relay of a sound site meets the condition of its guard.
-use Rattle.std.proofs.Common.{◌≡◌, ℕ, true}
+use Rattle.std.proofs.Common.{ℕ}
 use Rattle.std.specs.Prelude.{Contains}
 use Rattle.sy_wire.specs.declared.class.Class.{Class}
 use Rattle.sy_board.specs.relay.Guards.{MayGuard}

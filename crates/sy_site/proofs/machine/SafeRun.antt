@@ -1,6 +1,6 @@
 -- Each run of a sound site ends in a safe state.
 use Rattle.std.proofs.Common.{◌≡◌, ℕ, true, List, [], ◌∷◌, ◌++◌, refl, sym, subst, ap, arith, inl, inr, Some}
-use Rattle.std.specs.Prelude.{◌⊎◌, slice_get}
+use Rattle.std.specs.Prelude.{slice_get}
 use Rattle.std.specs.List.{Contains}
 use Rattle.sy_wire.specs.Messages.{Said}
 use Rattle.sy_rules.proofs.lemmas.lists.WorkLaws.{must_work}
