@@ -11,6 +11,10 @@ pub mod Batches
 pub mod Patience
 pub mod Firsts
 pub mod Running
+pub mod SamePairs
+pub mod Keeps
+pub mod Marks
+pub mod Guards
 pub mod Orderly
 pub mod Seen
 pub mod InputAccounts

@@ -5,5 +5,8 @@ pub mod Steps
 pub mod Runs
 pub mod Totals
 pub mod Moves
+pub mod Feeders
+pub mod Kinds
+pub mod Guards
 pub mod Boards
 pub mod Patience

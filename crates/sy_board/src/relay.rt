@@ -1,6 +1,6 @@
 //! The nine steps of a whole relay: laws that every step keeps. The steps are definitions (`specs/relay`), which a set of relays is made of too.
 //! Each function does nothing; its contract is the law.
-ghost use Rattle.std.specs.Prelude.{◌≡◌, ◌≢◌, ◌⊎◌, ℕ, ◌+◌, ◌<◌, Bool, List, Some, false};
+ghost use Rattle.std.specs.Prelude.{◌≡◌, ◌≢◌, ◌⊎◌, ℕ, ◌+◌, ◌<◌, Bool, List, [], Some, false};
 ghost use Rattle.sy_chain.specs.Entries.{Entry};
 ghost use Rattle.sy_actions.specs.Devices.{Delivered, Refused};
 ghost use Rattle.sy_rules.specs.PlanValue.{Plan};
@@ -17,7 +17,8 @@ ghost use Rattle.sy_board.specs.declared.relay.answers.Entry.TheVariants as Ente
 ghost use Rattle.sy_board.specs.declared.relay.answers.Retry.TheVariants as Retry;
 ghost use Rattle.sy_board.specs.declared.relay.answers.Posted.TheVariants as Posted;
 ghost use Rattle.sy_board.specs.relay.Patience.{IsPatient};
-ghost use Rattle.sy_board.specs.relay.Totals.{Laws, Pairs, Totals, counted, nothing_counted, total};
+ghost use Rattle.sy_board.specs.relay.Guards.{IsGuarding, IsWithinGuard, MayGuard};
+ghost use Rattle.sy_board.specs.relay.Totals.{Laws, Pairs, Totals, counted, guarded_losses, nothing_counted, total};
 ghost use Rattle.sy_board.specs.relay.Moves.{IsLeftAlone, added, came, over, removed, went, worker_of};
 
 pub mod accounts;
@@ -134,4 +135,17 @@ pub fn answers_are_steps()
 pub fn one_outcome()
     ensures { (plan : Plan) → (old : RelayState) → (event : Event) → (one other : RelayState) → (outs others : List Out)
         → Step plan old event one outs → Step plan old event other others → (one ≡ other) × (outs ≡ others) }
+{}
+
+/// Where a plan meets the condition of a guard, no step loses anything of its pairs, and the queue of each pair's input, where all its feeders are
+/// full-delay inputs, stays within its full-delay mark: before the first message each queue and each entry is as that asks, and each step keeps it.
+/// A guard without pairs asks nothing.
+pub fn nothing_guarded_is_lost()
+    ensures opening { (plan : Plan) → (pairs : Pairs) → IsGuarding plan pairs (opening plan) }
+    ensures step { (plan : Plan) → (pairs : Pairs) → (old : RelayState) → (event : Event) → (new : RelayState) → (outs : List Out)
+        → MayGuard plan pairs → IsGuarding plan pairs old → Step plan old event new outs
+        → IsGuarding plan pairs new × (guarded_losses pairs outs ≡ 0) }
+    ensures within { (plan : Plan) → (pairs : Pairs) → (state : RelayState) → MayGuard plan pairs → IsGuarding plan pairs state
+        → IsWithinGuard plan pairs state }
+    ensures unasked { (plan : Plan) → MayGuard plan [] }
 {}

@@ -14,7 +14,7 @@ use Rattle.sy_site.specs.Sites.{Site, archives, is_protected, plan_at}
 use Rattle.sy_site.specs.machine.Lawful.{IsLawful}
 use Rattle.sy_site.specs.machine.Reach.{LeadsTo, Reach, leads_on, onward, writes}
 use Rattle.sy_site.specs.machine.Soundness.{AreRanks, IsSound}
-use Rattle.sy_site.proofs.machine.Keeps.{Each, each_append}
+use Rattle.sy_board.proofs.relay.Keeps.{Each, each_append}
 use Rattle.sy_site.proofs.machine.NoFinding.{no_finding}
 use Rattle.sy_checker.specs.Fit.{AreFit, AreRight, AreWanted, IsFit, IsPath, ListsAll, StandsBefore, action_name, name_of, paths, port_of}
 use Rattle.sy_checker.specs.Internal.{AreProtectedBelow, AreRelays, AreSorted, same_input}

@@ -1,15 +1,17 @@
 -- Guarded inputs, class after class, and those of one relay.
 use Rattle.std.proofs.Common.{◌≡◌, ℕ, ◌<◌, ◌+◌, List, [], ◌∷◌, ◌++◌, length, map, take, get_or, refl, sym, ap, subst, ◌∙◌, arith, inl, inr}
-use Rattle.std.specs.Prelude.{Contains, ◌↔◌, IfOk, OnOk, Result, Ok, Err, slice_get}
+use Rattle.std.specs.Prelude.{Contains, ◌↔◌, IfOk, OnOk, Result, Ok, Err, Option, Some, None, slice_get}
 use Rattle.std.proofs.lemmas.List.{take_more}
 use Rattle.std.proofs.lemmas.List.Elements.{Contains-append_cases, Contains-append_left, Contains-append_right, Contains-push, Contains-push_cases}
 use Rattle.sy_wire.specs.declared.class.Class.{Class}
+use Rattle.sy_rules.specs.PlanValue.{Plan}
+use Rattle.sy_board.specs.relay.Guards.{MayGuard}
 use Rattle.sy_board.specs.relay.Totals.{Pairs}
 use Rattle.sy_site.specs.declared.site.SiteInput.{SiteInput}
-use Rattle.sy_site.specs.Sites.{Relay, Site, plan_in}
+use Rattle.sy_site.specs.Sites.{Relay, Site, plan_at, plan_in}
 use Rattle.sy_site.specs.machine.Reach.{Reach}
 use Rattle.sy_site.specs.machine.Soundness.{IsGuarded}
-use Rattle.sy_checker.specs.Acceptance.{ArePairsAt, AreReached}
+use Rattle.sy_checker.specs.Acceptance.{Acceptance, AreGuardable, ArePairsAt, AreReached, IsOf, plans_of}
 use Rattle.sy_checker.specs.Fit.{AreProtected}
 use Rattle.sy_checker.proofs.Comparing.{from_map}
 use Rattle.sy_checker.proofs.FitIsSound.{in_map}
@@ -106,6 +108,21 @@ one_more_plan (r ∷ rs) (ℕ.suc k) low =
     ap (λ ps. r.plan ∷ ps) (one_more_plan rs k (omega (arith, low)))
     ∙ ap (λ n. map (λ (x : Relay). x.plan) (take n (r ∷ rs))) (sym on)
 
+plan_there : (relays : List Relay) (k : ℕ) (plan : Plan) → Some plan ≡ slice_get (map (λ (r : Relay). r.plan) relays) k → plan_in (slice_get relays k) ≡ plan
+plan_there [] k plan e = cc
+plan_there (r ∷ rs) ℕ.zero plan e = cc
+plan_there (r ∷ rs) (ℕ.suc k) plan e = plan_there rs k plan e
+
+-- where those of each relay meet the condition of its guards
+pub guardable : (site : Site) (accepted : Acceptance) → IsOf site accepted
+    → ((relay : ℕ) (pairs : Pairs) → ((input : ℕ) (class : Class) → Contains pairs (input, class) → IsGuarded site relay input class)
+    → MayGuard (plan_at site relay) pairs)
+    → AreGuardable accepted
+guardable site accepted of may relay plan is pairs are =
+    let same : plan_at site relay ≡ plan = plan_there site.relays relay plan (subst (λ ps. Some plan ≡ slice_get ps relay) of.plans is) in
+    subst (λ p. MayGuard p pairs) same
+    (may relay pairs (λ input class there. (of.pairs (record { relay = relay; input = input }) class).0 ((are input class).0 there)))
+
 -- ---- what may fail
 
 pub guard_is : {E : Type 0} (pairs : List (SiteInput × Class)) (relay : ℕ) (found : Pairs) (result : Result Pairs E) → ArePairsAt pairs relay found
@@ -119,3 +136,9 @@ pub all_reached : {A E : Type 0} (site : Site) (class : Class) (old new : List (
 all_reached site class old new inputs (Ok x) reach is = λ before are.
     subst (AreReached site (before ++ class ∷ [])) (sym is) (reached_more site class before old inputs reach are)
 all_reached site class old new inputs (Err e) reach is = record {}
+
+pub guard_may : {E : Type 0} (accepted : Acceptance) (relay : ℕ) (result : Result Pairs E) → AreGuardable accepted
+    → IfOk result (λ g. ArePairsAt accepted.pairs relay g)
+    → IfOk result (λ g. (plan : Plan) → Some plan ≡ slice_get accepted.plans relay → MayGuard plan g)
+guard_may accepted relay (Ok g) may are = λ plan is. may relay plan is g are
+guard_may accepted relay (Err e) may are = are

@@ -1,11 +1,12 @@
 -- What is kept of a site whose certificate is fit (this profile's own).
-use Rattle.std.specs.Prelude.{◌≡◌, ℕ, ◌↔◌, Contains, List, map}
+use Rattle.std.specs.Prelude.{◌≡◌, ℕ, ◌↔◌, Contains, List, Some, map, slice_get}
 use Rattle.sy_wire.specs.declared.class.Class.{Class}
 use Rattle.sy_rules.specs.PlanValue.{Plan}
 use Rattle.sy_site.specs.declared.site.SiteInput.{SiteInput}
 use Rattle.sy_site.specs.Sites.{Relay, Site}
 use Rattle.sy_site.specs.machine.Reach.{Reach}
 use Rattle.sy_site.specs.machine.Soundness.{IsGuarded}
+use Rattle.sy_board.specs.relay.Guards.{MayGuard}
 use Rattle.sy_board.specs.relay.Totals.{Pairs}
 use Rattle.sy_checker.specs.Fit.{AreProtected}
 
@@ -28,6 +29,11 @@ pub record IsOf (site : Site) (accepted : Acceptance) : Type 0 where
 abbrev pub ArePairsAt : List (SiteInput × Class) → ℕ → Pairs → Type 0
 ArePairsAt pairs relay found = (input : ℕ) (class : Class)
     → Contains found (input, class) ↔ Contains pairs (record { relay = relay; input = input }, class)
+
+-- the plan of each relay meets the condition of a guard of that relay's pairs
+abbrev pub AreGuardable : Acceptance → Type 0
+AreGuardable accepted = (relay : ℕ) (plan : Plan) → Some plan ≡ slice_get accepted.plans relay → (pairs : Pairs)
+    → ArePairsAt accepted.pairs relay pairs → MayGuard plan pairs
 
 -- each input that one of these classes reaches, with that class
 abbrev pub AreReached : Site → List Class → List (SiteInput × Class) → Type 0

@@ -2,7 +2,10 @@
 
 ghost use Rattle.std.specs.Prelude.{◌≡◌, ◌<◌, ◌++◌, [], ◌∷◌, List, length, map, slice_get, Some, IfOk, OnOk};
 ghost use Rattle.std.specs.Arc.{arc_value};
+ghost use Rattle.sy_board.specs.relay.Guards.{MayGuard};
+ghost use Rattle.sy_rules.specs.PlanValue.{Plan as AnyPlan};
 ghost use Rattle.sy_site.specs.Sites.{Relay};
+ghost use Rattle.sy_site.specs.machine.Soundness.{IsSound};
 ghost use Rattle.sy_site.specs.declared.site.SiteInput.{SiteInput as AnyInput};
 ghost use Rattle.sy_wire.specs.declared.class.Class.{Class as AnyClass};
 ghost use Rattle.sy_checker.specs.Acceptance as spec;
@@ -13,6 +16,7 @@ use std::marker::Model;
 use std::sync::Arc;
 use sy_board::Guard;
 use sy_rules::Plan;
+use sy_site::machine::sound_sites_have_guards;
 use sy_site::{Site, SiteInput};
 use sy_wire::Class;
 
@@ -37,6 +41,8 @@ impl Model for Accepted {
     ghost coded = { Prim.hlevel (codes, plan_code) };
 
     ghost view = { λ a. record { plans = map arc_value a.plans.items; classes = a.classes.items; pairs = a.pairs.items } };
+
+    ghost invariant = { λ a. spec.AreGuardable (record { plans = map arc_value a.plans.items; classes = a.classes.items; pairs = a.pairs.items }) };
 }
 
 // The plans of a site's relays.
@@ -97,7 +103,7 @@ fn pairs_at(
 }
 
 impl Accepted {
-    // What is kept of a site with these protected classes, and with each input that one of them reaches.
+    // What is kept of a sound site with these protected classes, and with each input that one of them reaches.
     pub(crate) fn new(
         alloc: Global,
         site: &Site,
@@ -106,8 +112,10 @@ impl Accepted {
     ) -> Result<Accepted, AllocError>
         requires protected { AreProtected site.now classes.items }
         requires pairs { spec.AreReached site.now classes.items pairs.items }
+        requires sound { IsSound site.now }
         ensures { IfOk result (λ accepted. spec.IsOf site.now accepted) }
     {
+        sound_sites_have_guards();
         let plans = plans_of(alloc, site)?;
         Ok(Accepted {
             plans,
@@ -131,9 +139,10 @@ impl Accepted {
         &self.plans[relay as usize]
     }
 
-    /// The guard of a relay: of each input and each class that are guarded there, and of no other.
+    /// The guard of a relay: of each input and each class that are guarded there, and of no other. The relay's plan meets its condition.
     pub fn guard(&self, alloc: Global, relay: u32) -> Result<Guard, AllocError>
-        ensures { IfOk result (λ guard. spec.ArePairsAt self.now.pairs relay guard) }
+        ensures pairs { IfOk result (λ guard. spec.ArePairsAt self.now.pairs relay guard) }
+        ensures may { IfOk result (λ guard. (plan : AnyPlan) → Some plan ≡ slice_get self.now.plans relay → MayGuard plan guard) }
     {
         let pairs = pairs_at(alloc, self.pairs.as_slice(), relay)?;
         Guard::new(alloc, pairs.as_slice())

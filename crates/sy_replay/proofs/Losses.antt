@@ -10,7 +10,7 @@ use Rattle.sy_site.specs.machine.States as states
 use Rattle.sy_site.specs.machine.States.{SiteState, opening, put_outs, with_passed, with_relay}
 use Rattle.sy_site.specs.machine.Steps.{RelaySteps, SiteEvent, SiteStep, SiteSteps}
 use Rattle.sy_site.specs.machine.Naming.{IsTag}
-use Rattle.sy_site.proofs.machine.Keeps.{Each, each_append}
+use Rattle.sy_board.proofs.relay.Keeps.{Each, each_append}
 use Rattle.sy_site.proofs.machine.Naming.{tags_run}
 use Rattle.sy_replay.specs.declared.event.Loss.{Loss}
 use Rattle.sy_replay.specs.Events.{loss_of, losses_of}

@@ -2,14 +2,16 @@
 //! does nothing; its contract is the law.
 ghost use Rattle.std.specs.Prelude.{◌≡◌, ℕ, Bool, List, true};
 ghost use Rattle.std.specs.List.{Contains};
+ghost use Rattle.sy_board.specs.relay.Guards.{MayGuard};
+ghost use Rattle.sy_board.specs.relay.Totals.{Pairs};
 ghost use Rattle.sy_wire.specs.declared.class.Class.{Class};
-ghost use Rattle.sy_site.specs.Sites.{Site, SiteInput, is_protected};
+ghost use Rattle.sy_site.specs.Sites.{Site, SiteInput, is_protected, plan_at};
 ghost use Rattle.sy_site.specs.machine.States.{SiteState};
 ghost use Rattle.sy_site.specs.machine.Steps.{Runs, SiteEvent};
 ghost use Rattle.sy_site.specs.machine.Lengths.{IsWithinMarks, IsWithinSizes};
 ghost use Rattle.sy_site.specs.machine.Findings.{IsFinding, IsWay, Kind, WayRow};
 ghost use Rattle.sy_site.specs.machine.Reach.{Forwards, MayAt, Reach};
-ghost use Rattle.sy_site.specs.machine.Soundness.{AreRanks, IsSound, IsSoundFor};
+ghost use Rattle.sy_site.specs.machine.Soundness.{AreRanks, IsGuarded, IsSound, IsSoundFor};
 ghost use Rattle.sy_site.specs.machine.Confinement.{AreConfined, RanksFall};
 ghost use Rattle.sy_site.specs.machine.Lawful.{IsLawful};
 ghost use Rattle.sy_site.specs.machine.Safety.{AreSafe, AreWrittenOrHead, IsWritten};
@@ -97,6 +99,13 @@ pub fn reached_inputs()
 pub fn sound_sites_have_no_finding()
     ensures { (site : Site) → IsSound site → (class : Class) → (way : List WayRow) → (input : SiteInput)
         → (kind : Kind) → IsFinding site class way input kind → ⊥ }
+{}
+
+/// The plan of each relay of a sound site meets the condition of a guard of pairs that are guarded there.
+pub fn sound_sites_have_guards()
+    ensures { (site : Site) → IsSound site → (relay : ℕ) → (pairs : Pairs)
+        → ((input : ℕ) → (class : Class) → Contains pairs (input, class) → IsGuarded site relay input class)
+        → MayGuard (plan_at site relay) pairs }
 {}
 
 /// The definitions are not empty: a run of a site of two relays, in which a message of any class comes to the first

@@ -17,12 +17,11 @@ use sy_board::BoardFault;
 use sy_board::relay::accounts::Accounts;
 use sy_board::relay::answers::{Entry, Job, PostCause, Posted, Retry, Taken};
 use sy_board::relay::board::Board;
-use sy_board::relay::guard::Guard;
 use sy_chain::{Chain, Node};
 use sy_marks::Hold;
 use sy_rules::Plan;
 use sy_rules::laws::plans_are_whole;
-use sy_wire::{Class, Message};
+use sy_wire::Message;
 
 // A call is written as its name and its numbers, each after a `/`, and what is wanted after a `=`: the number of its
 // fault, or what its function below says. An entry is wanted by `#` and its tag; the tags of a run's messages count from 1.
@@ -483,36 +482,10 @@ fn all_go_well(alloc: Global, board: &mut Board, text: &[u8]) -> Result<bool, Al
     Ok(is_right)
 }
 
-fn class(priority: u32) -> Option<Class> {
-    let number = u8::try_from(priority).ok()?;
-    if number < 192 {
-        Some(Class::of_number(number))
-    } else {
-        None
-    }
-}
-
-// Each pair is an input, a `/` and a priority.
-fn pairs(alloc: Global, text: &str) -> Result<Vec<(u32, Class)>, AllocError> {
-    let mut pairs = Vec::new(alloc);
-    for word in text.split_whitespace() {
-        let (input, priority) = cut(word, '/');
-        if let Some(class) = class(number(Some(priority))) {
-            pairs.push((number(Some(input)), class))?;
-        }
-    }
-    Ok(pairs)
-}
-
-// The board of a plan, with a copy of the guard of these pairs where there are any.
-fn opened(alloc: Global, plan: &Arc<Plan>, pairs: &[(u32, Class)]) -> Result<Board, AllocError> {
-    let guard = if pairs.is_empty() {
-        None
-    } else {
-        Some(Guard::new(alloc, pairs)?.copy(alloc)?)
-    };
+// The board of a plan.
+fn opened(alloc: Global, plan: &Arc<Plan>) -> Result<Board, AllocError> {
     let plan = Arc::try_clone(plan).map_err(|_| AllocError)?;
-    Board::new(alloc, plan, guard)
+    Board::new(alloc, plan, None)
 }
 
 // The calls of a text, over a board of the plan of a script. Where memory is refused, what finds none is done again.
@@ -522,14 +495,9 @@ struct Calls {
 }
 
 impl Calls {
-    fn opened(
-        &self,
-        alloc: Global,
-        plan: &Arc<Plan>,
-        pairs: &[(u32, Class)],
-    ) -> Result<Board, AllocError> {
-        match opened(alloc, plan, pairs) {
-            Err(AllocError) if self.is_refused => opened(alloc, plan, pairs),
+    fn opened(&self, alloc: Global, plan: &Arc<Plan>) -> Result<Board, AllocError> {
+        match opened(alloc, plan) {
+            Err(AllocError) if self.is_refused => opened(alloc, plan),
             result => result,
         }
     }
@@ -541,7 +509,7 @@ impl Judge for Calls {
         alloc: Global,
         text: &[u8],
         script: &str,
-        guarded: &str,
+        _: &str,
     ) -> Result<bool, AllocError> {
         let plan = match planned(alloc, script.as_bytes())? {
             Ok(plan) => plan,
@@ -549,7 +517,7 @@ impl Judge for Calls {
             Err(_) => return Ok(false),
         };
         let plan = Arc::new(alloc, plan).map_err(|_| AllocError)?;
-        let mut board = self.opened(alloc, &plan, &pairs(alloc, guarded)?)?;
+        let mut board = self.opened(alloc, &plan)?;
         all_go_well(alloc, &mut board, text)
     }
 }
@@ -585,7 +553,7 @@ impl Judge for Drained {
             return Ok(false);
         };
         let plan = Arc::new(alloc, plan).map_err(|_| AllocError)?;
-        let mut board = opened(alloc, &plan, &[])?;
+        let mut board = opened(alloc, &plan)?;
         let is_right = all_go_well(alloc, &mut board, text)?;
         let taken = board.accounts().taken();
         let (accounts, left) = board.drain();
@@ -622,9 +590,9 @@ const TRIES: &str =
 
 const TRIES_CALLS: &str = "
 // each input's flow at each length
-0/34 1/34 | take/0/0/34=hand take/0/1/34=hand take/0/2/34=hand gate/0/0=clear enter/0/0=in gate/0/0=clear enter/0/1=in gate/0/0=delay gate/1/0=clear gate/2/0=clear enter/0/2=delay expire/0/2=87 take/1/0/34=hand expire/1/0=87 enter/1/0=in gate/0/0=delay gate/1/0=clear gate/2/0=light take/2/0/34=hand expire/2/0=87 enter/2/0=in gate/0/0=delay gate/1/0=full gate/2/0=full enter/0/2=delay expire/0/2=87 take/1/0/35=hand enter/1/0=full take/2/9/34=hand enter/2/9=full expire/1/0=#6 guarded_lost=0 expire/1/0=82 take/1/7/34=hand expire/1/7=#8 guarded_lost=1 expire/2/9=#7 guarded_lost=1 in_hands=1 in_queues=4 taken=8 lost_in=3 grab/0=3 enter/0/2=in in_hands=0 in_queues=2
+| take/0/0/34=hand take/0/1/34=hand take/0/2/34=hand gate/0/0=clear enter/0/0=in gate/0/0=clear enter/0/1=in gate/0/0=delay gate/1/0=clear gate/2/0=clear enter/0/2=delay expire/0/2=87 take/1/0/34=hand expire/1/0=87 enter/1/0=in gate/0/0=delay gate/1/0=clear gate/2/0=light take/2/0/34=hand expire/2/0=87 enter/2/0=in gate/0/0=delay gate/1/0=full gate/2/0=full enter/0/2=delay expire/0/2=87 take/1/0/35=hand enter/1/0=full take/2/9/34=hand enter/2/9=full expire/1/0=#6 guarded_lost=0 expire/1/0=82 take/1/7/34=hand expire/1/7=#8 guarded_lost=0 expire/2/9=#7 guarded_lost=0 in_hands=1 in_queues=4 taken=8 lost_in=3 grab/0=3 enter/0/2=in in_hands=0 in_queues=2
 // the third failure is the last, and the next occurrence and the next entry have none; without tries the first is
-1/13 1/15 | take/0/0/13=hand enter/0/0=in take/1/0/13=hand enter/1/0=in take/1/0/14=hand enter/1/0=in grab/0=3 failed/0=again failed/0=again failed/0=lost guarded_lost=0 job/0=run/1#1 failed/0=lost job/0=run/0#2 failed/0=again failed/0=again job/0=run/0#2 out/0=stays job/0=run/1#2 failed/0=lost guarded_lost=1 failed/0=again failed/0=again failed/0=lost job/0=run/1#3 grab/0=83 failed/0=lost job/0=none failed/0=84 settle/0=84 action/0=3/1/2/0 action/1=3/0/3/0 guarded_lost=1
+| take/0/0/13=hand enter/0/0=in take/1/0/13=hand enter/1/0=in take/1/0/14=hand enter/1/0=in grab/0=3 failed/0=again failed/0=again failed/0=lost guarded_lost=0 job/0=run/1#1 failed/0=lost job/0=run/0#2 failed/0=again failed/0=again job/0=run/0#2 out/0=stays job/0=run/1#2 failed/0=lost guarded_lost=0 failed/0=again failed/0=again failed/0=lost job/0=run/1#3 grab/0=83 failed/0=lost job/0=none failed/0=84 settle/0=84 action/0=3/1/2/0 action/1=3/0/3/0 guarded_lost=0
 // one failure doesn't count for the next entry
 | %[3]take/1/0/14=hand enter/1/0=in %[1]grab/0=3 %[3]failed/0=again failed/0=again settle/0=ok settle/0=ok %[1]action/0=3/3/0/0 action/1=3/3/0/0
 ";
@@ -638,10 +606,7 @@ const DISCARDS_CALLS: &str = "
 // one more severe is kept
 | take/0/0/33=hand %[3]take/0/@/34=hand %[1]enter/0/0=in %[3]enter/0/@=in %[1]grab/0=1 job/0=run/0#1 lost_out=0
 // an input's message is judged at the length that it meets
-0/34 70/35 | %[2]take/0/0/33=hand enter/0/0=in %[1]take/0/0/34=hand take/0/1/33=hand enter/0/1=in take/0/1/34=lost enter/0/1=82 take/0/1/35=lost take/0/1/33=hand take/0/1/34=81 enter/0/0=in enter/0/1=full expire/0/1=#7 taken=7 lost_in=3 guarded_lost=1 in_hands=0 in_queues=4
-// a guarded loss of a worker
-0/34 | %[4]take/0/@/34=hand %[4]enter/0/@=in %[1]grab/0=1#1 guarded_lost=1
-1/34 0/33 0/35 | %[4]take/0/@/34=hand %[4]enter/0/@=in %[1]grab/0=1#1 guarded_lost=0
+| %[2]take/0/0/33=hand enter/0/0=in %[1]take/0/0/34=hand take/0/1/33=hand enter/0/1=in take/0/1/34=lost enter/0/1=82 take/0/1/35=lost take/0/1/33=hand take/0/1/34=81 enter/0/0=in enter/0/1=full expire/0/1=#7 taken=7 lost_in=3 guarded_lost=0 in_hands=0 in_queues=4
 // where nothing is due an entry is finished by the worker, and lost before it where it is discarded
 | take/0/0/22=hand enter/0/0=in in_queues=1 grab/0=1 job/0=none settle/0=84 in_queues=0 grab/0=0 grabbed=1 lost_out=0 action/0=0/0/0/0
 | %[4]take/0/@/22=hand %[4]enter/0/@=in %[1]grab/0=1#1 grab/0=1 grab/0=1 grab/0=1 grab/0=0 grabbed=4 lost_out=1 action/0=0/0/0/0
@@ -657,10 +622,10 @@ const POSTS_CALLS: &str = "
 // one that is held, and is put once there is room
 | %[3]take/0/0/9=hand enter/0/0=in %[1]grab/0=3 %[2]job/0=post/1#@ post/0=put settle/0=ok %[1]job/0=post/1#3 post/0=full job/0=post/1#3 post/0=full grab/1=1 lost_full/0=87 post/0=put in_queues=2 job/0=run/1#3 posted=3 lost_post=0
 // lost for a full queue, and for memory whether it is full or not
-0/9 | %[4]take/0/0/9=hand enter/0/0=in %[1]grab/0=4 lost_memory/0=ok job/0=run/1#1 settle/0=ok %[2]post/0=put settle/0=ok %[1]post/0=full lost_full/0=ok settle/0=ok posted=2 lost_post=2 posts_due=4 posts_left=0 guarded_lost=2
+| %[4]take/0/0/9=hand enter/0/0=in %[1]grab/0=4 lost_memory/0=ok job/0=run/1#1 settle/0=ok %[2]post/0=put settle/0=ok %[1]post/0=full lost_full/0=ok settle/0=ok posted=2 lost_post=2 posts_due=4 posts_left=0 guarded_lost=0
 | %[3]take/0/0/9=hand enter/0/0=in %[1]grab/0=3 %[2]post/0=put settle/0=ok %[1]post/0=full lost_memory/0=ok out/0=#3 posted=2 lost_post=1 guarded_lost=0
 // discarded where one waits already, also where there is no room
-0/10 | take/0/0/10=hand enter/0/0=in take/0/0/11=hand enter/0/0=in take/0/0/9=hand enter/0/0=in take/0/0/10=hand enter/0/0=in grab/0=4 post/0=put settle/0=ok post/0=lost job/0=run/1#2 settle/0=ok guarded_lost=0 post/0=put settle/0=ok in_queues=2 post/0=lost guarded_lost=1 job/0=run/1#4 posted=2 lost_post=2 posts_left=0
+| take/0/0/10=hand enter/0/0=in take/0/0/11=hand enter/0/0=in take/0/0/9=hand enter/0/0=in take/0/0/10=hand enter/0/0=in grab/0=4 post/0=put settle/0=ok post/0=lost job/0=run/1#2 settle/0=ok guarded_lost=0 post/0=put settle/0=ok in_queues=2 post/0=lost guarded_lost=0 job/0=run/1#4 posted=2 lost_post=2 posts_left=0
 ";
 
 // Queues: 0 the main one, 1 edge, 2 copy's, 3 store, 4 that of the action in it, 5 up, 6 that of the action in it, 7 alarm's.
@@ -672,14 +637,14 @@ const EIGHT: &str =
 
 // One run. Its totals at the end were worked out step by step; with each step here stand those that it leaves.
 const EIGHT_CALLS: &str = "
-0/15 1/22 2/14 | \
+| \
 %[16]take/0/0/14=hand enter/0/0=in %[8]take/0/0/11=hand enter/0/0=in %[3]take/0/0/15=lost %[6]take/2/0/22=hand enter/2/0=in %[1]take/0/1/14=hand enter/0/1=delay expire/0/1=87 %[10]take/2/0/14=hand enter/2/0=in %[1]take/2/0/14=hand enter/2/0=full expire/2/0=#45 \
-taken=45 lost_in=4 guarded_lost=4 in_hands=1 in_queues=40 \
+taken=45 lost_in=4 guarded_lost=0 in_hands=1 in_queues=40 \
 grab/0=8 grab/1=8 grab/0=83 enter/0/1=in posts_due=16 in_queues=25 %[8]job/0=post/3#@ post/0=put job/0=run/6#@ settle/0=ok %[1]job/1=post/3#9 post/1=put settle/1=ok post/1=put job/1=run/6#10 failed/1=lost post/1=full lost_full/1=ok settle/1=ok post/1=full lost_memory/1=ok settle/1=ok \
 posted=10 lost_post=2 action/6=16/11/1/4 \
 grab/4=3 grab/5=3 %[4]post/1=put settle/1=ok %[1]job/1=none grab/1=8 posted=14 grabbed=30 posts_due=44 \
 grab/0=8 action/1=2/0/0/2 job/0=run/1#35 failed/0=again failed/0=again failed/0=lost job/0=run/1#36 failed/0=again out/0=#36 grab/0=8 %[8]settle/0=ok %[1]grab/0=1 job/0=post/3#34 \
-grabbed=47 guarded_lost=5 action/1=10/9/1/0 action/6=25/15/1/9 \
+grabbed=47 guarded_lost=0 action/1=10/9/1/0 action/6=25/15/1/9 \
 %[2]post/1=put post/1=put settle/1=ok %[1]post/1=full lost_full/1=ok post/1=put settle/1=ok post/1=full lost_memory/1=ok job/1=post/8#20 post/1=full lost_full/1=ok settle/1=ok grab/9=3 grab/10=0 grab/11=0 settle/9=ok failed/9=lost out/9=#19 \
 posted=19 lost_post=5 grabbed=50 action/5=3/2/1/0 action/6=25/19/1/5 \
 %[3]post/4=put post/4=put settle/4=ok %[3]post/5=put post/5=put failed/5=again settle/5=ok %[1]grab/4=3 post/4=put post/4=full grab/6=6 post/4=put settle/4=ok post/4=full grab/7=1 post/4=put post/4=put job/4=run/3#8 %[5]settle/6=ok %[1]failed/6=lost \
@@ -687,10 +652,10 @@ posted=35 grabbed=60 action/2=6/5/1/0 action/3=9/7/0/2 \
 post/7=put grab/7=1 post/7=put grab/7=1 post/7=put grab/7=1 job/7=post/7#4 post/7=lost grab/8=3 settle/8=ok failed/8=lost grab/7=1 \
 posted=38 lost_post=6 grabbed=67 posts_due=56 action/4=3/1/1/1 \
 %[12]take/1/0/14=hand enter/1/0=in %[1]take/1/0/14=hand enter/1/0=full take/1/1/22=hand expire/1/0=#58 expire/1/1=#59 grab/2=4 take/1/3/22=hand enter/1/3=in take/1/4/11=hand enter/1/4=in job/2=run/1#46 failed/2=again settle/2=ok job/2=post/3#46 post/2=put job/2=post/5#46 post/2=put settle/2=ok post/2=put post/2=put settle/2=ok post/2=put post/2=put settle/2=ok post/2=full lost_full/2=ok post/2=put job/2=none \
-posted=45 lost_post=7 guarded_lost=6 \
+posted=45 lost_post=7 guarded_lost=0 \
 grab/2=4 %[4]failed/2=again failed/2=again failed/2=lost lost_memory/2=ok lost_memory/2=ok %[1]grab/2=4 action/1=22/13/5/4 lost_post=15 \
 grab/3=2 settle/3=ok failed/3=lost grab/3=2 out/3=#48 take/0/5/15=hand take/1/63/14=hand take/2/7/22=hand enter/0/5=in %[20]take/2/0/14=hand enter/2/0=in %[1]post/0=full lost_full/0=ok settle/0=ok grab/0=8#62 job/0=run/1#65 \
-taken=84 lost_in=6 posted=45 lost_post=16 grabbed=91 lost_out=1 in_hands=2 in_queues=30 posts_due=80 posts_left=19 guarded_lost=7 action/0=4/2/1/1 action/1=29/13/5/11 action/2=6/5/1/0 action/3=9/7/0/2 action/4=3/1/1/1 action/5=3/2/1/0 action/6=25/20/1/4
+taken=84 lost_in=6 posted=45 lost_post=16 grabbed=91 lost_out=1 in_hands=2 in_queues=30 posts_due=80 posts_left=19 guarded_lost=0 action/0=4/2/1/1 action/1=29/13/5/11 action/2=6/5/1/0 action/3=9/7/0/2 action/4=3/1/1/1 action/5=3/2/1/0 action/6=25/20/1/4
 ";
 
 static RUNS: [(&str, &str); 6] = [
@@ -709,13 +674,13 @@ fn calls_of_boards_with_their_answers(rt: HostRuntime) -> Result<(), Fail> {
 }
 
 const REFUSED_CALLS: &str = "
-0/10 | take/0/0/10=hand enter/0/0=in take/0/0/11=hand enter/0/0=in take/0/0/9=hand enter/0/0=in take/0/0/10=hand enter/0/0=in in_queues=4 grab/0=4 post/0=put settle/0=ok post/0=lost settle/0=ok post/0=put settle/0=ok post/0=lost settle/0=ok grab/1=1#1 grab/1=1 settle/1=ok taken=4 posted=2 lost_post=2 grabbed=6 lost_out=1 guarded_lost=2 action/0=1/1/0/0 action/1=4/4/0/0
+| take/0/0/10=hand enter/0/0=in take/0/0/11=hand enter/0/0=in take/0/0/9=hand enter/0/0=in take/0/0/10=hand enter/0/0=in in_queues=4 grab/0=4 post/0=put settle/0=ok post/0=lost settle/0=ok post/0=put settle/0=ok post/0=lost settle/0=ok grab/1=1#1 grab/1=1 settle/1=ok taken=4 posted=2 lost_post=2 grabbed=6 lost_out=1 guarded_lost=0 action/0=1/1/0/0 action/1=4/4/0/0
 ";
 
 static REFUSED: [(&str, &str); 2] = [
     (
         DISCARDS,
-        "0/34 | %[4]take/0/@/34=hand %[4]enter/0/@=in %[1]grab/0=1#1 grab/0=1 settle/0=ok taken=4 grabbed=2 lost_out=1 guarded_lost=1",
+        "| %[4]take/0/@/34=hand %[4]enter/0/@=in %[1]grab/0=1#1 grab/0=1 settle/0=ok taken=4 grabbed=2 lost_out=1 guarded_lost=0",
     ),
     (POSTS, REFUSED_CALLS),
 ];

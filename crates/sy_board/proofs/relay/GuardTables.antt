@@ -7,7 +7,7 @@ use Rattle.sy_wire.specs.declared.class.Class.{Class}
 use Rattle.sy_board.specs.relay.Totals.{Pairs, guards}
 use Rattle.sy_board.specs.internal.Guarding.{IsTable, marked, place}
 
-abbrev is_pair : ℕ → Class → ℕ × Class → Bool
+abbrev pub is_pair : ℕ → Class → ℕ × Class → Bool
 is_pair input class pair = pair.0 == input && (pair.1.facility == class.facility && pair.1.severity == class.severity)
 
 -- a place is one pair's alone

@@ -1,5 +1,6 @@
 -- A board before the first message.
-use Rattle.std.proofs.Common.{◌≡◌, ℕ, ◌*◌, ◌≤◌, List, [], ◌∷◌, length, refl, sym, ap, ◌∙◌, arith, All, get_or, map, option_to_list, replicate, None, Option}
+use Rattle.std.proofs.Common.{◌≡◌, ℕ, ◌*◌, ◌≤◌, List, [], ◌∷◌, length, refl, sym, ap, ◌∙◌, arith, All, get_or, map, option_to_list, replicate, None, Option, Some}
+use Rattle.std.specs.Prelude.{IfSome}
 use Rattle.sy_chain.specs.Entries.{Entry}
 use Rattle.sy_marks.specs.Marks.{QueueState}
 use Rattle.sy_rules.specs.declared.parameters.settings.QueueParameters.{QueueParameters}
@@ -7,12 +8,14 @@ use Rattle.sy_rules.specs.PlanValue.{Plan}
 use Rattle.sy_rules.specs.Whole.{IsWhole}
 use Rattle.sy_board.specs.internal.Counting as counting
 use Rattle.sy_board.specs.internal.Kept.{IsOrderly, LARGEST_BATCH, empty_queue}
-use Rattle.sy_board.specs.relay.Boards.{account_of, opened}
+use Rattle.sy_board.specs.relay.Boards.{account_of, opened, pairs}
 use Rattle.sy_board.specs.relay.Cells.{opening}
+use Rattle.sy_board.specs.relay.Guards.{MayGuard}
 use Rattle.sy_board.specs.relay.Patience.{IsPatient}
 use Rattle.sy_board.specs.relay.Plans.{marks_of}
 use Rattle.sy_board.specs.relay.Totals.{Pairs, total}
 use Rattle.sy_board.proofs.relay.AccountLaws.{opens}
+use Rattle.sy_board.proofs.relay.Guards.{guarding_start, unasked}
 
 read : {A : Type 0} (n k : ℕ) (x : A) → get_or (replicate n x) k x ≡ x
 read ℕ.zero k x = refl
@@ -52,12 +55,20 @@ opening_patient plan = record {
   runs = λ w a r job again. (let e = sym (read (length plan.workers) w []) ∙ job.held in absurd (cc));
 }
 
-pub opened_orderly : (plan : Plan) (guard : Option Pairs) → IsWhole plan → IsOrderly (opened plan guard) (account_of (opened plan guard))
-opened_orderly plan guard whole = record {
+-- without a guard nothing is asked
+may_open : (plan : Plan) (guard : Option Pairs) → IfSome guard (MayGuard plan) → MayGuard plan (pairs (opened plan guard))
+may_open plan None asked = unasked plan
+may_open plan (Some pairs) asked = asked
+
+pub opened_orderly : (plan : Plan) (guard : Option Pairs) → IsWhole plan → IfSome guard (MayGuard plan) → IsOrderly (opened plan guard) (account_of (opened plan guard))
+opened_orderly plan guard whole asked = record {
   whole = whole;
   shaped = (opens plan).0;
   laws = (opens plan).1;
   counted = refl;
   batches = short (length plan.workers);
   patient = opening_patient plan;
+  may = may_open plan guard asked;
+  guarding = guarding_start plan (pairs (opened plan guard));
+  unlost = refl;
 }

@@ -3,8 +3,9 @@ ghost use Rattle.std.specs.Prelude.{◌≡◌, ◌+◌, ◌*◌, ◌<◌, ◌≤
 ghost use Rattle.std.specs.Arc.{arc_value};
 ghost use Rattle.sy_marks.specs.Marks.{HoldIs, discards};
 ghost use Rattle.sy_board.specs.internal.Kept.{empty_queue};
-ghost use Rattle.sy_board.specs.relay.Boards.{account_of, opened};
+ghost use Rattle.sy_board.specs.relay.Boards.{account_of, opened, pairs};
 ghost use Rattle.sy_board.specs.relay.Cells.{IsShaped, failures_at, waiting};
+ghost use Rattle.sy_board.specs.relay.Guards.{IsWithinGuard, MayGuard};
 ghost use Rattle.sy_board.specs.relay.Patience.{IsPatient};
 ghost use Rattle.sy_board.specs.relay.Plans.{flow_at, marks_at, queue_of_input};
 ghost use Rattle.sy_board.specs.relay.Totals.{Laws};
@@ -131,8 +132,9 @@ fn is_guarded(guard: &Option<Guard>, node: &Node) -> bool
 
 impl Board {
     /// The board of a relay with this plan. It holds no message yet. Losses of entries whose input and class the guard has are
-    /// counted apart.
+    /// counted apart. With a guard the plan meets its condition, so that there are none.
     pub fn new(alloc: Global, plan: Arc<Plan>, guard: Option<Guard>) -> Result<Board, AllocError>
+        requires { IfSome guard (λ pairs. MayGuard (arc_value plan) pairs) }
         ensures { IfOk result (λ board. board ≡ opened (arc_value plan) guard) }
     {
         plans_are_whole(&plan);
@@ -166,12 +168,15 @@ impl Board {
     }
 
     /// The totals. The laws of accounts hold for them and what the board holds, which has the places of its plan; and no job has failed more often
-    /// than it may be tried again.
+    /// than it may be tried again. Nothing guarded was lost, and the queue of each guarded pair's input, where only full-delay inputs feed it, is
+    /// within its full-delay mark.
     pub fn accounts(&self) -> &Accounts
         ensures value { result.now ≡ account_of self.now }
         ensures laws { Laws self.now.plan self.now.state self.now.totals }
         ensures shaped { IsShaped self.now.plan self.now.state }
         ensures patient { IsPatient self.now.plan self.now.state }
+        ensures unlost { self.now.totals.guarded_lost ≡ 0 }
+        ensures within { IsWithinGuard self.now.plan (pairs self.now) self.now.state }
     {
         &self.accounts
     }

@@ -1,5 +1,5 @@
 //! The pairs of input and class whose losses are counted apart.
-ghost use Rattle.std.specs.Prelude.{◌≡◌, ◌+◌, ◌*◌, ◌<◌, false, length, replicate, IfOk};
+ghost use Rattle.std.specs.Prelude.{◌≡◌, ◌+◌, ◌*◌, ◌<◌, ◌↔◌, false, length, replicate, Decides, IfOk, IsTrue};
 ghost use Rattle.sy_board.specs.internal.Guarding.{IsTable, marked};
 ghost use Rattle.sy_board.specs.relay.Totals.{guards};
 
@@ -70,6 +70,28 @@ fn table_of(alloc: Global, pairs: &[(u32, Class)]) -> Result<Vec<bool>, AllocErr
     Ok(table)
 }
 
+// Whether two pairs are one.
+fn is_same(one: (u32, Class), other: (u32, Class)) -> bool
+    ensures { Decides result (one ≡ other) }
+{
+    one.0 == other.0 && one.1 == other.1
+}
+
+// Whether these are the same pairs, in the same order.
+fn same_pairs(one: &[(u32, Class)], other: &[(u32, Class)]) -> bool
+    ensures { Decides result (one.now ≡ other.now) }
+{
+    if one.len() != other.len() {
+        return false;
+    }
+    for place in 0..one.len() {
+        if !is_same(one[place], other[place]) {
+            return false;
+        }
+    }
+    true
+}
+
 impl Guard {
     /// The guard of these pairs. It prevents no loss: a board counts theirs apart.
     pub fn new(alloc: Global, pairs: &[(u32, Class)]) -> Result<Guard, AllocError>
@@ -93,6 +115,13 @@ impl Guard {
         ensures { IfOk result (λ copy. copy ≡ self.now) }
     {
         Guard::new(alloc, self.pairs.as_slice())
+    }
+
+    /// Whether another guard has exactly the same pairs, as they were given to both.
+    pub fn same(&self, other: &Guard) -> bool
+        ensures { IsTrue result ↔ (self.now ≡ other.now) }
+    {
+        same_pairs(self.pairs.as_slice(), other.pairs.as_slice())
     }
 
     /// Whether an input and a class are among the pairs. For inputs of a relay this takes one look.

@@ -1,37 +1,36 @@
 -- A copy of a class that came in at an entry: where it is, that it is never lost, and that the ranks fall along its trail.
-use Rattle.std.proofs.Common.{◌≡◌, ℕ, ◌+◌, ◌*◌, ◌<◌, ◌≤◌, ◌==◌, Bool, true, false, List, [], ◌∷◌, ◌++◌, length, refl, sym, subst, ap, arith, inl, inr, Some, ◌∙◌, get_or}
-use Rattle.std.specs.Prelude.{◌≢◌, slice_get}
+use Rattle.std.proofs.Common.{◌≡◌, ℕ, ◌+◌, ◌*◌, ◌<◌, ◌≤◌, true, List, [], ◌∷◌, ◌++◌, length, sym, subst, ap, arith, Some, ◌∙◌, get_or}
+use Rattle.std.specs.Prelude.{slice_get}
 use Rattle.std.specs.Int.{bit_at}
 use Rattle.std.specs.List.{Contains}
-use Rattle.std.proofs.lemmas.Bool.Decides.{nat_tests}
-use Rattle.std.proofs.lemmas.Bool.{eqb-true, eqb-false}
 use Rattle.std.proofs.lemmas.List.Quantifiers.{all_pairs_push}
 use Rattle.sy_wire.specs.declared.class.Class.{Class}
 use Rattle.sy_chain.specs.Entries.{Entry}
-use Rattle.sy_marks.specs.declared.marks.Flow.{Flow}
 use Rattle.sy_marks.specs.declared.marks.Flow.TheVariants as flow
-use Rattle.sy_marks.specs.declared.marks.Marks.{Marks}
 use Rattle.sy_marks.specs.Marks.{discards}
 use Rattle.sy_rules.specs.declared.lists.occurrence.Occurrence.{Occurrence}
 use Rattle.sy_rules.specs.declared.lists.occurrence.Occurrence.TheVariants as occurrence
-use Rattle.sy_rules.specs.lists.Sets.{IsLowest}
 use Rattle.sy_rules.specs.lists.Work.{Due, May}
-use Rattle.sy_rules.specs.PlanValue.{Plan}
 use Rattle.sy_rules.specs.Whole.{AreDifferent, body_at}
 use Rattle.sy_rules.proofs.lemmas.lists.WorkLaws.{work_may}
 use Rattle.sy_board.specs.relay.Cells.{Cell, hand, waiting}
+use Rattle.sy_board.specs.relay.Feeders.{OnlyFullDelay}
+use Rattle.sy_board.specs.relay.Kinds as kinds
 use Rattle.sy_board.specs.relay.Plans.{flow_at, input_at, marks_at, occurrences_at, queue_of_input}
 use Rattle.sy_board.specs.relay.Steps.{Cause, IsHand, IsOfInput}
 use Rattle.sy_site.specs.Sites.{Site, SiteInput, SiteAction, plan_at, target}
 use Rattle.sy_site.specs.machine.States.{Copy, SiteState, opening, taken_by}
 use Rattle.sy_site.specs.machine.Steps.{Runs, SiteEvent}
-use Rattle.sy_site.specs.machine.Lengths.{Feeder, OnlyFullDelay}
 use Rattle.sy_site.specs.machine.Reach.{Forwards, MayAt, Reach, entry, occurrence_of, onward}
-use Rattle.sy_site.specs.machine.Findings.{IsFedFreely, Kind, queue_of}
+use Rattle.sy_site.specs.machine.Findings.{HoldsInPlan, Kind, queue_of}
 use Rattle.sy_site.specs.machine.Confinement.{AreConfined, Falls, IsFollowed, IsWithinReach, RanksFall}
 use Rattle.sy_site.specs.machine.Soundness.{IsSoundFor}
-use Rattle.sy_site.proofs.machine.Keeps.{Each, Kept, Owes, each_append, each_weaker}
-use Rattle.sy_site.proofs.machine.Marks.{AllMarks, InMarks, marks_start, not_delayed, site_marks}
+use Rattle.sy_board.proofs.relay.Keeps.{Each, Kept, Owes, each_append, each_weaker}
+use Rattle.sy_board.proofs.relay.Guards as guards
+use Rattle.sy_board.proofs.relay.Guards.{left_in, same_input}
+use Rattle.sy_board.proofs.relay.Marks.{InMarks, marks_start, not_delayed}
+use Rattle.sy_site.proofs.machine.Guards.{clean_in_plan}
+use Rattle.sy_site.proofs.machine.Marks.{AllMarks, site_marks}
 use Rattle.sy_site.proofs.machine.Spread.{Grows, Moves, Of, OutOf, Spread, run_keeps, start_keeps}
 use Rattle.sy_site.proofs.machine.Naming.{each_in}
 
@@ -47,23 +46,6 @@ falls_push rank r xs a n = all_pairs_push (λ x y. rank y < rank x) xs r n (λ k
 -- so no relay stands there twice
 pub falls_apart : (rank : ℕ → ℕ) (xs : List ℕ) → Falls rank xs → AreDifferent xs
 falls_apart rank xs f i j d l m e = let below = f i j d l m in let same = ap rank e in omega (arith, below, same)
-
-pub discards_says : (marks : Marks) (severity n : ℕ) → discards marks severity n ≡ true
-    → ((1 ≤ marks.discard_mark) × (marks.discard_mark ≤ n)) × (marks.discard_severity ≤ severity)
-discards_says marks severity n t = grind (arith, nat_tests)
-
--- what is left is a part
-left_in : (due number left k : ℕ) → IsLowest due number left → bit_at left k ≡ 1 → bit_at due k ≡ 1
-left_in due number left k l b = go (k == number) refl
-  where
-    go : (t : Bool) → (k == number) ≡ t → bit_at due k ≡ 1
-    go true e = (let s : bit_at left k ≡ 0 = subst (λ z. bit_at left z ≡ 0) (sym (eqb-true k number e)) l.gone in absurd (omega (arith, s, b)))
-    go false e = sym (l.others k (eqb-false k number e)) ∙ b
-
-full_of : (f : Flow) → (f ≢ flow.Full → ⊥) → f ≡ flow.Full
-full_of flow.Full n = refl
-full_of flow.Light n = absurd (n (λ e. cc))
-full_of flow.NoWait n = absurd (n (λ e. cc))
 
 -- ---- copies of a class that came in at an entry
 
@@ -114,29 +96,20 @@ module _ (site : Site) (class : Class) (sound : IsSoundFor site class) where
 
   -- ---- what no finding says of an input
 
+  clean : (i : SiteInput) → Reach site class i → (kind : kinds.Kind) → HoldsInPlan site class i kind → ⊥
+  clean = clean_in_plan site class sound
+
   is_full : (i : SiteInput) → Reach site class i → flow_at (plan_at site i.relay) i.input ≡ flow.Full
-  is_full i reach = full_of (flow_at (plan_at site i.relay) i.input) (sound.clean i reach Kind.NotFull)
+  is_full i reach = guards.is_full (plan_at site i.relay) class i.input (clean i reach)
 
   has_mark : (i : SiteInput) → Reach site class i → 1 ≤ (queue_of site i).full_delay_mark
-  has_mark i reach = let off = sound.clean i reach Kind.MarkOff in omega (arith, off)
-
-  only_full : (i : SiteInput) → (IsFedFreely site i.relay (queue_of_input (plan_at site i.relay) i.input) → ⊥)
-      → OnlyFullDelay (plan_at site i.relay) (queue_of_input (plan_at site i.relay) i.input)
-  only_full i none (Feeder.Input number) feeds =
-      full_of (flow_at (plan_at site i.relay) number) (λ free. none (record { feeder = Feeder.Input number; feeds = feeds; is_free = free }))
-  only_full i none (Feeder.Post list number) feeds = none (record { feeder = Feeder.Post list number; feeds = feeds; is_free = λ h. h })
+  has_mark i reach = guards.has_mark (plan_at site i.relay) class i.input (clean i reach)
 
   -- its queue never discards a message of the class, where it is within its mark
   never_discards : (i : SiteInput) → Reach site class i → (n : ℕ)
       → (OnlyFullDelay (plan_at site i.relay) (queue_of_input (plan_at site i.relay) i.input) → n ≤ (queue_of site i).full_delay_mark)
       → discards (marks_at (plan_at site i.relay) (queue_of_input (plan_at site i.relay) i.input)) class.severity n ≡ true → ⊥
-  never_discards i reach n within t =
-      let plan = plan_at site i.relay in
-      let all = discards_says (marks_at plan (queue_of_input plan i.input)) class.severity n t in
-      let clean = sound.clean i reach Kind.Discards in
-      let w = within (only_full i (λ free. clean (record { severe = all.1; on = all.0.0; reached = inl free }))) in
-      let below : (queue_of site i).discard_mark ≤ (queue_of site i).full_delay_mark = (let a = all.0.1 in omega (arith, a, w)) in
-      clean (record { severe = all.1; on = all.0.0; reached = inr below })
+  never_discards i reach = guards.never_discards (plan_at site i.relay) class i.input (clean i reach)
 
   -- what is owed may be executed
   owes_may : (r : ℕ) (x : Copy) (p : Cell) (e : Entry) (o : Occurrence) → IsOurs site class x → GoodEntry r x p e → (w : Owes (plan_at site r) e o)
@@ -166,10 +139,6 @@ module _ (site : Site) (class : Class) (sound : IsSoundFor site class) where
     belongs = (h, there.1, ap (λ j. 64 * j + h) (sym made.input_is));
     tracked = t;
   }
-
-  -- the input of a hand
-  same_input : (plan : Plan) (i h j g : ℕ) → IsHand plan i h → g < 64 → 64 * i + h ≡ 64 * j + g → j ≡ i
-  same_input plan i h j g there l b = let m : h < 64 = there.1 in omega (arith, m, l, b)
 
   good_kept : (r : ℕ) (x : Copy) → Kept (plan_at site r) (P r x) (OutOf D L r x) (InMarks (plan_at site r))
   good_kept r x = record {

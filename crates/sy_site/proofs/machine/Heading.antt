@@ -21,7 +21,7 @@ use Rattle.sy_site.specs.machine.Steps.{RelaySteps, SiteEvent, SiteStep, TakesCo
 use Rattle.sy_site.specs.machine.Reach.{list_of}
 use Rattle.sy_site.specs.machine.Lawful.{IsLawful}
 use Rattle.sy_site.specs.machine.Safety.{HasLeft, Heads, Left, forwards, posts, writes}
-use Rattle.sy_site.proofs.machine.Keeps.{Each, Owes, each_left, each_right}
+use Rattle.sy_board.proofs.relay.Keeps.{Each, Owes, each_left, each_right}
 use Rattle.sy_site.proofs.machine.Lawful.{whole_at}
 use Rattle.sy_site.proofs.machine.Marks.{relay_elim}
 use Rattle.sy_site.proofs.machine.Naming.{AllShaped}

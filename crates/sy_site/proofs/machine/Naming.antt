@@ -11,7 +11,7 @@ use Rattle.sy_site.specs.Sites.{Site, SiteInput, SiteAction, plan_at}
 use Rattle.sy_site.specs.machine.States.{Arrival, Copy, SiteState, copy_of_new, opening, put_outs, taken_by, with_passed, with_relay}
 use Rattle.sy_site.specs.machine.Steps.{RelaySteps, Runs, SiteEvent, SiteStep, SiteSteps, TakesCopy}
 use Rattle.sy_site.specs.machine.Naming.{AreShaped, NumbersName, TagsName}
-use Rattle.sy_site.proofs.machine.Keeps.{Each, Kept}
+use Rattle.sy_board.proofs.relay.Keeps.{Each, Kept}
 use Rattle.sy_site.proofs.machine.Marks.{put_outs_relays, relay_elim}
 use Rattle.sy_site.proofs.machine.Spread.{Grows, Moves, OutOf, get_last, get_more, run_keeps, start_keeps}
 

@@ -5,7 +5,7 @@ use Rattle.sy_site.specs.Sites.{Site, SiteInput}
 use Rattle.sy_site.specs.machine.Findings.{HoldsAt, IsChain, IsFinding, IsFound, IsWay, IsWayFrom, Kind, WayRow}
 use Rattle.sy_site.specs.machine.Reach.{Reach, entry, onward}
 use Rattle.sy_site.specs.machine.Soundness.{IsSound, IsSoundFor}
-use Rattle.sy_site.proofs.machine.Keeps.{Each}
+use Rattle.sy_board.proofs.relay.Keeps.{Each}
 use Rattle.sy_site.proofs.machine.Naming.{each_in}
 
 pub way_reaches : (site : Site) (class : Class) (from : SiteInput) (way : List WayRow) (end : SiteInput) → Reach site class from

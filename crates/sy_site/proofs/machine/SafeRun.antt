@@ -1,6 +1,6 @@
 -- Each run of a sound site ends in a safe state.
 use Rattle.std.proofs.Common.{◌≡◌, ℕ, true, List, [], ◌∷◌, ◌++◌, refl, sym, subst, ap, arith, inl, inr, Some}
-use Rattle.std.specs.Prelude.{◌⊎◌, slice_get}
+use Rattle.std.specs.Prelude.{slice_get}
 use Rattle.std.specs.List.{Contains}
 use Rattle.sy_wire.specs.Messages.{Said}
 use Rattle.sy_rules.proofs.lemmas.lists.WorkLaws.{must_work}
@@ -18,7 +18,7 @@ use Rattle.sy_site.specs.machine.Safety as safety
 use Rattle.sy_site.specs.machine.Soundness.{IsSound}
 use Rattle.sy_site.proofs.machine.Guarded.{confined_run, falls_apart, falls_run}
 use Rattle.sy_site.proofs.machine.Heading.{IsCopied, Met, NoLoss, arrives_new, met_step}
-use Rattle.sy_site.proofs.machine.Keeps.{Each}
+use Rattle.sy_board.proofs.relay.Keeps.{Each}
 use Rattle.sy_site.proofs.machine.Lawful.{archives_lead_nowhere}
 use Rattle.sy_site.proofs.machine.Naming.{AllShaped, get_cases, named_run, relay_arrivals, shaped_start, shaped_step}
 use Rattle.sy_site.proofs.machine.Stays.{SomeOf}

@@ -15,7 +15,8 @@ use Rattle.sy_site.specs.Sites.{Site, plan_at}
 use Rattle.sy_site.specs.machine.States.{SiteState, opening, with_relay}
 use Rattle.sy_site.specs.machine.Steps.{RelaySteps, Runs, SiteEvent, SiteStep, SiteSteps}
 use Rattle.sy_site.specs.machine.Lengths.{IsWithinSizes}
-use Rattle.sy_site.proofs.machine.Marks.{empty_everywhere, put_outs_relays, relay_elim}
+use Rattle.sy_board.proofs.relay.Marks.{empty_everywhere}
+use Rattle.sy_site.proofs.machine.Marks.{put_outs_relays, relay_elim}
 
 has_room : (n size : ℕ) → (false ≡ true) ⊎ (n < size) → n < size
 has_room n size (inl e) = cc

@@ -11,8 +11,9 @@ use Rattle.sy_board.proofs.relay.Put.{if_elim}
 use Rattle.sy_site.specs.Sites.{Site, SiteInput, SiteAction, plan_at, same_action, target}
 use Rattle.sy_site.specs.machine.States.{Arrival, Copy, Loss, SiteState, copy_of_new, opening, put_outs, taken_by, with_passed, with_relay}
 use Rattle.sy_site.specs.machine.Steps.{IsTake, RelaySteps, SiteEvent, SiteStep, SiteSteps, TakesCopy}
-use Rattle.sy_site.proofs.machine.Keeps.{Comes, Each, Everywhere, Kept, each_append, each_left, each_right, each_weaker, step_keeps}
-use Rattle.sy_site.proofs.machine.Marks.{empty_everywhere, relay_elim}
+use Rattle.sy_board.proofs.relay.Keeps.{Comes, Each, Everywhere, Kept, each_append, each_left, each_right, each_weaker, step_keeps}
+use Rattle.sy_board.proofs.relay.Marks.{empty_everywhere}
+use Rattle.sy_site.proofs.machine.Marks.{relay_elim}
 
 pub get_more : {A : Type 0} (xs : List A) (n : ℕ) (a x : A) → slice_get xs n ≡ Some a → slice_get (xs ++ x ∷ []) n ≡ Some a
 get_more [] n a x e = absurd (cc)

@@ -15,7 +15,7 @@ use Rattle.sy_board.specs.relay.Plans.{marks_at, parameters_at, queue_of_input, 
 use Rattle.sy_board.specs.relay.Steps.{Cause, Event, IsPosted, Job, Out, Step, advanced, if_so, still}
 use Rattle.sy_board.proofs.relay.Put.{Has, at_put, put_elim, if_elim}
 use Rattle.sy_board.proofs.relay.There.{input_queue_there, list_queue_there, worker_there}
-use Rattle.sy_site.proofs.machine.Keeps.{Each, Owes, owed}
+use Rattle.sy_board.proofs.relay.Keeps.{Each, Owes, owed}
 
 abbrev pub SomeOf : {A : Type 0} → (A → Type 0) → List A → Type 0
 SomeOf P [] = ⊥

@@ -9,7 +9,7 @@ use Rattle.sy_site.specs.declared.fault.SiteFault.TheVariants as fault
 use Rattle.sy_site.specs.declared.site.lookup.Missing.{Missing}
 use Rattle.sy_site.specs.declared.site.lookup.Missing.TheVariants as missing
 use Rattle.sy_site.specs.declared.site.relay.Relay.{Relay as Kept}
-use Rattle.sy_site.specs.internal.SiteInside.{relay_of, site_with}
+use Rattle.sy_site.specs.internal.SiteInside.{relay_of}
 use Rattle.sy_site.specs.Sites.{Site, plan_at, relay_named}
 use Rattle.sy_site.specs.texts.Describes.{AllPaired, AreLines, File, IsRelay, file_named, relay_lines}
 use Rattle.sy_site.specs.texts.HasFault.{IsFileFault}

@@ -1,17 +1,15 @@
 -- What the checker may find in a site: nine kinds, by number, each a condition on plans alone (this profile's own).
-use Rattle.std.specs.Prelude.{◌≡◌, ◌≢◌, ℕ, ◌<◌, ◌≤◌, ◌⊎◌, true, List, [], ◌∷◌, Option, Some, None, map, slice_get}
+use Rattle.std.specs.Prelude.{◌≡◌, ℕ, true, List, [], ◌∷◌, Option, Some, None, map, slice_get}
 use Rattle.std.specs.List.{Contains}
 use Rattle.sy_wire.specs.declared.class.Class.{Class}
-use Rattle.sy_marks.specs.declared.marks.Flow.TheVariants as flow
-use Rattle.sy_rules.specs.declared.lists.occurrence.Occurrence.TheVariants as occurrence
 use Rattle.sy_rules.specs.declared.parameters.objects.Destination.{Destination}
 use Rattle.sy_rules.specs.declared.parameters.objects.Destination.TheVariants as destination
 use Rattle.sy_rules.specs.declared.parameters.settings.QueueParameters.{QueueParameters}
 use Rattle.sy_rules.specs.declared.parts.Action.{Action}
-use Rattle.sy_board.specs.relay.Plans.{flow_at, parameters_at, queue_of_input, retry_at}
+use Rattle.sy_board.specs.relay.Feeders as feeders
+use Rattle.sy_board.specs.relay.Kinds as kinds
 use Rattle.sy_site.specs.Sites.{Site, SiteInput, SiteAction, archives, is_protected, plan_at, target}
-use Rattle.sy_site.specs.machine.Lengths.{Feeder, Feeds, IsFullDelay}
-use Rattle.sy_site.specs.machine.Reach.{Forwards, LeadsTo, MayAt, Reach, action_of, occurrence_of}
+use Rattle.sy_site.specs.machine.Reach.{Forwards, LeadsTo, MayAt, Reach, action_of}
 
 pub data Kind : Type 0 where
   NotFull MarkOff MarkAboveSize Discards InnerQueue GivesUp NoTarget Loop : Kind
@@ -33,33 +31,19 @@ kind_number (Kind.Unmet archive) = 9
 
 -- the parameters of the input's queue
 abbrev pub queue_of : Site → SiteInput → QueueParameters
-queue_of site input = parameters_at (plan_at site input.relay) (queue_of_input (plan_at site input.relay) input.input)
+queue_of site input = kinds.queue_of (plan_at site input.relay) input.input
 
 -- some feeder of the queue, of any class, isn't a full-delay input
-pub record IsFedFreely (site : Site) (relay queue : ℕ) : Type 0 where
-  pub feeder : Feeder
-  pub feeds : Feeds (plan_at site relay) queue feeder
-  pub is_free : IsFullDelay (plan_at site relay) feeder → ⊥
+abbrev pub IsFedFreely : Site → ℕ → ℕ → Type 0
+IsFedFreely site relay queue = feeders.IsFedFreely (plan_at site relay) queue
 
--- A message of the class can be discarded: the queue discards its severity at some mark, and other feeders, or the input itself, fill it so far.
-pub record MayDiscard (site : Site) (class : Class) (input : SiteInput) : Type 0 where
-  pub severe : (queue_of site input).discard_severity ≤ class.severity
-  pub on : 0 < (queue_of site input).discard_mark
-  pub reached : IsFedFreely site input.relay (queue_of_input (plan_at site input.relay) input.input)
-      ⊎ ((queue_of site input).discard_mark ≤ (queue_of site input).full_delay_mark)
+-- the condition of a kind that is one of the relay's plan alone
+abbrev pub HoldsInPlan : Site → Class → SiteInput → kinds.Kind → Type 0
+HoldsInPlan site class input kind = kinds.HoldsAt (plan_at site input.relay) class input.input kind
 
--- it may be put into another queue of the relay
-pub record MayPost (site : Site) (class : Class) (input : SiteInput) : Type 0 where
-  pub number : ℕ
-  pub may : MayAt site class input number
-  pub list : ℕ
-  pub posts : occurrence_of site input number ≡ Some (occurrence.Post list)
-
--- an action that it may execute, with its number
-pub record MayRun (site : Site) (class : Class) (input : SiteInput) (action : ℕ) : Type 0 where
-  pub number : ℕ
-  pub may : MayAt site class input number
-  pub runs : occurrence_of site input number ≡ Some (occurrence.Run action)
+-- an action that a message of the class may execute, with its number
+abbrev pub MayRun : Site → Class → SiteInput → ℕ → Type 0
+MayRun site class input action = kinds.MayRun (plan_at site input.relay) class input.input action
 
 abbrev pub IsForward : Option Action → Type 0
 IsForward None = ⊥
@@ -68,15 +52,14 @@ IsForward (Some action) = sends action.destination where
   sends (destination.Archive file) = ⊥
   sends (destination.Forward name port) = Unit {0}
 
--- The kind's condition on an input, for a class; of kinds 8 and 9 see below.
+-- The kind's condition on an input, for a class: the first six are of its relay's plan alone. Of kinds 8 and 9 see below.
 abbrev pub HoldsAt : Site → Class → SiteInput → Kind → Type 0
-HoldsAt site class input Kind.NotFull = flow_at (plan_at site input.relay) input.input ≢ flow.Full
-HoldsAt site class input Kind.MarkOff = (queue_of site input).full_delay_mark ≡ 0
-HoldsAt site class input Kind.MarkAboveSize = (queue_of site input).size < (queue_of site input).full_delay_mark
-HoldsAt site class input Kind.Discards = MayDiscard site class input
-HoldsAt site class input Kind.InnerQueue = MayPost site class input
-HoldsAt site class input Kind.GivesUp =
-    (action : ℕ) × MayRun site class input action × (retry : ℕ) × (retry_at (plan_at site input.relay) action ≡ Some retry)
+HoldsAt site class input Kind.NotFull = HoldsInPlan site class input kinds.Kind.NotFull
+HoldsAt site class input Kind.MarkOff = HoldsInPlan site class input kinds.Kind.MarkOff
+HoldsAt site class input Kind.MarkAboveSize = HoldsInPlan site class input kinds.Kind.MarkAboveSize
+HoldsAt site class input Kind.Discards = HoldsInPlan site class input kinds.Kind.Discards
+HoldsAt site class input Kind.InnerQueue = HoldsInPlan site class input kinds.Kind.InnerQueue
+HoldsAt site class input Kind.GivesUp = HoldsInPlan site class input kinds.Kind.GivesUp
 HoldsAt site class input Kind.NoTarget =
     (action : ℕ) × MayRun site class input action × IsForward (slice_get (plan_at site input.relay).actions action)
     × (target site (action_of input action) ≡ None)

@@ -12,6 +12,9 @@ pub new-requires : goal.new-requires
 new-requires c = record {
   protected = c.in_ok-classes.ensures;
   pairs = subst (λ l. AreReached c.args.site.now l c.in_ok-pairs.pairs.items) c.as_slice.ensures.value c.in_ok-pairs.ensures.pairs;
+  sound = λ class protected.
+      c.in_ok-pairs.ensures.sound class
+      (subst (λ l. Contains l class) (sym c.as_slice.ensures.value) ((c.in_ok-classes.ensures.member class).1 protected));
 }
 
 pub returns-clause-sound : goal.returns-clause-sound

@@ -25,3 +25,9 @@ returns-in-Err-clause-only c =
 pub new-requires-clause-pairs : goal.new-requires-clause-pairs
 new-requires-clause-pairs c =
     subst (λ l. AreReached c.args.site.now l c.check_rows.new.pairs.items) c.as_slice.ensures.value c.in_default-check_rows.ensures.pairs
+
+pub new-requires-clause-sound : goal.new-requires-clause-sound
+new-requires-clause-sound c =
+    c.fit_is_sound.ensures c.args.site.now c.args.certificate.now.rows
+    (fit_by c.args.site.now c.in-Ok.classes.items c.as_slice.result.now c.rows.result.now c.args.certificate.now.rows c.in-Ok.ensures
+    c.as_slice.ensures.value c.rows.ensures c.in_default-check_rows.ensures.ok)

@@ -1,7 +1,6 @@
 -- What the type of a site keeps.
-use Rattle.std.proofs.Common.{◌≡◌, ℕ, ◌≤◌, ◌<◌, Bool, true, ◌==◌, ◌&&◌, List, [], ◌∷◌, length, map, get_or, Option, Some, None, refl, sym, ap, subst, ◌∙◌, arith}
-use Rattle.std.specs.Prelude.{All, Contains, option_and_then, option_map, slice_get}
-use Rattle.std.specs.Arc.{arc_value}
+use Rattle.std.proofs.Common.{◌≡◌, ℕ, ◌≤◌, Bool, true, ◌==◌, ◌&&◌, List, [], ◌∷◌, length, map, get_or, Option, Some, None, refl, ap, subst, ◌∙◌}
+use Rattle.std.specs.Prelude.{option_and_then, option_map, slice_get}
 use Rattle.std.specs.List.{position}
 use Rattle.std.specs.Str.{bytes_eq}
 use Rattle.std.proofs.lemmas.List.Quantifiers.{position-Some}
@@ -17,7 +16,7 @@ use Rattle.sy_site.specs.Sites.{Site, SiteAction, SiteInput, Protection, input_a
 use Rattle.sy_site.specs.machine.Lawful.{IsArchive, IsInput, IsLawful}
 use Rattle.sy_site.specs.texts.Files.{RELAYS}
 use Rattle.sy_site.specs.texts.Shapes.{EntryLine, ProtectLine, RelayLine}
-use Rattle.sy_site.specs.texts.Describes.{AllPaired, File, IsEntry, IsProtection, archive_at, archive_of, entry_of, is_archive}
+use Rattle.sy_site.specs.texts.Describes.{AllPaired, File, IsEntry, IsProtection, archive_at, is_archive}
 use Rattle.sy_site.specs.internal.Relays.{HasMore, IsWholeRelay}
 use Rattle.sy_site.specs.internal.SiteInside.{relay_of}
 use Rattle.sy_site.proofs.lemmas.sites.More.{all_paired, all_right, paired_as, paired_lengths, paired_map}

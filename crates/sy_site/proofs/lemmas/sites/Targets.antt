@@ -8,7 +8,7 @@ use Rattle.sy_rules.specs.declared.parameters.objects.Destination.TheVariants as
 use Rattle.sy_rules.specs.declared.parts.Action.{Action}
 use Rattle.sy_site.specs.declared.site.relay.Relay.{Relay as Kept}
 use Rattle.sy_site.specs.declared.site.targets.Targets.{Targets}
-use Rattle.sy_site.specs.Sites.{Protection, Relay, Site, SiteAction, SiteInput, plan_in, target, target_of}
+use Rattle.sy_site.specs.Sites.{Protection, Site, SiteInput, plan_in, target, target_of}
 use Rattle.sy_site.specs.internal.SiteInside.{in_action, in_relay, inputs_of, looked_up, relay_of, site_with, targets_in}
 
 -- one more of what is made of each

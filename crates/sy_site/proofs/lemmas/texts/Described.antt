@@ -1,7 +1,6 @@
 -- The lines of a text that were found, and its relay lines and protect lines among them.
-use Rattle.std.proofs.Common.{◌≡◌, ℕ, Bool, true, false, zero, suc, ◌<◌, List, [], ◌∷◌, length, map, get_or, eqb-true, ◌==◌, Option, Some, None, refl, sym, ap, subst, ◌∙◌, arith}
+use Rattle.std.proofs.Common.{◌≡◌, ℕ, true, false, suc, List, [], ◌∷◌, map, get_or, eqb-true, Some, None, refl, sym, ap, subst, ◌∙◌, arith}
 use Rattle.std.specs.Prelude.{All, codes, Contains, slice_get}
-use Rattle.std.specs.List.{position}
 use Rattle.std.specs.Str.{bytes_eq}
 use Rattle.std.proofs.lemmas.Bool.{false≢true}
 use Rattle.std.proofs.lemmas.List.Elements.{Contains-get_or}
@@ -11,7 +10,7 @@ use Rattle.std.proofs.lemmas.Slice.Eq.{bytes_eq-Decides}
 use Rattle.sy_site.specs.declared.site.relay.Relay.{Relay as Kept}
 use Rattle.sy_site.specs.Sites.{Relay, Site, plan_at, plan_in, relay_named}
 use Rattle.sy_site.specs.texts.Lines.{is_kind, is_skipped, word_lines}
-use Rattle.sy_site.specs.texts.Shapes.{Line, RelayLine, EntryLine, ProtectLine, IsLine, IsEntryLine, IsRelayLine, IsProtectLine}
+use Rattle.sy_site.specs.texts.Shapes.{Line, RelayLine, EntryLine, ProtectLine, IsLine, IsProtectLine}
 use Rattle.sy_site.specs.texts.Describes.{AllPaired, AreLines, File, IsProtection, IsRelay, entry_lines, protect_lines, relay_lines}
 use Rattle.sy_site.specs.texts.HasFault.{HasPlan, IsEmpty, Names}
 use Rattle.sy_site.specs.internal.Relays.{AreRelays, HasMore, IsWholeRelay}

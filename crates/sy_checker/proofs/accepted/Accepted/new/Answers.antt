@@ -1,4 +1,6 @@
-use Rattle.sy_checker.proofs.Guarded.{reached_guarded}
+use Rattle.std.proofs.Common.{◌≡◌, map}
+use Rattle.std.specs.Arc.{arc_value}
+use Rattle.sy_checker.proofs.Guarded.{guardable, reached_guarded}
 use Rattle.sy_checker.proofs.accepted.Accepted.new.Goals as goal
 
 pub returns : goal.returns
@@ -7,3 +9,12 @@ returns c = record {
   classes = c.requires.protected;
   pairs = reached_guarded c.args.site.now c.args.classes.items c.args.pairs.items c.requires.protected c.requires.pairs;
 }
+
+pub invariant_of-result : goal.invariant_of-result
+invariant_of-result c =
+    guardable c.args.site.now (record { plans = map arc_value c.in_ok-plans.plans.items; classes = c.args.classes.items; pairs = c.args.pairs.items })
+    (record {
+      plans = c.in_ok-plans.ensures;
+      classes = c.requires.protected;
+      pairs = reached_guarded c.args.site.now c.args.classes.items c.args.pairs.items c.requires.protected c.requires.pairs;
+    }) (c.sound_sites_have_guards.ensures c.args.site.now c.requires.sound)

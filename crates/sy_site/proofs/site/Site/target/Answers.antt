@@ -1,4 +1,4 @@
-use Rattle.std.proofs.Common.{◌≡◌, ◌∙◌, map, subst}
+use Rattle.std.proofs.Common.{◌≡◌, ◌∙◌, subst}
 use Rattle.sy_site.specs.internal.SiteInside.{looked_up}
 use Rattle.sy_site.specs.Sites.{target}
 use Rattle.sy_site.proofs.lemmas.sites.Targets.{by_table}

@@ -1,5 +1,4 @@
-use Rattle.std.proofs.Common.{◌≡◌, ◌+◌, ◌∙◌, Some, ap, map, subst, take}
-use Rattle.std.specs.Arc.{arc_value}
+use Rattle.std.proofs.Common.{◌≡◌, ◌∙◌, Some, ap, map, subst}
 use Rattle.std.proofs.lemmas.List.{take_all}
 use Rattle.sy_rules.specs.PlanValue.{Plan}
 use Rattle.sy_site.specs.internal.SiteInside.{inputs_of, relay_of, site_with, targets_in}

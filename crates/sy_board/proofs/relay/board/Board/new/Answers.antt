@@ -19,7 +19,7 @@ invariant_of-result c =
     record {
       marks = rw queues (empty_marks plan.queues);
       orderly = rw (c.in_ok-hands.ensures, c.inputs.ensures, c.deref-2.ensures, free_hands, queues, empty_entries, c.in_ok-workers.ensures.entries, c.in_ok-workers.ensures.failures, c.workers.ensures, c.deref-4.ensures)
-          (subst (λ (x : Account). IsOrderly (left_with (opened plan c.args.guard) (opening plan) x) x) (sym account) (opened_orderly plan c.args.guard whole));
+          (subst (λ (x : Account). IsOrderly (left_with (opened plan c.args.guard) (opening plan) x) x) (sym account) (opened_orderly plan c.args.guard whole c.requires));
     }
 
 pub returns : goal.returns

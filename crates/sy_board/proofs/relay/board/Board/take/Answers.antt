@@ -1,4 +1,4 @@
-use Rattle.std.proofs.Common.{[], refl, sym, ◌∙◌, false, subst}
+use Rattle.std.proofs.Common.{[], refl, sym, ◌∙◌, false, true, subst}
 use Rattle.sy_board.specs.internal.Kept.{board_inside}
 use Rattle.sy_board.specs.relay.Boards.{Fits}
 use Rattle.sy_board.specs.relay.Steps.{Event}
@@ -58,3 +58,19 @@ returns-clause-ok c = rw (← c.self.view_is) (
     let same = rw c.if-lost.false at (same_board (board_inside b) (Event.Take c.args.input c.args.hand c.args.node) (taken_state b c.args.input c.args.hand c.args.node c.is_discarded-lost.result)
     (taken_outs c.args.node c.is_discarded-lost.result) c.count_take.new.self (c.in-Ok.ensures.ok ∙ sym seen.counted)) in
     rw (hand_write, c.place-place.ensures) (takes, same))
+
+pub invariant_of-self-then-lost : goal.invariant_of-self-then-lost
+invariant_of-self-then-lost c =
+    let there = rw (← c.self.view_is) at c.requires.there in
+    let made = rw (← c.self.view_is) at c.requires.made in
+    let b = c.self.inside in
+    let queue = input_queue_seen b c.self.invariant c.args.input there.0 c.way_of-queue.result.1 c.index-2.result.now (rw c.deref.ensures at c.way_of-queue.ensures.queue) c.index-2.ensures in
+    let seen = take_seen b c.self.invariant c.args.input c.args.hand c.args.node there made c.index.result.now (rw c.place-place.ensures at c.index.ensures) (sym c.is_some.ensures ∙ c.if-is_some.false)
+    c.index-2.result.now queue c.is_discarded-lost.result c.is_guarded_loss-guarded.result c.is_discarded-lost.ensures c.is_guarded_loss-guarded.ensures in
+    let takes = rw c.if-lost.true at seen.takes in
+    let counted = rw c.if-lost.true at (c.in-Ok.ensures.ok ∙ sym seen.counted) in
+    record {
+      marks = c.self.invariant.marks;
+      orderly = kept_by (board_inside b) b.accounts c.self.invariant.orderly (Event.Take c.args.input c.args.hand c.args.node)
+          (taken_state b c.args.input c.args.hand c.args.node true) (taken_outs c.args.node true) (true, takes, refl) c.count_take.new.self counted;
+    }

@@ -1,0 +1,256 @@
+-- Where a plan meets the condition of a guard, nothing guarded is lost.
+use Rattle.std.proofs.Common.{◌≡◌, ℕ, ◌+◌, ◌*◌, ◌<◌, ◌≤◌, ◌==◌, ◌||◌, Bool, true, false, if◌then◌else◌, List, [], ◌∷◌, length, All, refl, sym, subst, ap, ◌∙◌, arith, inl, inr, Some}
+use Rattle.std.specs.Prelude.{◌≢◌, Contains, slice_get}
+use Rattle.std.specs.Int.{bit_at}
+use Rattle.std.proofs.lemmas.Bool.{and_parts, eqb-true, eqb-false, false_from_ne_true}
+use Rattle.std.proofs.lemmas.Bool.Decides.{nat_tests}
+use Rattle.sy_wire.specs.Messages.{Said}
+use Rattle.sy_wire.specs.declared.class.Class.{Class}
+use Rattle.sy_chain.specs.Entries.{Entry}
+use Rattle.sy_marks.specs.declared.marks.Flow.{Flow}
+use Rattle.sy_marks.specs.declared.marks.Flow.TheVariants as flow
+use Rattle.sy_marks.specs.declared.marks.Marks.{Marks}
+use Rattle.sy_marks.specs.Marks.{discards}
+use Rattle.sy_rules.specs.declared.lists.occurrence.Occurrence.{Occurrence}
+use Rattle.sy_rules.specs.declared.lists.occurrence.Occurrence.TheVariants as occurrence
+use Rattle.sy_rules.specs.lists.Sets.{IsLowest}
+use Rattle.sy_rules.specs.lists.Work.{Due, May}
+use Rattle.sy_rules.specs.PlanValue.{Plan}
+use Rattle.sy_rules.specs.Whole.{body_at}
+use Rattle.sy_rules.proofs.lemmas.lists.WorkLaws.{work_may}
+use Rattle.sy_board.specs.relay.Cells.{Cell, RelayState, at, hand, opening, waiting}
+use Rattle.sy_board.specs.relay.Feeders.{Feeder, IsFedFreely, IsWithinMarks, OnlyFullDelay}
+use Rattle.sy_board.specs.relay.Guards.{IsGuarding, IsOnItsWay, IsWithinGuard, MayGuard}
+use Rattle.sy_board.specs.relay.Kinds.{HoldsAt, Kind, MayAt, MayRun, occurrence_of, queue_of}
+use Rattle.sy_board.specs.relay.Plans.{flow_at, input_at, marks_at, occurrences_at, queue_of_input}
+use Rattle.sy_board.specs.relay.Steps.{Event, IsHand, Out, Step}
+use Rattle.sy_board.specs.relay.Totals.{Pairs, guarded_losses, guards}
+use Rattle.sy_board.proofs.relay.GuardTables.{is_pair}
+use Rattle.sy_board.proofs.relay.SamePairs.{same_class}
+use Rattle.sy_board.proofs.relay.Keeps.{Comes, Each, Kept, Owes, step_keeps}
+use Rattle.sy_board.proofs.relay.Marks.{InMarks, empty_everywhere, marks_start, marks_step, not_delayed}
+
+-- ---- each element
+
+pub each_of : {A : Type 0} (P : A → Type 0) (xs : List A) → All P xs → Each P xs
+each_of P [] all = tt
+each_of P (x ∷ xs) all = (all 0 x (omega arith), each_of P xs (λ k d l. all (ℕ.suc k) d (omega (arith, l))))
+
+pub all_of : {A : Type 0} (P : A → Type 0) (xs : List A) → Each P xs → All P xs
+all_of P [] each k d l = absurd (omega (arith, l))
+all_of P (x ∷ xs) each ℕ.zero d l = each.0
+all_of P (x ∷ xs) each (ℕ.suc k) d l = all_of P xs each.1 k d (omega (arith, l))
+
+-- ---- pairs
+
+-- what the guard tells is one of its pairs
+pub guards_one : (pairs : Pairs) (input : ℕ) (class : Class) → guards pairs input class ≡ true → Contains pairs (input, class)
+guards_one [] input class e = cc
+guards_one ((j, d) ∷ pairs) input class e = go (is_pair input class (j, d)) refl (guards_one pairs input class)
+  where
+    go : (b : Bool) → is_pair input class (j, d) ≡ b → (guards pairs input class ≡ true → Contains pairs (input, class))
+        → Contains ((j, d) ∷ pairs) (input, class)
+    go true t more =
+        let parts = and_parts (j == input) _ t in
+        let of_class = and_parts (d.facility == class.facility) _ parts.1 in
+        let class_is = same_class d class (eqb-true d.facility class.facility of_class.0) (eqb-true d.severity class.severity of_class.1) in
+        let input_is = eqb-true j input parts.0 in
+        (0, omega arith, λ i. (input_is i, class_is i))
+    go false t more =
+        let there = more (subst (λ b. (b || guards pairs input class) ≡ true) t e) in
+        (ℕ.suc there.0, (let l = there.1 in omega (arith, l)), there.2)
+
+not_guarded : (pairs : Pairs) (input : ℕ) (class : Class) → (Contains pairs (input, class) → ⊥) → guards pairs input class ≡ false
+not_guarded pairs input class none = false_from_ne_true (guards pairs input class) (λ e. none (guards_one pairs input class e))
+
+pub discards_says : (marks : Marks) (severity n : ℕ) → discards marks severity n ≡ true
+    → ((1 ≤ marks.discard_mark) × (marks.discard_mark ≤ n)) × (marks.discard_severity ≤ severity)
+discards_says marks severity n t = grind (arith, nat_tests)
+
+-- what is left is a part
+pub left_in : (due number left k : ℕ) → IsLowest due number left → bit_at left k ≡ 1 → bit_at due k ≡ 1
+left_in due number left k l b = go (k == number) refl
+  where
+    go : (t : Bool) → (k == number) ≡ t → bit_at due k ≡ 1
+    go true e = (let s : bit_at left k ≡ 0 = subst (λ z. bit_at left z ≡ 0) (sym (eqb-true k number e)) l.gone in absurd (omega (arith, s, b)))
+    go false e = sym (l.others k (eqb-false k number e)) ∙ b
+
+pub full_of : (f : Flow) → (f ≢ flow.Full → ⊥) → f ≡ flow.Full
+full_of flow.Full n = refl
+full_of flow.Light n = absurd (n (λ e. cc))
+full_of flow.NoWait n = absurd (n (λ e. cc))
+
+-- the input of a hand
+pub same_input : (plan : Plan) (i h j g : ℕ) → IsHand plan i h → g < 64 → 64 * i + h ≡ 64 * j + g → j ≡ i
+same_input plan i h j g there l b = let m : h < 64 = there.1 in omega (arith, m, l, b)
+
+pub only_full : (plan : Plan) (queue : ℕ) → (IsFedFreely plan queue → ⊥) → OnlyFullDelay plan queue
+only_full plan queue none (Feeder.Input number) feeds =
+    full_of (flow_at plan number) (λ free. none (record { feeder = Feeder.Input number; feeds = feeds; is_free = free }))
+only_full plan queue none (Feeder.Post list number) feeds =
+    none (record { feeder = Feeder.Post list number; feeds = feeds; is_free = λ h. h })
+
+-- ---- what the condition says of an input
+
+module _ (plan : Plan) (class : Class) (input : ℕ) (clean : (kind : Kind) → HoldsAt plan class input kind → ⊥) where
+  pub is_full : flow_at plan input ≡ flow.Full
+  is_full = full_of (flow_at plan input) (clean Kind.NotFull)
+
+  pub has_mark : 1 ≤ (queue_of plan input).full_delay_mark
+  has_mark = let off = clean Kind.MarkOff in omega (arith, off)
+
+  -- its queue never discards a message of the class, where it is within its mark
+  pub never_discards : (n : ℕ) → (OnlyFullDelay plan (queue_of_input plan input) → n ≤ (queue_of plan input).full_delay_mark)
+      → discards (marks_at plan (queue_of_input plan input)) class.severity n ≡ true → ⊥
+  never_discards n within t =
+      let all = discards_says (marks_at plan (queue_of_input plan input)) class.severity n t in
+      let none = clean Kind.Discards in
+      let w = within (only_full plan (queue_of_input plan input) (λ free. none (record { severe = all.1; on = all.0.0; reached = inl free }))) in
+      let below : (queue_of plan input).discard_mark ≤ (queue_of plan input).full_delay_mark = (let a = all.0.1 in omega (arith, a, w)) in
+      none (record { severe = all.1; on = all.0.0; reached = inr below })
+
+-- ---- entries of pairs
+
+module _ (plan : Plan) (pairs : Pairs) (may : MayGuard plan pairs) where
+  abbrev IsPair : Entry → Type 0
+  IsPair e = Contains pairs (e.input, e.message.class)
+
+  abbrev P : Cell → Entry → Type 0
+  P p e = IsPair e → IsOnItsWay plan p e
+
+  abbrev O : Out → Type 0
+  O (Out.Passed a e) = Unit {0}
+  O (Out.Lost cause e) = IsPair e → ⊥
+
+  clean_at : (p : Cell) (e : Entry) → IsPair e → IsOnItsWay plan p e → (kind : Kind) → HoldsAt plan e.message.class e.input kind → ⊥
+  clean_at p e pair good = may e.input e.message.class (record { there = good.there; pair = pair })
+
+  owes_may : (p : Cell) (e : Entry) (o : Occurrence) → IsOnItsWay plan p e → (w : Owes plan e o) → MayAt plan e.message.class e.input w.number
+  owes_may p e o good w = subst (λ l. May (body_at plan l) e.message.class w.number) good.follows (good.due w.number w.member)
+
+  owes_at : (p : Cell) (e : Entry) (o : Occurrence) → IsOnItsWay plan p e → (w : Owes plan e o) → occurrence_of plan e.input w.number ≡ Some o
+  owes_at p e o good w = subst (λ l. slice_get (occurrences_at plan l) w.number ≡ Some o) good.follows w.is
+
+  no_post : (p : Cell) (e : Entry) (l : ℕ) → IsPair e → IsOnItsWay plan p e → Owes plan e (occurrence.Post l) → ⊥
+  no_post p e l pair good w = clean_at p e pair good Kind.InnerQueue
+      (record { number = w.number; may = owes_may p e (occurrence.Post l) good w; list = l; posts = owes_at p e (occurrence.Post l) good w })
+
+  -- an entry in a hand is of the hand's input
+  its_hand : (i h : ℕ) (e : Entry) → IsHand plan i h → IsOnItsWay plan (hand i h) e → e.input ≡ i
+  its_hand i h e there good = same_input plan i h e.input good.place.0 there good.place.1 good.place.2
+
+  guarded_kept : Kept plan P O (InMarks plan)
+  guarded_kept = record {
+    enters = λ i h e there p pair.
+        let good = p pair in
+        record { there = good.there; place = ap (queue_of_input plan) (its_hand i h e there good); follows = good.follows; due = good.due };
+    grabs = λ w e p pair. let good = p pair in record { there = good.there; place = tt; follows = good.follows; due = good.due };
+    advances = λ w e number left p l pair.
+        let good = p pair in
+        record { there = good.there; place = tt; follows = good.follows; due = λ k b. good.due k (left_in e.due number left k l b) };
+    runs = λ w e a p o. tt;
+    posts = λ w e l node p o m pair.
+        let here : IsPair e = subst (λ i. Contains pairs (i, e.message.class)) m.input
+        (subst (λ (z : Said). Contains pairs (node.input, z.class)) m.message pair) in
+        absurd (no_post (Cell.Worker w) e l here (p here) o);
+    lost_take = λ old i h e g p there t pair.
+        let good = p pair in
+        let same : i ≡ e.input = sym (its_hand i h e there good) in
+        let clean = clean_at (hand i h) e pair good in
+        let q = queue_of_input plan e.input in
+        never_discards plan e.message.class e.input clean (waiting old q)
+        (λ only. g (Cell.Queue q) only (has_mark plan e.message.class e.input clean))
+        (subst (λ z. discards (marks_at plan (queue_of_input plan z)) e.message.class.severity (waiting old (queue_of_input plan z)) ≡ true) same t);
+    lost_expire = λ old i h e p leaves full pair.
+        let good = p pair in
+        let same : e.input ≡ i = its_hand i h e leaves.there good in
+        let clean : (kind : Kind) → HoldsAt plan e.message.class i kind → ⊥ =
+        subst (λ z. (kind : Kind) → HoldsAt plan e.message.class z kind → ⊥) same (clean_at (hand i h) e pair good) in
+        let q = queue_of_input plan i in
+        let below = not_delayed (flow_at plan i) (marks_at plan q) (waiting old q) (is_full plan e.message.class i clean)
+        (has_mark plan e.message.class i clean) leaves.not_held in
+        clean Kind.MarkAboveSize (omega (arith, below, full));
+    lost_grab = λ old q n e g p l t pair.
+        let good = p pair in
+        let is : queue_of_input plan e.input ≡ q = good.place in
+        let clean = clean_at (Cell.Queue q) e pair good in
+        never_discards plan e.message.class e.input clean n
+        (λ only.
+        let m = g (Cell.Queue (queue_of_input plan e.input)) only (has_mark plan e.message.class e.input clean) in
+        let less : n < waiting old (queue_of_input plan e.input) = subst (λ z. n < waiting old z) (sym is) l in omega (arith, m, less))
+        (subst (λ z. discards (marks_at plan z) e.message.class.severity n ≡ true) (sym is) t);
+    lost_run = λ w n e a p o t pair.
+        let good = p pair in
+        let runs : MayRun plan e.message.class e.input a = record {
+          number = o.number;
+          may = owes_may (Cell.Worker w) e (occurrence.Run a) good o;
+          runs = owes_at (Cell.Worker w) e (occurrence.Run a) good o;
+        } in
+        clean_at (Cell.Worker w) e pair good Kind.GivesUp (a, runs, n, t);
+    lost_post = λ w e l p o pair. no_post (Cell.Worker w) e l pair (p pair) o;
+    lost_node = λ w e l p o pair. no_post (Cell.Worker w) e l pair (p pair) o;
+  }
+
+  -- an entry that comes by a take
+  comes : (old : RelayState) (event : Event) (new : RelayState) (outs : List Out) → Step plan old event new outs
+      → Comes plan P O (InMarks plan) guarded_kept event
+  comes old (Event.Take i h node) new outs (lost, takes, is) = λ pair. record {
+    there = subst (λ j. j < length plan.inputs) (sym takes.made.input_is) takes.there.0;
+    place = (h, takes.there.1, ap (λ j. 64 * j + h) (sym takes.made.input_is));
+    follows = takes.made.list ∙ ap (λ j. (input_at plan j).list) (sym takes.made.input_is);
+    due = λ k b. work_may (body_at plan node.list) node.message node.message.class k refl
+        (subst (λ l. Due (body_at plan l) node.message k) (sym takes.made.list) ((takes.made.due k).0 b));
+  }
+  comes old (Event.Enter i h) new outs st = tt
+  comes old (Event.Expire i h) new outs st = tt
+  comes old (Event.Grab w) new outs st = tt
+  comes old (Event.Done w) new outs st = tt
+  comes old (Event.Fail w took) new outs st = tt
+  comes old (Event.GiveUp w took) new outs st = tt
+  comes old (Event.Post w) new outs st = tt
+  comes old (Event.PostLost w no_memory) new outs st = tt
+
+  -- ---- what is counted
+
+  none_lost : (outs : List Out) → Each O outs → guarded_losses pairs outs ≡ 0
+  none_lost [] a = refl
+  none_lost (Out.Passed x e ∷ outs) a = none_lost outs a.1
+  none_lost (Out.Lost cause e ∷ outs) a =
+      let none = not_guarded pairs e.input e.message.class a.0 in
+      let rest = none_lost outs a.1 in
+      subst (λ b. (if b then 1 else 0) + guarded_losses pairs outs ≡ 0) (sym none) (omega (arith, rest))
+
+  -- ---- a step
+
+  in_marks : (state : RelayState) → IsWithinMarks plan state → InMarks plan state
+  in_marks state marks (Cell.Hand k) = tt
+  in_marks state marks (Cell.Queue q) = marks q
+  in_marks state marks (Cell.Worker w) = tt
+
+  pub guarding_step : (old : RelayState) (event : Event) (new : RelayState) (outs : List Out) → IsGuarding plan pairs old
+      → Step plan old event new outs → IsGuarding plan pairs new × (guarded_losses pairs outs ≡ 0)
+  guarding_step old event new outs is step =
+      let before = in_marks old is.marks in
+      let marks = marks_step plan old event new outs before step in
+      let kept = step_keeps plan P O (InMarks plan) guarded_kept old event new outs before (comes old event new outs step)
+      (λ c. each_of (P c) (at old c) (is.entries c)) step in (
+        record { marks = λ q. marks (Cell.Queue q); entries = λ c. all_of (P c) (at new c) (kept.0 c) },
+        none_lost outs kept.1,
+      )
+
+  pub within_guard : (state : RelayState) → IsGuarding plan pairs state → IsWithinGuard plan pairs state
+  within_guard state is input class pair only =
+      is.marks (queue_of_input plan input) only (has_mark plan class input (may input class pair))
+
+-- ---- before the first step
+
+pub guarding_start : (plan : Plan) (pairs : Pairs) → IsGuarding plan pairs (opening plan)
+guarding_start plan pairs = record {
+  marks = λ q. marks_start plan (Cell.Queue q);
+  entries = λ c. subst (All (λ (e : Entry). Contains pairs (e.input, e.message.class) → IsOnItsWay plan c e)) (sym (empty_everywhere plan c))
+      (λ k d l. absurd (omega (arith, l)));
+}
+
+-- a guard without pairs asks nothing
+pub unasked : (plan : Plan) → MayGuard plan []
+unasked plan input class is = let l = is.pair.1 in absurd (omega (arith, l))

@@ -1,0 +1,47 @@
+-- What is asked of a plan at the pairs of a guard, and what a relay with such a plan then keeps (this profile's own).
+use Rattle.std.specs.Prelude.{◌≡◌, ℕ, ◌+◌, ◌*◌, ◌<◌, ◌≤◌, All, Contains, length}
+use Rattle.std.specs.Int.{bit_at}
+use Rattle.sy_wire.specs.declared.class.Class.{Class}
+use Rattle.sy_chain.specs.Entries.{Entry}
+use Rattle.sy_rules.specs.PlanValue.{Plan}
+use Rattle.sy_rules.specs.Whole.{body_at}
+use Rattle.sy_rules.specs.lists.Work.{May}
+use Rattle.sy_board.specs.relay.Cells.{Cell, RelayState, at, waiting}
+use Rattle.sy_board.specs.relay.Feeders.{IsWithinMarks, OnlyFullDelay}
+use Rattle.sy_board.specs.relay.Kinds.{HoldsAt, Kind}
+use Rattle.sy_board.specs.relay.Plans.{input_at, parameters_at, queue_of_input}
+use Rattle.sy_board.specs.relay.Totals.{Pairs}
+
+-- A pair of an input that the plan has. Those of other inputs guard nothing.
+pub record IsPairOf (plan : Plan) (pairs : Pairs) (input : ℕ) (class : Class) : Type 0 where
+  pub there : input < length plan.inputs
+  pub pair : Contains pairs (input, class)
+
+-- The condition of a guard: at none of its pairs one of the kinds holds.
+abbrev pub MayGuard : Plan → Pairs → Type 0
+MayGuard plan pairs = (input : ℕ) (class : Class) → IsPairOf plan pairs input class → (kind : Kind) → HoldsAt plan class input kind → ⊥
+
+-- The queue of each pair's input, where all its feeders are full-delay inputs, is no longer than its full-delay mark.
+abbrev pub IsWithinGuard : Plan → Pairs → RelayState → Type 0
+IsWithinGuard plan pairs state = (input : ℕ) (class : Class) → IsPairOf plan pairs input class → OnlyFullDelay plan (queue_of_input plan input)
+    → waiting state (queue_of_input plan input) ≤ (parameters_at plan (queue_of_input plan input)).full_delay_mark
+
+-- ---- what each step keeps
+
+-- the places of an input: its hands, its queue, and workers
+abbrev pub IsPlaceOf : Plan → ℕ → Cell → Type 0
+IsPlaceOf plan input (Cell.Hand k) = (number : ℕ) × (number < 64) × (k ≡ 64 * input + number)
+IsPlaceOf plan input (Cell.Queue k) = queue_of_input plan input ≡ k
+IsPlaceOf plan input (Cell.Worker k) = Unit {0}
+
+-- The entry is at a place of its input, follows that input's list, and what is due of it its class may execute.
+pub record IsOnItsWay (plan : Plan) (cell : Cell) (entry : Entry) : Type 0 where
+  pub there : entry.input < length plan.inputs
+  pub place : IsPlaceOf plan entry.input cell
+  pub follows : entry.list ≡ (input_at plan entry.input).list
+  pub due : (number : ℕ) → bit_at entry.due number ≡ 1 → May (body_at plan entry.list) entry.message.class number
+
+-- Queues are within their marks, and each entry of a pair is on its way.
+pub record IsGuarding (plan : Plan) (pairs : Pairs) (state : RelayState) : Type 0 where
+  pub marks : IsWithinMarks plan state
+  pub entries : (cell : Cell) → All (λ entry. Contains pairs (entry.input, entry.message.class) → IsOnItsWay plan cell entry) (at state cell)
