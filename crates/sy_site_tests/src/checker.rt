@@ -1,8 +1,12 @@
 //! The checker: certificates of a site, with their rows as they are wanted and spoilt.
 
+ghost use Rattle.std.specs.Prelude.{◌<◌, length};
+
 use crate::rows::{Judge, each_is_right};
 use std::alloc::{AllocError, Global};
+use std::sync::Arc;
 use std::test::Fail;
+use sy_board::{Board, Guard};
 use sy_cert::{Certificate, read_cert};
 use sy_checker::{Accepted, CertFault, verify};
 use sy_site::Site;
@@ -49,6 +53,20 @@ fn is_guarded(alloc: Global, accepted: &Accepted) -> Result<bool, AllocError> {
             && hub.guards(0, last)
             && !hub.guards(1, last),
     )
+}
+
+// Whether a board of the first relay opens with that relay's guard, of which it has lost nothing.
+fn opens_guarded(alloc: Global, accepted: &Accepted, kept: &Guard) -> Result<bool, AllocError>
+    requires { 0 < length accepted.now.plans }
+{
+    let guard = accepted.guard(alloc, 0)?;
+    let plan = Arc::try_clone(accepted.plan(0)).map_err(|_| AllocError)?;
+    let board = Board::new(alloc, plan, Some(guard))?;
+    let has_guard = match board.guard() {
+        Some(guard) => guard.same(kept),
+        None => false,
+    };
+    Ok(has_guard && board.accounts().guarded_lost() == 0)
 }
 
 // What verifying says.
