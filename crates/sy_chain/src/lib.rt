@@ -6,6 +6,8 @@
 #![tactic(auto)]
 
 pub mod chain;
+pub mod links;
+pub mod loose;
 pub mod node;
 
 pub use chain::Chain;
