@@ -116,6 +116,7 @@ impl<T> Blocks<T> {
     }
 
     /// Where the i-th block lies, of blocks each of which leads to the next.
+    #[tactic(auto, using(crate::proofs::Rows::leads_first, crate::proofs::Rows::leads_next))]
     pub(crate) fn place(&mut self, first: *mut Block<T>, i: usize) -> *mut Block<T>
         requires { (i < length self.old.placed) × Leads first self.old.placed null_ptr }
         ensures place { result ≡ place_of self.old.placed i }

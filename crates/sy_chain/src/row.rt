@@ -5,6 +5,7 @@ use crate::blocks::{Block, Blocks};
 use crate::raw_box::RawBox;
 use std::alloc::Global;
 use std::marker::{Model, Send};
+use std::mem;
 use std::ptr::{NonNull, null_mut};
 
 /// The place of the first block of a row, null where there is none, and of the last. The last one leads nowhere.
@@ -71,41 +72,37 @@ impl<T> Row<T> {
         }
     }
 
-    // Puts another row, which isn't empty, behind this one.
-    fn join(&mut self, other: Row<T>)
-        requires { 0 < length other }
+    pub(crate) fn push_back(&mut self, block: RawBox<Block<T>, Global>)
+        ensures { self.new ≡ self.old ++ block.value.elem ∷ [] }
+    {
+        self.append(Row::one(block));
+    }
+
+    /// Puts the other row's blocks at the end.
+    #[tactic(auto, using(crate::proofs::Rows::some_in, crate::proofs::Rows::joined_in, crate::proofs::Rows::joined_list))]
+    pub(crate) fn append(&mut self, mut other: Row<T>)
         ensures { self.new ≡ self.old ++ other }
     {
+        if other.is_empty() {
+            other.end();
+            return;
+        }
+        if self.is_empty() {
+            mem::swap(self, &mut other);
+            other.end();
+            return;
+        }
         let Row {
             first,
             last,
             blocks,
         } = other;
-        if self.is_empty() {
-            self.first = first;
-        } else {
-            self.blocks.set_last_next(self.last, first);
-        }
+        self.blocks.set_last_next(self.last, first);
         self.last = last;
         self.blocks.append(blocks);
     }
 
-    pub(crate) fn push_back(&mut self, block: RawBox<Block<T>, Global>)
-        ensures { self.new ≡ self.old ++ block.value.elem ∷ [] }
-    {
-        self.join(Row::one(block));
-    }
-
-    pub(crate) fn append(&mut self, other: Row<T>)
-        ensures { self.new ≡ self.old ++ other }
-    {
-        if other.is_empty() {
-            other.end();
-        } else {
-            self.join(other);
-        }
-    }
-
+    #[tactic(auto, using(crate::proofs::Rows::some_in, crate::proofs::Rows::leads_first))]
     pub(crate) fn pop_front(&mut self) -> Option<RawBox<Block<T>, Global>>
         ensures some { IfSome result (λ b. self.old ≡ b.value.elem ∷ self.new) }
         ensures none { IfNone result ((self.old ≡ []) × (self.new ≡ [])) }
