@@ -1,6 +1,6 @@
 -- What stays a row where blocks come or go.
 use mathlib.Core.Path.{◌≡◌, refl, sym, ap, ◌∙◌, subst}
-use mathlib.Core.List.{List, [], ◌∷◌, ◌++◌, map}
+use mathlib.Core.List.{List, [], ◌∷◌, ◌++◌}
 use Prim.Native.Nat.{ℕ, zero, suc, ◌+◌, ◌-◌, ◌<◌, ◌≤◌, ◌^◌}
 use native.Mathlib.Omega.{arith}
 use lib.Dec.{lit<}
@@ -10,7 +10,7 @@ use mathlib.Core.Bool.{Bool, true, false, not, false≢true}
 use Rattle.std.specs.Prelude.{Option, None, Some, is_some, IfNone, IfSome, IsTrue, ◌↔◌}
 use denote.RawPtr.{Ptr, InBlock, null_ptr, count_of, Testable}
 use Rattle.sy_chain.proofs.Cuts.{take_map, drop_map}
-use Rattle.sy_chain.specs.Rows.{Placed, IsStart, Leads, IsRow, last_place, with_last_next, place_of, next_of, elems}
+use Rattle.sy_chain.specs.Rows.{Placed, Leads, IsRow, last_place, with_last_next, place_of, next_of, elems}
 
 before : (n : ℕ) → 0 < n → suc (n - 1) ≡ n
 before n p = omega arith

@@ -1,36 +1,25 @@
 -- `append` joins what is owned, and runs no code for it. Assumes `Logic`.
-use Rattle.std.proofs.Common.{◌≡◌, ℕ, List, [], ◌∷◌, ◌++◌, refl, sym, ap, ◌∙◌}
-use native.Mathlib.Omega.{arith}
-use base.Fraction.{full_share}
-use Prim.Native.Nat.{zero, ◌<◌}
-use lib.ListN.{length}
-use mir.Syntax.{Fn, Args, a_type, w64, ty_ptr}
+use Rattle.std.proofs.Common.{◌≡◌, List, [], ◌∷◌, ◌++◌, refl}
+use mir.Syntax.{Fn, Args, a_type}
 use mir.MapTy.{inst_fn}
 use mir.Val.{Val, vptr, vunit}
-use base.Logic.{SProp, emp, id⊢}
-use base.Fml.{ftrue, fat, flft}
+use base.Logic.{SProp, emp}
+use base.Fml.{ftrue, flft}
 use prog.Wp.{WpFn}
 use contract.Monad.{fact, fact_i}
-use contract.BorrowLft.{◌⊑◌}
 use contract.Running.{tables}
-use types.Kit.{‵, raw, ◌⊛◌, prop, at_ret, ◌$◌, ◌∵◌, !, qed, by, move, keep, drop, use0, use1, use2, regoal, rewrite, split, join, fsplit, fsplit3, fjoin, fjoin3, feq_i, feq_l}
-use types.Part.{whole, sub, look_in}
+use types.Kit.{‵, raw, ◌⊛◌, prop, ◌$◌, ◌∵◌, !, qed, by, move, keep, drop, use0, use2, regoal, split, join, fsplit, fsplit3, fjoin, fjoin3, feq_i, feq_l}
 use types.Run.{of_opd, unit_lit, returns, enter}
-use types.ByLocal.{alloc_all, pass_all, free_all, look_at, get, through, sets, sets_last, env}
-use denote.Exit.{yes, no}
+use types.ByLocal.{alloc_all, pass_all, free_all, look_at, sets}
+use denote.Exit.{no}
 use denote.RattleType.{owns}
 use denote.Signature.{types_at, plain}
-use denote.Builtin.{usize}
-use denote.RawPtr.{Ptr, RawPtr, ptr_val}
 use denote.Param.{layouts}
-use denote.Steps.{nothing, heard}
-use denote.Triple.Walked.{Stays, stay_ref, stay_dropped, walk_of, Goes-ref, Goes-dropped}
+use denote.Steps.{nothing}
+use denote.Triple.Walked.{Stays, stay_ref, stay_dropped, walk_of, Goes-ref}
 use Rattle.std.proofs.raw_atomic.Walks.{proved_at, leaves}
-use Rattle.std_alloc.proofs.VecSteps.Shapes.{after}
-use Rattle.std_alloc.proofs.RcSteps.{Ptr-Good}
 use denote.Param.Laws.{param_laws}
 use Rattle.core.proofs.alloc.Calls.{Goes-blank}
-use Rattle.sy_chain.specs.Rows.{Placed}
 use Rattle.sy_chain.proofs.blocks.Blocks.TheLaws.{the_row_laws}
 use Rattle.sy_chain.proofs.Steps.{D, Sr, R, Held, own_in, tells, lends, gives_back}
 use Rattle.sy_chain.specs.contracts.blocks.Blocks.append.{ended, clauses}

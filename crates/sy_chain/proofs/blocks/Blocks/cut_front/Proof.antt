@@ -1,34 +1,26 @@
 -- `cut_front` parts what is owned, and runs no code for it. Assumes `Logic`.
-use Rattle.std.proofs.Common.{◌≡◌, ℕ, List, [], ◌∷◌, ◌++◌, refl, sym, ap, ◌∙◌}
-use native.Mathlib.Omega.{arith}
-use base.Fraction.{full_share}
-use Prim.Native.Nat.{zero, ◌<◌}
-use lib.ListN.{length}
-use mir.Syntax.{Fn, Args, a_type, w64, ty_ptr}
+use Rattle.std.proofs.Common.{◌≡◌, ℕ, List, [], ◌∷◌, ◌++◌, refl, sym}
+use mir.Syntax.{Fn, Args, a_type, w64}
 use mir.MapTy.{inst_fn}
 use mir.Val.{Val, vptr, vint}
-use base.Logic.{SProp, emp, id⊢}
-use base.Fml.{ftrue, fat, flft}
+use base.Logic.{SProp, emp}
+use base.Fml.{ftrue, flft}
 use prog.Wp.{WpFn}
 use contract.Monad.{fact, fact_i}
-use contract.BorrowLft.{◌⊑◌}
 use contract.Running.{tables}
-use types.Kit.{‵, raw, ◌⊛◌, prop, at_ret, ◌$◌, ◌∵◌, !, qed, by, move, keep, drop, use0, use1, use2, regoal, rewrite, split, join, fsplit, fsplit3, fjoin, fjoin3, feq_i, feq_l}
+use types.Kit.{‵, raw, ◌⊛◌, prop, ◌$◌, ◌∵◌, !, qed, by, move, keep, use0, use1, regoal, rewrite, split, join, fsplit3, fjoin, fjoin3, feq_i, feq_l}
 use types.Part.{agg}
 use Rattle.std.proofs.Common.{take, take-append-drop, drop as drop_first}
 use types.Run.{and_then, no_more, returns, enter}
-use types.ByLocal.{alloc_all, pass_all, free_all, look_at, get, through, sets, sets_last, env}
+use types.ByLocal.{alloc_all, pass_all, free_all, look_at, get, sets}
 use denote.Exit.{yes}
 use denote.RattleType.{owns}
 use denote.Signature.{types_at, plain}
 use denote.Builtin.{usize}
-use denote.RawPtr.{Ptr, RawPtr, ptr_val}
 use denote.Param.{layouts}
-use denote.Steps.{nothing, heard}
+use denote.Steps.{nothing}
 use denote.Triple.Walked.{Stays, stay_ref, stay_dropped, walk_of, Goes-ref, Goes-dropped}
 use Rattle.std.proofs.raw_atomic.Walks.{proved_at, leaves}
-use Rattle.std_alloc.proofs.VecSteps.Shapes.{after}
-use Rattle.std_alloc.proofs.RcSteps.{Ptr-Good}
 use Rattle.sy_chain.specs.Rows.{Placed}
 use Rattle.sy_chain.proofs.Steps.{D, Sr, Held, own_out, lends, gives_back, made, none, only_field}
 use Rattle.sy_chain.specs.contracts.blocks.Blocks.cut_front.{ended, clauses}

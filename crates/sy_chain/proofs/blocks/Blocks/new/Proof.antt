@@ -1,33 +1,20 @@
 -- `new` owns nothing. Assumes `Logic`.
-use Rattle.std.proofs.Common.{◌≡◌, ℕ, List, [], ◌∷◌, ◌++◌, refl, sym, ap, ◌∙◌}
-use native.Mathlib.Omega.{arith}
-use base.Fraction.{full_share}
-use Prim.Native.Nat.{zero, ◌<◌}
-use lib.ListN.{length}
-use mir.Syntax.{Fn, Args, a_type, w64, ty_ptr}
+use Rattle.std.proofs.Common.{◌≡◌, [], ◌∷◌, refl}
+use mir.Syntax.{Fn, Args, a_type}
 use mir.MapTy.{inst_fn}
-use mir.Val.{Val, vptr, vint}
-use base.Logic.{SProp, emp, id⊢}
-use base.Fml.{ftrue, fat, flft}
-use prog.Wp.{WpFn}
+use mir.Val.{Val}
+use base.Logic.{SProp, emp}
+use base.Fml.{ftrue, flft}
 use contract.Monad.{fact, fact_i}
-use contract.BorrowLft.{◌⊑◌}
 use contract.Running.{tables}
-use types.Kit.{‵, raw, ◌⊛◌, prop, at_ret, ◌$◌, ◌∵◌, !, qed, by, move, keep, drop, use0, use1, use2, regoal, rewrite, split, join, fsplit, fsplit3, fjoin, fjoin3, feq_i, feq_l}
+use types.Kit.{‵, raw, ◌⊛◌, ◌$◌, ◌∵◌, !, qed, by, move, keep, use0, split}
 use types.Part.{agg}
 use types.Run.{and_then, no_more, returns, enter}
-use types.ByLocal.{alloc_all, pass_all, free_all, look_at, get, through, sets, sets_last, env}
-use denote.Exit.{yes}
-use denote.RattleType.{owns}
-use denote.Signature.{types_at, plain}
-use denote.Builtin.{usize}
-use denote.RawPtr.{Ptr, RawPtr, ptr_val}
+use types.ByLocal.{alloc_all, pass_all, free_all, look_at, get, sets}
 use denote.Param.{layouts}
-use denote.Steps.{nothing, heard}
-use denote.Triple.Walked.{Stays, stay_ref, stay_dropped, walk_of, Goes-ref, Goes-dropped}
+use denote.Steps.{nothing}
+use denote.Triple.Walked.{Stays, walk_of}
 use Rattle.std.proofs.raw_atomic.Walks.{proved_at, leaves}
-use Rattle.std_alloc.proofs.VecSteps.Shapes.{after}
-use Rattle.std_alloc.proofs.RcSteps.{Ptr-Good}
 use Rattle.sy_chain.proofs.Steps.{D, made, none, only_field}
 use Rattle.sy_chain.specs.contracts.blocks.Blocks.new.{ended, clauses}
 use Rattle.sy_chain.specs.contracts.blocks.Blocks.new.Key.{name as #self}

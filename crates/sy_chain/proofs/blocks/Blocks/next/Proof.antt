@@ -1,6 +1,5 @@
 -- `next` reads a block's pointer. Assumes `Logic`.
 use Rattle.std.proofs.Common.{◌≡◌, ℕ, List, [], ◌∷◌, ◌++◌, refl, sym, ap, ◌∙◌}
-use native.Mathlib.Omega.{arith}
 use base.Fraction.{full_share}
 use Prim.Native.Nat.{zero, ◌<◌}
 use lib.ListN.{length}

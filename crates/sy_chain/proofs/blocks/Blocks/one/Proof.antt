@@ -1,40 +1,32 @@
 -- `one` takes a box over. Assumes `Logic`.
-use Rattle.std.proofs.Common.{◌≡◌, ℕ, List, [], ◌∷◌, ◌++◌, refl, sym, ap, ◌∙◌}
-use native.Mathlib.Omega.{arith}
-use base.Fraction.{full_share}
-use Prim.Native.Nat.{zero, ◌<◌}
-use lib.ListN.{length}
-use mir.Syntax.{Fn, Args, a_type, w64, ty_ptr}
+use Rattle.std.proofs.Common.{◌≡◌, List, [], ◌∷◌, ◌++◌, refl}
+use mir.Syntax.{Fn, Args, a_type}
 use mir.MapTy.{inst_fn}
-use mir.Val.{Val, vptr, vint}
-use base.Logic.{SProp, emp, id⊢}
-use base.Fml.{ftrue, fat, flft}
+use mir.Val.{Val, vptr}
+use base.Logic.{SProp, emp}
+use base.Fml.{ftrue, flft}
 use prog.Wp.{WpFn}
 use contract.Monad.{fact, fact_i}
-use contract.BorrowLft.{◌⊑◌}
 use contract.Running.{tables}
-use types.Kit.{‵, raw, ◌⊛◌, prop, at_ret, ◌$◌, ◌∵◌, !, qed, by, move, keep, drop, use0, use1, use2, regoal, rewrite, split, join, fsplit, fsplit3, fjoin, fjoin3, feq_i, feq_l}
+use types.Kit.{‵, raw, ◌⊛◌, prop, ◌$◌, ◌∵◌, !, qed, by, move, keep, use0, regoal, split, join, fsplit, fjoin, feq_i}
 use types.Part.{agg, whole, sub}
 use mir.Raw.{raw as bare}
 use types.Run.{stop, fld, of_opd, and_then, no_more, returns, enter}
-use types.ByLocal.{alloc_all, pass_all, free_all, look_at, get, get_in, through, sets, sets_last, env}
+use types.ByLocal.{alloc_all, pass_all, free_all, look_at, get, get_in, sets}
 use denote.Exit.{no}
 use denote.RattleType.{owns}
 use denote.Signature.{types_at, plain}
-use denote.Builtin.{usize}
-use denote.RawPtr.{Ptr, RawPtr, block_ptr, count_of, ptr_val}
+use denote.RawPtr.{Ptr, RawPtr, block_ptr, count_of}
 use denote.Param.{layouts}
-use denote.Steps.{nothing, heard}
-use denote.Triple.Walked.{Stays, stay_ref, stay_dropped, walk_of, Goes-ref, Goes-dropped}
+use denote.Steps.{nothing}
+use denote.Triple.Walked.{Stays, stay_dropped, walk_of}
 use Rattle.std.proofs.raw_atomic.Walks.{proved_at, leaves}
-use Rattle.std_alloc.proofs.VecSteps.Shapes.{after}
-use Rattle.std_alloc.proofs.RcSteps.{Ptr-Good}
 use Rattle.core.proofs.alloc.Calls.{Goes-blank}
 use Rattle.std.proofs.GlobalToken.{dealloc_token_start}
 use Rattle.std_heap.specs.contracts.Global as Heap
 use Rattle.std_heap.specs.contracts.GlobalAllocator.TheImpl.{ghosts}
 use Rattle.std_heap.proofs.Global.TheLaws as heap
-use Rattle.sy_chain.specs.Rows.{Placed, IsStart}
+use Rattle.sy_chain.specs.Rows.{IsStart}
 use Rattle.sy_chain.proofs.RawBoxes.{both, raw_good, raw_out}
 use Rattle.sy_chain.proofs.Steps.{D, Sr, Bl, Raw, block_ty, learns, two_made, made, none, only_field, two}
 use Rattle.sy_chain.specs.contracts.blocks.Blocks.one.{ended, clauses}

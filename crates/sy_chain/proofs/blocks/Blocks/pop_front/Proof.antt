@@ -1,26 +1,24 @@
 -- `pop_front` hands out the first block, with the handle that it keeps. Assumes `Logic`.
-use Rattle.std.proofs.Common.{◌≡◌, ℕ, List, [], ◌∷◌, ◌++◌, refl, sym, ap, ◌∙◌}
-use native.Mathlib.Omega.{arith}
+use Rattle.std.proofs.Common.{◌≡◌, List, [], ◌∷◌, ◌++◌, refl, sym, ap, ◌∙◌}
 use base.Fraction.{full_share}
 use Prim.Native.Nat.{zero, ◌<◌}
 use lib.ListN.{length}
-use mir.Syntax.{Fn, Args, a_type, w64, ty_ptr}
+use mir.Syntax.{Fn, Args, a_type, ty_ptr}
 use mir.MapTy.{inst_fn}
-use mir.Val.{Val, vptr, vint}
+use mir.Val.{Val, vptr}
 use base.Logic.{SProp, emp, id⊢}
 use base.Fml.{ftrue, fat, flft}
 use prog.Wp.{WpFn}
 use contract.Monad.{fact, fact_i}
 use contract.BorrowLft.{◌⊑◌}
 use contract.Running.{tables}
-use types.Kit.{‵, raw, ◌⊛◌, prop, at_ret, ◌$◌, ◌∵◌, !, qed, by, move, keep, drop, use0, use1, use2, regoal, rewrite, split, join, fsplit, fsplit3, fjoin, fjoin3, feq_i, feq_l}
+use types.Kit.{‵, raw, ◌⊛◌, prop, at_ret, ◌$◌, ◌∵◌, !, qed, by, move, keep, drop, use0, use1, regoal, rewrite, split, join, fsplit, fsplit3, fjoin, fjoin3, feq_i, feq_l}
 use types.Part.{agg, whole, sub, look_in}
 use types.Run.{stop, fld, load, of_opd, and_then, no_more, first, blocks, exec, returns, enter}
 use types.ByLocal.{alloc_all, pass_all, free_all, look_at, get, through, sets, sets_last, env}
 use denote.Exit.{yes}
 use denote.RattleType.{owns}
 use denote.Signature.{types_at, plain}
-use denote.Builtin.{usize}
 use denote.RawPtr.{Ptr, RawPtr, block_ptr, ptr_val}
 use denote.Param.{layouts}
 use denote.Steps.{nothing, heard}

@@ -1,10 +1,9 @@
 -- `set_last_next` writes the last block's pointer. Assumes `Logic`.
-use Rattle.std.proofs.Common.{◌≡◌, ℕ, List, [], ◌∷◌, ◌++◌, refl, sym, ap, ◌∙◌}
-use native.Mathlib.Omega.{arith}
+use Rattle.std.proofs.Common.{◌≡◌, List, [], ◌∷◌, ◌++◌, refl, sym, ap, ◌∙◌}
 use base.Fraction.{full_share}
 use Prim.Native.Nat.{zero, ◌<◌}
 use lib.ListN.{length}
-use mir.Syntax.{Fn, Args, a_type, w64, ty_ptr}
+use mir.Syntax.{Fn, Args, a_type, ty_ptr}
 use mir.MapTy.{inst_fn}
 use mir.Val.{Val, vptr, vunit}
 use base.Logic.{SProp, emp, id⊢}
@@ -16,11 +15,10 @@ use contract.Running.{tables}
 use types.Kit.{‵, raw, ◌⊛◌, prop, at_ret, ◌$◌, ◌∵◌, !, qed, by, move, keep, drop, use0, use1, use2, regoal, rewrite, split, join, fsplit, fsplit3, fjoin, fjoin3, feq_i, feq_l}
 use types.Part.{whole, sub, store_in}
 use types.Run.{stop, fld, of_opd, unit_lit, assigns_last, first, blocks, exec, returns, enter}
-use types.ByLocal.{alloc_all, pass_all, free_all, look_at, get, through, sets, sets_last, env}
+use types.ByLocal.{alloc_all, pass_all, free_all, look_at, get, through, sets, env}
 use denote.Exit.{yes}
 use denote.RattleType.{owns}
 use denote.Signature.{types_at, plain}
-use denote.Builtin.{usize}
 use denote.RawPtr.{Ptr, RawPtr, ptr_val}
 use denote.Param.{layouts}
 use denote.Steps.{nothing, heard}

@@ -1,4 +1,4 @@
-use Rattle.std.proofs.Common.{◌≡◌, ap, ◌∙◌, take, drop, ◌-◌, arith}
+use Rattle.std.proofs.Common.{ap, ◌∙◌, take, drop, ◌-◌, arith}
 use Rattle.sy_chain.specs.Rows.{next_of}
 use Rattle.sy_chain.proofs.Rows.{ends_in, rest_in, front_in, front_list, rest_list}
 use Rattle.sy_chain.proofs.row.Row.cut_front.Goals as goal
