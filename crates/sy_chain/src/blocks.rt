@@ -54,7 +54,9 @@ impl<T> Blocks<T> {
     pub(crate) fn new() -> Blocks<T>
         ensures { result.placed ≡ [] }
     {
-        Blocks { values: PhantomData }
+        Blocks {
+            values: PhantomData,
+        }
     }
 
     /// Ends the right to no blocks.
@@ -70,7 +72,12 @@ impl<T> Blocks<T> {
         ensures start { IsStart result.0 }
     {
         let RawBox { at, alloc: _ } = block;
-        (at, Blocks { values: PhantomData })
+        (
+            at,
+            Blocks {
+                values: PhantomData,
+            },
+        )
     }
 
     /// Hands out the first block, which lies there.
@@ -106,7 +113,9 @@ impl<T> Blocks<T> {
         ensures front { result.placed ≡ take n self.old.placed }
         ensures rest { self.new.placed ≡ drop n self.old.placed }
     {
-        Blocks { values: PhantomData }
+        Blocks {
+            values: PhantomData,
+        }
     }
 
     pub(crate) fn append(&mut self, other: Blocks<T>)

@@ -125,13 +125,13 @@ impl<T> Row<T> {
             return Row::new();
         }
         let first = self.first;
-        let last = self.blocks.place(first, n - 1);
-        self.first = self.blocks.next(last, n - 1);
+        let end = self.blocks.place(first, n - 1);
+        self.first = self.blocks.next(end, n - 1);
         let mut front = self.blocks.cut_front(n);
-        front.set_last_next(last, null_mut());
+        front.set_last_next(end, null_mut());
         Row {
             first,
-            last,
+            last: end,
             blocks: front,
         }
     }
