@@ -1,10 +1,10 @@
 //! Blocks of memory, each of which has a value and a pointer to another block.
 //!
 //! Here pointers are followed and memory is written, and nothing is decided: which pointer goes where is up to
-//! [`Row`](crate::row::Row), whose code is safe.
-ghost use Rattle.std.specs.Prelude.{◌≡◌, ◌+◌, ◌<◌, ◌≤◌, List, [], ◌∷◌, ◌++◌, drop, length, take};
+//! [`LinkedBlocks`](crate::linked::LinkedBlocks), whose code is safe.
+ghost use Rattle.std.specs.Prelude.{◌≡◌, ◌<◌, List, [], ◌∷◌, ◌++◌, drop, length, take};
 ghost use denote.RawPtr.{null_ptr};
-ghost use Rattle.sy_chain.specs.Rows.{Placed, IsStart, Leads, last_place, next_of, place_of, with_last_next};
+ghost use Rattle.sy_chain.specs.Linked.{Placed, IsStart, Leads, last_place, next_of, place_of, with_last_next};
 ghost use Rattle.sy_chain.specs.Ownership.{blocks_own};
 
 use crate::raw_box::RawBox;
@@ -125,7 +125,7 @@ impl<T> Blocks<T> {
     }
 
     /// Where the i-th block lies, of blocks each of which leads to the next.
-    #[tactic(auto, using(crate::proofs::Rows::leads_first, crate::proofs::Rows::leads_next))]
+    #[tactic(auto, using(crate::proofs::Leading::leads_first, crate::proofs::Leading::leads_next))]
     pub(crate) fn place(&mut self, first: *mut Block<T>, i: usize) -> *mut Block<T>
         requires { (i < length self.old.placed) × Leads first self.old.placed null_ptr }
         ensures place { result ≡ place_of self.old.placed i }

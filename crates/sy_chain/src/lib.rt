@@ -8,9 +8,9 @@
 mod blocks;
 pub mod chain;
 pub mod laws;
+mod linked;
 pub mod node;
 mod raw_box;
-mod row;
 
 pub use chain::Chain;
 pub use node::{Node, RenewFault};

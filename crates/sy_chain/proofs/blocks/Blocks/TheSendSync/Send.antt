@@ -10,7 +10,7 @@ use denote.Param.Send.{IsSend, AllSend, owning_send, struct_send, sendable}
 use Rattle.std.proofs.Crossing as heap
 use Rattle.std_alloc.proofs.SendSync.{quiet, lies}
 use Rattle.core.specs.contracts.marker.PhantomData as Mark
-use Rattle.sy_chain.specs.Rows.{Placed}
+use Rattle.sy_chain.specs.Linked.{Placed}
 use Rattle.sy_chain.specs.Ownership.{blocks_own}
 use Rattle.sy_chain.specs.contracts.blocks.Blocks.{the_row, the_type}
 use Rattle.sy_chain.specs.contracts.blocks.Block as Block

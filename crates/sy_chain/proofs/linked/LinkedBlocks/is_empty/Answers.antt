@@ -1,6 +1,6 @@
 use Rattle.core.specs.Ptr.NonNull.{non_null_ptr}
-use Rattle.sy_chain.proofs.Rows.{leads_tests, tells_empty}
-use Rattle.sy_chain.proofs.row.Row.is_empty.Goals as goal
+use Rattle.sy_chain.proofs.Leading.{leads_tests, tells_empty}
+use Rattle.sy_chain.proofs.linked.LinkedBlocks.is_empty.Goals as goal
 
 pub new-requires : goal.new-requires
 new-requires g c = leads_tests c.self.inside.first c.self.inside.blocks.placed c.self.invariant.leads

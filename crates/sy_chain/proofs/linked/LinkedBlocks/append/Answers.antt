@@ -1,7 +1,7 @@
-use Rattle.sy_chain.proofs.Rows.{some_in, joined_in}
-use Rattle.sy_chain.proofs.row.Row.append.Goals as goal
+use Rattle.sy_chain.proofs.Leading.{some_in, joined_in}
+use Rattle.sy_chain.proofs.linked.LinkedBlocks.append.Goals as goal
 
--- the other row's last block is the last, and the last of this one leads to the other's first
+-- the other's last block is the last, and the last one here leads to the other's first
 pub invariant_of-self : goal.invariant_of-self
 invariant_of-self g c = joined_in
     c.self.inside.first c.self.inside.last c.other.inside.first c.other.inside.last

@@ -1,4 +1,4 @@
--- What stays a row where blocks come or go.
+-- Linked blocks stay linked where blocks come or go.
 use mathlib.Core.Path.{◌≡◌, refl, sym, ap, ◌∙◌, subst}
 use mathlib.Core.List.{List, [], ◌∷◌, ◌++◌}
 use Prim.Native.Nat.{ℕ, zero, suc, ◌+◌, ◌-◌, ◌<◌, ◌≤◌, ◌^◌}
@@ -10,13 +10,13 @@ use mathlib.Core.Bool.{Bool, true, false, not, false≢true}
 use Rattle.std.specs.Prelude.{Option, None, Some, is_some, IfNone, IfSome, IsTrue, ◌↔◌}
 use denote.RawPtr.{Ptr, InBlock, null_ptr, count_of, Testable}
 use Rattle.sy_chain.proofs.Cuts.{take_map, drop_map}
-use Rattle.sy_chain.specs.Rows.{Placed, Leads, IsRow, last_place, with_last_next, place_of, next_of, elems}
+use Rattle.sy_chain.specs.Linked.{Placed, Leads, AreLinked, last_place, with_last_next, place_of, next_of, elems}
 
 before : (n : ℕ) → 0 < n → suc (n - 1) ≡ n
 before n p = omega arith
 
 module _ {X : Type 0} where
-  -- where a row begins may be compared with null
+  -- where linked blocks begin may be compared with null
   pub leads_tests : (p : Ptr) (bs : List (Placed X)) → Leads p bs null_ptr → Testable p
   leads_tests p [] c = subst (λ q. count_of q < 2 ^ 63) (sym c) (lit< tt)
   leads_tests p (b ∷ bs) c = subst (λ k. k < 2 ^ 63) (sym (ap count_of c.0 ∙ c.1.1)) (lit< tt)
@@ -94,7 +94,7 @@ module _ {X : Type 0} where
   pub changed_is : (q : Ptr) (bs xs : List (Placed X)) (b : Placed X) → bs ≡ xs ++ b ∷ [] → with_last_next q bs ≡ xs ++ (b.0, record b.1 { next = q }) ∷ []
   changed_is q bs xs b e = ap (with_last_next q) e ∙ changed_there q xs b
 
-  -- ---- in a row
+  -- ---- one after the other
   pub leads_first : (p q : Ptr) (bs : List (Placed X)) → 0 < length bs → Leads p bs q → p ≡ place_of bs 0
   leads_first p q [] more c = absurd (omega arith)
   leads_first p q (b ∷ bs) more c = c.0
@@ -142,22 +142,22 @@ module _ {X : Type 0} where
   pub cut_ends : (n : ℕ) (bs : List (Placed X)) → 0 < n → n ≤ length bs → (0 < length (take n bs)) × (place_of bs (n - 1) ≡ last_place (take n bs))
   cut_ends n bs p q = (subst (λ k. 0 < length (take k bs)) (before n p) (some_taken bs (n - 1) (omega arith)), cut_last bs (n - 1) (omega arith) ∙ ap (λ k. last_place (take k bs)) (before n p))
 
-  pub cut_front : (f l : Ptr) (n : ℕ) (bs : List (Placed X)) → 0 < n → n ≤ length bs → IsRow f l bs → IsRow f (place_of bs (n - 1)) (with_last_next null_ptr (take n bs))
-  cut_front f l n bs p q row = let ends = cut_ends n bs p q in record {
-    leads = leads_elsewhere f (next_of bs (n - 1)) null_ptr (take n bs) ends.0 (subst (λ k. Leads f (take k bs) (next_of bs (n - 1))) (before n p) (cut_leads f null_ptr bs (n - 1) (omega arith) row.leads));
+  pub cut_front : (f l : Ptr) (n : ℕ) (bs : List (Placed X)) → 0 < n → n ≤ length bs → AreLinked f l bs → AreLinked f (place_of bs (n - 1)) (with_last_next null_ptr (take n bs))
+  cut_front f l n bs p q linked = let ends = cut_ends n bs p q in record {
+    leads = leads_elsewhere f (next_of bs (n - 1)) null_ptr (take n bs) ends.0 (subst (λ k. Leads f (take k bs) (next_of bs (n - 1))) (before n p) (cut_leads f null_ptr bs (n - 1) (omega arith) linked.leads));
     ends = λ more. ends.1 ∙ sym (same_last null_ptr (take n bs));
   }
 
-  pub cut_rest : (f l : Ptr) (n : ℕ) (bs : List (Placed X)) → 0 < n → n ≤ length bs → IsRow f l bs → IsRow (next_of bs (n - 1)) l (drop n bs)
-  cut_rest f l n bs p q row = record {
-    leads = subst (λ k. Leads (next_of bs (n - 1)) (drop k bs) null_ptr) (before n p) (cut_leaves f null_ptr bs (n - 1) (omega arith) row.leads);
-    ends = λ more. row.ends (omega arith) ∙ sym (last_left bs n more);
+  pub cut_rest : (f l : Ptr) (n : ℕ) (bs : List (Placed X)) → 0 < n → n ≤ length bs → AreLinked f l bs → AreLinked (next_of bs (n - 1)) l (drop n bs)
+  cut_rest f l n bs p q linked = record {
+    leads = subst (λ k. Leads (next_of bs (n - 1)) (drop k bs) null_ptr) (before n p) (cut_leaves f null_ptr bs (n - 1) (omega arith) linked.leads);
+    ends = λ more. linked.ends (omega arith) ∙ sym (last_left bs n more);
   }
 
-  -- ---- a row behind a row
-  pub joined : (f l g m : Ptr) (bs cs : List (Placed X)) → 0 < length bs → 0 < length cs → IsRow f l bs → IsRow g m cs → IsRow f m (with_last_next g bs ++ cs)
-  joined f l g m bs cs some more row other = record {
-    leads = leads_on f g null_ptr (with_last_next g bs) cs (leads_elsewhere f null_ptr g bs some row.leads) other.leads;
+  -- ---- blocks behind blocks
+  pub joined : (f l g m : Ptr) (bs cs : List (Placed X)) → 0 < length bs → 0 < length cs → AreLinked f l bs → AreLinked g m cs → AreLinked f m (with_last_next g bs ++ cs)
+  joined f l g m bs cs some more linked other = record {
+    leads = leads_on f g null_ptr (with_last_next g bs) cs (leads_elsewhere f null_ptr g bs some linked.leads) other.leads;
     ends = λ both. other.ends more ∙ sym (last_behind (with_last_next g bs) cs more);
   }
 
@@ -167,30 +167,30 @@ module _ {X : Type 0} where
   joined_elems q (b ∷ d ∷ bs) cs = ap (λ xs. b.1.elem ∷ xs) (joined_elems q (d ∷ bs) cs)
 
   -- ---- whether there is one
-  null_first : (f l : Ptr) (bs : List (Placed X)) → IsRow f l bs → f ≡ null_ptr → bs ≡ []
-  null_first f l [] row e = refl
-  null_first f l (b ∷ bs) row e = absurd (subst InBlock (sym row.leads.0 ∙ e) row.leads.1.0)
+  null_first : (f l : Ptr) (bs : List (Placed X)) → AreLinked f l bs → f ≡ null_ptr → bs ≡ []
+  null_first f l [] linked e = refl
+  null_first f l (b ∷ bs) linked e = absurd (subst InBlock (sym linked.leads.0 ∙ e) linked.leads.1.0)
 
-  pub tells_empty : {P : Type 0} (f l : Ptr) (bs : List (Placed X)) → IsRow f l bs → (place : P → Ptr) (o : Option P) (r : Bool) → is_some o ≡ not r
+  pub tells_empty : {P : Type 0} (f l : Ptr) (bs : List (Placed X)) → AreLinked f l bs → (place : P → Ptr) (o : Option P) (r : Bool) → is_some o ≡ not r
       → IfNone o (f ≡ null_ptr) → IfSome o (λ p. place p ≡ f) → IfSome o (λ p. InBlock (place p)) → IsTrue r ↔ (elems bs ≡ [])
-  tells_empty f l bs row place None true told null at there = ((λ _. ap elems (null_first f l bs row null)), (λ _. refl))
-  tells_empty f l bs row place None false told null at there = absurd (false≢true told)
-  tells_empty f l bs row place (Some p) true told null at there = absurd (false≢true (sym told))
-  tells_empty f l bs row place (Some p) false told null at there = (
+  tells_empty f l bs linked place None true told null at there = ((λ _. ap elems (null_first f l bs linked null)), (λ _. refl))
+  tells_empty f l bs linked place None false told null at there = absurd (false≢true told)
+  tells_empty f l bs linked place (Some p) true told null at there = absurd (false≢true (sym told))
+  tells_empty f l bs linked place (Some p) false told null at there = (
     (λ yes. absurd (false≢true yes)),
-    (λ none. absurd (subst InBlock (at ∙ subst (λ cs. Leads f cs null_ptr) (none_there bs none) row.leads) there)),
+    (λ none. absurd (subst InBlock (at ∙ subst (λ cs. Leads f cs null_ptr) (none_there bs none) linked.leads) there)),
   )
 
   pub some_there : (bs : List (Placed X)) (r : Bool) → r ≡ false → IsTrue r ↔ (elems bs ≡ []) → 0 < length bs
   some_there [] r fails told = absurd (false≢true (sym fails ∙ told.1 refl))
   some_there (b ∷ bs) r fails told = omega arith
 
-  -- ---- what the calls say, in a row's terms
+  -- ---- what the calls say, in these terms
   pub some_in : (bs : List (Placed X)) (xs : List X) (r : Bool) → elems bs ≡ xs → r ≡ false → IsTrue r ↔ (xs ≡ []) → 0 < length bs
   some_in bs xs r view fails told = some_there bs r fails (subst (λ ys. IsTrue r ↔ (ys ≡ [])) (sym view) told)
 
-  pub joined_in : (f l g m : Ptr) (bs cs changed all : List (Placed X)) → 0 < length bs → 0 < length cs → IsRow f l bs → IsRow g m cs → changed ≡ with_last_next g bs → all ≡ changed ++ cs → IsRow f m all
-  joined_in f l g m bs cs changed all some more row other is are = subst (IsRow f m) (sym (are ∙ ap (λ ds. ds ++ cs) is)) (joined f l g m bs cs some more row other)
+  pub joined_in : (f l g m : Ptr) (bs cs changed all : List (Placed X)) → 0 < length bs → 0 < length cs → AreLinked f l bs → AreLinked g m cs → changed ≡ with_last_next g bs → all ≡ changed ++ cs → AreLinked f m all
+  joined_in f l g m bs cs changed all some more linked other is are = subst (AreLinked f m) (sym (are ∙ ap (λ ds. ds ++ cs) is)) (joined f l g m bs cs some more linked other)
 
   pub joined_list : (q : Ptr) (bs cs changed all : List (Placed X)) (xs ys : List X) → elems bs ≡ xs → elems cs ≡ ys → changed ≡ with_last_next q bs → all ≡ changed ++ cs → elems all ≡ xs ++ ys
   joined_list q bs cs changed all xs ys view other is are = ap elems (are ∙ ap (λ ds. ds ++ cs) is) ∙ joined_elems q bs cs ∙ (λ i. view i ++ other i)
@@ -205,13 +205,13 @@ module _ {X : Type 0} where
   pub ends_in : (n : ℕ) (bs front : List (Placed X)) (xs : List X) (at : Ptr) → elems bs ≡ xs → 0 < n → n ≤ length xs → at ≡ place_of bs (n - 1) → front ≡ take n bs → (0 < length front) × (at ≡ last_place front)
   ends_in n bs front xs at view some fits lies is = let ends = cut_ends n bs some (long n bs xs view fits) in (subst (λ ds. 0 < length ds) (sym is) ends.0, lies ∙ ends.1 ∙ ap last_place (sym is))
 
-  pub front_in : (f l at : Ptr) (n : ℕ) (bs front all : List (Placed X)) (xs : List X) → elems bs ≡ xs → 0 < n → n ≤ length xs → IsRow f l bs
-      → at ≡ place_of bs (n - 1) → front ≡ take n bs → all ≡ with_last_next null_ptr front → IsRow f at all
-  front_in f l at n bs front all xs view some fits row lies is are = subst (λ p. IsRow f p all) (sym lies) (subst (IsRow f (place_of bs (n - 1))) (sym (are ∙ ap (with_last_next null_ptr) is)) (cut_front f l n bs some (long n bs xs view fits) row))
+  pub front_in : (f l at : Ptr) (n : ℕ) (bs front all : List (Placed X)) (xs : List X) → elems bs ≡ xs → 0 < n → n ≤ length xs → AreLinked f l bs
+      → at ≡ place_of bs (n - 1) → front ≡ take n bs → all ≡ with_last_next null_ptr front → AreLinked f at all
+  front_in f l at n bs front all xs view some fits linked lies is are = subst (λ p. AreLinked f p all) (sym lies) (subst (AreLinked f (place_of bs (n - 1))) (sym (are ∙ ap (with_last_next null_ptr) is)) (cut_front f l n bs some (long n bs xs view fits) linked))
 
-  pub rest_in : (f l next : Ptr) (n : ℕ) (bs rest : List (Placed X)) (xs : List X) → elems bs ≡ xs → 0 < n → n ≤ length xs → IsRow f l bs
-      → next ≡ next_of bs (n - 1) → rest ≡ drop n bs → IsRow next l rest
-  rest_in f l next n bs rest xs view some fits row leads is = subst (λ p. IsRow p l rest) (sym leads) (subst (IsRow (next_of bs (n - 1)) l) (sym is) (cut_rest f l n bs some (long n bs xs view fits) row))
+  pub rest_in : (f l next : Ptr) (n : ℕ) (bs rest : List (Placed X)) (xs : List X) → elems bs ≡ xs → 0 < n → n ≤ length xs → AreLinked f l bs
+      → next ≡ next_of bs (n - 1) → rest ≡ drop n bs → AreLinked next l rest
+  rest_in f l next n bs rest xs view some fits linked leads is = subst (λ p. AreLinked p l rest) (sym leads) (subst (AreLinked (next_of bs (n - 1)) l) (sym is) (cut_rest f l n bs some (long n bs xs view fits) linked))
 
   pub front_list : (n : ℕ) (bs front all : List (Placed X)) (xs : List X) → elems bs ≡ xs → front ≡ take n bs → all ≡ with_last_next null_ptr front → elems all ≡ take n xs
   front_list n bs front all xs view is are = ap elems are ∙ same_elems null_ptr front ∙ ap elems is ∙ sym (take_map (λ b. b.1.elem) n bs) ∙ ap (take n) view

@@ -1,4 +1,4 @@
-//! Blocks in a row, each of which points to the next.
+//! Blocks, each of which points to the next.
 ghost use Rattle.std.specs.Prelude.{◌≡◌, ◌<◌, ◌≤◌, [], ◌∷◌, ◌++◌, drop, length, take, IfNone, IfSome, IsTrue, ◌↔◌};
 
 use crate::blocks::{Block, Blocks};
@@ -8,44 +8,45 @@ use std::marker::{Model, Send};
 use std::mem;
 use std::ptr::{NonNull, null_mut};
 
-/// The place of the first block of a row, null where there is none, and of the last. The last one leads nowhere.
+/// Blocks, each of which points to the next, and the last one nowhere: the places of the first, null where there is
+/// none, and of the last, and the right to all of them.
 ///
-/// Seen as the list of the blocks' values. Where the row is empty, `last` says nothing.
-pub struct Row<T> {
+/// Seen as the list of the blocks' values. Where there is no block, `last` says nothing.
+pub struct LinkedBlocks<T> {
     first: *mut Block<T>,
     last: *mut Block<T>,
     blocks: Blocks<T>,
 }
 
-impl<T> Model for Row<T> {
+impl<T> Model for LinkedBlocks<T> {
     ghost use Rattle.std.specs.Prelude.{List};
-    ghost use Rattle.sy_chain.specs.Rows.{IsRow, elems};
+    ghost use Rattle.sy_chain.specs.Linked.{AreLinked, elems};
 
     ghost Value = { List T };
 
     ghost view = { λ r. elems r.blocks.placed };
 
-    ghost invariant = { λ r. IsRow r.first r.last r.blocks.placed };
+    ghost invariant = { λ r. AreLinked r.first r.last r.blocks.placed };
 }
 
-unsafe impl<T: Send> Send for Row<T> {}
+unsafe impl<T: Send> Send for LinkedBlocks<T> {}
 
-impl<T> Row<T> {
-    pub(crate) fn new() -> Row<T>
+impl<T> LinkedBlocks<T> {
+    pub(crate) fn new() -> LinkedBlocks<T>
         ensures { result ≡ [] }
     {
-        Row {
+        LinkedBlocks {
             first: null_mut(),
             last: null_mut(),
             blocks: Blocks::new(),
         }
     }
 
-    /// Ends an empty row.
+    /// Ends what has no blocks.
     pub(crate) fn end(self)
         requires { self ≡ [] }
     {
-        let Row {
+        let LinkedBlocks {
             first: _,
             last: _,
             blocks,
@@ -59,13 +60,13 @@ impl<T> Row<T> {
         NonNull::new(self.first).is_none()
     }
 
-    // A row of one block.
-    fn one(block: RawBox<Block<T>, Global>) -> Row<T>
+    // One block, which leads nowhere.
+    fn one(block: RawBox<Block<T>, Global>) -> LinkedBlocks<T>
         ensures { result ≡ block.value.elem ∷ [] }
     {
         let (at, mut blocks) = Blocks::one(block);
         blocks.set_last_next(at, null_mut());
-        Row {
+        LinkedBlocks {
             first: at,
             last: at,
             blocks,
@@ -75,12 +76,12 @@ impl<T> Row<T> {
     pub(crate) fn push_back(&mut self, block: RawBox<Block<T>, Global>)
         ensures { self.new ≡ self.old ++ block.value.elem ∷ [] }
     {
-        self.append(Row::one(block));
+        self.append(LinkedBlocks::one(block));
     }
 
-    /// Puts the other row's blocks at the end.
-    #[tactic(auto, using(crate::proofs::Rows::some_in, crate::proofs::Rows::joined_in, crate::proofs::Rows::joined_list))]
-    pub(crate) fn append(&mut self, mut other: Row<T>)
+    /// Puts the others at the end.
+    #[tactic(auto, using(crate::proofs::Leading::some_in, crate::proofs::Leading::joined_in, crate::proofs::Leading::joined_list))]
+    pub(crate) fn append(&mut self, mut other: LinkedBlocks<T>)
         ensures { self.new ≡ self.old ++ other }
     {
         if other.is_empty() {
@@ -92,7 +93,7 @@ impl<T> Row<T> {
             other.end();
             return;
         }
-        let Row {
+        let LinkedBlocks {
             first,
             last,
             blocks,
@@ -102,7 +103,7 @@ impl<T> Row<T> {
         self.blocks.append(blocks);
     }
 
-    #[tactic(auto, using(crate::proofs::Rows::some_in, crate::proofs::Rows::leads_first))]
+    #[tactic(auto, using(crate::proofs::Leading::some_in, crate::proofs::Leading::leads_first))]
     pub(crate) fn pop_front(&mut self) -> Option<RawBox<Block<T>, Global>>
         ensures some { IfSome result (λ b. self.old ≡ b.value.elem ∷ self.new) }
         ensures none { IfNone result ((self.old ≡ []) × (self.new ≡ [])) }
@@ -116,20 +117,20 @@ impl<T> Row<T> {
     }
 
     /// Cuts off the first n blocks.
-    pub(crate) fn cut_front(&mut self, n: usize) -> Row<T>
+    pub(crate) fn cut_front(&mut self, n: usize) -> LinkedBlocks<T>
         requires { n ≤ length self.old }
         ensures front { result ≡ take n self.old }
         ensures rest { self.new ≡ drop n self.old }
     {
         if n == 0 {
-            return Row::new();
+            return LinkedBlocks::new();
         }
         let first = self.first;
         let end = self.blocks.place(first, n - 1);
         self.first = self.blocks.next(end, n - 1);
         let mut front = self.blocks.cut_front(n);
         front.set_last_next(end, null_mut());
-        Row {
+        LinkedBlocks {
             first,
             last: end,
             blocks: front,

@@ -1,7 +1,7 @@
 use Rattle.std.proofs.Common.{ap, ◌∙◌, take, drop, ◌-◌, arith}
-use Rattle.sy_chain.specs.Rows.{next_of}
-use Rattle.sy_chain.proofs.Rows.{ends_in, rest_in, front_in, front_list, rest_list}
-use Rattle.sy_chain.proofs.row.Row.cut_front.Goals as goal
+use Rattle.sy_chain.specs.Linked.{next_of}
+use Rattle.sy_chain.proofs.Leading.{ends_in, rest_in, front_in, front_list, rest_list}
+use Rattle.sy_chain.proofs.linked.LinkedBlocks.cut_front.Goals as goal
 
 pub set_last_next-requires : goal.set_last_next-requires
 set_last_next-requires g c = ends_in
