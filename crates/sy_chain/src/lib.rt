@@ -5,10 +5,12 @@
 //! Contracts see a [`Chain`] as the list of its entries.
 #![tactic(auto)]
 
+mod blocks;
 pub mod chain;
-pub mod links;
-pub mod loose;
+pub mod laws;
+mod linked;
 pub mod node;
+mod raw_box;
 
 pub use chain::Chain;
 pub use node::{Node, RenewFault};

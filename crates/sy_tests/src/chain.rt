@@ -3,6 +3,8 @@ ghost use Rattle.std.specs.Prelude.{◌≡◌, IfSome};
 
 use crate::rows::{Judge, cut, each_is_right, number};
 use std::alloc::{AllocError, Global};
+use std::collections::VecDeque;
+use std::mem;
 use std::str;
 use std::sync::Arc;
 use std::test::Fail;
@@ -107,8 +109,27 @@ fn has_tags(chain: &mut Chain, tags: &str) -> bool {
     is_right && chain.len() == 0
 }
 
-// The tags of a chain and of one that is appended to it; how many nodes are then cut off, their tags, and those that
-// are left.
+// Whether a chain has these tags once a node with tag 9 is put behind its own, and once more when it was emptied.
+fn goes_on(alloc: Global, chain: &mut Chain, tags: &str) -> Option<bool> {
+    push(alloc, chain, "9")?;
+    let is_right = has_tags(chain, tags);
+    push(alloc, chain, "9")?;
+    Some(is_right && has_tags(chain, "9"))
+}
+
+fn both_go_on(
+    alloc: Global,
+    front: &mut Chain,
+    rest: &mut Chain,
+    tags: (&str, &str),
+) -> Option<bool> {
+    let is_front = goes_on(alloc, front, tags.0)?;
+    let is_rest = goes_on(alloc, rest, tags.1)?;
+    Some(is_front && is_rest)
+}
+
+// The tags of a chain and of one that is appended to it; how many nodes are then cut off; the tags of these and of
+// those that are left, a node with tag 9 at the end of each.
 #[derive(Drop)]
 struct Chains;
 
@@ -125,28 +146,165 @@ impl Judge for Chains {
             return Err(AllocError);
         };
         let (count, tags) = cut(wanted, ':');
-        let (front, rest) = cut(tags, '/');
         let count = number(Some(count)) as usize;
         if chain.len() < count {
             return Ok(false);
         }
-        let mut cut = chain.cut_front(count);
-        Ok(has_tags(&mut cut, front) && has_tags(&mut chain, rest))
+        let mut front = chain.cut_front(count);
+        both_go_on(alloc, &mut front, &mut chain, cut(tags, '/')).ok_or(AllocError)
     }
 }
 
 const CHAINS: &str = "
-0: / | +
-0: / 1 2 | 1 2 +
-1: 3 / | + 3
-0: / 1 2 3 4 5 | 1 2 + 3 4 5
-1: 1 / 2 3 4 5 | 1 2 + 3 4 5
-4: 1 2 3 4 / 5 | 1 2 + 3 4 5
-5: 1 2 3 4 5 / | 1 2 + 3 4 5
+0: 9 / 9 | +
+0: 9 / 1 2 9 | 1 2 +
+1: 3 9 / 9 | + 3
+1: 1 9 / 3 9 | 1 + 3
+0: 9 / 1 2 3 9 | 1 2 3 +
+2: 1 2 9 / 3 9 | 1 2 3 +
+3: 1 2 3 9 / 9 | 1 2 3 +
+0: 9 / 1 2 3 4 5 9 | 1 2 + 3 4 5
+1: 1 9 / 2 3 4 5 9 | 1 2 + 3 4 5
+2: 1 2 9 / 3 4 5 9 | 1 2 + 3 4 5
+4: 1 2 3 4 9 / 5 9 | 1 2 + 3 4 5
+5: 1 2 3 4 5 9 / 9 | 1 2 + 3 4 5
 ";
 
 #[test]
 fn joins_and_cuts(rt: HostRuntime) -> Result<(), Fail> {
     each_is_right(&rt, rt.alloc(), ("", "~"), CHAINS, &Chains)?;
+    Ok(())
+}
+
+// A node of a message that others have too.
+fn of(alloc: Global, message: &Arc<Message>, due: u64) -> Option<Node> {
+    Node::new(alloc, Arc::try_clone(message).ok()?, 0, 0, due, 0).ok()
+}
+
+// The length of a chain of so many nodes, which ends with the call.
+fn length_of(alloc: Global, count: u64) -> Option<usize> {
+    let message = message(alloc, RAW)?;
+    let mut chain = Chain::new();
+    for due in 0..count {
+        chain.push_back(of(alloc, &message, due)?);
+    }
+    Some(chain.len())
+}
+
+#[test]
+fn ends_a_million(rt: HostRuntime) -> Result<(), Fail> {
+    assert!(rt; length_of(rt.alloc(), 1_000_000) == Some(1_000_000));
+    Ok(())
+}
+
+// A chain, and a plain list of the due sets of its nodes.
+#[derive(Drop)]
+struct Both {
+    chain: Chain,
+    list: VecDeque<u64>,
+}
+
+fn due_of(node: Option<Node>) -> Option<u64> {
+    match node {
+        Some(node) => Some(node.due()),
+        None => None,
+    }
+}
+
+impl Both {
+    fn push(&mut self, alloc: Global, message: &Arc<Message>, due: u64) -> Option<()> {
+        self.list.push_back(due).ok()?;
+        self.chain.push_back(of(alloc, message, due)?);
+        Some(())
+    }
+
+    fn pop(&mut self) -> bool {
+        due_of(self.chain.pop_front()) == self.list.pop_front()
+    }
+
+    // Cuts nodes off, at most n, and lets them go.
+    fn lose(&mut self, n: usize) {
+        let n = n.min(self.chain.len());
+        let front = self.chain.cut_front(n);
+        drop(front);
+        for _ in 0..n {
+            self.list.pop_front();
+        }
+    }
+
+    // Cuts nodes off, at most n, and puts them at the end.
+    fn turn(&mut self, n: usize) -> Option<()> {
+        let n = n.min(self.chain.len());
+        let front = self.chain.cut_front(n);
+        self.chain.append(front);
+        for _ in 0..n {
+            let due = self.list.pop_front()?;
+            self.list.push_back(due).ok()?;
+        }
+        Some(())
+    }
+
+    // Cuts nodes off, at most n, and puts the others behind them again.
+    fn mend(&mut self, n: usize) {
+        let mut front = self.chain.cut_front(n.min(self.chain.len()));
+        mem::swap(&mut front, &mut self.chain);
+        self.chain.append(front);
+    }
+
+    fn set_due(&mut self, due: u64) {
+        if self.chain.is_empty() {
+            return;
+        }
+        self.chain.set_due(due);
+        if let Some(first) = self.list.front_mut() {
+            *first = due;
+        }
+    }
+
+    fn is_alike(&self) -> bool {
+        let due = match self.chain.front() {
+            Some(node) => Some(node.due()),
+            None => None,
+        };
+        due == self.list.front().copied()
+            && self.chain.len() == self.list.len()
+            && self.chain.is_empty() == self.list.is_empty()
+    }
+
+    // One call of the chain, which the number says.
+    fn call(&mut self, alloc: Global, message: &Arc<Message>, random: u64) -> Option<bool> {
+        let count = (random >> 8) as usize & 31;
+        match random & 15 {
+            0..=6 => self.push(alloc, message, random)?,
+            7..=9 => return Some(self.pop()),
+            10 => self.lose(count),
+            11 | 12 => self.turn(count)?,
+            13 => self.mend(count),
+            _ => self.set_due(random),
+        }
+        Some(self.is_alike())
+    }
+}
+
+// Whether a chain and a list stay alike over so many calls.
+fn stay_alike(alloc: Global, calls: u32) -> Option<bool> {
+    let message = message(alloc, RAW)?;
+    let mut both = Both {
+        chain: Chain::new(),
+        list: VecDeque::new(alloc),
+    };
+    let (mut random, mut is_right) = (1_u64, true);
+    for _ in 0..calls {
+        random = random
+            .wrapping_mul(6_364_136_223_846_793_005)
+            .wrapping_add(1_442_695_040_888_963_407);
+        is_right = is_right && both.call(alloc, &message, random >> 16)?;
+    }
+    Some(is_right)
+}
+
+#[test]
+fn agrees_with_a_list(rt: HostRuntime) -> Result<(), Fail> {
+    assert!(rt; stay_alike(rt.alloc(), 100_000) == Some(true));
     Ok(())
 }
