@@ -1,5 +1,8 @@
 pub mod SameDevice
 pub mod Writes
+pub mod OneByOne
+pub mod ToldSinks
+pub mod Batches
 pub mod LineLaws
 pub mod LineSteps
 pub mod LineRuns

@@ -3,7 +3,8 @@ ghost use Rattle.std.specs.Prelude.{◌≡◌, ◌≤◌, ◌++◌, false, true,
 ghost use Rattle.std.specs.Io.KnownBytes.{Appends, Keeps};
 ghost use Rattle.sy_wire.specs.Frames.{IsSize, frame};
 ghost use Rattle.sy_wire.specs.Streams.{Rose, count_after};
-ghost use Rattle.sy_actions.specs.FrameSinks.{AppendsFront, OffersFrame, StandsForFrames};
+ghost use Rattle.sy_actions.specs.FrameSinks.{AppendsFront, Framing, OffersFrame, OffersToldFrame, StandsForFrames, with_writer};
+ghost use Rattle.sy_actions.specs.Told.{Told, told};
 ghost use Rattle.sy_actions.specs.FrameSinks.{HasFramesOfAll, HasFramesTaken};
 
 use crate::device::{Device, DeviceFault};
@@ -147,6 +148,12 @@ impl<W: Sink + Drop> Device for FrameSink<W> {
     ghost stands_for = { λ s. StandsForFrames (W.contents s.writer) s.is_broken };
 
     ghost offered = { OffersFrame W.contents W.faults };
+
+    ghost State = { Framing Told };
+
+    ghost state = { λ s. with_writer s (told W.contents W.faults W.lent s.writer) };
+
+    ghost steps = { OffersToldFrame };
 
     fn offer(&mut self, message: &Arc<Message>) -> Result<(), DeviceFault> {
         if self.is_broken {

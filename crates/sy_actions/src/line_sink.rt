@@ -3,7 +3,8 @@ ghost use Rattle.std.specs.Prelude.{◌≡◌, ◌≢◌, ◌+◌, ◌<◌, ◌�
 ghost use Rattle.std.specs.Arc.{arc_value};
 ghost use Rattle.std.specs.Io.KnownBytes.{Appends, Keeps};
 ghost use Rattle.sy_wire.specs.Streams.{Rose, count_after};
-ghost use Rattle.sy_actions.specs.Lines.{IsTorn, NotEnded, Offered, StandsFor, line};
+ghost use Rattle.sy_actions.specs.Lines.{IsTorn, LineState, NotEnded, Offered, OfferedLine, StandsFor, line, with_writer};
+ghost use Rattle.sy_actions.specs.Told.{Told, told};
 ghost use Rattle.sy_actions.specs.LineTexts.{HasLinesOfAll, HasLinesTaken, StandsForOffers};
 ghost use Rattle.sy_actions.specs.internal.Ready.{Ready};
 
@@ -192,6 +193,12 @@ impl<W: Sink + Drop> Device for LineSink<W> {
     ghost offered = { λ before message answer after.
         Offered W.contents W.faults before (line message.raw) answer after
         × (W.lent after.writer ≡ W.lent before.writer) };
+
+    ghost State = { LineState Told };
+
+    ghost state = { λ s. with_writer s (told W.contents W.faults W.lent s.writer) };
+
+    ghost steps = { OfferedLine };
 
     fn offer(&mut self, message: &Arc<Message>) -> Result<(), DeviceFault> {
         self.is_torn();
