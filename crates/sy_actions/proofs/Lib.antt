@@ -3,6 +3,10 @@ pub mod Writes
 pub mod OneByOne
 pub mod ToldSinks
 pub mod Batches
+pub mod BatchLines
+pub mod LineBatches
+pub mod Chains
+pub mod LineChains
 pub mod LineLaws
 pub mod LineSteps
 pub mod LineRuns
