@@ -12,3 +12,5 @@ pub mod LineSteps
 pub mod LineRuns
 pub mod LineTextLaws
 pub mod FrameLaws
+pub mod BatchFrames
+pub mod FrameBatches

@@ -29,14 +29,14 @@ line_own before message NoMemory after o = λ same. cc
 line_own before message Broken after o = absurd o.0
 line_own before message CountFull after o = absurd o.0
 
-more_in_all : (f g r s : ℕ) → f ≤ g → s ≡ r → count_after f r ≤ count_after g s
+pub more_in_all : (f g r s : ℕ) → f ≤ g → s ≡ r → count_after f r ≤ count_after g s
 more_in_all f g r s more same = omega (arith, more, same)
 
-rose_in_all : (f g r s : ℕ) → Rose f g → s ≡ r → Rose (count_after f r) (count_after g s)
+pub rose_in_all : (f g r s : ℕ) → Rose f g → s ≡ r → Rose (count_after f r) (count_after g s)
 rose_in_all f g r s (inr full) same = inr (omega (arith, full))
 rose_in_all f g r s (inl rose) same = elim (cases_lt (f + r) (2 ^ 64 - 1)) [ inl less ↦ inl (omega (arith, rose, same, less)) | inr more ↦ inr (omega (arith, rose, same, more)) ]
 
-one_counted : (f g r s : ℕ) → g ≡ f → s ≡ count_after r 1 → Rose (count_after f r) (count_after g s)
+pub one_counted : (f g r s : ℕ) → g ≡ f → s ≡ count_after r 1 → Rose (count_after f r) (count_after g s)
 one_counted f g r s same counted = elim (cases_lt (f + r) (2 ^ 64 - 1)) [ inl less ↦ inl (omega (arith, same, counted, less)) | inr more ↦ inr (omega (arith, same, counted, more)) ]
 
 pub line_count : (before : LineState Told) (message : Said) (answer : Result ⊤ DeviceFault) (after : LineState Told) → OfferedLine before message answer after → line_faults before ≤ line_faults after

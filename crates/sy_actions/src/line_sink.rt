@@ -71,7 +71,7 @@ fn fill(buffer: &mut Vec<u8>, out: usize, raw: &[u8]) -> Result<(), AllocError>
 
 // Writes what is left of the bytes from there on, and answers how many are out then: not all of them where a write
 // failed, which is not tried again.
-fn write_from<W: Sink>(writer: &mut W, bytes: &[u8], from: usize) -> usize
+pub(crate) fn write_from<W: Sink>(writer: &mut W, bytes: &[u8], from: usize) -> usize
     requires { from ≤ length bytes.now }
     ensures more { from ≤ result }
     ensures bound { result ≤ length bytes.now }
