@@ -1,7 +1,16 @@
 pub mod SameDevice
 pub mod Writes
+pub mod OneByOne
+pub mod ToldSinks
+pub mod Batches
+pub mod BatchLines
+pub mod LineBatches
+pub mod Chains
+pub mod LineChains
 pub mod LineLaws
 pub mod LineSteps
 pub mod LineRuns
 pub mod LineTextLaws
 pub mod FrameLaws
+pub mod BatchFrames
+pub mod FrameBatches

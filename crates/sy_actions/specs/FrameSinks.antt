@@ -7,6 +7,7 @@ use Rattle.sy_wire.specs.Frames.{IsSize, MAX_FRAME, frame, stream}
 use Rattle.sy_wire.specs.Messages.{Said}
 use Rattle.sy_wire.specs.Streams.{Rose, count_after}
 use Rattle.sy_actions.specs.Devices.{taken}
+use Rattle.sy_actions.specs.Told.{Told, told_contents, told_faults}
 use Rattle.sy_actions.specs.declared.device.DeviceFault.{DeviceFault}
 use Rattle.sy_actions.specs.declared.device.DeviceFault.TheVariants.{Write, Broken, NoMemory, CountFull}
 
@@ -103,3 +104,10 @@ module _ {W : Type 0} (contents : W → Option (List ℕ)) (faults : W → ℕ) 
       (first last : Framing W) (told : List ℕ) (messages : List Said) → first.is_broken ≡ false → contents first.writer ≡ Some told
       → Offers first messages last → last.is_broken ≡ false
       → contents last.writer ≡ Some (told ++ flat_map (λ m. decimal (length m.raw) ++ 32 ∷ m.raw) messages)
+
+-- a sink of frames before the same writer by what that tells
+abbrev pub with_writer : {W V : Type 0} → Framing W → V → Framing V
+with_writer s writer = record { writer = writer; is_broken = s.is_broken; refusals = s.refusals }
+
+abbrev pub OffersToldFrame : Framing Told → Said → Result ⊤ DeviceFault → Framing Told → Type 0
+OffersToldFrame before message answer after = OffersFrame told_contents told_faults before message answer after

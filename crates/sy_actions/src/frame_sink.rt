@@ -1,12 +1,20 @@
 //! A device that writes frames (RFC 6587, 3.4.1).
-ghost use Rattle.std.specs.Prelude.{◌≡◌, ◌≤◌, ◌++◌, false, true, length, OnErr, OnOk};
+ghost use Rattle.std.specs.Prelude.{◌≡◌, ◌≤◌, ◌++◌, ◌<◌, false, true, length, map, OnErr, OnOk};
+ghost use Rattle.std.specs.Arc.{arc_value};
 ghost use Rattle.std.specs.Io.KnownBytes.{Appends, Keeps};
 ghost use Rattle.sy_wire.specs.Frames.{IsSize, frame};
 ghost use Rattle.sy_wire.specs.Streams.{Rose, count_after};
-ghost use Rattle.sy_actions.specs.FrameSinks.{AppendsFront, OffersFrame, StandsForFrames};
+ghost use Rattle.sy_actions.specs.FrameSinks.{AppendsFront, Framing, OffersFrame, OffersToldFrame, StandsForFrames, with_writer};
+ghost use Rattle.sy_actions.specs.Told.{Told, told};
+ghost use Rattle.sy_actions.specs.Devices.{OfferedAll};
+ghost use Rattle.sy_actions.specs.internal.Batches.{OfferedSome};
 ghost use Rattle.sy_actions.specs.FrameSinks.{HasFramesOfAll, HasFramesTaken};
 
+mod batch;
+
+use self::batch::{gather, whole_frames};
 use crate::device::{Device, DeviceFault};
+use crate::line_sink::write_from;
 use std::alloc::{AllocError, Global};
 use std::marker::Model;
 use std::mem;
@@ -130,6 +138,48 @@ impl<W: Sink + Drop> FrameSink<W> {
         self.writer.flush()
     }
 
+    // Writes the frames of some of the messages, the first ones: together, where there is memory for the first of them.
+    fn write_some(&mut self, messages: &[Arc<Message>]) -> (usize, Option<DeviceFault>)
+        requires { 0 < length messages.now }
+        ensures within { result.0 ≤ length messages.now }
+        ensures steps { OfferedSome OffersToldFrame (with_writer self.new (told W.contents W.faults W.lent self.new.writer))
+            (with_writer self.old (told W.contents W.faults W.lent self.old.writer)) (map arc_value messages.now) result.0 result.1 }
+    {
+        if !self.is_broken {
+            let count = gather(&mut self.room, messages);
+            if count > 0 {
+                let (together, _) = messages.split_at(count);
+                let reached = write_from(&mut self.writer, self.room.as_slice(), 0);
+                if reached == self.room.len() {
+                    return (count, None);
+                }
+                self.is_broken = true;
+                return (whole_frames(together, reached), Some(DeviceFault::Write));
+            }
+        }
+        match self.offer(&messages[0]) {
+            Ok(()) => (1, None),
+            Err(fault) => (0, Some(fault)),
+        }
+    }
+
+    // Writes the frames of the messages, up to the first that fails.
+    fn write_frames(&mut self, messages: &[Arc<Message>]) -> (usize, Option<DeviceFault>)
+        ensures { OfferedAll OffersToldFrame (with_writer self.new (told W.contents W.faults W.lent self.new.writer))
+            (with_writer self.old (told W.contents W.faults W.lent self.old.writer)) (map arc_value messages.now) result.0 result.1 }
+    {
+        let mut taken = 0;
+        while taken < messages.len() {
+            let (_, rest) = messages.split_at(taken);
+            let (count, fault) = self.write_some(rest);
+            taken += count;
+            if let Some(fault) = fault {
+                return (taken, Some(fault));
+            }
+        }
+        (taken, None)
+    }
+
     // Refuses an offer with no write.
     fn refuse(&mut self, fault: DeviceFault) -> DeviceFault
         ensures fault { result ≡ fault }
@@ -148,6 +198,12 @@ impl<W: Sink + Drop> Device for FrameSink<W> {
 
     ghost offered = { OffersFrame W.contents W.faults };
 
+    ghost State = { Framing Told };
+
+    ghost state = { λ s. with_writer s (told W.contents W.faults W.lent s.writer) };
+
+    ghost steps = { OffersToldFrame };
+
     fn offer(&mut self, message: &Arc<Message>) -> Result<(), DeviceFault> {
         if self.is_broken {
             return Err(self.refuse(DeviceFault::Broken));
@@ -164,6 +220,10 @@ impl<W: Sink + Drop> Device for FrameSink<W> {
                 Err(DeviceFault::Write)
             }
         }
+    }
+
+    fn offer_all(&mut self, messages: &[Arc<Message>]) -> (usize, Option<DeviceFault>) {
+        self.write_frames(messages)
     }
 }
 

@@ -1,12 +1,18 @@
 //! A device that writes each message as a line.
-ghost use Rattle.std.specs.Prelude.{◌≡◌, ◌≢◌, ◌+◌, ◌<◌, ◌≤◌, length, slice_range, take, false, true, [], OnErr, OnOk};
+ghost use Rattle.std.specs.Prelude.{◌≡◌, ◌≢◌, ◌+◌, ◌<◌, ◌≤◌, length, slice_range, take, false, true, [], OnErr, OnOk, map};
 ghost use Rattle.std.specs.Arc.{arc_value};
 ghost use Rattle.std.specs.Io.KnownBytes.{Appends, Keeps};
 ghost use Rattle.sy_wire.specs.Streams.{Rose, count_after};
-ghost use Rattle.sy_actions.specs.Lines.{IsTorn, NotEnded, Offered, StandsFor, line};
+ghost use Rattle.sy_actions.specs.Lines.{IsTorn, LineState, NotEnded, Offered, OfferedLine, StandsFor, line, with_writer};
+ghost use Rattle.sy_actions.specs.Told.{Told, told};
 ghost use Rattle.sy_actions.specs.LineTexts.{HasLinesOfAll, HasLinesTaken, StandsForOffers};
+ghost use Rattle.sy_actions.specs.Devices.{OfferedAll};
+ghost use Rattle.sy_actions.specs.internal.Batches.{OfferedSome};
 ghost use Rattle.sy_actions.specs.internal.Ready.{Ready};
 
+mod batch;
+
+use self::batch::{cut, gather};
 use crate::device::{Device, DeviceFault};
 use std::alloc::{AllocError, Global};
 use std::marker::Model;
@@ -65,7 +71,7 @@ fn fill(buffer: &mut Vec<u8>, out: usize, raw: &[u8]) -> Result<(), AllocError>
 
 // Writes what is left of the bytes from there on, and answers how many are out then: not all of them where a write
 // failed, which is not tried again.
-fn write_from<W: Sink>(writer: &mut W, bytes: &[u8], from: usize) -> usize
+pub(crate) fn write_from<W: Sink>(writer: &mut W, bytes: &[u8], from: usize) -> usize
     requires { from ≤ length bytes.now }
     ensures more { from ≤ result }
     ensures bound { result ≤ length bytes.now }
@@ -165,6 +171,51 @@ impl<W: Sink + Drop> LineSink<W> {
         Err(DeviceFault::Write)
     }
 
+    // Writes the lines of some of the messages, the first ones: together, where no line is torn.
+    fn write_some(&mut self, messages: &[Arc<Message>]) -> (usize, Option<DeviceFault>)
+        requires { 0 < length messages.now }
+        ensures within { result.0 ≤ length messages.now }
+        ensures steps { OfferedSome OfferedLine (with_writer self.new (told W.contents W.faults W.lent self.new.writer))
+            (with_writer self.old (told W.contents W.faults W.lent self.old.writer)) (map arc_value messages.now) result.0 result.1 }
+    {
+        if self.out > 0 {
+            return match self.write_line(&messages[0]) {
+                Ok(()) => (1, None),
+                Err(fault) => (0, Some(fault)),
+            };
+        }
+        let count = gather(&mut self.line, messages);
+        if count == 0 {
+            self.refusals = self.refusals.saturating_add(1);
+            return (0, Some(DeviceFault::NoMemory));
+        }
+        let (together, _) = messages.split_at(count);
+        let reached = write_from(&mut self.writer, self.line.as_slice(), 0);
+        if reached == self.line.len() {
+            return (count, None);
+        }
+        let (whole, out) = cut(&mut self.line, together, reached);
+        self.out = out;
+        (whole, Some(DeviceFault::Write))
+    }
+
+    // Writes the lines of the messages, up to the first that fails.
+    fn write_lines(&mut self, messages: &[Arc<Message>]) -> (usize, Option<DeviceFault>)
+        ensures { OfferedAll OfferedLine (with_writer self.new (told W.contents W.faults W.lent self.new.writer))
+            (with_writer self.old (told W.contents W.faults W.lent self.old.writer)) (map arc_value messages.now) result.0 result.1 }
+    {
+        let mut taken = 0;
+        while taken < messages.len() {
+            let (_, rest) = messages.split_at(taken);
+            let (count, fault) = self.write_some(rest);
+            taken += count;
+            if let Some(fault) = fault {
+                return (taken, Some(fault));
+            }
+        }
+        (taken, None)
+    }
+
     // What is torn is the line of a message. The function does nothing, and its contract is the law.
     fn is_torn(&self)
         ensures { IsTorn self.now.torn self.now.out }
@@ -193,9 +244,22 @@ impl<W: Sink + Drop> Device for LineSink<W> {
         Offered W.contents W.faults before (line message.raw) answer after
         × (W.lent after.writer ≡ W.lent before.writer) };
 
+    ghost State = { LineState Told };
+
+    ghost state = { λ s. with_writer s (told W.contents W.faults W.lent s.writer) };
+
+    ghost steps = { OfferedLine };
+
     fn offer(&mut self, message: &Arc<Message>) -> Result<(), DeviceFault> {
         self.is_torn();
         let answer = self.write_line(message);
+        self.is_torn();
+        answer
+    }
+
+    fn offer_all(&mut self, messages: &[Arc<Message>]) -> (usize, Option<DeviceFault>) {
+        self.is_torn();
+        let answer = self.write_lines(messages);
         self.is_torn();
         answer
     }
