@@ -4,7 +4,7 @@ use Rattle.std.specs.Prelude.{◌≡◌, ◌≢◌, ℕ, ◌+◌, ◌<◌, ◌�
 use Rattle.std.specs.Arc.{arc_value}
 use Rattle.sy_wire.specs.Messages.{Said}
 use Rattle.sy_chain.specs.Entries.{Entry}
-use Rattle.sy_actions.specs.Devices.{Delivered, Refused}
+use Rattle.sy_actions.specs.Devices.{Delivered, DeliveredAll, Refused}
 use Rattle.sy_actions.specs.declared.device.DeviceFault.TheVariants as device_fault
 use Rattle.sy_rules.specs.declared.lists.occurrence.Occurrence.{Occurrence}
 use Rattle.sy_rules.specs.declared.lists.occurrence.Occurrence.TheVariants as occurrence
@@ -224,6 +224,21 @@ SettleFails fault.TotalsFull old worker receipt =
     × Settles old.plan old.state worker receipt.device of.run.entry new
     × IsTooFull (stepped old (Event.Done worker) new (Out.Passed receipt.device of.run.entry ∷ []))
 SettleFails _ old worker receipt = ⊥
+
+-- The next of some receipts, and what is left of them without it.
+pub record IsNextReceipt (receipts : DeliveredAll) (receipt : Delivered) (left : DeliveredAll) : Type 0 where
+  pub its : receipt.device ≡ receipts.device
+  pub others : left.device ≡ receipts.device
+  pub are : receipts.messages ≡ receipt.message ∷ left.messages
+
+-- the worker's job is settled by the next of these receipts, and these are left
+abbrev pub SettlesNext : BoardState → ℕ → DeliveredAll → BoardState → DeliveredAll → Type 0
+SettlesNext old worker receipts new left = (next : Delivered) × IsNextReceipt receipts next left × SettleIs old worker next new
+
+-- it can't be, since `settle` refuses that receipt
+abbrev pub SettlesNoNext : BoardFault → BoardState → ℕ → DeliveredAll → Type 0
+SettlesNoNext why old worker receipts =
+    (next : Delivered) × (left : DeliveredAll) × IsNextReceipt receipts next left × SettleFails why old worker next
 
 -- A failure is of the worker's job where its message was offered to the device, besides: only a count that is full keeps it from that.
 pub record IsFailureOf (board : BoardState) (worker : ℕ) (failure : Refused) : Type 0 where

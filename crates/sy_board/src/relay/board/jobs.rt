@@ -2,14 +2,14 @@
 ghost use Rattle.std.specs.Prelude.{◌≡◌, ◌≢◌, ◌<◌, ◌↔◌, ◌∷◌, IfErr, IfNone, IfOk, IfSome, IsFalse, IsTrue, OnErr, OnOk, length};
 ghost use Rattle.sy_rules.specs.declared.lists.occurrence.Occurrence.TheVariants as occurrence;
 ghost use Rattle.sy_actions.specs.declared.device.DeviceFault.TheVariants.{CountFull};
-ghost use Rattle.sy_board.specs.relay.Boards.{FailFails, FailIs, HasNoJob, JobIs, LeftIs, SettleFails, SettleIs};
+ghost use Rattle.sy_board.specs.relay.Boards.{FailFails, FailIs, HasNoJob, JobIs, LeftIs, SettleFails, SettleIs, SettlesNext, SettlesNoNext};
 ghost use Rattle.sy_board.specs.internal.Jobs.{IsFirstOf, IsNext, IsNextOf, HasNext, HasNextRun, RunFails, advanced_entries};
 
 use super::{Board, Worker, is_guarded};
 use crate::fault::BoardFault;
 use crate::relay::answers::{Job, Retry};
 use crate::relay::reading::{occurrence_of, retry_of};
-use sy_actions::{DeviceFault, Failure, Receipt};
+use sy_actions::{DeviceFault, Failure, Receipt, Receipts};
 use sy_chain::{Chain, Node};
 use sy_rules::{Occurrence, Plan};
 use sy_wire::Message;
@@ -158,16 +158,65 @@ impl Board {
         ensures back { IfErr result (λ e. e.0 ≡ receipt) }
         ensures unchanged { OnErr result (self.new ≡ self.old) }
     {
-        let slot = &mut self.workers[worker as usize];
-        let device = receipt.device();
-        let left = match left_by(&self.plan, &slot.entries, device, receipt.message()) {
-            Ok(left) => left,
-            Err(fault) => return Err((receipt, fault)),
+        match self.done(worker, receipt.device(), receipt.message()) {
+            Ok(left) => {
+                receipt.discard();
+                Ok(left)
+            }
+            Err(fault) => Err((receipt, fault)),
+        }
+    }
+
+    /// The same as `settle_out`, of the next of some receipts, which is spent; where it is refused, they stay as they are.
+    #[inline(always)]
+    pub fn settle_next(
+        &mut self,
+        worker: u32,
+        receipts: &mut Receipts,
+    ) -> Result<Option<Node>, BoardFault>
+        requires there { worker < length self.old.plan.workers }
+        requires some { 0 < length receipts.old.messages }
+        ensures ok { OnOk result (SettlesNext self.old worker receipts.old self.new receipts.new) }
+        ensures out { IfOk result (λ out. LeftIs out self.old.state worker self.new.state) }
+        ensures err { IfErr result (λ fault. SettlesNoNext fault self.old worker receipts.old) }
+        ensures unchanged { OnErr result ((self.new ≡ self.old) × (receipts.new ≡ receipts.old)) }
+    {
+        let Some(message) = receipts.front() else {
+            unreachable!()
         };
-        let Ok(()) = self.accounts.count_done(device) else {
-            return Err((receipt, BoardFault::TotalsFull));
+        let left = match self.done(worker, receipts.device(), message) {
+            Ok(left) => left,
+            Err(fault) => return Err(fault),
+        };
+        let Some(receipt) = receipts.pop_front() else {
+            unreachable!()
         };
         receipt.discard();
+        Ok(left)
+    }
+
+    // As `settle_out`, of what a device answered about a message; the receipt is its caller's to spend.
+    #[inline(always)]
+    fn done(
+        &mut self,
+        worker: u32,
+        device: u32,
+        message: &Message,
+    ) -> Result<Option<Node>, BoardFault>
+        requires { worker < length self.old.plan.workers }
+        ensures ok { OnOk result (SettleIs self.old worker (record { device = device; message = message.now }) self.new) }
+        ensures out { IfOk result (λ out. LeftIs out self.old.state worker self.new.state) }
+        ensures err { IfErr result (λ fault. SettleFails fault self.old worker (record { device = device; message = message.now })) }
+        ensures unchanged { OnErr result (self.new ≡ self.old) }
+    {
+        let slot = &mut self.workers[worker as usize];
+        let left = match left_by(&self.plan, &slot.entries, device, message) {
+            Ok(left) => left,
+            Err(fault) => return Err(fault),
+        };
+        let Ok(()) = self.accounts.count_done(device) else {
+            return Err(BoardFault::TotalsFull);
+        };
         Ok(advance(slot, left))
     }
 
