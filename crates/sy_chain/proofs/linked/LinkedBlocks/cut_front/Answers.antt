@@ -4,29 +4,24 @@ use Rattle.sy_chain.proofs.Leading.{ends_in, rest_in, front_in, front_list, rest
 use Rattle.sy_chain.proofs.linked.LinkedBlocks.cut_front.Goals as goal
 
 pub set_last_next-requires : goal.set_last_next-requires
-set_last_next-requires g c = ends_in
-    c.args.n c.self.inside.blocks.placed c.cut_front-front.result.placed c.args.self.now c.place-end.result c.self.view_is (omega (arith, c.if-n-eq0.false)) c.requires
-    c.place-end.ensures.place (c.cut_front-front.ensures.front ∙ ap (take c.args.n) (ap (λ d. d.placed) (c.next-self-inside.ensures.same ∙ c.place-end.ensures.same)))
+set_last_next-requires g c = ends_in _ _ _ _ _ c.self.view_is (omega (arith, c.if-n-eq0.false)) c.requires c.place-end.ensures.place
+    (c.cut_front-front.ensures.front ∙ ap (take c.args.n) (ap (λ d. d.placed) (c.next-self-inside.ensures.same ∙ c.place-end.ensures.same)))
 
 -- what is left begins where the last block of the front led
 pub invariant_of-self : goal.invariant_of-self
-invariant_of-self g c = rest_in
-    c.self.inside.first c.self.inside.last c.next-self-inside.result
-    c.args.n c.self.inside.blocks.placed c.cut_front-front.new.self.placed c.args.self.now c.self.view_is (omega (arith, c.if-n-eq0.false)) c.requires c.self.invariant
+invariant_of-self g c = rest_in _ _ _ _ _ _ _ c.self.view_is (omega (arith, c.if-n-eq0.false)) c.requires c.self.invariant
     (c.next-self-inside.ensures.next ∙ ap (λ d. next_of d.placed (c.args.n - 1)) c.place-end.ensures.same)
     (c.cut_front-front.ensures.rest ∙ ap (drop c.args.n) (ap (λ d. d.placed) (c.next-self-inside.ensures.same ∙ c.place-end.ensures.same)))
 
 -- the front ends at its last block
 pub invariant_of-result : goal.invariant_of-result
-invariant_of-result g c = front_in
-    c.self.inside.first c.self.inside.last c.place-end.result
-    c.args.n c.self.inside.blocks.placed c.cut_front-front.result.placed c.set_last_next.new.self.placed c.args.self.now c.self.view_is (omega (arith, c.if-n-eq0.false)) c.requires c.self.invariant
-    c.place-end.ensures.place (c.cut_front-front.ensures.front ∙ ap (take c.args.n) (ap (λ d. d.placed) (c.next-self-inside.ensures.same ∙ c.place-end.ensures.same))) c.set_last_next.ensures
+invariant_of-result g c = front_in _ _ _ _ _ _ _ _ c.self.view_is (omega (arith, c.if-n-eq0.false)) c.requires c.self.invariant c.place-end.ensures.place
+    (c.cut_front-front.ensures.front ∙ ap (take c.args.n) (ap (λ d. d.placed) (c.next-self-inside.ensures.same ∙ c.place-end.ensures.same))) c.set_last_next.ensures
 
 pub returns-clause-front : goal.returns-clause-front
-returns-clause-front g c = front_list
-    c.args.n c.self.inside.blocks.placed c.cut_front-front.result.placed c.set_last_next.new.self.placed c.args.self.now c.self.view_is
+returns-clause-front g c = front_list _ _ _ _ _ c.self.view_is
     (c.cut_front-front.ensures.front ∙ ap (take c.args.n) (ap (λ d. d.placed) (c.next-self-inside.ensures.same ∙ c.place-end.ensures.same))) c.set_last_next.ensures
 
 pub returns-clause-rest : goal.returns-clause-rest
-returns-clause-rest g c = rest_list c.args.n c.self.inside.blocks.placed c.cut_front-front.new.self.placed c.args.self.now c.self.view_is (c.cut_front-front.ensures.rest ∙ ap (drop c.args.n) (ap (λ d. d.placed) (c.next-self-inside.ensures.same ∙ c.place-end.ensures.same)))
+returns-clause-rest g c = rest_list _ _ _ _ c.self.view_is
+    (c.cut_front-front.ensures.rest ∙ ap (drop c.args.n) (ap (λ d. d.placed) (c.next-self-inside.ensures.same ∙ c.place-end.ensures.same)))
