@@ -1,12 +1,12 @@
 //! The checker: certificates of a site, with their rows as they are wanted and spoilt.
 
-ghost use Rattle.std.specs.Prelude.{◌<◌, length};
+ghost use Rattle.sy_checker.specs.Acceptance.{IsOf};
 
 use crate::rows::{Judge, each_is_right};
 use std::alloc::{AllocError, Global};
 use std::sync::Arc;
 use std::test::Fail;
-use sy_board::{Board, Guard};
+use sy_board::Board;
 use sy_cert::{Certificate, read_cert};
 use sy_checker::{Accepted, CertFault, verify};
 use sy_site::Site;
@@ -55,18 +55,22 @@ fn is_guarded(alloc: Global, accepted: &Accepted) -> Result<bool, AllocError> {
     )
 }
 
-// Whether a board of the first relay opens with that relay's guard, of which it has lost nothing.
-fn opens_guarded(alloc: Global, accepted: &Accepted, kept: &Guard) -> Result<bool, AllocError>
-    requires { 0 < length accepted.now.plans }
+// Whether a board of the first relay opens with that relay's guard, and shows it.
+fn opens_guarded(alloc: Global, site: &Site, accepted: &Accepted) -> Result<bool, AllocError>
+    requires { IsOf site.now accepted.now }
 {
+    if site.relays() == 0 {
+        return Ok(false);
+    }
     let guard = accepted.guard(alloc, 0)?;
+    let copy = guard.copy(alloc)?;
     let plan = Arc::try_clone(accepted.plan(0)).map_err(|_| AllocError)?;
     let board = Board::new(alloc, plan, Some(guard))?;
-    let has_guard = match board.guard() {
-        Some(guard) => guard.same(kept),
+    let is_shown = match board.guard() {
+        Some(guard) => guard.same(&copy),
         None => false,
     };
-    Ok(has_guard && board.accounts().guarded_lost() == 0)
+    Ok(is_shown && board.accounts().guarded_lost() == 0)
 }
 
 // What verifying says.
@@ -80,6 +84,9 @@ fn put_verdict(
         Ok(accepted) => {
             if !is_guarded(alloc, &accepted)? {
                 return answer.extend_from_slice(b"another guard");
+            }
+            if !opens_guarded(alloc, site, &accepted)? {
+                return answer.extend_from_slice(b"another board");
             }
             format!(in alloc; "{} classes", accepted.classes().len())?
         }
