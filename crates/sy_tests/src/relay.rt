@@ -12,7 +12,7 @@ use std::alloc::{AllocError, Global};
 use std::str;
 use std::sync::Arc;
 use std::test::Fail;
-use sy_actions::{Failure, Hatch, MemoryDevice, Receipt};
+use sy_actions::{Failure, Hatch, MemoryDevice, Receipt, Receipts};
 use sy_board::BoardFault;
 use sy_board::relay::accounts::Accounts;
 use sy_board::relay::answers::{Entry, Job, PostCause, Posted, Retry, Taken};
@@ -373,6 +373,58 @@ fn at_device(alloc: Global, board: &mut Board, call: Call) -> Result<Answer, All
     }
 }
 
+// The runs of one action that stand next for a worker: the action and, behind a `*`, how many are given of so many at most.
+fn runs(alloc: Global, board: &mut Board, call: Call) -> Result<bool, AllocError> {
+    if !is_worker(board, call.first) {
+        return Ok(false);
+    }
+    let most = call.second as usize;
+    let mut messages = Vec::with_capacity(alloc, most)?;
+    let (action, count) = cut(call.wanted, '*');
+    Ok(match board.runs(call.first, most, &mut messages)? {
+        Some(runs) => {
+            number(Some(action)) == runs && number(Some(count)) as usize == messages.len()
+        }
+        None => call.wanted == "none" && messages.is_empty(),
+    })
+}
+
+// The next of some receipts.
+fn settle_next(board: &mut Board, worker: u32, receipts: &mut Receipts) -> Answer {
+    if !is_worker(board, worker) || receipts.is_empty() {
+        return Ok(false);
+    }
+    match board.settle_next(worker, receipts) {
+        Ok(_) => Ok(true),
+        Err(fault) => Err(fault),
+    }
+}
+
+// The runs that stand next for a worker, offered at once to a device that takes so many: how many are settled.
+fn settle_all(alloc: Global, board: &mut Board, call: Call) -> Result<bool, AllocError> {
+    if !is_worker(board, call.first) {
+        return Ok(false);
+    }
+    let mut messages = Vec::with_capacity(alloc, 64)?;
+    let Some(action) = board.runs(call.first, 64, &mut messages)? else {
+        return Ok(false);
+    };
+    let mut hatch = Hatch::new(action, MemoryDevice::new(u64::from(call.second), 1));
+    let (mut receipts, failure) = hatch.deliver_all(messages);
+    if let Some(failure) = failure {
+        let _message = failure.into_message();
+    }
+    let mut settled = 0u32;
+    for _ in 0..receipts.len() {
+        if matches!(settle_next(board, call.first, &mut receipts), Ok(true)) {
+            settled = settled.saturating_add(1);
+        }
+    }
+    let left = receipts.len();
+    receipts.discard();
+    Ok(left == 0 && settled == number(Some(call.wanted)))
+}
+
 // Of a post that is lost.
 fn post_lost(board: &mut Board, call: Call) -> Answer {
     if !is_worker(board, call.first) {
@@ -431,6 +483,8 @@ fn answer(alloc: Global, board: &mut Board, call: Call, tag: u64) -> Result<Answ
         "gate" | "enter" | "expire" => Ok(at_input(board, call)),
         "grab" => Ok(grab(board, call)),
         "job" => Ok(Ok(is_job(board, call))),
+        "runs" => Ok(Ok(runs(alloc, board, call)?)),
+        "settled" => Ok(Ok(settle_all(alloc, board, call)?)),
         "action" => Ok(Ok(is_count(board.accounts(), call))),
         "settle" | "out" | "failed" => at_device(alloc, board, call),
         "lost_full" | "lost_memory" => Ok(post_lost(board, call)),
@@ -571,6 +625,8 @@ const EDGE_CALLS: &str = "
 | take/0/63/34=hand take/0/63/34=81 take/0/62/34=hand in_hands=2 in_queues=0 enter/0/62=in enter/0/62=82 enter/0/63=in in_hands=0 in_queues=2 grab/0=0 job/1=none grab/1=2 grab/1=83 in_queues=0 job/1=run/0#3 post/1=84 lost_full/1=84 lost_memory/1=84 action/0=2/0/0/2 settle/1=ok grab/1=83 job/1=run/0#1 out/1=#1 job/1=none settle/1=84 grab/1=0 taken=2 lost_in=0 grabbed=2 action/0=2/2/0/0
 // an action that tries without end
 | take/0/0/34=hand enter/0/0=in grab/1=1 %[300]failed/1=again %[1]job/1=run/0#1 settle/1=ok action/0=1/1/0/0
+// many at once: so many at most, and as many as a device takes
+| %[3]take/0/@/34=hand enter/0/@=in %[1]grab/1=3 runs/0/8=none runs/1/8=0*3 runs/1/2=0*2 runs/1/0=0*0 job/1=run/0#1 settled/1/2=2 job/1=run/0#3 runs/1/8=0*1 settled/1/8=1 runs/1/8=none job/1=none action/0=3/3/0/0
 // what another device answers, or about another message, changes nothing; about another of the same bytes, it serves
 | take/0/0/34=hand enter/0/0=in take/0/0/35=hand enter/0/0=in settle/1/0/34=84 grab/1=2 settle/1/1/34=85 settle/1/0/35=85 out/1/7=85 out/1/1/35=85 failed/1/1=85 failed/1/0/35=85 job/1=run/0#1 action/0=2/0/0/2 failed/1/0/34=again settle/1/0/34=ok settle/1/0/34=85 out/1/0/35=#2 settle/1/0/35=84 action/0=2/2/0/0
 // at the full-delay mark a message waits, and isn't lost
@@ -593,6 +649,8 @@ const TRIES_CALLS: &str = "
 | take/0/0/34=hand take/0/1/34=hand take/0/2/34=hand gate/0/0=clear enter/0/0=in gate/0/0=clear enter/0/1=in gate/0/0=delay gate/1/0=clear gate/2/0=clear enter/0/2=delay expire/0/2=87 take/1/0/34=hand expire/1/0=87 enter/1/0=in gate/0/0=delay gate/1/0=clear gate/2/0=light take/2/0/34=hand expire/2/0=87 enter/2/0=in gate/0/0=delay gate/1/0=full gate/2/0=full enter/0/2=delay expire/0/2=87 take/1/0/35=hand enter/1/0=full take/2/9/34=hand enter/2/9=full expire/1/0=#6 guarded_lost=0 expire/1/0=82 take/1/7/34=hand expire/1/7=#8 guarded_lost=0 expire/2/9=#7 guarded_lost=0 in_hands=1 in_queues=4 taken=8 lost_in=3 grab/0=3 enter/0/2=in in_hands=0 in_queues=2
 // the third failure is the last, and the next occurrence and the next entry have none; without tries the first is
 | take/0/0/13=hand enter/0/0=in take/1/0/13=hand enter/1/0=in take/1/0/14=hand enter/1/0=in grab/0=3 failed/0=again failed/0=again failed/0=lost guarded_lost=0 job/0=run/1#1 failed/0=lost job/0=run/0#2 failed/0=again failed/0=again job/0=run/0#2 out/0=stays job/0=run/1#2 failed/0=lost guarded_lost=0 failed/0=again failed/0=again failed/0=lost job/0=run/1#3 grab/0=83 failed/0=lost job/0=none failed/0=84 settle/0=84 action/0=3/1/2/0 action/1=3/0/3/0 guarded_lost=0
+// no further at once than an entry with more due, and no other action
+| take/1/0/14=hand enter/1/0=in take/1/1/14=hand enter/1/1=in grab/0=2 runs/0/8=0*1 settled/0/8=1 runs/0/8=1*1 settled/0/8=1 runs/0/8=0*1 job/0=run/0#2 settled/0/0=0 job/0=run/0#2 action/0=2/1/0/1 action/1=2/1/0/1
 // one failure doesn't count for the next entry
 | %[3]take/1/0/14=hand enter/1/0=in %[1]grab/0=3 %[3]failed/0=again failed/0=again settle/0=ok settle/0=ok %[1]action/0=3/3/0/0 action/1=3/3/0/0
 ";
@@ -619,6 +677,8 @@ const POSTS_CALLS: &str = "
 // a post that is put, and one whose entry has nothing due
 | take/0/0/8=hand enter/0/0=in grab/0=1 posts_due=1 posts_left=1 job/0=post/1#1 settle/0=84 out/0=84 failed/0=84 lost_full/0=87 grab/0=83 post/0=put posts_left=0 in_queues=1 job/0=run/1#1 post/0=84 lost_full/0=84 lost_memory/0=84 out/0=#1 job/0=none job/1=none grab/1=1 job/1=run/0#1 failed/1=lost taken=1 posted=1 lost_post=0 grabbed=2 action/0=1/0/1/0 action/1=1/1/0/0
 | take/0/0/16=hand enter/0/0=in grab/0=1 post/0=put settle/0=ok grab/1=1 job/1=none grab/1=0 posted=1 grabbed=2 action/0=0/0/0/0
+// where a post stands next no run does
+| take/0/0/8=hand enter/0/0=in grab/0=1 runs/0/8=none post/0=put runs/0/8=1*1 settled/0/8=1 runs/0/8=none action/1=1/1/0/0
 // one that is held, and is put once there is room
 | %[3]take/0/0/9=hand enter/0/0=in %[1]grab/0=3 %[2]job/0=post/1#@ post/0=put settle/0=ok %[1]job/0=post/1#3 post/0=full job/0=post/1#3 post/0=full grab/1=1 lost_full/0=87 post/0=put in_queues=2 job/0=run/1#3 posted=3 lost_post=0
 // lost for a full queue, and for memory whether it is full or not
