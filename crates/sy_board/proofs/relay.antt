@@ -31,3 +31,4 @@ pub mod Posting
 pub mod Opening
 pub mod Excluded
 pub mod Outcomes
+pub mod RunJobs

@@ -1,12 +1,15 @@
 //! The nine steps of a whole relay: laws that every step keeps. The steps are definitions (`specs/relay`), which a set of relays is made of too.
 //! Each function does nothing; its contract is the law.
-ghost use Rattle.std.specs.Prelude.{◌≡◌, ◌≢◌, ◌⊎◌, ℕ, ◌+◌, ◌<◌, Bool, List, [], Some, false};
+ghost use Rattle.std.specs.Prelude.{◌≡◌, ◌≢◌, ◌⊎◌, ℕ, ◌+◌, ◌-◌, ◌<◌, ◌∷◌, Bool, List, [], Some, false, length};
 ghost use Rattle.sy_chain.specs.Entries.{Entry};
 ghost use Rattle.sy_actions.specs.Devices.{Delivered, Refused};
 ghost use Rattle.sy_rules.specs.PlanValue.{Plan};
 ghost use Rattle.sy_rules.specs.Whole.{IsWhole};
-ghost use Rattle.sy_board.specs.relay.Cells.{IsShaped, RelayState, opening, waiting};
-ghost use Rattle.sy_board.specs.relay.Steps.{Enters, Event, Expires, Fails, GivesUp, Grabs, IsOfInput, IsPosted, Job, LosesPost, Out, Posts, Step};
+ghost use Rattle.sy_board.specs.relay.Cells.{Cell, IsShaped, RelayState, at, opening, waiting};
+ghost use Rattle.sy_board.specs.relay.Runs.{AreRuns};
+ghost use Rattle.sy_wire.specs.Messages.{Said};
+ghost use Rattle.sy_rules.specs.declared.lists.occurrence.Occurrence.TheVariants as occurrence;
+ghost use Rattle.sy_board.specs.relay.Steps.{Enters, Event, Expires, Fails, GivesUp, Grabs, IsOfInput, IsPosted, Job, LosesPost, Out, Posts, Settles, Step};
 ghost use Rattle.sy_board.specs.relay.Plans.{queue_of_worker};
 ghost use Rattle.sy_board.specs.relay.Boards.{BoardState, EnterIs, ExpireIs, FailIs, GrabIs, IsHeldBy, Made, PostIs, PostLostIs, SettleIs, TakeIs, is_no_memory};
 ghost use Rattle.sy_marks.specs.declared.marks.Hold.TheVariants as Hold;
@@ -148,4 +151,16 @@ pub fn nothing_guarded_is_lost()
     ensures within { (plan : Plan) → (pairs : Pairs) → (state : RelayState) → MayGuard plan pairs → IsGuarding plan pairs state
         → IsWithinGuard plan pairs state }
     ensures unasked { (plan : Plan) → MayGuard plan [] }
+{}
+
+/// The messages that a board gives at once are those of the worker's jobs, one after the other: the first is that of its job; and once this is
+/// done, the others are what it gives then of one less at most, or there are none.
+pub fn runs_are_jobs()
+    ensures first { (plan : Plan) → (state : RelayState) → (worker action most : ℕ) → (message : Said) → (others : List Said)
+        → worker < length plan.workers → AreRuns plan action most (at state (Cell.Worker worker)) (message ∷ others)
+        → (job : Job plan state worker (occurrence.Run action)) × (job.entry.message ≡ message) }
+    ensures later { (plan : Plan) → (state : RelayState) → (worker action most : ℕ) → (message : Said) → (others : List Said)
+        → worker < length plan.workers → AreRuns plan action most (at state (Cell.Worker worker)) (message ∷ others)
+        → IsShaped plan state → (entry : Entry) → (new : RelayState) → Settles plan state worker action entry new
+        → (others ≡ []) ⊎ AreRuns plan action (most - 1) (at new (Cell.Worker worker)) others }
 {}
