@@ -4,10 +4,9 @@ ghost use Rattle.std.specs.Prelude.{◌≡◌, IfSome};
 use crate::rows::{Judge, cut, each_is_right, number};
 use std::alloc::{AllocError, Global};
 use std::collections::VecDeque;
-use std::mem;
-use std::str;
 use std::sync::Arc;
 use std::test::Fail;
+use std::{mem, str};
 use sy_chain::{Chain, Node, RenewFault};
 use sy_wire::Message;
 
