@@ -5,10 +5,10 @@ ghost use Rattle.std.specs.Io.KnownBytes.{Appends, Keeps};
 ghost use Rattle.sy_wire.specs.Frames.{IsSize, frame};
 ghost use Rattle.sy_wire.specs.Streams.{Rose, count_after};
 ghost use Rattle.sy_actions.specs.FrameSinks.{AppendsFront, Framing, OffersFrame, OffersToldFrame, StandsForFrames, with_writer};
-ghost use Rattle.sy_actions.specs.Told.{Told, told};
+ghost use Rattle.sy_actions.specs.Told.{Told, told, told_contents, told_faults};
 ghost use Rattle.sy_actions.specs.Devices.{OfferedAll};
 ghost use Rattle.sy_actions.specs.internal.Batches.{OfferedSome};
-ghost use Rattle.sy_actions.specs.FrameSinks.{HasFramesOfAll, HasFramesTaken};
+ghost use Rattle.sy_actions.specs.FrameSinks.{FramesInTurn, HasFramesOfAll, HasFramesTaken};
 
 mod batch;
 
@@ -233,4 +233,13 @@ impl<W: Sink + Drop> Device for FrameSink<W> {
 pub fn frames_are_those_taken<W: Sink>()
     ensures frames { HasFramesTaken W.contents W.faults }
     ensures of_all { HasFramesOfAll W.contents W.faults }
+    ensures told_frames { HasFramesTaken told_contents told_faults }
+    ensures told_of_all { HasFramesOfAll told_contents told_faults }
+{}
+
+/// Messages that are offered at once are as if offered one after the other, with a sink before a writer by what it tells:
+/// so what was written is what `frames_are_those_taken` says of it. The function does nothing, and its contract is the
+/// law.
+pub fn frames_at_once_are_frames_in_turn()
+    ensures { FramesInTurn }
 {}

@@ -4,8 +4,8 @@ ghost use Rattle.std.specs.Arc.{arc_value};
 ghost use Rattle.std.specs.Io.KnownBytes.{Appends, Keeps};
 ghost use Rattle.sy_wire.specs.Streams.{Rose, count_after};
 ghost use Rattle.sy_actions.specs.Lines.{IsTorn, LineState, NotEnded, Offered, OfferedLine, StandsFor, line, with_writer};
-ghost use Rattle.sy_actions.specs.Told.{Told, told};
-ghost use Rattle.sy_actions.specs.LineTexts.{HasLinesOfAll, HasLinesTaken, StandsForOffers};
+ghost use Rattle.sy_actions.specs.Told.{Told, told, told_contents, told_faults};
+ghost use Rattle.sy_actions.specs.LineTexts.{HasLinesOfAll, HasLinesTaken, LinesInTurn, StandsForOffers};
 ghost use Rattle.sy_actions.specs.Devices.{OfferedAll};
 ghost use Rattle.sy_actions.specs.internal.Batches.{OfferedSome};
 ghost use Rattle.sy_actions.specs.internal.Ready.{Ready};
@@ -268,10 +268,18 @@ impl<W: Sink + Drop> Device for LineSink<W> {
 /// Since it was made, a sink has written whole lines of the messages that were taken, in order; between them beginnings
 /// of lines, neither empty nor whole, each ended by one line feed, only where a write failed and another message was
 /// offered next; and at the end at most one such beginning. Where each message was taken, that is the bytes of each and
-/// a line feed. The function does nothing, and its contract is the law.
+/// a line feed. All this is said of writers, and of what writers tell. The function does nothing, and its contract is the law.
 pub fn lines_are_those_taken<W: Sink>()
     ensures lines { HasLinesTaken W.contents W.faults }
     ensures of_all { HasLinesOfAll W.contents W.faults }
+    ensures told_lines { HasLinesTaken told_contents told_faults }
+    ensures told_of_all { HasLinesOfAll told_contents told_faults }
+{}
+
+/// Messages that are offered at once are as if offered one after the other, with a sink before a writer by what it tells:
+/// so what was written is what `lines_are_those_taken` says of it. The function does nothing, and its contract is the law.
+pub fn lines_at_once_are_lines_in_turn()
+    ensures { LinesInTurn }
 {}
 
 /// What a sink stands for is what such offers write of which just those messages were taken: so a sink that is known by
