@@ -1,20 +1,15 @@
 //! A device that writes frames (RFC 6587, 3.4.1).
-ghost use Rattle.std.specs.Prelude.{◌≡◌, ◌≤◌, ◌++◌, ◌<◌, false, true, length, map, OnErr, OnOk};
-ghost use Rattle.std.specs.Arc.{arc_value};
+ghost use Rattle.std.specs.Prelude.{◌≡◌, ◌≤◌, ◌++◌, false, true, length, OnErr, OnOk};
 ghost use Rattle.std.specs.Io.KnownBytes.{Appends, Keeps};
 ghost use Rattle.sy_wire.specs.Frames.{IsSize, frame};
 ghost use Rattle.sy_wire.specs.Streams.{Rose, count_after};
 ghost use Rattle.sy_actions.specs.FrameSinks.{AppendsFront, Framing, OffersFrame, OffersToldFrame, StandsForFrames, with_writer};
-ghost use Rattle.sy_actions.specs.Told.{Told, told};
-ghost use Rattle.sy_actions.specs.Devices.{OfferedAll};
-ghost use Rattle.sy_actions.specs.internal.Batches.{OfferedSome};
-ghost use Rattle.sy_actions.specs.FrameSinks.{HasFramesOfAll, HasFramesTaken};
+ghost use Rattle.sy_actions.specs.Told.{Told, told, told_contents, told_faults};
+ghost use Rattle.sy_actions.specs.FrameSinks.{FramesInTurn, HasFramesOfAll, HasFramesTaken};
 
 mod batch;
 
-use self::batch::{gather, whole_frames};
 use crate::device::{Device, DeviceFault};
-use crate::line_sink::write_from;
 use std::alloc::{AllocError, Global};
 use std::marker::Model;
 use std::mem;
@@ -138,48 +133,6 @@ impl<W: Sink + Drop> FrameSink<W> {
         self.writer.flush()
     }
 
-    // Writes the frames of some of the messages, the first ones: together, where there is memory for the first of them.
-    fn write_some(&mut self, messages: &[Arc<Message>]) -> (usize, Option<DeviceFault>)
-        requires { 0 < length messages.now }
-        ensures within { result.0 ≤ length messages.now }
-        ensures steps { OfferedSome OffersToldFrame (with_writer self.new (told W.contents W.faults W.lent self.new.writer))
-            (with_writer self.old (told W.contents W.faults W.lent self.old.writer)) (map arc_value messages.now) result.0 result.1 }
-    {
-        if !self.is_broken {
-            let count = gather(&mut self.room, messages);
-            if count > 0 {
-                let (together, _) = messages.split_at(count);
-                let reached = write_from(&mut self.writer, self.room.as_slice(), 0);
-                if reached == self.room.len() {
-                    return (count, None);
-                }
-                self.is_broken = true;
-                return (whole_frames(together, reached), Some(DeviceFault::Write));
-            }
-        }
-        match self.offer(&messages[0]) {
-            Ok(()) => (1, None),
-            Err(fault) => (0, Some(fault)),
-        }
-    }
-
-    // Writes the frames of the messages, up to the first that fails.
-    fn write_frames(&mut self, messages: &[Arc<Message>]) -> (usize, Option<DeviceFault>)
-        ensures { OfferedAll OffersToldFrame (with_writer self.new (told W.contents W.faults W.lent self.new.writer))
-            (with_writer self.old (told W.contents W.faults W.lent self.old.writer)) (map arc_value messages.now) result.0 result.1 }
-    {
-        let mut taken = 0;
-        while taken < messages.len() {
-            let (_, rest) = messages.split_at(taken);
-            let (count, fault) = self.write_some(rest);
-            taken += count;
-            if let Some(fault) = fault {
-                return (taken, Some(fault));
-            }
-        }
-        (taken, None)
-    }
-
     // Refuses an offer with no write.
     fn refuse(&mut self, fault: DeviceFault) -> DeviceFault
         ensures fault { result ≡ fault }
@@ -233,4 +186,13 @@ impl<W: Sink + Drop> Device for FrameSink<W> {
 pub fn frames_are_those_taken<W: Sink>()
     ensures frames { HasFramesTaken W.contents W.faults }
     ensures of_all { HasFramesOfAll W.contents W.faults }
+    ensures told_frames { HasFramesTaken told_contents told_faults }
+    ensures told_of_all { HasFramesOfAll told_contents told_faults }
+{}
+
+/// Messages that are offered at once are as if offered one after the other, with a sink before a writer by what it tells:
+/// so what was written is what `frames_are_those_taken` says of it. The function does nothing, and its contract is the
+/// law.
+pub fn frames_at_once_are_frames_in_turn()
+    ensures { FramesInTurn }
 {}

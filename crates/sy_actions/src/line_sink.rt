@@ -1,18 +1,15 @@
 //! A device that writes each message as a line.
-ghost use Rattle.std.specs.Prelude.{◌≡◌, ◌≢◌, ◌+◌, ◌<◌, ◌≤◌, length, slice_range, take, false, true, [], OnErr, OnOk, map};
+ghost use Rattle.std.specs.Prelude.{◌≡◌, ◌≢◌, ◌+◌, ◌<◌, ◌≤◌, length, slice_range, take, false, true, [], OnErr, OnOk};
 ghost use Rattle.std.specs.Arc.{arc_value};
 ghost use Rattle.std.specs.Io.KnownBytes.{Appends, Keeps};
 ghost use Rattle.sy_wire.specs.Streams.{Rose, count_after};
 ghost use Rattle.sy_actions.specs.Lines.{IsTorn, LineState, NotEnded, Offered, OfferedLine, StandsFor, line, with_writer};
-ghost use Rattle.sy_actions.specs.Told.{Told, told};
-ghost use Rattle.sy_actions.specs.LineTexts.{HasLinesOfAll, HasLinesTaken, StandsForOffers};
-ghost use Rattle.sy_actions.specs.Devices.{OfferedAll};
-ghost use Rattle.sy_actions.specs.internal.Batches.{OfferedSome};
+ghost use Rattle.sy_actions.specs.Told.{Told, told, told_contents, told_faults};
+ghost use Rattle.sy_actions.specs.LineTexts.{HasLinesOfAll, HasLinesTaken, LinesInTurn, StandsForOffers};
 ghost use Rattle.sy_actions.specs.internal.Ready.{Ready};
 
 mod batch;
 
-use self::batch::{cut, gather};
 use crate::device::{Device, DeviceFault};
 use std::alloc::{AllocError, Global};
 use std::marker::Model;
@@ -171,51 +168,6 @@ impl<W: Sink + Drop> LineSink<W> {
         Err(DeviceFault::Write)
     }
 
-    // Writes the lines of some of the messages, the first ones: together, where no line is torn.
-    fn write_some(&mut self, messages: &[Arc<Message>]) -> (usize, Option<DeviceFault>)
-        requires { 0 < length messages.now }
-        ensures within { result.0 ≤ length messages.now }
-        ensures steps { OfferedSome OfferedLine (with_writer self.new (told W.contents W.faults W.lent self.new.writer))
-            (with_writer self.old (told W.contents W.faults W.lent self.old.writer)) (map arc_value messages.now) result.0 result.1 }
-    {
-        if self.out > 0 {
-            return match self.write_line(&messages[0]) {
-                Ok(()) => (1, None),
-                Err(fault) => (0, Some(fault)),
-            };
-        }
-        let count = gather(&mut self.line, messages);
-        if count == 0 {
-            self.refusals = self.refusals.saturating_add(1);
-            return (0, Some(DeviceFault::NoMemory));
-        }
-        let (together, _) = messages.split_at(count);
-        let reached = write_from(&mut self.writer, self.line.as_slice(), 0);
-        if reached == self.line.len() {
-            return (count, None);
-        }
-        let (whole, out) = cut(&mut self.line, together, reached);
-        self.out = out;
-        (whole, Some(DeviceFault::Write))
-    }
-
-    // Writes the lines of the messages, up to the first that fails.
-    fn write_lines(&mut self, messages: &[Arc<Message>]) -> (usize, Option<DeviceFault>)
-        ensures { OfferedAll OfferedLine (with_writer self.new (told W.contents W.faults W.lent self.new.writer))
-            (with_writer self.old (told W.contents W.faults W.lent self.old.writer)) (map arc_value messages.now) result.0 result.1 }
-    {
-        let mut taken = 0;
-        while taken < messages.len() {
-            let (_, rest) = messages.split_at(taken);
-            let (count, fault) = self.write_some(rest);
-            taken += count;
-            if let Some(fault) = fault {
-                return (taken, Some(fault));
-            }
-        }
-        (taken, None)
-    }
-
     // What is torn is the line of a message. The function does nothing, and its contract is the law.
     fn is_torn(&self)
         ensures { IsTorn self.now.torn self.now.out }
@@ -268,10 +220,18 @@ impl<W: Sink + Drop> Device for LineSink<W> {
 /// Since it was made, a sink has written whole lines of the messages that were taken, in order; between them beginnings
 /// of lines, neither empty nor whole, each ended by one line feed, only where a write failed and another message was
 /// offered next; and at the end at most one such beginning. Where each message was taken, that is the bytes of each and
-/// a line feed. The function does nothing, and its contract is the law.
+/// a line feed. All this is said of writers, and of what writers tell. The function does nothing, and its contract is the law.
 pub fn lines_are_those_taken<W: Sink>()
     ensures lines { HasLinesTaken W.contents W.faults }
     ensures of_all { HasLinesOfAll W.contents W.faults }
+    ensures told_lines { HasLinesTaken told_contents told_faults }
+    ensures told_of_all { HasLinesOfAll told_contents told_faults }
+{}
+
+/// Messages that are offered at once are as if offered one after the other, with a sink before a writer by what it tells:
+/// so what was written is what `lines_are_those_taken` says of it. The function does nothing, and its contract is the law.
+pub fn lines_at_once_are_lines_in_turn()
+    ensures { LinesInTurn }
 {}
 
 /// What a sink stands for is what such offers write of which just those messages were taken: so a sink that is known by

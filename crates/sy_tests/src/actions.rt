@@ -1,4 +1,5 @@
 //! Devices, and what their hatches make of each offer.
+mod batches;
 mod sinks;
 
 use crate::chain::{RAW, message};

@@ -8,24 +8,24 @@ use std::test::Fail;
 use sy_actions::{Device, FrameSink, LineSink};
 use sy_wire::{Buffered, FromWrite, Message};
 
-const A: &[u8] = b"<34>1 - - - - - -";
+pub(super) const A: &[u8] = b"<34>1 - - - - - -";
 
-const B: &[u8] = b"<35>1 - - - - - -";
+pub(super) const B: &[u8] = b"<35>1 - - - - - -";
 
-const C: &[u8] = b"<191>1 - - - - - - c";
+pub(super) const C: &[u8] = b"<191>1 - - - - - - c";
 
-const LINES: &[u8] = b"<34>1 - - - - - -\n<35>1 - - - - - -\n<191>1 - - - - - - c\n";
+pub(super) const LINES: &[u8] = b"<34>1 - - - - - -\n<35>1 - - - - - -\n<191>1 - - - - - - c\n";
 
-const FRAMES: &[u8] = b"17 <34>1 - - - - - -17 <35>1 - - - - - -20 <191>1 - - - - - - c";
+pub(super) const FRAMES: &[u8] = b"17 <34>1 - - - - - -17 <35>1 - - - - - -20 <191>1 - - - - - - c";
 
 /// Where the second and the third line begin, and where the third ends.
-const LINE_ENDS: [usize; 3] = [18, 36, 57];
+pub(super) const LINE_ENDS: [usize; 3] = [18, 36, 57];
 
-const FRAME_ENDS: [usize; 3] = [20, 40, 63];
+pub(super) const FRAME_ENDS: [usize; 3] = [20, 40, 63];
 
 // Takes so many bytes, then fails at so many writes, then takes all.
 #[derive(Drop)]
-struct Torn {
+pub(super) struct Torn {
     bytes: Vec<u8>,
     room: usize,
     failing: u32,
@@ -35,12 +35,12 @@ struct Torn {
 }
 
 impl Torn {
-    fn new(alloc: Global, room: usize, failing: u32) -> FromWrite<Torn> {
+    pub(super) fn new(alloc: Global, room: usize, failing: u32) -> FromWrite<Torn> {
         Torn::into(Vec::new(alloc), room, failing)
     }
 
     // The same with its memory.
-    fn into(bytes: Vec<u8>, room: usize, failing: u32) -> FromWrite<Torn> {
+    pub(super) fn into(bytes: Vec<u8>, room: usize, failing: u32) -> FromWrite<Torn> {
         FromWrite::new(Torn {
             bytes,
             room,
@@ -75,7 +75,7 @@ impl Write for Torn {
 }
 
 // The bytes that a writer took.
-fn taken(writer: FromWrite<Torn>) -> Vec<u8> {
+pub(super) fn taken(writer: FromWrite<Torn>) -> Vec<u8> {
     let Torn {
         bytes,
         room: _,
@@ -87,12 +87,12 @@ fn taken(writer: FromWrite<Torn>) -> Vec<u8> {
 }
 
 // How many writes took bytes, and how many flushes came.
-fn calls(writer: FromWrite<Torn>) -> (u32, u32) {
+pub(super) fn calls(writer: FromWrite<Torn>) -> (u32, u32) {
     let inner = writer.into_inner();
     (inner.writes, inner.flushes)
 }
 
-fn read(alloc: Global, raw: &[u8]) -> Result<Arc<Message>, AllocError> {
+pub(super) fn read(alloc: Global, raw: &[u8]) -> Result<Arc<Message>, AllocError> {
     match message(alloc, raw) {
         Some(message) => Ok(message),
         None => Err(AllocError),
@@ -162,7 +162,7 @@ static LINE_ROWS: [Row; 8] = [
 ];
 
 // Whether these are the bytes that a writer took.
-fn holds(writer: FromWrite<Torn>, wanted: &[u8]) -> bool {
+pub(super) fn holds(writer: FromWrite<Torn>, wanted: &[u8]) -> bool {
     taken(writer).as_slice() == wanted
 }
 
