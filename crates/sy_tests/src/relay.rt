@@ -511,12 +511,7 @@ fn balances(accounts: &Accounts) -> bool {
 }
 
 // Whether a call's answer is right, and the totals after it.
-fn goes_well(
-    alloc: Global,
-    board: &mut Board,
-    call: Call,
-    tag: u64,
-) -> Result<bool, AllocError> {
+fn goes_well(alloc: Global, board: &mut Board, call: Call, tag: u64) -> Result<bool, AllocError> {
     let is_right = match answer(alloc, board, call, tag)? {
         Ok(is_right) => is_right,
         Err(fault) => number(Some(call.wanted)) == u32::from(fault.number()),

@@ -35,20 +35,20 @@ begun : (plan : Plan) (action most : ℕ) (entries : List Entry) (m : Said) (ms 
 begun plan action ℕ.zero entries m ms runs = cc
 begun plan action (ℕ.suc most) [] m ms runs = cc
 begun plan action (ℕ.suc most) (e ∷ others) m ms runs = elim runs [
-    | inl none ↦ (let no = none.1 in cc)
-    | inr some ↦ record {
-        entry = e;
-        others = others;
-        are = refl;
-        left = some.0;
-        begins = some.2;
-        its = sym (head_said m e.message ms some.1 some.3);
-        ends = λ n. tail_said m e.message ms some.1 some.3 ∙ some.4 n;
-        goes_on = λ z.
-            let less : most ≡ ℕ.suc most - 1 = omega arith in
-            subst (λ n. AreRuns plan action n others ms) less (subst (AreRuns plan action most others) (sym (tail_said m e.message ms some.1 some.3)) (some.5 z));
-      }
-  ]
+  | inl none ↦ (let no = none.1 in cc)
+  | inr some ↦ record {
+    entry = e;
+    others = others;
+    are = refl;
+    left = some.0;
+    begins = some.2;
+    its = sym (head_said m e.message ms some.1 some.3);
+    ends = λ n. tail_said m e.message ms some.1 some.3 ∙ some.4 n;
+    goes_on = λ z.
+        let less : most ≡ ℕ.suc most - 1 = omega arith in
+        subst (λ n. AreRuns plan action n others ms) less (subst (AreRuns plan action most others) (sym (tail_said m e.message ms some.1 some.3)) (some.5 z));
+  }
+]
 
 module _ (plan : Plan) (state : RelayState) (worker action most : ℕ) (m : Said) (ms : List Said) (there : worker < length plan.workers)
     (runs : AreRuns plan action most (at state (Cell.Worker worker)) (m ∷ ms)) where

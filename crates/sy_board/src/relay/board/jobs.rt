@@ -66,12 +66,7 @@ fn was_offered(failure: &Failure) -> bool
 
 // What is left due of the first of a worker's entries without the run that is next, where a device's answer about a message is of that run.
 #[inline(always)]
-fn left_by(
-    plan: &Plan,
-    entries: &Chain,
-    device: u32,
-    message: &Message,
-) -> Result<u64, BoardFault>
+fn left_by(plan: &Plan, entries: &Chain, device: u32, message: &Message) -> Result<u64, BoardFault>
     ensures ok { IfOk result (λ left. IsNextOf plan.now entries.now device message.now left) }
     ensures err { IfErr result (λ fault. RunFails fault plan.now entries.now device message.now) }
 {

@@ -77,7 +77,14 @@ impl Board {
         };
         let before = into.len();
         let mut passed = Chain::new();
-        let given = take_runs(&self.plan, action, most, &mut slot.entries, &mut passed, into);
+        let given = take_runs(
+            &self.plan,
+            action,
+            most,
+            &mut slot.entries,
+            &mut passed,
+            into,
+        );
         mem::swap(&mut slot.entries, &mut passed);
         slot.entries.append(passed);
         let Ok(()) = given else {

@@ -9,14 +9,17 @@ use Rattle.sy_board.proofs.relay.board.Board.runs.Goals as goal
 
 pub returns-in_default-clause-ok : goal.returns-in_default-clause-ok
 returns-in_default-clause-ok c =
-    let is = slot_in c.self.inside c.args.self.now c.args.worker c.index_mut-slot.result.now c.self.view_is c.self.invariant c.requires.there c.index_mut-slot.ensures.value in
-    (rw (← c.self.view_is) (λ action job. (rw c.deref.ensures at c.in_default.ensures.none) (action, job.left, next_of_job c.self.inside c.args.worker c.index_mut-slot.result.now (occurrence.Run action) is job)),
-    none_given arc_value c.args.into.now.items)
+    let is = slot_in c.self.inside c.args.self.now c.args.worker c.index_mut-slot.result.now c.self.view_is c.self.invariant c.requires.there c.index_mut-slot.ensures.value in (
+      rw (← c.self.view_is) (λ action job. (rw c.deref.ensures at c.in_default.ensures.none) (action, job.left, next_of_job c.self.inside c.args.worker c.index_mut-slot.result.now (occurrence.Run action) is job)),
+      none_given arc_value c.args.into.now.items,
+    )
 
 pub returns-clause-ok : goal.returns-clause-ok
 returns-clause-ok c =
     let turn = turn_of c.self.inside c.args.self.now c.args.worker c.index_mut-slot.result.now c.deref.result.now (occurrence.Run c.in-Some.action) c.in-Some.field-0-1
     c.self.view_is c.self.invariant c.requires.there c.index_mut-slot.ensures.value c.deref.ensures c.in-Some.ensures.some in
-    rw (← c.self.view_is) (job_of c.self.inside c.args.worker c.index_mut-slot.result.now (occurrence.Run c.in-Some.action) c.in-Some.field-0-1 turn.is turn.next,
-    subst (λ es. AreRuns (arc_value c.self.inside.plan) c.in-Some.action c.args.most es (map arc_value (drop (length c.args.into.now.items) c.take_runs-given.new.into.items))) (sym (slot_entries c.self.inside c.args.worker c.index_mut-slot.result.now turn.is))
-    (rw c.deref-2.ensures at c.in-Ok.ensures.ok))
+    rw (← c.self.view_is) (
+      job_of c.self.inside c.args.worker c.index_mut-slot.result.now (occurrence.Run c.in-Some.action) c.in-Some.field-0-1 turn.is turn.next,
+      subst (λ es. AreRuns (arc_value c.self.inside.plan) c.in-Some.action c.args.most es (map arc_value (drop (length c.args.into.now.items) c.take_runs-given.new.into.items))) (sym (slot_entries c.self.inside c.args.worker c.index_mut-slot.result.now turn.is))
+          (rw c.deref-2.ensures at c.in-Ok.ensures.ok),
+    )
