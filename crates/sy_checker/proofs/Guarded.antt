@@ -1,6 +1,6 @@
 -- Guarded inputs, class after class, and those of one relay.
 use Rattle.std.proofs.Common.{◌≡◌, ℕ, ◌<◌, ◌+◌, List, [], ◌∷◌, ◌++◌, length, map, take, get_or, refl, sym, ap, subst, ◌∙◌, arith, inl, inr}
-use Rattle.std.specs.Prelude.{Contains, ◌↔◌, IfOk, OnOk, Result, Ok, Err, Option, Some, None, slice_get}
+use Rattle.std.specs.Prelude.{Contains, ◌↔◌, IfOk, OnOk, Result, Ok, Err, Some, slice_get}
 use Rattle.std.proofs.lemmas.List.{take_more}
 use Rattle.std.proofs.lemmas.List.Elements.{Contains-append_cases, Contains-append_left, Contains-append_right, Contains-push, Contains-push_cases}
 use Rattle.sy_wire.specs.declared.class.Class.{Class}
@@ -11,7 +11,7 @@ use Rattle.sy_site.specs.declared.site.SiteInput.{SiteInput}
 use Rattle.sy_site.specs.Sites.{Relay, Site, plan_at, plan_in}
 use Rattle.sy_site.specs.machine.Reach.{Reach}
 use Rattle.sy_site.specs.machine.Soundness.{IsGuarded}
-use Rattle.sy_checker.specs.Acceptance.{Acceptance, AreGuardable, ArePairsAt, AreReached, IsOf, plans_of}
+use Rattle.sy_checker.specs.Acceptance.{Acceptance, AreGuardable, ArePairsAt, AreReached, IsOf}
 use Rattle.sy_checker.specs.Fit.{AreProtected}
 use Rattle.sy_checker.proofs.Comparing.{from_map}
 use Rattle.sy_checker.proofs.FitIsSound.{in_map}

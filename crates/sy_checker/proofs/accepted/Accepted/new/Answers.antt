@@ -1,4 +1,4 @@
-use Rattle.std.proofs.Common.{◌≡◌, map}
+use Rattle.std.proofs.Common.{map}
 use Rattle.std.specs.Arc.{arc_value}
 use Rattle.sy_checker.proofs.Guarded.{guardable, reached_guarded}
 use Rattle.sy_checker.proofs.accepted.Accepted.new.Goals as goal
