@@ -2,7 +2,7 @@
 ghost use Rattle.std.specs.Prelude.{◌≡◌, ◌+◌, ◌<◌, ◌≤◌, ◌++◌, IfOk, OnErr, OnOk, drop, length, map, take};
 ghost use Rattle.std.specs.Arc.{arc_value};
 ghost use Rattle.std.specs.Vec.{vec_capacity, vec_len};
-ghost use Rattle.sy_board.specs.relay.Boards.{RunsIs};
+ghost use Rattle.sy_board.specs.relay.Boards.{HasRun, RunsIs};
 ghost use Rattle.sy_board.specs.relay.Runs.{AreRuns};
 
 use super::Board;
@@ -27,6 +27,8 @@ fn take_runs(
     requires { vec_len into.old + most ≤ vec_capacity into.old }
     ensures all { passed.new ++ entries.new ≡ passed.old ++ entries.old }
     ensures kept { take (length into.old.items) into.new.items ≡ into.old.items }
+    ensures capacity { vec_capacity into.new ≡ vec_capacity into.old }
+    ensures refused { OnErr result (0 < most) }
     ensures ok { OnOk result (AreRuns plan.now action most entries.old (map arc_value (drop (length into.old.items) into.new.items))) }
 {
     let mut more = most;
@@ -57,7 +59,7 @@ fn take_runs(
 impl Board {
     /// The action of a worker's job, where that is a run, and the messages of it and of the jobs that stand next, so many at most, as far as
     /// they are runs of that action: they come to the end of these, which have room. The last of them is the first that has more due behind its
-    /// run, if there is one. Where a message can have no owner more, nothing has changed. The board stays as it is in any case.
+    /// run, if there is one. Where one of those messages can have no owner more (`Arc::try_clone`), nothing has changed. The board stays as it is in any case.
     pub fn runs(
         &mut self,
         worker: u32,
@@ -68,7 +70,8 @@ impl Board {
         requires room { vec_len into.old + most ≤ vec_capacity into.old }
         ensures ok { IfOk result (λ action. RunsIs action self.old worker most (map arc_value (drop (length into.old.items) into.new.items))) }
         ensures kept { take (length into.old.items) into.new.items ≡ into.old.items }
-        ensures err { OnErr result (into.new.items ≡ into.old.items) }
+        ensures capacity { vec_capacity into.new ≡ vec_capacity into.old }
+        ensures err { OnErr result ((into.new.items ≡ into.old.items) × HasRun self.old worker × (0 < most)) }
         ensures same { self.new ≡ self.old }
     {
         let slot = &mut self.workers[worker as usize];

@@ -48,6 +48,8 @@ loop-more-preserved c =
       kept = ap (take (length c.args.into.now.items)) c.push_reserved.ensures.items
           ∙ still_first c.args.into.now.items c.loop-more.into.items c.in-Ok.message c.loop-more.invariant.kept;
       room = let before = c.loop-more.invariant.room in omega (arith, before, some, c.push_reserved.ensures.len, c.push_reserved.ensures.capacity);
+      capacity = c.push_reserved.ensures.capacity ∙ c.loop-more.invariant.capacity;
+      few = let before = c.loop-more.invariant.few in omega (arith, before);
       runs = λ behind h. subst (AreRuns c.args.plan.now c.args.action c.args.most c.args.entries.now) (sym (ap (λ (ms : List Said). ms ++ behind) given ∙ append_assoc _ (e.message ∷ []) behind))
           (c.loop-more.invariant.runs (e.message ∷ behind) (whole_run c.args.plan.now c.args.action c.loop-more.more c.in-Some.left c.loop-more.entries c.pop_front.new.self e some is
           next c.if-left-ne0.false behind h));

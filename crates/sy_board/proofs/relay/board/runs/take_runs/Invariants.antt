@@ -11,6 +11,8 @@ invariant-loop-more l = record {
   all : l.passed ++ l.entries ≡ l.initial.passed ++ l.initial.entries;
   kept : take (length l.initial.into.items) l.into.items ≡ l.initial.into.items;
   room : vec_len l.into + l.more ≤ vec_capacity l.into;
+  capacity : vec_capacity l.into ≡ vec_capacity l.initial.into;
+  few : l.more ≤ l.most;
   runs : (behind : List Said) → AreRuns l.plan l.action l.more l.entries behind
       → AreRuns l.plan l.action l.most l.initial.entries (map arc_value (drop (length l.initial.into.items) l.into.items) ++ behind);
 }
