@@ -131,8 +131,8 @@ fn is_guarded(guard: &Option<Guard>, node: &Node) -> bool
 }
 
 impl Board {
-    /// The board of a relay with this plan. It holds no message yet. Losses of entries whose input and class the guard has are
-    /// counted apart. With a guard the plan meets its condition, so that there are none.
+    /// The board of a relay with this plan. It holds no message yet. With a guard the plan meets its condition, so that no entry whose
+    /// input and class the guard has is ever lost; such losses would be counted apart.
     pub fn new(alloc: Global, plan: Arc<Plan>, guard: Option<Guard>) -> Result<Board, AllocError>
         requires { IfSome guard (λ pairs. MayGuard (arc_value plan) pairs) }
         ensures { IfOk result (λ board. board ≡ opened (arc_value plan) guard) }

@@ -93,7 +93,7 @@ fn same_pairs(one: &[(u32, Class)], other: &[(u32, Class)]) -> bool
 }
 
 impl Guard {
-    /// The guard of these pairs. It prevents no loss: a board counts theirs apart.
+    /// The guard of these pairs. A board with it loses nothing of them, since its plan meets the guard's condition.
     pub fn new(alloc: Global, pairs: &[(u32, Class)]) -> Result<Guard, AllocError>
         ensures { IfOk result (λ guard. guard ≡ pairs.now) }
     {

@@ -147,10 +147,10 @@ fn many_frames_that_were_torn(rt: HostRuntime) -> Result<(), Fail> {
 
 // How many lines or frames end within so many bytes.
 fn ended(ends: &[usize], count: usize) -> usize {
-    let mut whole = 0;
+    let mut whole: usize = 0;
     for end in ends {
         if *end <= count {
-            whole += 1;
+            whole = whole.saturating_add(1);
         }
     }
     whole
