@@ -1,6 +1,6 @@
 -- How the parts of a replay come together.
 use Rattle.std.proofs.Common.{◌≡◌, ℕ, ◌-◌, length, take, drop, map, arith, List, [], ◌∷◌, ◌++◌, refl, sym, ap, subst, inl, inr, ◌∙◌, Bool, true, false, true≢false}
-use Rattle.std.specs.Prelude.{IfErr, IfSome, OnOk, Option, Some, None, Result, Ok, Err, string_bytes}
+use Rattle.std.specs.Prelude.{IfErr, IfOk, IfSome, OnOk, Option, Some, None, Result, Ok, Err, string_bytes}
 use Rattle.sy_site.specs.texts.Describes.{File}
 use Rattle.syc.specs.declared.site.RelayFile.{RelayFile}
 use Rattle.std.specs.Io.KnownBytes.{Appends, Keeps}
@@ -346,6 +346,10 @@ turned_on false site from held ahead to on t = absurd (true≢false (sym on))
 pub on_ok : {A E : Type 0} {P Q : Type 0} (r : Result A E) → OnOk r P → (P → Q) → OnOk r Q
 on_ok (Ok x) p f = f p
 on_ok (Err e) p f = tt
+
+pub if_ok : {A E : Type 0} {P Q : A → Type 0} (r : Result A E) → IfOk r P → ((x : A) → P x → Q x) → IfOk r Q
+if_ok (Ok x) p f = f x p
+if_ok (Err e) p f = tt
 
 pub if_err : {A E : Type 0} {P Q : E → Type 0} (r : Result A E) → IfErr r P → ((e : E) → P e → Q e) → IfErr r Q
 if_err (Ok x) p f = tt

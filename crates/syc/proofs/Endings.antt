@@ -10,8 +10,8 @@ use Rattle.syc.specs.Verdicts.{SaysOfFiles, VerifyIs}
 use Rattle.syc.specs.declared.answer.Answer.{Answer}
 use Rattle.syc.specs.declared.halt.Halt.{Halt}
 use Rattle.syc.specs.declared.halt.Halt.TheVariants as halt
-use Rattle.syc.specs.internal.Halts.{IsNoSite, status_at}
-use Rattle.syc.specs.internal.Unverified.{HasNoVerdict}
+use Rattle.syc.specs.internal.Halts.{IsNoSite, IsReadHalt, status_at}
+use Rattle.syc.specs.internal.Unverified.{HasNoVerdict, IsNoCertificate}
 use Rattle.syc.proofs.Courses.{no_site}
 
 -- there is no site, which is told
@@ -50,6 +50,30 @@ module _ (bytes_of : List ℕ → Option (List ℕ)) (site text : List ℕ) (old
   no_verdict halt.NoMemory none is told = gone halt.NoMemory none is told
   no_verdict halt.ReadFailed none is told = gone halt.ReadFailed none is told
   no_verdict halt.WriteFailed none is told = gone halt.WriteFailed none is told
+
+-- where the site isn't read there is no verdict
+pub site_unread : (bytes_of : List ℕ → Option (List ℕ)) (site text : List ℕ) (why : Halt)
+    → IsReadHalt why → IsNoSite bytes_of site why → HasNoVerdict bytes_of site text why
+site_unread bytes_of site text (halt.Site fault) kind none = none
+site_unread bytes_of site text (halt.Certificate fault) kind none = absurd kind
+site_unread bytes_of site text (halt.Line n) kind none = absurd kind
+site_unread bytes_of site text (halt.Illegal n) kind none = absurd kind
+site_unread bytes_of site text (halt.TotalsFull n) kind none = absurd kind
+site_unread bytes_of site text halt.NoMemory kind none = tt
+site_unread bytes_of site text halt.ReadFailed kind none = tt
+site_unread bytes_of site text halt.WriteFailed kind none = absurd kind
+
+-- nor where the certificate isn't
+pub certificate_unread : (bytes_of : List ℕ → Option (List ℕ)) (text certificate : List ℕ) (site : Site) → IsSiteOf bytes_of text site
+    → (why : Halt) → IsNoCertificate certificate why → HasNoVerdict bytes_of text certificate why
+certificate_unread bytes_of text certificate site is_site (halt.Certificate fault) none = record { site = site; is_site = is_site; has_fault = none }
+certificate_unread bytes_of text certificate site is_site (halt.Site fault) none = absurd none
+certificate_unread bytes_of text certificate site is_site (halt.Line n) none = absurd none
+certificate_unread bytes_of text certificate site is_site (halt.Illegal n) none = absurd none
+certificate_unread bytes_of text certificate site is_site (halt.TotalsFull n) none = absurd none
+certificate_unread bytes_of text certificate site is_site halt.NoMemory none = tt
+certificate_unread bytes_of text certificate site is_site halt.ReadFailed none = tt
+certificate_unread bytes_of text certificate site is_site halt.WriteFailed none = absurd none
 
 -- what a verify answers
 pub judged : (bytes_of : List ℕ → Option (List ℕ)) (name other site text : List ℕ)

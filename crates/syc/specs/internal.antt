@@ -1,6 +1,8 @@
 -- What only private functions cite.
 pub mod Commands
 pub mod Halts
+pub mod Parts
 pub mod Stops
+pub mod Surveys
 pub mod Unverified
 pub mod Ways

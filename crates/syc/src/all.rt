@@ -2,27 +2,39 @@
 ghost use Rattle.std.specs.Prelude.{◌≡◌, IfErr, IfOk, false};
 ghost use Rattle.sy_site.specs.machine.Soundness.{IsSound};
 ghost use Rattle.syc.specs.Checks as spec;
+ghost use Rattle.syc.specs.internal.Surveys as internal;
 
 use crate::answer::Answer;
-use crate::check::accepted;
+use crate::check::say_kept;
 use crate::halt::Halt;
 use crate::tally::tally;
 use std::alloc::{AllocError, Global};
 use sy_checker::finding::Refusal;
-use sy_checker::{check_site, survey};
+use sy_checker::survey;
 use sy_site::Site;
+
+// All that is found in a site, as a text.
+fn tally_of(alloc: Global, site: &Site) -> Result<Vec<u8>, AllocError>
+    ensures { IfOk result (λ text. internal.IsSurveyed site.now text.items) }
+{
+    match survey(alloc, site) {
+        Ok(groups) => tally(alloc, site, groups.as_slice()),
+        Err(why) => Err(why),
+    }
+}
 
 // All that is found in a site that isn't sound.
 fn refused(alloc: Global, site: &Site) -> Result<Answer, AllocError>
     requires unsound { IsSound site.now → ⊥ }
     ensures ok { IfOk result (λ a. spec.SaysSurvey site.now a.text.items a.is_accepted) }
 {
-    let groups = survey(alloc, site)?;
-    let text = tally(alloc, site, groups.as_slice())?;
-    Ok(Answer {
-        text,
-        is_accepted: false,
-    })
+    match tally_of(alloc, site) {
+        Ok(text) => Ok(Answer {
+            text,
+            is_accepted: false,
+        }),
+        Err(why) => Err(why),
+    }
 }
 
 // What is said of a site that is refused.
@@ -46,11 +58,8 @@ pub fn say_all(alloc: Global, site: &Site) -> Result<Answer, Halt>
     ensures ok { IfOk result (λ a. spec.SaysAll site.now a.text.items a.is_accepted) }
     ensures err { IfErr result (λ halt. halt ≡ Halt.NoMemory) }
 {
-    match check_site(alloc, site) {
-        Ok(kept) => match accepted(alloc, kept.classes().len()) {
-            Ok(answer) => Ok(answer),
-            Err(_) => Err(Halt::NoMemory),
-        },
+    match say_kept(alloc, site) {
+        Ok(answer) => Ok(answer),
         Err(why) => say_found(alloc, site, why),
     }
 }

@@ -1,28 +1,18 @@
 //! Checking a site, and making its certificate.
-ghost use Rattle.std.specs.Prelude.{◌≡◌, ◌++◌, IfErr, IfOk, OnOk, false, true};
+ghost use Rattle.std.specs.Prelude.{◌≡◌, IfErr, IfOk, false, true};
+ghost use Rattle.sy_site.specs.machine.Soundness.{IsSound};
 ghost use Rattle.sy_checker.specs.Finding.{IsTrueRefusal};
 ghost use Rattle.syc.specs.Checks as spec;
 
 use crate::answer::Answer;
 use crate::findings::put_finding;
 use crate::halt::Halt;
-use crate::texts::put_number;
+use crate::texts::{Part, put_parts};
 use std::alloc::{AllocError, Global};
 use sy_cert::{Certificate, write_cert};
 use sy_checker::finding::{Finding, Refusal};
 use sy_checker::{certify as make_certificate, check_site};
 use sy_site::Site;
-
-// Puts the line of an acceptance behind a text.
-fn put_accepted(text: &mut Vec<u8>, classes: usize) -> Result<(), AllocError>
-    ensures { OnOk result (text.new.items ≡ text.old.items ++ spec.accepted_line classes) }
-{
-    text.extend_from_slice(b"accepted: ")?;
-    put_number(text, classes as u64)?;
-    text.extend_from_slice(b" protected classes")?;
-    text.extend_from_slice(b"\n")?;
-    Ok(())
-}
 
 /// That a site with so many protected classes is accepted.
 pub fn accepted(alloc: Global, classes: usize) -> Result<Answer, AllocError>
@@ -30,7 +20,13 @@ pub fn accepted(alloc: Global, classes: usize) -> Result<Answer, AllocError>
     ensures accepted { IfOk result (λ a. a.is_accepted ≡ true) }
 {
     let mut text = Vec::new(alloc);
-    put_accepted(&mut text, classes)?;
+    let parts = [
+        Part::Text(b"accepted: "),
+        Part::Number(classes as u64),
+        Part::Text(b" protected classes"),
+        Part::Text(b"\n"),
+    ];
+    put_parts(&mut text, &parts)?;
     Ok(Answer {
         text,
         is_accepted: true,
@@ -65,16 +61,40 @@ fn say_found(alloc: Global, site: &Site, why: Refusal) -> Result<Answer, Halt>
     }
 }
 
+// How many protected classes a site keeps, or why it is refused.
+fn count_kept(alloc: Global, site: &Site) -> Result<usize, Refusal>
+    ensures keeps { IfOk result (spec.KeepsAll site.now) }
+    ensures found { IfErr result (IsTrueRefusal site.now) }
+    ensures only { IfErr result (λ why. IsSound site.now → why ≡ Refusal.NoMemory) }
+{
+    match check_site(alloc, site) {
+        Ok(kept) => Ok(kept.classes().len()),
+        Err(why) => Err(why),
+    }
+}
+
+/// That a site is accepted, or why it is refused.
+pub fn say_kept(alloc: Global, site: &Site) -> Result<Answer, Refusal>
+    ensures ok { IfOk result (λ a. spec.SaysKept site.now a.text.items a.is_accepted) }
+    ensures found { IfErr result (IsTrueRefusal site.now) }
+    ensures only { IfErr result (λ why. IsSound site.now → why ≡ Refusal.NoMemory) }
+{
+    match count_kept(alloc, site) {
+        Ok(count) => match accepted(alloc, count) {
+            Ok(answer) => Ok(answer),
+            Err(_) => Err(Refusal::NoMemory),
+        },
+        Err(why) => Err(why),
+    }
+}
+
 /// What a check says of a site.
 pub fn say_checked(alloc: Global, site: &Site) -> Result<Answer, Halt>
     ensures ok { IfOk result (λ a. spec.SaysChecked site.now a.text.items a.is_accepted) }
     ensures err { IfErr result (λ halt. halt ≡ Halt.NoMemory) }
 {
-    match check_site(alloc, site) {
-        Ok(kept) => match accepted(alloc, kept.classes().len()) {
-            Ok(answer) => Ok(answer),
-            Err(_) => Err(Halt::NoMemory),
-        },
+    match say_kept(alloc, site) {
+        Ok(answer) => Ok(answer),
         Err(why) => say_found(alloc, site, why),
     }
 }

@@ -221,76 +221,121 @@ fn verified<'a>(words: &[&'a str]) -> Option<(&'a str, &'a str)>
     }
 }
 
-// The flags of a check, of which one alone may be given: the name of each, what it does, and what it stands against.
-static FLAGS: [(&str, &str, &str); 2] = [
-    ("explain", EXPLAIN_ABOUT, "all"),
-    ("all", ALL_ABOUT, "explain"),
-];
+// A parser with the name of a file more. Here and below a parser that couldn't be made is passed on, since a `?` where
+// parsers are owned is dear to prove.
+fn with_name<'a>(
+    alloc: Global,
+    parser: Result<Parser<'a>, AllocError>,
+    name: &'a str,
+) -> Result<Parser<'a>, AllocError> {
+    match parser {
+        Ok(parser) => parser.arg(Arg::new(alloc, name).required(true)),
+        Err(why) => Err(why),
+    }
+}
 
 // What clap knows of a command with names of files behind it, but for its flags.
 fn plain_parser<'a>(
     alloc: Global,
     word: &'a str,
     about: &'a str,
-    names: &[&'a str],
+    names: &'a [&'a str],
 ) -> Result<Parser<'a>, AllocError> {
-    let mut parser = Parser::new(alloc, word).about(about);
+    let mut parser = Ok(Parser::new(alloc, word).about(about));
     for name in names {
-        parser = parser.arg(Arg::new(alloc, name).required(true))?;
+        parser = with_name(alloc, parser, name);
     }
-    Ok(parser)
+    parser
 }
 
-// The same with the flags of a check.
-fn with_flags<'a>(alloc: Global, check: Parser<'a>) -> Result<Parser<'a>, AllocError> {
-    let mut parser = check;
-    for (name, about, other) in &FLAGS {
-        let flag = Arg::new(alloc, name).long(name).help(about);
-        let flag = flag.action(ArgAction::SetTrue).conflicts_with(other)?;
-        parser = parser.arg(flag)?;
-    }
-    Ok(parser)
+// Lets a parser go where memory ran out.
+fn no_parser<'a>(_parser: Parser<'a>) -> Result<Parser<'a>, AllocError> {
+    Err(AllocError)
 }
 
-// What clap knows of a command.
-fn parser_of<'a>(
+// A flag, what it does, and the flag that may not be given beside it.
+fn flag_of<'a>(
     alloc: Global,
-    word: &'a str,
+    name: &'a str,
     about: &'a str,
-    names: &[&'a str],
-) -> Result<Parser<'a>, AllocError> {
-    match plain_parser(alloc, word, about, names) {
-        Ok(check) if is_word(word, "check") => with_flags(alloc, check),
-        made => made,
-    }
+    other: &'a str,
+) -> Result<Arg<'a>, AllocError> {
+    let flag = Arg::new(alloc, name).long(name).help(about);
+    flag.action(ArgAction::SetTrue).conflicts_with(other)
 }
 
-// The program's parser with one command more. Nothing else is owned where memory runs out, which would be dearer to prove.
-fn with_command<'a>(
+fn with_flag<'a>(
     alloc: Global,
-    parser: Parser<'a>,
-    word: &'a str,
+    parser: Result<Parser<'a>, AllocError>,
+    name: &'a str,
     about: &'a str,
-    names: &[&'a str],
+    other: &'a str,
 ) -> Result<Parser<'a>, AllocError> {
-    match parser_of(alloc, word, about, names) {
-        Ok(command) => parser.subcommand(command),
+    match parser {
+        Ok(parser) => match flag_of(alloc, name, about, other) {
+            Ok(flag) => parser.arg(flag),
+            Err(_) => no_parser(parser),
+        },
         Err(why) => Err(why),
     }
 }
 
-// What clap knows of the program.
-fn whole_parser<'a>(alloc: Global) -> Result<Parser<'a>, AllocError> {
-    let parser = Parser::new(alloc, "syc")
+// What clap knows of a command; of the flags of a check one alone may be given.
+fn parser_of<'a>(
+    alloc: Global,
+    word: &'a str,
+    about: &'a str,
+    names: &'a [&'a str],
+) -> Result<Parser<'a>, AllocError> {
+    let parser = plain_parser(alloc, word, about, names);
+    if !is_word(word, "check") {
+        return parser;
+    }
+    let parser = with_flag(alloc, parser, "explain", EXPLAIN_ABOUT, "all");
+    with_flag(alloc, parser, "all", ALL_ABOUT, "explain")
+}
+
+// A parser with one command more.
+fn with_command<'a>(
+    alloc: Global,
+    parser: Result<Parser<'a>, AllocError>,
+    word: &'a str,
+    about: &'a str,
+    names: &'a [&'a str],
+) -> Result<Parser<'a>, AllocError> {
+    match parser {
+        Ok(parser) => match parser_of(alloc, word, about, names) {
+            Ok(command) => parser.subcommand(command),
+            Err(_) => no_parser(parser),
+        },
+        Err(why) => Err(why),
+    }
+}
+
+// What clap knows of the program, but for its commands.
+fn bare_parser<'a>(alloc: Global) -> Parser<'a> {
+    Parser::new(alloc, "syc")
         .version("0.1.0")
         .about(ABOUT)
-        .subcommand_required(true);
-    let parser = with_command(alloc, parser, "pass", PASS_ABOUT, &[])?;
-    let parser = with_command(alloc, parser, "check", CHECK_ABOUT, &["SITE"])?;
-    let parser = with_command(alloc, parser, "certify", CERTIFY_ABOUT, &["SITE"])?;
-    let parser = with_command(alloc, parser, "verify", VERIFY_ABOUT, &["SITE", "CERT"])?;
-    let parser = with_command(alloc, parser, "replay", REPLAY_ABOUT, &["SITE", "EVENTS"])?;
-    Ok(parser)
+        .subcommand_required(true)
+}
+
+// The commands: the word of each, what it does, and the names of files behind it.
+static COMMANDS: [(&str, &str, &[&str]); 5] = [
+    ("pass", PASS_ABOUT, &[]),
+    ("check", CHECK_ABOUT, &["SITE"]),
+    ("certify", CERTIFY_ABOUT, &["SITE"]),
+    ("verify", VERIFY_ABOUT, &["SITE", "CERT"]),
+    ("replay", REPLAY_ABOUT, &["SITE", "EVENTS"]),
+];
+
+// What clap knows of the program.
+fn whole_parser<'a>(alloc: Global) -> Result<Parser<'a>, AllocError> {
+    let mut parser = Ok(bare_parser(alloc));
+    for (word, about, names) in &COMMANDS {
+        parser = with_command(alloc, parser, word, about, names);
+    }
+    parser
 }
 
 // Why words are refused that clap reads as a command: it reads `pass --` as `pass`, and an option behind the names.
@@ -305,17 +350,23 @@ fn unread(words: &[&str]) -> &'static str {
 
 // What clap answers for words that are no command as it is written here: a call for help or for the version, or what is
 // wrong with them.
-fn ask_clap(alloc: Global, words: &[&str]) -> Result<Error, Error> {
-    let mut parser = whole_parser(alloc)?;
-    parser.try_get_matches_from_mut(words)?;
-    let error = parser.error(ErrorKind::UnknownArgument, unread(words))?;
-    Ok(error)
+fn ask_clap<'a>(parser: &mut Parser<'a>, words: &'a [&'a str]) -> Error {
+    if let Err(error) = parser.try_get_matches_from_mut(words) {
+        return error;
+    }
+    match parser.error(ErrorKind::UnknownArgument, unread(words)) {
+        Ok(error) => error,
+        Err(why) => Error::from(why),
+    }
 }
 
 fn refusal(alloc: Global, words: &[&str]) -> Error {
-    match ask_clap(alloc, words) {
-        Ok(error) => error,
-        Err(error) => error,
+    match whole_parser(alloc) {
+        Ok(parser) => {
+            let mut parser = parser;
+            ask_clap(&mut parser, words)
+        }
+        Err(why) => Error::from(why),
     }
 }
 

@@ -4,13 +4,12 @@ ghost use Rattle.sy_checker.specs.Finding.{IsTrueFinding, IsTrueRefusal};
 ghost use Rattle.syc.specs.Checks as spec;
 
 use crate::answer::Answer;
-use crate::check::accepted;
+use crate::check::say_kept;
 use crate::explanation::explanation;
 use crate::files::Files;
 use crate::findings::put_finding;
 use crate::halt::Halt;
 use std::alloc::{AllocError, Global};
-use sy_checker::check_site;
 use sy_checker::finding::{Finding, Refusal};
 use sy_site::Site;
 
@@ -81,11 +80,8 @@ pub fn say_explained<F: Files>(
     ensures ok { IfOk result (λ a. spec.SaysExplained site.now a.text.items a.is_accepted) }
     ensures err { IfErr result (λ halt. halt ≡ Halt.NoMemory) }
 {
-    match check_site(alloc, site) {
-        Ok(kept) => match accepted(alloc, kept.classes().len()) {
-            Ok(answer) => Ok(answer),
-            Err(_) => Err(Halt::NoMemory),
-        },
+    match say_kept(alloc, site) {
+        Ok(answer) => Ok(answer),
         Err(why) => say_in_words(alloc, files, name, site, why),
     }
 }

@@ -1,6 +1,6 @@
 //! Findings in words: where what is found stands, why messages are lost by it, and what would change that.
 
-use crate::culprit::{Feeder, Spot, free_feeder, queue_at, spot_at};
+use crate::culprit::{Feeder, Spot, free_feeder, name_of_list, queue_at, spot_at};
 use crate::files::Files;
 use crate::meant::{relay_meant, thing_meant};
 use crate::places::{Places, Thing, places_of};
@@ -8,7 +8,8 @@ use crate::remedies::{
     put_discarding, put_gives_up, put_loop, put_mark_above_size, put_mark_off, put_no_target,
     put_not_full, put_post, put_unmet,
 };
-use crate::things::{put_name_of_list, put_where};
+use crate::texts::Part;
+use crate::things::put_where;
 use crate::words::Words;
 use std::alloc::{AllocError, Global};
 use sy_checker::finding::{Finding, Kind};
@@ -42,9 +43,11 @@ fn put_feeder(words: &mut Words, site: &Site, relay: u32, places: &Option<Places
             put_where(words, site, relay, places, Thing::Input(number));
         }
         Some(Feeder::Post(list)) => {
-            words.say("fed by: what is posted to ");
-            put_name_of_list(words, spot.plan, list);
-            words.say("\n");
+            words.put(&[
+                Part::Text(b"fed by: what is posted to "),
+                Part::Text(name_of_list(spot.plan, list)),
+                Part::Text(b"\n"),
+            ]);
         }
         None => {}
     }

@@ -2,7 +2,7 @@
 ghost use Rattle.std.specs.Prelude.{◌≡◌, ◌++◌, OnOk, flat_map};
 ghost use Rattle.syc.specs.Checks as spec;
 
-use crate::texts::{action_name, put_class, put_input, put_number, relay_name};
+use crate::texts::{Part, action_name, input_part, put_parts, relay_name};
 use std::alloc::AllocError;
 use sy_checker::finding::{Finding, Kind, WayRow};
 use sy_site::{Site, SiteAction};
@@ -11,11 +11,13 @@ use sy_site::{Site, SiteAction};
 fn put_archive(text: &mut Vec<u8>, site: &Site, archive: SiteAction) -> Result<(), AllocError>
     ensures { OnOk result (text.new.items ≡ text.old.items ++ spec.archive_text site.now (Kind.Unmet archive)) }
 {
-    text.extend_from_slice(b" ")?;
-    text.extend_from_slice(relay_name(site, archive.relay))?;
-    text.extend_from_slice(b" ")?;
-    text.extend_from_slice(action_name(site, archive))?;
-    Ok(())
+    let parts = [
+        Part::Text(b" "),
+        Part::Text(relay_name(site, archive.relay)),
+        Part::Text(b" "),
+        Part::Text(action_name(site, archive)),
+    ];
+    put_parts(text, &parts)
 }
 
 /// Puts what is found behind a text.
@@ -33,26 +35,30 @@ pub fn put_kind(text: &mut Vec<u8>, site: &Site, kind: Kind) -> Result<(), Alloc
 fn put_found(text: &mut Vec<u8>, site: &Site, finding: &Finding) -> Result<(), AllocError>
     ensures { OnOk result (text.new.items ≡ text.old.items ++ spec.finding_line site.now finding.now) }
 {
-    text.extend_from_slice(b"refused: ")?;
-    put_class(text, finding.class)?;
-    text.extend_from_slice(b" at ")?;
-    put_input(text, site, finding.input)?;
-    text.extend_from_slice(b": ")?;
+    let parts = [
+        Part::Text(b"refused: "),
+        Part::Class(finding.class),
+        Part::Text(b" at "),
+        input_part(site, finding.input),
+        Part::Text(b": "),
+    ];
+    put_parts(text, &parts)?;
     put_kind(text, site, finding.kind)?;
-    text.extend_from_slice(b"\n")?;
-    Ok(())
+    text.extend_from_slice(b"\n")
 }
 
 // Puts the line of one part of the way behind a text.
 fn put_row(text: &mut Vec<u8>, site: &Site, row: WayRow) -> Result<(), AllocError>
     ensures { OnOk result (text.new.items ≡ text.old.items ++ spec.way_line site.now row) }
 {
-    text.extend_from_slice(b"  ")?;
-    put_input(text, site, row.input)?;
-    text.extend_from_slice(b" by ")?;
-    put_number(text, u64::from(row.number))?;
-    text.extend_from_slice(b"\n")?;
-    Ok(())
+    let parts = [
+        Part::Text(b"  "),
+        input_part(site, row.input),
+        Part::Text(b" by "),
+        Part::Number(u64::from(row.number)),
+        Part::Text(b"\n"),
+    ];
+    put_parts(text, &parts)
 }
 
 // Puts a line for each part of a way behind a text.
@@ -70,6 +76,5 @@ pub fn put_finding(text: &mut Vec<u8>, site: &Site, finding: &Finding) -> Result
     ensures { OnOk result (text.new.items ≡ text.old.items ++ spec.finding_text site.now finding.now) }
 {
     put_found(text, site, finding)?;
-    put_way(text, site, finding.way.as_slice())?;
-    Ok(())
+    put_way(text, site, finding.way.as_slice())
 }

@@ -3,8 +3,9 @@ ghost use Rattle.std.specs.Prelude.{◌≡◌, ◌++◌, OnOk, flat_map, slice_g
 ghost use Rattle.sy_replay.specs.Events.{cause_of, loss_of, losses_of};
 ghost use Rattle.sy_replay.specs.States.{state_at};
 ghost use Rattle.syc.specs.Replays as spec;
+ghost use Rattle.syc.specs.internal.Parts.{part_text};
 
-use crate::texts::{put_class, put_number, relay_name};
+use crate::texts::{Part, put_parts, relay_name};
 use std::alloc::AllocError;
 use sy_replay::{Cause, Loss, Replay};
 use sy_site::Site;
@@ -31,50 +32,14 @@ fn message_number(replay: &Replay<'_>, copy: u64) -> u64
     }
 }
 
-fn put_copy_class(text: &mut Vec<u8>, replay: &Replay<'_>, copy: u64) -> Result<(), AllocError>
-    ensures { OnOk result (text.new.items
-        ≡ text.old.items ++ spec.copy_class (slice_get (state_at replay.now).copies copy)) }
+// The class of a copy, or nothing where there is no such copy.
+fn class_part(replay: &Replay<'_>, copy: u64) -> Part<'static>
+    ensures { part_text result ≡ spec.copy_class (slice_get (state_at replay.now).copies copy) }
 {
     match replay.class_of(copy) {
-        Some(class) => put_class(text, class),
-        None => Ok(()),
+        Some(class) => Part::Class(class),
+        None => Part::Text(b""),
     }
-}
-
-// Which message a loss is of.
-fn put_loss_number(
-    text: &mut Vec<u8>,
-    replay: &Replay<'_>,
-    line: u64,
-    loss: Loss,
-) -> Result<(), AllocError>
-    ensures { OnOk result (text.new.items
-        ≡ text.old.items ++ spec.loss_number (state_at replay.now) line (loss_of loss)) }
-{
-    text.extend_from_slice(b"loss line ")?;
-    put_number(text, line)?;
-    text.extend_from_slice(b" message ")?;
-    put_number(text, message_number(replay, loss.copy))?;
-    Ok(())
-}
-
-// Where it was, and how it was lost.
-fn put_loss_place(
-    text: &mut Vec<u8>,
-    site: &Site,
-    replay: &Replay<'_>,
-    loss: Loss,
-) -> Result<(), AllocError>
-    ensures { OnOk result (text.new.items
-        ≡ text.old.items ++ spec.loss_place site.now (state_at replay.now) (loss_of loss)) }
-{
-    text.extend_from_slice(b" at ")?;
-    text.extend_from_slice(relay_name(site, loss.relay))?;
-    text.extend_from_slice(b" ")?;
-    put_copy_class(text, replay, loss.copy)?;
-    text.extend_from_slice(b" ")?;
-    text.extend_from_slice(cause_word(loss.cause))?;
-    Ok(())
 }
 
 fn put_loss(
@@ -87,10 +52,20 @@ fn put_loss(
     ensures { OnOk result (text.new.items
         ≡ text.old.items ++ spec.loss_line site.now (state_at replay.now) line (loss_of loss)) }
 {
-    put_loss_number(text, replay, line, loss)?;
-    put_loss_place(text, site, replay, loss)?;
-    text.extend_from_slice(b"\n")?;
-    Ok(())
+    let parts = [
+        Part::Text(b"loss line "),
+        Part::Number(line),
+        Part::Text(b" message "),
+        Part::Number(message_number(replay, loss.copy)),
+        Part::Text(b" at "),
+        Part::Text(relay_name(site, loss.relay)),
+        Part::Text(b" "),
+        class_part(replay, loss.copy),
+        Part::Text(b" "),
+        Part::Text(cause_word(loss.cause)),
+        Part::Text(b"\n"),
+    ];
+    put_parts(text, &parts)
 }
 
 /// Puts the lines of losses, which the event in this line made, behind a text.
@@ -114,12 +89,14 @@ pub fn put_losses(
 pub fn put_end(text: &mut Vec<u8>, replay: &Replay<'_>, events: u64) -> Result<(), AllocError>
     ensures { OnOk result (text.new.items ≡ text.old.items ++ spec.end_line events (state_at replay.now)) }
 {
-    text.extend_from_slice(b"events ")?;
-    put_number(text, events)?;
-    text.extend_from_slice(b" messages ")?;
-    put_number(text, replay.messages())?;
-    text.extend_from_slice(b" losses ")?;
-    put_number(text, replay.losses().len() as u64)?;
-    text.extend_from_slice(b"\n")?;
-    Ok(())
+    let parts = [
+        Part::Text(b"events "),
+        Part::Number(events),
+        Part::Text(b" messages "),
+        Part::Number(replay.messages()),
+        Part::Text(b" losses "),
+        Part::Number(replay.losses().len() as u64),
+        Part::Text(b"\n"),
+    ];
+    put_parts(text, &parts)
 }

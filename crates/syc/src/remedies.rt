@@ -2,7 +2,7 @@
 
 use crate::culprit::{Spot, free_feeder};
 use crate::places::Thing;
-use crate::texts::relay_name;
+use crate::texts::{Part, relay_name};
 use crate::words::Words;
 use sy_checker::finding::{Finding, WayRow};
 use sy_rules::{Action, Destination, FlowControl, Plan, QueueParameters};
@@ -12,9 +12,11 @@ use sy_site::Site;
 
 // That a message is lost at a full queue after a while.
 fn put_wait(words: &mut Words, queue: QueueParameters) {
-    words.say(", so that messages may come to a full queue: there one waits ");
-    words.count(u64::from(queue.timeout_enqueue));
-    words.say(" ms at most, and is then lost\n");
+    words.put(&[
+        Part::Text(b", so that messages may come to a full queue: there one waits "),
+        Part::Number(u64::from(queue.timeout_enqueue)),
+        Part::Text(b" ms at most, and is then lost\n"),
+    ]);
 }
 
 // Whether a queue discards messages of some severity at some length.
@@ -34,23 +36,27 @@ fn right_mark(queue: QueueParameters) -> u64 {
 }
 
 fn put_right_mark(words: &mut Words, queue: QueueParameters) {
-    words.say("queue.fullDelayMark=\"");
-    words.count(right_mark(queue));
-    words.say("\" there");
+    words.put(&[
+        Part::Text(b"queue.fullDelayMark=\""),
+        Part::Number(right_mark(queue)),
+        Part::Text(b"\" there"),
+    ]);
 }
 
-fn flow_word(flow: FlowControl) -> &'static str {
+fn flow_word(flow: FlowControl) -> &'static [u8] {
     match flow {
-        FlowControl::On => "on",
-        FlowControl::Off => "off",
-        FlowControl::Full => "full",
+        FlowControl::On => b"on",
+        FlowControl::Off => b"off",
+        FlowControl::Full => b"full",
     }
 }
 
 /// Why an input that isn't a full-delay one loses messages.
 pub fn put_not_full(words: &mut Words, spot: Spot<'_>, queue: QueueParameters) {
-    words.say("why: its flowControl is ");
-    words.say(flow_word(spot.input.flow));
+    words.put(&[
+        Part::Text(b"why: its flowControl is "),
+        Part::Text(flow_word(spot.input.flow)),
+    ]);
     put_wait(words, queue);
     words.say("change: flowControl=\"full\" there\n");
 }
@@ -66,10 +72,12 @@ pub fn put_mark_off(words: &mut Words, queue: QueueParameters) {
 
 /// Why a queue does that is smaller than its full-delay mark.
 pub fn put_mark_above_size(words: &mut Words, queue: QueueParameters) {
-    words.say("why: its queue.fullDelayMark is ");
-    words.count(u64::from(queue.full_delay_mark));
-    words.say(" and its queue.size ");
-    words.count(u64::from(queue.size));
+    words.put(&[
+        Part::Text(b"why: its queue.fullDelayMark is "),
+        Part::Number(u64::from(queue.full_delay_mark)),
+        Part::Text(b" and its queue.size "),
+        Part::Number(u64::from(queue.size)),
+    ]);
     put_wait(words, queue);
     words.say("change: ");
     put_right_mark(words, queue);
@@ -80,24 +88,33 @@ pub fn put_mark_above_size(words: &mut Words, queue: QueueParameters) {
 
 // What a queue discards, and when.
 fn put_discards(words: &mut Words, queue: QueueParameters) {
-    words.say("why: with ");
-    words.count(u64::from(queue.discard_mark));
-    words.say(" messages waiting (queue.discardMark; its queue.size is ");
-    words.count(u64::from(queue.size));
-    words.say(") it discards those of severity ");
-    words.count(u64::from(queue.discard_severity));
-    words.say(" and less urgent ones,\n");
+    words.put(&[
+        Part::Text(b"why: with "),
+        Part::Number(u64::from(queue.discard_mark)),
+        Part::Text(b" messages waiting (queue.discardMark; its queue.size is "),
+        Part::Number(u64::from(queue.size)),
+        Part::Text(b") it discards those of severity "),
+        Part::Number(u64::from(queue.discard_severity)),
+        Part::Text(b" and less urgent ones,\n"),
+    ]);
+}
+
+// What waits at a queue's full-delay mark.
+fn waiting(queue: QueueParameters) -> &'static [u8] {
+    if queue.full_delay_mark < queue.discard_mark {
+        b"  and not all that feeds it waits at "
+    } else {
+        b"  and what feeds it waits only at "
+    }
 }
 
 // That it comes to that.
 fn put_growth(words: &mut Words, queue: QueueParameters) {
-    if queue.full_delay_mark < queue.discard_mark {
-        words.say("  and not all that feeds it waits at ");
-    } else {
-        words.say("  and what feeds it waits only at ");
-    }
-    words.count(u64::from(queue.full_delay_mark));
-    words.say(" (queue.fullDelayMark)\n");
+    words.put(&[
+        Part::Text(waiting(queue)),
+        Part::Number(u64::from(queue.full_delay_mark)),
+        Part::Text(b" (queue.fullDelayMark)\n"),
+    ]);
 }
 
 /// Why a queue that discards does.
@@ -116,10 +133,12 @@ pub fn put_discarding(words: &mut Words, spot: Spot<'_>, queue: QueueParameters)
 
 /// Why posts do.
 pub fn put_post(words: &mut Words) {
-    words.say(
-        "why: messages are posted to its queue, and one that is posted while that is full is lost\n",
-    );
-    words.say("change: without queue.type there, so that it has no queue of its own\n");
+    words.put(&[
+        Part::Text(
+            b"why: messages are posted to its queue, and one that is posted while that is full is lost\n",
+        ),
+        Part::Text(b"change: without queue.type there, so that it has no queue of its own\n"),
+    ]);
 }
 
 fn retries(action: &Action) -> u64 {
@@ -131,15 +150,18 @@ fn retries(action: &Action) -> u64 {
 
 /// Why an action that is given up does.
 pub fn put_gives_up(words: &mut Words, plan: &Plan, thing: Thing) {
-    let Some(action) = action_of(plan, thing) else {
-        return;
-    };
-    words.say("why: its action.resumeRetryCount is ");
-    words.count(retries(action));
-    words.say(
-        ": a message that couldn't be handed on is given up after so many retries, and lost\n",
-    );
-    words.say("change: action.resumeRetryCount=\"-1\" there, by which it is tried without end\n");
+    if let Some(action) = action_of(plan, thing) {
+        words.put(&[
+            Part::Text(b"why: its action.resumeRetryCount is "),
+            Part::Number(retries(action)),
+            Part::Text(
+                b": a message that couldn't be handed on is given up after so many retries, and lost\n",
+            ),
+            Part::Text(
+                b"change: action.resumeRetryCount=\"-1\" there, by which it is tried without end\n",
+            ),
+        ]);
+    }
 }
 
 fn action_of(plan: &Plan, thing: Thing) -> Option<&Action> {
@@ -151,12 +173,13 @@ fn action_of(plan: &Plan, thing: Thing) -> Option<&Action> {
 
 // The ports of a relay's inputs.
 fn put_ports(words: &mut Words, site: &Site, plan: &Plan, relay: u32) {
-    words.say("change: a port of ");
-    words.put(relay_name(site, relay));
-    words.say(" there:");
+    words.put(&[
+        Part::Text(b"change: a port of "),
+        Part::Text(relay_name(site, relay)),
+        Part::Text(b" there:"),
+    ]);
     for input in plan.inputs() {
-        words.say(" ");
-        words.count(u64::from(input.port));
+        words.put(&[Part::Text(b" "), Part::Number(u64::from(input.port))]);
     }
     words.say("\n");
 }
@@ -166,8 +189,7 @@ fn put_relays(words: &mut Words, site: &Site, own: u32) {
     words.say("change: a target of the site there:");
     for relay in 0..site.relays() {
         if relay != own {
-            words.say(" ");
-            words.put(relay_name(site, relay));
+            words.put(&[Part::Text(b" "), Part::Text(relay_name(site, relay))]);
         }
     }
     words.say("\n");
@@ -187,11 +209,13 @@ pub fn put_no_target(words: &mut Words, site: &Site, own: u32, plan: &Plan, thin
         return;
     };
     if let Destination::Forward(target, port) = &action.destination {
-        words.say("why: it forwards to ");
-        words.put(target.as_slice());
-        words.say(" ");
-        words.count(u64::from(*port));
-        words.say(", which is no input of the site, so that no archive of the site gets it\n");
+        words.put(&[
+            Part::Text(b"why: it forwards to "),
+            Part::Input(target.as_slice(), u64::from(*port)),
+            Part::Text(
+                b", which is no input of the site, so that no archive of the site gets it\n",
+            ),
+        ]);
         put_targets(words, site, own, target.as_slice());
     }
 }
@@ -201,8 +225,10 @@ pub fn put_no_target(words: &mut Words, site: &Site, own: u32, plan: &Plan, thin
 // The relays of a way.
 fn put_way(words: &mut Words, site: &Site, way: &[WayRow]) {
     for row in way {
-        words.put(relay_name(site, row.input.relay));
-        words.say(", ");
+        words.put(&[
+            Part::Text(relay_name(site, row.input.relay)),
+            Part::Text(b", "),
+        ]);
     }
 }
 
@@ -210,20 +236,24 @@ fn put_way(words: &mut Words, site: &Site, way: &[WayRow]) {
 pub fn put_loop(words: &mut Words, site: &Site, finding: &Finding) {
     words.say("why: by it a message may come to a relay once more: ");
     put_way(words, site, finding.way.as_slice());
-    words.put(relay_name(site, finding.input.relay));
-    words.say("; what goes round fills the queues there\n");
-    words.say(
-        "change: that forward, or another one of the loop, left out, or put behind a test that the class doesn't pass\n",
-    );
+    words.put(&[
+        Part::Text(relay_name(site, finding.input.relay)),
+        Part::Text(b"; what goes round fills the queues there\n"),
+        Part::Text(
+            b"change: that forward, or another one of the loop, left out, or put behind a test that the class doesn't pass\n",
+        ),
+    ]);
 }
 
 /// Why an archive that isn't led to does.
 pub fn put_unmet(words: &mut Words) {
-    words.say(
-        "why: no occurrences that every message of the class executes lead from that input to that archive\n",
-    );
-    words.say(
-        "change: each forward of the way and the archive where every message of the class comes to it:\n",
-    );
-    words.say("  outside tests that the class alone doesn't decide, and before each stop\n");
+    words.put(&[
+        Part::Text(
+            b"why: no occurrences that every message of the class executes lead from that input to that archive\n",
+        ),
+        Part::Text(
+            b"change: each forward of the way and the archive where every message of the class comes to it:\n",
+        ),
+        Part::Text(b"  outside tests that the class alone doesn't decide, and before each stop\n"),
+    ]);
 }

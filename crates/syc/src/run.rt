@@ -44,6 +44,19 @@ fn show<W: Sink, E: Sink>(alloc: Global, out: &mut Outputs<W, E>, error: &Error)
     0
 }
 
+// Prints what is wrong with words that are no command, or that memory ran out, and answers the exit status.
+fn refuse<W: Sink, E: Sink>(alloc: Global, out: &mut Outputs<W, E>, error: &Error) -> u8
+    ensures status { result ≤ 4 }
+    ensures none_failed { result ≢ 4 → out.new.output.faults ≡ out.old.output.faults }
+    ensures quiet { result ≡ 0 → Keeps out.old.errors.contents out.new.errors.contents }
+    ensures shown { Shows result out.old out.new }
+{
+    match error.kind() {
+        ErrorKind::OutOfMemory => out_of_memory(&mut out.errors),
+        _ => show(alloc, out, error),
+    }
+}
+
 // Runs a command over a site, and answers the exit status.
 fn over_site<W: Sink, E: Sink, F: Files>(
     alloc: Global,
@@ -98,9 +111,6 @@ pub fn run<R: Source, W: Sink, E: Sink, F: Files>(
     match command_of(alloc, words.as_slice()) {
         Ok(Command::Pass) => pass(alloc, reader, out),
         Ok(Command::OverSite(command)) => over_site(alloc, command, files, out),
-        Err(error) => match error.kind() {
-            ErrorKind::OutOfMemory => out_of_memory(&mut out.errors),
-            _ => show(alloc, out, &error),
-        },
+        Err(error) => refuse(alloc, out, &error),
     }
 }

@@ -3,7 +3,7 @@ ghost use Rattle.std.specs.Prelude.{◌≡◌, ◌++◌, IfOk, OnOk};
 ghost use Rattle.syc.specs.Checks as spec;
 
 use crate::findings::put_kind;
-use crate::texts::put_input;
+use crate::texts::{Part, input_part, put_parts};
 use crate::words::Words;
 use std::alloc::{AllocError, Global};
 use sy_checker::Group;
@@ -50,7 +50,8 @@ fn sets_of(alloc: Global, classes: &[Class]) -> Result<Vec<u8>, AllocError> {
 
 fn put_facility(words: &mut Words, facility: usize) {
     if facility < FACILITIES as usize {
-        words.put(facility_text(Class::of_number(facility as u8 * SEVERITIES)));
+        let class = Class::of_number(facility as u8 * SEVERITIES);
+        words.put(&[Part::Text(facility_text(class))]);
     }
 }
 
@@ -72,7 +73,7 @@ fn put_facilities(words: &mut Words, sets: &[u8], set: u8) {
 
 fn put_severity(words: &mut Words, severity: u8) {
     if severity < SEVERITIES {
-        words.put(severity_text(Class::of_number(severity)));
+        words.put(&[Part::Text(severity_text(Class::of_number(severity)))]);
     }
 }
 
@@ -127,10 +128,9 @@ fn put_sets(words: &mut Words, sets: &[u8]) {
     }
 }
 
-// Puts how many there are of something.
-fn put_count(words: &mut Words, count: u64, one: &str, more: &str) {
-    words.count(count);
-    words.say(if count == 1 { one } else { more });
+// Which of two words stands behind a count.
+fn word_for(count: u64, one: &'static [u8], more: &'static [u8]) -> Part<'static> {
+    Part::Text(if count == 1 { one } else { more })
 }
 
 // The names of classes, and how many there are where they are more than one.
@@ -139,8 +139,11 @@ fn names_of(alloc: Global, classes: &[Class]) -> Result<Vec<u8>, AllocError> {
     let mut words = Words::new(alloc);
     put_sets(&mut words, sets.as_slice());
     if classes.len() > 1 {
-        words.say(" (");
-        put_count(&mut words, classes.len() as u64, " class)", " classes)");
+        words.put(&[
+            Part::Text(b" ("),
+            Part::Number(classes.len() as u64),
+            Part::Text(b" classes)"),
+        ]);
     }
     words.finish()
 }
@@ -150,12 +153,14 @@ fn put_line(text: &mut Vec<u8>, site: &Site, group: &Group, names: &[u8]) -> Res
     ensures { OnOk result (text.new.items ≡ text.old.items ++ names.now ++ spec.group_text site.now group.now) }
 {
     text.extend_from_slice(names)?;
-    text.extend_from_slice(b" at ")?;
-    put_input(text, site, group.input)?;
-    text.extend_from_slice(b": ")?;
+    let parts = [
+        Part::Text(b" at "),
+        input_part(site, group.input),
+        Part::Text(b": "),
+    ];
+    put_parts(text, &parts)?;
     put_kind(text, site, group.kind)?;
-    text.extend_from_slice(b"\n")?;
-    Ok(())
+    text.extend_from_slice(b"\n")
 }
 
 // Puts it with the names of the group's classes.
@@ -213,15 +218,16 @@ fn named(groups: &[Group]) -> u32 {
 // How much is found.
 fn head_of(alloc: Global, groups: &[Group]) -> Result<Vec<u8>, AllocError> {
     let mut words = Words::new(alloc);
-    words.say("refused: ");
-    put_count(&mut words, groups.len() as u64, " finding", " findings");
-    words.say(" for ");
-    put_count(
-        &mut words,
-        u64::from(named(groups)),
-        " class\n",
-        " classes\n",
-    );
+    let findings = groups.len() as u64;
+    let classes = u64::from(named(groups));
+    words.put(&[
+        Part::Text(b"refused: "),
+        Part::Number(findings),
+        word_for(findings, b" finding", b" findings"),
+        Part::Text(b" for "),
+        Part::Number(classes),
+        word_for(classes, b" class\n", b" classes\n"),
+    ]);
     words.finish()
 }
 

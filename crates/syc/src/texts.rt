@@ -1,8 +1,9 @@
 //! Parts of the lines that commands over a site print.
-ghost use Rattle.std.specs.Prelude.{◌≡◌, ◌++◌, OnOk};
+ghost use Rattle.std.specs.Prelude.{◌≡◌, ◌++◌, OnOk, codes, flat_map};
 ghost use Rattle.std.specs.Fmt.{decimal};
 ghost use Rattle.sy_checker.specs.Fit.{action_name, name_of, port_of};
 ghost use Rattle.syc.specs.Texts.{class_text, input_text};
+ghost use Rattle.syc.specs.internal.Parts.{part_text};
 
 use itoa::Buffer;
 use std::alloc::AllocError;
@@ -10,22 +11,62 @@ use sy_select::{facility_text, severity_text};
 use sy_site::{Site, SiteAction, SiteInput};
 use sy_wire::Class;
 
-/// Puts a number in decimal digits behind a text.
-pub fn put_number(text: &mut Vec<u8>, number: u64) -> Result<(), AllocError>
+/// A part of a line.
+#[derive(Clone, Copy)]
+pub enum Part<'a> {
+    Text(&'a [u8]),
+    /// In decimal digits.
+    Number(u64),
+    /// As `auth.crit`.
+    Class(Class),
+    /// As `hub 6515`: an input's relay and port.
+    Input(&'a [u8], u64),
+}
+
+// Puts a number in decimal digits behind a text.
+fn put_number(text: &mut Vec<u8>, number: u64) -> Result<(), AllocError>
     ensures { OnOk result (text.new.items ≡ text.old.items ++ decimal number) }
 {
     let mut digits = Buffer::new();
-    text.extend_from_slice(digits.format(number).as_bytes())?;
-    Ok(())
+    text.extend_from_slice(digits.format(number).as_bytes())
 }
 
-/// Puts a class behind a text, as `auth.crit`.
-pub fn put_class(text: &mut Vec<u8>, class: Class) -> Result<(), AllocError>
+// Puts a class behind a text.
+fn put_class(text: &mut Vec<u8>, class: Class) -> Result<(), AllocError>
     ensures { OnOk result (text.new.items ≡ text.old.items ++ class_text class) }
 {
     text.extend_from_slice(facility_text(class))?;
     text.extend_from_slice(b".")?;
-    text.extend_from_slice(severity_text(class))?;
+    text.extend_from_slice(severity_text(class))
+}
+
+// Puts an input behind a text.
+fn put_input(text: &mut Vec<u8>, relay: &[u8], port: u64) -> Result<(), AllocError>
+    ensures { OnOk result (text.new.items ≡ text.old.items ++ relay.now ++ codes " " ++ decimal port) }
+{
+    text.extend_from_slice(relay)?;
+    text.extend_from_slice(b" ")?;
+    put_number(text, port)
+}
+
+fn put_part(text: &mut Vec<u8>, part: Part<'_>) -> Result<(), AllocError>
+    ensures { OnOk result (text.new.items ≡ text.old.items ++ part_text part.entry) }
+{
+    match part {
+        Part::Text(words) => text.extend_from_slice(words),
+        Part::Number(number) => put_number(text, number),
+        Part::Class(class) => put_class(text, class),
+        Part::Input(relay, port) => put_input(text, relay, port),
+    }
+}
+
+/// Puts parts one behind the other behind a text.
+pub fn put_parts(text: &mut Vec<u8>, parts: &[Part<'_>]) -> Result<(), AllocError>
+    ensures { OnOk result (text.new.items ≡ text.old.items ++ flat_map part_text parts.now) }
+{
+    for part in parts {
+        put_part(text, *part)?;
+    }
     Ok(())
 }
 
@@ -69,12 +110,12 @@ fn port_of(site: &Site, input: SiteInput) -> u16
     }
 }
 
-/// Puts an input behind a text, as `hub 6515`.
-pub fn put_input(text: &mut Vec<u8>, site: &Site, input: SiteInput) -> Result<(), AllocError>
-    ensures { OnOk result (text.new.items ≡ text.old.items ++ input_text site.now input) }
+/// An input.
+pub fn input_part(site: &Site, input: SiteInput) -> Part<'_>
+    ensures { part_text result ≡ input_text site.now input }
 {
-    text.extend_from_slice(relay_name(site, input.relay))?;
-    text.extend_from_slice(b" ")?;
-    put_number(text, u64::from(port_of(site, input)))?;
-    Ok(())
+    Part::Input(
+        relay_name(site, input.relay),
+        u64::from(port_of(site, input)),
+    )
 }

@@ -2,52 +2,45 @@
 
 use crate::culprit::name_of_list;
 use crate::places::{Places, Thing};
-use crate::texts::relay_name;
+use crate::texts::{Part, relay_name};
 use crate::words::Words;
 use sy_rules::Plan;
 use sy_site::Site;
 
-fn put_action(words: &mut Words, plan: &Plan, action: u32) {
-    words.say("action ");
-    if let Some(action) = plan.actions().get(action as usize) {
-        words.put(action.name.as_slice());
+fn action_part(plan: &Plan, action: u32) -> Part<'_> {
+    match plan.actions().get(action as usize) {
+        Some(action) => Part::Text(action.name.as_slice()),
+        None => Part::Text(b""),
     }
 }
 
-fn put_input(words: &mut Words, plan: &Plan, input: u32) {
-    words.say("the input at port ");
-    if let Some(input) = plan.inputs().get(input as usize) {
-        words.count(u64::from(input.port));
+fn port_part(plan: &Plan, input: u32) -> Part<'_> {
+    match plan.inputs().get(input as usize) {
+        Some(input) => Part::Number(u64::from(input.port)),
+        None => Part::Text(b""),
     }
 }
 
-/// Puts the name of a list.
-pub fn put_name_of_list(words: &mut Words, plan: &Plan, list: u32) {
-    words.put(name_of_list(plan, list));
-}
-
-fn put_thing(words: &mut Words, plan: &Plan, thing: Thing) {
+// An object, by the word for its kind and its name.
+fn parts_of(plan: &Plan, thing: Thing) -> [Part<'_>; 2] {
     match thing {
-        Thing::MainQueue => words.say("the main queue"),
-        Thing::Ruleset(number) => {
-            words.say("ruleset ");
-            put_name_of_list(words, plan, number.saturating_add(1));
-        }
-        Thing::Input(number) => put_input(words, plan, number),
-        Thing::Action(number) => put_action(words, plan, number),
-        Thing::List(list) => put_name_of_list(words, plan, list),
+        Thing::MainQueue => [Part::Text(b"the main queue"), Part::Text(b"")],
+        Thing::Ruleset(number) => [
+            Part::Text(b"ruleset "),
+            Part::Text(name_of_list(plan, number.saturating_add(1))),
+        ],
+        Thing::Input(number) => [Part::Text(b"the input at port "), port_part(plan, number)],
+        Thing::Action(number) => [Part::Text(b"action "), action_part(plan, number)],
+        Thing::List(list) => [Part::Text(b""), Part::Text(name_of_list(plan, list))],
     }
 }
 
 // The file, and the line where there is one: a main queue may have no object.
 fn put_place(words: &mut Words, places: &Places, thing: Thing) {
-    words.say(places.file.as_str());
+    let file = Part::Text(places.file.as_str().as_bytes());
     match places.line(thing) {
-        Some(line) => {
-            words.say(" line ");
-            words.count(line);
-        }
-        None => words.say(", by defaults"),
+        Some(line) => words.put(&[file, Part::Text(b" line "), Part::Number(line)]),
+        None => words.put(&[file, Part::Text(b", by defaults")]),
     }
 }
 
@@ -61,11 +54,11 @@ pub fn put_where(
 ) {
     match places {
         Some(places) => put_place(words, places, thing),
-        None => words.put(relay_name(site, relay)),
+        None => words.put(&[Part::Text(relay_name(site, relay))]),
     }
     words.say(": ");
     if relay < site.relays() {
-        put_thing(words, site.plan(relay), thing);
+        words.put(&parts_of(site.plan(relay), thing));
     }
     words.say("\n");
 }

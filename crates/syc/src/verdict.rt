@@ -1,27 +1,18 @@
 //! The verdict on a certificate, and its line.
-ghost use Rattle.std.specs.Prelude.{◌≡◌, ◌++◌, IfErr, IfOk, OnOk, false};
+ghost use Rattle.std.specs.Prelude.{◌≡◌, IfErr, IfOk, OnOk, false};
+ghost use Rattle.sy_checker.specs.Fit.{IsFit};
+ghost use Rattle.sy_checker.specs.Verifying.{IsFault};
+ghost use Rattle.syc.specs.Checks.{KeepsAll};
 ghost use Rattle.syc.specs.Verdicts as spec;
 
 use crate::answer::Answer;
 use crate::check::accepted;
 use crate::halt::Halt;
-use crate::texts::put_number;
+use crate::texts::{Part, put_parts};
 use std::alloc::{AllocError, Global};
 use sy_cert::Certificate;
 use sy_checker::{CertFault, RowKind, verify};
 use sy_site::Site;
-
-// Puts the line of a refusal behind a text: the first wrong row, by its line and kind.
-fn put_wrong(text: &mut Vec<u8>, line: usize, row: RowKind) -> Result<(), AllocError>
-    ensures { OnOk result (text.new.items ≡ text.old.items ++ spec.wrong_line line row) }
-{
-    text.extend_from_slice(b"refused: certificate line ")?;
-    put_number(text, line as u64)?;
-    text.extend_from_slice(b": ")?;
-    text.extend_from_slice(row.words().as_bytes())?;
-    text.extend_from_slice(b"\n")?;
-    Ok(())
-}
 
 // That a certificate's first wrong row stands in this line, and is of this kind.
 fn refused(alloc: Global, line: usize, row: RowKind) -> Result<Answer, AllocError>
@@ -29,19 +20,39 @@ fn refused(alloc: Global, line: usize, row: RowKind) -> Result<Answer, AllocErro
     ensures refused { IfOk result (λ a. a.is_accepted ≡ false) }
 {
     let mut text = Vec::new(alloc);
-    put_wrong(&mut text, line, row)?;
+    let parts = [
+        Part::Text(b"refused: certificate line "),
+        Part::Number(line as u64),
+        Part::Text(b": "),
+        Part::Text(row.words().as_bytes()),
+        Part::Text(b"\n"),
+    ];
+    put_parts(&mut text, &parts)?;
     Ok(Answer {
         text,
         is_accepted: false,
     })
 }
 
+// How many classes a site keeps by a certificate that is fit for it, or what is wrong with that.
+fn count_kept(alloc: Global, site: &Site, certificate: &Certificate) -> Result<usize, CertFault>
+    ensures fit { OnOk result (IsFit site.now certificate.now.rows) }
+    ensures keeps { IfOk result (KeepsAll site.now) }
+    ensures wrong { IfErr result (IsFault site.now certificate.now.rows) }
+    ensures only { IfErr result (λ fault. IsFit site.now certificate.now.rows → fault ≡ CertFault.NoMemory) }
+{
+    match verify(alloc, site, certificate) {
+        Ok(kept) => Ok(kept.classes().len()),
+        Err(fault) => Err(fault),
+    }
+}
+
 // What is said of a certificate for a site, or nothing where memory runs out.
 fn say(alloc: Global, site: &Site, certificate: &Certificate) -> Result<Answer, AllocError>
     ensures { IfOk result (λ a. spec.SaysOf site.now certificate.now.rows a.text.items a.is_accepted) }
 {
-    match verify(alloc, site, certificate) {
-        Ok(kept) => accepted(alloc, kept.classes().len()),
+    match count_kept(alloc, site, certificate) {
+        Ok(count) => accepted(alloc, count),
         Err(CertFault::Wrong { line, row }) => refused(alloc, line, row),
         Err(CertFault::NoMemory) => Err(AllocError),
     }

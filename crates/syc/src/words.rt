@@ -1,6 +1,6 @@
 //! Words for people.
 
-use itoa::Buffer;
+use crate::texts::{Part, put_parts};
 use std::alloc::{AllocError, Global};
 
 /// Words that are put one behind the other. Where memory runs out the rest is left out, which the end tells.
@@ -19,9 +19,9 @@ impl Words {
         }
     }
 
-    /// Puts bytes, such as a name.
-    pub fn put(&mut self, bytes: &[u8]) {
-        match self.text.extend_from_slice(bytes) {
+    /// Puts parts one behind the other.
+    pub fn put(&mut self, parts: &[Part<'_>]) {
+        match put_parts(&mut self.text, parts) {
             Ok(()) => {}
             Err(_) => self.is_cut = true,
         }
@@ -29,13 +29,7 @@ impl Words {
 
     /// Puts words as they stand.
     pub fn say(&mut self, words: &str) {
-        self.put(words.as_bytes());
-    }
-
-    /// Puts a number in decimal digits.
-    pub fn count(&mut self, number: u64) {
-        let mut digits = Buffer::new();
-        self.put(digits.format(number).as_bytes());
+        self.put(&[Part::Text(words.as_bytes())]);
     }
 
     /// All of them, or that memory ran out.

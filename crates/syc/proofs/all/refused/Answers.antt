@@ -1,13 +1,13 @@
 use Rattle.std.proofs.Common.{refl}
 use Rattle.syc.proofs.all.refused.Goals as goal
 
-pub returns : goal.returns
-returns c = record {
+pub returns-in-Ok : goal.returns-in-Ok
+returns-in-Ok c = record {
   ok = record {
-    groups = c.in_ok-groups.groups.items;
-    is_survey = c.in_ok-groups.ensures.survey;
+    groups = c.in-Ok.ensures.groups;
+    is_survey = c.in-Ok.ensures.is_survey;
     unsound = c.requires.unsound;
-    is_tally = rw (← c.as_slice.ensures.value) c.in_ok-text.ensures;
+    is_tally = c.in-Ok.ensures.is_tally;
     refused = refl;
   };
 }

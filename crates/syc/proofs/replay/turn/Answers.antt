@@ -1,10 +1,10 @@
 use Rattle.std.proofs.Common.{◌≡◌, ℕ, List, ◌++◌, ◌∙◌, ap, inl, inr, refl, subst, sym}
 use Rattle.std.proofs.lemmas.Result.{err_from_is_err_and}
 use Rattle.syc.specs.Replays.{lines_of}
-use Rattle.syc.specs.internal.Halts.{Comes, Stops, place}
+use Rattle.syc.specs.internal.Halts.{Comes, HasCause, Stops, place}
 use Rattle.syc.specs.declared.halt.Halt.TheVariants as halt
 use Rattle.syc.proofs.Courses.{comes_on, flush_fails, keeps_all, out_of_room, read_fails, stands_still, stops_behind}
-use Rattle.syc.proofs.Cutting.{open_behind, read_on}
+use Rattle.syc.proofs.Cutting.{open_behind, read_end, read_on}
 use Rattle.syc.proofs.replay.turn.Goals as goal
 
 pub returns-in_default-clause-err : goal.returns-in_default-clause-err
@@ -25,11 +25,43 @@ returns-in_err-read_piece-clause-err g c =
       | inr is ↦ rw is (read_fails site (from ahead) _ _ c.flush.ensures.bytes c.in-Ok.ensures.ok)
     ])
 
+pub returns-in_err-read_piece-clause-cause : goal.returns-in_err-read_piece-clause-cause
+returns-in_err-read_piece-clause-cause g c =
+    let p = err_from_is_err_and c.from_residual.result c.from_residual.ensures.1 in
+    rw (p.1, p.2) (elim c.in_err-read_piece.ensures.err [
+      | inl is ↦ rw is c.in-Ok.ensures.ok
+      | inr is ↦ rw is c.in-Ok.ensures.ok
+    ])
+
+pub returns-then-branch-eq0-clause-ok : goal.returns-then-branch-eq0-clause-ok
+returns-then-branch-eq0-clause-ok g c = λ ahead known.
+    let site = c.args.site.now in
+    let held = c.args.pieces.now.held.items in
+    let held' = c.read_piece.new.pieces.held.items in
+    let from = place c.args.course.now (lines_of (held ++ ahead)) (g.W.Sink.contents c.args.writer.now) (g.W.Sink.faults c.args.writer.now) in
+    let all = read_end held held' ahead c.in_ok-read_piece.field-0 _ c.if-branch-eq0.true (rw known at c.in_ok-read_piece.ensures.ok) in
+    stands_still site from (lines_of held') _ _ (ap lines_of all) c.flush.ensures.bytes c.in-Ok.ensures.ok
+
+pub returns-then-is_none-clause-ok : goal.returns-then-is_none-clause-ok
+returns-then-is_none-clause-ok g c = λ ahead known.
+    let site = c.args.site.now in
+    let held = c.args.pieces.now.held.items in
+    let held' = c.read_piece.new.pieces.held.items in
+    let from = place c.args.course.now (lines_of (held ++ ahead)) (g.W.Sink.contents c.args.writer.now) (g.W.Sink.faults c.args.writer.now) in
+    let r = read_on held held' ahead c.in_ok-read_piece.field-0 _ (rw known at c.in_ok-read_piece.ensures.ok) in
+    (r.0, r.1, stands_still site from (lines_of (held' ++ r.0)) _ _ (ap lines_of r.2) c.flush.ensures.bytes c.in-Ok.ensures.ok)
+
 pub returns-then-is_none-clause-open : goal.returns-then-is_none-clause-open
 returns-then-is_none-clause-open g c =
     let held' = c.read_piece.new.pieces.held.items in
     open_behind c.args.pieces.now.held.items held' c.len-before.result c.in_ok-read_piece.field-0 c.memchr.result _ _ c.requires.open
     c.in_ok-read_piece.ensures.ok (c.len-before.ensures ∙ c.args.pieces.now.held.ok.0) (rw c.deref.ensures.value at c.memchr.ensures) c.if-is_none.ensures
+
+pub returns-in_err-rest-clause-cause : goal.returns-in_err-rest-clause-cause
+returns-in_err-rest-clause-cause g c =
+    let p = err_from_is_err_and c.from_residual-in_err-rest.result c.from_residual-in_err-rest.ensures.1 in
+    let why = c.in_err-rest.field-0.0 in
+    rw (p.1, p.2) (subst (λ (before : ℕ). HasCause why before (g.W.Sink.faults c.apply_lines.new.writer)) c.in-Ok.ensures.ok c.in_err-rest.ensures.cause)
 
 pub returns-in_err-rest-clause-err : goal.returns-in_err-rest-clause-err
 returns-in_err-rest-clause-err g c =

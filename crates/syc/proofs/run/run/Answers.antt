@@ -1,4 +1,4 @@
-use Rattle.syc.proofs.Commands.{for_asked, for_replay, for_verify, none_of_site, pass_alone, pass_asks_nothing, pass_is_apart, pass_no_replay, pass_no_verify, without_name}
+use Rattle.syc.proofs.Commands.{for_asked, for_replay, for_verify, none_of_site, none_without_name, pass_alone, pass_asks_nothing, pass_is_apart, pass_no_replay, pass_no_verify, without_name}
 use Rattle.syc.proofs.Statuses.{nothing_passed}
 use Rattle.syc.proofs.run.run.Goals as goal
 
@@ -65,3 +65,30 @@ pub returns-in-Ok-OverSite-clause-other : goal.returns-in-Ok-OverSite-clause-oth
 returns-in-Ok-OverSite-clause-other g c =
     let wanted = without_name _ _ _ _ c.as_slice.ensures.value c.in-Ok.ensures c.in-Ok-OverSite.command (rw c.in-Ok-OverSite.field-0-is at c.in-Ok-OverSite.ensures.ok) in
     λ none. absurd (none_of_site _ c.in-Ok-OverSite.command none wanted)
+
+-- ---- no command
+
+pub returns-clause-pass : goal.returns-clause-pass
+returns-clause-pass g c =
+    let none = none_without_name _ _ _ _ c.as_slice.ensures.value c.in-Ok.ensures c.in-Err.ensures.err in
+    λ words input known. absurd (none.no_pass words)
+
+pub returns-clause-replay : goal.returns-clause-replay
+returns-clause-replay g c =
+    let none = none_without_name _ _ _ _ c.as_slice.ensures.value c.in-Ok.ensures c.in-Err.ensures.err in
+    λ site events text input are is_site is_events. absurd (none.no_replay site events are)
+
+pub returns-clause-asked : goal.returns-clause-asked
+returns-clause-asked g c =
+    let none = none_without_name _ _ _ _ c.as_slice.ensures.value c.in-Ok.ensures c.in-Err.ensures.err in
+    λ question site text are known. absurd (none.no_asking question site are)
+
+pub returns-clause-verify : goal.returns-clause-verify
+returns-clause-verify g c =
+    let none = none_without_name _ _ _ _ c.as_slice.ensures.value c.in-Ok.ensures c.in-Err.ensures.err in
+    λ site certificate site_text text are is_site is_text. absurd (none.no_verify site certificate are)
+
+pub returns-clause-leaves : goal.returns-clause-leaves
+returns-clause-leaves g c =
+    let none = none_without_name _ _ _ _ c.as_slice.ensures.value c.in-Ok.ensures c.in-Err.ensures.err in
+    λ pass. absurd (none.no_pass pass)

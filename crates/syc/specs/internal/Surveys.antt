@@ -1,0 +1,12 @@
+-- All that is found in a site, as a text.
+use Rattle.std.specs.Prelude.{ℕ, List}
+use Rattle.sy_site.specs.Sites.{Site}
+use Rattle.sy_checker.specs.Survey.{IsSurvey}
+use Rattle.sy_checker.specs.declared.groups.Group.{Group}
+use Rattle.syc.specs.Checks.{IsTally}
+
+-- the text tells all that is found in the site
+pub record IsSurveyed (site : Site) (text : List ℕ) : Type 0 where
+  pub groups : List Group
+  pub is_survey : IsSurvey site groups
+  pub is_tally : IsTally site groups text
