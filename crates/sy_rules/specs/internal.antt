@@ -9,6 +9,7 @@ pub mod Numbering
 pub mod TableWalk
 pub mod Flow
 pub mod FlowWalk
+pub mod Verdicts
 pub mod PlanCodes
 pub mod PlanInside
 pub mod Loading

@@ -1,6 +1,7 @@
 //! The lists of a plan: their tables, what is executed of them, and their limits.
 
 pub mod build;
+pub mod condition;
 pub mod flow;
 pub mod list_names;
 pub mod numbering;

@@ -20,6 +20,7 @@ use crate::check::among::DEFAULT_RULESET;
 use crate::check::script::check_script;
 use crate::fault::PlanFault;
 use crate::items::outline::{Item, outline};
+use crate::lists::condition::Condition;
 use crate::lists::flow::flows;
 use crate::lists::list_names::list_names;
 use crate::lists::occurrence::Occurrence;
@@ -36,7 +37,6 @@ use std::alloc::{AllocError, Global};
 use std::marker::Model;
 use sy_script::Items;
 use sy_script::tree::Script;
-use sy_select::Expr;
 use sy_wire::{Class, Message};
 
 /// What a relay does: its inputs, queues, workers and actions, and for each list what it executes.
@@ -52,7 +52,7 @@ pub struct Plan {
     queues: Vec<QueueParameters>,
     workers: Vec<u32>,
     actions: Vec<Action>,
-    tests: Vec<Expr>,
+    tests: Vec<Condition>,
     // of each list: its table, its occurrences and its queue
     tables: Vec<Items<Statement>>,
     occurrences: Vec<Items<Occurrence>>,

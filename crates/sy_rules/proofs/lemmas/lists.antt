@@ -21,3 +21,4 @@ pub mod KnownWalks
 pub mod MayMust
 pub mod FlowTables
 pub mod FlowRuns
+pub mod ClassVerdicts

@@ -8,12 +8,13 @@ ghost use Rattle.sy_rules.specs.internal.Tables.{AreTables, lines_of_tables};
 ghost use Rattle.sy_rules.specs.lists.Work.{May, Must};
 
 use crate::limits::LISTS_DEEP;
+use crate::lists::condition::Condition;
 use crate::lists::statement::Statement;
 use crate::lists::walk::{
-    Reached, expr_at, followed_by, nothing, one, place, split, stopped, table_at,
+    Reached, condition_at, followed_by, nothing, one, place, split, stopped, table_at,
 };
 use sy_script::Items;
-use sy_select::{Expr, Verdict, eval_class};
+use sy_select::Verdict;
 use sy_wire::Class;
 
 /// What messages of a class may execute of a part of a text, and what each of them executes.
@@ -63,7 +64,7 @@ fn either(done: Flow, otherwise: Flow) -> Flow
 #[derive(Clone, Copy)]
 struct Judge<'p> {
     tables: &'p [Items<Statement>],
-    tests: &'p [Expr],
+    tests: &'p [Condition],
     class: Class,
 }
 
@@ -74,8 +75,8 @@ impl Judge<'_> {
     fn verdict(self, test: u32) -> Verdict
         ensures { result ≡ spec.judged self.entry.class self.entry.tests.now test }
     {
-        match expr_at(self.tests, test) {
-            Some(expr) => eval_class(expr, self.class),
+        match condition_at(self.tests, test) {
+            Some(condition) => condition.verdict(self.class),
             None => Verdict::No,
         }
     }
@@ -191,7 +192,12 @@ impl Judge<'_> {
 }
 
 /// May and must of a list for a class: bit k stands for occurrence k.
-pub fn flows(tables: &[Items<Statement>], tests: &[Expr], list: u32, class: Class) -> (u64, u64)
+pub fn flows(
+    tables: &[Items<Statement>],
+    tests: &[Condition],
+    list: u32,
+    class: Class,
+) -> (u64, u64)
     requires { AreTables tests.now tables.now }
     ensures may { Bits (May (body_of (lines_of_tables tests.now tables.now) list) class) result.0 }
     ensures must { Bits (Must (body_of (lines_of_tables tests.now tables.now) list) class) result.1 }

@@ -9,9 +9,9 @@ ghost use Rattle.sy_rules.specs.lists.Sets.{Bits};
 ghost use Rattle.sy_rules.specs.lists.Work.{Due};
 
 use crate::limits::LISTS_DEEP;
+use crate::lists::condition::Condition;
 use crate::lists::statement::Statement;
 use sy_script::Items;
-use sy_select::{Expr, eval};
 use sy_wire::Message;
 
 /// How far a walk came.
@@ -83,7 +83,7 @@ pub fn split(statements: &[Statement], count: u32) -> (&[Statement], &[Statement
 }
 
 /// The test of this number.
-pub fn expr_at(tests: &[Expr], number: u32) -> Option<&Expr>
+pub fn condition_at(tests: &[Condition], number: u32) -> Option<&Condition>
     ensures { option_copied result ≡ slice_get tests.now number }
 {
     tests.get(number as usize)
@@ -103,7 +103,7 @@ pub fn table_at(tables: &[Items<Statement>], list: u32) -> &[Statement]
 #[derive(Clone, Copy)]
 struct Walker<'p> {
     tables: &'p [Items<Statement>],
-    tests: &'p [Expr],
+    tests: &'p [Condition],
     message: &'p Message,
 }
 
@@ -115,8 +115,8 @@ impl Walker<'_> {
     fn meets(self, test: u32) -> bool
         ensures { result ≡ spec.meets (says self.entry.message.now) self.entry.tests.now test }
     {
-        match expr_at(self.tests, test) {
-            Some(expr) => eval(expr, self.message),
+        match condition_at(self.tests, test) {
+            Some(condition) => condition.is_met(self.message),
             None => false,
         }
     }
@@ -185,7 +185,7 @@ impl Walker<'_> {
 
 /// Which occurrences of a list a message executes: bit k stands for occurrence k. It takes no memory, and visits only the statements that the
 /// message reaches.
-pub fn due(tables: &[Items<Statement>], tests: &[Expr], list: u32, message: &Message) -> u64
+pub fn due(tables: &[Items<Statement>], tests: &[Condition], list: u32, message: &Message) -> u64
     requires { AreTables tests.now tables.now }
     ensures { Bits (Due (body_of (lines_of_tables tests.now tables.now) list) message.now) result }
 {

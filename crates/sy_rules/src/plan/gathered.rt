@@ -20,6 +20,7 @@ use crate::fault::{NOWHERE, PlanFault};
 use crate::items::borrowed::name_of_ruleset;
 use crate::items::outline::Item;
 use crate::lists::build::build;
+use crate::lists::condition::Condition;
 use crate::lists::numbering::{list_occurrences, occurrences};
 use crate::lists::occurrence::Occurrence;
 use crate::lists::plan_tables::plan_tables;
@@ -33,7 +34,6 @@ use crate::parts::of_items::{actions, inputs, list_queues, queues, rulesets, wor
 use std::alloc::{AllocError, Global};
 use sy_script::Items;
 use sy_script::tree::Script;
-use sy_select::Expr;
 
 /// What the items of a script give to its plan.
 #[derive(Drop)]
@@ -44,11 +44,11 @@ pub struct Gathered {
     pub queues: Vec<QueueParameters>,
     pub workers: Vec<u32>,
     pub list_queues: Vec<Option<u32>>,
-    pub tests: Vec<Expr>,
+    pub tests: Vec<Condition>,
 }
 
 // Of items without faults, so that only memory may be missing.
-fn tests(alloc: Global, items: &[Item<'_>]) -> Result<Vec<Expr>, PlanFault>
+fn tests(alloc: Global, items: &[Item<'_>]) -> Result<Vec<Condition>, PlanFault>
     ensures ok { IfOk result (λ tests. AreExprs (filter_map test_of_item (map item items.now)) tests.items) }
     ensures err { IfErr result (λ f. f ≡ no_memory) }
 {

@@ -13,4 +13,4 @@ returns-clause-found c =
     let items = c.args.items.now in
     let Reads : List (Formula Test) → Type 0 = λ xs. AreExprs (trees_of (map item items)) xs in
     let end : drop c.loop-item.item-index items ≡ [] = drop_of_length-le items c.loop-item-test.false in
-    subst Reads (append-nil c.loop-item.exprs.items) (c.loop-item.invariant.found [] (rw end tt))
+    subst Reads (append-nil c.loop-item.tests.items) (c.loop-item.invariant.found [] (rw end tt))

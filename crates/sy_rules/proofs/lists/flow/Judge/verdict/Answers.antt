@@ -3,14 +3,12 @@ use Rattle.sy_select.specs.declared.condition.Test.{Test}
 use Rattle.sy_select.specs.Properties.{known}
 use Rattle.sy_select.specs.Truth.{Formula}
 use Rattle.sy_select.specs.internal.Walk.{verdict}
-use Rattle.sy_select.proofs.ExprLaws.{same_verdict}
-use Rattle.sy_select.proofs.Verdicts.{verdict_is}
 use Rattle.sy_rules.proofs.lists.flow.Judge.verdict.Goals as goal
 
 pub returns-in-Some : goal.returns-in-Some
 returns-in-Some c =
     let k = known c.args.self.class in
-    same_verdict k c.in-Some.expr.now c.eval_class.result (verdict k c.in-Some.expr.now) c.eval_class.ensures (verdict_is k c.in-Some.expr.now)
+    c.verdict.ensures
     ∙ ap (λ (o : Option (Formula Test)). verdict k (unwrap_or o Formula.Never)) c.in-Some.ensures
 
 pub returns-in-None : goal.returns-in-None
