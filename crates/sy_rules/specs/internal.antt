@@ -10,6 +10,7 @@ pub mod TableWalk
 pub mod Flow
 pub mod FlowWalk
 pub mod Verdicts
+pub mod ClassFlows
 pub mod PlanCodes
 pub mod PlanInside
 pub mod Loading

@@ -1,7 +1,10 @@
 //! The lists of a plan: their tables, what is executed of them, and their limits.
 
 pub mod build;
+pub mod class_flows;
+pub mod columns;
 pub mod condition;
+pub mod decided;
 pub mod flow;
 pub mod list_names;
 pub mod numbering;

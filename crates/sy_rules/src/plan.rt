@@ -20,12 +20,13 @@ use crate::check::among::DEFAULT_RULESET;
 use crate::check::script::check_script;
 use crate::fault::PlanFault;
 use crate::items::outline::{Item, outline};
+use crate::lists::class_flows::{ClassFlows, class_flows};
 use crate::lists::condition::Condition;
 use crate::lists::flow::flows;
 use crate::lists::list_names::list_names;
 use crate::lists::occurrence::Occurrence;
 use crate::lists::statement::Statement;
-use crate::lists::walk::due;
+use crate::lists::walk::{due, due_after};
 use crate::parameters::kind::Kind;
 use crate::parameters::objects::Destination;
 use crate::parameters::settings::{FlowControl, QueueParameters, queue_parameters};
@@ -59,6 +60,7 @@ pub struct Plan {
     list_queues: Vec<Option<u32>>,
     // and its name
     names: Vec<Items<u8>>,
+    class_flows: ClassFlows,
 }
 
 impl Model for Plan {
@@ -118,16 +120,26 @@ fn pass(alloc: Global) -> Result<Plan, AllocError>
         list: 0,
         queue: 0,
     };
+    let inputs = one(alloc, input)?;
+    let list_queues = one(alloc, None)?;
+    let class_flows = class_flows(
+        alloc,
+        tables.as_slice(),
+        &[],
+        inputs.as_slice(),
+        list_queues.as_slice(),
+    )?;
     Ok(Plan {
-        inputs: one(alloc, input)?,
+        inputs,
         queues: one(alloc, queue_parameters(Kind::MainQueue, &[]))?,
         workers: one(alloc, 0)?,
         actions: one(alloc, pass_action(alloc)?)?,
         tests: Vec::new(alloc),
         tables,
         occurrences,
-        list_queues: one(alloc, None)?,
+        list_queues,
         names: one(alloc, Items::from_slice(alloc, DEFAULT_RULESET)?)?,
+        class_flows,
     })
 }
 
@@ -149,6 +161,15 @@ fn assemble(alloc: Global, script: &Script, found: &[Item<'_>]) -> Result<Plan, 
         gathered.actions.as_slice(),
     )?;
     let actions = action_parts(alloc, gathered.actions)?;
+    let Ok(class_flows) = class_flows(
+        alloc,
+        lists.tables.as_slice(),
+        gathered.tests.as_slice(),
+        gathered.inputs.as_slice(),
+        gathered.list_queues.as_slice(),
+    ) else {
+        return Err(PlanFault::no_memory(alloc));
+    };
     Ok(Plan {
         inputs: gathered.inputs,
         queues: gathered.queues,
@@ -159,6 +180,7 @@ fn assemble(alloc: Global, script: &Script, found: &[Item<'_>]) -> Result<Plan, 
         occurrences: lists.occurrences,
         list_queues: gathered.list_queues,
         names,
+        class_flows,
     })
 }
 
@@ -274,7 +296,11 @@ impl Plan {
         requires exists { list < length self.now.lists }
         ensures { Bits (Due (body_at self.now list) message.now) result }
     {
-        due(&self.tables, &self.tests, list, message)
+        match self.class_flows.at(list, message.class()) {
+            Some(flow) if flow.may == flow.must => flow.must,
+            Some(flow) => due_after(&self.tables, &self.tests, list, flow.head, message),
+            None => due(&self.tables, &self.tests, list, message),
+        }
     }
 
     /// May and must of a list for a class: the occurrences that some valuation which the class admits executes, and those that every such
@@ -287,7 +313,10 @@ impl Plan {
         ensures may { Bits (May (body_at self.now list) class) result.0 }
         ensures must { Bits (Must (body_at self.now list) class) result.1 }
     {
-        flows(&self.tables, &self.tests, list, class)
+        match self.class_flows.at(list, class) {
+            Some(flow) => (flow.may, flow.must),
+            None => flows(&self.tables, &self.tests, list, class),
+        }
     }
 
     /// What the type keeps, for the law.

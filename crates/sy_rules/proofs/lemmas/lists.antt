@@ -22,3 +22,4 @@ pub mod MayMust
 pub mod FlowTables
 pub mod FlowRuns
 pub mod ClassVerdicts
+pub mod Decided

@@ -29,3 +29,7 @@ verdicts_at verdicts facility = get_or verdicts facility none
 pub record AreVerdicts (x : Formula Test) (verdicts : List Verdicts) : Type 0 where
   pub size : length verdicts ≡ 24
   pub are : (class : Class) → said (verdicts_at verdicts class.facility) class.severity ≡ verdict (known class) x
+
+-- where a test is free, every class leaves it open
+abbrev pub IsFree : Formula Test → Bool → Type 0
+IsFree x free = free ≡ true → (class : Class) → verdict (known class) x ≡ Either

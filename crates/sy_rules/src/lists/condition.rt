@@ -1,10 +1,11 @@
 //! The tests of a plan, each with what classes alone say of it.
 
-ghost use Rattle.std.specs.Prelude.{◌≡◌, ◌<◌, ◌^◌};
+ghost use Rattle.std.specs.Prelude.{◌≡◌, ◌<◌, ◌^◌, ℕ, true};
 ghost use Rattle.sy_wire.specs.declared.class.Class.{Class};
 ghost use Rattle.sy_select.specs.Properties.{known, says};
+ghost use Rattle.sy_select.specs.declared.verdict.Verdict.TheVariants.{Either};
 ghost use Rattle.sy_select.specs.internal.Walk as walk;
-ghost use Rattle.sy_rules.specs.internal.Verdicts.{said};
+ghost use Rattle.sy_rules.specs.internal.Verdicts.{IsFree, said};
 
 use std::marker::Model;
 use sy_select::{Expr, Verdict, eval, eval_class};
@@ -31,6 +32,13 @@ impl Verdicts {
         } else {
             Verdict::No
         }
+    }
+
+    // Whether each severity leaves it open.
+    fn are_free(self) -> bool
+        ensures { result ≡ true → (severity : ℕ) → severity < 8 → said self severity ≡ Either }
+    {
+        self.certain == 0 && self.possible == u8::MAX
     }
 }
 
@@ -71,6 +79,8 @@ fn verdicts_of(expr: &Expr, facility: u8) -> Verdicts
 pub struct Condition {
     // of each facility
     verdicts: [Verdicts; 24],
+    // whether no class says anything of it
+    free: bool,
     expr: Expr,
 }
 
@@ -87,9 +97,9 @@ impl Model for Condition {
 
     ghost view = { λ c. c.expr };
 
-    ghost use Rattle.sy_rules.specs.internal.Verdicts.{AreVerdicts};
+    ghost use Rattle.sy_rules.specs.internal.Verdicts.{AreVerdicts, IsFree};
 
-    ghost invariant = { λ c. AreVerdicts c.expr c.verdicts };
+    ghost invariant = { λ c. AreVerdicts c.expr c.verdicts × IsFree c.expr c.free };
 }
 
 impl Condition {
@@ -101,10 +111,24 @@ impl Condition {
             certain: 0,
             possible: 0,
         }; 24];
+        let mut free = true;
         for facility in 0..24 {
-            verdicts[usize::from(facility)] = verdicts_of(&expr, facility);
+            let found = verdicts_of(&expr, facility);
+            free &= found.are_free();
+            verdicts[usize::from(facility)] = found;
         }
-        Condition { verdicts, expr }
+        Condition {
+            verdicts,
+            free,
+            expr,
+        }
+    }
+
+    /// Whether no class says anything of the test.
+    pub fn is_free(&self) -> bool
+        ensures { IsFree self.now result }
+    {
+        self.free
     }
 
     /// What a class says of the test.

@@ -62,17 +62,17 @@ fn either(done: Flow, otherwise: Flow) -> Flow
 
 /// What a walk looks at.
 #[derive(Clone, Copy)]
-struct Judge<'p> {
-    tables: &'p [Items<Statement>],
-    tests: &'p [Condition],
-    class: Class,
+pub struct Judge<'p> {
+    pub tables: &'p [Items<Statement>],
+    pub tests: &'p [Condition],
+    pub class: Class,
 }
 
 impl Judge<'_> {
     ghost use Rattle.std.specs.Prelude.{◌≡◌, ◌≤◌, ◌∷◌, ℕ, IfSome, length};
     ghost use Rattle.sy_rules.specs.internal.FlowWalk as spec;
 
-    fn verdict(self, test: u32) -> Verdict
+    pub fn verdict(self, test: u32) -> Verdict
         ensures { result ≡ spec.judged self.entry.class self.entry.tests.now test }
     {
         match condition_at(self.tests, test) {

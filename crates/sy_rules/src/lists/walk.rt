@@ -10,6 +10,7 @@ ghost use Rattle.sy_rules.specs.lists.Work.{Due};
 
 use crate::limits::LISTS_DEEP;
 use crate::lists::condition::Condition;
+use crate::lists::decided::Head;
 use crate::lists::statement::Statement;
 use sy_script::Items;
 use sy_wire::Message;
@@ -195,4 +196,22 @@ pub fn due(tables: &[Items<Statement>], tests: &[Condition], list: u32, message:
         message,
     };
     walker.list(LISTS_DEEP, list, 0).set
+}
+
+/// The same where so many statements at the beginning of the list's table are known to execute these occurrences.
+pub fn due_after(
+    tables: &[Items<Statement>],
+    tests: &[Condition],
+    list: u32,
+    head: Head,
+    message: &Message,
+) -> u64 {
+    let walker = Walker {
+        tables,
+        tests,
+        message,
+    };
+    let table = table_at(tables, list);
+    let (_, rest) = table.split_at(table.len().min(head.size));
+    head.executed | walker.statements(LISTS_DEEP - 1, rest, 0).set
 }

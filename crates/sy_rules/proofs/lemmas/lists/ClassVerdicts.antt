@@ -3,7 +3,7 @@ use Rattle.std.proofs.Common.{◌≡◌, ◌≢◌, ℕ, ◌+◌, ◌^◌, ◌<�
 use Rattle.std.specs.Int.{bit_at}
 use Rattle.std.proofs.Math.ListN.{length-set, set}
 use Rattle.std.proofs.lemmas.Bool.{cases_eq}
-use Rattle.std.proofs.lemmas.Nat.Bits.{bit_at-lt, bit_at-pow_other, bit_at-pow_same, bit_at_or, bit_at-zero}
+use Rattle.std.proofs.lemmas.Nat.Bits.{bit_at-lt, bit_at-pow_other, bit_at-pow_same, bit_at_ones, bit_at_or, bit_at-zero}
 use Rattle.std.specs.Coded.{le_prop}
 use mathlib.Core.HLevel.{is_prop→PathP}
 use Rattle.sy_wire.specs.declared.class.Class.{Class}
@@ -117,7 +117,27 @@ module _ (n : ℕ) (x : Formula Test) (facility : ℕ) (old : Verdicts) (here : 
 pub said_all : (x : Formula Test) (facility : ℕ) (v : Verdicts) → SaidSoFar 8 x facility v → (class : Class) → class.facility ≡ facility → said v class.severity ≡ verdict (known class) x
 said_all x facility v so_far class f = so_far.done class f class.severity_in_range
 
+-- all severities of a facility are left open
+pub all_either : (v : Verdicts) → v.certain ≡ 0 → v.possible ≡ 255 → (severity : ℕ) → severity < 8 → said v severity ≡ Either
+all_either v none all severity low =
+    ap (λ c. of_bits (bit_at c severity == 1) (bit_at v.possible severity == 1)) none
+    ∙ ap (λ b. of_bits (b == 1) (bit_at v.possible severity == 1)) (bit_at-zero severity)
+    ∙ ap (λ p. of_bits false (bit_at p severity == 1)) all
+    ∙ ap (λ b. of_bits false (b == 1)) (bit_at_ones 8 severity low)
+
 -- ---- the facilities, one after the other
+
+-- where no facility so far says anything, none of its classes does
+abbrev pub FreeSoFar : ℕ → Formula Test → Bool → Type 0
+FreeSoFar n x free = free ≡ true → (class : Class) → class.facility < n → verdict (known class) x ≡ Either
+
+pub free_more : (n : ℕ) (x : Formula Test) (v : Verdicts) (old here new : Bool) → FreeSoFar n x old
+    → ((class : Class) → class.facility ≡ n → said v class.severity ≡ verdict (known class) x)
+    → (here ≡ true → (severity : ℕ) → severity < 8 → said v severity ≡ Either) → (new ≡ true → (old ≡ true) × (here ≡ true)) → FreeSoFar (n + 1) x new
+free_more n x v old here new so_far right free parts is class below = elim (cases_eq class.facility n) [
+  | inl same ↦ sym (right class same) ∙ free (parts is).1 class.severity class.severity_in_range
+  | inr apart ↦ so_far (parts is).0 class (omega (arith, below, apart))
+]
 
 pub record JudgedSoFar (n : ℕ) (x : Formula Test) (verdicts : List Verdicts) : Type 0 where
   pub size : length verdicts ≡ 24
