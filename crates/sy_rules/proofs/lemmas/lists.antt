@@ -23,3 +23,4 @@ pub mod FlowTables
 pub mod FlowRuns
 pub mod ClassVerdicts
 pub mod Decided
+pub mod ColumnLaws

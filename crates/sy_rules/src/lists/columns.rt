@@ -1,5 +1,10 @@
 //! Classes of which all tests of a plan say the same.
 
+ghost use Rattle.std.specs.Prelude.{◌≡◌, ◌≢◌, ◌≤◌, true, length, IfOk};
+ghost use Rattle.sy_select.specs.Properties.{known};
+ghost use Rattle.sy_select.specs.internal.Walk as walk;
+ghost use Rattle.sy_rules.specs.internal.ClassFlows.{AreAlike, AreColumns, HasAlike};
+
 use crate::lists::condition::Condition;
 use std::alloc::{AllocError, Global};
 use sy_select::Verdict;
@@ -11,15 +16,16 @@ const FNV_PRIME: u64 = 0x100_0000_01b3;
 /// The classes in columns: those of one column are alike to every test.
 #[derive(Drop)]
 pub struct Columns {
-    /// of each class its column
+    /// of each class, by its number, its column
     pub of_class: [u8; 192],
     /// of each column one of its classes
     pub classes: Vec<Class>,
 }
 
-// A number of each class that is the same for classes of which all tests say the same, and likely another for others.
+// A number of each class that is the same for classes of which all tests say the same, and likely another for others. So few
+// are compared.
 fn hashes(tests: &[Condition]) -> [u64; 192] {
-    let mut hashes = [0; 192];
+    let mut hashes = [0u64; 192];
     for test in tests {
         if !test.is_free() {
             for number in 0..192 {
@@ -28,18 +34,27 @@ fn hashes(tests: &[Condition]) -> [u64; 192] {
                     Verdict::No => 2,
                     Verdict::Either => 3,
                 };
-                let hash: &mut u64 = &mut hashes[usize::from(number)];
-                *hash = (*hash ^ verdict).wrapping_mul(FNV_PRIME);
+                let at = usize::from(number);
+                hashes[at] = (hashes[at] ^ verdict).wrapping_mul(FNV_PRIME);
             }
         }
     }
     hashes
 }
 
-// Whether every test says the same of two classes.
-fn are_alike(tests: &[Condition], one: Class, other: Class) -> bool {
+// Whether a test says the same of two classes.
+fn is_alike(test: &Condition, one: Class, other: Class) -> bool
+    ensures { result ≡ true → walk.verdict (known one) test.now ≡ walk.verdict (known other) test.now }
+{
+    test.is_free() || test.verdict(one) == test.verdict(other)
+}
+
+// Whether every test does.
+fn are_alike(tests: &[Condition], one: Class, other: Class) -> bool
+    ensures { result ≡ true → AreAlike tests.now one other }
+{
     for test in tests {
-        if !test.is_free() && test.verdict(one) != test.verdict(other) {
+        if !is_alike(test, one, other) {
             return false;
         }
     }
@@ -47,7 +62,10 @@ fn are_alike(tests: &[Condition], one: Class, other: Class) -> bool {
 }
 
 // The first column of a class that is like this one, or else how many columns there are.
-fn column_of(tests: &[Condition], hashes: &[u64; 192], classes: &[Class], class: Class) -> usize {
+fn column_of(tests: &[Condition], hashes: &[u64; 192], classes: &[Class], class: Class) -> usize
+    ensures found { result ≢ length classes.now → HasAlike tests.now classes.now result class }
+    ensures most { result ≤ length classes.now }
+{
     let hash = hashes[usize::from(class.number())];
     let mut column = 0;
     while let Some(other) = classes.get(column) {
@@ -56,18 +74,22 @@ fn column_of(tests: &[Condition], hashes: &[u64; 192], classes: &[Class], class:
         }
         column += 1;
     }
-    column
+    classes.len()
 }
 
 /// The columns of these tests.
-pub fn columns_of(alloc: Global, tests: &[Condition]) -> Result<Columns, AllocError> {
+pub fn columns_of(alloc: Global, tests: &[Condition]) -> Result<Columns, AllocError>
+    ensures { IfOk result (λ columns. AreColumns tests.now columns) }
+{
     let hashes = hashes(tests);
     let mut of_class = [0; 192];
     let mut classes = Vec::new(alloc);
     for number in 0..192 {
         let class = Class::of_number(number);
-        let column = column_of(tests, &hashes, classes.as_slice(), class);
-        if column == classes.len() {
+        let known = classes.as_slice();
+        let column = column_of(tests, &hashes, known, class);
+        let is_new = column == known.len();
+        if is_new {
             classes.push(class)?;
         }
         of_class[usize::from(number)] = column as u8;
