@@ -7,6 +7,7 @@ pub mod condition;
 pub mod decided;
 pub mod flow;
 pub mod list_names;
+pub mod lookup;
 pub mod numbering;
 pub mod occurrence;
 pub mod plan_tables;

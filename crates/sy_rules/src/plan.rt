@@ -2,6 +2,7 @@
 ghost use Rattle.std.specs.Prelude.{◌≡◌, ◌<◌, ◌⊎◌, ◌∷◌, [], length, map, IfOk, IfErr, OnOk};
 ghost use Rattle.sy_rules.specs.Faults.{IsAnswered, no_memory};
 ghost use Rattle.sy_rules.specs.check.FaultsThere.{HasFault, HasNoFault};
+ghost use Rattle.sy_rules.specs.internal.ClassFlows.{AreFlows};
 ghost use Rattle.sy_rules.specs.internal.ItemViews.{item, placed};
 ghost use Rattle.sy_rules.specs.internal.Loading.{faults_of_its_lists};
 ghost use Rattle.sy_rules.specs.items.Outline.{items, placed_items};
@@ -20,13 +21,12 @@ use crate::check::among::DEFAULT_RULESET;
 use crate::check::script::check_script;
 use crate::fault::PlanFault;
 use crate::items::outline::{Item, outline};
-use crate::lists::class_flows::{ClassFlows, class_flows};
+use crate::lists::class_flows::{ClassFlows, Parts, class_flows};
 use crate::lists::condition::Condition;
-use crate::lists::flow::flows;
 use crate::lists::list_names::list_names;
+use crate::lists::lookup::{due_of_list, flows_of_list};
 use crate::lists::occurrence::Occurrence;
 use crate::lists::statement::Statement;
-use crate::lists::walk::{due, due_after};
 use crate::parameters::kind::Kind;
 use crate::parameters::objects::Destination;
 use crate::parameters::settings::{FlowControl, QueueParameters, queue_parameters};
@@ -110,6 +110,25 @@ fn one<T: Drop>(alloc: Global, item: T) -> Result<Vec<T>, AllocError>
     Ok(found)
 }
 
+// What each class executes of that list.
+fn pass_flows(
+    alloc: Global,
+    tables: &[Items<Statement>],
+    inputs: &[Input],
+    queues: &[Option<u32>],
+) -> Result<ClassFlows, AllocError>
+    requires { tables.now ≡ (Statement.Run 0 0 ∷ []) ∷ [] }
+    ensures { IfOk result (λ flows. AreFlows [] tables.now flows) }
+{
+    let parts = Parts {
+        tables,
+        tests: &[],
+        inputs,
+        queues,
+    };
+    class_flows(alloc, parts)
+}
+
 fn pass(alloc: Global) -> Result<Plan, AllocError>
     ensures { IfOk result (λ plan. plan ≡ pass.plan) }
 {
@@ -122,13 +141,7 @@ fn pass(alloc: Global) -> Result<Plan, AllocError>
     };
     let inputs = one(alloc, input)?;
     let list_queues = one(alloc, None)?;
-    let class_flows = class_flows(
-        alloc,
-        tables.as_slice(),
-        &[],
-        inputs.as_slice(),
-        list_queues.as_slice(),
-    )?;
+    let class_flows = pass_flows(alloc, &tables, &inputs, &list_queues)?;
     Ok(Plan {
         inputs,
         queues: one(alloc, queue_parameters(Kind::MainQueue, &[]))?,
@@ -163,10 +176,12 @@ fn assemble(alloc: Global, script: &Script, found: &[Item<'_>]) -> Result<Plan, 
     let actions = action_parts(alloc, gathered.actions)?;
     let Ok(class_flows) = class_flows(
         alloc,
-        lists.tables.as_slice(),
-        gathered.tests.as_slice(),
-        gathered.inputs.as_slice(),
-        gathered.list_queues.as_slice(),
+        Parts {
+            tables: lists.tables.as_slice(),
+            tests: gathered.tests.as_slice(),
+            inputs: gathered.inputs.as_slice(),
+            queues: gathered.list_queues.as_slice(),
+        },
     ) else {
         return Err(PlanFault::no_memory(alloc));
     };
@@ -296,11 +311,7 @@ impl Plan {
         requires exists { list < length self.now.lists }
         ensures { Bits (Due (body_at self.now list) message.now) result }
     {
-        match self.class_flows.at(list, message.class()) {
-            Some(flow) if flow.may == flow.must => flow.must,
-            Some(flow) => due_after(&self.tables, &self.tests, list, flow.head, message),
-            None => due(&self.tables, &self.tests, list, message),
-        }
+        due_of_list(&self.class_flows, &self.tables, &self.tests, list, message)
     }
 
     /// May and must of a list for a class: the occurrences that some valuation which the class admits executes, and those that every such
@@ -313,10 +324,7 @@ impl Plan {
         ensures may { Bits (May (body_at self.now list) class) result.0 }
         ensures must { Bits (Must (body_at self.now list) class) result.1 }
     {
-        match self.class_flows.at(list, class) {
-            Some(flow) => (flow.may, flow.must),
-            None => flows(&self.tables, &self.tests, list, class),
-        }
+        flows_of_list(&self.class_flows, &self.tables, &self.tests, list, class)
     }
 
     /// What the type keeps, for the law.

@@ -24,3 +24,4 @@ pub mod FlowRuns
 pub mod ClassVerdicts
 pub mod Decided
 pub mod ColumnLaws
+pub mod FlowRows

@@ -92,3 +92,7 @@ AreFlows tests tables flows = (list : ℕ) (class : Class) → IfSome (flow_at f
 abbrev pub IsRow : List (Formula Test) → List (List Statement) → ℕ → List Class → List ClassFlow → Type 0
 IsRow tests tables list classes row = (column : ℕ) (flow : ClassFlow) (one : Class) → slice_get row column ≡ Some flow → slice_get classes column ≡ Some one
     → IsFlow (judged one tests) tables list flow
+
+-- each list that has a row has its own
+abbrev pub AreRows : List (Formula Test) → List (List Statement) → List Class → List (List ClassFlow) → Type 0
+AreRows tests tables classes rows = (list : ℕ) (row : List ClassFlow) → slice_get rows list ≡ Some row → IsRow tests tables list classes row

@@ -6,6 +6,7 @@ use Rattle.sy_rules.specs.items.Outline.{items}
 use Rattle.sy_rules.specs.parts.Plans.{actions_of, inputs_of, list_names, list_queues, queues_of, rulesets_of, workers_of}
 use Rattle.sy_rules.specs.PlanValue.{AreExprs, Plan, action_parts, input_part, lines_of, listed_from, test_of_item}
 use Rattle.sy_rules.specs.lists.Body.{occurrences}
+use Rattle.sy_rules.specs.internal.ClassFlows.{AreFlows}
 use Rattle.sy_rules.specs.internal.Tables.{AreTables, lines_of_tables}
 use Rattle.sy_rules.specs.Whole.{IsWhole}
 
@@ -24,6 +25,7 @@ pub record IsKept (p : Inside) : Type 0 where
   pub whole : IsWhole (plan_of p)
   pub tables : AreTables p.tests.items p.tables.items
   pub occurrences : p.occurrences.items ≡ map (λ l. occurrences l.body) (plan_of p).lists
+  pub class_flows : AreFlows p.tests.items p.tables.items p.class_flows
 
 -- These are the parts of the plan of a script.
 pub record AreParts (script : Script) (p : Inside) : Type 0 where
@@ -37,3 +39,4 @@ pub record AreParts (script : Script) (p : Inside) : Type 0 where
   pub lines : lines_of_tables p.tests.items p.tables.items ≡ lines_of script p.tests.items
   pub tables : AreTables p.tests.items p.tables.items
   pub occurrences : p.occurrences.items ≡ map (λ l. occurrences l.body) (listed_from (lines_of script p.tests.items) 0 (list_queues (items script)))
+  pub class_flows : AreFlows p.tests.items p.tables.items p.class_flows

@@ -1,5 +1,9 @@
 //! What each class executes of the lists of a plan, made once and looked up.
 
+ghost use Rattle.std.specs.Prelude.{◌≡◌, IfOk};
+ghost use Rattle.sy_rules.specs.internal.ClassFlows.{AreFlows, flow_at};
+ghost use Rattle.sy_rules.specs.internal.Tables.{AreTables};
+
 use crate::lists::columns::{Columns, columns_of};
 use crate::lists::condition::Condition;
 use crate::lists::decided::{Head, head_of_list, no_head};
@@ -30,78 +34,102 @@ pub struct ClassFlows {
 
 impl ClassFlows {
     /// What a class executes of a list, where it has a row.
-    pub fn at(&self, list: u32, class: Class) -> Option<ClassFlow> {
+    pub fn at(&self, list: u32, class: Class) -> Option<ClassFlow>
+        ensures { result ≡ flow_at self.now list class }
+    {
         let column = self.columns.of_class[usize::from(class.number())];
-        let row = self.rows.get(list as usize)?;
-        row.as_slice().get(usize::from(column)).copied()
-    }
-}
-
-// Whether messages come to a list by itself: from an input, or out of its queue.
-fn is_reached(inputs: &[Input], queues: &[Option<u32>], list: u32) -> bool {
-    if let Some(Some(_)) = queues.get(list as usize) {
-        return true;
-    }
-    for input in inputs {
-        if input.list == list {
-            return true;
+        match self.rows.get(list as usize) {
+            Some(row) => row.as_slice().get(usize::from(column)).copied(),
+            None => None,
         }
     }
-    false
 }
 
-fn class_flow(
-    tables: &[Items<Statement>],
-    tests: &[Condition],
-    list: u32,
-    class: Class,
-) -> ClassFlow {
-    let (may, must) = flows(tables, tests, list, class);
-    // (where both are the same no table is walked)
-    let head = if may == must {
-        no_head()
-    } else {
-        head_of_list(tables, tests, list, class)
-    };
-    ClassFlow { may, must, head }
+/// What the flows of a plan are made of.
+#[derive(Clone, Copy)]
+pub struct Parts<'p> {
+    pub tables: &'p [Items<Statement>],
+    pub tests: &'p [Condition],
+    pub inputs: &'p [Input],
+    /// of each list its queue
+    pub queues: &'p [Option<u32>],
 }
 
-// The row of a list.
-fn row(
-    alloc: Global,
-    tables: &[Items<Statement>],
-    tests: &[Condition],
-    list: u32,
-    classes: &[Class],
-) -> Result<Items<ClassFlow>, AllocError> {
-    let mut row = Items::new(alloc);
-    for class in classes {
-        row.push(class_flow(tables, tests, list, *class))?;
+impl Parts<'_> {
+    ghost use Rattle.std.specs.Prelude.{◌≡◌, IfOk};
+    ghost use Rattle.sy_rules.specs.internal.ClassFlows.{AreRows, IsFlow, IsRow};
+    ghost use Rattle.sy_rules.specs.internal.FlowWalk.{judged};
+    ghost use Rattle.sy_rules.specs.internal.Tables.{AreTables};
+
+    // Whether messages come to a list by itself: from an input, or out of its queue.
+    fn is_reached(self, list: u32) -> bool {
+        if let Some(Some(_)) = self.queues.get(list as usize) {
+            return true;
+        }
+        for input in self.inputs {
+            if input.list == list {
+                return true;
+            }
+        }
+        false
     }
-    Ok(row)
+
+    fn flow(self, list: u32, class: Class) -> ClassFlow
+        requires { AreTables self.tests.now self.tables.now }
+        ensures { IsFlow (judged class self.entry.tests.now) self.entry.tables.now list result }
+    {
+        let (may, must) = flows(self.tables, self.tests, list, class);
+        // (where both are the same no table is walked)
+        let head = if may == must {
+            no_head()
+        } else {
+            head_of_list(self.tables, self.tests, list, class)
+        };
+        ClassFlow { may, must, head }
+    }
+
+    // The row of a list.
+    fn row(
+        self,
+        alloc: Global,
+        list: u32,
+        classes: &[Class],
+    ) -> Result<Items<ClassFlow>, AllocError>
+        requires { AreTables self.tests.now self.tables.now }
+        ensures { IfOk result (λ row. IsRow self.entry.tests.now self.entry.tables.now list classes.now row) }
+    {
+        let mut row = Items::new(alloc);
+        if !self.is_reached(list) {
+            return Ok(row);
+        }
+        for class in classes {
+            row.push(self.flow(list, *class))?;
+        }
+        Ok(row)
+    }
+
+    // The rows of all lists, in their order.
+    fn rows(self, alloc: Global, classes: &[Class]) -> Result<Vec<Items<ClassFlow>>, AllocError>
+        requires { AreTables self.tests.now self.tables.now }
+        ensures { IfOk result (λ rows. AreRows self.entry.tests.now self.entry.tables.now classes.now rows.items) }
+    {
+        let mut rows = Vec::new(alloc);
+        for list in 0..u32::MAX {
+            if self.tables.len() <= list as usize {
+                return Ok(rows);
+            }
+            rows.push(self.row(alloc, list, classes)?)?;
+        }
+        Ok(rows)
+    }
 }
 
 /// What each class executes of the lists that messages come to by themselves.
-pub fn class_flows(
-    alloc: Global,
-    tables: &[Items<Statement>],
-    tests: &[Condition],
-    inputs: &[Input],
-    queues: &[Option<u32>],
-) -> Result<ClassFlows, AllocError> {
-    let columns = columns_of(alloc, tests)?;
-    let mut rows = Vec::new(alloc);
-    let mut list = 0;
-    let mut rest = tables;
-    while let [_, after @ ..] = rest {
-        let row = if is_reached(inputs, queues, list) {
-            row(alloc, tables, tests, list, columns.classes.as_slice())?
-        } else {
-            Items::new(alloc)
-        };
-        rows.push(row)?;
-        list += 1;
-        rest = after;
-    }
+pub fn class_flows(alloc: Global, parts: Parts<'_>) -> Result<ClassFlows, AllocError>
+    requires { AreTables parts.tests.now parts.tables.now }
+    ensures { IfOk result (λ flows. AreFlows parts.entry.tests.now parts.entry.tables.now flows) }
+{
+    let columns = columns_of(alloc, parts.tests)?;
+    let rows = parts.rows(alloc, columns.classes.as_slice())?;
     Ok(ClassFlows { columns, rows })
 }

@@ -1,6 +1,8 @@
 //! What a class alone decides of a text.
 
-ghost use Rattle.std.specs.Prelude.{◌≡◌, ◌≤◌, ◌-◌, length};
+ghost use Rattle.std.specs.Prelude.{◌≡◌, ◌≤◌, ◌-◌, ℕ, List, length};
+ghost use Rattle.sy_select.specs.declared.verdict.Verdict.{Verdict};
+ghost use Rattle.sy_rules.specs.declared.lists.statement.Statement.{Statement};
 ghost use Rattle.sy_rules.specs.internal.ClassFlows.{IsHead};
 ghost use Rattle.sy_rules.specs.internal.FlowWalk.{judged};
 ghost use Rattle.sy_rules.specs.internal.Tables.{table_at};
@@ -157,7 +159,10 @@ impl Judge<'_> {
 }
 
 /// No statements.
-pub fn no_head() -> Head {
+pub fn no_head() -> Head
+    ensures { (judge : ℕ → Verdict) (tables : List (List Statement)) (table : List Statement)
+        → IsHead judge tables table result }
+{
     Head {
         size: 0,
         executed: 0,

@@ -201,6 +201,8 @@ pub fn flows(
     requires { AreTables tests.now tables.now }
     ensures may { Bits (May (body_of (lines_of_tables tests.now tables.now) list) class) result.0 }
     ensures must { Bits (Must (body_of (lines_of_tables tests.now tables.now) list) class) result.1 }
+    ensures sets { let flow = spec.flow_of_list class tests.now tables.now 17 list 0
+        in (result.0 ≡ flow.may.set) × (result.1 ≡ flow.must.set) }
 {
     let judge = Judge {
         tables,

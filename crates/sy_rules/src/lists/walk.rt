@@ -4,6 +4,8 @@ ghost use Rattle.std.specs.Prelude.{◌≡◌, slice_get, take, drop};
 ghost use Rattle.std.specs.Option.{option_copied};
 ghost use Rattle.sy_rules.specs.lists.Lines.{body_of};
 ghost use Rattle.sy_rules.specs.internal.Tables.{AreTables, lines_of_tables, table_at};
+ghost use Rattle.sy_rules.specs.internal.ClassFlows.{IsHead};
+ghost use Rattle.sy_rules.specs.internal.FlowWalk.{judged};
 ghost use Rattle.sy_rules.specs.internal.TableWalk as spec;
 ghost use Rattle.sy_rules.specs.lists.Sets.{Bits};
 ghost use Rattle.sy_rules.specs.lists.Work.{Due};
@@ -198,20 +200,31 @@ pub fn due(tables: &[Items<Statement>], tests: &[Condition], list: u32, message:
     walker.list(LISTS_DEEP, list, 0).set
 }
 
-/// The same where so many statements at the beginning of the list's table are known to execute these occurrences.
-pub fn due_after(
+// What stands behind so many statements.
+fn behind(statements: &[Statement], count: usize) -> &[Statement]
+    ensures { result.now ≡ drop count statements.now }
+{
+    let (_, rest) = statements.split_at(statements.len().min(count));
+    rest
+}
+
+/// The same where the head of the list is known for the message's class.
+pub fn due_behind(
     tables: &[Items<Statement>],
     tests: &[Condition],
     list: u32,
     head: Head,
     message: &Message,
-) -> u64 {
+) -> u64
+    requires tables { AreTables tests.now tables.now }
+    requires head { IsHead (judged message.now.class tests.now) tables.now (table_at tables.now list) head }
+    ensures { Bits (Due (body_of (lines_of_tables tests.now tables.now) list) message.now) result }
+{
     let walker = Walker {
         tables,
         tests,
         message,
     };
-    let table = table_at(tables, list);
-    let (_, rest) = table.split_at(table.len().min(head.size));
+    let rest = behind(table_at(tables, list), head.size);
     head.executed | walker.statements(LISTS_DEEP - 1, rest, 0).set
 }

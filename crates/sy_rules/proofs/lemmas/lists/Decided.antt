@@ -98,7 +98,7 @@ head_left judge tables table rest head executed tail size is so_far met are =
 
 -- ---- a list by its table
 
-list_is_statements : (met : ℕ → Bool) (tables : List (List Statement)) (depth list base : ℕ) (table : List Statement) → depth ≢ 0 → table ≡ table_at tables list
+pub list_is_statements : (met : ℕ → Bool) (tables : List (List Statement)) (depth list base : ℕ) (table : List Statement) → depth ≢ 0 → table ≡ table_at tables list
     → met_list met tables depth list base ≡ met_statements met tables (depth - 1) table base
 list_is_statements met tables zero list base table some e = absurd (some refl)
 list_is_statements met tables (suc depth) list base table some e =

@@ -12,6 +12,9 @@ use Rattle.sy_rules.specs.declared.plan.Plan.TheInside.{Inside}
 use Rattle.sy_rules.specs.lists.Lines.{Lines, statements_of}
 use Rattle.sy_rules.specs.items.Outline.{items}
 use Rattle.sy_rules.specs.parts.Plans.{list_names, list_queues}
+use Rattle.sy_rules.specs.declared.lists.class_flows.ClassFlows.{ClassFlows}
+use Rattle.sy_rules.specs.declared.lists.statement.Statement.{Statement}
+use Rattle.sy_rules.specs.internal.ClassFlows.{AreFlows}
 use Rattle.sy_rules.specs.internal.PlanInside.{AreParts, IsKept, plan_of}
 use Rattle.sy_rules.specs.PlanValue.{HasParts, Plan, lines_of, listed_from}
 use Rattle.sy_rules.specs.check.ScriptFaults.{faults_after, too_many_workers}
@@ -43,6 +46,7 @@ kept script p parts clean workers =
       whole = subst IsWhole (sym same) whole;
       tables = parts.tables;
       occurrences = parts.occurrences ∙ ap (map (λ l. occurrences l.body)) (sym (same_listed _ _ _ _ parts.lines parts.own_queues));
+      class_flows = parts.class_flows;
     }
 
 pub is_plan : (script : Script) (p : Inside) → AreParts script p → HasParts script (plan_of p)
@@ -62,3 +66,6 @@ listed_same script tests p o e = ap (λ q. map (λ l. occurrences l.body) (liste
 
 pub same_names : (r s : List RulesetParameters) (a b : List ActionParameters) → r ≡ s → a ≡ b → list_names r a ≡ list_names s b
 same_names r s a b e f = ap (λ x. list_names x a) e ∙ ap (list_names s) f
+
+pub flows_of_same : (tests ts : List (Formula Test)) (tables tbs : List (List Statement)) (flows : ClassFlows) → tests ≡ ts → tables ≡ tbs → AreFlows tests tables flows → AreFlows ts tbs flows
+flows_of_same tests ts tables tbs flows e f h = subst (λ x. AreFlows x tbs flows) e (subst (λ x. AreFlows tests x flows) f h)

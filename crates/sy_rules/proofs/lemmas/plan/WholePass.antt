@@ -12,6 +12,7 @@ use Rattle.sy_rules.specs.declared.lists.statement.Statement.{Statement}
 use Rattle.sy_rules.specs.declared.lists.statement.Statement.TheVariants as statement
 use Rattle.sy_rules.specs.parameters.Objects.{AreInRange, HasPort}
 use Rattle.sy_rules.specs.PassPlan.{action, plan}
+use Rattle.sy_rules.specs.internal.ClassFlows.{AreFlows}
 use Rattle.sy_rules.specs.internal.PlanInside.{IsKept, plan_of}
 use Rattle.sy_rules.specs.PlanValue.{Plan}
 use Rattle.sy_rules.specs.lists.Body.{Body, count, occurrences, size}
@@ -71,16 +72,18 @@ are_tables =
       numbered = λ l. numbered (count_of (lines_of_tables [] tables)) l;
     }
 
-same_tables : (tests : List (Formula Test)) (found : List (List Statement)) → tests ≡ [] → found ≡ tables → AreTables tests found
+pub same_tables : (tests : List (Formula Test)) (found : List (List Statement)) → tests ≡ [] → found ≡ tables → AreTables tests found
 same_tables tests found e f = rw (e, f) are_tables
 
 pub kept : (p : Inside) → p.inputs.items ≡ plan.inputs → p.queues.items ≡ plan.queues → p.workers.items ≡ plan.workers → p.actions.items ≡ plan.actions → p.tests.items ≡ [] → p.tables.items ≡ (statement.Run 0 0 ∷ []) ∷ []
-    → p.occurrences.items ≡ (occurrence.Run 0 ∷ []) ∷ [] → p.list_queues.items ≡ None ∷ [] → p.names.items ≡ plan.names → IsKept p
-kept p inputs queues workers actions tests found occurred own names =
+    → p.occurrences.items ≡ (occurrence.Run 0 ∷ []) ∷ [] → p.list_queues.items ≡ None ∷ [] → p.names.items ≡ plan.names
+    → AreFlows p.tests.items p.tables.items p.class_flows → IsKept p
+kept p inputs queues workers actions tests found occurred own names flows =
     let lines : lines_of_tables p.tests.items p.tables.items ≡ lines_of_tables [] tables = ap (λ ts. lines_of_tables ts p.tables.items) tests ∙ ap (lines_of_tables []) found in
     let same : plan_of p ≡ plan = same_made _ _ _ _ _ _ _ _ _ _ _ _ _ _ inputs queues workers actions lines own names in
     record {
       whole = subst IsWhole (sym same) is_whole;
       tables = same_tables p.tests.items p.tables.items tests found;
       occurrences = occurred ∙ ap (λ (v : Plan). map (λ l. occurrences l.body) v.lists) (sym same);
+      class_flows = flows;
     }

@@ -4,7 +4,7 @@ use Rattle.sy_rules.specs.items.Outline.{items}
 use Rattle.sy_rules.specs.PlanValue.{action_parts}
 use Rattle.sy_rules.specs.parts.Plans.{actions_of}
 use Rattle.sy_rules.proofs.lemmas.check.CleanItems.{few_rulesets, few_actions}
-use Rattle.sy_rules.proofs.lemmas.plan.Kept.{kept, listed_same, same_names}
+use Rattle.sy_rules.proofs.lemmas.plan.Kept.{flows_of_same, kept, listed_same, same_names}
 use Rattle.sy_rules.proofs.lemmas.parts.WholeItems.{length-list_queues, queued_at_most}
 use Rattle.sy_rules.proofs.plan.assemble.Goals as goal
 
@@ -36,4 +36,5 @@ invariant_of-result c =
       lines = found.lines;
       tables = found.tables;
       occurrences = found.occurrences ∙ listed_same c.args.script.now c.in_ok-gathered.gathered.tests.items _ _ g.list_queues;
+      class_flows = flows_of_same _ _ _ _ c.in-Ok.class_flows c.as_slice-4.ensures.value c.as_slice-3.ensures.value c.in-Ok.ensures;
     }) c.requires.clean c.requires.workers

@@ -9,12 +9,12 @@ use Rattle.sy_rules.proofs.lists.flow.Judge.head.Goals as goal
 pub loop-rest-preserved : goal.loop-rest-preserved
 loop-rest-preserved c =
     let judge = judged c.args.self.class c.args.self.tests.now in
-    let whole = first_and_rest _ c.loop-rest.rest.now _ c.in-len1-up.len_at_least in
     let set = c.loop-rest.executed in
     let rest = c.loop-rest.rest.now in
     let left = length-take (length rest - 1) (drop 1 rest) in
     let one = length-drop 1 rest in
     let of_length : length c.in-Some.later.now ≤ length rest = omega (arith, left, one, c.in-Some.ensures.shorter) in
+    let whole = first_and_rest _ c.loop-rest.rest.now _ c.in-len1-up.len_at_least in
     let of_rest = subst (IsTail c.in-Some.later.now) whole (tail_of_rest _ _ c.in-Some.later.now c.in-Some.ensures.tail c.in-Some.ensures.shorter) in
     record {
       same = so_far_more judge c.args.self.tables.now 16 c.args.table.now 0 (executes set) c.in-Some.next (executes _) c.loop-rest.rest.now _ c.in-Some.later.now whole
