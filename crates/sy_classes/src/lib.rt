@@ -19,8 +19,8 @@ pub struct Flows {
 }
 
 /// May and must of a list for a class. A valuation gives each test occurrence of the list's expanded text a truth value: where the class
-/// decides the test it is as the class says, and every other is free by itself. It takes no memory, and visits each statement of the
-/// expanded text once at most. A list is the number of one of the plan's.
+/// decides the test it is as the class says, and every other is free by itself. It takes no memory. For a list that an
+/// input or a queue has the plan has them ready. A list is the number of one of the plan's.
 pub fn flow_of(plan: &Plan, list: u32, class: Class) -> Flows
     requires exists { list < length plan.now.lists }
     ensures may { Bits (May (body_at plan.now list) class) result.may }

@@ -214,7 +214,8 @@ fn load_items(alloc: Global, script: &Script, found: &[Item<'_>]) -> Result<Plan
 impl Plan {
     /// The plan of a script. Refuses it for its first fault: those of its items in the order of the text, then too many workers, then those of
     /// its lists in the order of their numbers. Without a fault only memory may be missing. It goes as deep as the script nests, and takes
-    /// time and memory linear in the text.
+    /// time and memory linear in the text, but for what it works out for classes: each test is judged for all 192, and each list that an
+    /// input or a queue has is walked once for all classes to which every test is the same.
     pub fn load(alloc: Global, script: &Script) -> Result<Plan, PlanFault>
         ensures plan { IfOk result (λ plan. IsPlan script.now plan) }
         ensures ok { OnOk result (faults_of script.now ≡ []) }
@@ -305,8 +306,9 @@ impl Plan {
         self.list_queues[list as usize]
     }
 
-    /// Which occurrences of a list a message executes: bit k stands for occurrence k. It takes no memory, and visits only the statements that
-    /// the message reaches.
+    /// Which occurrences of a list a message executes: bit k stands for occurrence k. It takes no memory. Where its class decides them, they
+    /// are looked up, for a list that an input or a queue has. Else it visits the statements that the message reaches, from the first one
+    /// that its class leaves open, and evaluates only the tests that its class leaves open.
     pub fn due(&self, list: u32, message: &Message) -> u64
         requires exists { list < length self.now.lists }
         ensures { Bits (Due (body_at self.now list) message.now) result }
@@ -317,8 +319,8 @@ impl Plan {
     /// May and must of a list for a class: the occurrences that some valuation which the class admits executes, and those that every such
     /// valuation executes. Bit k stands for occurrence k. A valuation gives each test occurrence of the list's expanded text a truth value:
     /// where the class decides the test it is as the class says, every other is free by itself, also where one test occurs twice. So each
-    /// message of the class executes all of must and nothing outside may. It takes no memory, and visits each statement of the expanded text
-    /// once at most.
+    /// message of the class executes all of must and nothing outside may. It takes no memory. They are looked up, for a list that an input
+    /// or a queue has; for any other each statement of the expanded text is visited once at most.
     pub fn flows(&self, list: u32, class: Class) -> (u64, u64)
         requires exists { list < length self.now.lists }
         ensures may { Bits (May (body_at self.now list) class) result.0 }

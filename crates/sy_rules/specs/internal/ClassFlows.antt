@@ -1,5 +1,5 @@
 -- What each class executes of a list, as the code keeps it: the two sets, and what the class alone decides at the beginning of the table.
-use Rattle.std.specs.Prelude.{◌≡◌, ◌≢◌, ℕ, ◌+◌, ◌*◌, ◌-◌, Bool, true, false, List, Option, Some, None, IfSome, drop, length, slice_get, get_or}
+use Rattle.std.specs.Prelude.{◌≡◌, ℕ, ◌+◌, ◌*◌, ◌-◌, Bool, true, false, List, Option, Some, None, IfSome, drop, length, slice_get, get_or}
 use Rattle.sy_wire.specs.declared.class.Class.{Class}
 use Rattle.sy_select.specs.declared.condition.Test.{Test}
 use Rattle.sy_select.specs.declared.verdict.Verdict.{Verdict}

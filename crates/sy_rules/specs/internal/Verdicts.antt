@@ -1,5 +1,5 @@
 -- What classes say of a test, as the code keeps it: of each facility two sets of severities, the bit k for severity k.
-use Rattle.std.specs.Prelude.{◌≡◌, ℕ, Bool, true, false, ◌==◌, ◌<◌, List, length, get_or}
+use Rattle.std.specs.Prelude.{◌≡◌, ℕ, Bool, true, false, ◌==◌, List, length, get_or}
 use Rattle.std.specs.Int.{bit_at}
 use Rattle.sy_wire.specs.declared.class.Class.{Class}
 use Rattle.sy_select.specs.declared.condition.Test.{Test}

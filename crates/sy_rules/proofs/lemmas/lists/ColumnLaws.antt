@@ -1,5 +1,5 @@
 -- Classes in columns, one class after the other.
-use Rattle.std.proofs.Common.{◌≡◌, ◌≢◌, ℕ, zero, suc, ◌+◌, ◌*◌, ◌<◌, ◌≤◌, List, [], ◌∷◌, ◌++◌, Option, Some, None, length, unwrap_or, inl, inr, refl, sym, ap, ◌∙◌, subst, arith, append-nil, get_or, get_or-set_other, get_or-set_same}
+use Rattle.std.proofs.Common.{◌≡◌, ℕ, zero, suc, ◌+◌, ◌<◌, ◌≤◌, List, [], ◌∷◌, ◌++◌, Option, Some, length, unwrap_or, inl, inr, refl, sym, ap, ◌∙◌, subst, arith, append-nil, get_or, get_or-set_other, get_or-set_same}
 use Rattle.std.specs.Prelude.{slice_get}
 use Rattle.std.proofs.Math.ListN.{length-set, set}
 use Rattle.std.proofs.lemmas.Bool.{cases_eq, cases_lt}

@@ -1,4 +1,4 @@
-use Rattle.std.proofs.Common.{◌+◌, ap, sym, ◌∙◌, refl, subst}
+use Rattle.std.proofs.Common.{◌+◌, sym, refl, subst}
 use Rattle.sy_rules.proofs.lemmas.lists.ClassVerdicts.{SaidSoFar, said_either, said_no, said_yes}
 use Rattle.sy_rules.proofs.lists.condition.verdicts_of.Goals.{in-Yes, in-Either, in-No}
 use Rattle.sy_rules.proofs.lists.condition.verdicts_of.Goals as goal

@@ -2,8 +2,8 @@ use Rattle.std.proofs.Common.{◌∷◌, ◌≤◌, ◌-◌, length, sum_by, tak
 use Rattle.std.proofs.lemmas.List.{length-take, length-drop}
 use Rattle.sy_rules.specs.internal.ClassFlows.{IsMet, met_statements}
 use Rattle.sy_rules.specs.internal.FlowWalk.{judged}
-use Rattle.sy_rules.proofs.lemmas.lists.Decided.{by_statements, decided_if, so_far_done, so_far_more, so_far_over}
-use Rattle.sy_rules.proofs.lemmas.lists.TableLaws.{falls_by_depth, first_and_rest, no_rest, not_true, table_length}
+use Rattle.sy_rules.proofs.lemmas.lists.Decided.{by_statements, decided_if, so_far_done, so_far_more}
+use Rattle.sy_rules.proofs.lemmas.lists.TableLaws.{falls_by_depth, first_and_rest, no_rest, table_length}
 use Rattle.sy_rules.proofs.lists.flow.Judge.+decide.Goals as goal
 
 pub decided-returns-in-Some-decided_block-clause-reached : goal.decided-returns-in-Some-decided_block-clause-reached

@@ -1,4 +1,4 @@
-use Rattle.std.proofs.Common.{◌≡◌, ◌+◌, ◌*◌, ◌≤◌, length, sum_by}
+use Rattle.std.proofs.Common.{◌+◌, ◌*◌, ◌≤◌, length, sum_by}
 use Rattle.sy_rules.specs.internal.FlowWalk.{judged}
 use Rattle.sy_rules.proofs.lemmas.lists.Decided.{SoFar}
 use Rattle.sy_rules.proofs.lists.flow.Judge.+decide.Given as goal
