@@ -1,11 +1,12 @@
-//! Lists by a seed, whose may and must are found by trying every valuation of their free tests.
+//! Lists by a seed, whose may and must are found by trying every valuation of their free tests; and what messages
+//! execute of them. Of lists that an input has, what classes execute is looked up, and of others it is walked.
 
 use super::faults::planned;
 use std::alloc::{AllocError, Global};
 use std::test::Fail;
 use sy_classes::flow_of;
 use sy_rules::Plan;
-use sy_wire::Class;
+use sy_wire::{Class, Message};
 
 /// A class that the lists' class tests pass, and one that they don't.
 const MAIL: u8 = 16;
@@ -72,9 +73,9 @@ impl Growing {
     }
 }
 
-fn grown(alloc: Global, seed: u64) -> Result<Growing, AllocError> {
+fn grown(alloc: Global, seed: u64, head: &[u8]) -> Result<Growing, AllocError> {
     let mut list = Growing {
-        script: Vec::new(alloc),
+        script: Vec::from_slice(alloc, head)?,
         letters: Vec::new(alloc),
         free: 0,
         depth: 0,
@@ -154,7 +155,7 @@ fn has_flows(plan: &Plan, letters: &[u8]) -> bool {
 }
 
 fn is_right(alloc: Global, seed: u64) -> Result<bool, AllocError> {
-    let list = grown(alloc, seed)?;
+    let list = grown(alloc, seed, b"")?;
     let plan = planned(alloc, list.script.as_slice())?;
     Ok(match plan {
         Ok(plan) => has_flows(&plan, list.letters.as_slice()),
@@ -174,5 +175,64 @@ fn are_right(alloc: Global) -> Result<bool, AllocError> {
 #[test]
 fn lists_by_a_seed(rt: HostRuntime) -> Result<(), Fail> {
     assert!(&rt; are_right(rt.alloc())?);
+    Ok(())
+}
+
+// An input has the list.
+const INPUT: &[u8] = b"module(load=\"imtcp\") input(type=\"imtcp\" port=\"1\") ";
+
+fn has_all_flows(plan: &Plan, letters: &[u8]) -> bool {
+    if plan.list_names().is_empty() {
+        return false;
+    }
+    let mail = by_values(letters, true);
+    let others = by_values(letters, false);
+    let mut is_right = true;
+    for number in 0..192 {
+        let flows = flow_of(plan, 0, Class::of_number(number));
+        let wanted = if number / 8 == MAIL / 8 { mail } else { others };
+        is_right = is_right && (flows.may, flows.must) == wanted;
+    }
+    is_right
+}
+
+// Whether a message executes of the first list what it executes where its free tests all have this value.
+fn has_due(plan: &Plan, letters: &[u8], message: &Message, is_met: bool, is_mail: bool) -> bool {
+    let values = if is_met { u32::MAX } else { 0 };
+    !plan.list_names().is_empty() && plan.due(0, message) == executed(letters, values, is_mail)
+}
+
+// The messages: of a class that the lists' class tests pass, and of one that they don't; and whether they meet the free
+// tests.
+const MESSAGES: [(&[u8], bool, bool); 4] = [
+    (b"<16>1 - - - - - - x", true, true),
+    (b"<16>1 - - - - - - y", false, true),
+    (b"<32>1 - - - - - - x", true, false),
+    (b"<32>1 - - - - - - y", false, false),
+];
+
+fn is_looked_up(alloc: Global, seed: u64) -> Result<bool, AllocError> {
+    let list = grown(alloc, seed, INPUT)?;
+    let letters = list.letters.as_slice();
+    let Ok(plan) = planned(alloc, list.script.as_slice())? else {
+        return Ok(false);
+    };
+    let mut is_right = has_all_flows(&plan, letters);
+    for (text, is_met, is_mail) in MESSAGES {
+        match Message::read(Vec::from_slice(alloc, text)?) {
+            Ok(message) => {
+                is_right = is_right && has_due(&plan, letters, &message, is_met, is_mail);
+            }
+            Err(_) => return Err(AllocError),
+        }
+    }
+    Ok(is_right)
+}
+
+#[test]
+fn lists_by_a_seed_looked_up(rt: HostRuntime) -> Result<(), Fail> {
+    for seed in 0..40 {
+        assert!(&rt; is_looked_up(rt.alloc(), seed)?);
+    }
     Ok(())
 }
