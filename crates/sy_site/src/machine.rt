@@ -50,8 +50,9 @@ pub fn relays_keep_their_places()
         → Runs site events state → AreShaped site state }
 {}
 
-/// Confinement: where a site is sound for a class, its copies that came in at entries are held within the class's reach
-/// alone, what is due of each the class may execute there, and none is lost.
+/// Confinement: where a site is sound for a class, its copies that came in at entries are held at inputs that the class
+/// reaches alone, each in a hand of its input, in the input's queue or by a worker of that queue; what is due of each the
+/// class may execute there; one on a link is on a link to an input that the class reaches; and none is lost.
 pub fn copies_are_confined()
     ensures { (site : Site) → (class : Class) → IsSoundFor site class → (events : List SiteEvent)
         → (state : SiteState) → Runs site events state → AreConfined site class state }

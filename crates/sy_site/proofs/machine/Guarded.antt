@@ -1,5 +1,5 @@
 -- A copy of a class that came in at an entry: where it is, that it is never lost, and that the ranks fall along its trail.
-use Rattle.std.proofs.Common.{◌≡◌, ℕ, ◌+◌, ◌*◌, ◌<◌, ◌≤◌, true, List, [], ◌∷◌, ◌++◌, length, sym, subst, ap, arith, Some, ◌∙◌, get_or}
+use Rattle.std.proofs.Common.{◌≡◌, ℕ, ◌+◌, ◌*◌, ◌<◌, ◌≤◌, true, List, [], ◌∷◌, ◌++◌, length, refl, sym, subst, ap, arith, Option, Some, None, ◌∙◌, get_or}
 use Rattle.std.specs.Prelude.{slice_get}
 use Rattle.std.specs.Int.{bit_at}
 use Rattle.std.specs.List.{Contains}
@@ -22,8 +22,8 @@ use Rattle.sy_site.specs.Sites.{Site, SiteInput, SiteAction, plan_at, target}
 use Rattle.sy_site.specs.machine.States.{Copy, SiteState, opening, taken_by}
 use Rattle.sy_site.specs.machine.Steps.{Runs, SiteEvent}
 use Rattle.sy_site.specs.machine.Reach.{Forwards, MayAt, Reach, entry, occurrence_of, onward}
-use Rattle.sy_site.specs.machine.Findings.{HoldsInPlan, Kind, queue_of}
-use Rattle.sy_site.specs.machine.Confinement.{AreConfined, Falls, IsFollowed, IsWithinReach, RanksFall}
+use Rattle.sy_site.specs.machine.Findings.{HoldsInPlan, IsForward, Kind, queue_of}
+use Rattle.sy_site.specs.machine.Confinement.{AreConfined, Falls, IsFollowed, IsLinkWithin, IsPlaceOf, IsWithinReach, RanksFall}
 use Rattle.sy_site.specs.machine.Soundness.{IsSoundFor}
 use Rattle.sy_board.proofs.relay.Keeps.{Each, Kept, Owes, each_append, each_weaker}
 use Rattle.sy_board.proofs.relay.Guards as guards
@@ -54,12 +54,6 @@ pub record IsOurs (site : Site) (class : Class) (x : Copy) : Type 0 where
   pub entered : Contains site.entries x.origin
 
 module _ (site : Site) (class : Class) (sound : IsSoundFor site class) where
-  -- the entry's input is the one of its hand, or fills its queue
-  abbrev Belongs : ℕ → Cell → ℕ → Type 0
-  Belongs r (Cell.Hand k) j = (h : ℕ) × (h < 64) × (k ≡ 64 * j + h)
-  Belongs r (Cell.Queue q) j = queue_of_input (plan_at site r) j ≡ q
-  Belongs r (Cell.Worker w) j = Unit {0}
-
   record Tracked (r : ℕ) (x : Copy) : Type 0 where
     pub above : Each (λ t. sound.rank r ≤ sound.rank t) x.trail
     pub once : Falls sound.rank x.trail
@@ -72,12 +66,13 @@ module _ (site : Site) (class : Class) (sound : IsSoundFor site class) where
     pub reach : Reach site class (record { relay = r; input = e.input })
     pub at_list : e.list ≡ (input_at (plan_at site r) e.input).list
     pub due : (k : ℕ) → bit_at e.due k ≡ 1 → Due (body_at (plan_at site r) e.list) e.message k
-    pub belongs : Belongs r p e.input
+    pub belongs : IsPlaceOf (plan_at site r) p e.input
     pub tracked : Tracked r x
 
   record GoodCopy (d : SiteAction) (x : Copy) : Type 0 where
     pub once : Falls sound.rank x.trail
     pub next : (q : SiteInput) → target site d ≡ Some q → Reach site class q × Each (λ t. sound.rank q.relay < sound.rank t) x.trail
+    pub targeted : IsForward (slice_get (plan_at site d.relay).actions d.action) → target site d ≡ None → ⊥
 
   abbrev P : ℕ → Copy → Cell → Entry → Type 0
   P r x p e = IsOurs site class x → GoodEntry r x p e
@@ -156,7 +151,7 @@ module _ (site : Site) (class : Class) (sound : IsSoundFor site class) where
         };
     grabs = λ w e p of.
         let g = p of in
-        record { message = g.message; reach = g.reach; at_list = g.at_list; due = g.due; tracked = g.tracked; belongs = tt };
+        record { message = g.message; reach = g.reach; at_list = g.at_list; due = g.due; tracked = g.tracked; belongs = g.belongs };
     advances = λ w e number left p l of.
         let g = p of in
         record {
@@ -164,7 +159,7 @@ module _ (site : Site) (class : Class) (sound : IsSoundFor site class) where
           reach = g.reach;
           at_list = g.at_list;
           tracked = g.tracked;
-          belongs = tt;
+          belongs = g.belongs;
           due = λ k b. g.due k
               (left_in e.due number left k l b);
         };
@@ -180,6 +175,8 @@ module _ (site : Site) (class : Class) (sound : IsSoundFor site class) where
                 each_weaker _ _ (λ z y.
                     (let f = sound.ranks.falls (input_on r e.input) q o.number g.reach may goes in omega (arith, f, y))) x.trail g.tracked.above,
               );
+          targeted = λ forward none. sound.clean (input_on r e.input) g.reach Kind.NoTarget
+              (a, record { number = o.number; may = may; runs = is }, forward, none);
         };
     posts = λ w e l node p o m of. absurd (no_post r x (Cell.Worker w) e l of (p of) o);
     lost_take = λ old i h e g p there t of.
@@ -267,6 +264,12 @@ module _ (site : Site) (class : Class) (sound : IsSoundFor site class) where
       (opening site) es new (λ r. marks_start (plan_at site r))
       (start_keeps site (λ t. P) (λ t. D) (λ t. L) (λ r. InMarks (plan_at site r)) (λ t. good_moves) good_grows) run
 
+  -- a forward without a target is a finding, so a link with such a copy has one
+  link_within : (d : SiteAction) (x : Copy) → GoodCopy d x → IsForward (slice_get (plan_at site d.relay).actions d.action)
+      → (to : Option SiteInput) → target site d ≡ to → IsLinkWithin site class d
+  link_within d x g forward (Some q) leads = record { to = q; leads = leads; reached = (g.next q leads).0 }
+  link_within d x g forward None none = absurd (g.targeted forward none)
+
   pub confined_run : (es : List SiteEvent) (new : SiteState) → Runs site es new → AreConfined site class new
   confined_run es new run =
       let all = spread_run es new run in
@@ -274,6 +277,11 @@ module _ (site : Site) (class : Class) (sound : IsSoundFor site class) where
         held = λ r k e i x f.
             let of = ours new e.tag x f in
             within_reach r x k e of (of_that new.copies (λ y. P r y k e) e.tag x (each_in _ _ (all.held r k) e i) f.is of);
+        placed = λ r k e i x f.
+            (of_that new.copies (λ y. P r y k e) e.tag x (each_in _ _ (all.held r k) e i) f.is (ours new e.tag x f)).belongs;
+        on_links = λ d t i x f forward.
+            let g = of_that new.copies (D d) t x (each_in _ (new.passed d) (all.passed d) t i) f.is (ours new t x f) in
+            link_within d x g forward (target site d) refl;
         not_lost = λ l k x f. of_that new.copies (L l.relay l.cause) l.copy x (each_in _ new.losses all.losses l k) f.is (ours new l.copy x f);
       }
 

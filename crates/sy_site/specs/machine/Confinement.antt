@@ -1,12 +1,15 @@
 -- Where the copies of a class are that came in at entries (this profile's own).
-use Rattle.std.specs.Prelude.{◌≡◌, ℕ, ◌<◌, List, Some, AllPairs, slice_get}
+use Rattle.std.specs.Prelude.{◌≡◌, ℕ, ◌+◌, ◌*◌, ◌<◌, List, Some, AllPairs, slice_get}
 use Rattle.std.specs.Int.{bit_at}
 use Rattle.std.specs.List.{Contains}
 use Rattle.sy_wire.specs.declared.class.Class.{Class}
 use Rattle.sy_chain.specs.Entries.{Entry}
+use Rattle.sy_rules.specs.PlanValue.{Plan}
 use Rattle.sy_board.specs.relay.Cells.{Cell, at}
-use Rattle.sy_site.specs.Sites.{Site, SiteAction}
+use Rattle.sy_board.specs.relay.Plans.{queue_of_input, queue_of_worker}
+use Rattle.sy_site.specs.Sites.{Site, SiteAction, SiteInput, plan_at, target}
 use Rattle.sy_site.specs.machine.States.{Copy, Loss, SiteState}
+use Rattle.sy_site.specs.machine.Findings.{IsForward}
 use Rattle.sy_site.specs.machine.Reach.{MayAt, Reach, list_of}
 
 -- a copy, known by its tag, of a message of the class that came from outside at an entry
@@ -21,14 +24,31 @@ pub record IsWithinReach (site : Site) (class : Class) (relay : ℕ) (entry : En
   pub follows : entry.list ≡ list_of site (record { relay = relay; input = entry.input })
   pub due : (number : ℕ) → bit_at entry.due number ≡ 1 → MayAt site class (record { relay = relay; input = entry.input }) number
 
+-- The place is one for entries of the input: a hand of it, its queue, or a worker that takes from its queue.
+abbrev pub IsPlaceOf : Plan → Cell → ℕ → Type 0
+IsPlaceOf plan (Cell.Hand place) input = (number : ℕ) × (number < 64) × (place ≡ 64 * input + number)
+IsPlaceOf plan (Cell.Queue queue) input = queue_of_input plan input ≡ queue
+IsPlaceOf plan (Cell.Worker worker) input = queue_of_input plan input ≡ queue_of_worker plan worker
+
+-- the link leads to an input, and the class reaches it
+pub record IsLinkWithin (site : Site) (class : Class) (link : SiteAction) : Type 0 where
+  pub to : SiteInput
+  pub leads : target site link ≡ Some to
+  pub reached : Reach site class to
+
 -- Along a trail the ranks fall.
 abbrev pub Falls : (ℕ → ℕ) → List ℕ → Type 0
 Falls rank trail = AllPairs (λ earlier later. rank later < rank earlier) trail
 
--- The copies of the class that came in at entries are confined: they are held within its reach alone, and none is lost.
+-- The copies of the class that came in at entries are confined: they are held within its reach alone, each at a place of its input, are on no link but
+-- of a forward that leads to a reached input, and none is lost.
 pub record AreConfined (site : Site) (class : Class) (state : SiteState) : Type 0 where
   pub held : (relay : ℕ) (cell : Cell) (entry : Entry) → Contains (at (state.relays relay) cell) entry
       → (copy : Copy) → IsFollowed site state class entry.tag copy → IsWithinReach site class relay entry
+  pub placed : (relay : ℕ) (cell : Cell) (entry : Entry) → Contains (at (state.relays relay) cell) entry
+      → (copy : Copy) → IsFollowed site state class entry.tag copy → IsPlaceOf (plan_at site relay) cell entry.input
+  pub on_links : (link : SiteAction) (tag : ℕ) → Contains (state.passed link) tag → (copy : Copy) → IsFollowed site state class tag copy
+      → IsForward (slice_get (plan_at site link.relay).actions link.action) → IsLinkWithin site class link
   pub not_lost : (loss : Loss) → Contains state.losses loss → (copy : Copy) → IsFollowed site state class loss.copy copy → ⊥
 
 -- The ranks fall along the trail of each of these copies, at a place, on a link or in a file.
