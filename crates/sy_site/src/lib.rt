@@ -1,6 +1,7 @@
 //! A set of relays: the site that one site file and the relays' scripts describe, and its machine of nine steps.
 #![tactic(auto)]
 
+pub mod counterexamples;
 pub mod fault;
 pub mod laws;
 pub mod machine;

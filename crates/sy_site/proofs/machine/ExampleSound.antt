@@ -10,7 +10,7 @@ use Rattle.sy_rules.specs.parameters.Objects.{AreInRange, HasPort}
 use Rattle.sy_rules.specs.Whole.{IsLed, IsWhole, Leads, queue_at, queue_for}
 use Rattle.sy_rules.proofs.lemmas.plan.Different.{one_differs}
 use Rattle.sy_board.specs.relay.Plans.{retry_at}
-use Rattle.sy_site.specs.Sites.{SiteInput, is_protected, target}
+use Rattle.sy_site.specs.Sites.{SiteInput, archives, is_protected, target}
 use Rattle.sy_site.specs.machine.Examples.{audit, edge_input, edge_plan, example_queue, example_site, hub_input, hub_plan, up}
 use Rattle.sy_site.specs.machine.Findings.{HoldsAt, Kind, IsForward}
 use Rattle.sy_site.specs.machine.Lawful.{IsArchive, IsInput, IsLawful}
@@ -229,3 +229,6 @@ example_is_sound class is = sound_for class
 -- it protects auth.crit
 pub auth_is_protected : (class : Class) → class.facility ≡ 4 → class.severity ≡ 2 → is_protected example_site class ≡ true
 auth_is_protected class f s = rw (f, s) refl
+
+pub audit_is_named : (class : Class) → class.facility ≡ 4 → class.severity ≡ 2 → Contains (archives example_site class) audit
+audit_is_named class f s = rw (f, s) (0, omega arith, refl)

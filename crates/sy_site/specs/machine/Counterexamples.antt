@@ -1,0 +1,97 @@
+-- Small sites, which aren't sound, with runs that end in states that aren't safe: one for each part of safe, by which that part alone is broken
+-- (this profile's own).
+use Rattle.std.specs.Prelude.{ℕ, true, List, [], ◌∷◌, Some, None, codes}
+use Rattle.sy_wire.specs.declared.class.Class.{Class}
+use Rattle.sy_rules.specs.declared.parameters.objects.Destination.TheVariants as destination
+use Rattle.sy_rules.specs.declared.parameters.settings.FlowControl.TheVariants as control
+use Rattle.sy_rules.specs.lists.Body.{Body}
+use Rattle.sy_rules.specs.PlanValue.{Plan}
+use Rattle.sy_board.specs.relay.Steps.{Event}
+use Rattle.sy_site.specs.Sites.{Relay, Site, SiteAction, SiteInput}
+use Rattle.sy_site.specs.machine.States.{SiteState}
+use Rattle.sy_site.specs.machine.Steps.{Runs, SiteEvent}
+use Rattle.sy_site.specs.machine.Safety.{AreSafe}
+use Rattle.sy_site.specs.machine.Examples.{edge_input, edge_plan, example_message, example_queue, example_site, hub_input, hub_plan}
+
+-- a run of these events ends in a state that isn't safe
+abbrev pub EndsUnsafe : Site → List SiteEvent → Type 0
+EndsUnsafe site events = (state : SiteState) × Runs site events state × (AreSafe site state → ⊥)
+
+abbrev pub relay_of : List ℕ → Plan → Relay
+relay_of name plan = record { name = name; address = 127 ∷ 0 ∷ 0 ∷ 1 ∷ []; plan = plan }
+
+-- ---- a copy is lost, and its message heads for its archive all the same
+
+-- edge may not try its forward again
+abbrev pub hasty_plan : Plan
+hasty_plan = record edge_plan {
+  actions = record { name = codes "up"; destination = destination.Forward (codes "hub") 6515; retry = Some 0; resume_interval = 30 } ∷ [];
+}
+
+abbrev pub hasty_site : Site
+hasty_site = record example_site { relays = relay_of (codes "edge") hasty_plan ∷ relay_of (codes "hub") hub_plan ∷ [] }
+
+-- The link takes the message and fails, and edge gives it up.
+abbrev pub hasty_events : Class → List SiteEvent
+hasty_events class =
+    SiteEvent.TakeNew edge_input 0 (example_message class)
+    ∷ SiteEvent.Inside 0 (Event.Enter 0 0)
+    ∷ SiteEvent.Inside 0 (Event.Grab 1)
+    ∷ SiteEvent.Inside 0 (Event.GiveUp 1 true)
+    ∷ []
+
+-- ---- a message is neither written nor held where it heads for its archive, and not lost either
+
+-- nothing is executed of what comes to edge
+abbrev pub silent_plan : Plan
+silent_plan = record edge_plan { lists = record { body = Body.End; queue = None } ∷ record { body = Body.End; queue = Some 1 } ∷ [] }
+
+abbrev pub silent_site : Site
+silent_site = record example_site { relays = relay_of (codes "edge") silent_plan ∷ relay_of (codes "hub") hub_plan ∷ [] }
+
+abbrev pub silent_events : Class → List SiteEvent
+silent_events class = SiteEvent.TakeNew edge_input 0 (example_message class) ∷ []
+
+-- ---- a message comes to a relay twice, on its way to its archive
+
+-- edge forwards what comes to its port 6514 to itself, and from there to hub
+abbrev pub twice_plan : Plan
+twice_plan = record {
+  inputs = record { port = 6514; flow = control.Full; list = 0; queue = 0 } ∷ record { port = 6515; flow = control.Full; list = 1; queue = 0 } ∷ [];
+  queues = example_queue 50000 48500 ∷ [];
+  workers = 0 ∷ [];
+  actions = record { name = codes "again"; destination = destination.Forward (codes "edge") 6515; retry = None; resume_interval = 30 }
+      ∷ record { name = codes "up"; destination = destination.Forward (codes "hub") 6515; retry = None; resume_interval = 30 } ∷ [];
+  lists = record { body = Body.Run 0 Body.End; queue = None } ∷ record { body = Body.Run 1 Body.End; queue = None } ∷ [];
+  names = codes "RSYSLOG_DefaultRuleset" ∷ codes "on" ∷ [];
+}
+
+abbrev pub twice_site : Site
+twice_site = record example_site { relays = relay_of (codes "edge") twice_plan ∷ relay_of (codes "hub") hub_plan ∷ [] }
+
+-- the input of port 6515, the forward to it and the one to hub
+abbrev pub again_input : SiteInput
+again_input = record { relay = 0; input = 1 }
+
+abbrev pub again : SiteAction
+again = record { relay = 0; action = 0 }
+
+abbrev pub to_hub : SiteAction
+to_hub = record { relay = 0; action = 1 }
+
+-- Behind the fifth of them edge holds it the second time; behind the eighth it is on the link to hub, and at the end in the archive.
+abbrev pub twice_events : Class → List SiteEvent
+twice_events class =
+    SiteEvent.TakeNew edge_input 0 (example_message class)
+    ∷ SiteEvent.Inside 0 (Event.Enter 0 0)
+    ∷ SiteEvent.Inside 0 (Event.Grab 0)
+    ∷ SiteEvent.Inside 0 (Event.Done 0)
+    ∷ SiteEvent.TakeFrom again_input 0 again 0
+    ∷ SiteEvent.Inside 0 (Event.Enter 1 0)
+    ∷ SiteEvent.Inside 0 (Event.Grab 0)
+    ∷ SiteEvent.Inside 0 (Event.Done 0)
+    ∷ SiteEvent.TakeFrom hub_input 0 to_hub 0
+    ∷ SiteEvent.Inside 1 (Event.Enter 0 0)
+    ∷ SiteEvent.Inside 1 (Event.Grab 0)
+    ∷ SiteEvent.Inside 1 (Event.Done 0)
+    ∷ []

@@ -1,0 +1,28 @@
+//! Runs of sites that aren't sound, at whose end a message of a protected class isn't safe: one for each part of safe,
+//! by which that part alone is broken. Each function does nothing; its contract is the law.
+ghost use Rattle.std.specs.Prelude.{◌≡◌, take};
+ghost use Rattle.sy_wire.specs.declared.class.Class.{Class};
+ghost use Rattle.sy_site.specs.machine.Counterexamples.{EndsUnsafe, hasty_events, hasty_site, silent_events, silent_site, twice_events, twice_site};
+
+/// A lost copy isn't safe, though its message heads for its archive.
+pub fn a_lost_copy_isnt_safe()
+    ensures { (class : Class) → class.facility ≡ 4 → class.severity ≡ 2
+        → EndsUnsafe hasty_site (hasty_events class) }
+{}
+
+/// A message that is neither written nor held where it heads for its archive isn't safe, though no copy of it is lost.
+pub fn an_idle_message_isnt_safe()
+    ensures { (class : Class) → class.facility ≡ 4 → class.severity ≡ 2
+        → EndsUnsafe silent_site (silent_events class) }
+{}
+
+/// A message that came to a relay twice isn't safe, though it heads for its archive or is written there: neither while
+/// it is held, nor on a link, nor in a file.
+pub fn a_message_that_came_twice_isnt_safe()
+    ensures held { (class : Class) → class.facility ≡ 4 → class.severity ≡ 2
+        → EndsUnsafe twice_site (take 5 (twice_events class)) }
+    ensures on_a_link { (class : Class) → class.facility ≡ 4 → class.severity ≡ 2
+        → EndsUnsafe twice_site (take 8 (twice_events class)) }
+    ensures in_a_file { (class : Class) → class.facility ≡ 4 → class.severity ≡ 2
+        → EndsUnsafe twice_site (twice_events class) }
+{}
