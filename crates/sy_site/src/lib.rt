@@ -5,6 +5,7 @@ pub mod counterexamples;
 pub mod fault;
 pub mod laws;
 pub mod machine;
+pub mod refusals;
 mod site;
 mod texts;
 

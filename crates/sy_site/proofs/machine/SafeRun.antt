@@ -35,7 +35,7 @@ each_from : {A : Type 0} (P : A → Type 0) (xs : List A) → ((x : A) → Conta
 each_from P [] f = tt
 each_from P (y ∷ ys) f = (f y (0, omega arith, refl), each_from P ys (λ x h. f x (ℕ.suc h.0, (let l = h.1 in omega (arith, l)), h.2)))
 
-steps_on : (site : Site) (s : SiteState) (es : List SiteEvent) (mid : SiteState) (e : SiteEvent) (new : SiteState) → SiteSteps site s es mid
+pub steps_on : (site : Site) (s : SiteState) (es : List SiteEvent) (mid : SiteState) (e : SiteEvent) (new : SiteState) → SiteSteps site s es mid
     → SiteStep site mid e new
     → SiteSteps site s (es ++ e ∷ []) new
 steps_on site s [] mid e new is st = (new, subst (λ z. SiteStep site z e new) is st, refl)
