@@ -1,8 +1,8 @@
-//! Runs of sites that aren't sound, at whose end a message of a protected class isn't safe: one for each part of safe,
-//! by which that part alone is broken. Each function does nothing; its contract is the law.
+//! Runs of sites that aren't sound, at whose end a message of a protected class isn't safe, or a copy not confined: one
+//! for each part of these, by which that part alone is broken. Each function does nothing; its contract is the law.
 ghost use Rattle.std.specs.Prelude.{◌≡◌, take};
 ghost use Rattle.sy_wire.specs.declared.class.Class.{Class};
-ghost use Rattle.sy_site.specs.machine.Counterexamples.{EndsUnsafe, hasty_events, hasty_site, silent_events, silent_site, twice_events, twice_site};
+ghost use Rattle.sy_site.specs.machine.Counterexamples.{EndsUnconfined, EndsUnsafe, aimless_events, aimless_site, hasty_events, hasty_site, moving_events, moving_site, posting_events, posting_site, silent_events, silent_site, twice_events, twice_site};
 
 /// A lost copy isn't safe, though its message heads for its archive.
 pub fn a_lost_copy_isnt_safe()
@@ -25,4 +25,21 @@ pub fn a_message_that_came_twice_isnt_safe()
         → EndsUnsafe twice_site (take 8 (twice_events class)) }
     ensures in_a_file { (class : Class) → class.facility ≡ 4 → class.severity ≡ 2
         → EndsUnsafe twice_site (twice_events class) }
+{}
+
+/// A copy isn't confined on the link of a forward that leads nowhere, or to an input that its class doesn't reach.
+pub fn copies_on_such_links_arent_confined()
+    ensures to_nowhere { (class : Class) → EndsUnconfined aimless_site class (aimless_events class) }
+    ensures out_of_reach { (class : Class) → EndsUnconfined posting_site class (posting_events class) }
+{}
+
+/// A copy isn't confined in a queue that isn't its input's, nor with a worker of that queue.
+pub fn copies_at_such_places_arent_confined()
+    ensures in_a_queue { (class : Class) → EndsUnconfined moving_site class (take 4 (moving_events class)) }
+    ensures with_a_worker { (class : Class) → EndsUnconfined moving_site class (moving_events class) }
+{}
+
+/// A lost copy isn't confined.
+pub fn a_lost_copy_isnt_confined()
+    ensures { (class : Class) → EndsUnconfined hasty_site class (hasty_events class) }
 {}

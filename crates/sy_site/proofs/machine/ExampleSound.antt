@@ -139,7 +139,7 @@ forwards_hub number to f =
     subst (λ a. target example_site (record { relay = 1; action = a }) ≡ Some to) (only_run number f.action f.runs) f.leads in
     cc
 
-the_entry : (p : SiteInput) → Contains (edge_input ∷ []) p → p ≡ edge_input
+pub the_entry : (p : SiteInput) → Contains (edge_input ∷ []) p → p ≡ edge_input
 the_entry p (ℕ.zero, l, is) = sym is
 the_entry p (ℕ.suc k, l, is) = absurd (omega (arith, l))
 

@@ -12,22 +12,22 @@ use Rattle.sy_site.specs.machine.Counterexamples.{hasty_events, hasty_plan, hast
 use Rattle.sy_site.proofs.machine.ExampleRun.{first_due, lowest}
 
 module _ (class : Class) where
-  abbrev node : Entry
+  abbrev pub node : Entry
   node = record { message = example_message class; list = 1; input = 0; due = 1; tag = 0 }
 
   abbrev r0 : RelayState
   r0 = cells.opening hasty_plan
 
-  abbrev r1 : RelayState
+  abbrev pub r1 : RelayState
   r1 = put r0 (hand 0 0) (node ∷ [])
 
-  abbrev r2 : RelayState
+  abbrev pub r2 : RelayState
   r2 = put (put r1 (hand 0 0) []) (Cell.Queue 1) (node ∷ [])
 
-  abbrev r3 : RelayState
+  abbrev pub r3 : RelayState
   r3 = put (put r2 (Cell.Queue 1) []) (Cell.Worker 1) (node ∷ [])
 
-  abbrev r4 : RelayState
+  abbrev pub r4 : RelayState
   r4 = put_failures (put r3 (Cell.Worker 1) []) 1 0
 
   takes1 : Takes hasty_plan r0 0 0 node false r1

@@ -1,6 +1,6 @@
--- Small sites, which aren't sound, with runs that end in states that aren't safe: one for each part of safe, by which that part alone is broken
--- (this profile's own).
-use Rattle.std.specs.Prelude.{ℕ, true, List, [], ◌∷◌, Some, None, codes}
+-- Small sites, which aren't sound, with runs that end in states that aren't safe, or not confined: one for each part of these, by which that part
+-- alone is broken (this profile's own).
+use Rattle.std.specs.Prelude.{ℕ, true, List, [], ◌∷◌, Some, None, codes, take}
 use Rattle.sy_wire.specs.declared.class.Class.{Class}
 use Rattle.sy_rules.specs.declared.parameters.objects.Destination.TheVariants as destination
 use Rattle.sy_rules.specs.declared.parameters.settings.FlowControl.TheVariants as control
@@ -10,12 +10,17 @@ use Rattle.sy_board.specs.relay.Steps.{Event}
 use Rattle.sy_site.specs.Sites.{Relay, Site, SiteAction, SiteInput}
 use Rattle.sy_site.specs.machine.States.{SiteState}
 use Rattle.sy_site.specs.machine.Steps.{Runs, SiteEvent}
+use Rattle.sy_site.specs.machine.Confinement.{AreConfined}
 use Rattle.sy_site.specs.machine.Safety.{AreSafe}
-use Rattle.sy_site.specs.machine.Examples.{edge_input, edge_plan, example_message, example_queue, example_site, hub_input, hub_plan}
+use Rattle.sy_site.specs.machine.Examples.{edge_input, edge_plan, example_message, example_queue, example_site, hub_input, hub_plan, narrow_plan}
 
 -- a run of these events ends in a state that isn't safe
 abbrev pub EndsUnsafe : Site → List SiteEvent → Type 0
 EndsUnsafe site events = (state : SiteState) × Runs site events state × (AreSafe site state → ⊥)
+
+-- one that isn't confined, for a class
+abbrev pub EndsUnconfined : Site → Class → List SiteEvent → Type 0
+EndsUnconfined site class events = (state : SiteState) × Runs site events state × (AreConfined site class state → ⊥)
 
 abbrev pub relay_of : List ℕ → Plan → Relay
 relay_of name plan = record { name = name; address = 127 ∷ 0 ∷ 0 ∷ 1 ∷ []; plan = plan }
@@ -95,3 +100,57 @@ twice_events class =
     ∷ SiteEvent.Inside 1 (Event.Grab 0)
     ∷ SiteEvent.Inside 1 (Event.Done 0)
     ∷ []
+
+-- ---- copies that aren't confined
+
+-- edge forwards to a relay that isn't there
+abbrev pub aimless_plan : Plan
+aimless_plan = record edge_plan {
+  actions = record { name = codes "up"; destination = destination.Forward (codes "nobody") 6515; retry = None; resume_interval = 30 } ∷ [];
+}
+
+abbrev pub aimless_site : Site
+aimless_site = record example_site { relays = relay_of (codes "edge") aimless_plan ∷ relay_of (codes "hub") hub_plan ∷ [] }
+
+-- The link takes the message.
+abbrev pub aimless_events : Class → List SiteEvent
+aimless_events class =
+    SiteEvent.TakeNew edge_input 0 (example_message class)
+    ∷ SiteEvent.Inside 0 (Event.Enter 0 0)
+    ∷ SiteEvent.Inside 0 (Event.Grab 1)
+    ∷ SiteEvent.Inside 0 (Event.Done 1)
+    ∷ []
+
+-- edge posts what comes in to another list, which forwards it to hub: a way that reaches no input
+abbrev pub posting_plan : Plan
+posting_plan = record narrow_plan {
+  actions = record { name = codes "up"; destination = destination.Forward (codes "hub") 6515; retry = None; resume_interval = 30 } ∷ [];
+}
+
+abbrev pub posting_site : Site
+posting_site = record example_site { relays = relay_of (codes "edge") posting_plan ∷ relay_of (codes "hub") hub_plan ∷ [] }
+
+-- The link to hub takes the message.
+abbrev pub posting_events : Class → List SiteEvent
+posting_events class =
+    SiteEvent.TakeNew edge_input 0 (example_message class)
+    ∷ SiteEvent.Inside 0 (Event.Enter 0 0)
+    ∷ SiteEvent.Inside 0 (Event.Grab 0)
+    ∷ SiteEvent.Inside 0 (Event.Post 0)
+    ∷ SiteEvent.Inside 0 (Event.Grab 1)
+    ∷ SiteEvent.Inside 0 (Event.Done 1)
+    ∷ []
+
+-- edge posts what comes in to the list that it follows already, whose queue isn't the input's
+abbrev pub moving_plan : Plan
+moving_plan = record narrow_plan {
+  inputs = record { port = 6514; flow = control.Full; list = 1; queue = 0 } ∷ [];
+  lists = record { body = Body.End; queue = None } ∷ record { body = Body.Post 1 Body.End; queue = Some 1 } ∷ [];
+}
+
+abbrev pub moving_site : Site
+moving_site = record example_site { relays = relay_of (codes "edge") moving_plan ∷ relay_of (codes "hub") hub_plan ∷ [] }
+
+-- Behind the fourth of them the list's queue has the message, at the end that queue's worker.
+abbrev pub moving_events : Class → List SiteEvent
+moving_events class = take 5 (posting_events class)

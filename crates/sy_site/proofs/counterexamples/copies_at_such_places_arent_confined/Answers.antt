@@ -1,0 +1,24 @@
+use Rattle.std.proofs.Common.{◌≡◌, refl, arith}
+use Rattle.sy_board.specs.relay.Cells.{Cell}
+use Rattle.sy_site.proofs.machine.MovingRun.{copy, node, queue_run, s4, s5, worker_run}
+use Rattle.sy_site.proofs.counterexamples.copies_at_such_places_arent_confined.Goals as goal
+
+pub returns-clause-in_a_queue : goal.returns-clause-in_a_queue
+returns-clause-in_a_queue c class = (
+  s4 class,
+  queue_run class,
+  λ confined.
+      (let is : 0 ≡ 1 = confined.placed 0 (Cell.Queue 1) (node class 1) (0, omega arith, refl) (copy class)
+      (record { is = refl; class_is = refl; entered = (0, omega arith, refl) }) in
+      omega (arith, is)),
+)
+
+pub returns-clause-with_a_worker : goal.returns-clause-with_a_worker
+returns-clause-with_a_worker c class = (
+  s5 class,
+  worker_run class,
+  λ confined.
+      (let is : 0 ≡ 1 = confined.placed 0 (Cell.Worker 1) (node class 1) (0, omega arith, refl) (copy class)
+      (record { is = refl; class_is = refl; entered = (0, omega arith, refl) }) in
+      omega (arith, is)),
+)
