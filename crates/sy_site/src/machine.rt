@@ -1,11 +1,11 @@
 //! The machine of a whole site: laws of its runs. Steps and runs are definitions (`specs/machine`). Each function
 //! does nothing; its contract is the law.
-ghost use Rattle.std.specs.Prelude.{◌≡◌, ℕ, Bool, List, true};
+ghost use Rattle.std.specs.Prelude.{◌≡◌, ℕ, Bool, List, [], ◌∷◌, true};
 ghost use Rattle.std.specs.List.{Contains};
 ghost use Rattle.sy_board.specs.relay.Guards.{MayGuard};
 ghost use Rattle.sy_board.specs.relay.Totals.{Pairs};
 ghost use Rattle.sy_wire.specs.declared.class.Class.{Class};
-ghost use Rattle.sy_site.specs.Sites.{Site, SiteInput, is_protected, plan_at};
+ghost use Rattle.sy_site.specs.Sites.{Site, SiteAction, SiteInput, is_protected, plan_at};
 ghost use Rattle.sy_site.specs.machine.States.{SiteState};
 ghost use Rattle.sy_site.specs.machine.Steps.{Runs, SiteEvent};
 ghost use Rattle.sy_site.specs.machine.Lengths.{IsWithinMarks, IsWithinSizes};
@@ -100,6 +100,17 @@ pub fn reached_inputs()
 pub fn sound_sites_have_no_finding()
     ensures { (site : Site) → IsSound site → (class : Class) → (way : List WayRow) → (input : SiteInput)
         → (kind : Kind) → IsFinding site class way input kind → ⊥ }
+{}
+
+/// The way of a loop begins at an entry. An archive that an entry doesn't lead to is found at the entry itself, without
+/// a way.
+pub fn findings_begin_at_entries()
+    ensures loops { (site : Site) → (class : Class) → (way : List WayRow) → (input : SiteInput)
+        → IsFinding site class way input Kind.Loop
+        → (first : WayRow) × (later : List WayRow) × (way ≡ first ∷ later) × Contains site.entries first.input }
+    ensures unmet { (site : Site) → (class : Class) → (way : List WayRow) → (input : SiteInput)
+        → (archive : SiteAction) → IsFinding site class way input (Kind.Unmet archive)
+        → (way ≡ []) × Contains site.entries input }
 {}
 
 /// The plan of each relay of a sound site meets the condition of a guard of pairs that are guarded there.
