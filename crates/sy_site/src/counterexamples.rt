@@ -2,7 +2,7 @@
 //! for each part of these, by which that part alone is broken. Each function does nothing; its contract is the law.
 ghost use Rattle.std.specs.Prelude.{◌≡◌, take};
 ghost use Rattle.sy_wire.specs.declared.class.Class.{Class};
-ghost use Rattle.sy_site.specs.machine.Counterexamples.{EndsUnconfined, EndsUnsafe, aimless_events, aimless_site, hasty_events, hasty_site, moving_events, moving_site, posting_events, posting_site, silent_events, silent_site, twice_events, twice_site};
+ghost use Rattle.sy_site.specs.machine.Counterexamples.{EndsUnconfined, EndsUnsafe, aimless_events, aimless_site, changing_events, changing_site, hasty_events, hasty_site, moving_events, moving_site, posting_events, posting_site, silent_events, silent_site, twice_events, twice_site};
 
 /// A lost copy isn't safe, though its message heads for its archive.
 pub fn a_lost_copy_isnt_safe()
@@ -30,7 +30,13 @@ pub fn a_message_that_came_twice_isnt_safe()
 /// A copy isn't confined on the link of a forward that leads nowhere, or to an input that its class doesn't reach.
 pub fn copies_on_such_links_arent_confined()
     ensures to_nowhere { (class : Class) → EndsUnconfined aimless_site class (aimless_events class) }
+    ensures out_of_reach { (class : Class) → EndsUnconfined posting_site class (take 6 (posting_events class)) }
+{}
+
+/// A copy isn't confined at an input that its class doesn't reach, nor where it follows another list than its input's.
+pub fn copies_at_such_inputs_arent_confined()
     ensures out_of_reach { (class : Class) → EndsUnconfined posting_site class (posting_events class) }
+    ensures of_another_list { (class : Class) → EndsUnconfined changing_site class (changing_events class) }
 {}
 
 /// A copy isn't confined in a queue that isn't its input's, nor with a worker of that queue.

@@ -1,5 +1,6 @@
--- A run at whose end a copy is on a link that leads out of its class's reach.
+-- A run in which a copy comes on a link that leads out of its class's reach, and then to the input there.
 use Rattle.std.proofs.Common.{◌≡◌, ℕ, false, [], ◌∷◌, refl, sym, subst, ap, arith, inr, Some, None}
+use Rattle.std.specs.Prelude.{take}
 use Rattle.sy_wire.specs.declared.class.Class.{Class}
 use Rattle.sy_chain.specs.Entries.{Entry}
 use Rattle.sy_rules.specs.declared.lists.occurrence.Occurrence.TheVariants as occurrence
@@ -7,10 +8,10 @@ use Rattle.sy_board.specs.relay.Cells as cells
 use Rattle.sy_board.specs.relay.Cells.{Cell, RelayState, put, put_failures, hand}
 use Rattle.sy_board.specs.relay.Steps.{Enters, Event, Grabs, Job, Posts, Settles, Takes}
 use Rattle.sy_site.specs.Sites.{SiteInput}
-use Rattle.sy_site.specs.machine.States.{Copy, SiteState, opening, with_passed, with_relay}
+use Rattle.sy_site.specs.machine.States.{Copy, SiteState, opening, taken_by, with_passed, with_relay}
 use Rattle.sy_site.specs.machine.Steps.{Runs, SiteEvent, SiteStep}
 use Rattle.sy_site.specs.machine.Reach.{Forwards, Reach, entry, onward}
-use Rattle.sy_site.specs.machine.Examples.{edge_input, example_message, hub_input, up}
+use Rattle.sy_site.specs.machine.Examples.{edge_input, example_message, hub_input, hub_plan, up}
 use Rattle.sy_site.specs.machine.Counterexamples.{posting_events, posting_plan, posting_site}
 use Rattle.sy_site.proofs.machine.ExampleRun.{first_due, lowest}
 use Rattle.sy_site.proofs.machine.ExampleSound.{the_entry}
@@ -82,6 +83,27 @@ module _ (class : Class) where
     after = refl;
   }
 
+  -- at hub
+
+  abbrev pub arrived : Entry
+  arrived = record { message = example_message class; list = 0; input = 0; due = 1; tag = 1 }
+
+  abbrev h0 : RelayState
+  h0 = cells.opening hub_plan
+
+  abbrev h1 : RelayState
+  h1 = put h0 (hand 0 0) (arrived ∷ [])
+
+  takes7 : Takes hub_plan h0 0 0 arrived false h1
+  takes7 = record {
+    there =
+        (omega arith, omega arith);
+    made = record { input_is = refl; list = refl; due = first_due };
+    free = refl;
+    discarded = refl;
+    after = refl;
+  }
+
   abbrev s0 : SiteState
   s0 = opening posting_site
 
@@ -109,6 +131,13 @@ module _ (class : Class) where
   abbrev pub s6 : SiteState
   s6 = record s5 { relays = with_relay s5.relays 0 r6; passed = with_passed s5.passed up (0 ∷ []) }
 
+  abbrev pub s7 : SiteState
+  s7 = record s6 {
+    relays = with_relay s6.relays 1 h1;
+    copies = copy ∷ taken_by 1 copy ∷ [];
+    passed = with_passed s6.passed up [];
+  }
+
   step1 : SiteStep posting_site s0 (SiteEvent.TakeNew edge_input 0 (example_message class)) s1
   step1 = record { node = node 0; message = refl; tag = refl; step = record { state = r1; outs = []; step = (false, takes1, refl); after = refl } }
 
@@ -127,8 +156,24 @@ module _ (class : Class) where
   step6 : SiteStep posting_site s5 (SiteEvent.Inside 0 (Event.Done 1)) s6
   step6 = ((λ h. h), record { state = r6; outs = _; step = (0, node 1, settles6, refl); after = refl })
 
-  pub posting_run : Runs posting_site (posting_events class) s6
-  posting_run = (s1, step1, (s2, step2, (s3, step3, (s4, step4, (s5, step5, (s6, step6, refl))))))
+  step7 : SiteStep posting_site s6 (SiteEvent.TakeFrom hub_input 0 up 0) s7
+  step7 = record {
+    leads = refl;
+    before = [];
+    tag = 0;
+    behind = [];
+    on_link = refl;
+    stands = refl;
+    copy = copy;
+    is = refl;
+    takes = record { node = arrived; message = refl; tag = refl; step = record { state = h1; outs = []; step = (false, takes7, refl); after = refl } };
+  }
+
+  pub link_run : Runs posting_site (take 6 (posting_events class)) s6
+  link_run = (s1, step1, (s2, step2, (s3, step3, (s4, step4, (s5, step5, (s6, step6, refl))))))
+
+  pub posting_run : Runs posting_site (posting_events class) s7
+  posting_run = (s1, step1, (s2, step2, (s3, step3, (s4, step4, (s5, step5, (s6, step6, (s7, step7, refl)))))))
 
   -- a post reaches nothing
   no_forward : (number : ℕ) (to : SiteInput) → Forwards posting_site edge_input number to → ⊥
@@ -140,8 +185,8 @@ module _ (class : Class) where
   reached input (onward {from} number before may goes) =
       absurd (no_forward number input (subst (λ z. Forwards posting_site z number input) (reached from before) goes))
 
-  pub hub_isnt_reached : (to : SiteInput) → Some hub_input ≡ Some to → Reach posting_site class to → ⊥
-  hub_isnt_reached to leads reach =
-      let same : hub_input ≡ edge_input = subst (λ z. z ≡ edge_input) (sym (some_same leads)) (reached to reach) in
-      let relays = ap (λ (z : SiteInput). z.relay) same in
-      omega (arith, relays)
+  pub hub_isnt_reached : Reach posting_site class hub_input → ⊥
+  hub_isnt_reached reach = let relays = ap (λ (input : SiteInput). input.relay) (reached hub_input reach) in omega (arith, relays)
+
+  pub link_leads_away : (to : SiteInput) → Some hub_input ≡ Some to → Reach posting_site class to → ⊥
+  link_leads_away to leads reach = hub_isnt_reached (subst (Reach posting_site class) (sym (some_same leads)) reach)

@@ -12,7 +12,7 @@ use Rattle.sy_site.specs.machine.States.{SiteState}
 use Rattle.sy_site.specs.machine.Steps.{Runs, SiteEvent}
 use Rattle.sy_site.specs.machine.Confinement.{AreConfined}
 use Rattle.sy_site.specs.machine.Safety.{AreSafe}
-use Rattle.sy_site.specs.machine.Examples.{edge_input, edge_plan, example_message, example_queue, example_site, hub_input, hub_plan, narrow_plan}
+use Rattle.sy_site.specs.machine.Examples.{edge_input, edge_plan, example_message, example_queue, example_site, hub_input, hub_plan, narrow_plan, up}
 
 -- a run of these events ends in a state that isn't safe
 abbrev pub EndsUnsafe : Site → List SiteEvent → Type 0
@@ -130,7 +130,7 @@ posting_plan = record narrow_plan {
 abbrev pub posting_site : Site
 posting_site = record example_site { relays = relay_of (codes "edge") posting_plan ∷ relay_of (codes "hub") hub_plan ∷ [] }
 
--- The link to hub takes the message.
+-- Behind the sixth of them the link to hub has the message, at the end a hand of hub.
 abbrev pub posting_events : Class → List SiteEvent
 posting_events class =
     SiteEvent.TakeNew edge_input 0 (example_message class)
@@ -139,6 +139,7 @@ posting_events class =
     ∷ SiteEvent.Inside 0 (Event.Post 0)
     ∷ SiteEvent.Inside 0 (Event.Grab 1)
     ∷ SiteEvent.Inside 0 (Event.Done 1)
+    ∷ SiteEvent.TakeFrom hub_input 0 up 0
     ∷ []
 
 -- edge posts what comes in to the list that it follows already, whose queue isn't the input's
@@ -154,3 +155,14 @@ moving_site = record example_site { relays = relay_of (codes "edge") moving_plan
 -- Behind the fourth of them the list's queue has the message, at the end that queue's worker.
 abbrev pub moving_events : Class → List SiteEvent
 moving_events class = take 5 (posting_events class)
+
+-- edge posts what comes in to another list, of the same queue
+abbrev pub changing_plan : Plan
+changing_plan = record narrow_plan { lists = record { body = Body.Post 1 Body.End; queue = None } ∷ record { body = Body.Run 0 Body.End; queue = None } ∷ [] }
+
+abbrev pub changing_site : Site
+changing_site = record example_site { relays = relay_of (codes "edge") changing_plan ∷ relay_of (codes "hub") hub_plan ∷ [] }
+
+-- The input's queue has the message again, and it follows the other list.
+abbrev pub changing_events : Class → List SiteEvent
+changing_events class = take 4 (posting_events class)

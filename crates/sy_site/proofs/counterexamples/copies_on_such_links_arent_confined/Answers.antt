@@ -19,9 +19,9 @@ returns-clause-to_nowhere c class = (
 pub returns-clause-out_of_reach : goal.returns-clause-out_of_reach
 returns-clause-out_of_reach c class = (
   posting.s6 class,
-  posting.posting_run class,
+  posting.link_run class,
   λ confined.
       (let link = confined.on_links up 0 (0, omega arith, refl) (posting.copy class)
       (record { is = refl; class_is = refl; entered = (0, omega arith, refl) }) tt in
-      posting.hub_isnt_reached class link.to link.leads link.reached),
+      posting.link_leads_away class link.to link.leads link.reached),
 )
