@@ -1,18 +1,21 @@
 //! The machine of a whole site: laws of its runs. Steps and runs are definitions (`specs/machine`). Each function
 //! does nothing; its contract is the law.
-ghost use Rattle.std.specs.Prelude.{◌≡◌, ℕ, Bool, List, [], ◌∷◌, true};
+ghost use Rattle.std.specs.Prelude.{◌≡◌, ◌<◌, ℕ, Bool, List, [], ◌∷◌, true};
+ghost use Rattle.std.specs.Int.{bit_at};
 ghost use Rattle.std.specs.List.{Contains};
+ghost use Rattle.sy_chain.specs.Entries.{Entry};
+ghost use Rattle.sy_board.specs.relay.Cells.{at, hand};
 ghost use Rattle.sy_board.specs.relay.Guards.{MayGuard};
 ghost use Rattle.sy_board.specs.relay.Totals.{Pairs};
 ghost use Rattle.sy_wire.specs.declared.class.Class.{Class};
 ghost use Rattle.sy_site.specs.Sites.{Site, SiteAction, SiteInput, is_protected, plan_at};
-ghost use Rattle.sy_site.specs.machine.States.{SiteState};
+ghost use Rattle.sy_site.specs.machine.States.{Copy, SiteState};
 ghost use Rattle.sy_site.specs.machine.Steps.{Runs, SiteEvent};
 ghost use Rattle.sy_site.specs.machine.Lengths.{IsWithinMarks, IsWithinSizes};
 ghost use Rattle.sy_site.specs.machine.Findings.{IsFinding, IsWay, Kind, WayRow};
 ghost use Rattle.sy_site.specs.machine.Reach.{Forwards, MayAt, Reach};
 ghost use Rattle.sy_site.specs.machine.Soundness.{AreRanks, IsGuarded, IsSound, IsSoundFor};
-ghost use Rattle.sy_site.specs.machine.Confinement.{AreConfined, RanksFall};
+ghost use Rattle.sy_site.specs.machine.Confinement.{AreConfined, IsFollowed, RanksFall};
 ghost use Rattle.sy_site.specs.machine.Lawful.{IsLawful};
 ghost use Rattle.sy_site.specs.machine.Safety.{AreSafe, AreWrittenOrHead, IsWritten};
 ghost use Rattle.sy_site.specs.machine.Examples.{audit, example_events, example_site, narrow_events, narrow_site};
@@ -56,6 +59,15 @@ pub fn relays_keep_their_places()
 pub fn copies_are_confined()
     ensures { (site : Site) → (class : Class) → IsSoundFor site class → (events : List SiteEvent)
         → (state : SiteState) → Runs site events state → AreConfined site class state }
+{}
+
+/// A confined copy in a hand of an input is at that input, and what is due of it its class may execute there.
+pub fn confined_hands()
+    ensures { (site : Site) → (class : Class) → (state : SiteState) → AreConfined site class state
+        → (relay input number : ℕ) → number < 64 → (entry : Entry)
+        → Contains (at (state.relays relay) (hand input number)) entry → (copy : Copy)
+        → IsFollowed site state class entry.tag copy → (entry.input ≡ input)
+        × ((due : ℕ) → bit_at entry.due due ≡ 1 → MayAt site class (record { relay = relay; input = input }) due) }
 {}
 
 /// Falling ranks: along the trail of each of these copies, at a place, on a link or in a file, any ranks of the class
