@@ -1,30 +1,32 @@
-//! Runs of sites that aren't sound, at whose end a message of a protected class isn't safe, or a copy not confined: one
-//! for each part of these, by which that part alone is broken. Each function does nothing; its contract is the law.
+//! Runs of sites that aren't sound, at whose end a message of a protected class isn't safe, or a copy not confined. Of
+//! safe there is one for each part, which alone is wanting at its end. Each function does nothing; its contract is the
+//! law.
 ghost use Rattle.std.specs.Prelude.{◌≡◌, take};
 ghost use Rattle.sy_wire.specs.declared.class.Class.{Class};
-ghost use Rattle.sy_site.specs.machine.Counterexamples.{EndsUnconfined, EndsUnsafe, aimless_events, aimless_site, changing_events, changing_site, hasty_events, hasty_site, moving_events, moving_site, posting_events, posting_site, silent_events, silent_site, twice_events, twice_site};
+ghost use Rattle.sy_site.specs.machine.Soundness.{IsSoundFor};
+ghost use Rattle.sy_site.specs.machine.Counterexamples.{EndsUnconfined, EndsUnsafe, Part, aimless_events, aimless_site, changing_events, changing_site, hasty_events, hasty_site, moving_events, moving_site, posting_events, posting_site, silent_events, silent_site, stray_site, twice_events, twice_site};
 
-/// A lost copy isn't safe, though its message heads for its archive.
+/// A message with a lost copy isn't safe, though it heads for its archive.
 pub fn a_lost_copy_isnt_safe()
     ensures { (class : Class) → class.facility ≡ 4 → class.severity ≡ 2
-        → EndsUnsafe hasty_site (hasty_events class) }
+        → EndsUnsafe hasty_site (hasty_events class) Part.NotLost }
 {}
 
 /// A message that is neither written nor held where it heads for its archive isn't safe, though no copy of it is lost.
 pub fn an_idle_message_isnt_safe()
     ensures { (class : Class) → class.facility ≡ 4 → class.severity ≡ 2
-        → EndsUnsafe silent_site (silent_events class) }
+        → EndsUnsafe silent_site (silent_events class) Part.Kept }
 {}
 
 /// A message that came to a relay twice isn't safe, though it heads for its archive or is written there: neither while
 /// it is held, nor on a link, nor in a file.
 pub fn a_message_that_came_twice_isnt_safe()
     ensures held { (class : Class) → class.facility ≡ 4 → class.severity ≡ 2
-        → EndsUnsafe twice_site (take 5 (twice_events class)) }
+        → EndsUnsafe twice_site (take 5 (twice_events class)) Part.HeldOnce }
     ensures on_a_link { (class : Class) → class.facility ≡ 4 → class.severity ≡ 2
-        → EndsUnsafe twice_site (take 8 (twice_events class)) }
+        → EndsUnsafe twice_site (take 8 (twice_events class)) Part.PassedOnce }
     ensures in_a_file { (class : Class) → class.facility ≡ 4 → class.severity ≡ 2
-        → EndsUnsafe twice_site (twice_events class) }
+        → EndsUnsafe twice_site (twice_events class) Part.PassedOnce }
 {}
 
 /// A copy isn't confined on the link of a forward that leads nowhere, or to an input that its class doesn't reach.
@@ -48,4 +50,9 @@ pub fn copies_at_such_places_arent_confined()
 /// A lost copy isn't confined.
 pub fn a_lost_copy_isnt_confined()
     ensures { (class : Class) → EndsUnconfined hasty_site class (hasty_events class) }
+{}
+
+/// A forward that leads nowhere is enough for a site not to be sound.
+pub fn a_forward_to_nowhere_isnt_sound()
+    ensures { (class : Class) → IsSoundFor stray_site class → ⊥ }
 {}

@@ -10,7 +10,7 @@ use Rattle.sy_rules.specs.parameters.Objects.{AreInRange, HasPort}
 use Rattle.sy_rules.specs.Whole.{IsLed, IsWhole, Leads, queue_at, queue_for}
 use Rattle.sy_rules.proofs.lemmas.plan.Different.{one_differs}
 use Rattle.sy_board.specs.relay.Plans.{retry_at}
-use Rattle.sy_site.specs.Sites.{SiteInput, archives, is_protected, target}
+use Rattle.sy_site.specs.Sites.{SiteAction, SiteInput, archives, is_protected, target}
 use Rattle.sy_site.specs.machine.Examples.{audit, edge_input, edge_plan, example_queue, example_site, hub_input, hub_plan, up}
 use Rattle.sy_site.specs.machine.Findings.{HoldsAt, Kind, IsForward}
 use Rattle.sy_site.specs.machine.Lawful.{IsArchive, IsInput, IsLawful}
@@ -139,6 +139,11 @@ forwards_hub number to f =
     subst (λ a. target example_site (record { relay = 1; action = a }) ≡ Some to) (only_run number f.action f.runs) f.leads in
     cc
 
+pub only_audit_is_named : (class : Class) (archive : SiteAction) → Contains (archives example_site class) archive → archive ≡ audit
+only_audit_is_named class archive named =
+    named_by (λ z. z ≡ audit) [] example_site.protections class
+    (All-from_recursion (λ p. p.archive ≡ audit) example_site.protections (refl, tt)) archive named
+
 pub the_entry : (p : SiteInput) → Contains (edge_input ∷ []) p → p ≡ edge_input
 the_entry p (ℕ.zero, l, is) = sym is
 the_entry p (ℕ.suc k, l, is) = absurd (omega (arith, l))
@@ -218,8 +223,7 @@ module _ (class : Class) where
     ranks = record { falls = λ from to number k may goes. falls from to (onward_from from to number (reached from k) goes) };
     leads = λ p is a named.
         subst (λ z. LeadsTo example_site class z p)
-        (sym (named_by (λ z. z ≡ audit) [] example_site.protections class
-        (All-from_recursion (λ p. p.archive ≡ audit) example_site.protections (refl, tt)) a named))
+        (sym (only_audit_is_named class a named))
         (subst (LeadsTo example_site class audit) (sym (the_entry p is)) edge_leads);
   }
 

@@ -1,15 +1,20 @@
 -- A run in which a forward is given up that its link took.
-use Rattle.std.proofs.Common.{true, false, [], ◌∷◌, refl, arith}
+use Rattle.std.proofs.Common.{true, false, [], ◌∷◌, refl, sym, subst, arith, inr}
+use Rattle.std.specs.Prelude.{◌≢◌}
 use Rattle.sy_wire.specs.declared.class.Class.{Class}
 use Rattle.sy_chain.specs.Entries.{Entry}
+use Rattle.sy_rules.proofs.lemmas.plan.Different.{one_differs}
 use Rattle.sy_board.specs.relay.Cells as cells
 use Rattle.sy_board.specs.relay.Cells.{Cell, RelayState, put, put_failures, hand}
 use Rattle.sy_board.specs.relay.Steps.{Cause, Enters, Event, GivesUp, Grabs, Takes}
-use Rattle.sy_site.specs.machine.States.{Copy, SiteState, opening, with_passed, with_relay}
+use Rattle.sy_site.specs.machine.States.{Arrival, Copy, SiteState, opening, with_passed, with_relay}
 use Rattle.sy_site.specs.machine.Steps.{Runs, SiteEvent, SiteStep}
-use Rattle.sy_site.specs.machine.Examples.{edge_input, example_message, up}
-use Rattle.sy_site.specs.machine.Counterexamples.{hasty_events, hasty_plan, hasty_site}
+use Rattle.sy_site.specs.machine.Safety.{IsWrittenOrHeads, writes}
+use Rattle.sy_site.specs.machine.Examples.{audit, edge_input, example_message, hub_input, up}
+use Rattle.sy_site.specs.machine.Counterexamples.{Holds, Part, hasty_events, hasty_plan, hasty_site}
 use Rattle.sy_site.proofs.machine.ExampleRun.{first_due, lowest}
+use Rattle.sy_site.proofs.machine.ExampleSound.{only_audit_is_named}
+use Rattle.sy_site.proofs.machine.Parts.{of_one, one_trail}
 
 module _ (class : Class) where
   abbrev pub node : Entry
@@ -96,3 +101,26 @@ module _ (class : Class) where
 
   pub hasty_run : Runs hasty_site (hasty_events class) s4
   hasty_run = (s1, step1, (s2, step2, (s3, step3, (s4, step4, refl))))
+
+  heads : IsWrittenOrHeads hasty_site s4 audit 0
+  heads = inr (inr (record {
+    link = up;
+    to = hub_input;
+    leads = refl;
+    tag = 0;
+    there = (0, omega arith, refl);
+    copy = record { copy = copy; is = refl; numbered = refl };
+    heads = writes 0 (record { number = 0; member = refl; found = refl }) refl;
+  }))
+
+  abbrev arrival : Arrival
+  arrival = record { message = example_message class; origin = edge_input }
+
+  pub others : (other : Part) → other ≢ Part.NotLost → Holds hasty_site s4 other
+  others Part.Kept differs = of_one hasty_site s4 arrival refl Part.Kept
+      (λ archive named. subst (λ z. IsWrittenOrHeads hasty_site s4 z 0) (sym (only_audit_is_named class archive named)) heads)
+  others Part.NotLost differs = absurd (differs refl)
+  others Part.HeldOnce differs = of_one hasty_site s4 arrival refl Part.HeldOnce
+      (λ relay cell entry there c. one_trail copy entry.tag (one_differs 0) c)
+  others Part.PassedOnce differs = of_one hasty_site s4 arrival refl Part.PassedOnce
+      (λ action tag there c. one_trail copy tag (one_differs 0) c)

@@ -1,5 +1,6 @@
 -- A run in which nothing is executed of a message.
 use Rattle.std.proofs.Common.{◌≡◌, ℕ, true, false, [], ◌∷◌, refl, sym, subst, arith, inl, inr}
+use Rattle.std.specs.Prelude.{◌≢◌}
 use Rattle.std.specs.Int.{bit_at}
 use Rattle.std.specs.List.{Contains}
 use Rattle.std.proofs.lemmas.Nat.Bits.{bit_at-zero}
@@ -9,6 +10,7 @@ use Rattle.sy_chain.specs.Entries.{Entry}
 use Rattle.sy_rules.specs.lists.Body.{is_in}
 use Rattle.sy_rules.specs.lists.Sets.{Bits}
 use Rattle.sy_rules.specs.PlanValue.{Plan}
+use Rattle.sy_rules.proofs.lemmas.plan.Different.{one_differs}
 use Rattle.sy_board.specs.relay.Cells as cells
 use Rattle.sy_board.specs.relay.Cells.{Cell, RelayState, at, put, hand}
 use Rattle.sy_board.specs.relay.Steps.{Takes}
@@ -17,21 +19,19 @@ use Rattle.sy_board.proofs.relay.Marks.{empty_everywhere}
 use Rattle.sy_board.proofs.relay.Put.{put_elim}
 use Rattle.sy_site.specs.Sites.{SiteAction, plan_at}
 use Rattle.sy_site.specs.machine.Safety.{Heads, IsHeld, IsWrittenOrHeads, Left, forwards, posts, writes}
-use Rattle.sy_site.specs.machine.States.{Copy, SiteState, opening, with_relay}
+use Rattle.sy_site.specs.machine.States.{Arrival, Copy, SiteState, opening, with_relay}
 use Rattle.sy_site.specs.machine.Steps.{Runs, SiteEvent, SiteStep}
 use Rattle.sy_site.specs.machine.Examples.{audit, edge_input, example_message}
-use Rattle.sy_site.specs.machine.Counterexamples.{silent_events, silent_plan, silent_site}
+use Rattle.sy_site.specs.machine.Counterexamples.{Holds, Part, silent_events, silent_plan, silent_site}
 use Rattle.sy_site.proofs.machine.Marks.{relay_elim}
 use Rattle.sy_site.proofs.machine.Naming.{each_in}
+use Rattle.sy_site.proofs.machine.Parts.{none_there, of_one, one_trail}
 
 none_set : (k : ℕ) → bit_at 0 k ≡ 1 → ⊥
 none_set k e = let z = bit_at-zero k in omega (arith, e, z)
 
 none_due : Bits (λ k. is_in k [] ≡ true) 0
 none_due k = ((λ e. absurd (none_set k e)), (λ h. absurd (cc)))
-
-none_there : {A : Type 0} (x : A) → Contains [] x → ⊥
-none_there x (k, l, is) = omega (arith, l)
 
 -- what has nothing due heads nowhere
 heads_nowhere : (archive : SiteAction) (message : Said) (relay list due : ℕ) → due ≡ 0
@@ -101,3 +101,14 @@ module _ (class : Class) where
   not_kept (inl written) = none_there written.tag written.there
   not_kept (inr (inl held)) = not_held held
   not_kept (inr (inr on)) = none_there on.tag on.there
+
+  abbrev arrival : Arrival
+  arrival = record { message = example_message class; origin = edge_input }
+
+  pub others : (other : Part) → other ≢ Part.Kept → Holds silent_site s1 other
+  others Part.Kept differs = absurd (differs refl)
+  others Part.NotLost differs = of_one silent_site s1 arrival refl Part.NotLost (λ loss there c. none_there loss there)
+  others Part.HeldOnce differs = of_one silent_site s1 arrival refl Part.HeldOnce
+      (λ relay cell entry there c. one_trail copy entry.tag (one_differs 0) c)
+  others Part.PassedOnce differs = of_one silent_site s1 arrival refl Part.PassedOnce
+      (λ action tag there c. one_trail copy tag (one_differs 0) c)

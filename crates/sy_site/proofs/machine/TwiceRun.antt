@@ -44,7 +44,7 @@ module _ (class : Class) where
   abbrev e7 : RelayState
   e7 = put (put e6 (Cell.Queue 0) []) (Cell.Worker 0) (node 1 1 1 ∷ [])
 
-  abbrev e8 : RelayState
+  abbrev pub e8 : RelayState
   e8 = put_failures (put e7 (Cell.Worker 0) []) 0 0
 
   takes1 : Takes twice_plan e0 0 0 (node 0 0 0) false e1
@@ -107,7 +107,7 @@ module _ (class : Class) where
   abbrev h3 : RelayState
   h3 = put (put h2 (Cell.Queue 0) []) (Cell.Worker 0) (node 0 0 2 ∷ [])
 
-  abbrev h4 : RelayState
+  abbrev pub h4 : RelayState
   h4 = put_failures (put h3 (Cell.Worker 0) []) 0 0
 
   takes9 : Takes hub_plan h0 0 0 (node 0 0 2) false h1

@@ -1,24 +1,51 @@
--- Small sites, which aren't sound, with runs that end in states that aren't safe, or not confined: one for each part of these, by which that part
--- alone is broken (this profile's own).
-use Rattle.std.specs.Prelude.{ℕ, true, List, [], ◌∷◌, Some, None, codes, take}
+-- Small sites, which aren't sound, with runs that end in states that aren't safe, or not confined (this profile's own). So no part of either can be
+-- left out unseen.
+use Rattle.std.specs.Prelude.{◌≡◌, ◌≢◌, ℕ, true, List, [], ◌∷◌, Some, None, codes, slice_get, take}
+use Rattle.std.specs.List.{Contains}
 use Rattle.sy_wire.specs.declared.class.Class.{Class}
+use Rattle.sy_chain.specs.Entries.{Entry}
 use Rattle.sy_rules.specs.declared.parameters.objects.Destination.TheVariants as destination
 use Rattle.sy_rules.specs.declared.parameters.settings.FlowControl.TheVariants as control
 use Rattle.sy_rules.specs.lists.Body.{Body}
 use Rattle.sy_rules.specs.PlanValue.{Plan}
+use Rattle.sy_rules.specs.Whole.{AreDifferent}
+use Rattle.sy_board.specs.relay.Cells.{Cell, at}
 use Rattle.sy_board.specs.relay.Steps.{Event}
-use Rattle.sy_site.specs.Sites.{Relay, Site, SiteAction, SiteInput}
-use Rattle.sy_site.specs.machine.States.{SiteState}
+use Rattle.sy_site.specs.Sites.{Relay, Site, SiteAction, SiteInput, archives, is_protected}
+use Rattle.sy_site.specs.machine.States.{Arrival, Loss, SiteState}
 use Rattle.sy_site.specs.machine.Steps.{Runs, SiteEvent}
 use Rattle.sy_site.specs.machine.Confinement.{AreConfined}
-use Rattle.sy_site.specs.machine.Safety.{AreSafe}
+use Rattle.sy_site.specs.machine.Safety.{AreSafe, IsCopyOf, IsWrittenOrHeads}
 use Rattle.sy_site.specs.machine.Examples.{edge_input, edge_plan, example_message, example_queue, example_site, hub_input, hub_plan, narrow_plan, up}
 
--- a run of these events ends in a state that isn't safe
-abbrev pub EndsUnsafe : Site → List SiteEvent → Type 0
-EndsUnsafe site events = (state : SiteState) × Runs site events state × (AreSafe site state → ⊥)
+-- the parts of safe
+pub data Part : Type 0 where
+  Kept NotLost HeldOnce PassedOnce : Part
 
--- one that isn't confined, for a class
+-- what a part says of the message of this number, of this class: `IsSafe` says all four
+abbrev pub Says : Site → SiteState → ℕ → Class → Part → Type 0
+Says site state number class Part.Kept =
+    (archive : SiteAction) → Contains (archives site class) archive → IsWrittenOrHeads site state archive number
+Says site state number class Part.NotLost = (loss : Loss) → Contains state.losses loss → IsCopyOf state.copies number loss.copy → ⊥
+Says site state number class Part.HeldOnce =
+    (relay : ℕ) (cell : Cell) (entry : Entry) → Contains (at (state.relays relay) cell) entry
+    → (copy : IsCopyOf state.copies number entry.tag) → AreDifferent copy.copy.trail
+Says site state number class Part.PassedOnce =
+    (action : SiteAction) (tag : ℕ) → Contains (state.passed action) tag
+    → (copy : IsCopyOf state.copies number tag) → AreDifferent copy.copy.trail
+
+-- it holds of each message of a protected class that came from outside at an entry
+abbrev pub Holds : Site → SiteState → Part → Type 0
+Holds site state part = (number : ℕ) (arrival : Arrival) → slice_get state.arrivals number ≡ Some arrival
+    → is_protected site arrival.message.class ≡ true → Contains site.entries arrival.origin
+    → Says site state number arrival.message.class part
+
+-- A run of these events ends in a state that isn't safe, for want of this part alone: the others hold there.
+abbrev pub EndsUnsafe : Site → List SiteEvent → Part → Type 0
+EndsUnsafe site events part =
+    (state : SiteState) × Runs site events state × (AreSafe site state → ⊥) × ((other : Part) → other ≢ part → Holds site state other)
+
+-- A run of these events ends in a state that isn't confined, for a class.
 abbrev pub EndsUnconfined : Site → Class → List SiteEvent → Type 0
 EndsUnconfined site class events = (state : SiteState) × Runs site events state × (AreConfined site class state → ⊥)
 
@@ -158,7 +185,9 @@ moving_events class = take 5 (posting_events class)
 
 -- edge posts what comes in to another list, of the same queue
 abbrev pub changing_plan : Plan
-changing_plan = record narrow_plan { lists = record { body = Body.Post 1 Body.End; queue = None } ∷ record { body = Body.Run 0 Body.End; queue = None } ∷ [] }
+changing_plan = record narrow_plan {
+  lists = record { body = Body.Post 1 Body.End; queue = None } ∷ record { body = Body.Run 0 Body.End; queue = None } ∷ [];
+}
 
 abbrev pub changing_site : Site
 changing_site = record example_site { relays = relay_of (codes "edge") changing_plan ∷ relay_of (codes "hub") hub_plan ∷ [] }
@@ -166,3 +195,20 @@ changing_site = record example_site { relays = relay_of (codes "edge") changing_
 -- The input's queue has the message again, and it follows the other list.
 abbrev pub changing_events : Class → List SiteEvent
 changing_events class = take 4 (posting_events class)
+
+-- ---- a forward that leads nowhere, beside an archive that has all
+
+-- edge writes what comes in, and forwards it to a relay that isn't there
+abbrev pub stray_plan : Plan
+stray_plan = record edge_plan {
+  actions = record { name = codes "audit"; destination = destination.Archive (codes "audit.log"); retry = None; resume_interval = 30 }
+      ∷ record { name = codes "up"; destination = destination.Forward (codes "nobody") 6515; retry = None; resume_interval = 30 } ∷ [];
+  lists = record { body = Body.End; queue = None } ∷ record { body = Body.Run 0 (Body.Run 1 Body.End); queue = Some 1 } ∷ [];
+}
+
+abbrev pub stray_site : Site
+stray_site = record {
+  relays = relay_of (codes "edge") stray_plan ∷ [];
+  entries = edge_input ∷ [];
+  protections = [];
+}
