@@ -1,10 +1,20 @@
-//! Runs of sites that aren't sound, at whose end a message of a protected class isn't safe, or a copy not confined. Of
-//! safe there is one for each part, which alone is wanting at its end. Each function does nothing; its contract is the
-//! law.
-ghost use Rattle.std.specs.Prelude.{◌≡◌, take};
+//! Runs of sites that aren't sound, at whose end a message of a protected class isn't safe, or a copy not confined: for
+//! each part of these one at whose end that part alone is wanting. Each function does nothing; its contract is the law.
+ghost use Rattle.std.specs.Prelude.{◌≡◌, ◌↔◌, take};
 ghost use Rattle.sy_wire.specs.declared.class.Class.{Class};
+ghost use Rattle.sy_site.specs.Sites.{Site};
+ghost use Rattle.sy_site.specs.machine.States.{SiteState};
 ghost use Rattle.sy_site.specs.machine.Soundness.{IsSoundFor};
-ghost use Rattle.sy_site.specs.machine.Counterexamples.{EndsUnconfined, EndsUnsafe, Part, aimless_events, aimless_site, changing_events, changing_site, hasty_events, hasty_site, moving_events, moving_site, posting_events, posting_site, silent_events, silent_site, stray_site, twice_events, twice_site};
+ghost use Rattle.sy_site.specs.machine.Confinement.{AreConfined};
+ghost use Rattle.sy_site.specs.machine.Safety.{AreSafe};
+ghost use Rattle.sy_site.specs.machine.Counterexamples.{Bound, Bounds, EndsUnconfined, EndsUnsafe, Holds, Part, aimless_events, aimless_site, changing_events, changing_site, hasty_events, hasty_site, moving_events, moving_site, posting_events, posting_site, silent_events, silent_site, stray_site, twice_events, twice_site};
+
+/// Safe is its four parts, and confined its seven.
+pub fn parts_are_the_whole()
+    ensures of_safe { (site : Site) → (state : SiteState) → AreSafe site state ↔ ((part : Part) → Holds site state part) }
+    ensures of_confined { (site : Site) → (class : Class) → (state : SiteState)
+        → AreConfined site class state ↔ ((part : Bound) → Bounds site class state part) }
+{}
 
 /// A message with a lost copy isn't safe, though it heads for its archive.
 pub fn a_lost_copy_isnt_safe()
@@ -31,25 +41,25 @@ pub fn a_message_that_came_twice_isnt_safe()
 
 /// A copy isn't confined on the link of a forward that leads nowhere, or to an input that its class doesn't reach.
 pub fn copies_on_such_links_arent_confined()
-    ensures to_nowhere { (class : Class) → EndsUnconfined aimless_site class (aimless_events class) }
-    ensures out_of_reach { (class : Class) → EndsUnconfined posting_site class (take 6 (posting_events class)) }
+    ensures to_nowhere { (class : Class) → EndsUnconfined aimless_site class (aimless_events class) Bound.LinkLeads }
+    ensures out_of_reach { (class : Class) → EndsUnconfined posting_site class (take 6 (posting_events class)) Bound.LinkInReach }
 {}
 
 /// A copy isn't confined at an input that its class doesn't reach, nor where it follows another list than its input's.
 pub fn copies_at_such_inputs_arent_confined()
-    ensures out_of_reach { (class : Class) → EndsUnconfined posting_site class (posting_events class) }
-    ensures of_another_list { (class : Class) → EndsUnconfined changing_site class (changing_events class) }
+    ensures out_of_reach { (class : Class) → EndsUnconfined posting_site class (posting_events class) Bound.InReach }
+    ensures of_another_list { (class : Class) → EndsUnconfined changing_site class (changing_events class) Bound.OnList }
 {}
 
 /// A copy isn't confined in a queue that isn't its input's, nor with a worker of that queue.
 pub fn copies_at_such_places_arent_confined()
-    ensures in_a_queue { (class : Class) → EndsUnconfined moving_site class (take 4 (moving_events class)) }
-    ensures with_a_worker { (class : Class) → EndsUnconfined moving_site class (moving_events class) }
+    ensures in_a_queue { (class : Class) → EndsUnconfined moving_site class (take 4 (moving_events class)) Bound.AtPlace }
+    ensures with_a_worker { (class : Class) → EndsUnconfined moving_site class (moving_events class) Bound.AtPlace }
 {}
 
 /// A lost copy isn't confined.
 pub fn a_lost_copy_isnt_confined()
-    ensures { (class : Class) → EndsUnconfined hasty_site class (hasty_events class) }
+    ensures { (class : Class) → EndsUnconfined hasty_site class (hasty_events class) Bound.NoneLost }
 {}
 
 /// A forward that leads nowhere is enough for a site not to be sound.

@@ -1,6 +1,7 @@
 -- Small sites, which aren't sound, with runs that end in states that aren't safe, or not confined (this profile's own). So no part of either can be
 -- left out unseen.
 use Rattle.std.specs.Prelude.{◌≡◌, ◌≢◌, ℕ, true, List, [], ◌∷◌, Some, None, codes, slice_get, take}
+use Rattle.std.specs.Int.{bit_at}
 use Rattle.std.specs.List.{Contains}
 use Rattle.sy_wire.specs.declared.class.Class.{Class}
 use Rattle.sy_chain.specs.Entries.{Entry}
@@ -11,10 +12,12 @@ use Rattle.sy_rules.specs.PlanValue.{Plan}
 use Rattle.sy_rules.specs.Whole.{AreDifferent}
 use Rattle.sy_board.specs.relay.Cells.{Cell, at}
 use Rattle.sy_board.specs.relay.Steps.{Event}
-use Rattle.sy_site.specs.Sites.{Relay, Site, SiteAction, SiteInput, archives, is_protected}
-use Rattle.sy_site.specs.machine.States.{Arrival, Loss, SiteState}
+use Rattle.sy_site.specs.Sites.{Relay, Site, SiteAction, SiteInput, archives, is_protected, plan_at, target}
+use Rattle.sy_site.specs.machine.States.{Arrival, Copy, Loss, SiteState}
 use Rattle.sy_site.specs.machine.Steps.{Runs, SiteEvent}
-use Rattle.sy_site.specs.machine.Confinement.{AreConfined}
+use Rattle.sy_site.specs.machine.Reach.{MayAt, Reach, list_of}
+use Rattle.sy_site.specs.machine.Findings.{IsForward}
+use Rattle.sy_site.specs.machine.Confinement.{AreConfined, IsFollowed, IsPlaceOf}
 use Rattle.sy_site.specs.machine.Safety.{AreSafe, IsCopyOf, IsWrittenOrHeads}
 use Rattle.sy_site.specs.machine.Examples.{edge_input, edge_plan, example_message, example_queue, example_site, hub_input, hub_plan, narrow_plan, up}
 
@@ -45,9 +48,39 @@ abbrev pub EndsUnsafe : Site → List SiteEvent → Part → Type 0
 EndsUnsafe site events part =
     (state : SiteState) × Runs site events state × (AreSafe site state → ⊥) × ((other : Part) → other ≢ part → Holds site state other)
 
--- A run of these events ends in a state that isn't confined, for a class.
-abbrev pub EndsUnconfined : Site → Class → List SiteEvent → Type 0
-EndsUnconfined site class events = (state : SiteState) × Runs site events state × (AreConfined site class state → ⊥)
+-- the parts of confinement
+pub data Bound : Type 0 where
+  InReach OnList MayRun AtPlace LinkLeads LinkInReach NoneLost : Bound
+
+-- this holds of each followed copy that is held
+abbrev pub OfHeld : Site → Class → SiteState → (ℕ → Cell → Entry → Type 0) → Type 0
+OfHeld site class state Q = (relay : ℕ) (cell : Cell) (entry : Entry) → Contains (at (state.relays relay) cell) entry
+    → (copy : Copy) → IsFollowed site state class entry.tag copy → Q relay cell entry
+
+-- this holds of each link of a forward that has a followed copy
+abbrev pub OfLinks : Site → Class → SiteState → (SiteAction → Type 0) → Type 0
+OfLinks site class state Q = (link : SiteAction) (tag : ℕ) → Contains (state.passed link) tag → (copy : Copy) → IsFollowed site state class tag copy
+    → IsForward (slice_get (plan_at site link.relay).actions link.action) → Q link
+
+abbrev pub input_of : ℕ → Entry → SiteInput
+input_of relay entry = record { relay = relay; input = entry.input }
+
+-- what a part says: `AreConfined` says all seven
+abbrev pub Bounds : Site → Class → SiteState → Bound → Type 0
+Bounds site class state Bound.InReach = OfHeld site class state (λ relay cell entry. Reach site class (input_of relay entry))
+Bounds site class state Bound.OnList = OfHeld site class state (λ relay cell entry. entry.list ≡ list_of site (input_of relay entry))
+Bounds site class state Bound.MayRun =
+    OfHeld site class state (λ relay cell entry. (number : ℕ) → bit_at entry.due number ≡ 1 → MayAt site class (input_of relay entry) number)
+Bounds site class state Bound.AtPlace = OfHeld site class state (λ relay cell entry. IsPlaceOf (plan_at site relay) cell entry.input)
+Bounds site class state Bound.LinkLeads = OfLinks site class state (λ link. (to : SiteInput) × (target site link ≡ Some to))
+Bounds site class state Bound.LinkInReach = OfLinks site class state (λ link. (to : SiteInput) → target site link ≡ Some to → Reach site class to)
+Bounds site class state Bound.NoneLost =
+    (loss : Loss) → Contains state.losses loss → (copy : Copy) → IsFollowed site state class loss.copy copy → ⊥
+
+-- A run of these events ends in a state that isn't confined for a class, for want of this part alone: the others hold there.
+abbrev pub EndsUnconfined : Site → Class → List SiteEvent → Bound → Type 0
+EndsUnconfined site class events part =
+    (state : SiteState) × Runs site events state × (AreConfined site class state → ⊥) × ((other : Bound) → other ≢ part → Bounds site class state other)
 
 abbrev pub relay_of : List ℕ → Plan → Relay
 relay_of name plan = record { name = name; address = 127 ∷ 0 ∷ 0 ∷ 1 ∷ []; plan = plan }

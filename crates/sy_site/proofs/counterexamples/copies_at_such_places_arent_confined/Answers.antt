@@ -1,6 +1,7 @@
 use Rattle.std.proofs.Common.{◌≡◌, refl, arith}
 use Rattle.sy_board.specs.relay.Cells.{Cell}
 use Rattle.sy_site.proofs.machine.MovingRun.{copy, node, queue_run, s4, s5, worker_run}
+use Rattle.sy_site.proofs.machine.PlaceParts.{queue_others, worker_others}
 use Rattle.sy_site.proofs.counterexamples.copies_at_such_places_arent_confined.Goals as goal
 
 pub returns-clause-in_a_queue : goal.returns-clause-in_a_queue
@@ -11,6 +12,7 @@ returns-clause-in_a_queue c class = (
       (let is : 0 ≡ 1 = confined.placed 0 (Cell.Queue 1) (node class 1) (0, omega arith, refl) (copy class)
       (record { is = refl; class_is = refl; entered = (0, omega arith, refl) }) in
       omega (arith, is)),
+  queue_others class,
 )
 
 pub returns-clause-with_a_worker : goal.returns-clause-with_a_worker
@@ -21,4 +23,5 @@ returns-clause-with_a_worker c class = (
       (let is : 0 ≡ 1 = confined.placed 0 (Cell.Worker 1) (node class 1) (0, omega arith, refl) (copy class)
       (record { is = refl; class_is = refl; entered = (0, omega arith, refl) }) in
       omega (arith, is)),
+  worker_others class,
 )

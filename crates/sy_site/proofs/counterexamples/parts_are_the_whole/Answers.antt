@@ -1,0 +1,58 @@
+use Rattle.std.proofs.Common.{sym, subst, ◌∙◌}
+use Rattle.sy_wire.specs.declared.class.Class.{Class}
+use Rattle.sy_site.specs.Sites.{Site}
+use Rattle.sy_site.specs.machine.Reach.{Reach}
+use Rattle.sy_site.specs.machine.States.{SiteState}
+use Rattle.sy_site.specs.machine.Confinement.{AreConfined}
+use Rattle.sy_site.specs.machine.Safety.{AreSafe}
+use Rattle.sy_site.specs.machine.Counterexamples.{Bound, Bounds, Holds, Part}
+use Rattle.sy_site.proofs.machine.Spread.{some_same}
+use Rattle.sy_site.proofs.counterexamples.parts_are_the_whole.Goals as goal
+
+module _ (site : Site) (state : SiteState) where
+  part_of : AreSafe site state → (part : Part) → Holds site state part
+  part_of safe Part.Kept = λ number arrival at protected entered. (safe number arrival at protected entered).kept
+  part_of safe Part.NotLost = λ number arrival at protected entered. (safe number arrival at protected entered).not_lost
+  part_of safe Part.HeldOnce = λ number arrival at protected entered. (safe number arrival at protected entered).held_once
+  part_of safe Part.PassedOnce = λ number arrival at protected entered. (safe number arrival at protected entered).passed_once
+
+  whole : ((part : Part) → Holds site state part) → AreSafe site state
+  whole parts number arrival at protected entered = record {
+    kept = parts Part.Kept number arrival at protected entered;
+    not_lost = parts Part.NotLost number arrival at protected entered;
+    held_once = parts Part.HeldOnce number arrival at protected entered;
+    passed_once = parts Part.PassedOnce number arrival at protected entered;
+  }
+
+  module _ (class : Class) where
+    bound_of : AreConfined site class state → (part : Bound) → Bounds site class state part
+    bound_of confined Bound.InReach = λ relay cell entry there copy followed. (confined.held relay cell entry there copy followed).reached
+    bound_of confined Bound.OnList = λ relay cell entry there copy followed. (confined.held relay cell entry there copy followed).follows
+    bound_of confined Bound.MayRun = λ relay cell entry there copy followed. (confined.held relay cell entry there copy followed).due
+    bound_of confined Bound.AtPlace = confined.placed
+    bound_of confined Bound.LinkLeads = λ link tag there copy followed forward.
+        (let within = confined.on_links link tag there copy followed forward in (within.to, within.leads))
+    bound_of confined Bound.LinkInReach = λ link tag there copy followed forward to leads.
+        (let within = confined.on_links link tag there copy followed forward in
+        subst (Reach site class) (some_same (sym within.leads ∙ leads)) within.reached)
+    bound_of confined Bound.NoneLost = confined.not_lost
+
+    bounds : ((part : Bound) → Bounds site class state part) → AreConfined site class state
+    bounds parts = record {
+      held = λ relay cell entry there copy followed. record {
+        reached = parts Bound.InReach relay cell entry there copy followed;
+        follows = parts Bound.OnList relay cell entry there copy followed;
+        due = parts Bound.MayRun relay cell entry there copy followed;
+      };
+      placed = parts Bound.AtPlace;
+      on_links = λ link tag there copy followed forward.
+          (let leads = parts Bound.LinkLeads link tag there copy followed forward in
+          record { to = leads.0; leads = leads.1; reached = parts Bound.LinkInReach link tag there copy followed forward leads.0 leads.1 });
+      not_lost = parts Bound.NoneLost;
+    }
+
+pub returns-clause-of_safe : goal.returns-clause-of_safe
+returns-clause-of_safe c site state = (part_of site state, whole site state)
+
+pub returns-clause-of_confined : goal.returns-clause-of_confined
+returns-clause-of_confined c site class state = (bound_of site state class, bounds site state class)
