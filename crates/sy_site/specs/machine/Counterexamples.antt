@@ -37,7 +37,7 @@ Says site state number class Part.PassedOnce =
     (action : SiteAction) (tag : ℕ) → Contains (state.passed action) tag
     → (copy : IsCopyOf state.copies number tag) → AreDifferent copy.copy.trail
 
--- it holds of each message of a protected class that came from outside at an entry
+-- This part holds of each message of a protected class that came from outside at an entry.
 abbrev pub Holds : Site → SiteState → Part → Type 0
 Holds site state part = (number : ℕ) (arrival : Arrival) → slice_get state.arrivals number ≡ Some arrival
     → is_protected site arrival.message.class ≡ true → Contains site.entries arrival.origin
@@ -62,6 +62,7 @@ abbrev pub OfLinks : Site → Class → SiteState → (SiteAction → Type 0) �
 OfLinks site class state Q = (link : SiteAction) (tag : ℕ) → Contains (state.passed link) tag → (copy : Copy) → IsFollowed site state class tag copy
     → IsForward (slice_get (plan_at site link.relay).actions link.action) → Q link
 
+-- where a relay has the entry
 abbrev pub input_of : ℕ → Entry → SiteInput
 input_of relay entry = record { relay = relay; input = entry.input }
 
@@ -82,6 +83,7 @@ abbrev pub EndsUnconfined : Site → Class → List SiteEvent → Bound → Type
 EndsUnconfined site class events part =
     (state : SiteState) × Runs site events state × (AreConfined site class state → ⊥) × ((other : Bound) → other ≢ part → Bounds site class state other)
 
+-- a relay that listens at 127.0.0.1
 abbrev pub relay_of : List ℕ → Plan → Relay
 relay_of name plan = record { name = name; address = 127 ∷ 0 ∷ 0 ∷ 1 ∷ []; plan = plan }
 
