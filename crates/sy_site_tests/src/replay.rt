@@ -1,4 +1,5 @@
-//! A site's machine, event by event: the lines of events, and schedules of them.
+//! A site's machine, event by event: the lines of events, schedules of them, and a queue at its limit.
 
+mod limits;
 mod lines;
-mod runs;
+pub mod runs;

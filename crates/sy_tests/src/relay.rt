@@ -1,4 +1,6 @@
 //! Boards of whole relays at work: calls of one board, each with its answer, worked out by hand.
+mod limits;
+
 ghost use Rattle.std.specs.Prelude.{◌≡◌, ◌+◌, ◌<◌, ◌↔◌, IfSome, IsTrue, length};
 ghost use Rattle.std.specs.Arc.{arc_value};
 ghost use Rattle.sy_board.specs.relay.Boards.{IsForPost};

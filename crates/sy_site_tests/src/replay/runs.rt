@@ -155,7 +155,13 @@ fn goes_on(
     Ok(true)
 }
 
-fn put_run(alloc: Global, text: &mut Vec<u8>, site: &Site, lines: &str) -> Result<(), AllocError> {
+/// Puts what is lost by the events of some lines, and how many messages came; or in which line that ends.
+pub fn put_run(
+    alloc: Global,
+    text: &mut Vec<u8>,
+    site: &Site,
+    lines: &str,
+) -> Result<(), AllocError> {
     let mut replay = Replay::new(alloc, site)?;
     let mut number = 0_u32;
     for line in lines.lines() {

@@ -86,6 +86,9 @@ const FLOWS: &str = r#"
 0 16 24 10 00 | if $msg contains "x" then { if prifilt("mail.*") then stop action(name="in" type="omfile" file="/a") } action(name="last" type="omfile" file="/b")
 0 0 16 11 10 | if $msg contains "x" then { if prifilt("mail.*") then stop action(name="in" type="omfile" file="/a") } action(name="last" type="omfile" file="/b")
 0 0 192 111 000 | if $msg contains "x" then action(name="a" type="omfile" file="/a") else if $msg contains "y" then action(name="b" type="omfile" file="/b") else action(name="c" type="omfile" file="/c")
+// blocks nested 32 deep
+0 0 192 11 10 | %[32]if $msg contains "x" then { %[1]action(type="omfile" file="/a") %[32]} %[1]action(type="omfile" file="/b")
+0 16 24 1 1 | %[32]if prifilt("mail.*") then { %[1]action(type="omfile" file="/a") %[32]}
 // 64 occurrences
 0 0 192 1111111111111111111111111111111111111111111111111111111111111111 1111111111111111111111111111111111111111111111111111111111111111 | %[64]action(type="omfile" file="/a")`
 "#;
