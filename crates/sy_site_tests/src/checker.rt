@@ -55,8 +55,8 @@ fn is_guarded(alloc: Global, accepted: &Accepted) -> Result<bool, AllocError> {
     )
 }
 
-// Whether a board of the first relay opens with that relay's guard, and shows it.
-fn opens_guarded(alloc: Global, site: &Site, accepted: &Accepted) -> Result<bool, AllocError>
+/// Whether a board of the first relay opens with that relay's guard, and shows it.
+pub fn opens_guarded(alloc: Global, site: &Site, accepted: &Accepted) -> Result<bool, AllocError>
     requires { IsOf site.now accepted.now }
 {
     if site.relays() == 0 {

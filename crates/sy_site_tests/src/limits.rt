@@ -3,6 +3,7 @@
 //! file and a script of 1 MiB. It is accepted, its certificate is the one that the rules give, and a message of 65,536
 //! bytes goes all its way.
 
+use crate::checker::opens_guarded;
 use crate::replay::runs::put_run;
 use crate::rows::put_text;
 use std::alloc::{AllocError, Global};
@@ -188,34 +189,35 @@ fn is_certified(alloc: Global, site: &Site) -> Result<bool, AllocError> {
     };
     let text = write_cert(alloc, &made)?;
     // 192 classes with a row, 316 inputs, 64 ranks and 256 paths each
-    Ok(
-        made.rows().len() == 192 * 637
-            && text.as_slice() == wanted.as_slice()
-            && is_verified(alloc, site, wanted.as_slice()),
-    )
+    let is_made = made.rows().len() == 192 * 637 && text.as_slice() == wanted.as_slice();
+    Ok(is_made && is_verified(alloc, site, wanted.as_slice())?)
 }
 
 // Its text is accepted, and without its last line it is refused there.
-fn is_verified(alloc: Global, site: &Site, text: &[u8]) -> bool {
+fn is_verified(alloc: Global, site: &Site, text: &[u8]) -> Result<bool, AllocError> {
     let last = text.len().saturating_sub("path w4 64 w4 a64\n".len());
-    verdict(alloc, site, text) == (192, 0)
-        && verdict(alloc, site, text.get(..last).unwrap_or(b"")) == (0, 1 + 192 * 637)
+    let whole = verdict(alloc, site, text)?;
+    let cut = verdict(alloc, site, text.get(..last).unwrap_or(b""))?;
+    Ok(whole == (192, 0) && cut == (0, 1 + 192 * 637))
 }
 
-// How many classes are accepted, or the line of the path that is wrong.
-fn verdict(alloc: Global, site: &Site, text: &[u8]) -> (usize, usize) {
+// How many classes are accepted, where a board opens with its guard; or the line of the path that is wrong.
+fn verdict(alloc: Global, site: &Site, text: &[u8]) -> Result<(usize, usize), AllocError> {
     let Ok(certificate) = read_cert(alloc, text) else {
-        return (0, 0);
+        return Ok((0, 0));
     };
     match verify(alloc, site, &certificate) {
-        Ok(accepted) => (accepted.classes().len(), 0),
+        Ok(accepted) => {
+            let is_open = opens_guarded(alloc, site, &accepted)?;
+            Ok((if is_open { accepted.classes().len() } else { 0 }, 0))
+        }
         Err(
             CertFault::Wrong {
                 line,
                 row: RowKind::Path,
             },
-        ) => (0, line),
-        Err(_) => (0, 0),
+        ) => Ok((0, line)),
+        Err(_) => Ok((0, 0)),
     }
 }
 

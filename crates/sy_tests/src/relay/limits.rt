@@ -65,7 +65,7 @@ const RULESETS_CALLS: &str = "
 | take/0/0/34=hand enter/0/0=in %[254]grab/@=1 job/@=post/^#1 post/@=put job/@=none %[1]grab/255=1 job/255=run/0#1 settle/255=ok taken=1 posted=254 grabbed=255 posts_left=0 action/0=1/1/0/0
 ";
 
-// Of the lists 0 to 3, each with 64 actions and 64 workers, each 16 inputs bring messages.
+// To each of the lists 0 to 3, with 64 actions and 64 workers each, 16 inputs bring messages.
 const ACTIONS: &str =
     r#"module(load="imtcp") main_queue(queue.workerThreads="64" queue.dequeueBatchSize="1") %[16]input(type="imtcp" port="1@") %[16]input(type="imtcp" port="2@" ruleset="a") %[16]input(type="imtcp" port="3@" ruleset="b") %[16]input(type="imtcp" port="4@" ruleset="c") %[64]action(type="omfile" file="f") %[1]ruleset(name="a" queue.type="LinkedList" queue.workerThreads="64" queue.dequeueBatchSize="1") { %[64]action(type="omfile" file="f") %[1]} ruleset(name="b" queue.type="LinkedList" queue.workerThreads="64" queue.dequeueBatchSize="1") { %[64]action(type="omfile" file="f") %[1]} ruleset(name="c" queue.type="LinkedList" queue.workerThreads="64" queue.dequeueBatchSize="1") { %[64]action(type="omfile" file="f") %[1]} | ~"#;
 
