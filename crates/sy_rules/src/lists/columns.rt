@@ -7,11 +7,10 @@ ghost use Rattle.sy_rules.specs.internal.ClassFlows.{AreAlike, AreColumns, HasAl
 
 use crate::lists::condition::Condition;
 use std::alloc::{AllocError, Global};
-use sy_select::Verdict;
 use sy_wire::Class;
 
-// Of the hash of Fowler, Noll and Vo for 64 bits.
-const FNV_PRIME: u64 = 0x100_0000_01b3;
+// Of the generator of Knuth's MMIX.
+const MULTIPLIER: u64 = 6_364_136_223_846_793_005;
 
 /// The classes in columns: those of one column are alike to every test.
 #[derive(Drop)]
@@ -25,19 +24,11 @@ pub struct Columns {
 // A number of each class that is the same for classes of which all tests say the same, and likely another for others. So few
 // are compared.
 fn hashes(tests: &[Condition]) -> [u64; 192] {
-    let mut hashes = [0u64; 192];
+    let mut hashes = [0; 192];
+    let mut key = 1u64;
     for test in tests {
-        if !test.is_free() {
-            for number in 0..192 {
-                let verdict = match test.verdict(Class::of_number(number)) {
-                    Verdict::Yes => 1,
-                    Verdict::No => 2,
-                    Verdict::Either => 3,
-                };
-                let at = usize::from(number);
-                hashes[at] = (hashes[at] ^ verdict).wrapping_mul(FNV_PRIME);
-            }
-        }
+        key = key.wrapping_mul(MULTIPLIER).wrapping_add(1);
+        test.add_to(&mut hashes, key);
     }
     hashes
 }

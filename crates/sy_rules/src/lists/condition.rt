@@ -34,6 +34,16 @@ impl Verdicts {
         }
     }
 
+    fn hash(self, severity: u8, key: u64) -> u64
+        requires { severity < 8 }
+    {
+        match self.of(severity) {
+            Verdict::Yes => key,
+            Verdict::Either => !key,
+            Verdict::No => 0,
+        }
+    }
+
     // Whether each severity leaves it open.
     fn are_free(self) -> bool
         ensures { result ≡ true → (severity : ℕ) → severity < 8 → said self severity ≡ Either }
@@ -129,6 +139,23 @@ impl Condition {
         ensures { IsFree self.now result }
     {
         self.free
+    }
+
+    /// Adds to the number of each class what the class says of the test, by a key of the test: nothing where it is false.
+    pub fn add_to(&self, hashes: &mut [u64; 192], key: u64) {
+        if self.free {
+            return;
+        }
+        for facility in 0..24 {
+            let verdicts = self.verdicts[facility];
+            if verdicts.possible != 0 {
+                for severity in 0..8 {
+                    let hash = verdicts.hash(severity, key);
+                    let at = facility * 8 + usize::from(severity);
+                    hashes[at] = hashes[at].wrapping_add(hash);
+                }
+            }
+        }
     }
 
     /// What a class says of the test.
