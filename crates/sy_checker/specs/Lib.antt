@@ -5,6 +5,7 @@ pub mod Risks
 pub mod Ranked
 pub mod Judging
 pub mod Acceptance
+pub mod Claims
 pub mod Verifying
 pub mod Search
 pub mod Finding

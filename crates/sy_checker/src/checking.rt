@@ -10,6 +10,7 @@ ghost use Rattle.sy_site.specs.machine.States.{SiteState};
 ghost use Rattle.sy_site.specs.machine.Steps.{Runs, SiteEvent};
 ghost use Rattle.sy_site.specs.texts.Describes.{Describes};
 ghost use Rattle.sy_checker.specs.Acceptance.{AreReached, IsOf};
+ghost use Rattle.sy_checker.specs.Claims.{RanksStayFalling, StayConfined, StayWrittenOrHead};
 ghost use Rattle.sy_checker.specs.Certifying.{AreRowsOf};
 ghost use Rattle.sy_checker.specs.Checking as spec;
 ghost use Rattle.sy_checker.specs.Finding.{IsTrueRefusal};
@@ -22,6 +23,7 @@ use crate::certifying::rows_of_class;
 use crate::classes::protected_classes;
 use crate::course::{Course, course_for};
 use crate::finding::Refusal;
+use crate::laws::claims_of_sound_sites;
 use crate::met::{Met, are_met, put_met};
 use crate::verifying::{Judged, judge};
 use crate::wanted::archives;
@@ -184,12 +186,16 @@ fn accepted(alloc: Global, site: &Site) -> Result<Accepted, Refusal>
 pub fn check_site(alloc: Global, site: &Site) -> Result<Accepted, Refusal>
     ensures kept { IfOk result (λ accepted. IsOf site.now accepted) }
     ensures sound { OnOk result (IsSound site.now) }
+    ensures confined { OnOk result (StayConfined site.now) }
+    ensures falling { OnOk result (RanksStayFalling site.now) }
+    ensures written { OnOk result (StayWrittenOrHead site.now) }
     ensures safe { OnOk result ((events : List SiteEvent) (state : SiteState) → Runs site.now events state
         → AreSafe site.now state) }
     ensures found { IfErr result (λ why. IsTrueRefusal site.now why) }
     ensures only { IfErr result (λ why. IsSound site.now → why ≡ refusal.NoMemory) }
 {
     site.is_lawful();
+    claims_of_sound_sites();
     sound_sites_are_safe();
     sound_sites_have_no_finding();
     match accepted(alloc, site) {
@@ -208,6 +214,12 @@ pub fn check(alloc: Global, text: &[u8], files: &[(&str, &[u8])]) -> Result<Acce
         (map (λ f. file f.0.now f.1.now) files.now) accepted) }
     ensures sound { OnOk result ((site : sites.Site)
         → Describes text.now (map (λ f. file f.0.now f.1.now) files.now) site → IsSound site) }
+    ensures confined { OnOk result ((site : sites.Site)
+        → Describes text.now (map (λ f. file f.0.now f.1.now) files.now) site → StayConfined site) }
+    ensures falling { OnOk result ((site : sites.Site)
+        → Describes text.now (map (λ f. file f.0.now f.1.now) files.now) site → RanksStayFalling site) }
+    ensures written { OnOk result ((site : sites.Site)
+        → Describes text.now (map (λ f. file f.0.now f.1.now) files.now) site → StayWrittenOrHead site) }
     ensures safe { OnOk result ((site : sites.Site)
         → Describes text.now (map (λ f. file f.0.now f.1.now) files.now) site
         → (events : List SiteEvent) (state : SiteState) → Runs site events state → AreSafe site state) }

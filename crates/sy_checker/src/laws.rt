@@ -11,11 +11,15 @@ ghost use Rattle.sy_site.specs.machine.Soundness.{IsSound};
 ghost use Rattle.sy_site.specs.machine.States.{SiteState};
 ghost use Rattle.sy_site.specs.machine.Steps.{Runs, SiteEvent};
 ghost use Rattle.sy_wire.specs.declared.class.Class.{Class};
+ghost use Rattle.sy_checker.specs.Claims.{RanksStayFalling, StayConfined, StayWrittenOrHead};
 ghost use Rattle.sy_checker.specs.Fit.{AreWanted, IsFit, IsWrongIn};
 ghost use Rattle.sy_checker.specs.declared.wanted.RowKind.{RowKind};
 ghost use Rattle.sy_checker.specs.declared.wanted.Wanted.{Wanted};
 
-use sy_site::machine::sound_sites_are_safe;
+use sy_site::machine::{
+    copies_are_confined, messages_are_written_or_head_there, ranks_fall_along_trails,
+    sound_sites_are_safe,
+};
 
 /// A site with a fit certificate is sound.
 pub fn fit_is_sound()
@@ -31,6 +35,19 @@ pub fn fit_is_safe()
 {
     fit_is_sound();
     sound_sites_are_safe()
+}
+
+/// What is claimed of a sound site beside safe, each claim by itself, of every run of it: confinement and falling ranks
+/// of each protected class; and, of a lawful site, that each message of such a class that came from outside at an entry
+/// is written to each archive that is named for its class, or held where it heads there.
+pub fn claims_of_sound_sites()
+    ensures confined { (site : Site) → IsSound site → StayConfined site }
+    ensures falling { (site : Site) → IsSound site → RanksStayFalling site }
+    ensures written { (site : Site) → IsLawful site → IsSound site → StayWrittenOrHead site }
+{
+    copies_are_confined();
+    ranks_fall_along_trails();
+    messages_are_written_or_head_there()
 }
 
 /// A lawful site in which no finding of the nine kinds is true is sound. A sound site has no true finding

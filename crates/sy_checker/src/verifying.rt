@@ -9,6 +9,7 @@ ghost use Rattle.sy_site.specs.machine.Soundness.{IsSound};
 ghost use Rattle.sy_site.specs.machine.States.{SiteState};
 ghost use Rattle.sy_site.specs.machine.Steps.{Runs, SiteEvent};
 ghost use Rattle.sy_checker.specs.Acceptance.{AreReached, IsOf};
+ghost use Rattle.sy_checker.specs.Claims.{RanksStayFalling, StayConfined, StayWrittenOrHead};
 ghost use Rattle.sy_checker.specs.Fit.{AreFit, IsFit};
 ghost use Rattle.sy_checker.specs.Flows.{AreFlows};
 ghost use Rattle.sy_checker.specs.Verifying as spec;
@@ -17,7 +18,7 @@ ghost use Rattle.sy_checker.specs.declared.verifying.CertFault.TheVariants as fa
 use crate::accepted::{Accepted, put_pairs};
 use crate::classes::protected_classes;
 use crate::flows::{ClassFlows, flows_of};
-use crate::laws::{fit_is_safe, fit_is_sound};
+use crate::laws::{claims_of_sound_sites, fit_is_safe, fit_is_sound};
 use crate::part::{first_wrong, row_kind};
 use crate::reach::reached;
 use crate::wanted::{RowKind, wanted_rows};
@@ -152,11 +153,15 @@ pub fn verify(alloc: Global, site: &Site, certificate: &Certificate) -> Result<A
     ensures only { IfErr result (λ fault. IsFit site.now certificate.now.rows → fault ≡ faults.NoMemory) }
     ensures accepted { IfOk result (λ accepted. IsOf site.now accepted) }
     ensures sound { OnOk result (IsSound site.now) }
+    ensures confined { OnOk result (StayConfined site.now) }
+    ensures falling { OnOk result (RanksStayFalling site.now) }
+    ensures written { OnOk result (StayWrittenOrHead site.now) }
     ensures safe { OnOk result ((events : List SiteEvent) (state : SiteState) → Runs site.now events state
         → AreSafe site.now state) }
 {
     site.is_lawful();
     fit_is_sound();
+    claims_of_sound_sites();
     fit_is_safe();
     let Ok(classes) = protected_classes(alloc, site) else {
         return Err(CertFault::NoMemory);

@@ -10,6 +10,24 @@ returns-clause-sound c =
     (fit_by c.args.site.now c.in-Ok.classes.items c.as_slice.result.now c.rows.result.now c.args.certificate.now.rows c.in-Ok.ensures
     c.as_slice.ensures.value c.rows.ensures c.in_default-check_rows.ensures.ok)
 
+pub returns-clause-confined : goal.returns-clause-confined
+returns-clause-confined c =
+    c.claims_of_sound_sites.ensures.confined c.args.site.now (c.fit_is_sound.ensures c.args.site.now c.args.certificate.now.rows
+    (fit_by c.args.site.now c.in-Ok.classes.items c.as_slice.result.now c.rows.result.now c.args.certificate.now.rows c.in-Ok.ensures
+    c.as_slice.ensures.value c.rows.ensures c.in_default-check_rows.ensures.ok))
+
+pub returns-clause-falling : goal.returns-clause-falling
+returns-clause-falling c =
+    c.claims_of_sound_sites.ensures.falling c.args.site.now (c.fit_is_sound.ensures c.args.site.now c.args.certificate.now.rows
+    (fit_by c.args.site.now c.in-Ok.classes.items c.as_slice.result.now c.rows.result.now c.args.certificate.now.rows c.in-Ok.ensures
+    c.as_slice.ensures.value c.rows.ensures c.in_default-check_rows.ensures.ok))
+
+pub returns-clause-written : goal.returns-clause-written
+returns-clause-written c =
+    c.claims_of_sound_sites.ensures.written c.args.site.now c.is_lawful.ensures (c.fit_is_sound.ensures c.args.site.now c.args.certificate.now.rows
+    (fit_by c.args.site.now c.in-Ok.classes.items c.as_slice.result.now c.rows.result.now c.args.certificate.now.rows c.in-Ok.ensures
+    c.as_slice.ensures.value c.rows.ensures c.in_default-check_rows.ensures.ok))
+
 pub returns-clause-safe : goal.returns-clause-safe
 returns-clause-safe c = λ events state runs.
     c.fit_is_safe.ensures c.args.site.now c.args.certificate.now.rows c.is_lawful.ensures
