@@ -4,13 +4,13 @@ use Rattle.std.specs.Prelude.{Option, Some, codes}
 use Rattle.syc.specs.Checks.{AskedIs}
 use Rattle.syc.specs.Reports.{Streams}
 use Rattle.syc.specs.Replays.{ReplayIs}
-use Rattle.syc.specs.Verdicts.{VerifyIs}
+use Rattle.syc.specs.Verdicts.{DescribesKept, VerifyIs}
 use Rattle.syc.specs.Words.{AreAsking, AreAskingOf, AreNoCommandOf, ArePass, ArePassAlone, AreReplayOf, AreVerifyOf, IsSiteCommand, asking}
 use Rattle.syc.specs.declared.command.Asked.{Asked}
 use Rattle.syc.specs.declared.command.Asked.TheVariants as asked
 use Rattle.syc.specs.declared.command.SiteCommand.{SiteCommand}
 use Rattle.syc.specs.declared.command.SiteCommand.TheVariants as of_site
-use Rattle.syc.specs.internal.Commands.{AreNoCommand, Answers, IsSiteCommandOf}
+use Rattle.syc.specs.internal.Commands.{Answers, AreNoCommand, IsSiteCommandOf, ShowsKept}
 
 -- ---- words that differ
 
@@ -207,3 +207,16 @@ module _ (bytes_of : List ℕ → Option (List ℕ)) (status : ℕ) (old new : S
   for_verify (of_site.Verify name other) h answers site certificate site_text text are known read =
       let both = others_same (sym h.words_are ∙ are.words_are) in
       answers site_text text (ap bytes_of both.0 ∙ known) (ap bytes_of both.1 ∙ read)
+
+-- So is that the site of a verify is kept.
+module _ (bytes_of : List ℕ → Option (List ℕ)) (status : ℕ) (after : List (List ℕ)) where
+  pub for_kept : (command : SiteCommand) → IsSiteCommandOf after command → ShowsKept bytes_of command status
+      → (site certificate text : List ℕ) → AreVerifyOf after site certificate → bytes_of site ≡ Some text → status ≡ 0
+      → DescribesKept bytes_of text
+  for_kept (of_site.Ask question name) h shows site certificate text are known zero =
+      absurd (verify_no_question question _ _ _ (sym h.words_are ∙ are.words_are))
+  for_kept (of_site.Replay name events) h shows site certificate text are known zero =
+      absurd (replay_or_verify (first_same (sym h.words_are ∙ are.words_are)))
+  for_kept (of_site.Verify name other) h shows site certificate text are known zero =
+      let both = others_same (sym h.words_are ∙ are.words_are) in
+      shows text (ap bytes_of both.0 ∙ known) zero

@@ -10,6 +10,7 @@ use Rattle.sy_site.specs.machine.Steps.{Runs, SiteEvent}
 use Rattle.sy_cert.specs.Rows as certificate
 use Rattle.sy_cert.specs.declared.kinds.Kind.TheVariants as kinds
 use Rattle.sy_cert.specs.declared.row.Row.{Row}
+use Rattle.sy_checker.specs.Claims.{RanksStayFalling, StayConfined, StayWrittenOrHead}
 use Rattle.sy_checker.specs.Finding.{IsTrueFinding, words}
 use Rattle.sy_checker.specs.Fit.{AreProtected, IsFit, action_name, name_of}
 use Rattle.sy_checker.specs.declared.finding.Finding.{Finding}
@@ -68,12 +69,16 @@ finding_text site found = finding_line site found ++ flat_map (way_line site) fo
 
 -- ---- what is said of a site
 
--- So many classes are protected, the site is sound, and no run of it loses a message of one of them.
+-- So many classes are protected, the site is sound, and no run of it loses a message of one of them: their copies are confined, ranks fall along
+-- their trails, each message is written or heads there, and is safe.
 pub record KeepsAll (site : Site) (count : ℕ) : Type 0 where
   pub classes : List Class
   pub are_protected : AreProtected site classes
   pub count_is : length classes ≡ count
   pub sound : IsSound site
+  pub confined : StayConfined site
+  pub falling : RanksStayFalling site
+  pub written : StayWrittenOrHead site
   pub safe : (events : List SiteEvent) (state : SiteState) → Runs site events state → AreSafe site state
 
 -- what is found in it

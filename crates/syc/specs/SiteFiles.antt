@@ -1,5 +1,5 @@
 -- The site that a site file describes with the files that it names, and what is told where there is none (this profile's own).
-use Rattle.std.specs.Prelude.{◌≡◌, ℕ, ◌⊎◌, List, [], ◌∷◌, Option, codes, IfSome, map}
+use Rattle.std.specs.Prelude.{◌≡◌, ℕ, ◌⊎◌, List, [], ◌∷◌, Option, Some, codes, IfSome, map}
 use Rattle.sy_site.specs.Sites.{Site}
 use Rattle.sy_site.specs.declared.fault.SiteFault.{SiteFault}
 use Rattle.sy_site.specs.declared.fault.SiteFault.TheVariants as site_fault
@@ -18,6 +18,11 @@ AreGiven bytes_of (file ∷ files) = IfSome (bytes_of file.name) (λ bytes. file
 pub record AreFilesOf (bytes_of : List ℕ → Option (List ℕ)) (text : List ℕ) (given : List File) : Type 0 where
   pub names : map (λ file. file.name) given ≡ file_names text
   pub bytes : AreGiven bytes_of given
+
+-- the bytes of each of these files are known by its name
+abbrev pub AreTold : (List ℕ → Option (List ℕ)) → List (List ℕ) → Type 0
+AreTold bytes_of [] = Unit {0}
+AreTold bytes_of (name ∷ names) = ((bytes : List ℕ) × (bytes_of name ≡ Some bytes)) × AreTold bytes_of names
 
 -- the site file with the files of its relays describes the site
 pub record IsSiteOf (bytes_of : List ℕ → Option (List ℕ)) (text : List ℕ) (site : Site) : Type 0 where

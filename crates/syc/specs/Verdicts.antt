@@ -2,6 +2,7 @@
 use Rattle.std.specs.Prelude.{◌≡◌, ℕ, Bool, true, false, List, ◌∷◌, [], ◌++◌, ◌⊎◌, Option, codes}
 use Rattle.std.specs.Fmt.{decimal}
 use Rattle.sy_site.specs.Sites.{Site}
+use Rattle.sy_site.specs.texts.Files.{file_names}
 use Rattle.sy_cert.specs.Faults.{HasFault}
 use Rattle.sy_cert.specs.declared.fault.TextFault.{TextFault}
 use Rattle.sy_cert.specs.declared.row.Row.{Row}
@@ -12,7 +13,7 @@ use Rattle.syc.specs.Checks.{IsCertificate, KeepsAll, accepted_line}
 use Rattle.syc.specs.HaltTexts.{halt_report}
 use Rattle.syc.specs.Outcomes.{Prints}
 use Rattle.syc.specs.Reports.{Streams, Tells, line_feed}
-use Rattle.syc.specs.SiteFiles.{HasNoAnswer, IsSiteOf}
+use Rattle.syc.specs.SiteFiles.{AreTold, HasNoAnswer, IsSiteOf}
 use Rattle.syc.specs.declared.halt.Halt.TheVariants as halt
 
 -- ---- the verdict
@@ -56,6 +57,15 @@ pub record IsFaultyCertificate (bytes_of : List ℕ → Option (List ℕ)) (site
   pub site : Site
   pub is_site : IsSiteOf bytes_of site_text site
   pub has_fault : HasFault certificate fault.code fault.line
+
+-- The site file describes a site, with the files of its relays, and that site keeps all. Where the bytes of all those files are known, it describes no
+-- other.
+pub record DescribesKept (bytes_of : List ℕ → Option (List ℕ)) (site_text : List ℕ) : Type 0 where
+  pub site : Site
+  pub is_site : IsSiteOf bytes_of site_text site
+  pub count : ℕ
+  pub keeps : KeepsAll site count
+  pub alone : AreTold bytes_of (file_names site_text) → (other : Site) → IsSiteOf bytes_of site_text other → other ≡ site
 
 -- ---- the command
 

@@ -41,6 +41,7 @@ pub fn print<W: Sink, E: Sink>(answer: Result<Answer, Halt>, out: &mut Outputs<W
     ensures printed { IfOk answer (λ a. Prints a.text.items a.is_accepted result out.old out.new) }
     ensures stopped { IfErr answer (λ halt. (result ≡ status_at halt) × (out.new.output ≡ out.old.output)
         × Tells out.old out.new (halt_report halt)) }
+    ensures failed { IfErr answer (λ _. result ≢ 0) }
     ensures status { result ≤ 4 }
     ensures none_failed { result ≢ 4 → out.new.output.faults ≡ out.old.output.faults }
     ensures quiet { result ≡ 0 → Keeps out.old.errors.contents out.new.errors.contents }

@@ -5,10 +5,10 @@ ghost use Rattle.syc.specs.Checks.{AskedIs};
 ghost use Rattle.syc.specs.Outcomes.{Shows};
 ghost use Rattle.syc.specs.Pass.{IsStatus, Leaves, NoneFailed, PassIs, counted};
 ghost use Rattle.syc.specs.Replays.{ReplayIs};
-ghost use Rattle.syc.specs.Verdicts.{VerifyIs};
+ghost use Rattle.syc.specs.Verdicts.{DescribesKept, VerifyIs};
 ghost use Rattle.syc.specs.Words.{AreAskingOf, AreNoCommandOf, ArePassAlone, AreReplayOf, AreVerifyOf};
 ghost use Rattle.syc.specs.declared.command.Asked.{Asked as AnyAsked};
-ghost use Rattle.syc.specs.internal.Commands.{Answers};
+ghost use Rattle.syc.specs.internal.Commands.{Answers, ShowsKept};
 
 use crate::ask::ask;
 use crate::command::{Command, SiteCommand, all_words, command_of};
@@ -65,6 +65,7 @@ fn over_site<W: Sink, E: Sink, F: Files>(
     out: &mut Outputs<W, E>,
 ) -> u8
     ensures answers { Answers (F.bytes_of files.now) command.entry result out.old out.new }
+    ensures kept { ShowsKept (F.bytes_of files.now) command.entry result }
     ensures status { result ≤ 4 }
     ensures none_failed { result ≢ 4 → out.new.output.faults ≡ out.old.output.faults }
     ensures quiet { result ≡ 0 → Keeps out.old.errors.contents out.new.errors.contents }
@@ -95,6 +96,8 @@ pub fn run<R: Source, W: Sink, E: Sink, F: Files>(
     ensures verify { (site certificate site_text text : List ℕ) → AreVerifyOf (map string_bytes args.now) site certificate →
         F.bytes_of files.now site ≡ Some site_text → F.bytes_of files.now certificate ≡ Some text →
         VerifyIs (F.bytes_of files.now) site_text text result out.old out.new }
+    ensures verify_safe { (site certificate text : List ℕ) → AreVerifyOf (map string_bytes args.now) site certificate →
+        F.bytes_of files.now site ≡ Some text → result ≡ 0 → DescribesKept (F.bytes_of files.now) text }
     ensures other { AreNoCommandOf (map string_bytes args.now) → Shows result out.old out.new }
     ensures status { result ≤ 4 }
     ensures quiet { result ≡ 0 → Keeps out.old.errors.contents out.new.errors.contents }

@@ -1,5 +1,5 @@
 //! Verifying: whether a certificate shows that a site keeps each message of its protected classes.
-ghost use Rattle.std.specs.Prelude.{◌≡◌, ◌≢◌, ◌≤◌, ℕ, List, Some, IfErr, IfOk, IfSome};
+ghost use Rattle.std.specs.Prelude.{◌≡◌, ◌≢◌, ◌≤◌, ℕ, List, Some, IfErr, IfOk, IfSome, true};
 ghost use Rattle.std.specs.Io.KnownBytes.{Keeps};
 ghost use Rattle.syc.specs.Checks.{IsCertificate};
 ghost use Rattle.syc.specs.Verdicts as spec;
@@ -13,6 +13,7 @@ use crate::site::read_site;
 use crate::verdict::verdict;
 use std::alloc::Global;
 use sy_cert::{Certificate, FaultCode, read_cert};
+use sy_site::laws::one_site;
 use sy_wire::Sink;
 
 // The certificate of a text.
@@ -58,7 +59,10 @@ fn judge<F: Files>(
     ensures err { IfErr result (λ why. (site text : List ℕ) → F.bytes_of files.now site_name.now ≡ Some site →
         F.bytes_of files.now certificate_name.now ≡ Some text →
         internal.HasNoVerdict (F.bytes_of files.now) site text why) }
+    ensures kept { IfOk result (λ a. (text : List ℕ) → F.bytes_of files.now site_name.now ≡ Some text →
+        a.is_accepted ≡ true → spec.DescribesKept (F.bytes_of files.now) text) }
 {
+    one_site();
     let site = read_site(alloc, files, site_name)?;
     let certificate = read_certificate(alloc, files, certificate_name)?;
     let answer = verdict(alloc, &site, &certificate)?;
@@ -78,6 +82,8 @@ pub fn verify<F: Files, W: Sink, E: Sink>(
     ensures verdict { (site text : List ℕ) → F.bytes_of files.now site_name.now ≡ Some site →
         F.bytes_of files.now certificate_name.now ≡ Some text →
         spec.VerifyIs (F.bytes_of files.now) site text result out.old out.new }
+    ensures verify_safe { (text : List ℕ) → F.bytes_of files.now site_name.now ≡ Some text → result ≡ 0 →
+        spec.DescribesKept (F.bytes_of files.now) text }
     ensures quiet { result ≡ 0 → Keeps out.old.errors.contents out.new.errors.contents }
     ensures status { result ≤ 4 }
     ensures none_failed { result ≢ 4 → out.new.output.faults ≡ out.old.output.faults }

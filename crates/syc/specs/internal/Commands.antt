@@ -3,7 +3,7 @@ use Rattle.std.specs.Prelude.{◌≡◌, ℕ, List, Option, Some}
 use Rattle.syc.specs.Checks.{AskedIs}
 use Rattle.syc.specs.Reports.{Streams}
 use Rattle.syc.specs.Replays.{ReplayIs}
-use Rattle.syc.specs.Verdicts.{VerifyIs}
+use Rattle.syc.specs.Verdicts.{DescribesKept, VerifyIs}
 use Rattle.syc.specs.Words.{AreAsking, AreAskingOf, ArePass, AreReplay, AreReplayOf, AreVerify, AreVerifyOf}
 use Rattle.syc.specs.declared.command.Asked.{Asked}
 use Rattle.syc.specs.declared.command.SiteCommand.{SiteCommand}
@@ -36,3 +36,8 @@ Answers bytes_of (of_site.Replay site events) status old new =
 Answers bytes_of (of_site.Verify site certificate) status old new =
     (site_text text : List ℕ) → bytes_of site.now ≡ Some site_text → bytes_of certificate.now ≡ Some text
     → VerifyIs bytes_of site_text text status old new
+
+-- A verify that ends with 0 shows that the site is kept, whatever the certificate's bytes are. Of the other commands nothing is said here.
+abbrev pub ShowsKept : (List ℕ → Option (List ℕ)) → SiteCommand → ℕ → Type 0
+ShowsKept bytes_of (of_site.Verify site certificate) status = (text : List ℕ) → bytes_of site.now ≡ Some text → status ≡ 0 → DescribesKept bytes_of text
+ShowsKept bytes_of _ status = Unit {0}

@@ -5,3 +5,6 @@ returns-in-Replay-clause-answers g c = rw c.in-Replay.is (λ text input is_site 
 
 pub returns-in-Verify-clause-answers : goal.returns-in-Verify-clause-answers
 returns-in-Verify-clause-answers g c = rw c.in-Verify.is (λ site_text text is_site is_text. c.verify.ensures.verdict site_text text is_site is_text)
+
+pub returns-in-Verify-clause-kept : goal.returns-in-Verify-clause-kept
+returns-in-Verify-clause-kept g c = rw c.in-Verify.is (λ text is_site zero. c.verify.ensures.verify_safe text is_site zero)

@@ -1,4 +1,4 @@
-use Rattle.syc.proofs.Commands.{for_asked, for_replay, for_verify, none_of_site, none_without_name, pass_alone, pass_asks_nothing, pass_is_apart, pass_no_replay, pass_no_verify, without_name}
+use Rattle.syc.proofs.Commands.{for_asked, for_kept, for_replay, for_verify, none_of_site, none_without_name, pass_alone, pass_asks_nothing, pass_is_apart, pass_no_replay, pass_no_verify, without_name}
 use Rattle.syc.proofs.Statuses.{nothing_passed}
 use Rattle.syc.proofs.run.run.Goals as goal
 
@@ -16,6 +16,11 @@ pub returns-in-Ok-Pass-clause-verify : goal.returns-in-Ok-Pass-clause-verify
 returns-in-Ok-Pass-clause-verify g c =
     let alone = pass_alone _ _ _ _ c.as_slice.ensures.value c.in-Ok.ensures (rw c.in-Ok-Pass.field-0-is at c.in-Ok-Pass.ensures.ok) in
     λ site certificate site_text text are is_site is_text. absurd (pass_no_verify _ alone site certificate are)
+
+pub returns-in-Ok-Pass-clause-verify_safe : goal.returns-in-Ok-Pass-clause-verify_safe
+returns-in-Ok-Pass-clause-verify_safe g c =
+    let alone = pass_alone _ _ _ _ c.as_slice.ensures.value c.in-Ok.ensures (rw c.in-Ok-Pass.field-0-is at c.in-Ok-Pass.ensures.ok) in
+    λ site certificate text are is_site zero. absurd (pass_no_verify _ alone site certificate are)
 
 pub returns-in-Ok-Pass-clause-asked : goal.returns-in-Ok-Pass-clause-asked
 returns-in-Ok-Pass-clause-asked g c =
@@ -56,6 +61,11 @@ returns-in-Ok-OverSite-clause-verify g c =
     λ site certificate site_text text are is_site is_text.
     for_verify _ _ _ _ _ c.in-Ok-OverSite.command wanted c.over_site.ensures.answers site certificate site_text text are is_site is_text
 
+pub returns-in-Ok-OverSite-clause-verify_safe : goal.returns-in-Ok-OverSite-clause-verify_safe
+returns-in-Ok-OverSite-clause-verify_safe g c =
+    let wanted = without_name _ _ _ _ c.as_slice.ensures.value c.in-Ok.ensures c.in-Ok-OverSite.command (rw c.in-Ok-OverSite.field-0-is at c.in-Ok-OverSite.ensures.ok) in
+    λ site certificate text are is_site zero. for_kept _ _ _ c.in-Ok-OverSite.command wanted c.over_site.ensures.kept site certificate text are is_site zero
+
 pub returns-in-Ok-OverSite-clause-asked : goal.returns-in-Ok-OverSite-clause-asked
 returns-in-Ok-OverSite-clause-asked g c =
     let wanted = without_name _ _ _ _ c.as_slice.ensures.value c.in-Ok.ensures c.in-Ok-OverSite.command (rw c.in-Ok-OverSite.field-0-is at c.in-Ok-OverSite.ensures.ok) in
@@ -87,6 +97,11 @@ pub returns-clause-verify : goal.returns-clause-verify
 returns-clause-verify g c =
     let none = none_without_name _ _ _ _ c.as_slice.ensures.value c.in-Ok.ensures c.in-Err.ensures.err in
     λ site certificate site_text text are is_site is_text. absurd (none.no_verify site certificate are)
+
+pub returns-clause-verify_safe : goal.returns-clause-verify_safe
+returns-clause-verify_safe g c =
+    let none = none_without_name _ _ _ _ c.as_slice.ensures.value c.in-Ok.ensures c.in-Err.ensures.err in
+    λ site certificate text are is_site zero. absurd (none.no_verify site certificate are)
 
 pub returns-clause-leaves : goal.returns-clause-leaves
 returns-clause-leaves g c =

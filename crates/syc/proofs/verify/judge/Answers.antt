@@ -1,5 +1,6 @@
 use Rattle.std.proofs.lemmas.Result.{err_from_is_err_and}
 use Rattle.syc.proofs.Endings.{certificate_unread, site_unread}
+use Rattle.syc.proofs.Told.{kept_site}
 use Rattle.syc.proofs.verify.judge.Goals as goal
 
 pub returns-clause-ok : goal.returns-clause-ok
@@ -10,6 +11,11 @@ returns-clause-ok g c = λ site text is_site is_text. record {
   are_of = rw is_text at c.in_ok-certificate.ensures.ok;
   says = c.in_ok-answer.ensures.ok;
 }
+
+pub returns-clause-kept : goal.returns-clause-kept
+returns-clause-kept g c = λ text is_site accepts.
+    kept_site c.one_site.ensures (g.F.Files.bytes_of c.args.files.now) text c.in_ok-site.site c.in_ok-certificate.certificate.rows
+    c.in_ok-answer.answer.text.items c.in_ok-answer.answer.is_accepted (c.in_ok-site.ensures.ok text is_site) c.in_ok-answer.ensures.ok accepts
 
 pub returns-in_err-site-clause-err : goal.returns-in_err-site-clause-err
 returns-in_err-site-clause-err g c =

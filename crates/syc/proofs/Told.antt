@@ -1,0 +1,91 @@
+-- Where the bytes of all its files are known, a site file describes one site; and what an accepted certificate shows of it.
+use Rattle.std.proofs.Common.{◌≡◌, ℕ, Bool, List, [], ◌∷◌, inl, inr, map, refl, sym, subst, ap, ◌∙◌, arith}
+use Rattle.std.specs.Prelude.{IfErr, IfOk, IfSome, Option, Some, Result, Ok, Err, true, false, ◌≢◌}
+use Rattle.sy_cert.specs.declared.row.Row.{Row}
+use Rattle.sy_site.specs.Sites.{Site}
+use Rattle.sy_site.specs.texts.Describes.{Describes, File}
+use Rattle.sy_site.specs.texts.Files.{file_names}
+use Rattle.syc.specs.Checks.{KeepsAll}
+use Rattle.syc.specs.Outcomes.{Prints}
+use Rattle.syc.specs.Reports.{Streams}
+use Rattle.syc.specs.SiteFiles.{AreGiven, AreTold, IsSiteOf}
+use Rattle.syc.specs.Verdicts.{DescribesKept, SaysOf}
+use Rattle.syc.specs.declared.answer.Answer.{Answer}
+use Rattle.syc.specs.declared.halt.Halt.{Halt}
+
+-- ---- one site
+
+same_file : (x y : File) → x.name ≡ y.name → x.bytes ≡ y.bytes → x ≡ y
+same_file x y names bytes =
+    let file : List ℕ → List ℕ → File = λ n b. record { name = n; bytes = b } in
+    ap (λ n. file n x.bytes) names ∙ ap (file y.name) bytes
+
+known_bytes : (given : Option (List ℕ)) (bytes known : List ℕ) → given ≡ Some known → IfSome given (λ b. bytes ≡ b) → bytes ≡ known
+known_bytes given bytes known is h = subst (λ o. IfSome o (λ b. bytes ≡ b)) is h
+
+first_name : {a b : List ℕ} {later others : List (List ℕ)} → a ∷ later ≡ b ∷ others → a ≡ b
+first_name e = cc
+
+later_names : {a b : List ℕ} {later others : List (List ℕ)} → a ∷ later ≡ b ∷ others → later ≡ others
+later_names e = cc
+
+no_names : {a : List ℕ} {later : List (List ℕ)} → [] ≡ a ∷ later → ⊥
+no_names e = cc
+
+abbrev name_of : File → List ℕ
+name_of file = file.name
+
+module _ (bytes_of : List ℕ → Option (List ℕ)) where
+  same_files : (xs ys : List File) → map name_of xs ≡ map name_of ys → AreGiven bytes_of xs → AreGiven bytes_of ys
+      → AreTold bytes_of (map name_of ys) → xs ≡ ys
+  same_files [] [] names gx gy told = refl
+  same_files [] (y ∷ ys) names gx gy told = absurd (no_names names)
+  same_files (x ∷ xs) [] names gx gy told = absurd (no_names (sym names))
+  same_files (x ∷ xs) (y ∷ ys) names gx gy told =
+      let name = first_name names in
+      let first = known_bytes (bytes_of x.name) x.bytes told.0.0 (ap bytes_of name ∙ told.0.1) gx.0 in
+      let second = known_bytes (bytes_of y.name) y.bytes told.0.0 told.0.1 gy.0 in
+      ap (λ f. f ∷ xs) (same_file x y name (first ∙ sym second)) ∙ ap (λ fs. y ∷ fs) (same_files xs ys (later_names names) gx.1 gy.1 told.1)
+
+  pub one_of_files : ((text : List ℕ) (files : List File) (a b : Site) → Describes text files a → Describes text files b → a ≡ b)
+      → (text : List ℕ) (site : Site) → IsSiteOf bytes_of text site → AreTold bytes_of (file_names text)
+      → (other : Site) → IsSiteOf bytes_of text other → other ≡ site
+  one_of_files one text site is told other is_other =
+      let same = same_files is_other.given is.given (is_other.are_given.names ∙ sym is.are_given.names) is_other.are_given.bytes is.are_given.bytes
+      (subst (AreTold bytes_of) (sym is.are_given.names) told) in
+      one text is.given other site (subst (λ files. Describes text files other) same is_other.describes) is.describes
+
+-- ---- what an accepted certificate shows
+
+true_or_false : {b : Bool} → b ≡ true → b ≡ false → ⊥
+true_or_false is other = cc
+
+kept_count : (site : Site) (rows : List Row) (printed : List ℕ) (is_accepted : Bool) → SaysOf site rows printed is_accepted
+    → is_accepted ≡ true → (count : ℕ) × KeepsAll site count
+kept_count site rows printed is_accepted (inl says) accepts = (says.count, says.keeps)
+kept_count site rows printed is_accepted (inr says) accepts = absurd (true_or_false accepts says.refused)
+
+-- the site of an acceptance is kept
+pub kept_site : ((text : List ℕ) (files : List File) (a b : Site) → Describes text files a → Describes text files b → a ≡ b)
+    → (bytes_of : List ℕ → Option (List ℕ)) (text : List ℕ) (site : Site) (rows : List Row) (printed : List ℕ) (is_accepted : Bool)
+    → IsSiteOf bytes_of text site → SaysOf site rows printed is_accepted → is_accepted ≡ true → DescribesKept bytes_of text
+kept_site one bytes_of text site rows printed is_accepted is says accepts =
+    let kept = kept_count site rows printed is_accepted says accepts in
+    record { site = site; is_site = is; count = kept.0; keeps = kept.1; alone = one_of_files bytes_of one text site is }
+
+-- What is printed with status 0 is an acceptance.
+zero_is_accepted : (text : List ℕ) (is_accepted : Bool) (status : ℕ) (old new : Streams) → Prints text is_accepted status old new → status ≡ 0
+    → is_accepted ≡ true
+zero_is_accepted text true status old new printed zero = refl
+zero_is_accepted text false status old new (inl printed) zero = absurd (omega (arith, printed.0, zero))
+zero_is_accepted text false status old new (inr failed) zero = absurd (omega (arith, failed.0, zero))
+
+-- A verify that ends with 0 shows that the site is kept.
+pub kept_by_zero : (bytes_of : List ℕ → Option (List ℕ)) (name text : List ℕ) (answer : Result Answer Halt) (status : ℕ) (old new : Streams)
+    → IfOk answer (λ a. (t : List ℕ) → bytes_of name ≡ Some t → a.is_accepted ≡ true → DescribesKept bytes_of t)
+    → IfOk answer (λ a. Prints a.text.items a.is_accepted status old new)
+    → IfErr answer (λ _. status ≢ 0)
+    → bytes_of name ≡ Some text → status ≡ 0 → DescribesKept bytes_of text
+kept_by_zero bytes_of name text (Ok a) status old new kept printed failed known zero =
+    kept text known (zero_is_accepted a.text.items a.is_accepted status old new printed zero)
+kept_by_zero bytes_of name text (Err why) status old new kept printed failed known zero = absurd (failed zero)
