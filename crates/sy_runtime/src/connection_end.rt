@@ -1,0 +1,82 @@
+//! What a connection counts.
+ghost use Rattle.std.specs.Prelude.{◌≡◌, ◌+◌, ◌<◌, ◌^◌, false};
+ghost use Rattle.sy_runtime.specs.Connections.{nothing_counted};
+
+use std::marker::Model;
+
+/// What a connection counted until it ended.
+///
+/// The numbers are exact: a connection that can't count one frame more ends before it takes the frame.
+#[derive(Drop)]
+pub struct ConnEnd {
+    frames: u64,
+    unread: u64,
+    took: u64,
+}
+
+impl Model for ConnEnd {
+    ghost use Rattle.sy_runtime.specs.Connections.{Counts};
+
+    ghost Value = { Counts };
+
+    ghost view = { λ e. record { frames = e.frames; unread = e.unread; took = e.took } };
+}
+
+impl ConnEnd {
+    pub(crate) fn new() -> ConnEnd
+        ensures { result ≡ nothing_counted }
+    {
+        ConnEnd {
+            frames: 0,
+            unread: 0,
+            took: 0,
+        }
+    }
+
+    /// The number of frames whose message was taken or that carry none.
+    pub fn frames(&self) -> u64
+        ensures { result ≡ self.now.frames }
+    {
+        self.frames
+    }
+
+    /// The number of those frames that carry no message.
+    pub fn unread(&self) -> u64
+        ensures { result ≡ self.now.unread }
+    {
+        self.unread
+    }
+
+    /// The number of messages that were taken.
+    pub fn took(&self) -> u64
+        ensures { result ≡ self.now.took }
+    {
+        self.took
+    }
+
+    // Whether a frame more might not be counted.
+    pub(crate) fn is_full(&self) -> bool
+        ensures { result ≡ false →
+            (self.now.frames + 1 < 2 ^ 64) × (self.now.unread + 1 < 2 ^ 64) × (self.now.took + 1 < 2 ^ 64) }
+    {
+        self.frames == u64::MAX || self.unread == u64::MAX || self.took == u64::MAX
+    }
+
+    pub(crate) fn count_message(&mut self)
+        requires frames { self.old.frames + 1 < 2 ^ 64 }
+        requires took { self.old.took + 1 < 2 ^ 64 }
+        ensures { self.new ≡ record self.old { frames = self.old.frames + 1; took = self.old.took + 1 } }
+    {
+        self.frames += 1;
+        self.took += 1;
+    }
+
+    pub(crate) fn count_unread(&mut self)
+        requires frames { self.old.frames + 1 < 2 ^ 64 }
+        requires unread { self.old.unread + 1 < 2 ^ 64 }
+        ensures { self.new ≡ record self.old { frames = self.old.frames + 1; unread = self.old.unread + 1 } }
+    {
+        self.frames += 1;
+        self.unread += 1;
+    }
+}

@@ -1,0 +1,103 @@
+//! What entries are made of without memory.
+ghost use Rattle.std.specs.Prelude.{◌≡◌, IfSome};
+ghost use Rattle.sy_runtime.specs.internal.Held.{IsItem, RenewIs};
+
+use std::alloc::{AllocError, Global};
+use std::sync::Arc;
+use sy_chain::{Node, RenewFault};
+use sy_wire::Message;
+
+// The text of the messages that entries are made with before their own come.
+const BLANK: &[u8] = b"<0>1 - - - - - -";
+
+/// What entries are made of without memory.
+#[derive(Drop)]
+pub(crate) struct Makings {
+    // entries that have left the relay; the messages of some may still have another owner
+    pub(crate) used: Vec<Node>,
+    // an entry whose message has no other owner, for a message that no used one can be made to
+    fresh: Option<Node>,
+}
+
+// What came of a text and an entry.
+#[derive(Clone, Copy)]
+pub(crate) enum Renewal {
+    Message,
+    NoMessage,
+    Shared,
+}
+
+// Makes an entry of that text, in the memory of this one. Its list and input are chosen where it is taken.
+fn renew(node: &mut Node, raw: &mut Vec<u8>) -> Renewal
+    ensures { RenewIs result raw.old.items node.new raw.new.items }
+{
+    match node.renew(raw, 0, 0, 0, 0) {
+        Ok(()) => Renewal::Message,
+        Err(RenewFault::Message(_)) => Renewal::NoMessage,
+        Err(RenewFault::Shared) => Renewal::Shared,
+    }
+}
+
+fn blank_entry(alloc: Global) -> Result<Option<Node>, AllocError> {
+    let Ok(message) = Message::read(Vec::from_slice(alloc, BLANK)?) else {
+        return Ok(None);
+    };
+    let Ok(message) = Arc::new(alloc, message) else {
+        return Err(AllocError);
+    };
+    match Node::new(alloc, message, 0, 0, 0, 0) {
+        Ok(node) => Ok(Some(node)),
+        Err(_) => Err(AllocError),
+    }
+}
+
+impl Makings {
+    pub(crate) fn new(alloc: Global) -> Makings {
+        Makings {
+            used: Vec::new(alloc),
+            fresh: None,
+        }
+    }
+
+    /// Takes the memory that one entry more may need.
+    pub(crate) fn prepare(&mut self, alloc: Global) -> Result<(), AllocError> {
+        if self.fresh.is_none() {
+            self.fresh = blank_entry(alloc)?;
+        }
+        Ok(())
+    }
+
+    // The item of a text, in the memory of the fresh entry; none where that isn't there.
+    fn item_of_fresh(&mut self, raw: &mut Vec<u8>) -> Option<Option<Node>>
+        ensures { IfSome result (λ item. IsItem raw.old.items item) }
+    {
+        let mut node = self.fresh.take()?;
+        match renew(&mut node, raw) {
+            Renewal::Message => Some(Some(node)),
+            Renewal::NoMessage => {
+                self.fresh = Some(node);
+                Some(None)
+            }
+            Renewal::Shared => None,
+        }
+    }
+
+    /// The item of a text: an entry of its message, or that it is no message. It takes no memory. It is none only
+    /// where nothing was prepared.
+    pub(crate) fn item_of(&mut self, raw: &mut Vec<u8>) -> Option<Option<Node>>
+        ensures { IfSome result (λ item. IsItem raw.old.items item) }
+    {
+        let Some(mut node) = self.used.pop() else {
+            return self.item_of_fresh(raw);
+        };
+        match renew(&mut node, raw) {
+            Renewal::Message => Some(Some(node)),
+            Renewal::NoMessage => {
+                // (the room that it had is there)
+                let _ = self.used.push(node);
+                Some(None)
+            }
+            Renewal::Shared => self.item_of_fresh(raw),
+        }
+    }
+}
