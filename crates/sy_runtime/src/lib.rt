@@ -6,5 +6,6 @@
 pub mod connection_end;
 mod gathering;
 mod makings;
+mod taking;
 
 pub use connection_end::ConnEnd;

@@ -1,0 +1,98 @@
+-- What a connection holds once the board took what stood first in its batch.
+use Rattle.std.proofs.Common.{◌≡◌, ℕ, ◌+◌, List, [], ◌∷◌, ◌++◌, None, Some, refl, sym, ap, ◌∙◌, append_assoc, append-nil, length, length-append, subst}
+use Rattle.std.specs.Prelude.{Option, Err}
+use Rattle.std.proofs.lemmas.List.Concat.{flat_map-append}
+use Rattle.sy_chain.specs.Entries.{Entry}
+use Rattle.sy_wire.specs.Frames.{frame, stream}
+use Rattle.sy_rules.specs.PlanValue.{Plan}
+use Rattle.sy_board.specs.relay.Plans.{IsDue, input_at}
+use Rattle.sy_board.specs.relay.Steps.{IsOfInput}
+use Rattle.sy_runtime.specs.Connections.{Begins, Counts, Sorted}
+use Rattle.sy_runtime.specs.internal.Held.{Holds, Stand}
+use Rattle.sy_runtime.specs.internal.Taking.{IsLast, PutIs}
+use Rattle.sy_runtime.specs.declared.taking.Pause.{Pause}
+use Rattle.sy_runtime.specs.declared.taking.Pause.TheVariants.{Held, TotalsFull, Hands}
+
+-- an entry that follows an input's list, with all due of it, is one of that input
+pub of_input : (plan : Plan) (input : ℕ) (old new : Entry) (list due : ℕ) → new ≡ record old { list = list; input = input; due = due }
+    → list ≡ (input_at plan input).list → IsDue plan list old.message due → IsOfInput plan input new
+of_input plan input old new list due is its due_is = subst (IsOfInput plan input) (sym is) (record {
+  input_is = refl;
+  list = its;
+  due = subst (λ n. IsDue plan n old.message due) its due_is;
+})
+
+-- what is held begins with what was counted
+pub begins : (read : List ℕ) (end : Counts) (batch : List (Option Entry)) (left : List ℕ) → (h : Holds read end batch left)
+    → Begins read end (stream h.pending ++ left)
+begins read end batch left h = record { frames = h.frames; whole = h.whole; count = h.count; sorted = h.sorted }
+
+-- the first of the batch was counted
+counted : (read : List ℕ) (end end' : Counts) (item : Option Entry) (batch : List (Option Entry)) (left raw : List ℕ) (pending frames : List (List ℕ))
+    → read ≡ stream frames ++ (stream (raw ∷ pending) ++ left) → length frames ≡ end.frames → end'.frames ≡ end.frames + 1
+    → Sorted (frames ++ raw ∷ []) end'.unread end'.took → Stand pending batch → Holds read end' batch left
+counted read end end' item batch left raw pending frames whole count more sorted stand = record {
+  frames = frames ++ raw ∷ [];
+  pending = pending;
+  whole = whole
+      ∙ ap (λ x. stream frames ++ x) (append_assoc (frame raw) (stream pending) left)
+      ∙ sym (append_assoc (stream frames) (frame raw) (stream pending ++ left))
+      ∙ ap (λ x. (stream frames ++ x) ++ (stream pending ++ left)) (sym (append-nil (frame raw)))
+      ∙ ap (λ x. x ++ (stream pending ++ left)) (sym (flat_map-append frame frames (raw ∷ [])));
+  count = length-append frames (raw ∷ []) ∙ ap (λ n. n + 1) count ∙ sym more;
+  sorted = sorted;
+  stand = stand;
+}
+
+took_stand : (read : List ℕ) (end : Counts) (node : Entry) (batch : List (Option Entry)) (left : List ℕ) (fs pending : List (List ℕ))
+    → read ≡ stream fs ++ (stream pending ++ left) → length fs ≡ end.frames → Sorted fs end.unread end.took → Stand pending (Some node ∷ batch)
+    → Holds read (record end { frames = end.frames + 1; took = end.took + 1 }) batch left
+took_stand read end node batch left fs _ whole count sorted (Stand.one {raws} raw _ is size later) =
+    counted read end (record end { frames = end.frames + 1; took = end.took + 1 }) (Some node) batch left raw raws fs whole count refl
+    (Sorted.message raw sorted (node.message, is.0, is.1) size) later
+
+unread_stand : (read : List ℕ) (end : Counts) (batch : List (Option Entry)) (left : List ℕ) (fs pending : List (List ℕ))
+    → read ≡ stream fs ++ (stream pending ++ left) → length fs ≡ end.frames → Sorted fs end.unread end.took → Stand pending (None ∷ batch)
+    → Holds read (record end { frames = end.frames + 1; unread = end.unread + 1 }) batch left
+unread_stand read end batch left fs _ whole count sorted (Stand.one {raws} raw _ is size later) =
+    counted read end (record end { frames = end.frames + 1; unread = end.unread + 1 }) None batch left raw raws fs whole count refl
+    (Sorted.unread raw sorted is size) later
+
+-- the message that stood first was taken
+pub took_one : (read : List ℕ) (end end' : Counts) (item : Option Entry) (node : Entry) (later : List (Option Entry)) (left : List ℕ)
+    → item ≡ Some node → end' ≡ record end { frames = end.frames + 1; took = end.took + 1 } → Holds read end (item ∷ later) left → Holds read end' later left
+took_one read end end' item node later left is more held =
+    let h : Holds read end (Some node ∷ later) left = subst (λ i. Holds read end (i ∷ later) left) is held in
+    subst (λ e. Holds read e later left) (sym more) (took_stand read end node later left h.frames h.pending h.whole h.count h.sorted h.stand)
+
+-- the frame that stood first is no message
+pub unread_one : (read : List ℕ) (end end' : Counts) (item : Option Entry) (later : List (Option Entry)) (left : List ℕ)
+    → item ≡ None → end' ≡ record end { frames = end.frames + 1; unread = end.unread + 1 } → Holds read end (item ∷ later) left → Holds read end' later left
+unread_one read end end' item later left is more held =
+    let h : Holds read end (None ∷ later) left = subst (λ i. Holds read end (i ∷ later) left) is held in
+    subst (λ e. Holds read e later left) (sym more) (unread_stand read end later left h.frames h.pending h.whole h.count h.sorted h.stand)
+
+-- whatever it pauses for, it holds what it held
+pub pauses : (read : List ℕ) (end : Counts) (later : List (Option Entry)) (left : List ℕ) (pause : Pause) → Holds read end later left
+    → PutIs (Err pause) read end later left
+pauses read end later left (Held hold) h = h
+pauses read end later left TotalsFull h = (stream h.pending ++ left, begins read end later left h)
+pauses read end later left Hands h = (stream h.pending ++ left, begins read end later left h)
+
+-- it ends before the first of its batch was taken
+pub ends_last : (read : List ℕ) (end : Counts) (item : Option Entry) (later : List (Option Entry)) (left : List ℕ) (pause : Pause) → IsLast pause
+    → Holds read end (item ∷ later) left → PutIs (Err pause) read end later left
+ends_last read end item later left (Held hold) last h = absurd last
+ends_last read end item later left TotalsFull last h = (stream h.pending ++ left, begins read end (item ∷ later) left h)
+ends_last read end item later left Hands last h = (stream h.pending ++ left, begins read end (item ∷ later) left h)
+
+pub ends_now : (read : List ℕ) (end : Counts) (batch later : List (Option Entry)) (left : List ℕ) (pause : Pause) → IsLast pause
+    → Holds read end batch left → PutIs (Err pause) read end later left
+ends_now read end batch later left (Held hold) last h = absurd last
+ends_now read end batch later left TotalsFull last h = (stream h.pending ++ left, begins read end batch left h)
+ends_now read end batch later left Hands last h = (stream h.pending ++ left, begins read end batch left h)
+
+-- what is held begins with what was counted, whatever follows
+pub begins_somehow : (read : List ℕ) (end : Counts) (batch : List (Option Entry)) (left : List ℕ) → Holds read end batch left
+    → (rest : List ℕ) × Begins read end rest
+begins_somehow read end batch left h = (stream h.pending ++ left, begins read end batch left h)
