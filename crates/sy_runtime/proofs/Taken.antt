@@ -96,3 +96,22 @@ ends_now read end batch later left Hands last h = (stream h.pending ++ left, beg
 pub begins_somehow : (read : List ℕ) (end : Counts) (batch : List (Option Entry)) (left : List ℕ) → Holds read end batch left
     → (rest : List ℕ) × Begins read end rest
 begins_somehow read end batch left h = (stream h.pending ++ left, begins read end batch left h)
+
+none_pending : (pending : List (List ℕ)) → Stand pending [] → pending ≡ []
+none_pending _ Stand.nothing = refl
+
+-- once the batch is taken, what is left in the framer follows
+pub settled : (read : List ℕ) (end : Counts) (batch : List (Option Entry)) (left : List ℕ) → batch ≡ [] → Holds read end batch left → Begins read end left
+settled read end batch left none held =
+    let h : Holds read end [] left = subst (λ b. Holds read end b left) none held in
+    record {
+      frames = h.frames;
+      whole = h.whole ∙ ap (λ p. stream h.frames ++ (stream p ++ left)) (none_pending h.pending h.stand);
+      count = h.count;
+      sorted = h.sorted;
+    }
+
+-- with nothing in the batch, what is left in the framer follows at once
+pub unsettled : (read : List ℕ) (end : Counts) (batch : List (Option Entry)) (left : List ℕ) → batch ≡ [] → Begins read end left → Holds read end batch left
+unsettled read end batch left none b = subst (λ xs. Holds read end xs left) (sym none)
+    (record { frames = b.frames; pending = []; whole = b.whole; count = b.count; sorted = b.sorted; stand = Stand.nothing })

@@ -1,8 +1,16 @@
--- What a connection reads, and what it counts of that.
-use Rattle.std.specs.Prelude.{◌≡◌, ℕ, ◌+◌, List, [], ◌∷◌, ◌++◌, length}
-use Rattle.sy_wire.specs.Frames.{IsSize, stream}
+-- What a connection reads, what it counts of that, and how it ends.
+use Rattle.std.specs.Prelude.{◌≡◌, ◌≢◌, ℕ, ◌+◌, List, [], ◌∷◌, ◌++◌, length, Option, Result, Ok, Err}
+use Rattle.std.specs.Io.KnownBytes.{Consumes, IsAtEnd}
+use Rattle.sy_wire.specs.Frames.{IsBadLength, IsOpen, IsSize, IsTooLong, stream}
 use Rattle.sy_wire.specs.Messages.{IsFault, IsMessage, Said}
+use Rattle.sy_wire.specs.Streams.{Rose}
 use Rattle.sy_wire.specs.declared.message.MsgCode.{MsgCode}
+use Rattle.sy_wire.specs.declared.framer.FrameFault.{FrameFault}
+use Rattle.sy_wire.specs.declared.framer.FrameFault.TheVariants.{BadLength, TooLong, Truncated, NoMemory, Failed}
+use Rattle.sy_runtime.specs.declared.connection_end.Finish.{Finish}
+use Rattle.sy_runtime.specs.declared.connection_end.Finish.TheVariants as finish
+use Rattle.sy_runtime.specs.declared.fault.RunFault.{RunFault}
+use Rattle.sy_runtime.specs.declared.fault.RunFault.TheVariants as fault
 
 -- What a connection counts: the frames whose message was taken or that carry none, those of them that carry none, and the messages taken.
 pub record Counts : Type 0 where
@@ -38,3 +46,31 @@ pub record Begins (bytes : List ℕ) (end : Counts) (rest : List ℕ) : Type 0 w
   pub whole : bytes ≡ stream frames ++ rest
   pub count : length frames ≡ end.frames
   pub sorted : Sorted frames end.unread end.took
+
+-- bytes go on with a fault of a frame, where nothing is known to come behind them; 14 and 15 are never one
+abbrev pub GoesOnWith : FrameFault → List ℕ → Option (List ℕ) → Type 0
+GoesOnWith BadLength rest ahead = IsBadLength rest
+GoesOnWith TooLong rest ahead = IsTooLong rest
+GoesOnWith Truncated rest ahead = (rest ≢ []) × IsOpen rest × IsAtEnd ahead
+GoesOnWith NoMemory rest ahead = ⊥
+GoesOnWith Failed rest ahead = ⊥
+
+-- How a connection ended, by the rest of what it read, what its reader has left, and how many reads had failed before and after. Where the relay
+-- closed, memory ran out, no hand was free or a total is full, the rest may be anything.
+abbrev pub EndsWith : Result Finish RunFault → List ℕ → Option (List ℕ) → ℕ → ℕ → Type 0
+EndsWith (Ok finish.Ended) rest ahead failed failed' = (rest ≡ []) × IsAtEnd ahead
+EndsWith (Ok finish.Closed) rest ahead failed failed' = Unit {0}
+EndsWith (Err fault.Read) rest ahead failed failed' = Rose failed failed'
+EndsWith (Err fault.Bind) rest ahead failed failed' = ⊥
+EndsWith (Err fault.Hands) rest ahead failed failed' = Unit {0}
+EndsWith (Err fault.NoMemory) rest ahead failed failed' = Unit {0}
+EndsWith (Err (fault.Frame why)) rest ahead failed failed' = GoesOnWith why rest ahead
+EndsWith (Err fault.TotalsFull) rest ahead failed failed' = Unit {0}
+
+-- What a connection read begins with the frames that it counted, and it ended so.
+pub record Connects (answer : Result Finish RunFault) (end : Counts) (ahead ahead' : Option (List ℕ)) (failed failed' : ℕ) : Type 0 where
+  pub read : List ℕ
+  pub rest : List ℕ
+  pub consumed : Consumes ahead ahead' read
+  pub begins : Begins read end rest
+  pub ends : EndsWith answer rest ahead' failed failed'

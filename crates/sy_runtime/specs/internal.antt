@@ -1,3 +1,6 @@
 pub mod Held
 pub mod Gathering
 pub mod Taking
+pub mod Halting
+pub mod Reading
+pub mod Turning

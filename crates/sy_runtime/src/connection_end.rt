@@ -1,8 +1,17 @@
-//! What a connection counts.
+//! What a connection counts, and how it ends.
 ghost use Rattle.std.specs.Prelude.{◌≡◌, ◌+◌, ◌<◌, ◌^◌, false};
 ghost use Rattle.sy_runtime.specs.Connections.{nothing_counted};
 
 use std::marker::Model;
+
+/// How a connection ended.
+#[derive(Clone, Copy, Debug, PartialEq, Eq)]
+pub enum Finish {
+    /// Its reader ended, and each frame that came was dealt with.
+    Ended,
+    /// The relay closed. What was read and not yet taken is dropped.
+    Closed,
+}
 
 /// What a connection counted until it ended.
 ///

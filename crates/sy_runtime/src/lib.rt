@@ -4,8 +4,20 @@
 #![tactic(auto)]
 
 pub mod connection_end;
+pub mod fault;
 mod gathering;
+mod halt;
+mod locked;
 mod makings;
+mod putting;
+mod reading;
+pub mod relay;
+pub mod shared;
 mod taking;
+mod turns;
+mod waiting;
 
-pub use connection_end::ConnEnd;
+pub use connection_end::{ConnEnd, Finish};
+pub use fault::RunFault;
+pub use relay::Relay;
+pub use shared::Gate;

@@ -1,0 +1,58 @@
+-- What a connection answers, by what it holds between its reads.
+use Rattle.std.proofs.Common.{◌≡◌, ◌≢◌, ℕ, List, [], ◌++◌, sym, ap, ◌∙◌, subst, append_assoc}
+use Rattle.std.specs.Prelude.{Option, Ok, Err, Bool, true, false}
+use Rattle.std.specs.Io.KnownBytes.{IsAtEnd, Keeps}
+use Rattle.std.proofs.KnownBytes.{Consumes-kept, Consumes-trans}
+use Rattle.sy_wire.specs.Frames.{Held, IsOpen, stream}
+use Rattle.sy_wire.specs.Steps.{Fills}
+use Rattle.sy_wire.specs.Streams.{Rose}
+use Rattle.sy_wire.specs.declared.framer.FrameFault.TheVariants.{Truncated}
+use Rattle.sy_runtime.specs.Connections.{Begins, Connects, Counts}
+use Rattle.sy_runtime.specs.declared.connection_end.Finish.TheVariants as finish
+use Rattle.sy_runtime.specs.declared.fault.RunFault.TheVariants as fault
+use Rattle.sy_runtime.specs.internal.Reading.{MayGoOn, Serves}
+
+pub ended : (ahead ahead' : Option (List ℕ)) (failed failed' : ℕ) (end : Counts) (left : List ℕ) → Serves ahead ahead' end left → left ≡ [] → IsAtEnd ahead'
+    → Connects (Ok finish.Ended) end ahead ahead' failed failed'
+ended ahead ahead' failed failed' end left s over at_end =
+    record { read = s.read; rest = left; consumed = s.consumed; begins = s.begins; ends = (over, at_end) }
+
+pub truncated : (ahead ahead' : Option (List ℕ)) (failed failed' : ℕ) (end : Counts) (left : List ℕ) → Serves ahead ahead' end left → left ≢ [] → IsOpen left
+    → IsAtEnd ahead' → Connects (Err (fault.Frame Truncated)) end ahead ahead' failed failed'
+truncated ahead ahead' failed failed' end left s some is_open at_end =
+    record { read = s.read; rest = left; consumed = s.consumed; begins = s.begins; ends = (some, is_open, at_end) }
+
+pub failed_read : (ahead a a' : Option (List ℕ)) (failed failed' : ℕ) (end : Counts) (left : List ℕ) → Serves ahead a end left → Keeps a a' → Rose failed failed'
+    → Connects (Err fault.Read) end ahead a' failed failed'
+failed_read ahead a a' failed failed' end left s keeps rose =
+    record { read = s.read; rest = left; consumed = Consumes-kept ahead a a' s.read s.consumed keeps; begins = s.begins; ends = rose }
+
+more : (read piece : List ℕ) (end : Counts) (left : List ℕ) → Begins read end left → Begins (read ++ piece) end (left ++ piece)
+more read piece end left b = record {
+  frames = b.frames;
+  whole = ap (λ x. x ++ piece) b.whole ∙ append_assoc (stream b.frames) left piece;
+  count = b.count;
+  sorted = b.sorted;
+}
+
+pub filled : (ahead a a' : Option (List ℕ)) (failed failed' : ℕ) (end : Counts) (old new : Held) (count : ℕ) (is_over : Bool) → Serves ahead a end old.left
+    → Fills old count new a a' → failed' ≡ failed → (is_over ≡ true → count ≡ 0) → MayGoOn ahead a' failed failed' end new is_over
+filled ahead a a' failed failed' end old new count is_over s fills same over = record {
+  serves = record {
+    read = s.read ++ fills.piece;
+    consumed = Consumes-trans ahead a a' s.read fills.piece s.consumed fills.reads.consumed;
+    begins = subst (λ l. Begins (s.read ++ fills.piece) end l) (sym (ap (λ h. h.left) fills.feeds.after)) (more s.read fills.piece end old.left s.begins);
+  };
+  good = ap (λ h. h.has_failed) fills.feeds.after ∙ fills.feeds.good;
+  same = same;
+  over = λ yes. fills.reads.at_end (over yes);
+}
+
+pub stays : (ahead a a' : Option (List ℕ)) (failed failed' : ℕ) (end : Counts) (old new : Held) (is_over : Bool) → Serves ahead a end old.left
+    → old.has_failed ≡ false → new ≡ old → a' ≡ a → failed' ≡ failed → (is_over ≡ true → IsAtEnd a) → MayGoOn ahead a' failed failed' end new is_over
+stays ahead a a' failed failed' end old new is_over s good same ahead_same faults over = record {
+  serves = subst (λ x. Serves ahead x end new.left) (sym ahead_same) (subst (λ h. Serves ahead a end h.left) (sym same) s);
+  good = ap (λ h. h.has_failed) same ∙ good;
+  same = faults;
+  over = λ yes. subst IsAtEnd (sym ahead_same) (over yes);
+}

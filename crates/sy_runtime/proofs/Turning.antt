@@ -1,0 +1,183 @@
+-- What a turn of a connection does to what it holds.
+use Rattle.std.proofs.Common.{◌≡◌, ℕ, List, [], refl, sym, ap, ◌∙◌, subst, true≢false}
+use Rattle.std.specs.Prelude.{Option, None, Some, Result, Ok, Err, Bool, false, ⊤, OnOk, IfSome}
+use Rattle.std.proofs.KnownBytes.{Consumes-nil}
+use Rattle.sy_chain.specs.Entries.{Entry}
+use Rattle.sy_wire.specs.Frames.{Held}
+use Rattle.sy_wire.specs.declared.framer.FrameFault.{FrameFault}
+use Rattle.sy_wire.specs.declared.framer.FrameFault.TheVariants as frame
+use Rattle.sy_runtime.specs.Connections.{Begins, Connects, Counts, EndsWith, GoesOnWith, Sorted, nothing_counted}
+use Rattle.sy_runtime.specs.internal.Gathering.{GatherIs, IsAtFront}
+use Rattle.sy_runtime.specs.internal.Halting.{BatchIs, halted, halted_at}
+use Rattle.sy_runtime.specs.internal.Held.{Holds}
+use Rattle.sy_runtime.specs.internal.Reading.{MayGoOn, Serves}
+use Rattle.sy_runtime.specs.internal.Turning.{Goes, IsEarly, RoundIs, TurnIs, Turns, round_of}
+use Rattle.sy_runtime.specs.declared.connection_end.Finish.{Finish}
+use Rattle.sy_runtime.specs.declared.connection_end.Finish.TheVariants as finish
+use Rattle.sy_runtime.specs.declared.fault.RunFault.{RunFault}
+use Rattle.sy_runtime.specs.declared.fault.RunFault.TheVariants as fault
+use Rattle.sy_runtime.specs.declared.gathering.Gathered.{Gathered}
+use Rattle.sy_runtime.specs.declared.gathering.Gathered.TheVariants as gathered
+use Rattle.sy_runtime.specs.declared.halt.Halt.{Halt}
+use Rattle.sy_runtime.specs.declared.halt.Halt.TheVariants as halt
+use Rattle.sy_runtime.specs.declared.turns.Round.{Round}
+use Rattle.sy_runtime.proofs.Taken.{settled}
+
+halted_early : (h : Halt) (rest : List ℕ) → IsEarly (halted h) rest
+halted_early halt.Closed rest = tt
+halted_early halt.TotalsFull rest = tt
+halted_early halt.Hands rest = tt
+
+halted_at_early : (h : Halt) (stop : Gathered) (rest : List ℕ) → IsEarly (halted_at h stop) rest
+halted_at_early halt.Closed gathered.Open rest = tt
+halted_at_early halt.Closed gathered.Full rest = tt
+halted_at_early halt.Closed (gathered.Fault f) rest = tt
+halted_at_early halt.Closed gathered.NoMemory rest = tt
+halted_at_early halt.Closed gathered.Lost rest = tt
+halted_at_early halt.TotalsFull stop rest = tt
+halted_at_early halt.Hands stop rest = tt
+
+-- whatever ended the gathering, what was read is held
+gathered_holds : (stop : Gathered) (read : List ℕ) (end : Counts) (batch : List (Option Entry)) (held : Held) → GatherIs stop read end batch held
+    → (left : List ℕ) × Holds read end batch left
+gathered_holds gathered.Open read end batch held g = (held.left, g.0)
+gathered_holds gathered.Full read end batch held g = (held.left, g.0)
+gathered_holds (gathered.Fault f) read end batch held g = (held.left, g.0)
+gathered_holds gathered.NoMemory read end batch held g = (held.left, g.0)
+gathered_holds gathered.Lost read end batch held g = g
+
+taken_in : (stop : Gathered) (read : List ℕ) (end end' : Counts) (batch batch' : List (Option Entry)) (held : Held) → GatherIs stop read end batch held
+    → ((left : List ℕ) → Holds read end batch left → Holds read end' batch' left) → batch' ≡ [] → RoundIs (round_of stop (Ok tt)) read end' held batch'
+taken_in gathered.Open read end end' batch batch' held g p none =
+    (record { begins = settled read end' batch' held.left none (p held.left g.0); good = g.1; empty = none }, g.2)
+taken_in gathered.Full read end end' batch batch' held g p none =
+    record { begins = settled read end' batch' held.left none (p held.left g.0); good = g.1; empty = none }
+taken_in gathered.NoMemory read end end' batch batch' held g p none =
+    record { begins = settled read end' batch' held.left none (p held.left g.0); good = g.1; empty = none }
+taken_in (gathered.Fault f) read end end' batch batch' held g p none = (held.left, settled read end' batch' held.left none (p held.left g.0), g.1)
+taken_in gathered.Lost read end end' batch batch' held g p none = (g.0, settled read end' batch' g.0 none (p g.0 g.1), tt)
+
+rounds : (stop : Gathered) (put : Result ⊤ Halt) (read : List ℕ) (end end' : Counts) (batch batch' : List (Option Entry)) (held : Held)
+    → GatherIs stop read end batch held → ((read left : List ℕ) → Holds read end batch left → BatchIs put read end' batch' left) → OnOk put (batch' ≡ [])
+    → RoundIs (round_of stop put) read end' held batch'
+rounds stop (Ok _) read end end' batch batch' held g p all = taken_in stop read end end' batch batch' held g (p read) all
+rounds stop (Err h) read end end' batch batch' held g p all =
+    let held_somehow = gathered_holds stop read end batch held g in
+    let begun = p read held_somehow.0 held_somehow.1 in
+    (begun.0, begun.1, halted_at_early h stop begun.0)
+
+-- after a batch
+pub rounded : (made : Round) (stop : Gathered) (put : Result ⊤ Halt) (read : List ℕ) (end end' : Counts) (batch batch' : List (Option Entry)) (held : Held)
+    → made ≡ round_of stop put → GatherIs stop read end batch held → ((read left : List ℕ) → Holds read end batch left → BatchIs put read end' batch' left)
+    → OnOk put (batch' ≡ []) → RoundIs made read end' held batch'
+rounded made stop put read end end' batch batch' held is g p all =
+    subst (λ r. RoundIs r read end' held batch') (sym is) (rounds stop put read end end' batch batch' held g p all)
+
+fault_early : (f : FrameFault) (rest : List ℕ) (ahead : Option (List ℕ)) → IsAtFront f rest → GoesOnWith f rest ahead
+fault_early frame.BadLength rest ahead e = e
+fault_early frame.TooLong rest ahead e = e
+fault_early frame.Truncated rest ahead e = absurd e
+fault_early frame.NoMemory rest ahead e = absurd e
+fault_early frame.Failed rest ahead e = absurd e
+
+ends_early : (answer : Result Finish RunFault) (rest : List ℕ) (ahead : Option (List ℕ)) (failed failed' : ℕ) → IsEarly answer rest
+    → EndsWith answer rest ahead failed failed'
+ends_early (Ok finish.Closed) rest ahead failed failed' e = tt
+ends_early (Ok finish.Ended) rest ahead failed failed' e = absurd e
+ends_early (Err (fault.Frame f)) rest ahead failed failed' e = fault_early f rest ahead e
+ends_early (Err fault.Read) rest ahead failed failed' e = absurd e
+ends_early (Err fault.Bind) rest ahead failed failed' e = absurd e
+ends_early (Err fault.Hands) rest ahead failed failed' e = tt
+ends_early (Err fault.NoMemory) rest ahead failed failed' e = tt
+ends_early (Err fault.TotalsFull) rest ahead failed failed' e = tt
+
+-- a connection that never began
+pub refused : (answer : Result Finish RunFault) (h : Halt) (end : Counts) (ahead : Option (List ℕ)) (failed : ℕ) → answer ≡ halted h
+    → end ≡ nothing_counted → Connects answer end ahead ahead failed failed
+refused answer h end ahead failed is new = subst (λ e. Connects answer e ahead ahead failed failed) (sym new)
+    (subst (λ a. Connects a nothing_counted ahead ahead failed failed) (sym is) (record {
+      read = [];
+      rest = [];
+      consumed = Consumes-nil ahead;
+      begins = record { frames = []; whole = refl; count = refl; sorted = Sorted.nothing };
+      ends = ends_early (halted h) [] ahead failed failed (halted_early h []);
+    }))
+
+-- before the first turn
+pub first : (ahead : Option (List ℕ)) (failed : ℕ) (end : Counts) (held : Held) (is_over : Bool) (batch : List (Option Entry)) → end ≡ nothing_counted
+    → held ≡ record { left = []; has_failed = false } → batch ≡ [] → is_over ≡ false → Turns ahead ahead failed failed end held is_over batch
+first ahead failed end held is_over batch is new empty not_over = record {
+  goes = record {
+    serves = record {
+      read = [];
+      consumed = Consumes-nil ahead;
+      begins = subst (λ e. Begins [] e held.left) (sym is)
+          (subst (λ h. Begins [] nothing_counted h.left) (sym new) (record { frames = []; whole = refl; count = refl; sorted = Sorted.nothing }));
+    };
+    good = ap (λ h. h.has_failed) new;
+    same = refl;
+    over = λ yes. absurd (true≢false (sym yes ∙ not_over));
+  };
+  empty = empty;
+}
+
+-- a batch that ended it
+pub over_early : (ahead ahead' : Option (List ℕ)) (failed failed' : ℕ) (end end' : Counts) (held : Held) (is_over : Bool) (batch : List (Option Entry))
+    (answer : Result Finish RunFault) → Turns ahead ahead' failed failed' end held is_over batch
+    → ((read : List ℕ) → Begins read end held.left → (rest : List ℕ) × Begins read end' rest × IsEarly answer rest)
+    → Connects answer end' ahead ahead' failed failed'
+over_early ahead ahead' failed failed' end end' held is_over batch answer t kept =
+    let s = t.goes.serves in
+    let r = kept s.read s.begins in
+    record { read = s.read; rest = r.0; consumed = s.consumed; begins = r.1; ends = ends_early answer r.0 ahead' failed failed' r.2 }
+
+-- a batch after which it goes on
+pub goes_on : (ahead ahead' : Option (List ℕ)) (failed failed' : ℕ) (end end' : Counts) (held held' : Held) (is_over is_over' : Bool)
+    (batch batch' : List (Option Entry)) → Turns ahead ahead' failed failed' end held is_over batch → is_over' ≡ is_over
+    → ((read : List ℕ) → Begins read end held.left → Goes read end' held' batch') → Turns ahead ahead' failed failed' end' held' is_over' batch'
+goes_on ahead ahead' failed failed' end end' held held' is_over is_over' batch batch' t same kept =
+    let m = t.goes in
+    let s = m.serves in
+    let r = kept s.read s.begins in
+    record {
+      goes = record {
+        serves = record { read = s.read; consumed = s.consumed; begins = r.begins };
+        good = r.good;
+        same = m.same;
+        over = λ yes. m.over (sym same ∙ yes);
+      };
+      empty = r.empty;
+    }
+
+-- a read after which it goes on
+pub reads_on : (ahead a a' : Option (List ℕ)) (failed f f' : ℕ) (end : Counts) (held held' : Held) (is_over is_over' : Bool) (batch : List (Option Entry))
+    → Turns ahead a failed f end held is_over batch
+    → ((ahead : Option (List ℕ)) (end : Counts) → Serves ahead a end held.left → MayGoOn ahead a' f f' end held' is_over')
+    → Turns ahead a' failed f' end held' is_over' batch
+reads_on ahead a a' failed f f' end held held' is_over is_over' batch t kept = record {
+  goes = subst (λ x. MayGoOn ahead a' x f' end held' is_over') t.goes.same (kept ahead end t.goes.serves);
+  empty = t.empty;
+}
+
+-- a read that ended it
+pub over_read : (ahead a a' : Option (List ℕ)) (failed f f' : ℕ) (end : Counts) (held : Held) (is_over : Bool) (batch : List (Option Entry))
+    (answer : Result Finish RunFault) → Turns ahead a failed f end held is_over batch
+    → ((ahead : Option (List ℕ)) (end : Counts) → Serves ahead a end held.left → Connects answer end ahead a' f f')
+    → Connects answer end ahead a' failed f'
+over_read ahead a a' failed f f' end held is_over batch answer t kept =
+    subst (λ x. Connects answer end ahead a' x f') t.goes.same (kept ahead end t.goes.serves)
+
+-- it goes on, but the relay closes
+gives_up : (ahead ahead' : Option (List ℕ)) (failed failed' : ℕ) (end : Counts) (held : Held) (is_over : Bool) (batch : List (Option Entry))
+    → Turns ahead ahead' failed failed' end held is_over batch → Connects (Err fault.NoMemory) end ahead ahead' failed failed'
+gives_up ahead ahead' failed failed' end held is_over batch t =
+    let s = t.goes.serves in
+    record { read = s.read; rest = held.left; consumed = s.consumed; begins = s.begins; ends = tt }
+
+-- after a wait for memory
+pub waits : (answer : Option (Result Finish RunFault)) (ahead ahead' : Option (List ℕ)) (failed failed' : ℕ) (end : Counts) (held : Held) (is_over : Bool)
+    (batch : List (Option Entry)) → IfSome answer (λ a. a ≡ Err fault.NoMemory) → Turns ahead ahead' failed failed' end held is_over batch
+    → TurnIs answer ahead ahead' failed failed' end held is_over batch
+waits None ahead ahead' failed failed' end held is_over batch is t = t
+waits (Some answer) ahead ahead' failed failed' end held is_over batch is t =
+    subst (λ a. Connects a end ahead ahead' failed failed') (sym is) (gives_up ahead ahead' failed failed' end held is_over batch t)

@@ -1,0 +1,66 @@
+//! What the lock of a relay holds.
+ghost use Rattle.std.specs.Prelude.{◌≡◌, ◌<◌, IfOk};
+
+use crate::halt::Halt;
+use crate::taking::{Hand, has_hand};
+use sy_board::Board;
+use sy_chain::Node;
+use sy_marks::Hold;
+
+/// What the lock of a relay holds. Who has the lock knows of the board what is known of every board.
+#[derive(Drop)]
+pub(crate) struct Locked {
+    // none once the relay has stopped
+    pub(crate) board: Option<Board>,
+    pub(crate) is_closing: bool,
+    // entries that have left the relay, whose memory may be used again
+    pub(crate) used: Vec<Node>,
+    // of each input the hands that connections have: bit k stands for hand k
+    pub(crate) hands: Vec<u64>,
+}
+
+impl Locked {
+    /// What holds the message of a hand; nothing does once the relay closes.
+    pub(crate) fn hold(&self, hand: Hand) -> Hold {
+        if self.is_closing {
+            return Hold::Clear;
+        }
+        match &self.board {
+            Some(board) => {
+                if has_hand(board, hand) {
+                    board.gate(hand.input)
+                } else {
+                    Hold::Clear
+                }
+            }
+            None => Hold::Clear,
+        }
+    }
+
+    /// A free hand of an input, which is its caller's from now on.
+    pub(crate) fn claim(&mut self, input: u32) -> Result<Hand, Halt>
+        ensures { IfOk result (λ hand. (hand.input ≡ input) × (hand.number < 64)) }
+    {
+        if self.is_closing || self.board.is_none() {
+            return Err(Halt::Closed);
+        }
+        let Some(hands) = self.hands.get_mut(input as usize) else {
+            return Err(Halt::Hands);
+        };
+        let number = hands.trailing_ones();
+        if number >= 64 {
+            return Err(Halt::Hands);
+        }
+        *hands |= 1 << number;
+        Ok(Hand { input, number })
+    }
+
+    pub(crate) fn give_back(&mut self, hand: Hand) {
+        if hand.number >= 64 {
+            return;
+        }
+        if let Some(hands) = self.hands.get_mut(hand.input as usize) {
+            *hands &= !(1 << hand.number);
+        }
+    }
+}

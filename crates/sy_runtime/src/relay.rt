@@ -1,0 +1,120 @@
+//! A relay that threads share.
+ghost use Rattle.std.specs.Prelude.{IfSome};
+ghost use Rattle.std.specs.Arc.{arc_value};
+ghost use Rattle.sy_board.specs.relay.Guards.{MayGuard};
+ghost use Rattle.sy_runtime.specs.Connections.{Connects};
+
+use crate::connection_end::{ConnEnd, Finish};
+use crate::fault::RunFault;
+use crate::halt::{Halt, answer_of};
+use crate::locked::Locked;
+use crate::shared::{Gate, Shared};
+use crate::taking::Hand;
+use crate::turns::serve;
+use std::alloc::{AllocError, Global};
+use std::sync::{Arc, Condvar, Mutex, Wait};
+use std::time::Clock;
+use sy_board::{Board, Guard};
+use sy_rules::Plan;
+use sy_wire::Source;
+
+// What the handles of a relay share.
+#[derive(Drop)]
+struct Common<G: Gate> {
+    shared: Shared,
+    gate: G,
+}
+
+/// A relay, which threads share by handles of it.
+#[derive(Drop)]
+pub struct Relay<G: Gate> {
+    common: Arc<Common<G>>,
+}
+
+// Of each of so many inputs the hands that connections have: none.
+fn free_hands(alloc: Global, inputs: usize) -> Result<Vec<u64>, AllocError> {
+    let mut hands = Vec::with_capacity(alloc, inputs)?;
+    for _ in 0..inputs {
+        hands.push(0)?;
+    }
+    Ok(hands)
+}
+
+// What the threads of a relay share, with a board before its first message.
+fn share(alloc: Global, plan: Arc<Plan>, guard: Option<Guard>) -> Result<Shared, AllocError>
+    requires { IfSome guard (λ pairs. MayGuard (arc_value plan) pairs) }
+{
+    let hands = free_hands(alloc, plan.inputs().len())?;
+    let board = Board::new(alloc, plan, guard)?;
+    Ok(Shared {
+        locked: Mutex::new(Locked {
+            board: Some(board),
+            is_closing: false,
+            used: Vec::new(alloc),
+            hands,
+        }),
+        work: Condvar::new(),
+        room: Condvar::new(),
+    })
+}
+
+// A hand of an input for a connection.
+fn claim<R: Wait>(rt: &R, shared: &Shared, input: u32) -> Result<Hand, Halt> {
+    shared.locked.lock(rt).claim(input)
+}
+
+impl<G: Gate> Relay<G> {
+    /// A relay before its first message, without workers: what comes stays in its hands and queues.
+    pub fn new(
+        alloc: Global,
+        plan: Arc<Plan>,
+        guard: Option<Guard>,
+        gate: G,
+    ) -> Result<Relay<G>, AllocError>
+        requires { IfSome guard (λ pairs. MayGuard (arc_value plan) pairs) }
+    {
+        let shared = share(alloc, plan, guard)?;
+        match Arc::new(alloc, Common { shared, gate }) {
+            Ok(common) => Ok(Relay { common }),
+            Err(_) => Err(AllocError),
+        }
+    }
+
+    /// Another handle of the same relay, for another thread.
+    pub fn try_clone(&self) -> Result<Relay<G>, AllocError> {
+        Ok(Relay {
+            common: Arc::try_clone(&self.common)?,
+        })
+    }
+
+    /// Serves one connection of an input on the caller's thread: reads its frames to the end of its reader, takes their messages, and says what it
+    /// counted and how it ended. A frame that carries no message is counted, and the connection goes on.
+    ///
+    /// It waits while a mark or a full queue holds a message (the full-delay mark without limit, a full queue for queue.timeoutEnqueue, after which
+    /// the message is lost, the light-delay mark for 1,000 ms), and while there is no memory; `close` ends each of these waits.
+    pub fn connect<R: Wait + Clock, S: Source>(
+        &self,
+        rt: &R,
+        alloc: Global,
+        input: u32,
+        reader: &mut S,
+    ) -> (ConnEnd, Result<Finish, RunFault>)
+        ensures { Connects result.1 result.0 (S.remaining reader.old) (S.remaining reader.new) (S.faults reader.old) (S.faults reader.new) }
+    {
+        let mut end = ConnEnd::new();
+        let hand = match claim(rt, &self.common.shared, input) {
+            Ok(hand) => hand,
+            Err(halt) => return (end, answer_of(halt)),
+        };
+        let answer = serve(rt, alloc, &self.common.shared, hand, reader, &mut end);
+        (end, answer)
+    }
+
+    /// Closes the relay: its connections take nothing more, and answer so as soon as they come to it. A read that waits isn't ended.
+    pub fn close<R: Wait>(&self, rt: &R) {
+        let shared = &self.common.shared;
+        shared.locked.lock(rt).is_closing = true;
+        shared.work.notify_all();
+        shared.room.notify_all();
+    }
+}

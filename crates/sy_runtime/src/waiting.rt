@@ -1,0 +1,91 @@
+//! How long a connection waits, and what it does where it waited long enough.
+
+use crate::locked::Locked;
+use crate::shared::Shared;
+use crate::taking::{Hand, enter, has_hand};
+use std::sync::{MutexGuard, Wait};
+use std::time::{Clock, Duration};
+use sy_marks::Hold;
+
+/// How long the light-delay mark holds a message, in milliseconds.
+const LIGHT_DELAY: u64 = 1000;
+
+/// After how long memory is asked for again, in milliseconds.
+const MEMORY_WAIT: u64 = 100;
+
+// What is done with a message that waited long enough: the light-delay mark holds it no longer, and at a full queue
+// it is lost. The board refuses both where they aren't due any more.
+fn time_is_up(locked: &mut Locked, hand: Hand, hold: Hold, is_in_hand: &mut bool) {
+    let Some(board) = locked.board.as_mut() else {
+        return;
+    };
+    if !has_hand(board, hand) {
+        return;
+    }
+    match hold {
+        Hold::LightDelay => {
+            if enter(board, hand, true).is_ok() {
+                *is_in_hand = false;
+            }
+        }
+        Hold::Full => {
+            if let Ok(node) = board.expire(hand.input, hand.number) {
+                *is_in_hand = false;
+                let _ = locked.used.push(node);
+            }
+        }
+        Hold::FullDelay | Hold::Clear => {}
+    }
+}
+
+// How long a message waits at most; none where it waits as long as it takes.
+fn patience(locked: &Locked, hand: Hand, hold: Hold) -> Option<Duration> {
+    match hold {
+        Hold::FullDelay => None,
+        Hold::LightDelay | Hold::Clear => Some(Duration::from_millis(LIGHT_DELAY)),
+        Hold::Full => {
+            let board = locked.board.as_ref()?;
+            let input = board.plan().inputs().get(hand.input as usize)?;
+            let queue = board.plan().queues().get(input.queue as usize)?;
+            Some(Duration::from_millis(u64::from(queue.timeout_enqueue)))
+        }
+    }
+}
+
+/// Waits while this holds the hand's message, and does what is to be done where it waited long enough.
+pub(crate) fn wait_out<'a, R: Wait + Clock>(
+    rt: &R,
+    shared: &'a Shared,
+    locked: MutexGuard<'a, Locked>,
+    hand: Hand,
+    hold: Hold,
+    is_in_hand: &mut bool,
+) -> MutexGuard<'a, Locked> {
+    let Some(patience) = patience(&locked, hand, hold) else {
+        return shared
+            .room
+            .wait_while(rt, locked, |it| it.hold(hand) == hold);
+    };
+    let (mut locked, waited) = shared
+        .room
+        .wait_timeout_while(rt, locked, patience, |it| it.hold(hand) == hold);
+    if waited.timed_out() {
+        time_is_up(&mut locked, hand, hold, is_in_hand);
+    }
+    locked
+}
+
+/// Waits until memory may be asked for again; false once the relay closes.
+pub(crate) fn wait_for_memory<R: Wait + Clock>(rt: &R, shared: &Shared) -> bool {
+    let locked = shared.locked.lock(rt);
+    if locked.is_closing {
+        return false;
+    }
+    let (locked, _) = shared.room.wait_timeout_while(
+        rt,
+        locked,
+        Duration::from_millis(MEMORY_WAIT),
+        |it| !it.is_closing,
+    );
+    !locked.is_closing
+}
