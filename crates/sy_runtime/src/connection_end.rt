@@ -71,12 +71,19 @@ impl ConnEnd {
         self.frames == u64::MAX || self.unread == u64::MAX || self.took == u64::MAX
     }
 
+    fn count_frame(&mut self)
+        requires { self.old.frames + 1 < 2 ^ 64 }
+        ensures { self.new ≡ record self.old { frames = self.old.frames + 1 } }
+    {
+        self.frames += 1;
+    }
+
     pub(crate) fn count_message(&mut self)
         requires frames { self.old.frames + 1 < 2 ^ 64 }
         requires took { self.old.took + 1 < 2 ^ 64 }
         ensures { self.new ≡ record self.old { frames = self.old.frames + 1; took = self.old.took + 1 } }
     {
-        self.frames += 1;
+        self.count_frame();
         self.took += 1;
     }
 
@@ -85,7 +92,7 @@ impl ConnEnd {
         requires unread { self.old.unread + 1 < 2 ^ 64 }
         ensures { self.new ≡ record self.old { frames = self.old.frames + 1; unread = self.old.unread + 1 } }
     {
-        self.frames += 1;
+        self.count_frame();
         self.unread += 1;
     }
 }
