@@ -3,11 +3,11 @@ use Rattle.std.proofs.Common.{◌≡◌, ℕ, ◌+◌, List, [], ◌∷◌, ◌+
 use Rattle.std.specs.Prelude.{Option, Err}
 use Rattle.std.proofs.lemmas.List.Concat.{flat_map-append}
 use Rattle.sy_chain.specs.Entries.{Entry}
-use Rattle.sy_wire.specs.Frames.{frame, stream}
+use Rattle.sy_wire.specs.Frames.{IsSize, frame, stream}
 use Rattle.sy_rules.specs.PlanValue.{Plan}
 use Rattle.sy_board.specs.relay.Plans.{IsDue, input_at}
 use Rattle.sy_board.specs.relay.Steps.{IsOfInput}
-use Rattle.sy_runtime.specs.Connections.{Begins, Counts, Sorted}
+use Rattle.sy_runtime.specs.Connections.{Begins, Counts, IsNoText, IsText, Sorted}
 use Rattle.sy_runtime.specs.internal.Held.{Holds, Stand}
 use Rattle.sy_runtime.specs.internal.Taking.{IsLast, PutIs}
 use Rattle.sy_runtime.specs.declared.taking.Pause.{Pause}
@@ -26,6 +26,23 @@ of_input plan input old new list due is its due_is = subst (IsOfInput plan input
 pub begins : (read : List ℕ) (end : Counts) (batch : List (Option Entry)) (left : List ℕ) → (h : Holds read end batch left)
     → Begins read end (stream h.pending ++ left)
 begins read end batch left h = record { frames = h.frames; whole = h.whole; count = h.count; sorted = h.sorted }
+
+-- one frame more at the end
+sorted_unread : (frames : List (List ℕ)) (unread took : ℕ) (raw : List ℕ) → Sorted frames unread took → IsNoText raw → IsSize (length raw)
+    → Sorted (frames ++ raw ∷ []) (unread + 1) took
+sorted_unread _ _ _ raw Sorted.nothing is size = Sorted.unread raw is size Sorted.nothing
+sorted_unread _ _ _ raw (Sorted.unread {later} {unread} {took} first first_is first_size sorted) is size =
+    Sorted.unread first first_is first_size (sorted_unread later unread took raw sorted is size)
+sorted_unread _ _ _ raw (Sorted.message {later} {unread} {took} first first_is first_size sorted) is size =
+    Sorted.message first first_is first_size (sorted_unread later unread took raw sorted is size)
+
+sorted_message : (frames : List (List ℕ)) (unread took : ℕ) (raw : List ℕ) → Sorted frames unread took → IsText raw → IsSize (length raw)
+    → Sorted (frames ++ raw ∷ []) unread (took + 1)
+sorted_message _ _ _ raw Sorted.nothing is size = Sorted.message raw is size Sorted.nothing
+sorted_message _ _ _ raw (Sorted.unread {later} {unread} {took} first first_is first_size sorted) is size =
+    Sorted.unread first first_is first_size (sorted_message later unread took raw sorted is size)
+sorted_message _ _ _ raw (Sorted.message {later} {unread} {took} first first_is first_size sorted) is size =
+    Sorted.message first first_is first_size (sorted_message later unread took raw sorted is size)
 
 -- the first of the batch was counted
 counted : (read : List ℕ) (end end' : Counts) (item : Option Entry) (batch : List (Option Entry)) (left raw : List ℕ) (pending frames : List (List ℕ))
@@ -49,14 +66,14 @@ took_stand : (read : List ℕ) (end : Counts) (node : Entry) (batch : List (Opti
     → Holds read (record end { frames = end.frames + 1; took = end.took + 1 }) batch left
 took_stand read end node batch left fs _ whole count sorted (Stand.one {raws} raw _ is size later) =
     counted read end (record end { frames = end.frames + 1; took = end.took + 1 }) (Some node) batch left raw raws fs whole count refl
-    (Sorted.message raw sorted (node.message, is.0, is.1) size) later
+    (sorted_message fs end.unread end.took raw sorted (node.message, is.0, is.1) size) later
 
 unread_stand : (read : List ℕ) (end : Counts) (batch : List (Option Entry)) (left : List ℕ) (fs pending : List (List ℕ))
     → read ≡ stream fs ++ (stream pending ++ left) → length fs ≡ end.frames → Sorted fs end.unread end.took → Stand pending (None ∷ batch)
     → Holds read (record end { frames = end.frames + 1; unread = end.unread + 1 }) batch left
 unread_stand read end batch left fs _ whole count sorted (Stand.one {raws} raw _ is size later) =
     counted read end (record end { frames = end.frames + 1; unread = end.unread + 1 }) None batch left raw raws fs whole count refl
-    (Sorted.unread raw sorted is size) later
+    (sorted_unread fs end.unread end.took raw sorted is size) later
 
 -- the message that stood first was taken
 pub took_one : (read : List ℕ) (end end' : Counts) (item : Option Entry) (node : Entry) (later : List (Option Entry)) (left : List ℕ)

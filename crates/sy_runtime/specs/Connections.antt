@@ -30,15 +30,15 @@ IsText raw = (said : Said) × IsMessage said × (said.raw ≡ raw)
 abbrev pub IsNoText : List ℕ → Type 0
 IsNoText raw = (code : MsgCode) × (offset : ℕ) × IsFault raw code offset
 
--- Of the texts that these frames carry, in their order, so many are no message's, and so many are one's.
+-- Of the texts that these frames carry so many are no message's, and so many are one's.
 pub data Sorted : List (List ℕ) → ℕ → ℕ → Type 0 where
   nothing : Sorted [] 0 0
   unread :
-      {frames : List (List ℕ)} {unread took : ℕ} (raw : List ℕ)
-      → Sorted frames unread took → IsNoText raw → IsSize (length raw) → Sorted (frames ++ raw ∷ []) (unread + 1) took
+      {later : List (List ℕ)} {unread took : ℕ} (raw : List ℕ)
+      → IsNoText raw → IsSize (length raw) → Sorted later unread took → Sorted (raw ∷ later) (unread + 1) took
   message :
-      {frames : List (List ℕ)} {unread took : ℕ} (raw : List ℕ)
-      → Sorted frames unread took → IsText raw → IsSize (length raw) → Sorted (frames ++ raw ∷ []) unread (took + 1)
+      {later : List (List ℕ)} {unread took : ℕ} (raw : List ℕ)
+      → IsText raw → IsSize (length raw) → Sorted later unread took → Sorted (raw ∷ later) unread (took + 1)
 
 -- The bytes begin with the frames that were counted, each of which is no message or was taken, and go on with the rest.
 pub record Begins (bytes : List ℕ) (end : Counts) (rest : List ℕ) : Type 0 where

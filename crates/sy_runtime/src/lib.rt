@@ -7,6 +7,7 @@ pub mod connection_end;
 pub mod fault;
 mod gathering;
 mod halt;
+pub mod laws;
 mod locked;
 mod makings;
 mod putting;
