@@ -4,7 +4,7 @@ ghost use Rattle.sy_board.specs.relay.Plans.{input_at};
 ghost use Rattle.sy_board.specs.relay.Steps.{IsHand, IsOfInput};
 ghost use Rattle.sy_chain.specs.Entries.{Entry as Kept};
 ghost use Rattle.sy_runtime.specs.internal.Held.{Holds};
-ghost use Rattle.sy_runtime.specs.internal.Taking.{IsLast, PutIs};
+ghost use Rattle.sy_runtime.specs.internal.Taking.{Enters, IsLast, MayEnter, OnePut, PutIs, SomePut, Takes};
 
 use crate::connection_end::ConnEnd;
 use std::collections::VecDeque;
@@ -51,7 +51,8 @@ fn list_of(plan: &Plan, input: u32) -> u32
 // Makes an entry one of that input: it follows the input's list, with all due that its message executes there.
 fn follow_input(plan: &Plan, input: u32, node: &mut Node)
     requires { input < length plan.now.inputs }
-    ensures { IsOfInput plan.now input node.new }
+    ensures made { IsOfInput plan.now input node.new }
+    ensures message { node.new.message ≡ node.old.message }
 {
     let list = list_of(plan, input);
     let due = plan.due(list, node.message());
@@ -62,6 +63,7 @@ fn follow_input(plan: &Plan, input: u32, node: &mut Node)
 fn take(board: &mut Board, hand: Hand, mut node: Node, used: &mut Vec<Node>) -> Result<bool, Pause>
     requires { IsHand board.old.plan hand.input hand.number }
     ensures ok { OnOk result (board.new.totals.taken ≡ board.old.totals.taken + 1) }
+    ensures message { OnOk result (Takes board.old hand node.message board.new) }
     ensures err { OnErr result (board.new ≡ board.old) }
     ensures last { IfErr result IsLast }
     ensures plan { board.new.plan ≡ board.old.plan }
@@ -83,6 +85,8 @@ fn take(board: &mut Board, hand: Hand, mut node: Node, used: &mut Vec<Node>) -> 
 /// there long enough.
 pub(crate) fn enter(board: &mut Board, hand: Hand, has_waited: bool) -> Result<(), Pause>
     requires { IsHand board.old.plan hand.input hand.number }
+    ensures ok { OnOk result (Enters board.old hand board.new) }
+    ensures err { OnErr result (board.new ≡ board.old) }
     ensures taken { board.new.totals.taken ≡ board.old.totals.taken }
     ensures plan { board.new.plan ≡ board.old.plan }
 {
@@ -100,8 +104,28 @@ pub(crate) fn enter(board: &mut Board, hand: Hand, has_waited: bool) -> Result<(
     }
 }
 
+// A message that was left in the hand goes on.
+fn enter_left(board: &mut Board, hand: Hand, is_in_hand: &mut bool) -> Result<(), Pause>
+    requires { IsHand board.old.plan hand.input hand.number }
+    ensures ok { OnOk result (MayEnter board.old hand board.new) }
+    ensures err { OnErr result (board.new ≡ board.old) }
+    ensures taken { board.new.totals.taken ≡ board.old.totals.taken }
+    ensures plan { board.new.plan ≡ board.old.plan }
+{
+    if !*is_in_hand {
+        return Ok(());
+    }
+    match enter(board, hand, false) {
+        Ok(()) => {
+            *is_in_hand = false;
+            Ok(())
+        }
+        Err(pause) => Err(pause),
+    }
+}
+
 // Takes one item: it is counted where it is no message, or once it was taken.
-#[tactic(auto, using(crate::proofs::Taken::took_one, crate::proofs::Taken::unread_one, crate::proofs::Taken::pauses, crate::proofs::Taken::ends_last))]
+#[tactic(auto, using(crate::proofs::Taken::took_one, crate::proofs::Taken::unread_one, crate::proofs::Taken::pauses, crate::proofs::Taken::ends_last, crate::proofs::Puts::item_put, crate::proofs::Puts::one_put, crate::proofs::Puts::last_put))]
 fn put_one(
     board: &mut Board,
     hand: Hand,
@@ -113,6 +137,7 @@ fn put_one(
     requires { IsHand board.old.plan hand.input hand.number }
     ensures kept { (read left : List ℕ) (later : List (Option Kept)) → Holds read end.old (item ∷ later) left →
         PutIs result read end.new later left }
+    ensures put { OnePut result item board.old hand board.new }
     ensures taken { board.new.totals.taken + end.old.took ≡ board.old.totals.taken + end.new.took }
     ensures plan { board.new.plan ≡ board.old.plan }
 {
@@ -143,7 +168,7 @@ fn put_one(
 
 /// Takes a batch, item after item, up to where the connection has to pause. `is_in_hand` says whether its last
 /// message is still in the hand, where it goes on from there.
-#[tactic(auto, using(crate::proofs::Taken::pauses, crate::proofs::Taken::ends_now))]
+#[tactic(auto, using(crate::proofs::Taken::pauses, crate::proofs::Taken::ends_now, crate::proofs::Puts::some_put, crate::proofs::Puts::first_put))]
 pub(crate) fn put_some(
     board: &mut Board,
     hand: Hand,
@@ -155,17 +180,16 @@ pub(crate) fn put_some(
     ensures kept { (read left : List ℕ) → Holds read end.old batch.old.items left →
         PutIs result read end.new batch.new.items left }
     ensures all { OnOk result (batch.new.items ≡ []) }
+    ensures put { SomePut result batch.old.items batch.new.items board.old hand board.new }
     ensures taken { board.new.totals.taken + end.old.took ≡ board.old.totals.taken + end.new.took }
     ensures plan { board.new.plan ≡ board.old.plan }
 {
     if !has_hand(board, hand) {
         return Err(Pause::Hands);
     }
-    if *is_in_hand {
-        match enter(board, hand, false) {
-            Ok(()) => *is_in_hand = false,
-            Err(pause) => return Err(pause),
-        }
+    match enter_left(board, hand, is_in_hand) {
+        Ok(()) => {}
+        Err(pause) => return Err(pause),
     }
     while let Some(item) = batch.pop_front() {
         match put_one(board, hand, item, end, is_in_hand, used) {
