@@ -1,6 +1,9 @@
-//! Laws of what a connection counts. Each function does nothing; its contract is the law.
+//! Laws of what a connection counts, each the contract of a function that does nothing; and that a relay may be shared among threads.
 ghost use Rattle.std.specs.Prelude.{◌≡◌, ◌+◌, ℕ, List, []};
 ghost use Rattle.sy_runtime.specs.Connections.{Begins, Counts};
+
+use crate::relay::Relay;
+use crate::shared::Gate;
 
 /// Each frame that is counted is no message, or its message was taken.
 pub fn counts_add_up()
@@ -17,3 +20,17 @@ pub fn one_count()
 pub fn all_is_counted()
     ensures { (bytes : List ℕ) (one other : Counts) → Begins bytes one [] → Begins bytes other [] → one ≡ other }
 {}
+
+fn moves<T: Send>(_it: &T) {}
+
+fn is_shared<T: Sync>(_it: &T) {}
+
+/// A handle of a relay may move to another thread, where its gate may be used by any.
+pub fn relay_moves<G: Gate + Send + Sync>(relay: &Relay<G>) {
+    moves(relay);
+}
+
+/// And threads may share one.
+pub fn relay_is_shared<G: Gate + Send + Sync>(relay: &Relay<G>) {
+    is_shared(relay);
+}
