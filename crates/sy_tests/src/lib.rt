@@ -9,6 +9,8 @@ mod actions;
 #[cfg(test)]
 mod chain;
 #[cfg(test)]
+mod connections;
+#[cfg(test)]
 mod guards;
 #[cfg(test)]
 mod marks;

@@ -2,4 +2,4 @@
 
 mod frames;
 mod messages;
-mod streams;
+pub mod streams;

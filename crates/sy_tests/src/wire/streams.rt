@@ -15,10 +15,10 @@ fn fails(failing: &mut usize) -> bool {
 
 // Gives so many bytes at a read at most, and fails at the read of one number, at no other.
 #[derive(Drop)]
-pub(super) struct Pieces<'a> {
-    pub(super) rest: &'a [u8],
-    pub(super) size: usize,
-    pub(super) failing: usize,
+pub(crate) struct Pieces<'a> {
+    pub(crate) rest: &'a [u8],
+    pub(crate) size: usize,
+    pub(crate) failing: usize,
 }
 
 impl Read for Pieces<'_> {

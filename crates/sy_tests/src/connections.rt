@@ -1,0 +1,172 @@
+//! Connections of relays without workers, each over a reader of its own.
+use crate::rows::{Judge, cut, each_is_right_in, number};
+use crate::rules::faults::planned;
+use crate::wire::streams::Pieces;
+use std::alloc::{AllocError, Global};
+use std::sync::{Arc, Wait};
+use std::test::Fail;
+use std::thread;
+use std::time::{Clock, Duration};
+use sy_runtime::{ConnEnd, Finish, Gate, Relay, RunFault};
+use sy_wire::FromRead;
+
+#[derive(Drop)]
+struct NoGate;
+
+impl Gate for NoGate {
+    fn before(&self, _: u32) {}
+
+    fn after(&self, _: u32) {}
+}
+
+// The relay of a script.
+fn opened(alloc: Global, script: &[u8]) -> Result<Option<Relay<NoGate>>, AllocError> {
+    let plan = match planned(alloc, script)? {
+        Ok(plan) => plan,
+        Err(_) => return Ok(None),
+    };
+    let plan = Arc::new(alloc, plan).map_err(|_| AllocError)?;
+    Ok(Some(Relay::new(alloc, plan, None, NoGate)?))
+}
+
+// How a connection ended: 0 at its reader's end, 1 where the relay closed, or the number of the fault, of a frame its own.
+fn number_of(answer: Result<Finish, RunFault>) -> u32 {
+    match answer {
+        Ok(Finish::Ended) => 0,
+        Ok(Finish::Closed) => 1,
+        Err(RunFault::Frame(fault)) => u32::from(fault.number()),
+        Err(fault) => u32::from(fault.number()),
+    }
+}
+
+fn counts(end: &ConnEnd, wanted: &str) -> bool {
+    let mut fields = wanted.split('/');
+    end.frames() == u64::from(number(fields.next()))
+        && end.unread() == u64::from(number(fields.next()))
+        && end.took() == u64::from(number(fields.next()))
+}
+
+// Connections by turns to one relay of a script, whose readers give so many bytes at a read, and fail at the read of this
+// number. Of the first is wanted what it counts, behind slashes, and how it ends; the others are of an empty stream, and of
+// an input that isn't there.
+#[derive(Drop)]
+struct Connected<'a, R: Wait + Clock> {
+    rt: &'a R,
+    size: usize,
+    failing: usize,
+}
+
+impl<R: Wait + Clock> Judge for Connected<'_, R> {
+    fn is_right(
+        &self,
+        alloc: Global,
+        text: &[u8],
+        script: &str,
+        wanted: &str,
+    ) -> Result<bool, AllocError> {
+        let Some(relay) = opened(alloc, script.as_bytes())? else {
+            return Ok(false);
+        };
+        let mut reader = FromRead::new(Pieces {
+            rest: text,
+            size: self.size,
+            failing: self.failing,
+        });
+        let (counted, ended) = cut(wanted, ' ');
+        let (end, answer) = relay.connect(self.rt, alloc, 0, &mut reader);
+        let is_right = counts(&end, counted) && number_of(answer) == number(Some(ended));
+        let mut none = FromRead::new(Pieces {
+            rest: b"",
+            size: 1,
+            failing: usize::MAX,
+        });
+        let (end, answer) = relay.connect(self.rt, alloc, 0, &mut none);
+        let is_over = counts(&end, "0/0/0") && number_of(answer) == 0;
+        let (end, answer) = relay.connect(self.rt, alloc, 1, &mut none);
+        Ok(is_right && is_over && counts(&end, "0/0/0") && number_of(answer) == 73)
+    }
+}
+
+const ROOM: &str =
+    r#"module(load="imtcp") input(type="imtcp" port="6515" flowControl="off") main_queue(queue.type="LinkedList" queue.size="2000" queue.timeoutEnqueue="0") action(name="audit" type="omfile" file="audit.log") | ~"#;
+
+const STREAMS: &str = "
+// messages, and frames that are none
+0/0/0 0 |
+1/0/1 0 | 17 <34>1 - - - - - -
+3/1/2 0 | 17 <34>1 - - - - - -3 abc17 <34>1 - - - - - -
+2/2/0 0 | 1 %2018 <192>1 - - - - - -
+// more than a batch
+1501/1/1500 0 | %[1500]17 <34>1 - - - - - -%[1]2 ab
+// a fault of a frame, behind those that were counted
+2/1/1 11 | 17 <34>1 - - - - - -3 abcx
+1/0/1 12 | 17 <34>1 - - - - - -65537 a
+1/0/1 13 | 17 <34>1 - - - - - -17 <34>1 - - - - -
+0/0/0 13 | 6
+";
+
+// A queue without room loses what comes, once it was taken; and each message waits a second at the light-delay mark.
+const SMALL: &str =
+    r#"module(load="imtcp") input(type="imtcp" port="6515" flowControl="off") main_queue(queue.type="LinkedList" queue.size="4" queue.timeoutEnqueue="0") action(name="audit" type="omfile" file="audit.log") | ~"#;
+
+const LIGHT: &str =
+    r#"module(load="imtcp") input(type="imtcp" port="6515" flowControl="on") main_queue(queue.type="LinkedList" queue.size="4" queue.lightDelayMark="2" queue.timeoutEnqueue="0") action(name="audit" type="omfile" file="audit.log") | ~"#;
+
+const FIFTY: &str = "
+51/1/50 0 | %[50]17 <34>1 - - - - - -%[1]2 ab
+";
+
+const THREE: &str = "
+3/0/3 0 | %[3]17 <34>1 - - - - - -
+";
+
+const FAILED: &str = "
+1/0/1 71 | 17 <34>1 - - - - - -17 <34>1 - - - - - -
+";
+
+#[test]
+fn connections_count_what_they_read(rt: HostRuntime) -> Result<(), Fail> {
+    for size in [1, 70000] {
+        let judge = Connected {
+            rt: &rt,
+            size,
+            failing: usize::MAX,
+        };
+        let tables = [(ROOM, STREAMS), (SMALL, FIFTY), (LIGHT, THREE)];
+        each_is_right_in(&rt, rt.alloc(), &tables, &judge)?;
+    }
+    let judge = Connected {
+        rt: &rt,
+        size: 25,
+        failing: 1,
+    };
+    each_is_right_in(&rt, rt.alloc(), &[(ROOM, FAILED)], &judge)?;
+    Ok(())
+}
+
+// The third message is held by the full-delay mark, until the relay closes.
+const FULL: &[u8] =
+    br#"module(load="imtcp") input(type="imtcp" port="6515" flowControl="full") main_queue(queue.type="LinkedList" queue.size="4" queue.fullDelayMark="2") action(name="audit" type="omfile" file="audit.log")"#;
+
+#[test]
+fn closing_ends_a_wait(rt: HostRuntime) -> Result<(), Fail> {
+    let Some(relay) = opened(rt.alloc(), FULL)? else {
+        return Err(AllocError.into());
+    };
+    let connected = || {
+        let mut reader = FromRead::new(Pieces {
+            rest: b"17 <34>1 - - - - - -17 <34>1 - - - - - -17 <34>1 - - - - - -17 <34>1 - - - - - -",
+            size: 70000,
+            failing: usize::MAX,
+        });
+        let (end, answer) = relay.connect(&rt, rt.alloc(), 0, &mut reader);
+        (counts(&end, "3/0/3"), number_of(answer))
+    };
+    let closed = || {
+        thread::sleep(&rt, Duration::from_millis(100));
+        relay.close(&rt);
+    };
+    let ((is_counted, answer), ()) = thread::join(&rt, connected, closed);
+    assert!(rt; is_counted && answer == 1, "the third message waits");
+    Ok(())
+}
