@@ -1,5 +1,5 @@
 //! A relay that threads share.
-ghost use Rattle.std.specs.Prelude.{IfSome};
+ghost use Rattle.std.specs.Prelude.{◌≡◌, IfOk, IfSome};
 ghost use Rattle.std.specs.Arc.{arc_value};
 ghost use Rattle.sy_board.specs.relay.Guards.{MayGuard};
 ghost use Rattle.sy_runtime.specs.Connections.{Connects};
@@ -7,55 +7,39 @@ ghost use Rattle.sy_runtime.specs.Connections.{Connects};
 use crate::connection_end::{ConnEnd, Finish};
 use crate::fault::RunFault;
 use crate::halt::{Halt, answer_of};
-use crate::locked::Locked;
 use crate::shared::{Gate, Shared};
+use crate::starting::share;
 use crate::taking::Hand;
 use crate::turns::serve;
 use std::alloc::{AllocError, Global};
-use std::sync::{Arc, Condvar, Mutex, Wait};
+use std::marker::Model;
+use std::sync::{Arc, Wait};
 use std::time::Clock;
-use sy_board::{Board, Guard};
+use sy_board::Guard;
 use sy_rules::Plan;
 use sy_wire::Source;
 
-// What the handles of a relay share.
+/// What the handles of a relay and its workers share.
 #[derive(Drop)]
-struct Common<G: Gate> {
-    shared: Shared,
-    gate: G,
+pub(crate) struct Common<G: Gate> {
+    pub(crate) shared: Shared,
+    pub(crate) gate: G,
 }
 
-/// A relay, which threads share by handles of it.
+/// A relay, which threads share by handles of it. What is known of one is the guard that it was given.
 #[derive(Drop)]
 pub struct Relay<G: Gate> {
-    common: Arc<Common<G>>,
+    pub(crate) common: Arc<Common<G>>,
 }
 
-// Of each of so many inputs the hands that connections have: none.
-fn free_hands(alloc: Global, inputs: usize) -> Result<Vec<u64>, AllocError> {
-    let mut hands = Vec::with_capacity(alloc, inputs)?;
-    for _ in 0..inputs {
-        hands.push(0)?;
-    }
-    Ok(hands)
-}
+impl<G: Gate> Model for Relay<G> {
+    ghost use Rattle.std.specs.Prelude.{Option};
+    ghost use Rattle.std.specs.Arc.{arc_value};
+    ghost use Rattle.sy_board.specs.relay.Totals.{Pairs};
 
-// What the threads of a relay share, with a board before its first message.
-fn share(alloc: Global, plan: Arc<Plan>, guard: Option<Guard>) -> Result<Shared, AllocError>
-    requires { IfSome guard (λ pairs. MayGuard (arc_value plan) pairs) }
-{
-    let hands = free_hands(alloc, plan.inputs().len())?;
-    let board = Board::new(alloc, plan, guard)?;
-    Ok(Shared {
-        locked: Mutex::new(Locked {
-            board: Some(board),
-            is_closing: false,
-            used: Vec::new(alloc),
-            hands,
-        }),
-        work: Condvar::new(),
-        room: Condvar::new(),
-    })
+    ghost Value = { Option Pairs };
+
+    ghost view = { λ r. (arc_value r.common).shared.guard };
 }
 
 // A hand of an input for a connection.
@@ -72,8 +56,9 @@ impl<G: Gate> Relay<G> {
         gate: G,
     ) -> Result<Relay<G>, AllocError>
         requires { IfSome guard (λ pairs. MayGuard (arc_value plan) pairs) }
+        ensures { IfOk result (λ relay. relay ≡ guard) }
     {
-        let shared = share(alloc, plan, guard)?;
+        let shared = share(alloc, plan, guard, Vec::new(alloc))?;
         match Arc::new(alloc, Common { shared, gate }) {
             Ok(common) => Ok(Relay { common }),
             Err(_) => Err(AllocError),
@@ -81,7 +66,9 @@ impl<G: Gate> Relay<G> {
     }
 
     /// Another handle of the same relay, for another thread.
-    pub fn try_clone(&self) -> Result<Relay<G>, AllocError> {
+    pub fn try_clone(&self) -> Result<Relay<G>, AllocError>
+        ensures { IfOk result (λ relay. relay ≡ self.now) }
+    {
         Ok(Relay {
             common: Arc::try_clone(&self.common)?,
         })
@@ -114,7 +101,6 @@ impl<G: Gate> Relay<G> {
     pub fn close<R: Wait>(&self, rt: &R) {
         let shared = &self.common.shared;
         shared.locked.lock(rt).is_closing = true;
-        shared.work.notify_all();
-        shared.room.notify_all();
+        shared.wake_all();
     }
 }

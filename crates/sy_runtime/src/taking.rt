@@ -7,6 +7,7 @@ ghost use Rattle.sy_runtime.specs.internal.Held.{Holds};
 ghost use Rattle.sy_runtime.specs.internal.Taking.{Enters, IsLast, MayEnter, OnePut, PutIs, SomePut, Takes};
 
 use crate::connection_end::ConnEnd;
+use crate::used::keep;
 use std::collections::VecDeque;
 use sy_board::{Board, BoardFault, Entry, Taken};
 use sy_chain::Node;
@@ -73,7 +74,7 @@ fn take(board: &mut Board, hand: Hand, mut node: Node, used: &mut Vec<Node>) -> 
         Ok(Taken::InHand) => Ok(true),
         Ok(Taken::Discarded(node)) => {
             // (refused, its memory goes)
-            let _ = used.push(node);
+            keep(used, node);
             Ok(false)
         }
         Err((_, BoardFault::TotalsFull)) => Err(Pause::TotalsFull),

@@ -1,8 +1,10 @@
-//! How long a connection waits, and what it does where it waited long enough.
+//! How long connections and workers wait, and what they do where they waited long enough.
 
 use crate::locked::Locked;
 use crate::shared::Shared;
 use crate::taking::{Hand, enter, has_hand};
+use crate::used::keep;
+use std::alloc::Global;
 use std::sync::{MutexGuard, Wait};
 use std::time::{Clock, Duration};
 use sy_marks::Hold;
@@ -11,7 +13,7 @@ use sy_marks::Hold;
 const LIGHT_DELAY: u64 = 1000;
 
 /// After how long memory is asked for again, in milliseconds.
-const MEMORY_WAIT: u64 = 100;
+pub(crate) const MEMORY_WAIT: u64 = 100;
 
 // What is done with a message that waited long enough: the light-delay mark holds it no longer, and at a full queue
 // it is lost. The board refuses both where they aren't due any more.
@@ -31,7 +33,7 @@ fn time_is_up(locked: &mut Locked, hand: Hand, hold: Hold, is_in_hand: &mut bool
         Hold::Full => {
             if let Ok(node) = board.expire(hand.input, hand.number) {
                 *is_in_hand = false;
-                let _ = locked.used.push(node);
+                keep(&mut locked.used, node);
             }
         }
         Hold::FullDelay | Hold::Clear => {}
@@ -81,11 +83,40 @@ pub(crate) fn wait_for_memory<R: Wait + Clock>(rt: &R, shared: &Shared) -> bool 
     if locked.is_closing {
         return false;
     }
-    let (locked, _) = shared.room.wait_timeout_while(
-        rt,
-        locked,
-        Duration::from_millis(MEMORY_WAIT),
-        |it| !it.is_closing,
-    );
-    !locked.is_closing
+    !pause(rt, shared, locked, MEMORY_WAIT).is_closing
+}
+
+/// Waits so many milliseconds, or until the relay closes.
+pub(crate) fn pause<'a, R: Wait + Clock>(
+    rt: &R,
+    shared: &'a Shared,
+    locked: MutexGuard<'a, Locked>,
+    time: u64,
+) -> MutexGuard<'a, Locked> {
+    let (locked, _) = shared
+        .room
+        .wait_timeout_while(rt, locked, Duration::from_millis(time), |it| {
+            !it.is_closing
+        });
+    locked
+}
+
+/// Waits while a full queue holds the post of a worker, which is lost where it waited long enough.
+pub(crate) fn wait_for_room<'a, R: Wait + Clock>(
+    rt: &R,
+    alloc: Global,
+    shared: &'a Shared,
+    locked: MutexGuard<'a, Locked>,
+    worker: u32,
+) -> MutexGuard<'a, Locked> {
+    let patience = locked.patience(worker);
+    let (mut locked, waited) = shared
+        .room
+        .wait_timeout_while(rt, locked, patience, |it| it.holds_post(alloc, worker));
+    if waited.timed_out() {
+        locked.lose_post(worker);
+    }
+    // (either way it is dealt with, or the relay closes)
+    shared.wake_all();
+    locked
 }

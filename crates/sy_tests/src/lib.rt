@@ -25,4 +25,6 @@ mod script;
 #[cfg(test)]
 mod select;
 #[cfg(test)]
+mod threads;
+#[cfg(test)]
 mod wire;

@@ -1,0 +1,94 @@
+//! What a worker records of an offer.
+ghost use Rattle.std.specs.Prelude.{◌<◌, length};
+
+use crate::finding::has_worker;
+use crate::used::keep;
+use sy_actions::{Failure, Receipts};
+use sy_board::{Board, BoardFault, Retry};
+use sy_chain::Node;
+use sy_rules::Plan;
+
+/// How long a worker waits between two tries, at least, in milliseconds.
+const LEAST_PAUSE: u64 = 10;
+
+/// What a worker does after an offer was recorded.
+#[derive(Clone, Copy, Debug, PartialEq, Eq)]
+pub(crate) enum After {
+    GoesOn,
+    // it waits so many milliseconds before the next try
+    Pauses(u64),
+    // the board refuses what it would record
+    Ends,
+}
+
+// Settles a worker's jobs by receipts, in their order, up to the first that is refused; entries that leave are kept.
+fn settle_all(
+    board: &mut Board,
+    worker: u32,
+    receipts: &mut Receipts,
+    used: &mut Vec<Node>,
+) -> Result<(), BoardFault>
+    requires { worker < length board.old.plan.workers }
+{
+    while !receipts.is_empty() {
+        match board.settle_next(worker, receipts) {
+            Ok(Some(node)) => keep(used, node),
+            Ok(None) => {}
+            Err(fault) => return Err(fault),
+        }
+    }
+    Ok(())
+}
+
+// How long to wait after a failure of an action (`action.resumeInterval`), in milliseconds.
+fn pause_of(plan: &Plan, action: u32) -> u64 {
+    match plan.actions().get(action as usize) {
+        Some(action) => (1000 * u64::from(action.resume_interval)).max(LEAST_PAUSE),
+        None => LEAST_PAUSE,
+    }
+}
+
+// Records that the action of a worker's job failed.
+fn record_failure(board: &mut Board, worker: u32, failure: Failure) -> After
+    requires { worker < length board.old.plan.workers }
+{
+    let pause = pause_of(board.plan(), failure.device());
+    match board.failed(worker, failure) {
+        Ok(Retry::Again) => After::Pauses(pause),
+        Ok(Retry::GaveUp) => After::GoesOn,
+        Err((failure, _)) => {
+            let _ = failure.into_message();
+            After::Ends
+        }
+    }
+}
+
+/// Spends what can't be recorded.
+pub(crate) fn discard(receipts: Receipts, failure: Option<Failure>) -> After {
+    receipts.discard();
+    if let Some(failure) = failure {
+        let _ = failure.into_message();
+    }
+    After::Ends
+}
+
+/// Records what came of an offer: what the device took, in order, and then how it failed, where it did.
+pub(crate) fn record(
+    board: &mut Board,
+    worker: u32,
+    mut receipts: Receipts,
+    failure: Option<Failure>,
+    used: &mut Vec<Node>,
+) -> After {
+    if !has_worker(board, worker) {
+        return discard(receipts, failure);
+    }
+    let Ok(()) = settle_all(board, worker, &mut receipts, used) else {
+        return discard(receipts, failure);
+    };
+    receipts.discard();
+    match failure {
+        Some(failure) => record_failure(board, worker, failure),
+        None => After::GoesOn,
+    }
+}

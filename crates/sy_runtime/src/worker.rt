@@ -1,0 +1,107 @@
+//! A worker's thread.
+
+use crate::finding::Next;
+use crate::locked::Locked;
+use crate::recording::After;
+use crate::shared::{Gate, Shared};
+use crate::waiting::{MEMORY_WAIT, pause, wait_for_room};
+use std::alloc::Global;
+use std::sync::{Arc, MutexGuard, Wait};
+use std::time::Clock;
+use sy_actions::{Failure, Receipts};
+use sy_wire::Message;
+
+// Messages for the device of an action.
+#[derive(Drop)]
+struct Run {
+    action: u32,
+    messages: Vec<Arc<Message>>,
+}
+
+// The next messages that a worker offers, however long it waits for them; none once it is to end.
+fn next_run<'a, R: Wait + Clock>(
+    rt: &R,
+    alloc: Global,
+    shared: &'a Shared,
+    mut locked: MutexGuard<'a, Locked>,
+    worker: u32,
+) -> Option<Run> {
+    let mut messages = Vec::new(alloc);
+    for _ in rt.forever() {
+        match locked.find(alloc, worker, &mut messages) {
+            Next::Run(action) => return Some(Run { action, messages }),
+            Next::Moved => shared.wake_all(),
+            Next::Held => locked = wait_for_room(rt, alloc, shared, locked, worker),
+            Next::Idle => locked = shared.work.wait(rt, locked),
+            Next::NoMemory => locked = pause(rt, shared, locked, MEMORY_WAIT),
+            Next::Ends => return None,
+        }
+    }
+    unreachable!()
+}
+
+// Offers messages to the device of their action; none where it isn't there any more.
+fn deliver<R: Wait>(rt: &R, shared: &Shared, run: Run) -> Option<(Receipts, Option<Failure>)> {
+    let Run { action, messages } = run;
+    let mut hatch = shared.hatches.get(action as usize)?.lock(rt);
+    match hatch.as_mut() {
+        Some(hatch) => Some(hatch.deliver_all(messages)),
+        None => None,
+    }
+}
+
+// The same, between the calls of the gate.
+fn offer<R: Wait, G: Gate>(
+    rt: &R,
+    shared: &Shared,
+    gate: &G,
+    worker: u32,
+    run: Run,
+) -> Option<(Receipts, Option<Failure>)> {
+    gate.before(worker);
+    let answer = deliver(rt, shared, run);
+    gate.after(worker);
+    answer
+}
+
+// Records what came of an offer, and looks for the next under the same holding of the lock; none once the worker is to end.
+fn record<R: Wait + Clock>(
+    rt: &R,
+    alloc: Global,
+    shared: &Shared,
+    worker: u32,
+    receipts: Receipts,
+    failure: Option<Failure>,
+) -> Option<Run> {
+    let mut locked = shared.locked.lock(rt);
+    match locked.record(worker, receipts, failure) {
+        After::GoesOn => next_run(rt, alloc, shared, locked, worker),
+        After::Pauses(time) => {
+            let locked = pause(rt, shared, locked, time);
+            next_run(rt, alloc, shared, locked, worker)
+        }
+        After::Ends => None,
+    }
+}
+
+/// What a worker's thread does until the relay closes.
+pub(crate) fn work<R: Wait + Clock, G: Gate>(
+    rt: &R,
+    alloc: Global,
+    shared: &Shared,
+    gate: &G,
+    worker: u32,
+) {
+    let Some(mut run) = next_run(rt, alloc, shared, shared.locked.lock(rt), worker) else {
+        return;
+    };
+    for _ in rt.forever() {
+        let Some((receipts, failure)) = offer(rt, shared, gate, worker, run) else {
+            return;
+        };
+        match record(rt, alloc, shared, worker, receipts, failure) {
+            Some(next) => run = next,
+            None => return,
+        }
+    }
+}

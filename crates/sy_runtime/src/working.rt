@@ -1,0 +1,80 @@
+//! What a worker does under the lock.
+
+use crate::finding::{Next, find, has_worker};
+use crate::locked::Locked;
+use crate::posting::{Post, lose, patience, post};
+use crate::recording::{After, discard, record};
+use std::alloc::Global;
+use std::sync::Arc;
+use std::time::Duration;
+use sy_actions::{Failure, Receipts};
+use sy_board::PostCause;
+use sy_wire::Message;
+
+impl Locked {
+    /// What a worker does next; it ends once the relay closes. The messages of its runs come into this, which is empty.
+    pub(crate) fn find(
+        &mut self,
+        alloc: Global,
+        worker: u32,
+        messages: &mut Vec<Arc<Message>>,
+    ) -> Next {
+        if self.is_closing {
+            return Next::Ends;
+        }
+        match self.board.as_mut() {
+            Some(board) => find(alloc, board, worker, messages, &mut self.used),
+            None => Next::Ends,
+        }
+    }
+
+    /// Records what came of a worker's offer, also while the relay closes.
+    pub(crate) fn record(
+        &mut self,
+        worker: u32,
+        receipts: Receipts,
+        failure: Option<Failure>,
+    ) -> After {
+        match self.board.as_mut() {
+            Some(board) => record(board, worker, receipts, failure, &mut self.used),
+            None => discard(receipts, failure),
+        }
+    }
+
+    /// Tries the post of a worker again, which a full queue holds; whether it still does. Nothing does once the relay closes.
+    pub(crate) fn holds_post(&mut self, alloc: Global, worker: u32) -> bool {
+        if self.is_closing {
+            return false;
+        }
+        match self.board.as_mut() {
+            Some(board) => {
+                has_worker(board, worker)
+                    && post(alloc, board, worker, &mut self.used) == Post::Held
+            }
+            None => false,
+        }
+    }
+
+    /// Loses the post of a worker, unless its queue has room by now.
+    pub(crate) fn lose_post(&mut self, worker: u32) {
+        if let Some(board) = self.board.as_mut() {
+            if has_worker(board, worker) {
+                let _ = lose(board, worker, PostCause::Full);
+            }
+        }
+    }
+
+    /// How long the post of a worker waits at a full queue.
+    pub(crate) fn patience(&self, worker: u32) -> Duration {
+        match &self.board {
+            Some(board) => {
+                if has_worker(board, worker) {
+                    patience(board, worker)
+                } else {
+                    Duration::from_millis(0)
+                }
+            }
+            None => Duration::from_millis(0),
+        }
+    }
+}
