@@ -1,5 +1,5 @@
 -- What a connection reads, what it counts of that, and how it ends.
-use Rattle.std.specs.Prelude.{◌≡◌, ◌≢◌, ℕ, ◌+◌, List, [], ◌∷◌, ◌++◌, length, Option, Result, Ok, Err}
+use Rattle.std.specs.Prelude.{◌≡◌, ◌≢◌, ◌≤◌, ◌^◌, ◌⊎◌, ℕ, ◌+◌, List, [], ◌∷◌, ◌++◌, length, Option, Result, Ok, Err}
 use Rattle.std.specs.Io.KnownBytes.{Consumes, IsAtEnd}
 use Rattle.sy_wire.specs.Frames.{IsBadLength, IsOpen, IsSize, IsTooLong, stream}
 use Rattle.sy_wire.specs.Messages.{IsFault, IsMessage, Said}
@@ -21,6 +21,18 @@ pub record Counts : Type 0 where
 -- what it counted before the first frame
 abbrev pub nothing_counted : Counts
 nothing_counted = record { frames = 0; unread = 0; took = 0 }
+
+-- what two connections counted together
+abbrev pub counted_both : Counts → Counts → Counts
+counted_both one other = record {
+  frames = one.frames + other.frames;
+  unread = one.unread + other.unread;
+  took = one.took + other.took;
+}
+
+-- one of these counts is above 2^64 - 1
+abbrev pub Overflows : Counts → Type 0
+Overflows end = (2 ^ 64 ≤ end.frames) ⊎ (2 ^ 64 ≤ end.unread) ⊎ (2 ^ 64 ≤ end.took)
 
 -- the text of a message (RFC 5424, section 6)
 abbrev pub IsText : List ℕ → Type 0

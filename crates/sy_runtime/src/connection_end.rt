@@ -1,8 +1,10 @@
 //! What a connection counts, and how it ends.
-ghost use Rattle.std.specs.Prelude.{◌≡◌, ◌+◌, ◌<◌, ◌^◌, false};
-ghost use Rattle.sy_runtime.specs.Connections.{nothing_counted};
+ghost use Rattle.std.specs.Prelude.{◌≡◌, ◌+◌, ◌<◌, ◌^◌, false, IfErr, OnErr, OnOk};
+ghost use Rattle.sy_runtime.specs.Connections.{Overflows, counted_both, nothing_counted};
 
+use crate::fault::RunFault;
 use std::marker::Model;
+use sy_wire::MsgFault;
 
 /// How a connection ended.
 #[derive(Clone, Copy, Debug, PartialEq, Eq)]
@@ -13,6 +15,13 @@ pub enum Finish {
     Closed,
 }
 
+/// A frame that carries no message: which of its connection it is, counted from 1, and why.
+#[derive(Clone, Copy, Debug, PartialEq, Eq)]
+pub struct Unread {
+    pub frame: u64,
+    pub fault: MsgFault,
+}
+
 /// What a connection counted until it ended.
 ///
 /// The numbers are exact: a connection that can't count one frame more ends before it takes the frame.
@@ -21,6 +30,7 @@ pub struct ConnEnd {
     frames: u64,
     unread: u64,
     took: u64,
+    first_unread: Option<Unread>,
 }
 
 impl Model for ConnEnd {
@@ -39,6 +49,7 @@ impl ConnEnd {
             frames: 0,
             unread: 0,
             took: 0,
+            first_unread: None,
         }
     }
 
@@ -61,6 +72,46 @@ impl ConnEnd {
         ensures { result ≡ self.now.took }
     {
         self.took
+    }
+
+    /// The first of the frames that carry no message, where one was counted. No contract says which it is.
+    pub fn first_unread(&self) -> Option<Unread> {
+        if self.unread == 0 {
+            return None;
+        }
+        self.first_unread
+    }
+
+    pub(crate) fn set_first_unread(&mut self, first: Option<Unread>)
+        ensures { self.new ≡ self.old }
+    {
+        self.first_unread = first;
+    }
+
+    /// Adds what another connection counted, so that one stands for both. Where a count would pass 2^64 - 1 nothing has changed, and
+    /// the answer is `TotalsFull`.
+    pub fn merge(&mut self, other: &ConnEnd) -> Result<(), RunFault>
+        ensures ok { OnOk result (self.new ≡ counted_both self.old other.now) }
+        ensures err { IfErr result (λ fault. (fault ≡ RunFault.TotalsFull) × Overflows (counted_both self.old other.now)) }
+        ensures unchanged { OnErr result (self.new ≡ self.old) }
+    {
+        let Some(frames) = self.frames.checked_add(other.frames) else {
+            return Err(RunFault::TotalsFull);
+        };
+        let Some(unread) = self.unread.checked_add(other.unread) else {
+            return Err(RunFault::TotalsFull);
+        };
+        let Some(took) = self.took.checked_add(other.took) else {
+            return Err(RunFault::TotalsFull);
+        };
+        let first_unread = self.first_unread;
+        *self = ConnEnd {
+            frames,
+            unread,
+            took,
+            first_unread,
+        };
+        Ok(())
     }
 
     // Whether a frame more might not be counted.

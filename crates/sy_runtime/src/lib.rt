@@ -27,7 +27,7 @@ mod waiting;
 mod worker;
 mod working;
 
-pub use connection_end::{ConnEnd, Finish};
+pub use connection_end::{ConnEnd, Finish, Unread};
 pub use fault::RunFault;
 pub use relay::Relay;
 pub use shared::{BoxedDevice, Gate};

@@ -5,7 +5,7 @@ ghost use Rattle.sy_runtime.specs.internal.Held.{IsItem, RenewIs};
 use std::alloc::{AllocError, Global};
 use std::sync::Arc;
 use sy_chain::{Node, RenewFault};
-use sy_wire::Message;
+use sy_wire::{Message, MsgFault};
 
 // The text of the messages that entries are made with before their own come.
 const BLANK: &[u8] = b"<0>1 - - - - - -";
@@ -17,13 +17,15 @@ pub(crate) struct Makings {
     pub(crate) used: Vec<Node>,
     // an entry whose message has no other owner, for a message that no used one can be made to
     fresh: Option<Node>,
+    // why the first text that was no message is none
+    pub(crate) fault: Option<MsgFault>,
 }
 
 // What came of a text and an entry.
 #[derive(Clone, Copy)]
 pub(crate) enum Renewal {
     Message,
-    NoMessage,
+    NoMessage(MsgFault),
     Shared,
 }
 
@@ -33,7 +35,7 @@ fn renew(node: &mut Node, raw: &mut Vec<u8>) -> Renewal
 {
     match node.renew(raw, 0, 0, 0, 0) {
         Ok(()) => Renewal::Message,
-        Err(RenewFault::Message(_)) => Renewal::NoMessage,
+        Err(RenewFault::Message(fault)) => Renewal::NoMessage(fault),
         Err(RenewFault::Shared) => Renewal::Shared,
     }
 }
@@ -56,6 +58,7 @@ impl Makings {
         Makings {
             used: Vec::new(alloc),
             fresh: None,
+            fault: None,
         }
     }
 
@@ -67,6 +70,13 @@ impl Makings {
         Ok(())
     }
 
+    // Keeps why a text is no message, where it is the first.
+    fn keep_fault(&mut self, fault: MsgFault) {
+        if self.fault.is_none() {
+            self.fault = Some(fault);
+        }
+    }
+
     // The item of a text, in the memory of the fresh entry; none where that isn't there.
     fn item_of_fresh(&mut self, raw: &mut Vec<u8>) -> Option<Option<Node>>
         ensures { IfSome result (λ item. IsItem raw.old.items item) }
@@ -74,8 +84,9 @@ impl Makings {
         let mut node = self.fresh.take()?;
         match renew(&mut node, raw) {
             Renewal::Message => Some(Some(node)),
-            Renewal::NoMessage => {
+            Renewal::NoMessage(fault) => {
                 self.fresh = Some(node);
+                self.keep_fault(fault);
                 Some(None)
             }
             Renewal::Shared => None,
@@ -92,9 +103,10 @@ impl Makings {
         };
         match renew(&mut node, raw) {
             Renewal::Message => Some(Some(node)),
-            Renewal::NoMessage => {
+            Renewal::NoMessage(fault) => {
                 // (the room that it had is there)
                 let _ = self.used.push(node);
+                self.keep_fault(fault);
                 Some(None)
             }
             Renewal::Shared => self.item_of_fresh(raw),

@@ -3,7 +3,7 @@ ghost use Rattle.std.specs.Prelude.{◌≡◌, [], ℕ, List, Option, Err, IfSom
 ghost use Rattle.sy_runtime.specs.Connections.{Begins, Connects, nothing_counted};
 ghost use Rattle.sy_runtime.specs.internal.Turning.{RoundIs, TurnIs, Turns, round_of};
 
-use crate::connection_end::{ConnEnd, Finish};
+use crate::connection_end::{ConnEnd, Finish, Unread};
 use crate::fault::RunFault;
 use crate::gathering::{Gathered, gather};
 use crate::halt::{Halt, answer_at};
@@ -45,6 +45,7 @@ struct Intake {
     is_over: bool,
     // whether a message is in the connection's hand
     is_in_hand: bool,
+    first_unread: Option<Unread>,
 }
 
 impl Intake {
@@ -60,8 +61,28 @@ impl Intake {
             batch: VecDeque::new(alloc),
             is_over: false,
             is_in_hand: false,
+            first_unread: None,
         }
     }
+}
+
+// The first frame of a batch that carries no message, where so many were counted before it.
+fn frame_of(batch: &VecDeque<Option<Node>>, counted: u64) -> u64 {
+    let mut frame = counted;
+    for item in batch {
+        frame = frame.saturating_add(1);
+        if item.is_none() {
+            return frame;
+        }
+    }
+    frame
+}
+
+// The first frame that carries no message, where it isn't known yet and is in this batch.
+fn unread_of(makings: &Makings, batch: &VecDeque<Option<Node>>, end: &ConnEnd) -> Option<Unread> {
+    let fault = makings.fault?;
+    let frame = frame_of(batch, end.frames());
+    Some(Unread { frame, fault })
 }
 
 // What comes of a batch whose gathering ended so, and which was put so.
@@ -101,9 +122,13 @@ fn take_in<R: Wait + Clock>(
         makings,
         batch,
         is_in_hand,
+        first_unread,
         ..
     } = intake;
     let stop = gather(alloc, framer, raw, makings, batch, BATCH);
+    if first_unread.is_none() {
+        *first_unread = unread_of(makings, batch, end);
+    }
     let put = put(rt, shared, hand, batch, end, is_in_hand, &mut makings.used);
     sum_up(stop, put)
 }
@@ -165,6 +190,7 @@ pub(crate) fn serve<R: Wait + Clock, S: Source>(
             if !intake.is_in_hand {
                 shared.locked.lock(rt).give_back(hand);
             }
+            end.set_first_unread(intake.first_unread);
             return answer;
         }
     }

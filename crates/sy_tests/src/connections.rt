@@ -7,7 +7,7 @@ use std::sync::{Arc, Wait};
 use std::test::Fail;
 use std::thread;
 use std::time::{Clock, Duration};
-use sy_runtime::{ConnEnd, Finish, Gate, Relay, RunFault};
+use sy_runtime::{ConnEnd, Finish, Gate, Relay, RunFault, Unread};
 use sy_wire::FromRead;
 
 #[derive(Drop)]
@@ -39,11 +39,21 @@ fn number_of(answer: Result<Finish, RunFault>) -> u32 {
     }
 }
 
+// Whether this is counted: frames, those without a message, those taken; and where there is one without, which is the first, and
+// the number and the offset of its fault.
 fn counts(end: &ConnEnd, wanted: &str) -> bool {
     let mut fields = wanted.split('/');
     end.frames() == u64::from(number(fields.next()))
         && end.unread() == u64::from(number(fields.next()))
         && end.took() == u64::from(number(fields.next()))
+        && match end.first_unread() {
+            Some(Unread { frame, fault }) => {
+                frame == u64::from(number(fields.next()))
+                    && u32::from(fault.code.number()) == number(fields.next())
+                    && fault.offset as u64 == u64::from(number(fields.next()))
+            }
+            None => fields.next().is_none(),
+        }
 }
 
 // Connections by turns to one relay of a script, whose readers give so many bytes at a read, and fail at the read of this
@@ -94,12 +104,13 @@ const STREAMS: &str = "
 // messages, and frames that are none
 0/0/0 0 |
 1/0/1 0 | 17 <34>1 - - - - - -
-3/1/2 0 | 17 <34>1 - - - - - -3 abc17 <34>1 - - - - - -
-2/2/0 0 | 1 %2018 <192>1 - - - - - -
+3/1/2/2/1/0 0 | 17 <34>1 - - - - - -3 abc17 <34>1 - - - - - -
+2/2/0/1/1/0 0 | 1 %2018 <192>1 - - - - - -
+4/2/2/2/1/1 0 | 17 <34>1 - - - - - -18 <192>1 - - - - - -17 <34>1 - - - - - -3 abc
 // more than a batch
-1501/1/1500 0 | %[1500]17 <34>1 - - - - - -%[1]2 ab
+1501/1/1500/1501/1/0 0 | %[1500]17 <34>1 - - - - - -%[1]2 ab
 // a fault of a frame, behind those that were counted
-2/1/1 11 | 17 <34>1 - - - - - -3 abcx
+2/1/1/2/1/0 11 | 17 <34>1 - - - - - -3 abcx
 1/0/1 12 | 17 <34>1 - - - - - -65537 a
 1/0/1 13 | 17 <34>1 - - - - - -17 <34>1 - - - - -
 0/0/0 13 | 6
@@ -113,7 +124,7 @@ const LIGHT: &str =
     r#"module(load="imtcp") input(type="imtcp" port="6515" flowControl="on") main_queue(queue.type="LinkedList" queue.size="4" queue.lightDelayMark="2" queue.timeoutEnqueue="0") action(name="audit" type="omfile" file="audit.log") | ~"#;
 
 const FIFTY: &str = "
-51/1/50 0 | %[50]17 <34>1 - - - - - -%[1]2 ab
+51/1/50/51/1/0 0 | %[50]17 <34>1 - - - - - -%[1]2 ab
 ";
 
 const THREE: &str = "

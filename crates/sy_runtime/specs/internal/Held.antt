@@ -2,7 +2,7 @@
 use Rattle.std.specs.Prelude.{◌≡◌, ℕ, List, [], ◌∷◌, ◌++◌, length, Option, None, Some}
 use Rattle.sy_chain.specs.Entries.{Entry}
 use Rattle.sy_wire.specs.Frames.{IsSize, stream}
-use Rattle.sy_wire.specs.Messages.{IsMessage}
+use Rattle.sy_wire.specs.Messages.{IsFault, IsMessage}
 use Rattle.sy_runtime.specs.Connections.{Counts, IsNoText, Sorted}
 use Rattle.sy_runtime.specs.declared.makings.Renewal.{Renewal}
 use Rattle.sy_runtime.specs.declared.makings.Renewal.TheVariants as renewal
@@ -15,7 +15,7 @@ IsItem raw (Some node) = IsMessage node.message × (node.message.raw ≡ raw)
 -- what came of a text and an entry; one whose message is shared leaves the text as it was
 abbrev pub RenewIs : Renewal → List ℕ → Entry → List ℕ → Type 0
 RenewIs renewal.Message raw node raw' = IsItem raw (Some node)
-RenewIs renewal.NoMessage raw node raw' = IsItem raw None
+RenewIs (renewal.NoMessage fault) raw node raw' = IsFault raw fault.code fault.offset
 RenewIs renewal.Shared raw node raw' = raw' ≡ raw
 
 -- these items stand for the texts of these frames
