@@ -1,3 +1,4 @@
 pub mod Faults
 pub mod Connections
+pub mod Stopping
 pub mod internal

@@ -4,3 +4,5 @@ pub mod Taking
 pub mod Halting
 pub mod Reading
 pub mod Turning
+pub mod Recording
+pub mod Finding

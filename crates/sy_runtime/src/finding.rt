@@ -1,5 +1,9 @@
 //! What a worker does next.
-ghost use Rattle.std.specs.Prelude.{◌<◌, length};
+ghost use Rattle.std.specs.Prelude.{◌≡◌, ◌<◌, Decides, List, length, map};
+ghost use Rattle.std.specs.Arc.{arc_value};
+ghost use Rattle.sy_board.specs.relay.Boards.{HasRun};
+ghost use Rattle.sy_wire.specs.Messages.{Said};
+ghost use Rattle.sy_runtime.specs.internal.Finding.{NextIs};
 
 use crate::posting::{Post, post};
 use crate::used::keep_all;
@@ -17,10 +21,12 @@ const MOST: usize = 256;
 pub(crate) enum Next {
     // it offers messages to the device of this action
     Run(u32),
-    // it took entries from its queue, or its post is dealt with
-    Moved,
+    // its post is dealt with
+    Posted,
     // its post waits for room
     Held,
+    // it took entries from its queue
+    Grabbed,
     // nothing waits for it
     Idle,
     // its messages can't have another owner now
@@ -28,29 +34,36 @@ pub(crate) enum Next {
     Ends,
 }
 
-pub(crate) fn has_worker(board: &Board, worker: u32) -> bool {
+pub(crate) fn has_worker(board: &Board, worker: u32) -> bool
+    ensures { Decides result (worker < length board.now.plan.workers) }
+{
     (worker as usize) < board.plan().workers().len()
 }
 
-// The runs that stand next for a worker, whose messages come into this.
+// The runs that stand next for a worker, whose messages become these.
 fn find_runs(board: &mut Board, worker: u32, messages: &mut Vec<Arc<Message>>) -> Next
-    requires { worker < length board.old.plan.workers }
+    requires there { worker < length board.old.plan.workers }
+    requires run { HasRun board.old worker }
+    ensures { NextIs result (map arc_value messages.new.items) board.old worker board.new }
 {
+    messages.clear();
     let Ok(()) = messages.reserve(MOST) else {
         return Next::NoMemory;
     };
     match board.runs(worker, MOST, messages) {
         Ok(Some(action)) => Next::Run(action),
-        Ok(None) => Next::Ends,
+        Ok(None) => unreachable!(),
         Err(_) => Next::NoMemory,
     }
 }
 
+// The post of a worker.
 fn find_post(alloc: Global, board: &mut Board, worker: u32, used: &mut Vec<Node>) -> Next
     requires { worker < length board.old.plan.workers }
+    ensures { (messages : List Said) → NextIs result messages board.old worker board.new }
 {
     match post(alloc, board, worker, used) {
-        Post::Done => Next::Moved,
+        Post::Done => Next::Posted,
         Post::Held => Next::Held,
         Post::Refused => Next::Ends,
     }
@@ -59,26 +72,31 @@ fn find_post(alloc: Global, board: &mut Board, worker: u32, used: &mut Vec<Node>
 // A batch of the worker's queue.
 fn grab(board: &mut Board, worker: u32, used: &mut Vec<Node>) -> Next
     requires { worker < length board.old.plan.workers }
+    ensures { (messages : List Said) → NextIs result messages board.old worker board.new }
 {
-    match board.grab(worker) {
-        Ok((0, _)) => Next::Idle,
-        Ok((_, lost)) => {
-            keep_all(used, lost);
-            Next::Moved
-        }
-        Err(_) => Next::Ends,
+    let (count, lost) = match board.grab(worker) {
+        Ok(grabbed) => grabbed,
+        Err(_) => return Next::Ends,
+    };
+    keep_all(used, lost);
+    if count == 0 {
+        Next::Idle
+    } else {
+        Next::Grabbed
     }
 }
 
 /// What a worker does next. Its post, or a batch of its queue where it has no entries, is dealt with at once; the messages of its runs
-/// come into this, which is empty.
+/// become these.
 pub(crate) fn find(
     alloc: Global,
     board: &mut Board,
     worker: u32,
     messages: &mut Vec<Arc<Message>>,
     used: &mut Vec<Node>,
-) -> Next {
+) -> Next
+    ensures { NextIs result (map arc_value messages.new.items) board.old worker board.new }
+{
     if !has_worker(board, worker) {
         return Next::Ends;
     }

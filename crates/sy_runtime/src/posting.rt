@@ -1,11 +1,16 @@
 //! What a worker does whose job is a post.
-ghost use Rattle.std.specs.Prelude.{◌<◌, length};
+ghost use Rattle.std.specs.Prelude.{◌≡◌, ◌<◌, ℕ, IfOk, IfNone, IfSome, length};
+ghost use Rattle.sy_rules.specs.Whole.{queue_for};
+ghost use Rattle.sy_rules.specs.declared.lists.occurrence.Occurrence.TheVariants as occurrence;
+ghost use Rattle.sy_board.specs.relay.Boards.{HasNoPost, IsForPost};
+ghost use Rattle.sy_board.specs.relay.Plans.{parameters_at};
+ghost use Rattle.sy_board.specs.relay.Steps.{Job as IsJob};
+ghost use Rattle.sy_runtime.specs.internal.Finding.{PostWas};
 
 use crate::used::keep;
 use std::alloc::{AllocError, Global};
 use std::sync::Arc;
-use std::time::Duration;
-use sy_board::{Board, BoardFault, Job, PostCause, Posted};
+use sy_board::{Board, Job, PostCause, Posted};
 use sy_chain::Node;
 use sy_rules::laws::plans_are_whole;
 
@@ -23,6 +28,7 @@ pub(crate) enum Post {
 // The entry that a worker's post makes; none where its job is no post.
 fn posted_node(alloc: Global, board: &Board, worker: u32) -> Result<Option<Node>, AllocError>
     requires { worker < length board.now.plan.workers }
+    ensures { IfOk result (λ entry. IfSome entry (λ node. IsForPost board.now worker node) × IfNone entry (HasNoPost board.now worker)) }
 {
     let Some(
         Job::Post {
@@ -44,14 +50,26 @@ fn posted_node(alloc: Global, board: &Board, worker: u32) -> Result<Option<Node>
     }
 }
 
-/// Does a worker's post. It is lost where memory for its entry was refused.
+// The post of a worker is lost, since there was no memory for its entry.
+fn lose(board: &mut Board, worker: u32) -> Post
+    requires { worker < length board.old.plan.workers }
+    ensures { PostWas result board.old worker board.new }
+{
+    match board.post_lost(worker, PostCause::NoMemory) {
+        Ok(()) => Post::Done,
+        Err(_) => Post::Refused,
+    }
+}
+
+/// Does the post of a worker. It is lost where memory for its entry was refused.
 pub(crate) fn post(alloc: Global, board: &mut Board, worker: u32, used: &mut Vec<Node>) -> Post
     requires { worker < length board.old.plan.workers }
+    ensures { PostWas result board.old worker board.new }
 {
     let node = match posted_node(alloc, board, worker) {
         Ok(Some(node)) => node,
         Ok(None) => return Post::Refused,
-        Err(AllocError) => return lose(board, worker, PostCause::NoMemory),
+        Err(AllocError) => return lose(board, worker),
     };
     match board.post(worker, node) {
         Ok(Posted::Done) => Post::Done,
@@ -67,28 +85,19 @@ pub(crate) fn post(alloc: Global, board: &mut Board, worker: u32, used: &mut Vec
     }
 }
 
-/// Loses a worker's post, by this cause. It is still held where its queue has room by now.
-pub(crate) fn lose(board: &mut Board, worker: u32, cause: PostCause) -> Post
-    requires { worker < length board.old.plan.workers }
-{
-    match board.post_lost(worker, cause) {
-        Ok(()) => Post::Done,
-        Err(BoardFault::NotExpired) => Post::Held,
-        Err(_) => Post::Refused,
-    }
-}
-
-/// How long a worker's post may wait at a full queue (`queue.timeoutEnqueue` of that queue).
-pub(crate) fn patience(board: &Board, worker: u32) -> Duration
+/// How long the post of a worker may wait at a full queue (`queue.timeoutEnqueue` of that queue), in milliseconds.
+pub(crate) fn patience(board: &Board, worker: u32) -> u32
     requires { worker < length board.now.plan.workers }
+    ensures { (list : ℕ) → IsJob board.now.plan board.now.state worker (occurrence.Post list) →
+        result ≡ (parameters_at board.now.plan (queue_for board.now.plan list)).timeout_enqueue }
 {
     let Some(Job::Post { list, .. }) = board.job(worker) else {
-        return Duration::from_millis(0);
+        return 0;
     };
     plans_are_whole(board.plan());
     let queue = board.plan().list_queue(list).unwrap_or(0);
     match board.plan().queues().get(queue as usize) {
-        Some(queue) => Duration::from_millis(u64::from(queue.timeout_enqueue)),
-        None => Duration::from_millis(0),
+        Some(queue) => queue.timeout_enqueue,
+        None => 0,
     }
 }

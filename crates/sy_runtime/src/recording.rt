@@ -1,5 +1,6 @@
 //! What a worker records of an offer.
-ghost use Rattle.std.specs.Prelude.{◌<◌, length};
+ghost use Rattle.std.specs.Prelude.{◌≡◌, ◌<◌, IfErr, OnOk, Some, length};
+ghost use Rattle.sy_runtime.specs.internal.Recording.{AllSettled, FailureIs, RecordIs, SomeSettled, pause_at};
 
 use crate::finding::has_worker;
 use crate::used::keep;
@@ -29,6 +30,9 @@ fn settle_all(
     used: &mut Vec<Node>,
 ) -> Result<(), BoardFault>
     requires { worker < length board.old.plan.workers }
+    ensures ok { OnOk result (AllSettled worker board.old receipts.old board.new) }
+    ensures err { IfErr result (λ fault. SomeSettled fault worker board.old receipts.old board.new) }
+    ensures plan { board.new.plan ≡ board.old.plan }
 {
     while !receipts.is_empty() {
         match board.settle_next(worker, receipts) {
@@ -41,9 +45,17 @@ fn settle_all(
 }
 
 // How long to wait after a failure of an action (`action.resumeInterval`), in milliseconds.
-fn pause_of(plan: &Plan, action: u32) -> u64 {
+fn pause_of(plan: &Plan, action: u32) -> u64
+    ensures { result ≡ pause_at plan.now action }
+{
     match plan.actions().get(action as usize) {
-        Some(action) => (1000 * u64::from(action.resume_interval)).max(LEAST_PAUSE),
+        Some(action) => {
+            if action.resume_interval == 0 {
+                LEAST_PAUSE
+            } else {
+                1000 * u64::from(action.resume_interval)
+            }
+        }
         None => LEAST_PAUSE,
     }
 }
@@ -51,6 +63,7 @@ fn pause_of(plan: &Plan, action: u32) -> u64 {
 // Records that the action of a worker's job failed.
 fn record_failure(board: &mut Board, worker: u32, failure: Failure) -> After
     requires { worker < length board.old.plan.workers }
+    ensures { FailureIs result board.old worker (Some failure) board.new }
 {
     let pause = pause_of(board.plan(), failure.device());
     match board.failed(worker, failure) {
@@ -64,7 +77,9 @@ fn record_failure(board: &mut Board, worker: u32, failure: Failure) -> After
 }
 
 /// Spends what can't be recorded.
-pub(crate) fn discard(receipts: Receipts, failure: Option<Failure>) -> After {
+pub(crate) fn discard(receipts: Receipts, failure: Option<Failure>) -> After
+    ensures { result ≡ After.Ends }
+{
     receipts.discard();
     if let Some(failure) = failure {
         let _ = failure.into_message();
@@ -79,7 +94,9 @@ pub(crate) fn record(
     mut receipts: Receipts,
     failure: Option<Failure>,
     used: &mut Vec<Node>,
-) -> After {
+) -> After
+    ensures { RecordIs result board.old worker receipts failure board.new }
+{
     if !has_worker(board, worker) {
         return discard(receipts, failure);
     }

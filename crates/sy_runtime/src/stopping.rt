@@ -1,5 +1,6 @@
 //! How a relay stops.
-ghost use Rattle.std.specs.Prelude.{◌≡◌, IfOk, IfSome, IsTrue, map};
+ghost use Rattle.std.specs.Prelude.{◌≡◌, IfOk, IfSome, IsTrue, map, sum_by};
+ghost use Rattle.sy_runtime.specs.Stopping.{Stops};
 
 use crate::connection_end::ConnEnd;
 use crate::relay::Relay;
@@ -32,7 +33,9 @@ pub struct Stopped {
 pub struct Mismatch;
 
 // The messages that these connections took; none where they are more than 2^64 - 1.
-fn taken_by(ends: &[ConnEnd]) -> Option<u64> {
+fn taken_by(ends: &[ConnEnd]) -> Option<u64>
+    ensures { IfSome result (λ taken. taken ≡ sum_by (λ end. end.took) ends.now) }
+{
     let mut taken: u64 = 0;
     for end in ends {
         taken = taken.checked_add(end.took())?;
@@ -40,26 +43,56 @@ fn taken_by(ends: &[ConnEnd]) -> Option<u64> {
     Some(taken)
 }
 
-// Whether of each action as many runs are done as its hatch made receipts.
-fn are_made(actions: &[ActionCounts], hatches: &[Hatch<BoxedDevice>]) -> bool {
+// Whether as many runs are done of each of these actions as its hatch made receipts.
+fn are_made(actions: &[ActionCounts], hatches: &[Hatch<BoxedDevice>]) -> bool
+    ensures { IsTrue result → map (λ counts. counts.done) actions.now ≡ map (λ hatch. hatch.made) hatches.now }
+{
     if actions.len() != hatches.len() {
         return false;
     }
-    for place in 0..actions.len() {
-        if actions[place].done != hatches[place].made() {
+    let mut place = 0;
+    for hatch in hatches {
+        if actions[place].done != hatch.made() {
             return false;
         }
+        place += 1;
     }
     true
 }
 
-// Whether both have the same guard, or none.
-fn is_same_guard(one: Option<&Guard>, other: Option<&Guard>) -> bool {
+// Whether as many messages were taken as these connections took.
+fn has_taken(board: &Board, ends: &[ConnEnd]) -> bool
+    ensures { IsTrue result → board.now.totals.taken ≡ sum_by (λ end. end.took) ends.now }
+{
+    match taken_by(ends) {
+        Some(taken) => taken == board.accounts().taken(),
+        None => false,
+    }
+}
+
+// Whether of each action as many runs are done as its hatch made receipts.
+fn has_done(board: &Board, hatches: &[Hatch<BoxedDevice>]) -> bool
+    ensures { IsTrue result → map (λ counts. counts.done) board.now.totals.actions ≡ map (λ hatch. hatch.made) hatches.now }
+{
+    are_made(board.accounts().actions(), hatches)
+}
+
+// Whether both are the same guard, or none.
+fn is_same_guard(one: Option<&Guard>, other: Option<&Guard>) -> bool
+    ensures { IsTrue result → option_copied one ≡ option_copied other }
+{
     match (one, other) {
         (None, None) => true,
         (Some(one), Some(other)) => one.same(other),
         (Some(_), None) | (None, Some(_)) => false,
     }
+}
+
+// Whether the board has this guard, or has none where this is none.
+fn has_guard(board: &Board, guard: Option<&Guard>) -> bool
+    ensures { IsTrue result → board.now.guard ≡ option_copied guard }
+{
+    is_same_guard(board.guard(), guard)
 }
 
 // Takes the board out of its lock; none where it was taken before.
@@ -86,12 +119,14 @@ fn compare(
     hatches: Vec<Hatch<BoxedDevice>>,
     ends: &[ConnEnd],
     guard: Option<&Guard>,
-) -> Result<Stopped, Mismatch> {
-    let accounts = board.accounts();
-    if taken_by(ends) != Some(accounts.taken())
-        || !are_made(accounts.actions(), hatches.as_slice())
-        || !is_same_guard(board.guard(), guard)
-    {
+) -> Result<Stopped, Mismatch>
+    ensures { IfOk result (λ stopped. Stops (option_copied guard) ends.now stopped.accounts stopped.left
+        (map (λ hatch. hatch.made) stopped.hatches.items)) }
+{
+    if !has_taken(&board, ends) || !has_done(&board, hatches.as_slice()) {
+        return Err(Mismatch);
+    }
+    if !has_guard(&board, guard) {
         return Err(Mismatch);
     }
     let (accounts, left) = board.drain();
@@ -110,7 +145,10 @@ impl<G: Gate> Relay<G> {
         rt: &R,
         workers: Workers,
         ends: Vec<ConnEnd>,
-    ) -> Result<Stopped, Mismatch> {
+    ) -> Result<Stopped, Mismatch>
+        ensures { IfOk result (λ stopped. Stops self ends.items stopped.accounts stopped.left
+            (map (λ hatch. hatch.made) stopped.hatches.items)) }
+    {
         self.close(rt);
         let Workers { joins, room } = workers;
         for join in joins {

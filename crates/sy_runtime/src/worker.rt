@@ -30,7 +30,7 @@ fn next_run<'a, R: Wait + Clock>(
     for _ in rt.forever() {
         match locked.find(alloc, worker, &mut messages) {
             Next::Run(action) => return Some(Run { action, messages }),
-            Next::Moved => shared.wake_all(),
+            Next::Posted | Next::Grabbed => shared.wake_all(),
             Next::Held => locked = wait_for_room(rt, alloc, shared, locked, worker),
             Next::Idle => locked = shared.work.wait(rt, locked),
             Next::NoMemory => locked = pause(rt, shared, locked, MEMORY_WAIT),

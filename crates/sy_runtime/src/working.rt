@@ -2,7 +2,7 @@
 
 use crate::finding::{Next, find, has_worker};
 use crate::locked::Locked;
-use crate::posting::{Post, lose, patience, post};
+use crate::posting::{Post, patience, post};
 use crate::recording::{After, discard, record};
 use std::alloc::Global;
 use std::sync::Arc;
@@ -12,7 +12,7 @@ use sy_board::PostCause;
 use sy_wire::Message;
 
 impl Locked {
-    /// What a worker does next; it ends once the relay closes. The messages of its runs come into this, which is empty.
+    /// What a worker does next; it ends once the relay closes. The messages of its runs become these.
     pub(crate) fn find(
         &mut self,
         alloc: Global,
@@ -59,22 +59,23 @@ impl Locked {
     pub(crate) fn lose_post(&mut self, worker: u32) {
         if let Some(board) = self.board.as_mut() {
             if has_worker(board, worker) {
-                let _ = lose(board, worker, PostCause::Full);
+                let _ = board.post_lost(worker, PostCause::Full);
             }
         }
     }
 
     /// How long the post of a worker waits at a full queue.
     pub(crate) fn patience(&self, worker: u32) -> Duration {
-        match &self.board {
+        let time = match &self.board {
             Some(board) => {
                 if has_worker(board, worker) {
                     patience(board, worker)
                 } else {
-                    Duration::from_millis(0)
+                    0
                 }
             }
-            None => Duration::from_millis(0),
-        }
+            None => 0,
+        };
+        Duration::from_millis(u64::from(time))
     }
 }

@@ -1,168 +1,159 @@
-//! Relays with workers, each in a thread of its own: messages come in by a connection, and devices take them.
-ghost use Rattle.std.specs.Prelude.{⊤};
+//! Relays with workers, each in a thread of its own: messages come in by connections, and devices take them. Where a test waits it waits
+//! for another thread, and for twenty seconds at most.
+pub mod door;
+pub mod log;
+mod offers;
+mod queues;
+mod retries;
+mod stopping;
 
+use crate::rows::{cut, number};
 use crate::rules::faults::planned;
 use crate::wire::streams::Pieces;
+use door::{Door, Holding};
+use log::{Log, devices_of};
 use std::alloc::{AllocError, Global};
-use std::sync::{Arc, Condvar, Mutex, Wait};
-use std::test::Fail;
+use std::sync::{Arc, Wait};
 use std::thread::Threads;
-use std::time::{Clock, Duration};
-use sy_actions::{Device, DeviceFault, MemoryDevice};
-use sy_rules::Plan;
-use sy_runtime::{BoxedDevice, ConnEnd, Gate, Relay, RunFault, Stopped, Workers};
-use sy_wire::{FromRead, Message};
+use std::time::Clock;
+use sy_runtime::{ConnEnd, Gate, Relay, RunFault, Stopped, Workers};
+use sy_wire::FromRead;
 
-#[derive(Drop)]
-struct NoGate;
-
-impl Gate for NoGate {
-    fn before(&self, _: u32) {}
-
-    fn after(&self, _: u32) {}
-}
-
-// What the devices of a relay took: each message and a line feed, and how many they are.
-#[derive(Drop)]
-struct Lines {
-    text: Vec<u8>,
-    count: u32,
-}
-
-#[derive(Drop)]
-struct Log {
-    lines: Mutex<Lines>,
-    told: Condvar,
-}
-
-impl Log {
-    fn new(alloc: Global) -> Log {
-        Log {
-            lines: Mutex::new(Lines {
-                text: Vec::new(alloc),
-                count: 0,
-            }),
-            told: Condvar::new(),
-        }
-    }
-
-    fn write<R: Wait>(&self, rt: &R, message: &Message) {
-        let mut lines = self.lines.lock(rt);
-        let is_whole = lines.text.extend_from_slice(message.raw()).is_ok();
-        if is_whole && lines.text.push(b'\n').is_ok() {
-            lines.count = lines.count.wrapping_add(1);
-        }
-        self.told.notify_all();
-    }
-
-    // Whether so many messages were taken, after ten seconds at the latest.
-    fn waits_for<R: Wait + Clock>(&self, rt: &R, count: u32) -> bool {
-        let lines = self.lines.lock(rt);
-        let limit = Duration::from_secs(10);
-        let (lines, _) = self
-            .told
-            .wait_timeout_while(rt, lines, limit, |it| it.count < count);
-        lines.count >= count
-    }
-}
-
-// A device that takes and fails as the one in it, and writes down what it took.
-#[derive(Drop)]
-struct Recorder<R: Wait + Drop> {
-    rt: R,
-    memory: MemoryDevice,
-    log: Arc<Log>,
-}
-
-impl<R: Wait + Drop> Device for Recorder<R> {
-    ghost faults = { λ it. it.memory.failed };
-
-    ghost stands_for = { λ _ _ _. ⊤ };
-
-    ghost offered = { λ _ _ _ _. ⊤ };
-
-    ghost State = { ⊤ };
-
-    ghost state = { λ _. tt };
-
-    ghost steps = { λ _ _ _ _. ⊤ };
-
-    fn offer(&mut self, message: &Arc<Message>) -> Result<(), DeviceFault> {
-        match self.memory.offer(message) {
-            Ok(()) => {
-                self.log.write(&self.rt, message);
-                Ok(())
-            }
-            Err(fault) => Err(fault),
-        }
-    }
-}
-
-// A device for each action of a plan, which takes so many messages, refuses so many, and then takes all.
-fn devices_of<R: Wait + Copy + Drop + Send + 'static>(
+// The relay of a script, with devices that take so many messages, refuse so many, and then take all.
+pub(crate) fn started<R, G>(
     rt: R,
     alloc: Global,
-    plan: &Plan,
+    script: &str,
     log: &Arc<Log>,
-    pass: u64,
-    fail: u64,
-) -> Result<Vec<BoxedDevice>, AllocError> {
-    let mut devices: Vec<BoxedDevice> = Vec::new(alloc);
-    for _ in plan.actions() {
-        let recorder = Recorder {
-            rt,
-            memory: MemoryDevice::new(pass, fail),
-            log: Arc::try_clone(log)?,
-        };
-        let Ok(device) = Box::new(alloc, recorder) else {
-            return Err(AllocError);
-        };
-        devices.push(device)?;
+    answers: (u64, u64),
+    gate: G,
+) -> Result<Option<(Relay<G>, Workers)>, AllocError>
+where
+    R: Threads + Wait + Clock + Copy + Drop + Send + 'static,
+    G: Gate + Send + Sync + 'static,
+{
+    let Ok(plan) = planned(alloc, script.as_bytes())? else {
+        return Ok(None);
+    };
+    let devices = devices_of(rt, alloc, &plan, log, answers.0, answers.1)?;
+    if devices.len() != plan.actions().len() {
+        return Ok(None);
     }
-    Ok(devices)
+    let plan = Arc::new(alloc, plan).map_err(|_| AllocError)?;
+    match Relay::start(rt, alloc, plan, None, devices, gate) {
+        Ok(started) => Ok(Some(started)),
+        Err(RunFault::NoMemory) => Err(AllocError),
+        Err(_) => Ok(None),
+    }
 }
 
 // What a connection counted that gave a relay these bytes.
-fn connected<R: Wait + Clock, G: Gate>(
+pub(crate) fn connected<R: Wait + Clock, G: Gate>(
     rt: &R,
     alloc: Global,
     relay: &Relay<G>,
-    bytes: &[u8],
+    bytes: &str,
 ) -> ConnEnd {
     let mut reader = FromRead::new(Pieces {
-        rest: bytes,
+        rest: bytes.as_bytes(),
         size: 70000,
         failing: usize::MAX,
     });
     relay.connect(rt, alloc, 0, &mut reader).0
 }
 
-const HUB: &[u8] =
-    br#"module(load="imtcp") input(type="imtcp" port="6515" flowControl="full") action(name="audit" type="omfile" file="audit.log" action.resumeRetryCount="-1" action.resumeInterval="0")"#;
+// Whether a relay stopped with these totals: what was taken, lost at the input, posted, lost by posts, lost as it was grabbed, and how many entries
+// are left; then of each action, behind a blank, what was done, given up and left.
+pub(crate) fn has_totals(stopped: &Stopped, wanted: &str) -> bool {
+    let (totals, runs) = cut(wanted, ' ');
+    let accounts = &stopped.accounts;
+    let mut fields = totals.split('/');
+    let mut is_right = accounts.taken() == u64::from(number(fields.next()))
+        && accounts.lost_in() == u64::from(number(fields.next()))
+        && accounts.posted() == u64::from(number(fields.next()))
+        && accounts.lost_post() == u64::from(number(fields.next()))
+        && accounts.lost_out() == u64::from(number(fields.next()))
+        && stopped.left.len() == number(fields.next()) as usize;
+    let mut words = runs.split_whitespace();
+    for counts in accounts.actions() {
+        let mut fields = words.next().unwrap_or("").split('/');
+        is_right = is_right
+            && counts.done == u64::from(number(fields.next()))
+            && counts.given_up == u64::from(number(fields.next()))
+            && counts.left == u64::from(number(fields.next()));
+    }
+    is_right
+}
 
-const TWO: &[u8] = b"17 <34>1 - - - - - -17 <35>1 - - - - - -";
+// Whether a relay stops with these ends and totals.
+pub(crate) fn stops<R: Threads + Wait, G: Gate>(
+    rt: &R,
+    relay: Relay<G>,
+    workers: Workers,
+    ends: Vec<ConnEnd>,
+    wanted: &str,
+) -> bool {
+    match relay.stop(rt, workers, ends) {
+        Ok(stopped) => has_totals(&stopped, wanted),
+        Err(_) => wanted == "mismatch",
+    }
+}
 
-#[test]
-fn failing_devices_are_tried_again(rt: HostRuntime) -> Result<(), Fail> {
-    let alloc = rt.alloc();
-    let Ok(plan) = planned(alloc, HUB)? else {
-        return Err(AllocError.into());
-    };
-    let log = Arc::new(alloc, Log::new(alloc)).map_err(|_| AllocError)?;
-    let devices = devices_of(rt, alloc, &plan, &log, 1, 2)?;
-    assert!(rt; devices.len() == plan.actions().len());
-    let plan = Arc::new(alloc, plan).map_err(|_| AllocError)?;
-    let Ok((relay, workers)) = Relay::start(rt, alloc, plan, None, devices, NoGate) else {
-        return Err(AllocError.into());
-    };
-    let end = connected(&rt, alloc, &relay, TWO);
-    let is_taken = log.waits_for(&rt, 2);
+pub(crate) fn one_end(alloc: Global, end: ConnEnd) -> Result<Vec<ConnEnd>, AllocError> {
     let mut ends = Vec::new(alloc);
     ends.push(end)?;
-    let Ok(stopped) = relay.stop(&rt, workers, ends) else {
-        assert!(rt; false, "mismatch");
-        return Ok(());
+    Ok(ends)
+}
+
+pub(crate) const ONE: &str = "17 <34>1 - - - - - -";
+
+pub(crate) const TWO: &str = "17 <34>1 - - - - - -17 <35>1 - - - - - -";
+
+pub(crate) const THREE: &str = "17 <34>1 - - - - - -17 <35>1 - - - - - -17 <36>1 - - - - - -";
+
+pub(crate) const INPUT: &str =
+    r#"module(load="imtcp") input(type="imtcp" port="6515" flowControl="off") "#;
+
+// A script with this behind its input.
+pub(crate) fn script_of(alloc: Global, behind: &str) -> Result<String, AllocError> {
+    let mut script = String::new(alloc);
+    script.push_str(INPUT)?;
+    script.push_str(behind)?;
+    Ok(script)
+}
+
+// A relay whose gate holds the call of this number, or each offer of this worker.
+#[derive(Drop)]
+pub(crate) struct Held<R: Threads + Wait + Clock + Copy + Drop + Send + Sync + 'static> {
+    pub(crate) relay: Relay<Holding<R>>,
+    pub(crate) workers: Workers,
+    pub(crate) door: Arc<Door>,
+    pub(crate) log: Arc<Log>,
+}
+
+pub(crate) fn held<R: Threads + Wait + Clock + Copy + Drop + Send + Sync + 'static>(
+    rt: R,
+    alloc: Global,
+    behind: &str,
+    call: u32,
+    worker: u32,
+) -> Result<Option<Held<R>>, AllocError> {
+    let script = script_of(alloc, behind)?;
+    let door = Door::new(alloc)?;
+    let log = Log::new(alloc, 0)?;
+    let gate = Holding {
+        rt,
+        door: Arc::try_clone(&door)?,
+        call,
+        worker,
     };
-    assert!(rt; is_taken && stopped.accounts.taken() == 2);
-    Ok(())
+    match started(rt, alloc, script.as_str(), &log, (0, 0), gate)? {
+        Some((relay, workers)) => Ok(Some(Held {
+            relay,
+            workers,
+            door,
+            log,
+        })),
+        None => Ok(None),
+    }
 }

@@ -1,0 +1,43 @@
+-- What a worker finds to do.
+use Rattle.std.specs.Prelude.{◌≡◌, ◌≢◌, ◌≤◌, ◌×◌, ◌⊎◌, ℕ, List, Some, length}
+use Rattle.sy_chain.specs.Entries.{Entry}
+use Rattle.sy_wire.specs.Messages.{Said}
+use Rattle.sy_board.specs.declared.fault.BoardFault.{BoardFault}
+use Rattle.sy_board.specs.declared.relay.answers.PostCause.TheVariants as cause
+use Rattle.sy_board.specs.declared.relay.answers.Posted.TheVariants as posted
+use Rattle.sy_board.specs.relay.Boards.{BoardState, GrabFails, GrabIs, HasRun, NothingWaits, PostFails, PostIs, PostLostFails, PostLostIs, RunsIs}
+use Rattle.sy_runtime.specs.declared.finding.Next.{Next}
+use Rattle.sy_runtime.specs.declared.finding.Next.TheVariants as next
+use Rattle.sy_runtime.specs.declared.posting.Post.{Post}
+use Rattle.sy_runtime.specs.declared.posting.Post.TheVariants.{Done, Held, Refused}
+
+-- The board refuses the worker's post: a total is full, or its job is none.
+abbrev pub PostRefused : BoardState → ℕ → Type 0
+PostRefused old worker =
+    (fault : BoardFault) × (((node : Entry) × PostFails fault old worker node) ⊎ PostLostFails fault cause.NoMemory old worker)
+
+-- What became of a worker's post: its entry came to the queue or was discarded there, or there was no memory for one; or the queue is full.
+abbrev pub PostWas : Post → BoardState → ℕ → BoardState → Type 0
+PostWas Done old worker new =
+    ((node : Entry) × PostIs posted.Done old worker node new)
+    ⊎ ((node : Entry) × PostIs (posted.Discarded node) old worker node new)
+    ⊎ PostLostIs cause.NoMemory old worker new
+PostWas Held old worker new = (node : Entry) × PostIs (posted.Held node) old worker node new
+PostWas Refused old worker new = (new ≡ old) × PostRefused old worker
+
+-- A worker ends that isn't there, or of which the board refuses what is next.
+abbrev pub CannotGoOn : BoardState → ℕ → Type 0
+CannotGoOn old worker =
+    (length old.plan.workers ≤ worker) ⊎ PostRefused old worker ⊎ ((fault : BoardFault) × GrabFails fault old worker)
+
+-- What a worker does next, with these messages, and what became of the board: only a post and a batch change it. Of up to 256 runs that stand next the
+-- messages are offered.
+abbrev pub NextIs : Next → List Said → BoardState → ℕ → BoardState → Type 0
+NextIs (next.Run action) messages old worker new = (new ≡ old) × RunsIs (Some action) old worker 256 messages
+NextIs next.Posted messages old worker new = PostWas Done old worker new
+NextIs next.Held messages old worker new = PostWas Held old worker new
+NextIs next.Grabbed messages old worker new =
+    (count : ℕ) × (lost : List Entry) × (count ≢ 0) × GrabIs count lost old worker new
+NextIs next.Idle messages old worker new = (new ≡ old) × NothingWaits old worker
+NextIs next.NoMemory messages old worker new = (new ≡ old) × HasRun old worker
+NextIs next.Ends messages old worker new = (new ≡ old) × CannotGoOn old worker
