@@ -46,8 +46,8 @@ fn refused(alloc: Global, site: &Site, finding: &Finding) -> Result<Answer, Allo
     })
 }
 
-// What is said of a site that is refused.
-fn say_found(alloc: Global, site: &Site, why: Refusal) -> Result<Answer, Halt>
+/// What is said of a site that is refused.
+pub fn say_found(alloc: Global, site: &Site, why: Refusal) -> Result<Answer, Halt>
     requires found { IsTrueRefusal site.now why }
     ensures ok { IfOk result (λ a. spec.SaysFound site.now a.text.items a.is_accepted) }
     ensures err { IfErr result (λ halt. halt ≡ Halt.NoMemory) }

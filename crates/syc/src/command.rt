@@ -60,6 +60,10 @@ const CERTIFY_ABOUT: &str = "Print a certificate of a site, for others to verify
 const REPLAY_ABOUT: &str =
     "Make the events of a file at the site of a site file, and print each loss";
 
+const RUN_ABOUT: &str = "Check a site, and run one of its relays until standard input ends";
+
+const UNCHECKED_ABOUT: &str = "Run it without a check";
+
 const VERIFY_ABOUT: &str =
     "Say whether a certificate shows that a site keeps the messages of its protected classes";
 
@@ -75,7 +79,8 @@ pub fn all_words<'a>(alloc: Global, args: &'a [String]) -> Result<Vec<&'a str>, 
     Ok(words)
 }
 
-fn is_word(word: &str, wanted: &str) -> bool
+/// Whether a word is this one.
+pub fn is_word(word: &str, wanted: &str) -> bool
     ensures { IsTrue result ↔ (word.now ≡ wanted.now) }
 {
     word == wanted
@@ -91,8 +96,8 @@ fn are_pass(words: &[&str]) -> bool
     }
 }
 
-// Whether a word names a file where it stands: it is no option.
-fn is_plain(word: &str) -> bool
+/// Whether a word names a file where it stands: it is no option.
+pub fn is_plain(word: &str) -> bool
     ensures { result ≡ spec.is_plain word.now }
 {
     match word.as_bytes() {
@@ -264,15 +269,20 @@ fn flag_of<'a>(
     flag.action(ArgAction::SetTrue).conflicts_with(other)
 }
 
+// The flag that a relay runs without a check.
+fn unchecked_flag<'a>(alloc: Global) -> Result<Arg<'a>, AllocError> {
+    let flag = Arg::new(alloc, "unchecked")
+        .long("unchecked")
+        .help(UNCHECKED_ABOUT);
+    Ok(flag.action(ArgAction::SetTrue))
+}
+
 fn with_flag<'a>(
-    alloc: Global,
     parser: Result<Parser<'a>, AllocError>,
-    name: &'a str,
-    about: &'a str,
-    other: &'a str,
+    flag: Result<Arg<'a>, AllocError>,
 ) -> Result<Parser<'a>, AllocError> {
     match parser {
-        Ok(parser) => match flag_of(alloc, name, about, other) {
+        Ok(parser) => match flag {
             Ok(flag) => parser.arg(flag),
             Err(_) => no_parser(parser),
         },
@@ -288,11 +298,14 @@ fn parser_of<'a>(
     names: &'a [&'a str],
 ) -> Result<Parser<'a>, AllocError> {
     let parser = plain_parser(alloc, word, about, names);
+    if is_word(word, "run") {
+        return with_flag(parser, unchecked_flag(alloc));
+    }
     if !is_word(word, "check") {
         return parser;
     }
-    let parser = with_flag(alloc, parser, "explain", EXPLAIN_ABOUT, "all");
-    with_flag(alloc, parser, "all", ALL_ABOUT, "explain")
+    let parser = with_flag(parser, flag_of(alloc, "explain", EXPLAIN_ABOUT, "all"));
+    with_flag(parser, flag_of(alloc, "all", ALL_ABOUT, "explain"))
 }
 
 // A parser with one command more.
@@ -321,12 +334,13 @@ fn bare_parser<'a>(alloc: Global) -> Parser<'a> {
 }
 
 // The commands: the word of each, what it does, and the names of files behind it.
-static COMMANDS: [(&str, &str, &[&str]); 5] = [
+static COMMANDS: [(&str, &str, &[&str]); 6] = [
     ("pass", PASS_ABOUT, &[]),
     ("check", CHECK_ABOUT, &["SITE"]),
     ("certify", CERTIFY_ABOUT, &["SITE"]),
     ("verify", VERIFY_ABOUT, &["SITE", "CERT"]),
     ("replay", REPLAY_ABOUT, &["SITE", "EVENTS"]),
+    ("run", RUN_ABOUT, &["SITE", "RELAY"]),
 ];
 
 // What clap knows of the program.
@@ -360,7 +374,8 @@ fn ask_clap<'a>(parser: &mut Parser<'a>, words: &'a [&'a str]) -> Error {
     }
 }
 
-fn refusal(alloc: Global, words: &[&str]) -> Error {
+/// What clap answers for words that are no command.
+pub fn refusal(alloc: Global, words: &[&str]) -> Error {
     match whole_parser(alloc) {
         Ok(parser) => {
             let mut parser = parser;

@@ -1,45 +1,76 @@
 //! The program `syc`.
 #![tactic(auto)]
 
+mod accepting;
 mod all;
 mod answer;
 mod ask;
+mod at_port;
 mod carry;
 mod check;
 mod command;
+mod connections;
 mod culprit;
+mod devices;
+mod ending;
 mod explain;
 mod explanation;
 mod files;
 mod findings;
 mod halt;
+mod link;
+mod link_writer;
+mod listening;
 mod losses;
 mod meant;
+mod nowhere;
+mod outlets;
 mod outline;
 mod output;
 mod outputs;
 mod pass;
 mod places;
+mod prepare;
 mod remedies;
 mod replay;
 mod report;
 mod run;
+mod run_words;
+mod serve;
+mod serving;
 mod site;
 mod stop;
 mod tally;
 mod texts;
 mod things;
+mod totals;
 mod verdict;
 mod verify;
 mod words;
 
+use devices::{OpenFault, devices};
 use files::HostFiles;
+use outlets::outlets;
 use outputs::Outputs;
+use prepare::prepare;
 use run::run;
+use run_words::is_run;
+use serve::{Served, serve};
+use serving::Serving;
+use std::alloc::Global;
 use std::env;
+use std::fs::{File, Files};
 use std::io::BufWriter;
+use std::net::{Net, TcpListener, TcpStream};
 use std::process::ExitCode;
-use sy_wire::{Buffered, FromRead, FromWrite};
+use std::rt::{Stderr, Stdout};
+use std::sync::atomic::AtomicBool;
+use std::sync::{Arc, Wait};
+use std::thread::Threads;
+use std::time::Clock;
+use sy_board::Guard;
+use sy_site::Site;
+use sy_wire::{Buffered, FromRead, FromWrite, Sink, Source};
 
 /// How many bytes of lines are held back until the next read.
 const OUTPUT_BUFFER: usize = 65536;
@@ -47,33 +78,109 @@ const OUTPUT_BUFFER: usize = 65536;
 /// Room for the longest line on standard error, so that it is written at once.
 const ERROR_BUFFER: usize = 128;
 
+type HostOutputs = Outputs<Buffered<FromWrite<Stdout>>, FromWrite<BufWriter<Stderr>>>;
+
 fn main(rt: HostRuntime) -> ExitCode {
-    ExitCode::from(start(&rt))
+    let (words, mut out) = match begin(&rt) {
+        Ok(begun) => begun,
+        Err(status) => return ExitCode::from(status),
+    };
+    let status = if is_run(words.as_slice()) {
+        match prepare(rt.alloc(), words.as_slice(), &HostFiles::new(&rt), &mut out) {
+            Ok(prepared) => serve_on(
+                rt,
+                rt.alloc(),
+                prepared,
+                &mut FromRead::new(rt.stdin()),
+                out,
+            ),
+            Err(status) => status,
+        }
+    } else {
+        start(&rt, words.as_slice(), &mut out)
+    };
+    ExitCode::from(status)
 }
 
-// Runs the commands on the process's own words and streams.
-fn start(rt: &HostRuntime) -> u8 {
+// The process's own words and streams, or the exit status where memory ran out.
+fn begin(rt: &HostRuntime) -> Result<(Vec<String>, HostOutputs), u8> {
     let alloc = rt.alloc();
     let Ok(errors) = BufWriter::with_capacity(alloc, ERROR_BUFFER, rt.stderr()) else {
-        return stop::out_of_memory(&mut FromWrite::new(rt.stderr()));
+        return Err(stop::out_of_memory(&mut FromWrite::new(rt.stderr())));
     };
     let mut errors = FromWrite::new(errors);
     let Ok(args) = env::args(rt) else {
-        return stop::out_of_memory(&mut errors);
+        return Err(stop::out_of_memory(&mut errors));
     };
     let Ok(words) = args.skip(1).collect::<Vec<String>>(alloc) else {
-        return stop::out_of_memory(&mut errors);
+        return Err(stop::out_of_memory(&mut errors));
     };
     let stdout = FromWrite::new(rt.stdout());
     let Ok(writer) = Buffered::with_capacity(alloc, OUTPUT_BUFFER, stdout) else {
+        return Err(stop::out_of_memory(&mut errors));
+    };
+    Ok((words, Outputs { writer, errors }))
+}
+
+// Runs the commands other than `run` on the process's own words and streams.
+fn start(rt: &HostRuntime, words: &[String], out: &mut HostOutputs) -> u8 {
+    let mut reader = FromRead::new(rt.stdin());
+    run(rt.alloc(), words, &HostFiles::new(rt), &mut reader, out)
+}
+
+// Tells why there are no devices, and answers the exit status.
+fn no_devices<E: Sink>(errors: &mut E, fault: OpenFault) -> u8 {
+    match fault {
+        OpenFault::Write => stop::write_failed(errors),
+        OpenFault::NoMemory => stop::out_of_memory(errors),
+    }
+}
+
+// Makes the devices of a relay, and serves it.
+fn serve_on<
+    R: Threads
+        + Wait
+        + Clock
+        + Net<Listener = TcpListener, Stream = TcpStream>
+        + Files<File = File>
+        + Copy
+        + Drop
+        + Send
+        + 'static,
+    S: Source,
+    W: Sink + Drop,
+    E: Sink + Drop + Send + 'static,
+>(
+    rt: R,
+    alloc: Global,
+    prepared: (Site, u32, Option<Guard>),
+    reader: &mut S,
+    out: Outputs<W, E>,
+) -> u8 {
+    let (site, relay, guard) = prepared;
+    let Outputs {
+        mut writer,
+        mut errors,
+    } = out;
+    let Ok(outlets) = outlets(alloc, &site, relay) else {
         return stop::out_of_memory(&mut errors);
     };
-    let mut reader = FromRead::new(rt.stdin());
-    run(
-        alloc,
-        words.as_slice(),
-        &HostFiles::new(rt),
-        &mut reader,
-        &mut Outputs { writer, errors },
-    )
+    let Ok(is_ending) = Arc::new(alloc, AtomicBool::new(false)) else {
+        return stop::out_of_memory(&mut errors);
+    };
+    let devices = match devices(rt, alloc, outlets.as_slice(), &is_ending) {
+        Ok(devices) => devices,
+        Err(fault) => return no_devices(&mut errors, fault),
+    };
+    let served = Served {
+        site: &site,
+        relay,
+        guard,
+        devices,
+        is_ending,
+    };
+    let Ok(serving) = Arc::new(alloc, Serving::new(alloc, errors)) else {
+        return 3;
+    };
+    serve(rt, alloc, served, reader, &mut writer, &serving)
 }

@@ -44,8 +44,8 @@ fn show<W: Sink, E: Sink>(alloc: Global, out: &mut Outputs<W, E>, error: &Error)
     0
 }
 
-// Prints what is wrong with words that are no command, or that memory ran out, and answers the exit status.
-fn refuse<W: Sink, E: Sink>(alloc: Global, out: &mut Outputs<W, E>, error: &Error) -> u8
+/// Prints what is wrong with words that are no command, or that memory ran out, and answers the exit status.
+pub fn refuse<W: Sink, E: Sink>(alloc: Global, out: &mut Outputs<W, E>, error: &Error) -> u8
     ensures status { result ≤ 4 }
     ensures none_failed { result ≢ 4 → out.new.output.faults ≡ out.old.output.faults }
     ensures quiet { result ≡ 0 → Keeps out.old.errors.contents out.new.errors.contents }

@@ -1,0 +1,97 @@
+//! What writes to a link.
+
+use std::io::{ErrorKind, Read, Write};
+use std::net::TcpStream;
+use std::sync::Arc;
+use std::sync::atomic::{AtomicBool, Ordering};
+use sy_wire::{Sink, WriteFault};
+
+/// How many reads drop what a receiver sent, at most, each time that is looked at.
+const READS: u32 = 16;
+
+/// What writes to a link. Its stream's writes have a time limit: a write that took nothing goes on, until the receiver has
+/// closed the link or the relay waits for its links no more.
+#[derive(Drop)]
+pub struct LinkWriter {
+    stream: Arc<TcpStream>,
+    is_ending: Arc<AtomicBool>,
+    faults: u64,
+    is_flushed: bool,
+}
+
+// Reads and drops what a receiver sent, as far as it is there, and answers whether the link is still open.
+fn drop_received(mut stream: &TcpStream) -> bool {
+    let mut room = [0u8; 1024];
+    for _ in 0..READS {
+        match stream.read(&mut room) {
+            Ok(0) => return false,
+            Ok(_) => {}
+            Err(error) => return error.kind() == ErrorKind::WouldBlock,
+        }
+    }
+    true
+}
+
+/// Whether the receiver of a link hasn't closed it, as far as that is known. What it sent is dropped.
+pub fn is_open(stream: &TcpStream) -> bool {
+    if stream.set_nonblocking(true).is_err() {
+        return false;
+    }
+    drop_received(stream) && stream.set_nonblocking(false).is_ok()
+}
+
+// Writes a prefix of the bytes, and waits for it as long as that is of use. It answers how many were taken, if any.
+fn write_some(mut stream: &TcpStream, is_ending: &AtomicBool, bytes: &[u8]) -> Option<usize> {
+    for _ in 0..u64::MAX {
+        match stream.write(bytes) {
+            Ok(0) => return None,
+            Ok(count) => return Some(count),
+            Err(error) if error.kind() == ErrorKind::WouldBlock => {}
+            Err(_) => return None,
+        }
+        if is_ending.load(Ordering::SeqCst) || !is_open(stream) {
+            return None;
+        }
+    }
+    None
+}
+
+impl LinkWriter {
+    /// A writer to this link. It waits in no write once the flag is set.
+    pub fn new(stream: Arc<TcpStream>, is_ending: Arc<AtomicBool>) -> LinkWriter {
+        LinkWriter {
+            stream,
+            is_ending,
+            faults: 0,
+            is_flushed: true,
+        }
+    }
+}
+
+impl Sink for LinkWriter {
+    // what a link hands on isn't known
+    ghost contents = { λ _. None };
+
+    ghost faults = { λ s. s.faults };
+
+    ghost is_flushed = { λ s. s.is_flushed };
+
+    fn write(&mut self, bytes: &[u8]) -> Result<usize, WriteFault> {
+        if bytes.is_empty() {
+            return Ok(0);
+        }
+        self.is_flushed = false;
+        match write_some(&self.stream, &self.is_ending, bytes) {
+            Some(count) => Ok(count),
+            None => {
+                self.faults = self.faults.saturating_add(1);
+                Err(WriteFault)
+            }
+        }
+    }
+
+    fn flush(&mut self) -> Result<(), WriteFault> {
+        self.is_flushed = true;
+        Ok(())
+    }
+}

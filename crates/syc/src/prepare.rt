@@ -1,0 +1,104 @@
+//! What a relay needs to run: its site and, where that was checked, its guard.
+
+use crate::answer::print;
+use crate::check::say_found;
+use crate::command::{all_words, refusal};
+use crate::files::Files;
+use crate::halt::{status_of, tell};
+use crate::outputs::Outputs;
+use crate::report::tell_texts;
+use crate::run::refuse;
+use crate::run_words::{RunWords, run_words};
+use crate::site::read_site;
+use crate::stop::out_of_memory;
+use std::alloc::Global;
+use sy_board::Guard;
+use sy_checker::check_site;
+use sy_checker::finding::Refusal;
+use sy_site::Site;
+use sy_wire::Sink;
+
+// Tells that the site has no relay of that name, and answers the exit status.
+fn no_relay<E: Sink>(errors: &mut E, name: &str) -> u8 {
+    tell_texts(errors, &[b"syc: no relay ", name.as_bytes(), b"\n"]);
+    2
+}
+
+// The guard of a relay of a site that is sound, or why it isn't.
+fn guard_of(alloc: Global, site: &Site, relay: u32) -> Result<Guard, Refusal> {
+    let accepted = match check_site(alloc, site) {
+        Ok(accepted) => accepted,
+        Err(why) => return Err(why),
+    };
+    match accepted.guard(alloc, relay) {
+        Ok(guard) => Ok(guard),
+        Err(_) => Err(Refusal::NoMemory),
+    }
+}
+
+// The guard of a relay, or the exit status where the site is refused, which is told.
+fn checked<W: Sink, E: Sink>(
+    alloc: Global,
+    site: &Site,
+    relay: u32,
+    out: &mut Outputs<W, E>,
+) -> Result<Guard, u8> {
+    match guard_of(alloc, site, relay) {
+        Ok(guard) => Ok(guard),
+        Err(why) => Err(print(say_found(alloc, site, why), out)),
+    }
+}
+
+// The site of that name and the number of its relay, or the exit status.
+fn named<F: Files, E: Sink>(
+    alloc: Global,
+    words: RunWords<'_>,
+    files: &F,
+    errors: &mut E,
+) -> Result<(Site, u32), u8> {
+    let site = match read_site(alloc, files, words.site) {
+        Ok(site) => site,
+        Err(halt) => {
+            tell(errors, &halt);
+            return Err(status_of(&halt));
+        }
+    };
+    match site.relay_named(words.relay.as_bytes()) {
+        Some(relay) => Ok((site, relay)),
+        None => Err(no_relay(errors, words.relay)),
+    }
+}
+
+// What the words name.
+fn ready<F: Files, W: Sink, E: Sink>(
+    alloc: Global,
+    words: RunWords<'_>,
+    files: &F,
+    out: &mut Outputs<W, E>,
+) -> Result<(Site, u32, Option<Guard>), u8> {
+    let (site, relay) = named(alloc, words, files, &mut out.errors)?;
+    if words.is_unchecked {
+        return Ok((site, relay, None));
+    }
+    let guard = checked(alloc, &site, relay, out)?;
+    Ok((site, relay, Some(guard)))
+}
+
+/// What the command that runs a relay needs: the site that the words name, the number of its relay, and the relay's guard,
+/// where the site is checked and sound. With `--unchecked` among the words no check is made, and there is no guard. Else
+/// an exit status, and what is to be said of it is printed: 1 for a site that is refused, 2 for a faulty site, a relay that it doesn't have
+/// or other words (0 where they ask for help), 3 where memory runs out, and 4 where a read or write failed.
+pub fn prepare<F: Files, W: Sink, E: Sink>(
+    alloc: Global,
+    args: &[String],
+    files: &F,
+    out: &mut Outputs<W, E>,
+) -> Result<(Site, u32, Option<Guard>), u8> {
+    let Ok(words) = all_words(alloc, args) else {
+        return Err(out_of_memory(&mut out.errors));
+    };
+    match run_words(words.as_slice()) {
+        Some(found) => ready(alloc, found, files, out),
+        None => Err(refuse(alloc, out, &refusal(alloc, words.as_slice()))),
+    }
+}

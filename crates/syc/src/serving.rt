@@ -1,0 +1,171 @@
+//! What the threads of a relay that is served share, and what each connection's does.
+
+use crate::at_port::{tell_at_port, tell_fault, tell_unread};
+use crate::connections::Connections;
+use crate::report::tell_text;
+use std::alloc::{AllocError, Global};
+use std::net::{Shutdown, TcpStream};
+use std::sync::atomic::{AtomicBool, Ordering};
+use std::sync::{Arc, Condvar, CondvarTimeouts, Mutex, Wait};
+use std::time::{Clock, Duration};
+use sy_runtime::{ConnEnd, Finish, Gate, Relay, RunFault};
+use sy_wire::{FromRead, Sink};
+
+/// Nothing is done around an offer.
+#[derive(Drop)]
+pub struct OpenGate;
+
+impl Gate for OpenGate {
+    fn before(&self, _worker: u32) {}
+
+    fn after(&self, _worker: u32) {}
+}
+
+/// What the threads of a relay that is served share.
+#[derive(Drop)]
+pub struct Serving<E: Drop> {
+    errors: Mutex<E>,
+    connections: Mutex<Connections>,
+    // told when a connection or an accept loop has ended
+    ended: Condvar,
+    is_stopping: AtomicBool,
+}
+
+/// An input of a relay, by its number and its port.
+#[derive(Clone, Copy)]
+pub struct Port {
+    pub input: u32,
+    pub port: u16,
+}
+
+impl<E: Sink + Drop> Serving<E> {
+    /// Nothing is served yet. What happens is printed here.
+    pub fn new(alloc: Global, errors: E) -> Serving<E> {
+        Serving {
+            errors: Mutex::new(errors),
+            connections: Mutex::new(Connections::new(alloc)),
+            ended: Condvar::new(),
+            is_stopping: AtomicBool::new(false),
+        }
+    }
+
+    /// Prints what happened at a port.
+    pub fn tell<R: Wait>(&self, rt: &R, words: &[u8], port: u16) {
+        tell_at_port(&mut *self.errors.lock(rt), words, port);
+    }
+
+    /// Prints what happened.
+    pub fn tell_text<R: Wait>(&self, rt: &R, text: &str) {
+        tell_text(&mut *self.errors.lock(rt), text);
+    }
+
+    // Prints how a connection ended, where there is something to say.
+    fn tell_end<R: Wait>(
+        &self,
+        rt: &R,
+        port: u16,
+        end: &ConnEnd,
+        answer: Result<Finish, RunFault>,
+    ) {
+        let mut errors = self.errors.lock(rt);
+        tell_unread(&mut *errors, end, port);
+        if let Err(fault) = answer {
+            tell_fault(&mut *errors, fault, port);
+        }
+    }
+
+    /// Whether nothing new is to be accepted.
+    pub fn is_stopping(&self) -> bool {
+        self.is_stopping.load(Ordering::SeqCst)
+    }
+
+    /// Has nothing new accepted from now on.
+    pub fn set_stopping(&self) {
+        self.is_stopping.store(true, Ordering::SeqCst);
+    }
+
+    /// Counts an accept loop that begins.
+    pub fn begin_loop<R: Wait>(&self, rt: &R) {
+        self.connections.lock(rt).begin_loop();
+    }
+
+    /// Counts an accept loop that has ended.
+    pub fn end_loop<R: Wait>(&self, rt: &R) {
+        self.connections.lock(rt).end_loop();
+        self.ended.notify_all();
+    }
+
+    /// Waits until no accept loop goes on, but no longer than this, and answers whether that is so.
+    pub fn wait_for_loops<R: Wait + Clock>(&self, rt: &R, most: Duration) -> bool {
+        let connections = self.connections.lock(rt);
+        let (connections, _) = self
+            .ended
+            .wait_timeout_while(rt, connections, most, |it| it.is_accepting());
+        !connections.is_accepting()
+    }
+
+    /// Makes room for so many more connections.
+    pub fn make_room<R: Wait>(&self, rt: &R, more: usize) -> Result<(), AllocError> {
+        self.connections.lock(rt).make_room(more)
+    }
+
+    /// A place for a connection.
+    pub fn enter<R: Wait>(&self, rt: &R, stream: Arc<TcpStream>) -> Result<usize, AllocError> {
+        self.connections.lock(rt).enter(stream)
+    }
+
+    /// Frees a connection's place.
+    pub fn leave<R: Wait>(&self, rt: &R, place: usize) {
+        self.connections.lock(rt).leave(place);
+        self.ended.notify_all();
+    }
+
+    // Frees a connection's place, and keeps what it counted.
+    fn end<R: Wait>(&self, rt: &R, place: usize, end: ConnEnd) {
+        let mut connections = self.connections.lock(rt);
+        connections.keep(end);
+        connections.leave(place);
+        drop(connections);
+        self.ended.notify_all();
+    }
+
+    /// Shuts this side down of each connection that is open.
+    pub fn shut_down<R: Wait>(&self, rt: &R, how: Shutdown) {
+        self.connections.lock(rt).shut_down(how);
+    }
+
+    /// Waits until no connection is open, but no longer than this.
+    pub fn wait_for_connections<R: Wait + Clock>(&self, rt: &R, most: Duration) {
+        let connections = self.connections.lock(rt);
+        let _ = self
+            .ended
+            .wait_timeout_while(rt, connections, most, |it| !it.is_empty());
+    }
+
+    /// Waits until no connection is open.
+    pub fn wait_for_all<R: Wait>(&self, rt: &R) {
+        let connections = self.connections.lock(rt);
+        let _ = self.ended.wait_while(rt, connections, |it| !it.is_empty());
+    }
+
+    /// What the connections counted that ended.
+    pub fn take_ends<R: Wait>(&self, rt: &R, alloc: Global) -> Vec<ConnEnd> {
+        self.connections.lock(rt).take_ends(alloc)
+    }
+}
+
+/// Serves a connection until it ends.
+pub fn serve_connection<R: Wait + Clock, E: Sink + Drop>(
+    rt: &R,
+    alloc: Global,
+    relay: &Relay<OpenGate>,
+    serving: &Serving<E>,
+    at: Port,
+    stream: &TcpStream,
+    place: usize,
+) {
+    let mut reader = FromRead::new(stream);
+    let (end, answer) = relay.connect(rt, alloc, at.input, &mut reader);
+    serving.tell_end(rt, at.port, &end, answer);
+    serving.end(rt, place, end);
+}
