@@ -1,0 +1,172 @@
+"""More connections than hands, and senders that are slow, half-closed or reset."""
+
+from peers import Pump, Sender, frame, frames, message, messages, send_all
+from room import CLOSE_WAIT, ESTABLISHED, Failure, imtcp, module, omfile, same, sockets, test, totals, until
+
+HANDS = 64
+
+
+def served(room, port, count):
+    """So many connections, each of which has sent a message that stands in the archive."""
+    senders = [Sender(port).send(message(0, connection=it)) for it in range(count)]
+    room.has("audit.log", count)
+    return senders
+
+
+@test
+def one_connection_too_many(room):
+    relay, port = room.hub()
+    senders = served(room, port, HANDS)
+    Sender(port).is_ended()
+    relay.says(f"syc: 73 Hands at {port}")
+    for it, sender in enumerate(senders):
+        sender.send(message(1, connection=it))
+    room.has("audit.log", 2 * HANDS)
+    # (one that has ended leaves its hand to another)
+    senders.pop().end()
+    for _ in range(3):
+        send_all(port, [message(2)])
+    for it in senders:
+        it.end()
+    count = 2 * HANDS + 3
+    room.has("audit.log", count)
+    relay.stops_with(totals(count, 0, 0, ("audit", count, count, 0, 0)), [f"syc: 73 Hands at {port}"])
+    same("lines", len(room.lines("audit.log")), count)
+
+
+@test
+def what_comes_over_one_too_many_is_not_taken(room):
+    relay, port = room.hub()
+    senders = served(room, port, HANDS)
+    try:
+        late = Sender(port).send(message("late"))
+        late.is_ended()
+    except (BrokenPipeError, ConnectionResetError):
+        pass
+    relay.says(f"syc: 73 Hands at {port}")
+    for it in senders:
+        it.end()
+    relay.stops_with(totals(HANDS, 0, 0, ("audit", HANDS, HANDS, 0, 0)), [f"syc: 73 Hands at {port}"])
+    same("late lines", [it for it in room.lines("audit.log") if b"late" in it], [])
+
+
+@test
+def hands_of_each_input(room):
+    ports = [room.port(), room.port()]
+    room.site({"hub": module() + imtcp(ports[0]) + imtcp(ports[1]) + omfile("audit", "audit.log")},
+              f"entry hub {ports[0]}", "protect auth.* hub audit")
+    relay = room.start("hub", *ports)
+    senders = served(room, ports[0], HANDS)
+    send_all(ports[1], [message("other")])
+    room.has("audit.log", HANDS + 1)
+    for it in senders:
+        it.end()
+    relay.stops_with(totals(HANDS + 1, 0, 0, ("audit", HANDS + 1, HANDS + 1, 0, 0)))
+
+
+@test
+def half_closed_at_once(room):
+    relay, port = room.hub()
+    send_all(port, messages(5000))
+    room.holds("audit.log", messages(5000))
+    send_all(port, [])
+    relay.stops_with(totals(5000, 0, 0, ("audit", 5000, 5000, 0, 0)))
+
+
+@test
+def closed_without_waiting(room):
+    relay, port = room.hub()
+    sender = Sender(port).send(*messages(5000))
+    sender.close()
+    room.holds("audit.log", messages(5000))
+    relay.stops_with(totals(5000, 0, 0, ("audit", 5000, 5000, 0, 0)))
+
+
+@test
+def reset_between_frames(room):
+    relay, port = room.hub()
+    sender = Sender(port).send(*messages(100))
+    room.holds("audit.log", messages(100))
+    sender.reset()
+    relay.says(f"syc: 71 Read at {port}")
+    send_all(port, messages(1, 100))
+    room.holds("audit.log", messages(101))
+    relay.stops_with(totals(101, 0, 0, ("audit", 101, 101, 0, 0)), [f"syc: 71 Read at {port}"])
+
+
+@test
+def reset_within_a_frame(room):
+    relay, port = room.hub()
+    sender = Sender(port).send_bytes(frames(messages(10)) + b"100 <34>1 - -")
+    room.holds("audit.log", messages(10))
+    sender.reset()
+    relay.says(f"syc: 71 Read at {port}")
+    relay.stops_with(totals(10, 0, 0, ("audit", 10, 10, 0, 0)), [f"syc: 71 Read at {port}"])
+
+
+def arrives(port):
+    """Waits until the relay has read all that came to a port."""
+    until("the relay reads", lambda: not any(it[0] == port and it[3] for it in sockets() if it[2] in (ESTABLISHED, CLOSE_WAIT)))
+
+
+@test
+def byte_by_byte(room):
+    relay, port = room.hub()
+    senders = [Sender(port) for _ in range(3)]
+    for number in range(3):
+        for at in range(len(frame(message(number)))):
+            for connection, sender in enumerate(senders):
+                text = frame(message(number, connection=connection))
+                sender.send_bytes(text[at:at + 1])
+            arrives(port)
+        room.has("audit.log", 3 * number + 3)
+        same("messages so far", sorted(room.lines("audit.log")),
+             sorted(message(it, connection=connection) for it in range(number + 1) for connection in range(3)))
+    for it in senders:
+        it.end()
+    relay.stops_with(totals(9, 0, 0, ("audit", 9, 9, 0, 0)))
+
+
+@test
+def slow_beside_fast(room):
+    relay, port = room.hub()
+    slow = [Sender(port).send_bytes(frame(message("slow", connection=it))[:7 + it]) for it in range(20)]
+    send_all(port, messages(20_000))
+    room.holds("audit.log", messages(20_000))
+    for connection, sender in enumerate(slow):
+        sender.send_bytes(frame(message("slow", connection=connection))[7 + connection:])
+        sender.end()
+    count = 20_020
+    room.has("audit.log", count)
+    relay.stops_with(totals(count, 0, 0, ("audit", count, count, 0, 0)))
+    same("slow lines", sorted(room.lines("audit.log")[20_000:]), sorted(message("slow", connection=it) for it in range(20)))
+
+
+@test
+def frames_cut_everywhere(room):
+    relay, port = room.hub()
+    data = frames(messages(60))
+    sender = Sender(port)
+    for size in (1, 2, 3, 5, 7, 11, 23, 59):
+        for at in range(0, len(data), size * 7):
+            sender.send_bytes(data[at:at + size * 7])
+    sender.end()
+    room.holds("audit.log", messages(60) * 8)
+    relay.stops_with(totals(480, 0, 0, ("audit", 480, 480, 0, 0)))
+
+
+@test
+def senders_that_come_and_go(room):
+    relay, port = room.hub()
+    pumps = [Pump(port, it) for it in range(4)]
+    until("all are served", lambda: all(b" c%d n" % it in room.read("audit.log") for it in range(4)))
+    for it in pumps:
+        it.end()
+    relay.rests(port)
+    taken = len(room.lines("audit.log"))
+    came = relay.stop()
+    same("totals", came, totals(taken, 0, 0, ("audit", taken, taken, 0, 0)))
+    for it in range(4):
+        numbers = [int(line.split(b" ")[8][1:]) for line in room.lines("audit.log") if line.split(b" ")[7] == b"c%d" % it]
+        if numbers != list(range(len(numbers))):
+            raise Failure(f"connection {it}: the archive has other messages than its first {len(numbers)}")

@@ -1,0 +1,251 @@
+"""Receivers that are down, killed and restarted, and archives that can't be written."""
+
+import re
+import time
+
+from peers import Receiver, Sender, messages, send_all
+from room import Failure, imtcp, main_queue, module, omfile, omfwd, same, test, totals, until
+
+
+def edge(room, retries, interval=0, after=True, more=""):
+    """Starts a relay that forwards, and then writes to an archive, which tells how far it is; answers its ports too."""
+    entry, inner = room.port(), room.port()
+    room.site({"edge": module() + main_queue(size=1000, dequeueBatchSize=8) + imtcp(entry)
+               + omfwd("up", "hub", inner, retries, interval, more) + (omfile("after", "after.log") if after else ""),
+               "hub": module() + imtcp(inner) + omfile("audit", "audit.log")})
+    return room.start_unchecked("edge", entry), entry, inner
+
+
+@test
+def receiver_down_without_retries(room):
+    relay, port, _ = edge(room, 0)
+    send_all(port, messages(40))
+    room.holds("after.log", messages(40))
+    relay.stops_with(totals(40, 0, 0, ("up", 40, 0, 40, 0), ("after", 40, 40, 0, 0)))
+
+
+@test
+def receiver_down_with_three_retries(room):
+    relay, port, _ = edge(room, 3)
+    begun = time.monotonic()
+    send_all(port, messages(20))
+    room.holds("after.log", messages(20))
+    took = time.monotonic() - begun
+    # (three times of at least 10 ms for each message, where the interval is 0)
+    if took < 0.6:
+        raise Failure(f"20 messages with three retries of 10 ms each were given up within {took:.3f} s")
+    relay.stops_with(totals(20, 0, 0, ("up", 20, 0, 20, 0), ("after", 20, 20, 0, 0)))
+
+
+@test
+def interval_between_retries_is_waited_for(room):
+    relay, port, _ = edge(room, 2, 1)
+    begun = time.monotonic()
+    send_all(port, messages(1))
+    room.holds("after.log", messages(1))
+    took = time.monotonic() - begun
+    if took < 2:
+        raise Failure(f"two retries with an interval of one second took {took:.3f} s")
+    relay.stops_with(totals(1, 0, 0, ("up", 1, 0, 1, 0), ("after", 1, 1, 0, 0)))
+
+
+@test
+def receiver_comes_up_before_the_last_retry(room):
+    relay, port, inner = edge(room, 3, 2)
+    send_all(port, messages(10))
+    relay.rests(port)
+    receiver = Receiver(inner)
+    room.holds("after.log", messages(10))
+    receiver.has(messages(10))
+    relay.stops_with(totals(10, 0, 0, ("up", 10, 10, 0, 0), ("after", 10, 10, 0, 0)))
+
+
+@test
+def receiver_comes_up_late_with_endless_retries(room):
+    relay, port, inner = edge(room, -1)
+    send_all(port, messages(100))
+    receiver = Receiver(inner)
+    receiver.has(messages(100))
+    room.holds("after.log", messages(100))
+    relay.stops_with(totals(100, 0, 0, ("up", 100, 100, 0, 0), ("after", 100, 100, 0, 0)))
+
+
+def cut_while_idle(room, retries, end, comes_back):
+    """A receiver that took ten messages ends; ten more come, and then perhaps another receiver."""
+    relay, port, inner = edge(room, retries, after=retries >= 0)
+    first = Receiver(inner)
+    sender = Sender(port).send(*messages(10))
+    first.has(messages(10))
+    end(first)
+    if comes_back:
+        second = Receiver(inner)
+        sender.send(*messages(10, 10))
+        second.has(messages(10, 10))
+    else:
+        sender.send(*messages(10, 10))
+    return relay, sender
+
+
+@test
+def receiver_killed_without_retries(room):
+    relay, sender = cut_while_idle(room, 0, Receiver.kill, False)
+    room.holds("after.log", messages(20))
+    sender.end()
+    relay.stops_with(totals(20, 0, 0, ("up", 20, 10, 10, 0), ("after", 20, 20, 0, 0)))
+
+
+@test
+def receiver_closed_without_retries(room):
+    relay, sender = cut_while_idle(room, 0, Receiver.close, False)
+    room.holds("after.log", messages(20))
+    sender.end()
+    relay.stops_with(totals(20, 0, 0, ("up", 20, 10, 10, 0), ("after", 20, 20, 0, 0)))
+
+
+@test
+def receiver_killed_with_three_retries(room):
+    relay, sender = cut_while_idle(room, 3, Receiver.kill, False)
+    room.holds("after.log", messages(20))
+    sender.end()
+    relay.stops_with(totals(20, 0, 0, ("up", 20, 10, 10, 0), ("after", 20, 20, 0, 0)))
+
+
+@test
+def receiver_killed_with_endless_retries(room):
+    relay, sender = cut_while_idle(room, -1, Receiver.kill, False)
+    sender.end()
+    # (the worker holds eight and offers the first of them, two wait in the queue: or fewer, as they came)
+    same("totals while it is down", re.sub(r"due \d+ done (\d+) given-up (\d+) left \d+", r"done \1 given-up \2", relay.stop()),
+         "taken 20 lost 0 held 10\nup done 10 given-up 0\n")
+
+
+@test
+def receiver_killed_and_restarted(room):
+    relay, sender = cut_while_idle(room, -1, Receiver.kill, True)
+    sender.end()
+    relay.stops_with(totals(20, 0, 0, ("up", 20, 20, 0, 0)))
+
+
+@test
+def receiver_closed_and_restarted(room):
+    relay, sender = cut_while_idle(room, -1, Receiver.close, True)
+    sender.end()
+    relay.stops_with(totals(20, 0, 0, ("up", 20, 20, 0, 0)))
+
+
+@test
+def receiver_killed_under_load(room):
+    relay, port, inner = edge(room, -1, after=False)
+    receivers = [Receiver(inner)]
+    sender = Sender(port)
+    count = 0
+    for turn in range(4):
+        sender.send(*messages(5000, count, text="a" * 100))
+        count += 5000
+        until("the receiver has some", lambda: len(receivers[-1].came) > 0 and len(receivers[-1].came[-1]) > 100_000)
+        receivers[-1].kill()
+        receivers.append(Receiver(inner))
+    last = messages(1, count)
+    sender.send(*last).end()
+    until("the last message is received", lambda: receivers[-1].messages()[-1:] == last)
+    relay.stops_with(totals(count + 1, 0, 0, ("up", count + 1, count + 1, 0, 0)))
+    # (a link that breaks loses what stood in it; nothing comes in another order over one link)
+    for numbers in ([int(it.split(b" ")[8][1:]) for it in receiver.messages()] for receiver in receivers):
+        if numbers != list(range(numbers[0], numbers[0] + len(numbers))):
+            raise Failure(f"a receiver got other messages than those behind each other: {numbers[:20]}..")
+
+
+@test
+def target_that_is_no_relay(room):
+    port, nobody = room.port(), room.port()
+    receiver = Receiver(nobody)
+    room.site({"edge": module() + main_queue(size=100, dequeueBatchSize=1) + imtcp(port) + omfwd("up", "127.0.0.1", nobody, 2, 0)
+               + omfile("after", "after.log") + omfwd("never", "elsewhere", nobody)})
+    relay = room.start_unchecked("edge", port)
+    send_all(port, messages(3))
+    room.holds("after.log", messages(1))
+    relay.rests(port)
+    # (nothing of that list is done for the next message before this one is)
+    relay.stops_with(totals(3, 0, 3, ("up", 1, 0, 1, 0), ("after", 1, 1, 0, 0), ("never", 1, 0, 0, 1)))
+    same("connections to a target that is no relay", len(receiver.connections), 0)
+
+
+@test
+def port_that_is_no_input_of_the_target(room):
+    entry, inner, other = room.port(), room.port(), room.port()
+    room.site({"edge": module() + imtcp(entry) + omfwd("up", "hub", other),
+               "hub": module() + imtcp(inner) + omfile("audit", "audit.log")})
+    receiver = Receiver(other)
+    relay = room.start_unchecked("edge", entry)
+    send_all(entry, messages(30))
+    receiver.has(messages(30))
+    relay.stops_with(totals(30, 0, 0, ("up", 30, 30, 0, 0)))
+
+
+@test
+def receiver_that_talks_back(room):
+    relay, port, inner = edge(room, -1, after=False)
+    receiver = Receiver(inner)
+    sender = Sender(port)
+    for turn in range(5):
+        sender.send(*messages(10, turn * 10))
+        receiver.has(messages(turn * 10 + 10))
+        receiver.connections[0][0].sendall(b"220 welcome\r\n" * 10_000)
+    sender.end()
+    relay.stops_with(totals(50, 0, 0, ("up", 50, 50, 0, 0)))
+
+
+@test
+def full_archive(room):
+    port = room.port()
+    room.site({"hub": module() + imtcp(port) + omfile("full", "/dev/full", 0, 0) + omfile("tried", "/dev/full", 2, 0)
+               + omfile("after", "after.log") + omfile("null", "/dev/null", 0)})
+    relay = room.start_unchecked("hub", port)
+    send_all(port, messages(15))
+    room.holds("after.log", messages(15))
+    relay.rests(port)
+    relay.stops_with(totals(15, 0, 0, ("full", 15, 0, 15, 0), ("tried", 15, 0, 15, 0), ("after", 15, 15, 0, 0),
+                            ("null", 15, 15, 0, 0)))
+
+
+@test
+def full_archive_with_endless_retries(room):
+    port = room.port()
+    room.site({"hub": module() + main_queue(size=100, dequeueBatchSize=4) + imtcp(port) + omfile("before", "before.log")
+               + omfile("full", "/dev/full", -1, 0)})
+    relay = room.start_unchecked("hub", port)
+    send_all(port, messages(1))
+    room.holds("before.log", messages(1))
+    send_all(port, messages(7, 1))
+    relay.stops_with(totals(8, 0, 8, ("before", 1, 1, 0, 0), ("full", 1, 0, 0, 1)))
+
+
+@test
+def archive_without_a_final_line_feed(room):
+    room.write("audit.log", b"whole\ntorn")
+    relay, port = room.hub()
+    send_all(port, messages(2))
+    room.has("audit.log", 4)
+    same("the archive", room.lines("audit.log"), [b"whole", b"torn", *messages(2)])
+    relay.stops_with(totals(2, 0, 0, ("audit", 2, 2, 0, 0)))
+
+
+@test
+def archive_that_ends_in_a_line_feed(room):
+    room.write("audit.log", b"whole\n")
+    relay, port = room.hub()
+    send_all(port, messages(2))
+    room.holds("audit.log", [b"whole", *messages(2)])
+    relay.stops_with(totals(2, 0, 0, ("audit", 2, 2, 0, 0)))
+
+
+@test
+def one_archive_of_two_actions(room):
+    port = room.port()
+    room.site({"hub": module() + imtcp(port) + omfile("one", "audit.log") + omfile("two", "audit.log")},
+              f"entry hub {port}", "protect auth.* hub one", "protect auth.* hub two")
+    relay = room.start("hub", port)
+    send_all(port, messages(50))
+    room.has("audit.log", 100)
+    relay.stops_with(totals(50, 0, 0, ("one", 50, 50, 0, 0), ("two", 50, 50, 0, 0)))
+    same("the archive of two actions", sorted(room.lines("audit.log")), sorted(messages(50) * 2))

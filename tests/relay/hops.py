@@ -1,0 +1,151 @@
+"""Messages over one and two relays."""
+
+import shutil
+import subprocess
+
+from peers import Sender, message, messages, send_all, send_side_by_side
+from room import Failure, LeftOut, imtcp, module, omfile, omfwd, test, totals, until
+
+COUNT = 100_000
+# The queue of an entry that waits before it is full, and discards nothing.
+QUEUE = ('ruleset(name="out" queue.type="LinkedList" queue.size="{}" queue.fullDelayMark="{}" '
+         'queue.discardSeverity="8") {{\n{}}}\n')
+
+
+def two_relays(room, size):
+    """Starts edge and hub, which are accepted; answers both and edge's port."""
+    entry, inner = room.port(), room.port()
+    edge = module() + imtcp(entry, ruleset="out") + QUEUE.format(size, size * 9 // 10, omfwd("up", "hub", inner))
+    room.site({"edge": edge, "hub": module() + imtcp(inner) + omfile("audit", "audit.log")},
+              f"entry edge {entry}", "protect auth.* hub audit")
+    hub = room.start("hub", inner)
+    return room.start("edge", entry), hub, entry
+
+
+def over_two_relays(room, size, connections):
+    """Each message once, byte for byte, those of a connection in their order, and both relays' totals."""
+    edge, hub, port = two_relays(room, size)
+    lists = [messages(COUNT // connections, connection=it, text="a" * (it * 7 % 200)) for it in range(connections)]
+    bytes_wanted = sum(len(it) + 1 for texts in lists for it in texts)
+    send_side_by_side(port, lists)
+    until("the archive has all messages", lambda: room.size("audit.log") >= bytes_wanted,
+          came=lambda: f"{room.size('audit.log')} of {bytes_wanted} bytes")
+    edge.stops_with(totals(COUNT, 0, 0, ("up", COUNT, COUNT, 0, 0)))
+    hub.stops_with(totals(COUNT, 0, 0, ("audit", COUNT, COUNT, 0, 0)))
+    came = {it: [] for it in range(connections)}
+    for line in room.lines("audit.log"):
+        came[int(line.split(b" ")[7][1:])].append(line)
+    for it in range(connections):
+        if came[it] != lists[it]:
+            at = next((i for i, pair in enumerate(zip(came[it], lists[it])) if pair[0] != pair[1]), len(came[it]))
+            raise Failure(f"connection {it}: {len(came[it])} lines for {len(lists[it])} messages, other ones from {at} on: "
+                          f"wanted {lists[it][at:at + 1]}, came {came[it][at:at + 1]}")
+
+
+@test(limit=80)
+def two_hops_over_one_connection(room):
+    over_two_relays(room, 50_000, 1)
+
+
+@test(limit=80)
+def two_hops_over_eight_connections(room):
+    over_two_relays(room, 50_000, 8)
+
+
+@test(limit=80)
+def two_hops_through_a_short_queue(room):
+    over_two_relays(room, 100, 2)
+
+
+@test
+def logger_as_a_sender(room):
+    if shutil.which("logger") is None:
+        raise LeftOut("there is no logger (package bsdutils)")
+    relay, port = room.hub()
+    room.write("texts", "".join(f"text {it}\n" for it in range(200)))
+    command = ["logger", "--rfc5424", "--tcp", "--octet-count", "-n", "127.0.0.1", "-P", str(port), "-p", "auth.crit", "-t", "tests"]
+    subprocess.run([*command, "a single text with äöü"], check=True, timeout=20)
+    subprocess.run([*command, "-f", room.path("texts")], check=True, timeout=20)
+    room.has("audit.log", 201)
+    relay.stops_with(totals(201, 0, 0, ("audit", 201, 201, 0, 0)))
+    lines = [it.decode() for it in room.lines("audit.log")]
+    texts = ["a single text with äöü"] + [f"text {it}" for it in range(200)]
+    for line, text in zip(lines, texts):
+        if not (line.startswith("<34>1 2") and " tests - - [timeQuality " in line and line.endswith(f"] {text}")):
+            raise Failure(f"wanted a line of auth.crit, tests and {text!r}, came {line!r}")
+
+
+@test
+def two_inputs_with_rulesets_and_tests(room):
+    first, second = room.port(), room.port()
+    one = 'ruleset(name="one") {\n  if prifilt("mail.*") then { ' + omfile("mail", "mail.log") + ' stop }\n' \
+        + omfile("rest", "rest.log") + "}\n"
+    two = 'ruleset(name="two") {\n  if $msg contains "twice" then call one\n' + omfile("two", "two.log") + "}\n"
+    room.site({"hub": module() + imtcp(first, ruleset="one") + imtcp(second, "off", "two") + one + two})
+    relay = room.start_unchecked("hub", first, second)
+    mails, others = messages(20, pri=18), messages(30, pri=34)
+    send_all(first, mails + others)
+    twice = [message(1, "twice", 18), message(2, "once", 18), message(3, "twice", 34)]
+    send_all(second, twice)
+    room.holds("two.log", [twice[1], twice[2]])
+    room.holds("mail.log", mails + [twice[0]])
+    room.holds("rest.log", others + [twice[2]])
+    # (a stop in a called ruleset ends all of the list)
+    relay.stops_with(totals(53, 0, 0, ("mail", 21, 21, 0, 0), ("rest", 31, 31, 0, 0), ("two", 2, 2, 0, 0)))
+
+
+@test
+def longest_and_odd_messages(room):
+    edge, hub, port = two_relays(room, 100)
+    head = b"<34>1 - - - - - - "
+    texts = [head + bytes(range(256)) * 3, b"<34>1 - - - - - -", head + b"a" * (65536 - len(head)), head + b"\n\r\0\n",
+             b"<191>1 2025-06-01T10:20:30.123456+02:00 web1 app 77 ID [a@1 b=\"\\]\"] \xef\xbb\xbfup", head + b"17 <34>1 - - - - - -"]
+    send_all(port, texts)
+    room.holds("audit.log", texts)
+    edge.stops_with(totals(6, 0, 0, ("up", 6, 6, 0, 0)))
+    hub.stops_with(totals(6, 0, 0, ("audit", 6, 6, 0, 0)))
+
+
+@test
+def addresses_of_relays(room):
+    entry, inner = room.port(), room.port()
+    room.site({"edge": module() + imtcp(entry, ruleset="out") + QUEUE.format(100, 90, omfwd("up", "hub", inner)),
+               "hub": module() + imtcp(inner) + omfile("audit", "audit.log")})
+    room.write("site", f"relay edge edge.conf 127.0.0.2\nrelay hub hub.conf 127.0.0.3\nentry edge {entry}\nprotect *.* hub audit\n")
+    hub, edge = room.start("hub", inner), room.start("edge", entry)
+    for port in entry, inner:
+        try:
+            Sender(port).close()
+        except ConnectionRefusedError:
+            continue
+        raise Failure(f"port {port} takes a connection on 127.0.0.1, where the site file has another address")
+    send_all(entry, messages(10), "127.0.0.2")
+    room.holds("audit.log", messages(10))
+    edge.stops_with(totals(10, 0, 0, ("up", 10, 10, 0, 0)))
+    hub.stops_with(totals(10, 0, 0, ("audit", 10, 10, 0, 0)))
+
+
+@test
+def hub_stopped_in_order_and_restarted(room):
+    edge, hub, port = two_relays(room, 1000)
+    inner = int(room.read("edge.conf").split(b'target="hub" port="')[1].split(b'"')[0])
+    sender = Sender(port)
+    for turn in range(3):
+        sender.send(*messages(50, turn * 50))
+        room.holds("audit.log", messages(turn * 50 + 50))
+        hub.stops_with(totals(50, 0, 0, ("audit", 50, 50, 0, 0)))
+        hub = room.start("hub", inner)
+    sender.end()
+    edge.stops_with(totals(150, 0, 0, ("up", 150, 150, 0, 0)))
+    hub.stops_with(totals(0, 0, 0, ("audit", 0, 0, 0, 0)))
+
+
+@test
+def single_messages_go_out_at_once(room):
+    relay, port = room.hub()
+    sender = Sender(port)
+    for number in range(20):
+        sender.send(message(number))
+        room.holds("audit.log", messages(number + 1))
+    sender.end()
+    relay.stops_with(totals(20, 0, 0, ("audit", 20, 20, 0, 0)))

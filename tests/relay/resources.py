@@ -1,0 +1,126 @@
+"""What many connections leave behind: descriptors, threads and memory."""
+
+import os
+
+from peers import Sender, frame, message, messages, send_all
+from room import Failure, same, test, totals, until
+
+MANY = 1000
+
+
+def left(relay):
+    """How many descriptors and threads a relay has."""
+    return len(os.listdir(f"/proc/{relay.pid}/fd")), len(os.listdir(f"/proc/{relay.pid}/task"))
+
+
+def left_at_first(room, relay, port):
+    """What it has once it has taken a message and waits for more."""
+    send_all(port, [message("first")])
+    room.has("audit.log", 1)
+    relay.rests(port)
+    return left(relay)
+
+
+def short_connections(port, first, count):
+    for number in range(first, first + count):
+        send_all(port, [message(number)])
+
+
+def settles(relay, before):
+    until("no descriptor and no thread is left", lambda: left(relay) == before, came=lambda: f"{left(relay)} after {before}")
+
+
+@test(limit=80)
+def many_short_connections(room):
+    relay, port = room.hub()
+    before = left_at_first(room, relay, port)
+    short_connections(port, 0, MANY)
+    room.has("audit.log", MANY + 1)
+    settles(relay, before)
+    memory = relay.status_field("VmRSS")
+    short_connections(port, MANY, MANY)
+    count = 2 * MANY + 1
+    room.has("audit.log", count)
+    settles(relay, before)
+    grown = relay.status_field("VmRSS") - memory
+    if grown > 512:
+        raise Failure(f"{MANY} more connections left {grown} KiB more resident, after {memory}")
+    same("archive", sorted(room.lines("audit.log")), sorted([message("first"), *messages(2 * MANY)]))
+    relay.stops_with(totals(count, 0, 0, ("audit", count, count, 0, 0)))
+
+
+@test
+def many_faulty_connections(room):
+    relay, port = room.hub()
+    before = left_at_first(room, relay, port)
+    for number in range(200):
+        sender = Sender(port).send_bytes(frame(message(number)) + b"0")
+        sender.is_ended()
+        sender.close()
+    room.has("audit.log", 201)
+    settles(relay, before)
+    relay.stops_with(totals(201, 0, 0, ("audit", 201, 201, 0, 0)), [f"syc: 11 BadLength at {port}"] * 200)
+
+
+@test
+def many_connections_too_many(room):
+    relay, port = room.hub()
+    senders = [Sender(port).send(message(it)) for it in range(64)]
+    room.has("audit.log", 64)
+    relay.rests(port)
+    before = left(relay)
+    for _ in range(100):
+        sender = Sender(port)
+        sender.is_ended()
+        sender.close()
+    settles(relay, before)
+    for it in senders:
+        it.end()
+    relay.stops_with(totals(64, 0, 0, ("audit", 64, 64, 0, 0)), [f"syc: 73 Hands at {port}"] * 100)
+
+
+@test
+def memory_of_half_frames(room):
+    relay, port = room.hub()
+    senders = [Sender(port).send_bytes(b"65536 <34>1 - - - - - - " + b"a" * 32_000) for _ in range(64)]
+    relay.rests(port)
+    memory = relay.status_field("VmRSS")
+    if memory > 32 * 1024:
+        raise Failure(f"64 connections with half of the longest frame each: {memory} KiB are resident")
+    for it in senders:
+        it.send_bytes(b"a" * (65536 - 18 - 32_000)).end()
+    room.has("audit.log", 64)
+    relay.stops_with(totals(64, 0, 0, ("audit", 64, 64, 0, 0)))
+
+
+@test
+def memory_of_a_long_stream(room):
+    relay, port = room.hub()
+    texts = messages(20_000, text="a" * 300)
+    send_all(port, texts)
+    room.has("audit.log", len(texts))
+    memory = relay.status_field("VmHWM")
+    for _ in range(4):
+        send_all(port, texts)
+    count = 5 * len(texts)
+    room.has("audit.log", count)
+    grown = relay.status_field("VmHWM") - memory
+    # (a queue that waits has up to its size in memory)
+    if grown > 32 * 1024:
+        raise Failure(f"{count} messages took {grown} KiB more than the first {len(texts)}, after {memory}")
+    relay.stops_with(totals(count, 0, 0, ("audit", count, count, 0, 0)))
+
+
+@test
+def idle_relay_does_nothing(room):
+    relay, port = room.hub()
+    senders = [Sender(port).send(message(it)) for it in range(10)]
+    room.has("audit.log", 10)
+    relay.rests(port)
+    before = relay.threads()
+    relay.rests(port)
+    after = relay.threads()
+    same("what its threads did while it was idle", after, before)
+    for it in senders:
+        it.end()
+    relay.stops_with(totals(10, 0, 0, ("audit", 10, 10, 0, 0)))

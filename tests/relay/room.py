@@ -1,0 +1,304 @@
+"""A test's folder and ports, the relays that run there, and what is wanted of them."""
+
+import os
+import re
+import socket
+import subprocess
+import time
+
+# Ports of tests lie below those that the host gives to outgoing connections; each test has PORTS of them.
+FIRST_PORT, LAST_PORT, PORTS = 12000, 32000, 20
+TURN = 0.005  # seconds between two looks at a condition
+STOP = 6  # seconds in which a relay has to end after its standard input
+TESTS = []
+
+# A line on standard error that is a fault, or a connection's count of frames that are no messages.
+FAULT = re.compile(r"syc: (\d+ \w+ (at|in|of) .*|\d+ unread at .*|no relay .*|no memory|read failed|write failed|totals differ)")
+
+
+class Failure(Exception):
+    """What was wanted, and what came."""
+
+
+class LeftOut(Exception):
+    """Why a test can't be run here."""
+
+
+class Test:
+    def __init__(self, body, limit):
+        self.body, self.limit = body, limit
+        self.name, self.group = body.__name__, body.__module__
+
+
+def test(body=None, limit=45):
+    """Marks a function of a room as a test that takes at most so many seconds."""
+    if body is None:
+        return lambda it: test(it, limit)
+    TESTS.append(Test(body, limit))
+    return body
+
+
+def shown(value):
+    """A value, in short: its beginning, or of texts of several lines the lines."""
+    text = value if isinstance(value, str) else repr(value)
+    text = text.rstrip("\n").replace("\n", " | ")
+    return text if len(text) <= 400 else f"{text[:400]}.. ({len(text)} characters)"
+
+
+def same(what, came, wanted):
+    """Fails where two values differ."""
+    if came != wanted:
+        raise Failure(f"{what}: wanted {shown(wanted)!r}, came {shown(came)!r}")
+
+
+def until(what, holds, seconds=30, came=None):
+    """Waits until a condition holds, and answers its value."""
+    end = time.monotonic() + seconds
+    while True:
+        value = holds()
+        if value:
+            return value
+        if time.monotonic() > end:
+            raise Failure(f"{what}: not within {seconds} s{'' if came is None else f', came {shown(came())!r}'}")
+        time.sleep(TURN)
+
+
+def totals(taken, lost, held, *actions):
+    """What a relay prints at its end; each action is its name with due, done, given up and left."""
+    lines = [f"taken {taken} lost {lost} held {held}"]
+    lines += ["{} due {} done {} given-up {} left {}".format(*it) for it in actions]
+    return "".join(f"{it}\n" for it in lines)
+
+
+def sockets():
+    """The host's TCP sockets of IPv4: of each its own port, the peer's, the state and the bytes not yet read."""
+    with open("/proc/net/tcp") as it:
+        rows = [row.split() for row in it.readlines()[1:]]
+    return [(int(row[1].split(":")[1], 16), int(row[2].split(":")[1], 16), row[3], int(row[4].split(":")[1], 16)) for row in rows]
+
+
+LISTEN, ESTABLISHED, CLOSE_WAIT = "0A", "01", "08"
+
+
+def is_listening(port):
+    return any(it[0] == port and it[2] == LISTEN for it in sockets())
+
+
+# ---- Configurations
+
+def module():
+    return 'module(load="imtcp")\n'
+
+
+def imtcp(port, flow="full", ruleset=""):
+    bound = f' ruleset="{ruleset}"' if ruleset else ""
+    return f'input(type="imtcp" port="{port}" flowControl="{flow}"{bound})\n'
+
+
+def omfile(name, file, retries=-1, interval=30, more=""):
+    return (f'action(name="{name}" type="omfile" file="{file}" action.resumeRetryCount="{retries}" '
+            f'action.resumeInterval="{interval}"{more})\n')
+
+
+def omfwd(name, target, port, retries=-1, interval=30, more=""):
+    return (f'action(name="{name}" type="omfwd" target="{target}" port="{port}" protocol="tcp" TCP_Framing="octet-counted" '
+            f'action.resumeRetryCount="{retries}" action.resumeInterval="{interval}"{more})\n')
+
+
+def main_queue(**parameters):
+    """A main queue; the discard of severities is off unless it is given."""
+    return "main_queue(" + " ".join(f'queue.{name}="{value}"' for name, value in parameters.items()) + ")\n"
+
+
+# ---- Relays
+
+class Relay:
+    """A relay that runs."""
+
+    def __init__(self, room, name, words, stdin=subprocess.PIPE, stdout=None):
+        self.room, self.name = room, name
+        self.err_path, self.out_path = room.path(f"{name}.stderr"), room.path(f"{name}.stdout")
+        with open(self.err_path, "wb") as err, open(self.out_path, "wb") as out:
+            self.process = subprocess.Popen([room.program, "run", *words], cwd=room.folder, stdin=stdin,
+                                            stdout=out if stdout is None else stdout, stderr=err)
+        self.pid = self.process.pid
+
+    def listens(self, *ports):
+        """Waits until it listens on these ports."""
+        for port in ports:
+            until(f"{self.name} listens on {port}", lambda: self.process.poll() is not None or is_listening(port),
+                  came=lambda: self.errors())
+        if self.process.poll() is not None:
+            raise Failure(f"{self.name} ended with {self.process.returncode} in place of listening: {shown(self.errors())}")
+        return self
+
+    def output(self):
+        with open(self.out_path, "rb") as it:
+            return it.read().decode("latin-1")
+
+    def errors(self):
+        with open(self.err_path, "rb") as it:
+            return it.read().decode("latin-1")
+
+    def faults(self):
+        """The lines on standard error that are faults."""
+        return [it for it in self.errors().splitlines() if FAULT.fullmatch(it)]
+
+    def says(self, line, times=1):
+        """Waits for a line on standard error."""
+        until(f"{self.name} says {line!r}", lambda: self.errors().splitlines().count(line) >= times, came=self.errors)
+
+    def ends(self, seconds=STOP):
+        """Waits for its end, and answers its status."""
+        try:
+            return self.process.wait(seconds)
+        except subprocess.TimeoutExpired:
+            raise Failure(f"{self.name} didn't end within {seconds} s: {shown(self.errors())}") from None
+
+    def stop(self):
+        """Ends its standard input, and waits for its end with status 0; answers what it printed."""
+        self.process.stdin.close()
+        same(f"status of {self.name} ({shown(self.errors())})", self.ends(), 0)
+        return self.output()
+
+    def stops_with(self, wanted, faults=()):
+        """Stops it, and compares its totals, and its faults in any order."""
+        same(f"totals of {self.name}", self.stop(), wanted)
+        same(f"faults of {self.name}", sorted(self.faults()), sorted(faults))
+
+    def kill(self):
+        self.process.kill()
+        self.process.wait()
+
+    def threads(self):
+        """Of each of its threads the state, and what it has done so far: ticks and turns of the processor."""
+        found = {}
+        for thread in os.listdir(f"/proc/{self.pid}/task"):
+            try:
+                with open(f"/proc/{self.pid}/task/{thread}/stat") as it:
+                    fields = it.read().rpartition(")")[2].split()
+                with open(f"/proc/{self.pid}/task/{thread}/status") as it:
+                    turns = re.findall(r"ctxt_switches:\s*(\d+)", it.read())
+            except (FileNotFoundError, ProcessLookupError):
+                continue
+            found[thread] = (fields[0], fields[11], fields[12], *turns)
+        return found
+
+    def is_quiet(self, ports):
+        """Whether nothing that was sent to these ports is unread, and all threads sleep, some hundred ms long."""
+        before = None
+        for _ in range(12):
+            now = self.threads()
+            if before not in (None, now) or any(it[0] != "S" for it in now.values()):
+                return False
+            if any(it[0] in ports and it[3] for it in sockets() if it[2] in (ESTABLISHED, CLOSE_WAIT)):
+                return False
+            before = now
+            time.sleep(2 * TURN)
+        return True
+
+    def rests(self, *ports):
+        """Waits until it has nothing to do but to wait for its peers."""
+        until(f"{self.name} rests", lambda: self.is_quiet(ports), came=self.threads)
+
+    def status_field(self, name):
+        """A number of /proc/PID/status."""
+        with open(f"/proc/{self.pid}/status") as it:
+            return int(re.search(rf"^{name}:\s*(\d+)", it.read(), re.M).group(1))
+
+
+class Room:
+    """The folder and the ports of a test."""
+
+    def __init__(self, program, folder, port):
+        self.program, self.folder, self.next, self.last = program, folder, port, port + PORTS
+
+    def path(self, name):
+        return f"{self.folder}/{name}"
+
+    def port(self):
+        """A port that nobody listens on."""
+        while self.next < self.last:
+            self.next += 1
+            with socket.socket() as it:
+                it.setsockopt(socket.SOL_SOCKET, socket.SO_REUSEADDR, 1)
+                try:
+                    it.bind(("127.0.0.1", self.next - 1))
+                except OSError:
+                    continue
+                return self.next - 1
+        raise Failure("no free port")
+
+    def ports_are_free(self, *ports):
+        """Whether others can listen there now."""
+        for port in ports:
+            with socket.socket() as it:
+                it.setsockopt(socket.SOL_SOCKET, socket.SO_REUSEADDR, 1)
+                try:
+                    it.bind(("127.0.0.1", port))
+                    it.listen()
+                except OSError as error:
+                    raise Failure(f"port {port} is not free afterwards: {error.strerror}") from None
+
+    def write(self, name, text):
+        with open(self.path(name), "wb") as it:
+            it.write(text if isinstance(text, bytes) else text.encode())
+
+    def read(self, name):
+        with open(self.path(name), "rb") as it:
+            return it.read()
+
+    def size(self, name):
+        try:
+            return os.stat(self.path(name)).st_size
+        except FileNotFoundError:
+            return 0
+
+    def count(self, name):
+        """How many whole lines an archive has so far."""
+        return self.read(name).count(b"\n") if os.path.exists(self.path(name)) else 0
+
+    def has(self, name, count):
+        """Waits until an archive has so many lines."""
+        until(f"{name} has {count} lines", lambda: self.count(name) >= count, came=lambda: self.count(name))
+
+    def lines(self, name):
+        """The lines of an archive; each has to end in a line feed."""
+        text = self.read(name) if os.path.exists(self.path(name)) else b""
+        if text and not text.endswith(b"\n"):
+            raise Failure(f"{name} ends in {text[-60:]!r}, without a line feed")
+        return text.split(b"\n")[:-1]
+
+    def holds(self, name, messages, seconds=30):
+        """Waits until an archive is as long as lines of these messages, and compares it with them."""
+        wanted = b"".join(it + b"\n" for it in messages)
+        until(f"{name} has {len(messages)} messages", lambda: self.size(name) >= len(wanted), seconds,
+              lambda: f"{self.size(name)} of {len(wanted)} bytes")
+        same(name, self.read(name), wanted)
+
+    def site(self, relays, *lines):
+        """Writes the relays' files, and the site file with these lines after those of the relays.
+
+        Without lines the first input is the entry, and the first archive is named for all classes: such a site can be
+        read, and needn't be accepted."""
+        for name, text in relays.items():
+            self.write(f"{name}.conf", text)
+        if not lines:
+            inputs = [(name, it) for name, text in relays.items() for it in re.findall(r'imtcp" port="(\d+)"', text)]
+            archives = [(name, it) for name, text in relays.items() for it in re.findall(r'action\(name="(\S+)" type="omfile"', text)]
+            lines = "entry {} {}".format(*inputs[0]), "protect *.* {} {}".format(*archives[0])
+        self.write("site", "".join(f"{it}\n" for it in [*(f"relay {name} {name}.conf" for name in relays), *lines]))
+
+    def start(self, name, *ports, words=None, **more):
+        """Starts a relay that was accepted, or with other words than those, and waits for its ports."""
+        return Relay(self, name, words or ["site", name], **more).listens(*ports)
+
+    def start_unchecked(self, name, *ports):
+        return self.start(name, *ports, words=["--unchecked", "site", name])
+
+    def hub(self, more="", flow="full"):
+        """Starts a hub with one archive, audit.log, that is accepted; answers it and its port."""
+        port = self.port()
+        self.site({"hub": module() + more + imtcp(port, flow) + omfile("audit", "audit.log")},
+                  f"entry hub {port}", "protect auth.* hub audit")
+        return self.start("hub", port), port
