@@ -25,14 +25,27 @@ pub fn tell_fault<E: Sink>(errors: &mut E, fault: RunFault, port: u16) {
     tell_at_port(errors, fault_words(fault).as_bytes(), port);
 }
 
-/// Prints how many frames of a connection carried no message, where there were any.
+/// Prints how many frames of a connection carried no message, and why the first of them doesn't, where there were any.
 pub fn tell_unread<E: Sink>(errors: &mut E, end: &ConnEnd, port: u16) {
-    if end.unread() == 0 {
+    let Some(first) = end.first_unread() else {
         return;
-    }
-    let mut count = Buffer::new();
-    let mut digits = Buffer::new();
-    let count = count.format(end.unread()).as_bytes();
-    let port = digits.format(port).as_bytes();
-    tell_texts(errors, &[b"syc: ", count, b" unread at ", port, b"\n"]);
+    };
+    let mut room = [Buffer::new(), Buffer::new(), Buffer::new(), Buffer::new()];
+    let [count, digits, offset, frame] = &mut room;
+    tell_texts(
+        errors,
+        &[
+            b"syc: ",
+            count.format(end.unread()).as_bytes(),
+            b" unread at ",
+            digits.format(port).as_bytes(),
+            b": ",
+            first.fault.code.words().as_bytes(),
+            b" at ",
+            offset.format(first.fault.offset).as_bytes(),
+            b" in frame ",
+            frame.format(first.frame).as_bytes(),
+            b"\n",
+        ],
+    );
 }

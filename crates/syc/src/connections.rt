@@ -80,8 +80,13 @@ impl Connections {
         self.open = self.open.saturating_sub(1);
     }
 
-    /// Keeps what a connection counted.
+    /// Keeps what a connection counted: it is added to what is kept, so that this doesn't grow with the connections that came.
     pub fn keep(&mut self, end: ConnEnd) {
+        if let Some(last) = self.ends.last_mut() {
+            if last.merge(&end).is_ok() {
+                return;
+            }
+        }
         let _ = self.ends.push(end);
     }
 
