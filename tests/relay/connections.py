@@ -1,7 +1,7 @@
 """More connections than hands, and senders that are slow, half-closed or reset."""
 
 from peers import Pump, Sender, frame, frames, message, messages, send_all
-from room import CLOSE_WAIT, ESTABLISHED, Failure, imtcp, module, omfile, same, sockets, test, totals, until
+from room import Failure, imtcp, is_read, module, omfile, same, test, totals, until
 
 HANDS = 64
 
@@ -104,11 +104,6 @@ def reset_within_a_frame(room):
     relay.stops_with(totals(10, 0, 0, ("audit", 10, 10, 0, 0)), [f"syc: 71 Read at {port}"])
 
 
-def arrives(port):
-    """Waits until the relay has read all that came to a port."""
-    until("the relay reads", lambda: not any(it[0] == port and it[3] for it in sockets() if it[2] in (ESTABLISHED, CLOSE_WAIT)))
-
-
 @test
 def byte_by_byte(room):
     relay, port = room.hub()
@@ -118,7 +113,7 @@ def byte_by_byte(room):
             for connection, sender in enumerate(senders):
                 text = frame(message(number, connection=connection))
                 sender.send_bytes(text[at:at + 1])
-            arrives(port)
+            until("the relay reads each byte", lambda: is_read(port))
         room.has("audit.log", 3 * number + 3)
         same("messages so far", sorted(room.lines("audit.log")),
              sorted(message(it, connection=connection) for it in range(number + 1) for connection in range(3)))

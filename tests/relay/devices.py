@@ -51,7 +51,7 @@ def interval_between_retries_is_waited_for(room):
 
 @test
 def receiver_comes_up_before_the_last_retry(room):
-    relay, port, inner = edge(room, 3, 2)
+    relay, port, inner = edge(room, 3, 4)
     send_all(port, messages(10))
     relay.rests(port)
     receiver = Receiver(inner)

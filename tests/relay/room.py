@@ -71,17 +71,22 @@ def totals(taken, lost, held, *actions):
 
 
 def sockets():
-    """The host's TCP sockets of IPv4: of each its own port, the peer's, the state and the bytes not yet read."""
+    """The host's TCP sockets of IPv4 that listen or can be read: of each its port, the state and the bytes not yet read."""
     with open("/proc/net/tcp") as it:
-        rows = [row.split() for row in it.readlines()[1:]]
-    return [(int(row[1].split(":")[1], 16), int(row[2].split(":")[1], 16), row[3], int(row[4].split(":")[1], 16)) for row in rows]
+        rows = [row.split(None, 5) for row in it.readlines()[1:]]
+    return [(int(row[1].split(":")[1], 16), row[3], int(row[4].split(":")[1], 16)) for row in rows if row[3] in (LISTEN, *READABLE)]
 
 
-LISTEN, ESTABLISHED, CLOSE_WAIT = "0A", "01", "08"
+LISTEN, READABLE = "0A", ("01", "08")
 
 
 def is_listening(port):
-    return any(it[0] == port and it[2] == LISTEN for it in sockets())
+    return any(it[0] == port and it[1] == LISTEN for it in sockets())
+
+
+def is_read(*ports):
+    """Whether all that came over the connections of these ports has been read."""
+    return not any(it[0] in ports and it[1] in READABLE and it[2] for it in sockets())
 
 
 # ---- Configurations
@@ -185,17 +190,17 @@ class Relay:
         return found
 
     def is_quiet(self, ports):
-        """Whether nothing that was sent to these ports is unread, and all threads sleep, some hundred ms long."""
-        before = None
-        for _ in range(12):
-            now = self.threads()
-            if before not in (None, now) or any(it[0] != "S" for it in now.values()):
+        """Whether nothing that was sent to these ports is unread, and all threads sleep, a tenth of a second long."""
+        if not is_read(*ports):
+            return False
+        before = self.threads()
+        for _ in range(20):
+            if any(it[0] != "S" for it in before.values()):
                 return False
-            if any(it[0] in ports and it[3] for it in sockets() if it[2] in (ESTABLISHED, CLOSE_WAIT)):
+            time.sleep(TURN)
+            if self.threads() != before:
                 return False
-            before = now
-            time.sleep(2 * TURN)
-        return True
+        return is_read(*ports)
 
     def rests(self, *ports):
         """Waits until it has nothing to do but to wait for its peers."""

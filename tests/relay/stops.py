@@ -5,7 +5,7 @@ import socket
 import subprocess
 
 from peers import Pump, Receiver, Sender, frame, message, messages, send_all
-from room import Failure, imtcp, main_queue, module, omfile, omfwd, same, test, totals, until
+from room import Failure, Relay, imtcp, main_queue, module, omfile, omfwd, same, test, totals, until
 
 
 def balanced(what, output):
@@ -42,20 +42,11 @@ def without_any_connection(room):
 
 
 @test
-def without_standard_input(room):
-    _, port = room.hub()
-    relay = room.start("hub", words=["site", "hub"], stdin=subprocess.DEVNULL)
-    # (the port is that of the first hub)
-    same("status of a second hub", relay.ends(), 4)
-    room.site({"hub": module() + imtcp(room.port()) + omfile("audit", "audit.log")}, f"entry hub {port}", "protect auth.* hub audit")
-
-
-@test
 def standard_input_at_its_end_from_the_start(room):
     port = room.port()
     room.site({"hub": module() + imtcp(port) + omfile("audit", "audit.log")}, f"entry hub {port}", "protect auth.* hub audit")
     for _ in range(3):
-        relay = room.start("hub", words=["site", "hub"], stdin=subprocess.DEVNULL)
+        relay = Relay(room, "hub", ["site", "hub"], stdin=subprocess.DEVNULL)
         same("status", relay.ends(), 0)
         same("totals", relay.output(), totals(0, 0, 0, ("audit", 0, 0, 0, 0)))
         room.ports_are_free(port)
@@ -241,8 +232,8 @@ def two_relays_one_after_the_other(room):
     pumps = [Pump(entry, it) for it in range(3)]
     room.has("audit.log", 2000)
     # the hub first, as the relay before it goes on forwarding
-    taken, lost, held, done, _ = stopped(room, hub, inner)
-    same("lost, held and lines of hub", (lost, held, len(room.lines("audit.log"))), (0, 0, done))
+    taken, lost, _, done, _ = stopped(room, hub, inner)
+    same("lost, and lines of hub", (lost, len(room.lines("audit.log"))), (0, done))
     _, lost, _, sent, _ = stopped(room, edge, entry)
     same("lost by edge", lost, 0)
     if sent < taken:
