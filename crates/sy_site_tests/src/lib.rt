@@ -8,6 +8,8 @@ mod cert;
 #[cfg(test)]
 mod checker;
 #[cfg(test)]
+mod guarded;
+#[cfg(test)]
 mod limits;
 #[cfg(test)]
 mod replay;
