@@ -1,15 +1,24 @@
 -- A worker has one job, and one entry is made of it where it is a post.
-use Rattle.std.proofs.Common.{◌≡◌, ℕ, Some, List, sym, ap, subst, ◌∙◌}
+use Rattle.std.proofs.Common.{◌≡◌, ◌<◌, inl, inr, ℕ, true, List, [], ◌∷◌, Option, Some, None, All, length, refl, sym, ap, subst, arith, ◌∙◌}
+use Rattle.std.specs.Prelude.{IfSome, is_some, slice_get}
+use Rattle.std.proofs.lemmas.Option.{get_or_from_slice_get, slice_get_within}
 use Rattle.sy_wire.specs.Messages.{Said}
 use Rattle.sy_chain.specs.Entries.{Entry}
-use Rattle.sy_rules.specs.PlanValue.{Plan}
+use Rattle.sy_rules.specs.PlanValue.{Listed, Plan}
+use Rattle.sy_rules.specs.Whole.{IsWhole, Leads, body_in, queue_at, queue_for, queue_in}
+use Rattle.sy_rules.specs.lists.Body.{occurrences}
 use Rattle.sy_rules.specs.declared.lists.occurrence.Occurrence.TheVariants as occurrence
-use Rattle.sy_board.specs.relay.Boards.{BoardState, HasNoJob, HasNoPost, IsForPost, JobIs}
-use Rattle.sy_board.specs.declared.relay.answers.Job.TheVariants as job
+use Rattle.sy_board.specs.declared.fault.BoardFault.{BoardFault}
+use Rattle.sy_board.specs.declared.fault.BoardFault.TheVariants as fault
+use Rattle.sy_board.specs.declared.relay.answers.Posted.TheVariants as posted
+use Rattle.sy_board.specs.declared.relay.answers.PostCause.TheVariants as cause
+use Rattle.sy_board.specs.relay.Boards.{BoardState, HasNoJob, HasNoPost, IsForPost, PostFails, PostIs, PostLostFails, PostLostIs}
 use Rattle.sy_board.specs.relay.Cells.{RelayState}
-use Rattle.sy_board.specs.relay.Plans.{IsDue}
+use Rattle.sy_board.specs.relay.Plans.{IsDue, parameters_at}
 use Rattle.sy_board.specs.relay.Steps.{Job}
 use Rattle.sy_board.proofs.relay.Outcomes.{jobs_same}
+use Rattle.sy_runtime.specs.internal.Finding.{PostRefused, PostWas}
+use Rattle.sy_runtime.specs.declared.posting.PostOutcome.TheVariants.{Done, Held}
 
 run_or_post : (a l : ℕ) → occurrence.Run a ≡ occurrence.Post l → ⊥
 run_or_post a l h = cc
@@ -43,3 +52,53 @@ posts_made old w list input tag message job its_input its_message its_tag due no
       due = subst (λ k. IsDue old.plan k other.entry.message due) list_is
           (subst (λ m. IsDue old.plan list m due) (its_message ∙ ap (λ (e : Entry). e.message) same) is);
     })
+
+at_or_none : {A : Type 0} (P : A → Type 0) (xs : List A) (k : ℕ) → All P xs → IfSome (slice_get xs k) P
+at_or_none P [] k all = tt
+at_or_none P (x ∷ xs) ℕ.zero all = all 0 x (omega arith)
+at_or_none P (x ∷ xs) (ℕ.suc k) all = at_or_none P xs k (λ j d l. all (ℕ.suc j) d (omega (arith, l)))
+
+lead_in : (plan : Plan) (found : Option Listed) → IfSome found (λ l. All (Leads plan) (occurrences l.body)) → (number list : ℕ)
+    → slice_get (occurrences (body_in found)) number ≡ Some (occurrence.Post list) → is_some (queue_at plan list) ≡ true
+lead_in plan None all number list is = absurd (cc)
+lead_in plan (Some l) all number list is =
+    let k = slice_get_within (occurrences l.body) number (occurrence.Post list) is in
+    subst (Leads plan) (get_or_from_slice_get (occurrences l.body) number (occurrence.Post list) (occurrence.Post list) is) (all number (occurrence.Post list) k)
+
+there_in : (lists : List Listed) (list : ℕ) (found : Option Listed) → slice_get lists list ≡ found → is_some (queue_in found) ≡ true → list < length lists
+there_in lists list None is leads = absurd (cc)
+there_in lists list (Some l) is leads = slice_get_within lists list l is
+
+-- a list that a job posts to is there
+pub list_there : (plan : Plan) (state : RelayState) (w list : ℕ) → IsWhole plan → Job plan state w (occurrence.Post list) → list < length plan.lists
+list_there plan state w list whole job = there_in plan.lists list (slice_get plan.lists list) refl
+    (lead_in plan (slice_get plan.lists job.entry.list) (at_or_none (λ x. All (Leads plan) (occurrences x.body)) plan.lists job.entry.list whole.occurrences_lead)
+    job.number list job.found)
+
+-- a list's timeout is that of the same list
+pub timeouts_of : (list other time : ℕ) (plan : Plan) → time ≡ (parameters_at plan (queue_for plan list)).timeout_enqueue → list ≡ other
+    → time ≡ (parameters_at plan (queue_for plan other)).timeout_enqueue
+timeouts_of list other time plan is same = subst (λ l. time ≡ (parameters_at plan (queue_for plan l)).timeout_enqueue) same is
+
+-- ---- what became of a post
+
+pub no_job_refused : (old : BoardState) (w : ℕ) → HasNoPost old w → PostRefused old w
+no_job_refused old w none = (fault.NoJob, inr none)
+
+pub post_refused : (why : BoardFault) (old : BoardState) (w : ℕ) (node : Entry) → PostFails why old w node → PostRefused old w
+post_refused why old w node fails = (why, inl (node, fails))
+
+pub loss_refused : (why : BoardFault) (old : BoardState) (w : ℕ) → PostLostFails why cause.NoMemory old w → PostRefused old w
+loss_refused why old w fails = (why, inr fails)
+
+pub post_done : (old : BoardState) (w : ℕ) (node : Entry) (new : BoardState) → PostIs posted.Done old w node new → PostWas Done old w new
+post_done old w node new is = inl (node, is)
+
+pub post_discarded : (old : BoardState) (w : ℕ) (node lost : Entry) (new : BoardState) → PostIs (posted.Discarded lost) old w node new → PostWas Done old w new
+post_discarded old w node lost new (same, list, posts, is) = inr (inl (node, (refl, list, posts, is)))
+
+pub post_lost : (old : BoardState) (w : ℕ) (new : BoardState) → PostLostIs cause.NoMemory old w new → PostWas Done old w new
+post_lost old w new is = inr (inr is)
+
+pub post_held : (old : BoardState) (w : ℕ) (node back : Entry) (new : BoardState) → PostIs (posted.Held back) old w node new → PostWas Held old w new
+post_held old w node back new (same, unchanged, list, job, kept, full) = (node, (refl, unchanged, list, job, kept, full))

@@ -9,7 +9,7 @@ use Rattle.sy_runtime.specs.internal.Recording.{AllSettled, Settled, SomeSettled
 -- a receipt that settles changes no plan
 pub same_plan : (old : BoardState) (w : ℕ) (receipts : DeliveredAll) (new : BoardState) (left : DeliveredAll) → SettlesNext old w receipts new left
     → new.plan ≡ old.plan
-same_plan old w receipts new left (next, is, of, settles, made) = ap (λ (b : BoardState). b.plan) made
+same_plan old w receipts new left (next, is, made) = ap (λ (b : BoardState). b.plan) made.2
 
 -- and is one less
 pub one_less : (old : BoardState) (w : ℕ) (receipts : DeliveredAll) (new : BoardState) (left : DeliveredAll) → SettlesNext old w receipts new left
@@ -24,7 +24,8 @@ one_more w old between new receipts left later settled next = Settled.more settl
 pub all_settled : (w : ℕ) (old new : BoardState) (receipts left : DeliveredAll) → Settled w old receipts new left → left.messages ≡ [] → AllSettled w old receipts new
 all_settled w old new receipts left settled none = (left, settled, none)
 
--- the next is refused
-pub some_settled : (fault : BoardFault) (w : ℕ) (old new : BoardState) (receipts left : DeliveredAll) → Settled w old receipts new left → SettlesNoNext fault new w left
-    → SomeSettled fault w old receipts new
-some_settled fault w old new receipts left settled no = (left, settled, no)
+-- the next is refused, and nothing changed
+pub some_settled : (fault : BoardFault) (w : ℕ) (old between new : BoardState) (receipts left : DeliveredAll) → Settled w old receipts between left → new ≡ between
+    → SettlesNoNext fault between w left → SomeSettled fault w old receipts new
+some_settled fault w old between new receipts left settled same fails =
+    subst (λ b. SomeSettled fault w old receipts b) (sym same) (left, settled, fails)

@@ -5,12 +5,13 @@ ghost use Rattle.sy_board.specs.relay.Boards.{HasRun};
 ghost use Rattle.sy_wire.specs.Messages.{Said};
 ghost use Rattle.sy_runtime.specs.internal.Finding.{NextIs};
 
-use crate::posting::{Post, post};
+use crate::posting::{PostOutcome, post};
 use crate::used::keep_all;
 use std::alloc::Global;
 use std::sync::Arc;
 use sy_board::{Board, Job};
 use sy_chain::Node;
+use sy_rules::laws::plans_are_whole;
 use sy_wire::Message;
 
 /// How many messages are offered at once, at most.
@@ -63,9 +64,9 @@ fn find_post(alloc: Global, board: &mut Board, worker: u32, used: &mut Vec<Node>
     ensures { (messages : List Said) → NextIs result messages board.old worker board.new }
 {
     match post(alloc, board, worker, used) {
-        Post::Done => Next::Posted,
-        Post::Held => Next::Held,
-        Post::Refused => Next::Ends,
+        PostOutcome::Done => Next::Posted,
+        PostOutcome::Held => Next::Held,
+        PostOutcome::Refused => Next::Ends,
     }
 }
 
@@ -74,6 +75,7 @@ fn grab(board: &mut Board, worker: u32, used: &mut Vec<Node>) -> Next
     requires { worker < length board.old.plan.workers }
     ensures { (messages : List Said) → NextIs result messages board.old worker board.new }
 {
+    plans_are_whole(board.plan());
     let (count, lost) = match board.grab(worker) {
         Ok(grabbed) => grabbed,
         Err(_) => return Next::Ends,

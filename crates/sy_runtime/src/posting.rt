@@ -1,22 +1,25 @@
 //! What a worker does whose job is a post.
 ghost use Rattle.std.specs.Prelude.{◌≡◌, ◌<◌, ℕ, IfOk, IfNone, IfSome, length};
+ghost use Rattle.std.specs.Arc.{arc_value};
 ghost use Rattle.sy_rules.specs.Whole.{queue_for};
 ghost use Rattle.sy_rules.specs.declared.lists.occurrence.Occurrence.TheVariants as occurrence;
 ghost use Rattle.sy_board.specs.relay.Boards.{HasNoPost, IsForPost};
 ghost use Rattle.sy_board.specs.relay.Plans.{parameters_at};
 ghost use Rattle.sy_board.specs.relay.Steps.{Job as IsJob};
-ghost use Rattle.sy_runtime.specs.internal.Finding.{PostWas};
+ghost use Rattle.sy_runtime.specs.internal.Finding.{IsEntryOf, PostWas};
 
 use crate::used::keep;
 use std::alloc::{AllocError, Global};
 use std::sync::Arc;
 use sy_board::{Board, Job, PostCause, Posted};
 use sy_chain::Node;
+use sy_rules::Plan;
 use sy_rules::laws::plans_are_whole;
+use sy_wire::Message;
 
 /// What became of a worker's post.
 #[derive(Clone, Copy, Debug, PartialEq, Eq)]
-pub(crate) enum Post {
+pub(crate) enum PostOutcome {
     // it is dealt with: there is an entry in the queue, or it was lost
     Done,
     // its queue is full
@@ -25,63 +28,98 @@ pub(crate) enum Post {
     Refused,
 }
 
-// The entry that a worker's post makes; none where its job is no post.
-fn posted_node(alloc: Global, board: &Board, worker: u32) -> Result<Option<Node>, AllocError>
-    requires { worker < length board.now.plan.workers }
-    ensures { IfOk result (λ entry. IfSome entry (λ node. IsForPost board.now worker node) × IfNone entry (HasNoPost board.now worker)) }
+// The entry that a post to a list makes of a message.
+fn entry_of(
+    alloc: Global,
+    plan: &Plan,
+    list: u32,
+    input: u32,
+    message: &Arc<Message>,
+    tag: u64,
+) -> Result<Node, AllocError>
+    requires { list < length plan.now.lists }
+    ensures { IfOk result (IsEntryOf plan.now list input (arc_value message.now) tag) }
 {
-    let Some(
-        Job::Post {
-            list,
-            input,
-            message,
-            tag,
-        },
-    ) = board.job(worker)
-    else {
-        return Ok(None);
+    let due = plan.due(list, message);
+    let Ok(message) = Arc::try_clone(message) else {
+        return Err(AllocError);
     };
-    plans_are_whole(board.plan());
-    let due = board.plan().due(list, message);
-    let message = Arc::try_clone(message)?;
     match Node::new(alloc, message, list, input, due, tag) {
-        Ok(node) => Ok(Some(node)),
+        Ok(node) => Ok(node),
         Err(_) => Err(AllocError),
     }
 }
 
+// The entry that a worker's post makes; none where its job is no post.
+fn posted_node(alloc: Global, board: &Board, worker: u32) -> Result<Option<Node>, AllocError>
+    requires { worker < length board.now.plan.workers }
+    ensures some { IfOk result (λ entry. IfSome entry (λ node. IsForPost board.now worker node)) }
+    ensures none { IfOk result (λ entry. IfNone entry (HasNoPost board.now worker)) }
+{
+    match board.job(worker) {
+        Some(
+            Job::Post {
+                list,
+                input,
+                message,
+                tag,
+            },
+        ) => {
+            plans_are_whole(board.plan());
+            match entry_of(alloc, board.plan(), list, input, message, tag) {
+                Ok(node) => Ok(Some(node)),
+                Err(AllocError) => Err(AllocError),
+            }
+        }
+        Some(Job::Run { .. }) => Ok(None),
+        None => Ok(None),
+    }
+}
+
 // The post of a worker is lost, since there was no memory for its entry.
-fn lose(board: &mut Board, worker: u32) -> Post
+fn lose(board: &mut Board, worker: u32) -> PostOutcome
     requires { worker < length board.old.plan.workers }
     ensures { PostWas result board.old worker board.new }
 {
     match board.post_lost(worker, PostCause::NoMemory) {
-        Ok(()) => Post::Done,
-        Err(_) => Post::Refused,
+        Ok(()) => PostOutcome::Done,
+        Err(_) => PostOutcome::Refused,
     }
 }
 
 /// Does the post of a worker. It is lost where memory for its entry was refused.
-pub(crate) fn post(alloc: Global, board: &mut Board, worker: u32, used: &mut Vec<Node>) -> Post
+pub(crate) fn post(alloc: Global, board: &mut Board, worker: u32, used: &mut Vec<Node>) -> PostOutcome
     requires { worker < length board.old.plan.workers }
     ensures { PostWas result board.old worker board.new }
 {
     let node = match posted_node(alloc, board, worker) {
         Ok(Some(node)) => node,
-        Ok(None) => return Post::Refused,
+        Ok(None) => return PostOutcome::Refused,
         Err(AllocError) => return lose(board, worker),
     };
     match board.post(worker, node) {
-        Ok(Posted::Done) => Post::Done,
+        Ok(Posted::Done) => PostOutcome::Done,
         Ok(Posted::Discarded(node)) => {
             keep(used, node);
-            Post::Done
+            PostOutcome::Done
         }
         Ok(Posted::Held(node)) => {
             keep(used, node);
-            Post::Held
+            PostOutcome::Held
         }
-        Err((_, _)) => Post::Refused,
+        Err((_, _)) => PostOutcome::Refused,
+    }
+}
+
+// How long a message waits at the queue of a list.
+fn timeout_of(plan: &Plan, list: u32) -> u32
+    requires { list < length plan.now.lists }
+    ensures { result ≡ (parameters_at plan.now (queue_for plan.now list)).timeout_enqueue }
+{
+    let queue = plan.list_queue(list).unwrap_or(0);
+    match plan.queues().get(queue as usize) {
+        Some(queue) => queue.timeout_enqueue,
+        None => 0,
     }
 }
 
@@ -91,13 +129,12 @@ pub(crate) fn patience(board: &Board, worker: u32) -> u32
     ensures { (list : ℕ) → IsJob board.now.plan board.now.state worker (occurrence.Post list) →
         result ≡ (parameters_at board.now.plan (queue_for board.now.plan list)).timeout_enqueue }
 {
-    let Some(Job::Post { list, .. }) = board.job(worker) else {
-        return 0;
-    };
-    plans_are_whole(board.plan());
-    let queue = board.plan().list_queue(list).unwrap_or(0);
-    match board.plan().queues().get(queue as usize) {
-        Some(queue) => queue.timeout_enqueue,
+    match board.job(worker) {
+        Some(Job::Post { list, .. }) => {
+            plans_are_whole(board.plan());
+            timeout_of(board.plan(), list)
+        }
+        Some(Job::Run { .. }) => 0,
         None => 0,
     }
 }

@@ -1,5 +1,5 @@
 //! How a relay stops.
-ghost use Rattle.std.specs.Prelude.{◌≡◌, IfOk, IfSome, IsTrue, map, sum_by};
+ghost use Rattle.std.specs.Prelude.{◌≡◌, IfOk, IfSome, IsTrue, map, option_copied, sum_by};
 ghost use Rattle.sy_runtime.specs.Stopping.{Stops};
 
 use crate::connection_end::ConnEnd;

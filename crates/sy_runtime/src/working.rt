@@ -2,7 +2,7 @@
 
 use crate::finding::{Next, find, has_worker};
 use crate::locked::Locked;
-use crate::posting::{Post, patience, post};
+use crate::posting::{PostOutcome, patience, post};
 use crate::recording::{After, discard, record};
 use std::alloc::Global;
 use std::sync::Arc;
@@ -49,7 +49,7 @@ impl Locked {
         match self.board.as_mut() {
             Some(board) => {
                 has_worker(board, worker)
-                    && post(alloc, board, worker, &mut self.used) == Post::Held
+                    && post(alloc, board, worker, &mut self.used) == PostOutcome::Held
             }
             None => false,
         }

@@ -1,23 +1,30 @@
 -- What a worker finds to do.
-use Rattle.std.specs.Prelude.{◌≡◌, ◌≢◌, ◌≤◌, ◌×◌, ◌⊎◌, ℕ, List, Some, length}
+use Rattle.std.specs.Prelude.{◌≡◌, ◌≢◌, ◌≤◌, ◌⊎◌, ℕ, List, Some, length}
 use Rattle.sy_chain.specs.Entries.{Entry}
 use Rattle.sy_wire.specs.Messages.{Said}
+use Rattle.sy_rules.specs.PlanValue.{Plan}
+use Rattle.sy_board.specs.relay.Plans.{IsDue}
 use Rattle.sy_board.specs.declared.fault.BoardFault.{BoardFault}
 use Rattle.sy_board.specs.declared.relay.answers.PostCause.TheVariants as cause
 use Rattle.sy_board.specs.declared.relay.answers.Posted.TheVariants as posted
 use Rattle.sy_board.specs.relay.Boards.{BoardState, GrabFails, GrabIs, HasRun, NothingWaits, PostFails, PostIs, PostLostFails, PostLostIs, RunsIs}
 use Rattle.sy_runtime.specs.declared.finding.Next.{Next}
 use Rattle.sy_runtime.specs.declared.finding.Next.TheVariants as next
-use Rattle.sy_runtime.specs.declared.posting.Post.{Post}
-use Rattle.sy_runtime.specs.declared.posting.Post.TheVariants.{Done, Held, Refused}
+use Rattle.sy_runtime.specs.declared.posting.PostOutcome.{PostOutcome}
+use Rattle.sy_runtime.specs.declared.posting.PostOutcome.TheVariants.{Done, Held, Refused}
 
 -- The board refuses the worker's post: a total is full, or its job is none.
 abbrev pub PostRefused : BoardState → ℕ → Type 0
 PostRefused old worker =
     (fault : BoardFault) × (((node : Entry) × PostFails fault old worker node) ⊎ PostLostFails fault cause.NoMemory old worker)
 
+-- the entry that a post to a list makes: this message, of this input and with this tag, with all due that it executes there
+abbrev pub IsEntryOf : Plan → ℕ → ℕ → Said → ℕ → Entry → Type 0
+IsEntryOf plan list input message tag node =
+    (due : ℕ) × IsDue plan list message due × (node ≡ record { message = message; list = list; input = input; due = due; tag = tag })
+
 -- What became of a worker's post: its entry came to the queue or was discarded there, or there was no memory for one; or the queue is full.
-abbrev pub PostWas : Post → BoardState → ℕ → BoardState → Type 0
+abbrev pub PostWas : PostOutcome → BoardState → ℕ → BoardState → Type 0
 PostWas Done old worker new =
     ((node : Entry) × PostIs posted.Done old worker node new)
     ⊎ ((node : Entry) × PostIs (posted.Discarded node) old worker node new)

@@ -2,11 +2,11 @@ use Rattle.std.proofs.Common.{◌≡◌, length, ℕ}
 use Rattle.sy_runtime.specs.internal.Recording.{Settled}
 use Rattle.sy_runtime.proofs.recording.settle_all.Given as goal
 
-abbrev pub invariant-loop : goal.invariant-loop
-invariant-loop l = record {
+abbrev pub invariant-loop-board : goal.invariant-loop-board
+invariant-loop-board l = record {
   settled : Settled l.worker l.fn.board l.fn.receipts l.board l.receipts;
   plan : l.board.plan ≡ l.fn.board.plan;
 }
 
-abbrev pub decreases-loop : goal.decreases-loop
-decreases-loop l = length l.receipts.messages
+abbrev pub decreases-loop-board : goal.decreases-loop-board
+decreases-loop-board l = length l.receipts.messages
