@@ -1,5 +1,6 @@
-"""Receivers that are down, killed and restarted, and archives that can't be written."""
+"""Receivers that are down, killed and restarted."""
 
+import os
 import re
 import time
 
@@ -156,6 +157,21 @@ def receiver_killed_under_load(room):
 
 
 @test
+def link_cut_while_idle_twenty_times(room):
+    relay, port, inner = edge(room, -1, after=False)
+    sender, before = Sender(port), None
+    for turn in range(20):
+        receiver = Receiver(inner)
+        sender.send(*messages(5, turn * 5))
+        receiver.has(messages(5, turn * 5))
+        before = before or len(os.listdir(f"/proc/{relay.pid}/fd"))
+        (receiver.close if turn % 2 else receiver.kill)()
+    same("descriptors after 20 links", len(os.listdir(f"/proc/{relay.pid}/fd")), before)
+    sender.end()
+    relay.stops_with(totals(100, 0, 0, ("up", 100, 100, 0, 0)))
+
+
+@test
 def target_that_is_no_relay(room):
     port, nobody = room.port(), room.port()
     receiver = Receiver(nobody)
@@ -193,59 +209,3 @@ def receiver_that_talks_back(room):
         receiver.connections[0][0].sendall(b"220 welcome\r\n" * 10_000)
     sender.end()
     relay.stops_with(totals(50, 0, 0, ("up", 50, 50, 0, 0)))
-
-
-@test
-def full_archive(room):
-    port = room.port()
-    room.site({"hub": module() + imtcp(port) + omfile("full", "/dev/full", 0, 0) + omfile("tried", "/dev/full", 2, 0)
-               + omfile("after", "after.log") + omfile("null", "/dev/null", 0)})
-    relay = room.start_unchecked("hub", port)
-    send_all(port, messages(15))
-    room.holds("after.log", messages(15))
-    relay.rests(port)
-    relay.stops_with(totals(15, 0, 0, ("full", 15, 0, 15, 0), ("tried", 15, 0, 15, 0), ("after", 15, 15, 0, 0),
-                            ("null", 15, 15, 0, 0)))
-
-
-@test
-def full_archive_with_endless_retries(room):
-    port = room.port()
-    room.site({"hub": module() + main_queue(size=100, dequeueBatchSize=4) + imtcp(port) + omfile("before", "before.log")
-               + omfile("full", "/dev/full", -1, 0)})
-    relay = room.start_unchecked("hub", port)
-    send_all(port, messages(1))
-    room.holds("before.log", messages(1))
-    send_all(port, messages(7, 1))
-    relay.stops_with(totals(8, 0, 8, ("before", 1, 1, 0, 0), ("full", 1, 0, 0, 1)))
-
-
-@test
-def archive_without_a_final_line_feed(room):
-    room.write("audit.log", b"whole\ntorn")
-    relay, port = room.hub()
-    send_all(port, messages(2))
-    room.has("audit.log", 4)
-    same("the archive", room.lines("audit.log"), [b"whole", b"torn", *messages(2)])
-    relay.stops_with(totals(2, 0, 0, ("audit", 2, 2, 0, 0)))
-
-
-@test
-def archive_that_ends_in_a_line_feed(room):
-    room.write("audit.log", b"whole\n")
-    relay, port = room.hub()
-    send_all(port, messages(2))
-    room.holds("audit.log", [b"whole", *messages(2)])
-    relay.stops_with(totals(2, 0, 0, ("audit", 2, 2, 0, 0)))
-
-
-@test
-def one_archive_of_two_actions(room):
-    port = room.port()
-    room.site({"hub": module() + imtcp(port) + omfile("one", "audit.log") + omfile("two", "audit.log")},
-              f"entry hub {port}", "protect auth.* hub one", "protect auth.* hub two")
-    relay = room.start("hub", port)
-    send_all(port, messages(50))
-    room.has("audit.log", 100)
-    relay.stops_with(totals(50, 0, 0, ("one", 50, 50, 0, 0), ("two", 50, 50, 0, 0)))
-    same("the archive of two actions", sorted(room.lines("audit.log")), sorted(messages(50) * 2))

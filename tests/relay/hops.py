@@ -4,7 +4,7 @@ import shutil
 import subprocess
 
 from peers import Sender, message, messages, send_all, send_side_by_side
-from room import Failure, LeftOut, imtcp, module, omfile, omfwd, test, totals, until
+from room import Failure, LeftOut, imtcp, main_queue, module, omfile, omfwd, test, totals, until
 
 COUNT = 100_000
 # The queue of an entry that waits before it is full, and discards nothing.
@@ -55,6 +55,22 @@ def two_hops_over_eight_connections(room):
 @test(limit=80)
 def two_hops_through_a_short_queue(room):
     over_two_relays(room, 100, 2)
+
+
+@test
+def four_workers_over_one_link(room):
+    entry, inner, count = room.port(), room.port(), 20_000
+    room.site({"edge": module() + main_queue(size=5000, dequeueBatchSize=50, workerThreads=4) + imtcp(entry)
+               + omfwd("up", "hub", inner), "hub": module() + imtcp(inner) + omfile("audit", "audit.log")},
+              f"entry edge {entry}", "protect auth.* hub audit")
+    hub, edge = room.start("hub", inner), room.start("edge", entry)
+    texts = messages(count, text="a" * 50)
+    send_all(entry, texts)
+    room.has("audit.log", count)
+    edge.stops_with(totals(count, 0, 0, ("up", count, count, 0, 0)))
+    hub.stops_with(totals(count, 0, 0, ("audit", count, count, 0, 0)))
+    if sorted(room.lines("audit.log")) != sorted(texts):
+        raise Failure("the archive has other lines than the messages")
 
 
 @test

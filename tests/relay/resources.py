@@ -1,6 +1,7 @@
 """What many connections leave behind: descriptors, threads and memory."""
 
 import os
+import resource
 
 from peers import Sender, frame, message, messages, send_all
 from room import Failure, same, test, totals, until
@@ -109,6 +110,43 @@ def memory_of_a_long_stream(room):
     if grown > 32 * 1024:
         raise Failure(f"{count} messages took {grown} KiB more than the first {len(texts)}, after {memory}")
     relay.stops_with(totals(count, 0, 0, ("audit", count, count, 0, 0)))
+
+
+FREE = 8  # descriptors
+
+
+def with_few_descriptors(room):
+    """A relay that has descriptors for eight connections, and twice as many senders."""
+    relay, port = room.hub()
+    resource.prlimit(relay.pid, resource.RLIMIT_NOFILE, (left_at_first(room, relay, port)[0] + FREE,) * 2)
+    return relay, port, [Sender(port).send(message(it)) for it in range(2 * FREE)]
+
+
+@test
+def senders_wait_for_descriptors(room):
+    relay, _, senders = with_few_descriptors(room)
+    for number, sender in enumerate(senders):
+        until(f"sender {number} is served", lambda: message(number) + b"\n" in room.read("audit.log"))
+        same("connections that are served at once", room.count("audit.log") - 1 <= number + FREE, True)
+        sender.end()
+    count = 2 * FREE + 1
+    relay.stops_with(totals(count, 0, 0, ("audit", count, count, 0, 0)))
+    same("archive", sorted(room.lines("audit.log")), sorted([message("first"), *messages(2 * FREE)]))
+    # (what is said of it is said once, until one is accepted)
+    if len(relay.errors().splitlines()) > len(senders):
+        raise Failure(f"wanted a line as connections begin to wait, came {relay.errors()!r}")
+
+
+@test
+def stop_without_descriptors(room):
+    relay, port, senders = with_few_descriptors(room)
+    room.has("audit.log", 2)
+    output = relay.stop()
+    count = len(room.lines("audit.log"))
+    same("totals", output, totals(count, 0, 0, ("audit", count, count, 0, 0)))
+    room.ports_are_free(port)
+    for it in senders:
+        it.close()
 
 
 @test

@@ -7,7 +7,7 @@ import subprocess
 import time
 
 # Ports of tests lie below those that the host gives to outgoing connections; each test has PORTS of them.
-FIRST_PORT, LAST_PORT, PORTS = 12000, 32000, 20
+FIRST_PORT, LAST_PORT, PORTS = 12000, 32000, 80
 TURN = 0.005  # seconds between two looks at a condition
 STOP = 6  # seconds in which a relay has to end after its standard input
 TESTS = []
@@ -120,11 +120,11 @@ def main_queue(**parameters):
 class Relay:
     """A relay that runs."""
 
-    def __init__(self, room, name, words, stdin=subprocess.PIPE, stdout=None):
+    def __init__(self, room, name, words, stdin=subprocess.PIPE, stdout=None, limits=None):
         self.room, self.name = room, name
         self.err_path, self.out_path = room.path(f"{name}.stderr"), room.path(f"{name}.stdout")
         with open(self.err_path, "wb") as err, open(self.out_path, "wb") as out:
-            self.process = subprocess.Popen([room.program, "run", *words], cwd=room.folder, stdin=stdin,
+            self.process = subprocess.Popen([room.program, "run", *words], cwd=room.folder, stdin=stdin, preexec_fn=limits,
                                             stdout=out if stdout is None else stdout, stderr=err)
         self.pid = self.process.pid
 

@@ -3,6 +3,7 @@
 import re
 import socket
 import subprocess
+import threading
 
 from peers import Pump, Receiver, Sender, frame, message, messages, send_all
 from room import Failure, Relay, imtcp, main_queue, module, omfile, omfwd, same, test, totals, until
@@ -105,6 +106,40 @@ def with_a_sender_that_goes_on_after_it(room):
     numbers = [int(it.split(b" ")[8][1:]) for it in room.lines("audit.log")]
     same("messages of the archive", numbers == list(range(done)) and len(numbers), done)
     pump.end()
+
+
+@test
+def amid_short_connections(room):
+    relay, port = room.hub()
+    is_over = threading.Event()
+
+    def come_and_go(number):
+        while not is_over.is_set():
+            try:
+                Sender(port).send(message(0, connection=number)).end()
+            except (OSError, Failure):
+                pass
+
+    threads = [threading.Thread(target=come_and_go, args=(it,), daemon=True) for it in range(8)]
+    for it in threads:
+        it.start()
+    room.has("audit.log", 300)
+    _, lost, _, done, _ = stopped(room, relay, port)
+    is_over.set()
+    same("lost, and lines of the archive", (lost, len(room.lines("audit.log"))), (0, done))
+
+
+@test
+def of_a_relay_with_sixty_four_inputs(room):
+    ports = [room.port() for _ in range(64)]
+    room.site({"hub": module() + "".join(map(imtcp, ports)) + omfile("audit", "audit.log")},
+              f"entry hub {ports[0]}", "protect auth.* hub audit")
+    relay = room.start("hub", *ports)
+    senders = [Sender(port).send(message(0, connection=it)) for it, port in enumerate(ports)]
+    room.has("audit.log", 64)
+    same("totals", stopped(room, relay, *ports), (64, 0, 0, 64, 0))
+    for it in senders:
+        it.is_ended()
 
 
 @test(limit=80)

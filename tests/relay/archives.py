@@ -1,0 +1,151 @@
+"""Archives that can't be written, or only in part, and what stands in them before."""
+
+import os
+import resource
+import signal
+import threading
+
+from peers import message, messages, send_all
+from room import imtcp, main_queue, module, omfile, same, test, totals, until
+
+
+@test
+def full_archive(room):
+    port = room.port()
+    room.site({"hub": module() + imtcp(port) + omfile("full", "/dev/full", 0, 0) + omfile("tried", "/dev/full", 2, 0)
+               + omfile("after", "after.log") + omfile("null", "/dev/null", 0)})
+    relay = room.start_unchecked("hub", port)
+    send_all(port, messages(15))
+    room.holds("after.log", messages(15))
+    relay.rests(port)
+    relay.stops_with(totals(15, 0, 0, ("full", 15, 0, 15, 0), ("tried", 15, 0, 15, 0), ("after", 15, 15, 0, 0),
+                            ("null", 15, 15, 0, 0)))
+
+
+@test
+def full_archive_with_endless_retries(room):
+    port = room.port()
+    room.site({"hub": module() + main_queue(size=100, dequeueBatchSize=4) + imtcp(port) + omfile("before", "before.log")
+               + omfile("full", "/dev/full", -1, 0)})
+    relay = room.start_unchecked("hub", port)
+    send_all(port, messages(1))
+    room.holds("before.log", messages(1))
+    send_all(port, messages(7, 1))
+    relay.stops_with(totals(8, 0, 8, ("before", 1, 1, 0, 0), ("full", 1, 0, 0, 1)))
+
+
+@test
+def archive_without_a_final_line_feed(room):
+    room.write("audit.log", b"whole\ntorn")
+    relay, port = room.hub()
+    send_all(port, messages(2))
+    room.has("audit.log", 4)
+    same("the archive", room.lines("audit.log"), [b"whole", b"torn", *messages(2)])
+    relay.stops_with(totals(2, 0, 0, ("audit", 2, 2, 0, 0)))
+
+
+@test
+def archive_that_ends_in_a_line_feed(room):
+    room.write("audit.log", b"whole\n")
+    relay, port = room.hub()
+    send_all(port, messages(2))
+    room.holds("audit.log", [b"whole", *messages(2)])
+    relay.stops_with(totals(2, 0, 0, ("audit", 2, 2, 0, 0)))
+
+
+@test
+def one_archive_of_two_actions(room):
+    port = room.port()
+    room.site({"hub": module() + imtcp(port) + omfile("one", "audit.log") + omfile("two", "audit.log")},
+              f"entry hub {port}", "protect auth.* hub one", "protect auth.* hub two")
+    relay = room.start("hub", port)
+    send_all(port, messages(50))
+    room.has("audit.log", 100)
+    relay.stops_with(totals(50, 0, 0, ("one", 50, 50, 0, 0), ("two", 50, 50, 0, 0)))
+    same("the archive of two actions", sorted(room.lines("audit.log")), sorted(messages(50) * 2))
+
+
+def limited(size):
+    """Lets files of a relay grow to so many bytes; writes past that fail, and raise no signal."""
+    def limits():
+        signal.signal(signal.SIGXFSZ, signal.SIG_IGN)
+        resource.setrlimit(resource.RLIMIT_FSIZE, (size, resource.RLIM_INFINITY))
+    return limits
+
+
+def lift(relay):
+    resource.prlimit(relay.pid, resource.RLIMIT_FSIZE, (resource.RLIM_INFINITY, resource.RLIM_INFINITY))
+
+
+@test
+def archive_that_is_full_for_a_while(room):
+    port = room.port()
+    room.site({"hub": module() + imtcp(port) + omfile("audit", "audit.log", -1, 0)}, f"entry hub {port}", "protect auth.* hub audit")
+    relay = room.start("hub", port, words=["site", "hub"], limits=limited(1003))
+    send_all(port, messages(500))
+    # (the limit cuts a line)
+    until("the archive is full", lambda: room.size("audit.log") == 1003, came=lambda: room.size("audit.log"))
+    lift(relay)
+    room.holds("audit.log", messages(500))
+    relay.stops_with(totals(500, 0, 0, ("audit", 500, 500, 0, 0)))
+
+
+@test
+def archive_that_is_full_without_retries(room):
+    port, count, length = room.port(), 300, len(message(1000)) + 1
+    room.site({"hub": module() + imtcp(port) + omfile("audit", "audit.log", 0) + omfile("after", "/dev/null", 0)
+               + omfile("other", "other.log", 0)})
+    # 20 lines and a part of the next one
+    room.write("other.log", "")
+    relay = room.start("hub", port, words=["--unchecked", "site", "hub"], limits=limited(20 * length + 5))
+    send_all(port, messages(count, 1000))
+    relay.rests(port)
+    same("sizes", (room.size("audit.log"), room.size("other.log")), (20 * length + 5,) * 2)
+    lift(relay)
+    send_all(port, messages(10, 2000))
+    room.has("other.log", 31)
+    relay.stops_with(totals(310, 0, 0, ("audit", 310, 30, 280, 0), ("after", 310, 310, 0, 0), ("other", 310, 30, 280, 0)))
+    # (what was torn gets a line feed before the next line)
+    wanted = [*messages(20, 1000), message(1020)[:5], *messages(10, 2000)]
+    same("audit.log", room.lines("audit.log"), wanted)
+    same("other.log", room.lines("other.log"), wanted)
+
+
+@test
+def archive_that_is_a_pipe(room):
+    os.mkfifo(room.path("audit.log"))
+    ends = os.open(room.path("audit.log"), os.O_RDWR)
+    came = bytearray()
+
+    def read():
+        while data := os.read(ends, 1000):
+            came.extend(data)
+
+    threading.Thread(target=read, daemon=True).start()
+    relay, port = room.hub()
+    texts = messages(20_000, text="a" * 100)
+    send_all(port, texts)
+    wanted = b"".join(it + b"\n" for it in texts)
+    until("all comes through the pipe", lambda: len(came) >= len(wanted), came=lambda: len(came))
+    same("what comes through the pipe", bytes(came), wanted)
+    relay.stops_with(totals(20_000, 0, 0, ("audit", 20_000, 20_000, 0, 0)))
+
+
+@test
+def archive_of_long_and_short_lines(room):
+    relay, port = room.hub()
+    texts = [message(it, "a" * (65_000 if it % 50 == 0 else it)) for it in range(500)]
+    send_all(port, texts)
+    room.holds("audit.log", texts)
+    relay.stops_with(totals(500, 0, 0, ("audit", 500, 500, 0, 0)))
+
+
+@test
+def archive_is_appended_to(room):
+    relay, port = room.hub()
+    for turn in range(3):
+        send_all(port, messages(100, turn * 100))
+        room.holds("audit.log", messages(turn * 100 + 100))
+        relay.stops_with(totals(100, 0, 0, ("audit", 100, 100, 0, 0)))
+        relay = room.start("hub", port)
+    relay.stops_with(totals(0, 0, 0, ("audit", 0, 0, 0, 0)))
