@@ -1,4 +1,6 @@
 //! The device of a forward.
+ghost use Rattle.std.specs.Prelude.{◌≡◌, ◌≢◌, ◌<◌, ◌≤◌, ⊤, length, IfErr, IfNone, IfSome, OnSome};
+ghost use Rattle.sy_wire.specs.Streams.{count_after};
 
 use crate::link_writer::{LinkWriter, is_open};
 use std::alloc::{AllocError, Global};
@@ -48,7 +50,7 @@ fn stream_to<R: Net<Stream = TcpStream>>(rt: &R, address: &SocketAddr) -> Option
 }
 
 // A new link to that address.
-fn connected<R: Net<Stream = TcpStream>>(
+fn connect<R: Net<Stream = TcpStream>>(
     rt: &R,
     alloc: Global,
     address: &SocketAddr,
@@ -74,24 +76,53 @@ impl<R: Net<Stream = TcpStream> + Drop> Link<R> {
         }
     }
 
-    // The sink before the link: a new one where there is none, or where the receiver has closed it.
-    fn sink(&mut self) -> Option<&mut FrameSink<LinkWriter>> {
+    // Has a link, where one comes about: a new one where there is none, or where the receiver has closed it.
+    fn renew(&mut self)
+        ensures { self.new.failed ≡ self.old.failed }
+    {
         if let Some(link) = &self.link {
             if !is_open(&link.stream) {
                 self.link = None;
             }
         }
         if self.link.is_none() {
-            self.link = connected(&self.rt, self.alloc, &self.address, &self.is_ending);
-        }
-        match &mut self.link {
-            Some(link) => Some(&mut link.sink),
-            None => None,
+            self.link = connect(&self.rt, self.alloc, &self.address, &self.is_ending);
         }
     }
 
-    // Counts an offer that failed, and drops the link where it is the link that failed.
-    fn fail(&mut self, fault: DeviceFault) -> DeviceFault {
+    // Offers a message to the link, where there is one.
+    fn offer_to_link(&mut self, message: &Arc<Message>) -> Result<(), DeviceFault>
+        ensures same { self.new.failed ≡ self.old.failed }
+        ensures own { IfErr result (λ f. f ≢ DeviceFault.CountFull) }
+    {
+        self.renew();
+        match &mut self.link {
+            Some(link) => link.sink.offer(message),
+            None => Err(DeviceFault::Broken),
+        }
+    }
+
+    // Offers messages to the link, where there is one.
+    fn offer_all_to_link(&mut self, messages: &[Arc<Message>]) -> (usize, Option<DeviceFault>)
+        requires { 0 < length messages.now }
+        ensures same { self.new.failed ≡ self.old.failed }
+        ensures all { IfNone result.1 (result.0 ≡ length messages.now) }
+        ensures some { OnSome result.1 (result.0 < length messages.now) }
+        ensures own { IfSome result.1 (λ f. f ≢ DeviceFault.CountFull) }
+    {
+        self.renew();
+        match &mut self.link {
+            Some(link) => link.sink.offer_all(messages),
+            None => (0, Some(DeviceFault::Broken)),
+        }
+    }
+
+    // Counts an offer that failed, and drops the link.
+    fn fail(&mut self, fault: DeviceFault) -> DeviceFault
+        ensures fault { result ≡ fault }
+        ensures counted { self.new.failed ≡ count_after self.old.failed 1 }
+        ensures more { self.old.failed ≤ self.new.failed }
+    {
         self.failed = self.failed.saturating_add(1);
         self.link = None;
         fault
@@ -113,10 +144,7 @@ impl<R: Net<Stream = TcpStream> + Drop> Device for Link<R> {
     ghost steps = { λ _ _ _ _. ⊤ };
 
     fn offer(&mut self, message: &Arc<Message>) -> Result<(), DeviceFault> {
-        let Some(sink) = self.sink() else {
-            return Err(self.fail(DeviceFault::Broken));
-        };
-        match sink.offer(message) {
+        match self.offer_to_link(message) {
             Ok(()) => Ok(()),
             Err(fault) => Err(self.fail(fault)),
         }
@@ -126,10 +154,7 @@ impl<R: Net<Stream = TcpStream> + Drop> Device for Link<R> {
         if messages.is_empty() {
             return (0, None);
         }
-        let Some(sink) = self.sink() else {
-            return (0, Some(self.fail(DeviceFault::Broken)));
-        };
-        match sink.offer_all(messages) {
+        match self.offer_all_to_link(messages) {
             (taken, None) => (taken, None),
             (taken, Some(fault)) => (taken, Some(self.fail(fault))),
         }

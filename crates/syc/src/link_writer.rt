@@ -1,4 +1,5 @@
 //! What writes to a link.
+ghost use Rattle.std.specs.Prelude.{None, ◌<◌, ◌≤◌, length, IfSome};
 
 use std::io::{ErrorKind, Read, Write};
 use std::net::TcpStream;
@@ -41,7 +42,10 @@ pub fn is_open(stream: &TcpStream) -> bool {
 }
 
 // Writes a prefix of the bytes, and waits for it as long as that is of use. It answers how many were taken, if any.
-fn write_some(mut stream: &TcpStream, is_ending: &AtomicBool, bytes: &[u8]) -> Option<usize> {
+fn write_some(mut stream: &TcpStream, is_ending: &AtomicBool, bytes: &[u8]) -> Option<usize>
+    ensures some { IfSome result (λ n. 0 < n) }
+    ensures bound { IfSome result (λ n. n ≤ length bytes.now) }
+{
     for _ in 0..u64::MAX {
         match stream.write(bytes) {
             Ok(0) => return None,

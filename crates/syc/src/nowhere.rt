@@ -1,4 +1,5 @@
 //! The device of a forward that leads nowhere.
+ghost use Rattle.std.specs.Prelude.{⊤};
 
 use std::sync::Arc;
 use sy_actions::{Device, DeviceFault};

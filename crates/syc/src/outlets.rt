@@ -27,7 +27,7 @@ fn forward<'a>(site: &Site, target: &[u8], port: u16) -> Outlet<'a> {
     }
 }
 
-fn outlet<'a>(site: &Site, destination: &'a Destination) -> Outlet<'a> {
+fn outlet_of<'a>(site: &Site, destination: &'a Destination) -> Outlet<'a> {
     match destination {
         Destination::Archive(file) => Outlet::File(file.as_slice()),
         Destination::Forward(target, port) => forward(site, target.as_slice(), *port),
@@ -38,7 +38,7 @@ fn outlet<'a>(site: &Site, destination: &'a Destination) -> Outlet<'a> {
 pub fn outlets(alloc: Global, site: &Site, relay: u32) -> Result<Vec<Outlet<'_>>, AllocError> {
     let mut found = Vec::new(alloc);
     for action in site.plan(relay).actions() {
-        found.push(outlet(site, &action.destination))?;
+        found.push(outlet_of(site, &action.destination))?;
     }
     Ok(found)
 }
