@@ -1,4 +1,5 @@
 pub mod Words
+pub mod Ports
 pub mod Reports
 pub mod Pass
 pub mod Texts

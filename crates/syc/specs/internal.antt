@@ -1,6 +1,7 @@
 -- What only private functions cite.
 pub mod Commands
 pub mod Halts
+pub mod Listened
 pub mod Parts
 pub mod Stops
 pub mod Surveys

@@ -1,51 +1,54 @@
 //! The lines on standard error that say what happened at a port.
+ghost use Rattle.std.specs.Prelude.{◌≡◌};
+ghost use Rattle.syc.specs.Ports as spec;
+ghost use Rattle.syc.specs.Reports.{Reported, seen};
 
 use crate::report::tell_texts;
 use itoa::Buffer;
-use sy_runtime::{ConnEnd, RunFault};
+use sy_runtime::RunFault;
 use sy_wire::Sink;
 
 /// Prints what happened at a port.
-pub fn tell_at_port<E: Sink>(errors: &mut E, words: &[u8], port: u16) {
+pub fn tell_at_port<E: Sink>(errors: &mut E, words: &[u8], port: u16)
+    ensures { Reported
+        (seen E.contents E.is_flushed E.faults errors.old) (seen E.contents E.is_flushed E.faults errors.new)
+        (spec.at_port words.now port) }
+{
     let mut digits = Buffer::new();
     let port = digits.format(port).as_bytes();
     tell_texts(errors, &[b"syc: ", words, b" at ", port, b"\n"]);
 }
 
-// The number and the name of a fault: of a frame's its own.
-fn fault_words(fault: RunFault) -> &'static str {
+/// The number and the name of what ended a connection: of a frame's fault its own.
+pub fn end_words(fault: RunFault) -> &'static str
+    ensures { result.now ≡ spec.end_words fault }
+{
     match fault {
         RunFault::Frame(fault) => fault.words(),
         _ => fault.words(),
     }
 }
 
-/// Prints the fault that ended a connection.
-pub fn tell_fault<E: Sink>(errors: &mut E, fault: RunFault, port: u16) {
-    tell_at_port(errors, fault_words(fault).as_bytes(), port);
+// Both numbers in digits.
+fn tell_count<'a, E: Sink>(errors: &mut E, count: &'a [u8], port: &'a [u8])
+    ensures { Reported
+        (seen E.contents E.is_flushed E.faults errors.old) (seen E.contents E.is_flushed E.faults errors.new)
+        (spec.unread_at count.now port.now) }
+{
+    tell_texts(errors, &[b"syc: ", count, b" unread at ", port, b"\n"]);
 }
 
-/// Prints how many frames of a connection carried no message, and why the first of them doesn't, where there were any.
-pub fn tell_unread<E: Sink>(errors: &mut E, end: &ConnEnd, port: u16) {
-    let Some(first) = end.first_unread() else {
-        return;
-    };
-    let mut room = [Buffer::new(), Buffer::new(), Buffer::new(), Buffer::new()];
-    let [count, digits, offset, frame] = &mut room;
-    tell_texts(
+/// Prints how many frames of a connection carried no message.
+pub fn tell_unread<E: Sink>(errors: &mut E, count: u64, port: u16)
+    ensures { Reported
+        (seen E.contents E.is_flushed E.faults errors.old) (seen E.contents E.is_flushed E.faults errors.new)
+        (spec.unread_line count port) }
+{
+    let mut number = Buffer::new();
+    let mut digits = Buffer::new();
+    tell_count(
         errors,
-        &[
-            b"syc: ",
-            count.format(end.unread()).as_bytes(),
-            b" unread at ",
-            digits.format(port).as_bytes(),
-            b": ",
-            first.fault.code.words().as_bytes(),
-            b" at ",
-            offset.format(first.fault.offset).as_bytes(),
-            b" in frame ",
-            frame.format(first.frame).as_bytes(),
-            b"\n",
-        ],
+        number.format(count).as_bytes(),
+        digits.format(port).as_bytes(),
     );
 }

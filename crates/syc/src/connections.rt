@@ -1,4 +1,6 @@
 //! The connections that a relay serves.
+ghost use Rattle.std.specs.Prelude.{◌<◌, IfOk};
+ghost use Rattle.std.specs.Vec.{vec_len};
 
 use std::alloc::{AllocError, Global};
 use std::net::{Shutdown, TcpStream};
@@ -54,7 +56,9 @@ impl Connections {
     }
 
     // A place that no connection has.
-    fn free_place(&mut self) -> Result<usize, AllocError> {
+    fn free_place(&mut self) -> Result<usize, AllocError>
+        ensures { IfOk result (λ place. place < vec_len self.new.streams) }
+    {
         for place in 0..self.streams.len() {
             if self.streams[place].is_none() {
                 return Ok(place);

@@ -1,4 +1,6 @@
 //! The ports that a relay listens at.
+ghost use Rattle.std.specs.Prelude.{◌≡◌, ◌≤◌, IfOk, length, map};
+ghost use Rattle.syc.specs.internal.Listened.{at_of, ports_from};
 
 use crate::serving::Port;
 use std::alloc::Global;
@@ -30,7 +32,9 @@ fn listen<R: Net<Listener = TcpListener, Stream = TcpStream>>(
     rt: &R,
     address: Ipv4Addr,
     at: Port,
-) -> Result<Listening, ListenFault> {
+) -> Result<Listening, ListenFault>
+    ensures { IfOk result (λ listening. listening.at ≡ at) }
+{
     match TcpListener::bind(rt, socket_address(address, at.port)) {
         Ok(listener) => Ok(Listening { at, listener }),
         Err(_) => Err(ListenFault::Bind(at.port)),
@@ -43,7 +47,10 @@ pub fn listen_all<R: Net<Listener = TcpListener, Stream = TcpStream>>(
     alloc: Global,
     address: Ipv4Addr,
     inputs: &[Input],
-) -> Result<Vec<Listening>, ListenFault> {
+) -> Result<Vec<Listening>, ListenFault>
+    requires { length inputs.now ≤ 64 }
+    ensures { IfOk result (λ all. map at_of all.items ≡ ports_from 0 inputs.now) }
+{
     let mut found = Vec::new(alloc);
     let mut number = 0;
     for input in inputs {

@@ -1,6 +1,6 @@
 //! What the threads of a relay that is served share, and what each connection's does.
 
-use crate::at_port::{tell_at_port, tell_fault, tell_unread};
+use crate::at_port::{end_words, tell_at_port, tell_unread};
 use crate::connections::Connections;
 use crate::report::tell_text;
 use std::alloc::{AllocError, Global};
@@ -68,9 +68,11 @@ impl<E: Sink + Drop> Serving<E> {
         answer: Result<Finish, RunFault>,
     ) {
         let mut errors = self.errors.lock(rt);
-        tell_unread(&mut *errors, end, port);
+        if end.unread() > 0 {
+            tell_unread(&mut *errors, end.unread(), port);
+        }
         if let Err(fault) = answer {
-            tell_fault(&mut *errors, fault, port);
+            tell_at_port(&mut *errors, end_words(fault).as_bytes(), port);
         }
     }
 

@@ -1,0 +1,24 @@
+-- What is printed of a port (this profile's own).
+use Rattle.std.specs.Prelude.{ℕ, List, [], ◌∷◌, codes}
+use Rattle.std.specs.Fmt.{decimal}
+use Rattle.sy_wire.specs.Faults.{frame_fault_words}
+use Rattle.sy_runtime.specs.Faults.{fault_words}
+use Rattle.sy_runtime.specs.declared.fault.RunFault.{RunFault}
+use Rattle.sy_runtime.specs.declared.fault.RunFault.TheVariants as fault
+use Rattle.syc.specs.Reports.{joined, line_feed}
+
+-- syc: WORDS at PORT
+abbrev pub at_port : List ℕ → ℕ → List ℕ
+at_port words port = joined (codes "syc: " ∷ words ∷ codes " at " ∷ decimal port ∷ (line_feed ∷ []) ∷ [])
+
+-- the number and the name of what ended a connection: of a frame's fault its own
+abbrev pub end_words : RunFault → List ℕ
+end_words (fault.Frame why) = frame_fault_words why
+end_words why = fault_words why
+
+-- syc: N unread at PORT, both numbers in digits
+abbrev pub unread_at : List ℕ → List ℕ → List ℕ
+unread_at count port = joined (codes "syc: " ∷ count ∷ codes " unread at " ∷ port ∷ (line_feed ∷ []) ∷ [])
+
+abbrev pub unread_line : ℕ → ℕ → List ℕ
+unread_line count port = unread_at (decimal count) (decimal port)
