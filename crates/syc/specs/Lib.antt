@@ -1,8 +1,10 @@
 pub mod Words
+pub mod Outlets
 pub mod Ports
 pub mod Reports
 pub mod Pass
 pub mod Texts
+pub mod Totals
 pub mod Replays
 pub mod HaltTexts
 pub mod SiteFiles

@@ -1,4 +1,7 @@
 //! Where the actions of a relay bring their messages.
+ghost use Rattle.std.specs.Prelude.{◌≡◌, ◌<◌, IfOk, length, map};
+ghost use Rattle.sy_site.specs.Sites.{relay_named};
+ghost use Rattle.syc.specs.Outlets as spec;
 
 use std::alloc::{AllocError, Global};
 use std::net::Ipv4Addr;
@@ -17,17 +20,22 @@ pub enum Outlet<'a> {
 }
 
 // Where a forward to that target leads.
-fn forward<'a>(site: &Site, target: &[u8], port: u16) -> Outlet<'a> {
+#[tactic(auto, using(crate::proofs::Named::is_there, crate::proofs::Named::address_there))]
+fn forward<'a>(site: &Site, target: &[u8], port: u16) -> Outlet<'a>
+    ensures { spec.place_of result ≡ spec.port_of site.now port (relay_named site.now.relays target.now) }
+{
     match site.relay_named(target) {
-        Some(relay) if relay < site.relays() => Outlet::Forward {
+        Some(relay) => Outlet::Forward {
             address: site.address(relay),
             port,
         },
-        _ => Outlet::Nowhere,
+        None => Outlet::Nowhere,
     }
 }
 
-fn outlet_of<'a>(site: &Site, destination: &'a Destination) -> Outlet<'a> {
+fn outlet_of<'a>(site: &Site, destination: &'a Destination) -> Outlet<'a>
+    ensures { spec.place_of result ≡ spec.place_for site.now destination.now }
+{
     match destination {
         Destination::Archive(file) => Outlet::File(file.as_slice()),
         Destination::Forward(target, port) => forward(site, target.as_slice(), *port),
@@ -35,7 +43,10 @@ fn outlet_of<'a>(site: &Site, destination: &'a Destination) -> Outlet<'a> {
 }
 
 /// Where each action of a relay brings its messages, in the order of its actions.
-pub fn outlets(alloc: Global, site: &Site, relay: u32) -> Result<Vec<Outlet<'_>>, AllocError> {
+pub fn outlets(alloc: Global, site: &Site, relay: u32) -> Result<Vec<Outlet<'_>>, AllocError>
+    requires exists { relay < length site.now.relays }
+    ensures { IfOk result (λ found. map spec.place_of found.items ≡ spec.places site.now relay) }
+{
     let mut found = Vec::new(alloc);
     for action in site.plan(relay).actions() {
         found.push(outlet_of(site, &action.destination))?;

@@ -17,6 +17,8 @@ pub enum Part<'a> {
     Text(&'a [u8]),
     /// In decimal digits.
     Number(u64),
+    /// In decimal digits.
+    Sum(u128),
     /// As `auth.crit`.
     Class(Class),
     /// As `hub 6515`: an input's relay and port.
@@ -29,6 +31,14 @@ fn put_number(text: &mut Vec<u8>, number: u64) -> Result<(), AllocError>
 {
     let mut digits = Buffer::new();
     text.extend_from_slice(digits.format(number).as_bytes())
+}
+
+// Puts a sum in decimal digits behind a text.
+fn put_sum(text: &mut Vec<u8>, sum: u128) -> Result<(), AllocError>
+    ensures { OnOk result (text.new.items ≡ text.old.items ++ decimal sum) }
+{
+    let mut digits = Buffer::new();
+    text.extend_from_slice(digits.format(sum).as_bytes())
 }
 
 // Puts a class behind a text.
@@ -55,6 +65,7 @@ fn put_part(text: &mut Vec<u8>, part: Part<'_>) -> Result<(), AllocError>
     match part {
         Part::Text(words) => text.extend_from_slice(words),
         Part::Number(number) => put_number(text, number),
+        Part::Sum(sum) => put_sum(text, sum),
         Part::Class(class) => put_class(text, class),
         Part::Input(relay, port) => put_input(text, relay, port),
     }

@@ -1,88 +1,107 @@
-//! What a relay prints as it ends.
+//! The totals that a relay prints as it ends.
+ghost use Rattle.std.specs.Prelude.{◌≡◌, ◌++◌, OnOk, map};
+ghost use Rattle.sy_board.specs.relay.Boards.{counts_of};
+ghost use Rattle.syc.specs.Totals as spec;
 
-use crate::output::write_texts;
-use itoa::Buffer;
+use crate::texts::{Part, put_parts};
+use std::alloc::AllocError;
 use sy_board::{Accounts, ActionCounts};
 use sy_rules::Action;
-use sy_wire::{Sink, WriteFault};
 
-// The messages that were lost: at an input or in its hand, by a post, and as they left a queue.
-fn lost(accounts: &Accounts) -> u128 {
+// The losses: at an input or in its hand, by a post, and as an entry left a queue.
+fn lost(accounts: &Accounts) -> u128
+    ensures { result ≡ spec.lost accounts.now.totals }
+{
     u128::from(accounts.lost_in())
         + u128::from(accounts.lost_post())
         + u128::from(accounts.lost_out())
 }
 
-// The line of the messages: those that came, those of their copies that were lost, and those that the relay still has.
-fn write_messages<W: Sink>(
-    writer: &mut W,
-    accounts: &Accounts,
-    held: usize,
-) -> Result<(), WriteFault> {
-    let mut taken = Buffer::new();
-    let mut losses = Buffer::new();
-    let mut left = Buffer::new();
-    write_texts(
-        writer,
-        &[
-            b"taken ",
-            taken.format(accounts.taken()).as_bytes(),
-            b" lost ",
-            losses.format(lost(accounts)).as_bytes(),
-            b" held ",
-            left.format(held as u64).as_bytes(),
-            b"\n",
-        ],
-    )
+// The line of the messages.
+fn put_messages(text: &mut Vec<u8>, accounts: &Accounts, held: usize) -> Result<(), AllocError>
+    ensures { OnOk result (text.new.items ≡ text.old.items ++ spec.messages_line accounts.now.totals held) }
+{
+    let parts = [
+        Part::Text(b"taken "),
+        Part::Number(accounts.taken()),
+        Part::Text(b" lost "),
+        Part::Sum(lost(accounts)),
+        Part::Text(b" held "),
+        Part::Number(held as u64),
+        Part::Text(b"\n"),
+    ];
+    put_parts(text, &parts)
 }
 
-// The line of an action: the runs that became due, and of these the ones done, given up and left.
-fn write_action<W: Sink>(
-    writer: &mut W,
+// What stands in the line of an action behind its name.
+fn put_counts(text: &mut Vec<u8>, due: u128, counts: ActionCounts) -> Result<(), AllocError>
+    ensures { OnOk result (text.new.items
+        ≡ text.old.items ++ spec.counts_text due counts.done counts.given_up counts.left) }
+{
+    let parts = [
+        Part::Text(b" due "),
+        Part::Sum(due),
+        Part::Text(b" done "),
+        Part::Number(counts.done),
+        Part::Text(b" given-up "),
+        Part::Number(counts.given_up),
+        Part::Text(b" left "),
+        Part::Number(counts.left),
+        Part::Text(b"\n"),
+    ];
+    put_parts(text, &parts)
+}
+
+// The line of an action, of which so many runs became due.
+fn put_line(
+    text: &mut Vec<u8>,
     name: &[u8],
+    due: u128,
     counts: ActionCounts,
-) -> Result<(), WriteFault> {
-    let mut due = Buffer::new();
-    let mut done = Buffer::new();
-    let mut given_up = Buffer::new();
-    let mut left = Buffer::new();
-    write_texts(
-        writer,
-        &[
-            name,
-            b" due ",
-            due.format(counts.due()).as_bytes(),
-            b" done ",
-            done.format(counts.done).as_bytes(),
-            b" given-up ",
-            given_up.format(counts.given_up).as_bytes(),
-            b" left ",
-            left.format(counts.left).as_bytes(),
-            b"\n",
-        ],
-    )
+) -> Result<(), AllocError>
+    ensures { OnOk result (text.new.items
+        ≡ text.old.items ++ spec.line_with name.now due counts.done counts.given_up counts.left) }
+{
+    text.extend_from_slice(name)?;
+    put_counts(text, due, counts)
+}
+
+// The line of an action.
+#[tactic(auto, using(crate::proofs::Counted::line_of))]
+fn put_action(text: &mut Vec<u8>, name: &[u8], counts: ActionCounts) -> Result<(), AllocError>
+    ensures { OnOk result (text.new.items ≡ text.old.items ++ spec.action_line name.now (counts_of counts)) }
+{
+    put_line(text, name, counts.due(), counts)
 }
 
 // The lines of the actions, in their order.
-fn write_actions<W: Sink>(
-    writer: &mut W,
+fn put_actions(
+    text: &mut Vec<u8>,
     actions: &[Action],
-    accounts: &Accounts,
-) -> Result<(), WriteFault> {
-    for (action, counts) in actions.iter().zip(accounts.actions()) {
-        write_action(writer, action.name.as_slice(), *counts)?;
+    counts: &[ActionCounts],
+) -> Result<(), AllocError>
+    ensures { OnOk result (text.new.items ≡ text.old.items ++ spec.action_lines actions.now (map counts_of counts.now)) }
+{
+    let mut place = 0;
+    for action in actions {
+        let Some(count) = counts.get(place) else {
+            return Ok(());
+        };
+        put_action(text, action.name.as_slice(), *count)?;
+        place += 1;
     }
     Ok(())
 }
 
-/// Writes the totals of a relay with these actions, which still has so many entries, and hands them on.
-pub fn write_totals<W: Sink>(
-    writer: &mut W,
+/// Puts the totals of a relay with these actions, which still holds so many entries, behind a text.
+pub fn put_totals(
+    text: &mut Vec<u8>,
     actions: &[Action],
     accounts: &Accounts,
     held: usize,
-) -> Result<(), WriteFault> {
-    write_messages(writer, accounts, held)?;
-    write_actions(writer, actions, accounts)?;
-    writer.flush()
+) -> Result<(), AllocError>
+    ensures { OnOk result (text.new.items ≡ text.old.items ++ spec.totals_text actions.now accounts.now.totals held) }
+{
+    put_messages(text, accounts, held)?;
+    put_actions(text, actions, accounts.actions())
 }

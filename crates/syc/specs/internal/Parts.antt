@@ -8,5 +8,6 @@ use Rattle.syc.specs.declared.texts.Part.TheVariants as part
 abbrev pub part_text : Part → List ℕ
 part_text (part.Text words) = words.now
 part_text (part.Number number) = decimal number
+part_text (part.Sum sum) = decimal sum
 part_text (part.Class class) = class_text class
 part_text (part.Input relay port) = relay.now ++ codes " " ++ decimal port

@@ -1,0 +1,37 @@
+-- The totals that a relay prints as it ends (this profile's own).
+use Rattle.std.specs.Prelude.{ℕ, ◌+◌, ◌-◌, List, [], ◌∷◌, ◌++◌, codes}
+use Rattle.std.specs.Fmt.{decimal}
+use Rattle.sy_rules.specs.declared.parts.Action.{Action}
+use Rattle.sy_board.specs.relay.Totals.{Counts, Totals}
+use Rattle.syc.specs.Reports.{line_feed}
+
+-- the losses: at an input or in its hand, by a post, and as an entry left a queue
+abbrev pub lost : Totals → ℕ
+lost totals = totals.lost_in + totals.lost_post + totals.lost_out
+
+-- taken T lost L held H
+abbrev pub messages_line : Totals → ℕ → List ℕ
+messages_line totals held =
+    codes "taken " ++ decimal totals.taken ++ codes " lost " ++ decimal (lost totals) ++ codes " held " ++ decimal held ++ line_feed ∷ []
+
+-- behind the name of an action: due D done X given-up G left F
+abbrev pub counts_text : ℕ → ℕ → ℕ → ℕ → List ℕ
+counts_text due done given_up left =
+    codes " due " ++ decimal due ++ codes " done " ++ decimal done ++ codes " given-up " ++ decimal given_up
+    ++ codes " left " ++ decimal left ++ line_feed ∷ []
+
+abbrev pub line_with : List ℕ → ℕ → ℕ → ℕ → ℕ → List ℕ
+line_with name due done given_up left = name ++ counts_text due done given_up left
+
+-- those are left that became due and were neither done nor given up
+abbrev pub action_line : List ℕ → Counts → List ℕ
+action_line name counts = line_with name counts.due counts.done counts.given_up (counts.due - (counts.done + counts.given_up))
+
+-- a line for each action
+abbrev pub action_lines : List Action → List Counts → List ℕ
+action_lines (action ∷ actions) (counts ∷ others) = action_line action.name counts ++ action_lines actions others
+action_lines _ _ = []
+
+-- the totals of a relay with these actions, which still holds so many entries
+abbrev pub totals_text : List Action → Totals → ℕ → List ℕ
+totals_text actions totals held = messages_line totals held ++ action_lines actions totals.actions
