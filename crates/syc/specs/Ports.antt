@@ -1,8 +1,9 @@
 -- What is printed of a port (this profile's own).
 use Rattle.std.specs.Prelude.{ℕ, List, [], ◌∷◌, codes}
 use Rattle.std.specs.Fmt.{decimal}
-use Rattle.sy_wire.specs.Faults.{frame_fault_words}
+use Rattle.sy_wire.specs.Faults.{frame_fault_words, message_fault_words}
 use Rattle.sy_runtime.specs.Faults.{fault_words}
+use Rattle.sy_runtime.specs.declared.connection_end.Unread.{Unread}
 use Rattle.sy_runtime.specs.declared.fault.RunFault.{RunFault}
 use Rattle.sy_runtime.specs.declared.fault.RunFault.TheVariants as fault
 use Rattle.syc.specs.Reports.{joined, line_feed}
@@ -16,9 +17,13 @@ abbrev pub end_words : RunFault → List ℕ
 end_words (fault.Frame why) = frame_fault_words why
 end_words why = fault_words why
 
--- syc: N unread at PORT, both numbers in digits
-abbrev pub unread_at : List ℕ → List ℕ → List ℕ
-unread_at count port = joined (codes "syc: " ∷ count ∷ codes " unread at " ∷ port ∷ (line_feed ∷ []) ∷ [])
+-- syc: N unread at PORT: CODE NAME at O in frame F, all numbers in digits
+abbrev pub unread_at : List ℕ → List ℕ → List ℕ → List ℕ → List ℕ → List ℕ
+unread_at count port words offset frame =
+    joined (codes "syc: " ∷ count ∷ codes " unread at " ∷ port ∷ codes ": " ∷ words ∷ codes " at " ∷ offset ∷ codes " in frame " ∷ frame
+    ∷ (line_feed ∷ []) ∷ [])
 
-abbrev pub unread_line : ℕ → ℕ → List ℕ
-unread_line count port = unread_at (decimal count) (decimal port)
+-- the frames that carried no message, and why the first of them doesn't
+abbrev pub unread_line : ℕ → ℕ → Unread → List ℕ
+unread_line count port first =
+    unread_at (decimal count) (decimal port) (message_fault_words first.fault.code) (decimal first.fault.offset) (decimal first.frame)

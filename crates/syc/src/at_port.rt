@@ -5,7 +5,7 @@ ghost use Rattle.syc.specs.Reports.{Reported, seen};
 
 use crate::report::tell_texts;
 use itoa::Buffer;
-use sy_runtime::RunFault;
+use sy_runtime::{RunFault, Unread};
 use sy_wire::Sink;
 
 /// Prints what happened at a port.
@@ -29,26 +29,63 @@ pub fn end_words(fault: RunFault) -> &'static str
     }
 }
 
-// Both numbers in digits.
-fn tell_count<'a, E: Sink>(errors: &mut E, count: &'a [u8], port: &'a [u8])
-    ensures { Reported
-        (seen E.contents E.is_flushed E.faults errors.old) (seen E.contents E.is_flushed E.faults errors.new)
-        (spec.unread_at count.now port.now) }
-{
-    tell_texts(errors, &[b"syc: ", count, b" unread at ", port, b"\n"]);
+// All numbers in digits.
+struct UnreadTexts<'a> {
+    count: &'a [u8],
+    port: &'a [u8],
+    words: &'a [u8],
+    offset: &'a [u8],
+    frame: &'a [u8],
 }
 
-/// Prints how many frames of a connection carried no message.
-pub fn tell_unread<E: Sink>(errors: &mut E, count: u64, port: u16)
+fn tell_texts_of<E: Sink>(errors: &mut E, texts: UnreadTexts<'_>)
     ensures { Reported
         (seen E.contents E.is_flushed E.faults errors.old) (seen E.contents E.is_flushed E.faults errors.new)
-        (spec.unread_line count port) }
+        (spec.unread_at texts.count.now texts.port.now texts.words.now texts.offset.now texts.frame.now) }
 {
-    let mut number = Buffer::new();
-    let mut digits = Buffer::new();
-    tell_count(
+    let UnreadTexts {
+        count,
+        port,
+        words,
+        offset,
+        frame,
+    } = texts;
+    tell_texts(
         errors,
-        number.format(count).as_bytes(),
-        digits.format(port).as_bytes(),
+        &[
+            b"syc: ",
+            count,
+            b" unread at ",
+            port,
+            b": ",
+            words,
+            b" at ",
+            offset,
+            b" in frame ",
+            frame,
+            b"\n",
+        ],
+    );
+}
+
+/// Prints how many frames of a connection carried no message, and why the first of them doesn't.
+pub fn tell_unread<E: Sink>(errors: &mut E, count: u64, port: u16, first: Unread)
+    ensures { Reported
+        (seen E.contents E.is_flushed E.faults errors.old) (seen E.contents E.is_flushed E.faults errors.new)
+        (spec.unread_line count port first) }
+{
+    let mut count_digits = Buffer::new();
+    let mut port_digits = Buffer::new();
+    let mut offset_digits = Buffer::new();
+    let mut frame_digits = Buffer::new();
+    tell_texts_of(
+        errors,
+        UnreadTexts {
+            count: count_digits.format(count).as_bytes(),
+            port: port_digits.format(port).as_bytes(),
+            words: first.fault.code.words().as_bytes(),
+            offset: offset_digits.format(first.fault.offset as u64).as_bytes(),
+            frame: frame_digits.format(first.frame).as_bytes(),
+        },
     );
 }

@@ -68,8 +68,8 @@ impl<E: Sink + Drop> Serving<E> {
         answer: Result<Finish, RunFault>,
     ) {
         let mut errors = self.errors.lock(rt);
-        if end.unread() > 0 {
-            tell_unread(&mut *errors, end.unread(), port);
+        if let Some(first) = end.first_unread() {
+            tell_unread(&mut *errors, end.unread(), port, first);
         }
         if let Err(fault) = answer {
             tell_at_port(&mut *errors, end_words(fault).as_bytes(), port);
