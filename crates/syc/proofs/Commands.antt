@@ -1,7 +1,10 @@
 -- Which command the words are.
 use Rattle.std.proofs.Common.{◌≡◌, ℕ, List, [], ◌∷◌, ◌++◌, length, map, refl, sym, subst, ap, ◌∙◌, arith}
-use Rattle.std.specs.Prelude.{Option, Some, codes}
+use Rattle.std.specs.List.{Any}
+use Rattle.std.specs.Prelude.{◌⊎◌, Option, Some, codes}
+use Rattle.sy_site.specs.texts.Files.{file_names}
 use Rattle.syc.specs.Checks.{AskedIs}
+use Rattle.syc.specs.Outcomes.{FailsBy}
 use Rattle.syc.specs.Reports.{Streams}
 use Rattle.syc.specs.Replays.{ReplayIs}
 use Rattle.syc.specs.Verdicts.{DescribesKept, VerifyIs}
@@ -10,7 +13,7 @@ use Rattle.syc.specs.declared.command.Asked.{Asked}
 use Rattle.syc.specs.declared.command.Asked.TheVariants as asked
 use Rattle.syc.specs.declared.command.SiteCommand.{SiteCommand}
 use Rattle.syc.specs.declared.command.SiteCommand.TheVariants as of_site
-use Rattle.syc.specs.internal.Commands.{Answers, AreNoCommand, IsSiteCommandOf, ShowsKept}
+use Rattle.syc.specs.internal.Commands.{Answers, AreNoCommand, Fails, IsSiteCommandOf, ShowsKept}
 
 -- ---- words that differ
 
@@ -220,3 +223,41 @@ module _ (bytes_of : List ℕ → Option (List ℕ)) (status : ℕ) (after : Lis
   for_kept (of_site.Verify name other) h shows site certificate text are known zero =
       let both = others_same (sym h.words_are ∙ are.words_are) in
       shows text (ap bytes_of both.0 ∙ known) zero
+
+-- So is what status 4 comes by.
+module _ (bytes_of : List ℕ → Option (List ℕ)) (MayFail PiecesFail : List ℕ → Type 0) (status : ℕ) (old new : Streams) (after : List (List ℕ)) where
+  pub asked_fails : (command : SiteCommand) → IsSiteCommandOf after command → Fails bytes_of MayFail PiecesFail command status old new
+      → (question : Asked) (site text : List ℕ) → AreAskingOf question after site → bytes_of site ≡ Some text
+      → FailsBy (Any MayFail (site ∷ file_names text)) status old new
+  asked_fails (of_site.Ask said name) h fails question site text are known =
+      let both = one_question said question _ _ (sym h.words_are ∙ are.words_are) in
+      subst (λ n. FailsBy (Any MayFail (n ∷ file_names text)) status old new) both.1 (fails text (ap bytes_of both.1 ∙ known))
+  asked_fails (of_site.Replay name events) h fails question site text are known =
+      absurd (replay_no_question question _ _ _ (sym are.words_are ∙ h.words_are))
+  asked_fails (of_site.Verify name certificate) h fails question site text are known =
+      absurd (verify_no_question question _ _ _ (sym are.words_are ∙ h.words_are))
+
+  pub replay_fails : (command : SiteCommand) → IsSiteCommandOf after command → Fails bytes_of MayFail PiecesFail command status old new
+      → (site events text input : List ℕ) → AreReplayOf after site events → bytes_of site ≡ Some text → bytes_of events ≡ Some input
+      → FailsBy (Any MayFail (site ∷ events ∷ file_names text) ⊎ PiecesFail input) status old new
+  replay_fails (of_site.Ask question name) h fails site events text input are known read =
+      absurd (replay_no_question question _ _ _ (sym h.words_are ∙ are.words_are))
+  replay_fails (of_site.Replay name others) h fails site events text input are known read =
+      let both = others_same (sym h.words_are ∙ are.words_are) in
+      subst (λ m. FailsBy (Any MayFail (site ∷ m ∷ file_names text) ⊎ PiecesFail input) status old new) both.1
+      (subst (λ n. FailsBy (Any MayFail (n ∷ others.now ∷ file_names text) ⊎ PiecesFail input) status old new) both.0
+      (fails text input (ap bytes_of both.0 ∙ known) (ap bytes_of both.1 ∙ read)))
+  replay_fails (of_site.Verify name certificate) h fails site events text input are known read =
+      absurd (replay_or_verify (first_same (sym are.words_are ∙ h.words_are)))
+
+  pub verify_fails : (command : SiteCommand) → IsSiteCommandOf after command → Fails bytes_of MayFail PiecesFail command status old new
+      → (site certificate text : List ℕ) → AreVerifyOf after site certificate → bytes_of site ≡ Some text
+      → FailsBy (Any MayFail (site ∷ certificate ∷ file_names text)) status old new
+  verify_fails (of_site.Ask question name) h fails site certificate text are known =
+      absurd (verify_no_question question _ _ _ (sym h.words_are ∙ are.words_are))
+  verify_fails (of_site.Replay name events) h fails site certificate text are known =
+      absurd (replay_or_verify (first_same (sym h.words_are ∙ are.words_are)))
+  verify_fails (of_site.Verify name other) h fails site certificate text are known =
+      let both = others_same (sym h.words_are ∙ are.words_are) in
+      subst (λ m. FailsBy (Any MayFail (site ∷ m ∷ file_names text)) status old new) both.1
+      (subst (λ n. FailsBy (Any MayFail (n ∷ other.now ∷ file_names text)) status old new) both.0 (fails text (ap bytes_of both.0 ∙ known)))

@@ -8,7 +8,9 @@ pub mod Totals
 pub mod Replays
 pub mod HaltTexts
 pub mod SiteFiles
+pub mod Memory
 pub mod Outcomes
 pub mod Checks
 pub mod Verdicts
+pub mod Examples
 pub mod internal

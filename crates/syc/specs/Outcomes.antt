@@ -28,6 +28,10 @@ AnswersOf Says bytes_of site_text status old new =
     × (text : List ℕ) × (is_accepted : Bool) × Says site text is_accepted × Prints text is_accepted status old new)
     ⊎ (HasNoAnswer bytes_of site_text status (Tells old new) × (new.output ≡ old.output))
 
+-- Status 4 has its cause: something may fail to be read, or a write or a flush failed.
+abbrev pub FailsBy : (MayFail : Type 0) → ℕ → Streams → Streams → Type 0
+FailsBy MayFail status old new = status ≡ 4 → MayFail ⊎ Rose old.output.faults new.output.faults
+
 -- What is answered to words that are no command: a help or the version is printed; or standard error says what is wrong with them; or memory ran out, or a
 -- write failed, which is told. What those texts are isn't said here.
 abbrev pub Shows : ℕ → Streams → Streams → Type 0

@@ -1,5 +1,5 @@
 -- What a replay of an events file prints, and how it ends (this profile's own).
-use Rattle.std.specs.Prelude.{◌≡◌, ℕ, true, false, List, [], ◌∷◌, ◌++◌, ◌==◌, ◌⊎◌, Option, Some, None, codes, drop, flat_map, length, slice_get}
+use Rattle.std.specs.Prelude.{◌≡◌, ◌≤◌, ℕ, true, false, List, [], ◌∷◌, ◌++◌, ◌==◌, ◌⊎◌, Option, Some, None, codes, drop, flat_map, length, slice_get}
 use Rattle.std.specs.Fmt.{decimal}
 use Rattle.std.specs.Io.KnownBytes.{Appends, Keeps}
 use Rattle.std.specs.List.{slice_split}
@@ -14,6 +14,7 @@ use Rattle.sy_replay.specs.Held.{opened_parts}
 use Rattle.sy_replay.specs.States.{Applies, Contents, IsIllegalAt, holding, state_in}
 use Rattle.sy_replay.specs.declared.event.Illegal.TheVariants as illegal
 use Rattle.syc.specs.HaltTexts.{in_line}
+use Rattle.syc.specs.Pass.{READS}
 use Rattle.syc.specs.Reports.{SinkState, Streams, Tells, line_feed, said}
 use Rattle.syc.specs.SiteFiles.{HasNoAnswer, IsSiteOf}
 use Rattle.syc.specs.Texts.{class_text}
@@ -103,6 +104,16 @@ pub data Replays (site : Site) : (line events : ℕ) → Contents → List (List
       → Replays site line events old (text ∷ later) part Ending.WriteFailed
   end_torn : {line events : ℕ} {held : Contents} (part tail : List ℕ) → end_line events (state_in held) ≡ part ++ tail
       → Replays site line events held [] part Ending.WriteFailed
+
+-- ---- why reading fails
+
+-- A source of this kind may fail: between two of its states its count of failed reads rises.
+abbrev pub MayRise : {S : Type 0} → (S → ℕ) → Type 0
+MayRise {S} faults = (before after : S) × Rose (faults before) (faults after)
+
+-- Reading these events piece by piece may fail: a read may, or there are as many bytes as reads are made at most.
+abbrev pub PiecesMayFail : {S : Type 0} → (S → ℕ) → List ℕ → Type 0
+PiecesMayFail faults events = MayRise faults ⊎ (READS ≤ length events)
 
 -- ---- the command
 

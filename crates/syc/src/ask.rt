@@ -1,10 +1,13 @@
 //! What is asked of one site.
-ghost use Rattle.std.specs.Prelude.{◌≡◌, ◌≢◌, ◌≤◌, ℕ, List, Some, IfErr, IfOk};
+ghost use Rattle.std.specs.Prelude.{◌≡◌, ◌≢◌, ◌≤◌, ◌∷◌, ℕ, List, Some, IfErr, IfOk};
 ghost use Rattle.std.specs.Io.KnownBytes.{Keeps};
+ghost use Rattle.std.specs.List.{Any};
 ghost use Rattle.sy_site.specs.Sites.{Site as AnySite};
+ghost use Rattle.sy_site.specs.texts.Files.{file_names};
 ghost use Rattle.syc.specs.Checks as spec;
+ghost use Rattle.syc.specs.Outcomes.{FailsBy};
 ghost use Rattle.syc.specs.SiteFiles.{IsSiteOf};
-ghost use Rattle.syc.specs.internal.Halts.{IsNoSite};
+ghost use Rattle.syc.specs.internal.Halts.{IsNoSite, IsUnread};
 
 use crate::all::say_all;
 use crate::answer::{Answer, print};
@@ -44,6 +47,8 @@ fn answer_of<F: Files>(alloc: Global, files: &F, name: &str, asked: Asked) -> Re
         (site : AnySite) × IsSiteOf (F.bytes_of files.now) text site × spec.Says asked site a.text.items a.is_accepted) }
     ensures err { IfErr result (λ halt. (text : List ℕ) → F.bytes_of files.now name.now ≡ Some text →
         IsNoSite (F.bytes_of files.now) text halt) }
+    ensures unread { IfErr result (λ halt. (text : List ℕ) → F.bytes_of files.now name.now ≡ Some text →
+        IsUnread (F.may_fail files.now) (name.now ∷ file_names text) halt) }
 {
     let site = read_site(alloc, files, name)?;
     let answer = say(alloc, files, name, &site, asked)?;
@@ -62,6 +67,8 @@ pub fn ask<F: Files, W: Sink, E: Sink>(
 ) -> u8
     ensures answered { (text : List ℕ) → F.bytes_of files.now site.now ≡ Some text →
         spec.AskedIs asked (F.bytes_of files.now) text result out.old out.new }
+    ensures fails { (text : List ℕ) → F.bytes_of files.now site.now ≡ Some text →
+        FailsBy (Any (F.may_fail files.now) (site.now ∷ file_names text)) result out.old out.new }
     ensures status { result ≤ 4 }
     ensures none_failed { result ≢ 4 → out.new.output.faults ≡ out.old.output.faults }
     ensures quiet { result ≡ 0 → Keeps out.old.errors.contents out.new.errors.contents }

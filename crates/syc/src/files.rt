@@ -1,5 +1,5 @@
 //! The files that a command reads.
-ghost use Rattle.std.specs.Prelude.{◌≡◌, List, ℕ, Option, None, Some, IfOk, IfSome};
+ghost use Rattle.std.specs.Prelude.{◌≡◌, List, ℕ, Option, None, Some, IfErr, IfOk, IfSome};
 
 use std::fs::{self, File};
 use std::io::{Error, ErrorKind};
@@ -19,14 +19,18 @@ pub trait Files {
 
     // the bytes of the file of that name, where they are known
     ghost bytes_of: { Self → List ℕ → Option (List ℕ) } = { λ _ _. None };
+    // whether the file of that name may be one that can't be read; nothing is told where it always may
+    ghost may_fail: { Self → List ℕ → Type 0 } = { λ _ _. Unit {0} };
 
     /// Reads the whole file of that name.
     fn read(&self, name: &str) -> Result<Vec<u8>, FileFault>
-        ensures { IfOk result (λ v. IfSome (bytes_of self.now name.now) (λ bytes. v.items ≡ bytes)) };
+        ensures bytes { IfOk result (λ v. IfSome (bytes_of self.now name.now) (λ bytes. v.items ≡ bytes)) }
+        ensures err { IfErr result (λ why. why ≡ FileFault.Read → may_fail self.now name.now) };
 
     /// Opens the file of that name, at its beginning.
     fn open(&self, name: &str) -> Result<Self::Opened, FileFault>
-        ensures { IfOk result (λ s. IfSome (bytes_of self.now name.now) (λ bytes. Self.Opened.remaining s ≡ Some bytes)) };
+        ensures bytes { IfOk result (λ s. IfSome (bytes_of self.now name.now) (λ bytes. Self.Opened.remaining s ≡ Some bytes)) }
+        ensures err { IfErr result (λ why. why ≡ FileFault.Read → may_fail self.now name.now) };
 }
 
 /// The files of the host.

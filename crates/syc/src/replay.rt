@@ -1,11 +1,14 @@
 //! A file of events over a site, made one by one: a line for each loss.
 ghost use Rattle.std.specs.Prelude.{◌≡◌, ◌≢◌, ◌≤◌, ◌<◌, ◌++◌, ◌∷◌, ◌⊎◌, [], ℕ, List, Some, IfErr, IfNone, IfOk, IfSome, OnOk, length, true};
 ghost use Rattle.std.specs.Io.KnownBytes.{Appends, Keeps};
+ghost use Rattle.std.specs.List.{Any};
 ghost use Rattle.sy_wire.specs.Streams.{Rose};
+ghost use Rattle.sy_site.specs.texts.Files.{file_names};
 ghost use Rattle.sy_replay.specs.Events.{site_event};
 ghost use Rattle.sy_replay.specs.Lines.{StandsFor};
-ghost use Rattle.syc.specs.Replays.{ReplayIs, lines_of};
+ghost use Rattle.syc.specs.Replays.{MayRise, PiecesMayFail, ReplayIs, lines_of};
 ghost use Rattle.syc.specs.HaltTexts.{halt_report};
+ghost use Rattle.syc.specs.Outcomes.{FailsBy};
 ghost use Rattle.syc.specs.Reports.{Tells};
 ghost use Rattle.syc.specs.internal.Halts as internal;
 ghost use Rattle.syc.specs.internal.Halts.{Comes, Finishes, Stops, place, start};
@@ -98,6 +101,7 @@ fn make_event<W: Sink>(
         why (W.contents writer.new) (W.faults writer.new)) }
     ensures same { OnOk result (W.faults writer.new ≡ W.faults writer.old) }
     ensures cause { IfErr result (λ why. internal.HasCause why (W.faults writer.old) (W.faults writer.new)) }
+    ensures kind { IfErr result (λ why. why ≢ Halt.ReadFailed) }
 {
     let before = course.replay.losses().len();
     if let Err(illegal) = course.replay.apply(event) {
@@ -127,6 +131,7 @@ fn apply_line<W: Sink>(
         why (W.contents writer.new) (W.faults writer.new)) }
     ensures same { OnOk result (W.faults writer.new ≡ W.faults writer.old) }
     ensures cause { IfErr result (λ why. internal.HasCause why (W.faults writer.old) (W.faults writer.new)) }
+    ensures kind { IfErr result (λ why. why ≢ Halt.ReadFailed) }
 {
     match read_event(alloc, site, line) {
         Ok(None) => {
@@ -171,6 +176,7 @@ fn apply_lines<'h, W: Sink>(
         why (W.contents writer.new) (W.faults writer.new)) }
     ensures same { OnOk result (W.faults writer.new ≡ W.faults writer.old) }
     ensures cause { IfErr result (λ why. internal.HasCause why (W.faults writer.old) (W.faults writer.new)) }
+    ensures kind { IfErr result (λ why. why ≢ Halt.ReadFailed) }
 {
     let mut rest = held;
     while let Some((line, behind)) = cut_line(rest) {
@@ -202,6 +208,7 @@ fn read_piece<R: Source>(reader: &mut R, pieces: &mut Pieces) -> Result<usize, H
     ensures ok { IfOk result (λ count. internal.Reads count pieces.old.held.items pieces.new.held.items
         (R.remaining reader.old) (R.remaining reader.new)) }
     ensures err { IfErr result (λ why. (why ≡ Halt.NoMemory) ⊎ (why ≡ Halt.ReadFailed)) }
+    ensures unread { IfErr result (λ why. why ≡ Halt.ReadFailed → Rose (R.faults reader.old) (R.faults reader.new)) }
 {
     let Ok(count) = reader.read(pieces.room.as_mut_slice()) else {
         return Err(Halt::ReadFailed);
@@ -236,6 +243,9 @@ fn turn<R: Source, W: Sink>(
         why (W.contents writer.new) (W.faults writer.new)) }
     ensures same { OnOk result (W.faults writer.new ≡ W.faults writer.old) }
     ensures cause { IfErr result (λ why. internal.HasCause why (W.faults writer.old) (W.faults writer.new)) }
+    ensures unread { IfErr result (λ why. why ≡ Halt.ReadFailed → MayRise R.faults) }
+    ensures shorter { IfOk result (λ more. more ≡ true
+        → internal.IsShorter (R.remaining reader.old) (R.remaining reader.new)) }
 {
     let Ok(()) = writer.flush() else {
         return Err(Halt::WriteFailed);
@@ -274,6 +284,7 @@ fn finish<W: Sink>(
         why (W.contents writer.new) (W.faults writer.new)) }
     ensures same { OnOk result (W.faults writer.new ≡ W.faults writer.old) }
     ensures cause { IfErr result (λ why. internal.HasCause why (W.faults writer.old) (W.faults writer.new)) }
+    ensures kind { IfErr result (λ why. why ≢ Halt.ReadFailed) }
 {
     apply_line(alloc, site, course, last, writer)?;
     let mut text = Vec::new(alloc);
@@ -310,6 +321,8 @@ fn turns<R: Source, W: Sink>(
         why (W.contents writer.new) (W.faults writer.new)) }
     ensures same { OnOk result (W.faults writer.new ≡ W.faults writer.old) }
     ensures cause { IfErr result (λ why. internal.HasCause why (W.faults writer.old) (W.faults writer.new)) }
+    ensures unread { IfErr result (λ why. why ≡ Halt.ReadFailed → (ahead : List ℕ) → R.remaining reader.old ≡ Some ahead
+        → PiecesMayFail R.faults ahead) }
 {
     for _ in 0..READS {
         if !turn(alloc, site, course, reader, pieces, writer)? {
@@ -335,6 +348,8 @@ fn replay_events<R: Source, W: Sink>(
         why (W.contents writer.new) (W.faults writer.new)) }
     ensures same { OnOk result (W.faults writer.new ≡ W.faults writer.old) }
     ensures cause { IfErr result (λ why. internal.HasCause why (W.faults writer.old) (W.faults writer.new)) }
+    ensures unread { IfErr result (λ why. why ≡ Halt.ReadFailed → (events : List ℕ) → R.remaining reader.old ≡ Some events
+        → PiecesMayFail R.faults events) }
 {
     let Ok(replay) = Replay::new(alloc, site) else {
         return Err(Halt::NoMemory);
@@ -373,6 +388,9 @@ fn replay_files<F: Files, W: Sink>(
         (W.contents writer.old) (W.faults writer.old) (W.contents writer.new) (W.faults writer.new)) }
     ensures same { OnOk result (W.faults writer.new ≡ W.faults writer.old) }
     ensures cause { IfErr result (λ why. internal.IsCause why (W.faults writer.old) (W.faults writer.new)) }
+    ensures unread { IfErr result (λ why. why ≡ Halt.ReadFailed → (text events : List ℕ)
+        → F.bytes_of files.now site_name.now ≡ Some text → F.bytes_of files.now events_name.now ≡ Some events
+        → Any (F.may_fail files.now) (site_name.now ∷ events_name.now ∷ file_names text) ⊎ PiecesMayFail F.Opened.faults events) }
 {
     let site = read_site(alloc, files, site_name)?;
     let mut reader = match files.open(events_name) {
@@ -437,6 +455,10 @@ pub fn replay<F: Files, W: Sink, E: Sink>(
     ensures replay { (text events : List ℕ)
         → F.bytes_of files.now site_name.now ≡ Some text → F.bytes_of files.now events_name.now ≡ Some events
         → ReplayIs (F.bytes_of files.now) text events result out.old out.new }
+    ensures fails { (text events : List ℕ)
+        → F.bytes_of files.now site_name.now ≡ Some text → F.bytes_of files.now events_name.now ≡ Some events
+        → FailsBy (Any (F.may_fail files.now) (site_name.now ∷ events_name.now ∷ file_names text) ⊎ PiecesMayFail F.Opened.faults events)
+        result out.old out.new }
     ensures quiet { result ≡ 0 → Keeps out.old.errors.contents out.new.errors.contents }
     ensures status { result ≤ 4 }
     ensures none_failed { result ≢ 4 → out.new.output.faults ≡ out.old.output.faults }

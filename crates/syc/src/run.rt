@@ -1,14 +1,16 @@
 //! The commands.
-ghost use Rattle.std.specs.Prelude.{◌≡◌, ◌≢◌, ◌≤◌, ◌+◌, ℕ, List, Some, map, string_bytes};
+ghost use Rattle.std.specs.Prelude.{◌≡◌, ◌≢◌, ◌≤◌, ◌+◌, ◌∷◌, ◌⊎◌, ℕ, List, Some, map, string_bytes};
 ghost use Rattle.std.specs.Io.KnownBytes.{Keeps};
+ghost use Rattle.std.specs.List.{Any};
+ghost use Rattle.sy_site.specs.texts.Files.{file_names};
 ghost use Rattle.syc.specs.Checks.{AskedIs};
-ghost use Rattle.syc.specs.Outcomes.{Shows};
+ghost use Rattle.syc.specs.Outcomes.{FailsBy, Shows};
 ghost use Rattle.syc.specs.Pass.{IsStatus, Leaves, NoneFailed, PassIs, counted};
-ghost use Rattle.syc.specs.Replays.{ReplayIs};
+ghost use Rattle.syc.specs.Replays.{PiecesMayFail, ReplayIs};
 ghost use Rattle.syc.specs.Verdicts.{DescribesKept, VerifyIs};
 ghost use Rattle.syc.specs.Words.{AreAskingOf, AreNoCommandOf, ArePassAlone, AreReplayOf, AreVerifyOf};
 ghost use Rattle.syc.specs.declared.command.Asked.{Asked as AnyAsked};
-ghost use Rattle.syc.specs.internal.Commands.{Answers, ShowsKept};
+ghost use Rattle.syc.specs.internal.Commands.{Answers, Fails, ShowsKept};
 
 use crate::ask::ask;
 use crate::command::{Command, SiteCommand, all_words, command_of};
@@ -66,6 +68,8 @@ fn over_site<W: Sink, E: Sink, F: Files>(
 ) -> u8
     ensures answers { Answers (F.bytes_of files.now) command.entry result out.old out.new }
     ensures kept { ShowsKept (F.bytes_of files.now) command.entry result }
+    ensures fails { Fails (F.bytes_of files.now) (F.may_fail files.now) (PiecesMayFail F.Opened.faults)
+        command.entry result out.old out.new }
     ensures status { result ≤ 4 }
     ensures none_failed { result ≢ 4 → out.new.output.faults ≡ out.old.output.faults }
     ensures quiet { result ≡ 0 → Keeps out.old.errors.contents out.new.errors.contents }
@@ -98,6 +102,16 @@ pub fn run<R: Source, W: Sink, E: Sink, F: Files>(
         VerifyIs (F.bytes_of files.now) site_text text result out.old out.new }
     ensures verify_safe { (site certificate text : List ℕ) → AreVerifyOf (map string_bytes args.now) site certificate →
         F.bytes_of files.now site ≡ Some text → result ≡ 0 → DescribesKept (F.bytes_of files.now) text }
+    ensures replay_fails { (site events text input : List ℕ) → AreReplayOf (map string_bytes args.now) site events →
+        F.bytes_of files.now site ≡ Some text → F.bytes_of files.now events ≡ Some input →
+        FailsBy (Any (F.may_fail files.now) (site ∷ events ∷ file_names text) ⊎ PiecesMayFail F.Opened.faults input)
+        result out.old out.new }
+    ensures asked_fails { (question : AnyAsked) (site text : List ℕ) → AreAskingOf question (map string_bytes args.now) site →
+        F.bytes_of files.now site ≡ Some text →
+        FailsBy (Any (F.may_fail files.now) (site ∷ file_names text)) result out.old out.new }
+    ensures verify_fails { (site certificate text : List ℕ) → AreVerifyOf (map string_bytes args.now) site certificate →
+        F.bytes_of files.now site ≡ Some text →
+        FailsBy (Any (F.may_fail files.now) (site ∷ certificate ∷ file_names text)) result out.old out.new }
     ensures other { AreNoCommandOf (map string_bytes args.now) → Shows result out.old out.new }
     ensures status { result ≤ 4 }
     ensures quiet { result ≡ 0 → Keeps out.old.errors.contents out.new.errors.contents }

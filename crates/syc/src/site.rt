@@ -1,8 +1,9 @@
 //! A site, from the files that name it.
-ghost use Rattle.std.specs.Prelude.{◌≡◌, ◌⊎◌, ℕ, List, Some, IfErr, IfOk, IfSome, OnOk, map, string_bytes};
+ghost use Rattle.std.specs.Prelude.{◌≡◌, ◌⊎◌, ◌∷◌, [], ℕ, List, Some, IfErr, IfOk, IfSome, OnOk, map, string_bytes};
 ghost use Rattle.sy_site.specs.internal.Given.{file};
+ghost use Rattle.sy_site.specs.texts.Files as texts;
 ghost use Rattle.syc.specs.SiteFiles.{AreGiven, IsSiteOf};
-ghost use Rattle.syc.specs.internal.Halts.{IsNoSite, IsReadHalt, file_of};
+ghost use Rattle.syc.specs.internal.Halts.{IsNoSite, IsReadHalt, IsUnread, file_of};
 
 use crate::files::{FileFault, Files};
 use crate::halt::Halt;
@@ -19,6 +20,7 @@ struct RelayFile {
 fn read_file<F: Files>(files: &F, name: &str) -> Result<Vec<u8>, Halt>
     ensures ok { IfOk result (λ v. IfSome (F.bytes_of files.now name.now) (λ bytes. v.items ≡ bytes)) }
     ensures err { IfErr result (λ halt. (halt ≡ Halt.NoMemory) ⊎ (halt ≡ Halt.ReadFailed)) }
+    ensures unread { IfErr result (IsUnread (F.may_fail files.now) (name.now ∷ [])) }
 {
     match files.read(name) {
         Ok(bytes) => Ok(bytes),
@@ -36,6 +38,7 @@ fn read_files<F: Files>(
     ensures ok { IfOk result (λ found. AreGiven (F.bytes_of files.now) (map file_of found.items)) }
     ensures names { IfOk result (λ found. map (λ f. string_bytes f.name) found.items ≡ map string_bytes names.items) }
     ensures err { IfErr result (λ halt. (halt ≡ Halt.NoMemory) ⊎ (halt ≡ Halt.ReadFailed)) }
+    ensures unread { IfErr result (IsUnread (F.may_fail files.now) (map string_bytes names.items)) }
 {
     let mut found = Vec::new(alloc);
     for name in names {
@@ -62,6 +65,7 @@ fn site_of<F: Files>(alloc: Global, files: &F, text: &[u8]) -> Result<Site, Halt
     ensures ok { IfOk result (λ site. IsSiteOf (F.bytes_of files.now) text.now site) }
     ensures err { IfErr result (IsNoSite (F.bytes_of files.now) text.now) }
     ensures kind { IfErr result IsReadHalt }
+    ensures unread { IfErr result (IsUnread (F.may_fail files.now) (texts.file_names text.now)) }
 {
     let names = match file_names(alloc, text) {
         Ok(names) => names,
@@ -86,6 +90,8 @@ pub fn read_site<F: Files>(alloc: Global, files: &F, name: &str) -> Result<Site,
     ensures err { IfErr result (λ halt. (text : List ℕ) → F.bytes_of files.now name.now ≡ Some text →
         IsNoSite (F.bytes_of files.now) text halt) }
     ensures kind { IfErr result IsReadHalt }
+    ensures unread { IfErr result (λ halt. (text : List ℕ) → F.bytes_of files.now name.now ≡ Some text →
+        IsUnread (F.may_fail files.now) (name.now ∷ texts.file_names text) halt) }
 {
     let text = read_file(files, name)?;
     site_of(alloc, files, text.as_slice())

@@ -1,8 +1,12 @@
 //! Verifying: whether a certificate shows that a site keeps each message of its protected classes.
-ghost use Rattle.std.specs.Prelude.{◌≡◌, ◌≢◌, ◌≤◌, ℕ, List, Some, IfErr, IfOk, IfSome, true};
+ghost use Rattle.std.specs.Prelude.{◌≡◌, ◌≢◌, ◌≤◌, ◌∷◌, [], ℕ, List, Some, IfErr, IfOk, IfSome, true};
 ghost use Rattle.std.specs.Io.KnownBytes.{Keeps};
+ghost use Rattle.std.specs.List.{Any};
+ghost use Rattle.sy_site.specs.texts.Files.{file_names};
 ghost use Rattle.syc.specs.Checks.{IsCertificate};
+ghost use Rattle.syc.specs.Outcomes.{FailsBy};
 ghost use Rattle.syc.specs.Verdicts as spec;
+ghost use Rattle.syc.specs.internal.Halts.{IsUnread};
 ghost use Rattle.syc.specs.internal.Unverified as internal;
 
 use crate::answer::{Answer, print};
@@ -38,6 +42,7 @@ fn read_certificate<F: Files>(alloc: Global, files: &F, name: &str) -> Result<Ce
     ensures ok { IfOk result (λ c. IfSome (F.bytes_of files.now name.now) (λ bytes. IsCertificate bytes c.rows)) }
     ensures err { IfErr result (λ why. IfSome (F.bytes_of files.now name.now) (λ bytes.
         internal.IsNoCertificate bytes why)) }
+    ensures unread { IfErr result (IsUnread (F.may_fail files.now) (name.now ∷ [])) }
 {
     match files.read(name) {
         Ok(bytes) => certificate_of(alloc, bytes.as_slice()),
@@ -59,6 +64,8 @@ fn judge<F: Files>(
     ensures err { IfErr result (λ why. (site text : List ℕ) → F.bytes_of files.now site_name.now ≡ Some site →
         F.bytes_of files.now certificate_name.now ≡ Some text →
         internal.HasNoVerdict (F.bytes_of files.now) site text why) }
+    ensures unread { IfErr result (λ why. (text : List ℕ) → F.bytes_of files.now site_name.now ≡ Some text →
+        IsUnread (F.may_fail files.now) (site_name.now ∷ certificate_name.now ∷ file_names text) why) }
     ensures kept { IfOk result (λ a. (text : List ℕ) → F.bytes_of files.now site_name.now ≡ Some text →
         a.is_accepted ≡ true → spec.DescribesKept (F.bytes_of files.now) text) }
 {
@@ -84,6 +91,8 @@ pub fn verify<F: Files, W: Sink, E: Sink>(
         spec.VerifyIs (F.bytes_of files.now) site text result out.old out.new }
     ensures verify_safe { (text : List ℕ) → F.bytes_of files.now site_name.now ≡ Some text → result ≡ 0 →
         spec.DescribesKept (F.bytes_of files.now) text }
+    ensures fails { (text : List ℕ) → F.bytes_of files.now site_name.now ≡ Some text →
+        FailsBy (Any (F.may_fail files.now) (site_name.now ∷ certificate_name.now ∷ file_names text)) result out.old out.new }
     ensures quiet { result ≡ 0 → Keeps out.old.errors.contents out.new.errors.contents }
     ensures status { result ≤ 4 }
     ensures none_failed { result ≢ 4 → out.new.output.faults ≡ out.old.output.faults }

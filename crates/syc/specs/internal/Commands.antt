@@ -1,6 +1,9 @@
 -- Which words are no command, and what a command over a site answers.
-use Rattle.std.specs.Prelude.{◌≡◌, ℕ, List, Option, Some}
+use Rattle.std.specs.Prelude.{◌≡◌, ℕ, ◌⊎◌, List, ◌∷◌, Option, Some}
+use Rattle.std.specs.List.{Any}
+use Rattle.sy_site.specs.texts.Files.{file_names}
 use Rattle.syc.specs.Checks.{AskedIs}
+use Rattle.syc.specs.Outcomes.{FailsBy}
 use Rattle.syc.specs.Reports.{Streams}
 use Rattle.syc.specs.Replays.{ReplayIs}
 use Rattle.syc.specs.Verdicts.{DescribesKept, VerifyIs}
@@ -41,3 +44,13 @@ Answers bytes_of (of_site.Verify site certificate) status old new =
 abbrev pub ShowsKept : (List ℕ → Option (List ℕ)) → SiteCommand → ℕ → Type 0
 ShowsKept bytes_of (of_site.Verify site certificate) status = (text : List ℕ) → bytes_of site.now ≡ Some text → status ≡ 0 → DescribesKept bytes_of text
 ShowsKept bytes_of _ status = Unit {0}
+
+-- Status 4 has its cause: a file that the command reads may fail, or the events, which are read piece by piece, or a write failed.
+abbrev pub Fails : (List ℕ → Option (List ℕ)) → (List ℕ → Type 0) → (List ℕ → Type 0) → SiteCommand → ℕ → Streams → Streams → Type 0
+Fails bytes_of MayFail PiecesFail (of_site.Ask question site) status old new =
+    (text : List ℕ) → bytes_of site.now ≡ Some text → FailsBy (Any MayFail (site.now ∷ file_names text)) status old new
+Fails bytes_of MayFail PiecesFail (of_site.Replay site events) status old new =
+    (text input : List ℕ) → bytes_of site.now ≡ Some text → bytes_of events.now ≡ Some input
+    → FailsBy (Any MayFail (site.now ∷ events.now ∷ file_names text) ⊎ PiecesFail input) status old new
+Fails bytes_of MayFail PiecesFail (of_site.Verify site certificate) status old new =
+    (text : List ℕ) → bytes_of site.now ≡ Some text → FailsBy (Any MayFail (site.now ∷ certificate.now ∷ file_names text)) status old new

@@ -1,7 +1,7 @@
 -- Why a command over a site stops, and how far a replay has come.
-use Rattle.std.specs.Prelude.{◌≡◌, ℕ, Bool, true, false, List, ◌++◌, ◌==◌, ◌⊎◌, Option, Some, drop, flat_map, string_bytes}
+use Rattle.std.specs.Prelude.{◌≡◌, ◌<◌, ℕ, Bool, true, false, List, ◌++◌, ◌==◌, ◌⊎◌, Option, Some, drop, flat_map, length, string_bytes}
 use Rattle.std.specs.Io.KnownBytes.{Appends, Keeps}
-use Rattle.std.specs.List.{All}
+use Rattle.std.specs.List.{All, Any}
 use Rattle.sy_wire.specs.Streams.{ReadsPiece, Rose}
 use Rattle.sy_site.specs.Sites.{Site}
 use Rattle.sy_site.specs.declared.fault.SiteFault.TheVariants as site_fault
@@ -45,6 +45,12 @@ IsReadHalt (halt.Site fault) = Unit {0}
 IsReadHalt halt.NoMemory = Unit {0}
 IsReadHalt halt.ReadFailed = Unit {0}
 IsReadHalt _ = ⊥
+
+-- Why nothing is read: at a failed read one of these files may fail, and no write is made.
+abbrev pub IsUnread : (List ℕ → Type 0) → List (List ℕ) → Halt → Type 0
+IsUnread MayFail names halt.ReadFailed = Any MayFail names
+IsUnread MayFail names halt.WriteFailed = ⊥
+IsUnread MayFail names _ = Unit {0}
 
 -- ---- how far a replay has come
 
@@ -151,6 +157,10 @@ Reads count held held' ahead ahead' = (piece : List ℕ) × (held' ≡ held ++ p
 
 abbrev pub with_lines : Place → List (List ℕ) → Place
 with_lines to lines = record to { lines = lines }
+
+-- A read left less than there was.
+abbrev pub IsShorter : Option (List ℕ) → Option (List ℕ) → Type 0
+IsShorter old new = (ahead next : List ℕ) → old ≡ Some ahead → new ≡ Some next → length next < length ahead
 
 -- More may come, and the lines to come are those of what is held and ahead; or nothing does, and they are those of what is held.
 abbrev pub Turns : Bool → Site → Place → List ℕ → Option (List ℕ) → Place → Type 0

@@ -4,6 +4,7 @@ use Rattle.sy_wire.specs.Streams.{Rose}
 use Rattle.syc.specs.declared.halt.Halt.TheVariants as halts
 use Rattle.syc.specs.internal.Halts.{Halted, IsCause}
 use Rattle.syc.proofs.Courses.{halted, halted_failing, replayed, rises_on}
+use Rattle.syc.proofs.Unread.{stop_fails}
 use Rattle.syc.proofs.replay.replay.Goals as goal
 
 pub returns-in-Ok-clause-replay : goal.returns-in-Ok-clause-replay
@@ -31,4 +32,21 @@ returns-in-Err-clause-replay g c = rw (← c.out.view_is) (λ text events site_k
             | inr rose ↦ rises_on halt old.faults _ new.faults c.in-Err.ensures.cause rose
           ] in
           rw b.0 (halted_failing bytes_of text events halt old new mid _ is_reported stopped c.give_up.ensures.kept rose b.2)
+    ])
+
+pub returns-in-Err-clause-fails : goal.returns-in-Err-clause-fails
+returns-in-Err-clause-fails g c = rw (← c.out.view_is) (λ text events site_known events_known.
+    let halt = c.in-Err.halt in
+    let old = g.W.Sink.faults c.out.inside.writer in
+    let mid = g.W.Sink.faults c.replay_files.new.writer in
+    let new = c.give_up.new.out.output in
+    elim c.give_up.ensures.status [
+      | inl a ↦ stop_fails _ halt c.give_up.result old mid new.faults a.0 a.2 (λ is. c.in-Err.ensures.unread is text events site_known events_known)
+          c.in-Err.ensures.cause
+      | inr b ↦ λ four. inr (elim b.1 [
+        | inl is ↦
+            let failed : IsCause halts.WriteFailed old mid = subst (λ h. IsCause h old mid) is c.in-Err.ensures.cause in
+            subst (λ (s : SinkState). Rose old s.faults) (sym (c.give_up.ensures.untouched is)) failed
+        | inr rose ↦ rises_on halt old _ new.faults c.in-Err.ensures.cause rose
+      ])
     ])

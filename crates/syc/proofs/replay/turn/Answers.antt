@@ -5,6 +5,7 @@ use Rattle.syc.specs.internal.Halts.{Comes, HasCause, Stops, place}
 use Rattle.syc.specs.declared.halt.Halt.TheVariants as halt
 use Rattle.syc.proofs.Courses.{comes_on, flush_fails, keeps_all, out_of_room, read_fails, stands_still, stops_behind}
 use Rattle.syc.proofs.Cutting.{open_behind, read_end, read_on}
+use Rattle.syc.proofs.Unread.{shorter_by}
 use Rattle.syc.proofs.replay.turn.Goals as goal
 
 pub returns-in_default-clause-err : goal.returns-in_default-clause-err
@@ -119,3 +120,23 @@ returns-clause-ok g c = λ ahead known.
     (g.W.Sink.faults c.flush.new.self)) (at c.in_ok-rest.rest.now)) c.as_slice.ensures.value (c.in_ok-rest.ensures.ok r.0) in
     let copied = subst (λ (bytes : List ℕ). Comes site (mid r.0) (at bytes)) (sym c.in-Ok-copy_of.ensures) came in
     (r.0, r.1, comes_on site (from ahead) (mid r.0) (at c.in-Ok-copy_of.rest.items) (still ahead r.0 r.2) copied)
+
+-- ---- why reading fails, and how far it comes
+
+pub returns-in_err-read_piece-clause-unread : goal.returns-in_err-read_piece-clause-unread
+returns-in_err-read_piece-clause-unread g c =
+    let p = err_from_is_err_and c.from_residual.result c.from_residual.ensures.1 in
+    rw (p.1, p.2) (λ is. (c.args.reader.now, c.read_piece.new.reader, c.in_err-read_piece.ensures.unread is))
+
+pub returns-in_err-rest-clause-unread : goal.returns-in_err-rest-clause-unread
+returns-in_err-rest-clause-unread g c =
+    let p = err_from_is_err_and c.from_residual-in_err-rest.result c.from_residual-in_err-rest.ensures.1 in
+    rw (p.1, p.2) (λ is. absurd (c.in_err-rest.ensures.kind is))
+
+pub returns-then-is_none-clause-shorter : goal.returns-then-is_none-clause-shorter
+returns-then-is_none-clause-shorter g c = λ more.
+    shorter_by _ _ c.in_ok-read_piece.field-0 _ _ c.in_ok-read_piece.ensures.ok c.if-branch-eq0.false
+
+pub returns-clause-shorter : goal.returns-clause-shorter
+returns-clause-shorter g c = λ more.
+    shorter_by _ _ c.in_ok-read_piece.field-0 _ _ c.in_ok-read_piece.ensures.ok c.if-branch-eq0.false

@@ -1,4 +1,4 @@
-use Rattle.std.proofs.Common.{ℕ, List, ◌++◌, ◌∙◌, refl, subst}
+use Rattle.std.proofs.Common.{ℕ, List, ◌++◌, ◌∙◌, arith, inl, inr, refl, subst}
 use Rattle.std.proofs.lemmas.Result.{err_from_is_err_and}
 use Rattle.syc.specs.Replays.{lines_of}
 use Rattle.syc.specs.internal.Halts.{Comes, Finishes, Stops, place}
@@ -57,6 +57,11 @@ loop-preserved g c =
           let k = c.loop.invariant.comes ahead known in
           let t = turned_on c.in_ok-turn.field-0 site (at k.0) held _ _ c.if-not-branch.false (c.in_ok-turn.ensures.ok k.0 k.1) in
           (t.0, t.1, comes_on site _ (at k.0) (to (held ++ t.0)) k.2 t.2);
+      left = λ ahead later known is.
+          let k = c.loop.invariant.comes ahead known in
+          let less = c.in_ok-turn.ensures.shorter c.if-not-branch.false k.0 later k.1 is in
+          let before = c.loop.invariant.left ahead k.0 known k.1 in
+          omega (arith, less, before);
     }
 
 pub returns-clause-err : goal.returns-clause-err
@@ -65,3 +70,17 @@ returns-clause-err g c = λ ahead known.
     let at = λ (next : List ℕ). place c.loop.course (lines_of (c.loop.pieces.held.items ++ next)) (g.W.Sink.contents c.loop.writer) (g.W.Sink.faults c.loop.writer) in
     let k = c.loop.invariant.comes ahead known in
     stops_behind site _ (at k.0) halt.ReadFailed _ _ k.2 (read_fails site (at k.0) _ _ (keeps_all _) refl)
+
+pub returns-in_err-turn-clause-unread : goal.returns-in_err-turn-clause-unread
+returns-in_err-turn-clause-unread g c =
+    let p = err_from_is_err_and c.from_residual.result c.from_residual.ensures.1 in
+    rw (p.1, p.2) (λ is ahead known. inl (c.in_err-turn.ensures.unread is))
+
+pub returns-then-not-branch-clause-unread : goal.returns-then-not-branch-clause-unread
+returns-then-not-branch-clause-unread g c = if_err c.finish.result c.finish.ensures.kind (λ why never is. absurd (never is))
+
+-- as many reads as are made, each of a byte at least
+pub returns-clause-unread : goal.returns-clause-unread
+returns-clause-unread g c = λ is ahead known.
+    let k = c.loop.invariant.comes ahead known in
+    inr (omega (arith, c.loop.invariant.left ahead k.0 known k.1))

@@ -1,4 +1,4 @@
-use Rattle.std.proofs.Common.{◌≡◌, ◌<◌, ℕ, List, ◌++◌, length}
+use Rattle.std.proofs.Common.{◌≡◌, ◌<◌, ◌≤◌, ◌+◌, ℕ, List, ◌++◌, length}
 use Rattle.std.specs.Prelude.{Some}
 use Rattle.syc.specs.Replays.{lines_of}
 use Rattle.syc.specs.internal.Halts.{Comes, IsOpenLine, place}
@@ -14,4 +14,6 @@ invariant-loop g l = record {
       × Comes l.site
       (place l.initial.course (lines_of (l.initial.pieces.held.items ++ ahead)) (g.W.Sink.contents l.initial.writer) (g.W.Sink.faults l.initial.writer))
       (place l.course (lines_of (l.pieces.held.items ++ later)) (g.W.Sink.contents l.writer) (g.W.Sink.faults l.writer));
+  left : (ahead later : List ℕ) → g.R.Source.remaining l.initial.reader ≡ Some ahead → g.R.Source.remaining l.reader ≡ Some later
+      → length later + l.counter ≤ length ahead;
 }

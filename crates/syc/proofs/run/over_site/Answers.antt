@@ -8,3 +8,9 @@ returns-in-Verify-clause-answers g c = rw c.in-Verify.is (λ site_text text is_s
 
 pub returns-in-Verify-clause-kept : goal.returns-in-Verify-clause-kept
 returns-in-Verify-clause-kept g c = rw c.in-Verify.is (λ text is_site zero. c.verify.ensures.verify_safe text is_site zero)
+
+pub returns-in-Replay-clause-fails : goal.returns-in-Replay-clause-fails
+returns-in-Replay-clause-fails g c = rw c.in-Replay.is (λ text input is_site is_events. c.replay.ensures.fails text input is_site is_events)
+
+pub returns-in-Verify-clause-fails : goal.returns-in-Verify-clause-fails
+returns-in-Verify-clause-fails g c = rw c.in-Verify.is (λ text is_site. c.verify.ensures.fails text is_site)

@@ -1,4 +1,4 @@
-use Rattle.syc.proofs.Commands.{for_asked, for_kept, for_replay, for_verify, none_of_site, none_without_name, pass_alone, pass_asks_nothing, pass_is_apart, pass_no_replay, pass_no_verify, without_name}
+use Rattle.syc.proofs.Commands.{asked_fails, for_asked, for_kept, for_replay, for_verify, none_of_site, none_without_name, pass_alone, pass_asks_nothing, pass_is_apart, pass_no_replay, pass_no_verify, replay_fails, verify_fails, without_name}
 use Rattle.syc.proofs.Statuses.{nothing_passed}
 use Rattle.syc.proofs.run.run.Goals as goal
 
@@ -26,6 +26,21 @@ pub returns-in-Ok-Pass-clause-asked : goal.returns-in-Ok-Pass-clause-asked
 returns-in-Ok-Pass-clause-asked g c =
     let alone = pass_alone _ _ _ _ c.as_slice.ensures.value c.in-Ok.ensures (rw c.in-Ok-Pass.field-0-is at c.in-Ok-Pass.ensures.ok) in
     λ question site text are known. absurd (pass_asks_nothing _ alone question site are)
+
+pub returns-in-Ok-Pass-clause-replay_fails : goal.returns-in-Ok-Pass-clause-replay_fails
+returns-in-Ok-Pass-clause-replay_fails g c =
+    let alone = pass_alone _ _ _ _ c.as_slice.ensures.value c.in-Ok.ensures (rw c.in-Ok-Pass.field-0-is at c.in-Ok-Pass.ensures.ok) in
+    λ site events text input are is_site is_events. absurd (pass_no_replay _ alone site events are)
+
+pub returns-in-Ok-Pass-clause-asked_fails : goal.returns-in-Ok-Pass-clause-asked_fails
+returns-in-Ok-Pass-clause-asked_fails g c =
+    let alone = pass_alone _ _ _ _ c.as_slice.ensures.value c.in-Ok.ensures (rw c.in-Ok-Pass.field-0-is at c.in-Ok-Pass.ensures.ok) in
+    λ question site text are known. absurd (pass_asks_nothing _ alone question site are)
+
+pub returns-in-Ok-Pass-clause-verify_fails : goal.returns-in-Ok-Pass-clause-verify_fails
+returns-in-Ok-Pass-clause-verify_fails g c =
+    let alone = pass_alone _ _ _ _ c.as_slice.ensures.value c.in-Ok.ensures (rw c.in-Ok-Pass.field-0-is at c.in-Ok-Pass.ensures.ok) in
+    λ site certificate text are is_site. absurd (pass_no_verify _ alone site certificate are)
 
 pub returns-in-Ok-Pass-clause-other : goal.returns-in-Ok-Pass-clause-other
 returns-in-Ok-Pass-clause-other g c =
@@ -71,6 +86,22 @@ returns-in-Ok-OverSite-clause-asked g c =
     let wanted = without_name _ _ _ _ c.as_slice.ensures.value c.in-Ok.ensures c.in-Ok-OverSite.command (rw c.in-Ok-OverSite.field-0-is at c.in-Ok-OverSite.ensures.ok) in
     λ question site text are known. for_asked _ _ _ _ _ c.in-Ok-OverSite.command wanted c.over_site.ensures.answers question site text are known
 
+pub returns-in-Ok-OverSite-clause-replay_fails : goal.returns-in-Ok-OverSite-clause-replay_fails
+returns-in-Ok-OverSite-clause-replay_fails g c =
+    let wanted = without_name _ _ _ _ c.as_slice.ensures.value c.in-Ok.ensures c.in-Ok-OverSite.command (rw c.in-Ok-OverSite.field-0-is at c.in-Ok-OverSite.ensures.ok) in
+    λ site events text input are is_site is_events.
+    replay_fails _ _ _ _ _ _ _ c.in-Ok-OverSite.command wanted c.over_site.ensures.fails site events text input are is_site is_events
+
+pub returns-in-Ok-OverSite-clause-asked_fails : goal.returns-in-Ok-OverSite-clause-asked_fails
+returns-in-Ok-OverSite-clause-asked_fails g c =
+    let wanted = without_name _ _ _ _ c.as_slice.ensures.value c.in-Ok.ensures c.in-Ok-OverSite.command (rw c.in-Ok-OverSite.field-0-is at c.in-Ok-OverSite.ensures.ok) in
+    λ question site text are known. asked_fails _ _ _ _ _ _ _ c.in-Ok-OverSite.command wanted c.over_site.ensures.fails question site text are known
+
+pub returns-in-Ok-OverSite-clause-verify_fails : goal.returns-in-Ok-OverSite-clause-verify_fails
+returns-in-Ok-OverSite-clause-verify_fails g c =
+    let wanted = without_name _ _ _ _ c.as_slice.ensures.value c.in-Ok.ensures c.in-Ok-OverSite.command (rw c.in-Ok-OverSite.field-0-is at c.in-Ok-OverSite.ensures.ok) in
+    λ site certificate text are is_site. verify_fails _ _ _ _ _ _ _ c.in-Ok-OverSite.command wanted c.over_site.ensures.fails site certificate text are is_site
+
 pub returns-in-Ok-OverSite-clause-other : goal.returns-in-Ok-OverSite-clause-other
 returns-in-Ok-OverSite-clause-other g c =
     let wanted = without_name _ _ _ _ c.as_slice.ensures.value c.in-Ok.ensures c.in-Ok-OverSite.command (rw c.in-Ok-OverSite.field-0-is at c.in-Ok-OverSite.ensures.ok) in
@@ -102,6 +133,21 @@ pub returns-clause-verify_safe : goal.returns-clause-verify_safe
 returns-clause-verify_safe g c =
     let none = none_without_name _ _ _ _ c.as_slice.ensures.value c.in-Ok.ensures c.in-Err.ensures.err in
     λ site certificate text are is_site zero. absurd (none.no_verify site certificate are)
+
+pub returns-clause-replay_fails : goal.returns-clause-replay_fails
+returns-clause-replay_fails g c =
+    let none = none_without_name _ _ _ _ c.as_slice.ensures.value c.in-Ok.ensures c.in-Err.ensures.err in
+    λ site events text input are is_site is_events. absurd (none.no_replay site events are)
+
+pub returns-clause-asked_fails : goal.returns-clause-asked_fails
+returns-clause-asked_fails g c =
+    let none = none_without_name _ _ _ _ c.as_slice.ensures.value c.in-Ok.ensures c.in-Err.ensures.err in
+    λ question site text are known. absurd (none.no_asking question site are)
+
+pub returns-clause-verify_fails : goal.returns-clause-verify_fails
+returns-clause-verify_fails g c =
+    let none = none_without_name _ _ _ _ c.as_slice.ensures.value c.in-Ok.ensures c.in-Err.ensures.err in
+    λ site certificate text are is_site. absurd (none.no_verify site certificate are)
 
 pub returns-clause-leaves : goal.returns-clause-leaves
 returns-clause-leaves g c =

@@ -1,9 +1,11 @@
-use Rattle.std.proofs.Common.{◌≡◌, map, refl, subst, sym, ap, ◌∙◌, rules}
+use Rattle.std.proofs.Common.{◌≡◌, map, refl, subst, sym, ap, ◌∙◌, ◌++◌, rules}
+use Rattle.std.proofs.lemmas.Result.{err_from_is_err_and}
 use Rattle.std.specs.Prelude.{IfSome, string_bytes}
 use Rattle.syc.specs.SiteFiles.{AreGiven}
 use Rattle.syc.specs.internal.Halts.{file_of}
 use Rattle.syc.specs.declared.site.RelayFile.{RelayFile}
 use Rattle.syc.proofs.Courses.{given_more, names_end, names_on}
+use Rattle.syc.proofs.Unread.{unread_within}
 use Rattle.syc.proofs.site.read_files.Goals as goal
 
 pub loop-name-preserved : goal.loop-name-preserved
@@ -24,3 +26,12 @@ returns-clause-names g c =
     names_end (λ f. string_bytes f.name) string_bytes c.loop-name.found.items c.loop-name.name-iterator.rest.items _
     (sym c.loop-name.name-iterator.rest.ok.0 ∙ c.in-None.ensures.steps.0) (c.loop-name.invariant.names)
     ∙ ap (map string_bytes) whole
+
+pub returns-in_err-bytes-clause-unread : goal.returns-in_err-bytes-clause-unread
+returns-in_err-bytes-clause-unread g c =
+    let p = err_from_is_err_and c.from_residual.result c.from_residual.ensures.1 in
+    let whole : c.into_iter-name-iterator.result.rest.items ≡ c.args.names.items = search rules in
+    let found = map (λ f. string_bytes f.name) c.loop-name.found.items in
+    let names = sym (ap (map string_bytes) whole) ∙ sym c.loop-name.invariant.names
+    ∙ ap (λ rest. found ++ map string_bytes rest) c.in-Some.ensures.steps.0 in
+    rw (p.1, p.2) (unread_within (g.F.Files.may_fail c.args.files.now) _ _ found _ _ c.as_str.ensures.value names _ c.in_err-bytes.ensures.unread)

@@ -43,4 +43,5 @@ returns g c =
         ],
       );
       kind = tt;
+      unread = tt;
     }

@@ -1,6 +1,8 @@
+use Rattle.sy_site.specs.texts.Files.{file_names}
 use Rattle.std.proofs.lemmas.Result.{err_from_is_err_and}
 use Rattle.syc.proofs.Endings.{certificate_unread, site_unread}
 use Rattle.syc.proofs.Told.{kept_site}
+use Rattle.syc.proofs.Unread.{unread_behind, unread_between, unread_first}
 use Rattle.syc.proofs.verify.judge.Goals as goal
 
 pub returns-clause-ok : goal.returns-clause-ok
@@ -34,3 +36,24 @@ pub returns-in_err-answer-clause-err : goal.returns-in_err-answer-clause-err
 returns-in_err-answer-clause-err g c =
     let p = err_from_is_err_and c.from_residual-in_err-answer.result c.from_residual-in_err-answer.ensures.1 in
     rw (p.1, p.2) (rw c.in_err-answer.ensures.err (λ site text is_site is_text. tt))
+
+pub returns-in_err-site-clause-unread : goal.returns-in_err-site-clause-unread
+returns-in_err-site-clause-unread g c =
+    let p = err_from_is_err_and c.from_residual.result c.from_residual.ensures.1 in
+    rw (p.1, p.2) (λ text is_site.
+    unread_between (g.F.Files.may_fail c.args.files.now) c.args.site_name.now c.args.certificate_name.now (file_names text) c.in_err-site.field-0.0
+    (c.in_err-site.ensures.unread text is_site))
+
+pub returns-in_err-certificate-clause-unread : goal.returns-in_err-certificate-clause-unread
+returns-in_err-certificate-clause-unread g c =
+    let p = err_from_is_err_and c.from_residual-in_err-certificate.result c.from_residual-in_err-certificate.ensures.1 in
+    let why = c.in_err-certificate.field-0.0 in
+    rw (p.1, p.2) (λ text is_site.
+    let may_fail = g.F.Files.may_fail c.args.files.now in
+    unread_behind may_fail c.args.site_name.now _ why
+    (unread_first may_fail c.args.certificate_name.now (file_names text) why c.in_err-certificate.ensures.unread))
+
+pub returns-in_err-answer-clause-unread : goal.returns-in_err-answer-clause-unread
+returns-in_err-answer-clause-unread g c =
+    let p = err_from_is_err_and c.from_residual-in_err-answer.result c.from_residual-in_err-answer.ensures.1 in
+    rw (p.1, p.2) (rw c.in_err-answer.ensures.err (λ text is_site. tt))

@@ -1,0 +1,154 @@
+-- What the commands over the example site show.
+use Rattle.std.proofs.Common.{◌≡◌, ℕ, ◌⊎◌, inl, inr, Bool, true, false, List, [], ◌∷◌, map, refl, sym, ap, subst, ◌∙◌, arith}
+use Rattle.std.specs.List.{Any}
+use Rattle.std.specs.Prelude.{IfSome, Option, Some, None, codes}
+use Rattle.std.specs.Str.{bytes_eq}
+use Rattle.sy_wire.specs.Streams.{Rose}
+use Rattle.sy_cert.specs.declared.row.Row.{Row}
+use Rattle.sy_checker.specs.Fit.{IsFit}
+use Rattle.sy_site.specs.Sites.{Site}
+use Rattle.sy_site.specs.machine.Soundness.{IsSound}
+use Rattle.sy_site.specs.texts.Describes.{Describes, File}
+use Rattle.sy_site.specs.texts.Files.{file_names}
+use Rattle.syc.specs.Checks.{AskedIs, KeepsAll, accepted_line}
+use Rattle.syc.specs.Examples.{IsAccepted, IsCertified, IsReplayed, IsTheSite, IsVerified, Printed, bytes_of, relay_files}
+use Rattle.syc.specs.Outcomes.{FailsBy, Prints}
+use Rattle.syc.specs.Replays.{Ending, MayRise, PiecesMayFail, ReplayIs, Replays, lines_of, opened}
+use Rattle.syc.specs.Reports.{SinkState, Streams, Tells}
+use Rattle.syc.specs.Replays as replays
+use Rattle.syc.specs.SiteFiles.{AreFilesOf, AreGiven, HasNoAnswer, IsSiteOf}
+use Rattle.syc.specs.Verdicts.{VerifyIs}
+use Rattle.syc.specs.declared.command.Asked.TheVariants as asked
+use Rattle.syc.specs.declared.examples.TheConstants.{CERTIFICATE, EDGE, EVENTS, HUB, SITE}
+use Rattle.syc.proofs.Example.{eight, names_are}
+
+-- ---- the one site
+
+no_names : {a b : List ℕ} → [] ≡ a ∷ b ∷ [] → ⊥
+no_names e = cc
+
+one_name : {x a b : List ℕ} → x ∷ [] ≡ a ∷ b ∷ [] → ⊥
+one_name e = cc
+
+more_names : {x y z a b : List ℕ} {zs : List (List ℕ)} → x ∷ y ∷ z ∷ zs ≡ a ∷ b ∷ [] → ⊥
+more_names e = cc
+
+first_name : {x y a b : List ℕ} → x ∷ y ∷ [] ≡ a ∷ b ∷ [] → x ≡ a
+first_name e = cc
+
+second_name : {x y a b : List ℕ} → x ∷ y ∷ [] ≡ a ∷ b ∷ [] → y ≡ b
+second_name e = cc
+
+same_file : (x : File) (name bytes : List ℕ) → x.name ≡ name → x.bytes ≡ bytes → x ≡ record { name = name; bytes = bytes }
+same_file x name bytes is are = λ i. record { name = is i; bytes = are i }
+
+bytes_known : (x : File) (name bytes : List ℕ) → x.name ≡ name → bytes_of name ≡ Some bytes → IfSome (bytes_of x.name) (λ b. x.bytes ≡ b) → x.bytes ≡ bytes
+bytes_known x name bytes is known h = subst (λ o. IfSome o (λ b. x.bytes ≡ b)) (ap bytes_of is ∙ known) h
+
+given_are : (given : List File) → map (λ f. f.name) given ≡ codes "edge.conf" ∷ codes "hub.conf" ∷ [] → AreGiven bytes_of given → given ≡ relay_files
+given_are [] names given = absurd (no_names names)
+given_are (x ∷ []) names given = absurd (one_name names)
+given_are (x ∷ y ∷ z ∷ zs) names given = absurd (more_names names)
+given_are (x ∷ y ∷ []) names given =
+    let first = same_file x (codes "edge.conf") EDGE.now (first_name names) (bytes_known x (codes "edge.conf") EDGE.now (first_name names) refl given.0) in
+    let second = same_file y (codes "hub.conf") HUB.now (second_name names) (bytes_known y (codes "hub.conf") HUB.now (second_name names) refl given.1.0) in
+    λ i. first i ∷ second i ∷ []
+
+module _ (one : (text : List ℕ) (files : List File) (a b : Site) → Describes text files a → Describes text files b → a ≡ b) where
+  described : (site : Site) → IsSiteOf bytes_of SITE.now site → Describes SITE.now relay_files site
+  described site is =
+      subst (λ files. Describes SITE.now files site) (given_are is.given (is.are_given.names ∙ names_are) is.are_given.bytes) is.describes
+
+  the_site : (site : Site) → IsSiteOf bytes_of SITE.now site → IsTheSite site
+  the_site site is =
+      let describes = described site is in
+      record { describes = describes; alone = λ other other_is. one SITE.now relay_files other site other_is describes }
+
+  eight_kept : (site : Site) (count : ℕ) → IsSiteOf bytes_of SITE.now site → KeepsAll site count → count ≡ 8
+  eight_kept site count is keeps = sym keeps.count_is ∙ eight site keeps.classes (described site is) keeps.are_protected
+
+  -- ---- what was printed
+
+  printed_whole : (text : List ℕ) (status : ℕ) (old new : Streams) → Prints text true status old new → status ≡ 0 → Printed text old new
+  printed_whole text status old new (inl printed) zero = record { wrote = printed.1; flushed = printed.2; quiet = printed.4 }
+  printed_whole text status old new (inr torn) zero = absurd (omega (arith, torn.0, zero))
+
+  not_refused : (text : List ℕ) (is_accepted : Bool) (status : ℕ) (old new : Streams) → is_accepted ≡ false → Prints text is_accepted status old new
+      → status ≡ 0 → ⊥
+  not_refused text true status old new refused printed zero = cc
+  not_refused text false status old new refused (inl printed) zero = omega (arith, printed.0, zero)
+  not_refused text false status old new refused (inr torn) zero = omega (arith, torn.0, zero)
+
+  some_answer : (status : ℕ) (IsReported : List ℕ → Type 0) → HasNoAnswer bytes_of SITE.now status IsReported → status ≡ 0 → ⊥
+  some_answer status IsReported (inl faulty) zero = omega (arith, faulty.0, zero)
+  some_answer status IsReported (inr (inl no_memory)) zero = omega (arith, no_memory.0, zero)
+  some_answer status IsReported (inr (inr unread)) zero = omega (arith, unread.0, zero)
+
+  accepts : (site : Site) (count status : ℕ) (text : List ℕ) (is_accepted : Bool) (old new : Streams) → IsSiteOf bytes_of SITE.now site
+      → KeepsAll site count → text ≡ accepted_line count → is_accepted ≡ true → Prints text is_accepted status old new → status ≡ 0 → IsAccepted old new
+  accepts site count status text is_accepted old new is keeps text_is accepted printed zero =
+      let number = eight_kept site count is keeps in
+      let whole = printed_whole text status old new (subst (λ b. Prints text b status old new) accepted printed) zero in
+      record {
+        site = site;
+        is = the_site site is;
+        keeps = subst (KeepsAll site) number keeps;
+        printed = subst (λ t. Printed t old new) (text_is ∙ ap accepted_line number) whole;
+      }
+
+  pub checked : (status : ℕ) (old new : Streams) → AskedIs asked.Check bytes_of SITE.now status old new → status ≡ 0 → IsAccepted old new
+  checked status old new (inl (site, is, text, is_accepted, inl kept, printed)) zero =
+      accepts site kept.count status text is_accepted old new is kept.keeps kept.text_is kept.accepted printed zero
+  checked status old new (inl (site, is, text, is_accepted, inr found, printed)) zero =
+      absurd (not_refused text is_accepted status old new found.refused printed zero)
+  checked status old new (inr none) zero = absurd (some_answer status (Tells old new) none.0 zero)
+
+  pub certified : ((site : Site) (rows : List Row) → IsFit site rows → IsSound site) → (status : ℕ) (old new : Streams)
+      → AskedIs asked.Certify bytes_of SITE.now status old new → status ≡ 0 → IsCertified old new
+  certified fit_is_sound status old new (inl (site, is, text, is_accepted, inl fit, printed)) zero = record {
+    site = site;
+    is = the_site site is;
+    rows = fit.rows;
+    fit = fit.fit;
+    sound = fit_is_sound site fit.rows fit.fit;
+    text = text;
+    is_text = fit.is_text;
+    printed = printed_whole text status old new (subst (λ b. Prints text b status old new) fit.accepted printed) zero;
+  }
+  certified fit_is_sound status old new (inl (site, is, text, is_accepted, inr found, printed)) zero =
+      absurd (not_refused text is_accepted status old new found.refused printed zero)
+  certified fit_is_sound status old new (inr none) zero = absurd (some_answer status (Tells old new) none.0 zero)
+
+  -- a verdict on the certificate
+  pub verified : (status : ℕ) (old new : Streams) → VerifyIs bytes_of SITE.now CERTIFICATE.now status old new → status ≡ 0 → IsAccepted old new × IsVerified
+  verified status old new (inl (text, is_accepted, of_files, printed)) zero =
+      elim of_files.says [
+        | inl fit ↦ (
+          accepts of_files.site fit.count status text is_accepted old new of_files.is_site fit.keeps fit.text_is fit.accepted printed zero,
+          record { site = of_files.site; is = the_site of_files.site of_files.is_site; rows = of_files.rows; are_of = of_files.are_of; fit = fit.fit },
+        )
+        | inr wrong ↦ absurd (not_refused text is_accepted status old new wrong.refused printed zero)
+      ]
+  verified status old new (inr (same, inl faulty)) zero = absurd (omega (arith, faulty.0, zero))
+  verified status old new (inr (same, inr none)) zero = absurd (some_answer status (Tells old new) none zero)
+
+  -- ---- a replay
+
+  whole_replay : (site : Site) (out : List ℕ) (ending : Ending) (status : ℕ) (old new : SinkState)
+      → Replays site 1 0 (opened site) (lines_of EVENTS.now) out ending → replays.IsLeft ending old new → status ≡ replays.status_of ending → status ≡ 0
+      → Replays site 1 0 (opened site) (lines_of EVENTS.now) out Ending.Done × (new.is_flushed ≡ true)
+  whole_replay site out Ending.Done status old new replays left is zero = (replays, left.1)
+  whole_replay site out (Ending.Faulty line) status old new replays left is zero = absurd (omega (arith, is, zero))
+  whole_replay site out (Ending.Illegal line) status old new replays left is zero = absurd (omega (arith, is, zero))
+  whole_replay site out (Ending.Full line) status old new replays left is zero = absurd (omega (arith, is, zero))
+  whole_replay site out Ending.NoMemory status old new replays left is zero = absurd (omega (arith, is, zero))
+  whole_replay site out Ending.ReadFailed status old new replays left is zero = absurd (omega (arith, is, zero))
+  whole_replay site out Ending.WriteFailed status old new replays left is zero = absurd (omega (arith, is, zero))
+
+  pub replayed : (status : ℕ) (old new : Streams) → ReplayIs bytes_of SITE.now EVENTS.now status old new → status ≡ 0 → IsReplayed old new
+  replayed status old new (inl (kept, inl none)) zero = absurd (some_answer status (Tells old new) none.0 zero)
+  replayed status old new (inl (kept, inr (inl no_memory))) zero = absurd (omega (arith, no_memory.0, zero))
+  replayed status old new (inl (kept, inr (inr unwritten))) zero = absurd (omega (arith, unwritten.0, zero))
+  replayed status old new (inr (site, is, r)) zero =
+      let whole = whole_replay site r.out r.ending status old.output new.output r.replays r.left r.status_is zero in
+      record { site = site; is = the_site site is; out = r.out; replays = whole.0; wrote = r.wrote; flushed = whole.1 }
