@@ -53,6 +53,17 @@ module _ (MayFail : List ℕ → Type 0) where
   unread_on names others on halt.ReadFailed h = on h
   unread_on names others on halt.WriteFailed h = absurd h
 
+  -- what is no matter of a file
+  pub unread_no_file : (names : List (List ℕ)) (why : Halt) → IsUnread (λ _. ⊥) [] why → IsUnread MayFail names why
+  unread_no_file names (halt.Site fault) h = tt
+  unread_no_file names (halt.Certificate fault) h = tt
+  unread_no_file names (halt.Line n) h = tt
+  unread_no_file names (halt.Illegal n) h = tt
+  unread_no_file names (halt.TotalsFull n) h = tt
+  unread_no_file names halt.NoMemory h = tt
+  unread_no_file names halt.ReadFailed (k, name, low, is, h) = absurd h
+  unread_no_file names halt.WriteFailed h = absurd h
+
   -- one of these files
   pub unread_within : (name other : List ℕ) (before later names : List (List ℕ)) → name ≡ other → names ≡ before ++ other ∷ later → (why : Halt)
       → IsUnread MayFail (name ∷ []) why → IsUnread MayFail names why

@@ -24,6 +24,7 @@ use sy_wire::Sink;
 fn certificate_of(alloc: Global, bytes: &[u8]) -> Result<Certificate, Halt>
     ensures ok { IfOk result (λ c. IsCertificate bytes.now c.rows) }
     ensures err { IfErr result (internal.IsNoCertificate bytes.now) }
+    ensures unread { IfErr result (IsUnread (λ _. ⊥) []) }
 {
     match read_cert(alloc, bytes) {
         Ok(certificate) => {
