@@ -39,7 +39,8 @@ input(type="imtcp" port="6515" flowControl="full")
 action(name="audit" type="omfile" file="audit.log" action.resumeRetryCount="-1")
 "#;
 
-const CERTIFICATE: &[u8] = br#"cert 1
+/// The text of the certificate that is made of the example.
+pub const CERTIFICATE: &[u8] = br#"cert 1
 class 32
 reach edge 6514
 reach hub 6515
