@@ -1,5 +1,5 @@
 -- What the commands over the example site show.
-use Rattle.std.proofs.Common.{◌≡◌, ℕ, ◌⊎◌, inl, inr, Bool, true, false, List, [], ◌∷◌, map, refl, sym, ap, subst, ◌∙◌, arith}
+use Rattle.std.proofs.Common.{◌≡◌, ℕ, zero, suc, ◌+◌, ◌≤◌, ◌⊎◌, inl, inr, Bool, true, false, List, [], ◌∷◌, length, map, refl, sym, ap, subst, ◌∙◌, arith}
 use Rattle.std.specs.List.{Any}
 use Rattle.std.specs.Prelude.{IfSome, Option, Some, None, codes}
 use Rattle.std.specs.Str.{bytes_eq}
@@ -8,15 +8,15 @@ use Rattle.sy_cert.specs.declared.row.Row.{Row}
 use Rattle.sy_checker.specs.Fit.{IsFit}
 use Rattle.sy_site.specs.Sites.{Site}
 use Rattle.sy_site.specs.machine.Soundness.{IsSound}
-use Rattle.sy_site.specs.texts.Describes.{Describes, File}
+use Rattle.sy_site.specs.texts.Describes.{Describes, File, file_named}
 use Rattle.sy_site.specs.texts.Files.{file_names}
 use Rattle.syc.specs.Checks.{AskedIs, KeepsAll, accepted_line}
-use Rattle.syc.specs.Examples.{IsAccepted, IsCertified, IsReplayed, IsTheSite, IsVerified, Printed, bytes_of, relay_files}
+use Rattle.syc.specs.Examples.{IsAccepted, IsCertified, IsReplayed, IsTheSite, IsVerified, Printed, bytes_of, files, relay_files}
 use Rattle.syc.specs.Outcomes.{FailsBy, Prints}
 use Rattle.syc.specs.Replays.{Ending, MayRise, PiecesMayFail, ReplayIs, Replays, lines_of, opened}
 use Rattle.syc.specs.Reports.{SinkState, Streams, Tells}
 use Rattle.syc.specs.Replays as replays
-use Rattle.syc.specs.SiteFiles.{AreFilesOf, AreGiven, HasNoAnswer, IsSiteOf}
+use Rattle.syc.specs.SiteFiles.{AreFilesOf, AreGiven, AreTold, HasNoAnswer, IsSiteOf}
 use Rattle.syc.specs.Verdicts.{VerifyIs}
 use Rattle.syc.specs.declared.command.Asked.TheVariants as asked
 use Rattle.syc.specs.declared.examples.TheConstants.{CERTIFICATE, EDGE, EVENTS, HUB, SITE}
@@ -152,3 +152,53 @@ module _ (one : (text : List ℕ) (files : List File) (a b : Site) → Describes
   replayed status old new (inr (site, is, r)) zero =
       let whole = whole_replay site r.out r.ending status old.output new.output r.replays r.left r.status_is zero in
       record { site = site; is = the_site site is; out = r.out; replays = whole.0; wrote = r.wrote; flushed = whole.1 }
+
+-- ---- status 4
+
+no_bytes : {bytes : List ℕ} → None ≡ Some bytes → ⊥
+no_bytes e = cc
+
+-- of files that are all there none is missing
+all_there : (names : List (List ℕ)) → AreTold bytes_of names → Any (λ name. bytes_of name ≡ None) names → ⊥
+all_there [] told (k, x, low, is, none) = omega (arith, low)
+all_there (name ∷ names) told (zero, x, low, is, none) = no_bytes (sym (ap bytes_of is ∙ none) ∙ told.0.1)
+all_there (name ∷ names) told (suc k, x, low, is, none) = all_there names told.1 (k, x, omega (arith, low), is, none)
+
+relays_told : AreTold bytes_of (file_names SITE.now)
+relays_told = subst (AreTold bytes_of) (sym names_are) ((EDGE.now, refl), ((HUB.now, refl), tt))
+
+-- a read of a file in memory doesn't fail
+no_rise : {S : Type 0} → MayRise {S = S} (λ _. 0) → ⊥
+no_rise (before, after, inl low) = omega (arith, low)
+no_rise (before, after, inr full) = omega (arith, full)
+
+few_events : {S : Type 0} → PiecesMayFail {S = S} (λ _. 0) EVENTS.now → ⊥
+few_events (inl rise) = no_rise rise
+few_events (inr many) = let size : length EVENTS.now ≡ 157 = refl in omega (arith, size, many)
+
+module _ (given : List File) (are : given ≡ files) (status : ℕ) (old new : Streams) where
+  only_writes : (names : List (List ℕ)) → AreTold bytes_of names
+      → FailsBy (Any (λ name. file_named given name ≡ None) names) status old new → FailsBy ⊥ status old new
+  only_writes names told fails four =
+      elim (fails four) [
+        | inl missing ↦ absurd (all_there names told (subst (λ fs. Any (λ name. file_named fs name ≡ None) names) are missing))
+        | inr rose ↦ inr rose
+      ]
+
+  pub asking_writes : FailsBy (Any (λ name. file_named given name ≡ None) (codes "site" ∷ file_names SITE.now)) status old new → FailsBy ⊥ status old new
+  asking_writes = only_writes (codes "site" ∷ file_names SITE.now) ((SITE.now, refl), relays_told)
+
+  pub verifying_writes : FailsBy (Any (λ name. file_named given name ≡ None) (codes "site" ∷ codes "cert" ∷ file_names SITE.now)) status old new
+      → FailsBy ⊥ status old new
+  verifying_writes = only_writes (codes "site" ∷ codes "cert" ∷ file_names SITE.now) ((SITE.now, refl), ((CERTIFICATE.now, refl), relays_told))
+
+  pub replaying_writes : {S : Type 0}
+      → FailsBy (Any (λ name. file_named given name ≡ None) (codes "site" ∷ codes "events" ∷ file_names SITE.now) ⊎ PiecesMayFail {S = S} (λ _. 0) EVENTS.now)
+      status old new
+      → FailsBy ⊥ status old new
+  replaying_writes fails = only_writes (codes "site" ∷ codes "events" ∷ file_names SITE.now) ((SITE.now, refl), ((EVENTS.now, refl), relays_told))
+      (λ four. elim (fails four) [
+        | inl (inl missing) ↦ inl missing
+        | inl (inr pieces) ↦ absurd (few_events pieces)
+        | inr rose ↦ inr rose
+      ])
