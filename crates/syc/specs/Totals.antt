@@ -1,8 +1,13 @@
 -- The totals that a relay prints as it ends (this profile's own).
-use Rattle.std.specs.Prelude.{ℕ, ◌+◌, ◌-◌, List, [], ◌∷◌, ◌++◌, codes}
+use Rattle.std.specs.Prelude.{ℕ, ◌+◌, ◌-◌, List, [], ◌∷◌, ◌++◌, Option, codes, length}
 use Rattle.std.specs.Fmt.{decimal}
+use Rattle.std.specs.Io.KnownBytes.{Appends}
+use Rattle.sy_chain.specs.Entries.{Entry}
 use Rattle.sy_rules.specs.declared.parts.Action.{Action}
-use Rattle.sy_board.specs.relay.Totals.{Counts, Totals}
+use Rattle.sy_board.specs.relay.Boards.{Account}
+use Rattle.sy_board.specs.relay.Totals.{Counts, Pairs, Totals}
+use Rattle.sy_runtime.specs.Connections as connections
+use Rattle.sy_runtime.specs.Stopping.{Stops}
 use Rattle.syc.specs.Reports.{line_feed}
 
 -- the losses: at an input or in its hand, by a post, and as an entry left a queue
@@ -35,3 +40,13 @@ action_lines _ _ = []
 -- the totals of a relay with these actions, which still holds so many entries
 abbrev pub totals_text : List Action → Totals → ℕ → List ℕ
 totals_text actions totals held = messages_line totals held ++ action_lines actions totals.actions
+
+-- What was written is the totals of a relay that was started with this guard, or with none, and has stopped: they meet the laws, and agree with what
+-- its connections and the hatches of its actions counted.
+pub record EndsWithTotals (actions : List Action) (guard : Option Pairs) (old new : Option (List ℕ)) : Type 0 where
+  pub ends : List connections.Counts
+  pub account : Account
+  pub left : List Entry
+  pub made : List ℕ
+  pub stops : Stops guard ends account left made
+  pub wrote : Appends old new (totals_text actions account.totals (length left))

@@ -3,6 +3,7 @@ pub mod Commands
 pub mod Halts
 pub mod Listened
 pub mod Parts
+pub mod Served
 pub mod Stops
 pub mod Surveys
 pub mod Unverified

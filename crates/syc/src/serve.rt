@@ -1,18 +1,27 @@
 //! Serving a relay until its reader ends.
+ghost use Rattle.std.specs.Prelude.{◌≡◌, ◌<◌, ◌≤◌, Option, IfOk, IfSome, length};
+ghost use Rattle.std.specs.Arc.{arc_value};
+ghost use Rattle.std.specs.Io.KnownBytes.{Appends};
+ghost use Rattle.sy_board.specs.relay.Guards.{MayGuard};
+ghost use Rattle.sy_board.specs.relay.Totals.{Pairs};
+ghost use Rattle.sy_site.specs.Sites.{plan_at};
+ghost use Rattle.syc.specs.Totals.{EndsWithTotals, totals_text};
+ghost use Rattle.syc.specs.internal.Served.{IsLeft};
 
 use crate::accepting::start_accepting;
 use crate::ending::{end_connections, end_loops};
 use crate::listening::{ListenFault, Listening, listen_all};
 use crate::serving::{OpenGate, Serving};
-use crate::totals::write_totals;
+use crate::totals::{TotalsFault, write_totals};
 use std::alloc::{AllocError, Global};
-use std::net::{Net, TcpListener, TcpStream};
+use std::net::{Ipv4Addr, Net, TcpListener, TcpStream};
 use std::sync::atomic::AtomicBool;
 use std::sync::{Arc, Wait};
 use std::thread::Threads;
 use std::time::Clock;
 use sy_board::Guard;
-use sy_rules::Plan;
+use sy_rules::laws::plans_are_whole;
+use sy_rules::{Action, Input, Plan};
 use sy_runtime::{BoxedDevice, Mismatch, Relay, RunFault, Stopped, Workers};
 use sy_site::Site;
 use sy_wire::{Sink, Source};
@@ -41,7 +50,9 @@ fn read_to_end<S: Source>(reader: &mut S) {
 }
 
 // Tells that memory ran out, and answers the exit status for that.
-fn out_of_memory<R: Wait, E: Sink + Drop>(rt: &R, serving: &Serving<E>) -> u8 {
+fn out_of_memory<R: Wait, E: Sink + Drop>(rt: &R, serving: &Serving<E>) -> u8
+    ensures { result ≡ 3 }
+{
     serving.tell_text(rt, "no memory");
     3
 }
@@ -80,22 +91,24 @@ fn reserve(all: &[Listening]) -> Option<TcpListener> {
     first.listener.try_clone().ok()
 }
 
-// Prints the totals of a relay that has stopped, and answers the exit status.
+// Prints the totals of a relay with these actions that has stopped, and answers the exit status.
 fn print_totals<R: Wait, W: Sink, E: Sink + Drop>(
     rt: &R,
+    alloc: Global,
     serving: &Serving<E>,
     writer: &mut W,
-    plan: &Plan,
+    actions: &[Action],
     stopped: &Stopped,
-) -> u8 {
-    match write_totals(
-        writer,
-        plan.actions(),
-        &stopped.accounts,
-        stopped.left.len(),
-    ) {
+) -> u8
+    ensures status { result ≤ 4 }
+    ensures done { result ≡ 0 → Appends (W.contents writer.old) (W.contents writer.new)
+        (totals_text actions.now stopped.now.accounts.totals (length stopped.now.left)) }
+{
+    let held = stopped.left.len();
+    match write_totals(alloc, writer, actions, &stopped.accounts, held) {
         Ok(()) => 0,
-        Err(_) => {
+        Err(TotalsFault::NoMemory) => out_of_memory(rt, serving),
+        Err(TotalsFault::Write) => {
             serving.tell_text(rt, "write failed");
             4
         }
@@ -109,17 +122,94 @@ fn start<R: Threads + Wait + Clock + Copy + Send + 'static>(
     plan: &Arc<Plan>,
     guard: Option<Guard>,
     devices: Vec<BoxedDevice>,
-) -> Result<(Relay<OpenGate>, Workers), RunFault> {
+) -> Result<(Relay<OpenGate>, Workers), RunFault>
+    requires guard { IfSome guard (λ pairs. MayGuard (arc_value plan.now) pairs) }
+    requires devices { length devices.items ≡ length (arc_value plan.now).actions }
+    ensures { IfOk result (λ started. started.0 ≡ guard) }
+{
     let Ok(plan) = Arc::try_clone(plan) else {
         return Err(RunFault::NoMemory);
     };
     Relay::start(rt, alloc, plan, guard, devices, OpenGate)
 }
 
+// A relay that was started, with what listens at the ports of its inputs.
+#[derive(Drop)]
+struct Started<'a> {
+    relay: Relay<OpenGate>,
+    workers: Workers,
+    address: Ipv4Addr,
+    inputs: &'a [Input],
+    all: Vec<Listening>,
+    is_ending: Arc<AtomicBool>,
+}
+
+// Runs a relay until there is nothing more to read, and stops it. Where an input's connections can't be accepted, it is
+// stopped at once, and that is answered too.
+fn run_relay<
+    R: Threads
+        + Wait
+        + Clock
+        + Net<Listener = TcpListener, Stream = TcpStream>
+        + Copy
+        + Send
+        + 'static,
+    S: Source,
+    E: Sink + Drop + Send + 'static,
+>(
+    rt: R,
+    alloc: Global,
+    started: Started<'_>,
+    reader: &mut S,
+    serving: &Arc<Serving<E>>,
+) -> (bool, Result<Stopped, Mismatch>)
+    ensures { IfOk result.1 (λ stopped. IsLeft started.relay stopped.accounts stopped.left) }
+{
+    let Started {
+        relay,
+        workers,
+        address,
+        inputs,
+        all,
+        is_ending,
+    } = started;
+    let reserve = reserve(all.as_slice());
+    let is_accepting = accept_at_all(rt, alloc, &relay, serving, all).is_ok();
+    if is_accepting {
+        read_to_end(reader);
+    }
+    drop(reserve);
+    end_loops(&rt, serving, address, inputs);
+    let ends = end_connections(rt, alloc, &relay, serving, &is_ending);
+    (is_accepting, relay.stop(&rt, workers, ends))
+}
+
+// Prints the totals of a relay with these actions, or why there are none, and answers the exit status.
+fn finish<R: Wait, W: Sink, E: Sink + Drop>(
+    rt: &R,
+    alloc: Global,
+    serving: &Serving<E>,
+    writer: &mut W,
+    actions: &[Action],
+    answer: Result<Stopped, Mismatch>,
+) -> u8
+    ensures status { result ≤ 4 }
+    ensures done { result ≡ 0 → (guard : Option Pairs) → IfOk answer (λ stopped. IsLeft guard stopped.accounts stopped.left)
+        → EndsWithTotals actions.now guard (W.contents writer.old) (W.contents writer.new) }
+{
+    match answer {
+        Ok(stopped) => print_totals(rt, alloc, serving, writer, actions, &stopped),
+        Err(Mismatch) => {
+            serving.tell_text(rt, "totals differ");
+            4
+        }
+    }
+}
+
 /// Serves a relay until there is nothing more to read: listens at the ports of its inputs, takes the messages of what
 /// connects there, and prints what happens. Then it ends within seconds, whatever its peers do, and prints the totals. It
-/// answers the exit status: 0 where the totals are those of what was served, 3 where memory runs out as it begins, and 4
-/// where a port can't be listened at, the totals differ from what its threads counted, or they can't be written.
+/// answers the exit status: 0 where the totals that were printed agree with what its threads counted, 3 where memory runs out, and 4
+/// where a port can't be listened at, the totals don't agree, or they can't be written.
 pub fn serve<
     R: Threads
         + Wait
@@ -138,7 +228,14 @@ pub fn serve<
     reader: &mut S,
     writer: &mut W,
     serving: &Arc<Serving<E>>,
-) -> u8 {
+) -> u8
+    requires exists { served.relay < length served.site.entry.relays }
+    requires guard { IfSome served.guard (λ pairs. MayGuard (plan_at served.site.entry served.relay) pairs) }
+    requires devices { length served.devices.items ≡ length (plan_at served.site.entry served.relay).actions }
+    ensures status { result ≤ 4 }
+    ensures done { result ≡ 0 → EndsWithTotals (plan_at served.site.entry served.relay).actions served.guard
+        (W.contents writer.old) (W.contents writer.new) }
+{
     let Served {
         site,
         relay,
@@ -147,6 +244,7 @@ pub fn serve<
         is_ending,
     } = served;
     let plan = site.plan(relay);
+    plans_are_whole(plan);
     let address = site.address(relay);
     let all = match listen_all(&rt, alloc, address, plan.inputs()) {
         Ok(all) => all,
@@ -155,20 +253,17 @@ pub fn serve<
     let Ok((relay, workers)) = start(rt, alloc, plan, guard, devices) else {
         return out_of_memory(&rt, serving);
     };
-    let reserve = reserve(all.as_slice());
-    let is_accepting = accept_at_all(rt, alloc, &relay, serving, all).is_ok();
-    if is_accepting {
-        read_to_end(reader);
+    let started = Started {
+        relay,
+        workers,
+        address,
+        inputs: plan.inputs(),
+        all,
+        is_ending,
+    };
+    let (is_accepting, answer) = run_relay(rt, alloc, started, reader, serving);
+    if !is_accepting {
+        return out_of_memory(&rt, serving);
     }
-    drop(reserve);
-    end_loops(&rt, serving, address, plan.inputs());
-    let ends = end_connections(rt, alloc, &relay, serving, &is_ending);
-    match relay.stop(&rt, workers, ends) {
-        Ok(_) if !is_accepting => out_of_memory(&rt, serving),
-        Ok(stopped) => print_totals(&rt, serving, writer, plan, &stopped),
-        Err(Mismatch) => {
-            serving.tell_text(&rt, "totals differ");
-            4
-        }
-    }
+    finish(&rt, alloc, serving, writer, plan.actions(), answer)
 }

@@ -1,12 +1,22 @@
 //! The totals that a relay prints as it ends.
 ghost use Rattle.std.specs.Prelude.{◌≡◌, ◌++◌, OnOk, map};
+ghost use Rattle.std.specs.Io.KnownBytes.{Appends};
 ghost use Rattle.sy_board.specs.relay.Boards.{counts_of};
 ghost use Rattle.syc.specs.Totals as spec;
 
+use crate::output::send;
 use crate::texts::{Part, put_parts};
-use std::alloc::AllocError;
+use std::alloc::{AllocError, Global};
 use sy_board::{Accounts, ActionCounts};
 use sy_rules::Action;
+use sy_wire::Sink;
+
+/// Why totals weren't written.
+#[derive(Clone, Copy)]
+pub enum TotalsFault {
+    NoMemory,
+    Write,
+}
 
 // The losses: at an input or in its hand, by a post, and as an entry left a queue.
 fn lost(accounts: &Accounts) -> u128
@@ -93,8 +103,8 @@ fn put_actions(
     Ok(())
 }
 
-/// Puts the totals of a relay with these actions, which still holds so many entries, behind a text.
-pub fn put_totals(
+// Puts the totals of a relay with these actions, which still holds so many entries, behind a text.
+fn put_totals(
     text: &mut Vec<u8>,
     actions: &[Action],
     accounts: &Accounts,
@@ -104,4 +114,25 @@ pub fn put_totals(
 {
     put_messages(text, accounts, held)?;
     put_actions(text, actions, accounts.actions())
+}
+
+/// Writes the totals of a relay with these actions, which still holds so many entries, and hands them on.
+pub fn write_totals<W: Sink>(
+    alloc: Global,
+    writer: &mut W,
+    actions: &[Action],
+    accounts: &Accounts,
+    held: usize,
+) -> Result<(), TotalsFault>
+    ensures { OnOk result (Appends (W.contents writer.old) (W.contents writer.new)
+        (spec.totals_text actions.now accounts.now.totals held)) }
+{
+    let mut text = Vec::new(alloc);
+    let Ok(()) = put_totals(&mut text, actions, accounts, held) else {
+        return Err(TotalsFault::NoMemory);
+    };
+    match send(writer, text.as_slice()) {
+        Ok(()) => Ok(()),
+        Err(_) => Err(TotalsFault::Write),
+    }
 }
