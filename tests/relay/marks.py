@@ -30,13 +30,11 @@ def held(worker=1):
 
 @test
 def discarded_at_the_mark(room):
-    relay, port, _ = stuck(room, "off", discardMark=5, discardSeverity=4, timeoutEnqueue=100)
-    # five of eight come below the mark; of the others none of severity 6 is taken into the queue
+    relay, port, _ = stuck(room, "off", discardMark=5, discardSeverity=4, timeoutEnqueue=0)
+    # five of eight come below the mark; of the others none of severity 6 comes into the queue
     send_all(port, messages(8, pri=INFO))
-    # five of eight find room in the queue of ten, three wait 100 ms each in vain
-    send_all(port, messages(8, 8, pri=CRIT))
-    relay.rests(port)
-    relay.stops_with(totals(17, 6, 11, *held()))
+    send_all(port, messages(3, 8, pri=CRIT))
+    relay.stops_with(totals(12, 3, 9, *held()))
 
 
 @test
@@ -139,13 +137,13 @@ def light_delay_ends_below_the_mark(room):
 @test
 def discarded_as_they_are_grabbed(room):
     relay, port, inner = stuck(room, "off", interval=0, discardMark=3, discardSeverity=4)
-    # three of severity 6 come below the mark; behind them four of severity 2, so that the mark is met as they leave
-    send_all(port, messages(3, pri=INFO) + messages(4, 3, pri=CRIT))
+    # three of severity 6 come below the mark; three of severity 2 are behind the last of them as it leaves
+    send_all(port, messages(3, pri=INFO) + messages(3, 3, pri=CRIT))
     receiver = Receiver(inner)
-    wanted = [message("first"), *messages(4, 3, pri=CRIT)]
+    wanted = [message("first"), *messages(3, 3, pri=CRIT)]
     receiver.has(wanted)
     relay.rests(port)
-    relay.stops_with(totals(8, 3, 0, ("first", 5, 5, 0, 0), ("up", 5, 5, 0, 0)))
+    relay.stops_with(totals(7, 3, 0, ("first", 4, 4, 0, 0), ("up", 4, 4, 0, 0)))
     same("first.log", room.lines("first.log"), wanted)
 
 
@@ -184,10 +182,10 @@ def posts_into_a_full_queue_are_lost(room):
 @test
 def posts_are_discarded_at_the_mark(room):
     relay, port, _ = posting(room, discardMark=2, discardSeverity=6, timeoutEnqueue=0)
-    send_all(port, messages(4, pri=INFO) + messages(4, 4, pri=CRIT))
-    room.holds("after.log", [message("first"), *messages(4, pri=INFO), *messages(4, 4, pri=CRIT)])
-    # two of severity 6 come below the mark; of severity 2 two find room, and two don't
-    relay.stops_with(totals(9, 4, 5, ("up", 1, 0, 0, 1), ("after", 9, 9, 0, 0)))
+    send_all(port, messages(4, pri=INFO) + messages(1, 4, pri=CRIT))
+    room.holds("after.log", [message("first"), *messages(4, pri=INFO), *messages(1, 4, pri=CRIT)])
+    # two of severity 6 come below the mark, and the one of severity 2 has room above it
+    relay.stops_with(totals(6, 2, 4, ("up", 1, 0, 0, 1), ("after", 6, 6, 0, 0)))
 
 
 @test
