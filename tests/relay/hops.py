@@ -3,8 +3,8 @@
 import shutil
 import subprocess
 
-from peers import Sender, message, messages, send_all, send_side_by_side
-from room import Failure, LeftOut, imtcp, main_queue, module, omfile, omfwd, test, totals, until
+from peers import Pump, Sender, message, messages, send_all, send_side_by_side
+from room import Failure, LeftOut, imtcp, main_queue, module, omfile, omfwd, same, test, totals, until
 
 COUNT = 100_000
 # The queue of an entry that waits before it is full, and discards nothing.
@@ -12,10 +12,10 @@ QUEUE = ('ruleset(name="out" queue.type="LinkedList" queue.size="{}" queue.fullD
          'queue.discardSeverity="8") {{\n{}}}\n')
 
 
-def two_relays(room, size):
+def two_relays(room, size, interval=30):
     """Starts edge and hub, which are accepted; answers both and edge's port."""
     entry, inner = room.port(), room.port()
-    edge = module() + imtcp(entry, ruleset="out") + QUEUE.format(size, size * 9 // 10, omfwd("up", "hub", inner))
+    edge = module() + imtcp(entry, ruleset="out") + QUEUE.format(size, size * 9 // 10, omfwd("up", "hub", inner, -1, interval))
     room.site({"edge": edge, "hub": module() + imtcp(inner) + omfile("audit", "audit.log")},
               f"entry edge {entry}", "protect auth.* hub audit")
     hub = room.start("hub", inner)
@@ -154,6 +154,27 @@ def hub_stopped_in_order_and_restarted(room):
     sender.end()
     edge.stops_with(totals(150, 0, 0, ("up", 150, 150, 0, 0)))
     hub.stops_with(totals(0, 0, 0, ("audit", 0, 0, 0, 0)))
+
+
+@test(limit=80)
+def hub_restarted_in_order_under_load(room):
+    edge, hub, port = two_relays(room, 1000, 0)
+    inner = int(room.read("edge.conf").split(b'target="hub" port="')[1].split(b'"')[0])
+    pump, held = Pump(port, 0, "a" * 100), 0
+    for _ in range(3):
+        room.has("audit.log", room.count("audit.log") + 3000)
+        held += int(hub.stop().split()[5])
+        hub = room.start("hub", inner)
+    room.has("audit.log", room.count("audit.log") + 3000)
+    pump.finish()
+    edge.rests(port)
+    hub.rests(inner)
+    edge.stops_with(totals(pump.sent, 0, 0, ("up", pump.sent, pump.sent, 0, 0)))
+    hub.stop()
+    numbers = [int(it.split(b" ")[8][1:]) for it in room.lines("audit.log")]
+    # each once and in order, but for what a hub held as it was stopped
+    same("messages that came twice or in another order", numbers == sorted(set(numbers)), True)
+    same("messages in the archive or held", len(numbers) + held, pump.sent)
 
 
 @test

@@ -120,7 +120,14 @@ class Pump:
             return self.sent == before
         until("the relay holds the sender", stands, came=lambda: f"{self.sent} messages sent")
 
+    def finish(self):
+        """Ends the connection, once the relay has taken all that was sent."""
+        self.is_over = True
+        self.thread.join(PAUSE)
+        self.sender.end()
+
     def end(self):
+        """Breaks the connection off."""
         self.is_over = True
         self.sender.reset()
         self.thread.join(PAUSE)

@@ -3,7 +3,7 @@
 import os
 import socket
 
-from peers import messages, send_all
+from peers import Sender, frames, messages, send_all
 from room import Failure, Relay, imtcp, module, omfile, omfwd, same, test, totals
 
 
@@ -170,6 +170,43 @@ def totals_that_nobody_reads(room):
     relay.process.stdin.close()
     same("status", relay.ends(), 4)
     same("standard error", relay.faults(), ["syc: write failed"])
+
+
+def with_closed(room, descriptor):
+    """A hub that was started with a descriptor closed; it has taken a message, and a connection has ended with a fault."""
+    port = room.port()
+    hub_files(room, port)
+    relay = room.start("hub", port, words=["site", "hub"], limits=lambda: os.close(descriptor))
+    sender = Sender(port).send_bytes(frames(messages(1)) + b"0")
+    sender.is_ended()
+    room.has("audit.log", 1)
+    relay.process.stdin.close()
+    return relay
+
+
+@test
+def standard_output_closed(room):
+    relay = with_closed(room, 1)
+    same("status", relay.ends(), 4)
+    same("faults", relay.faults()[1:], ["syc: write failed"])
+    same("archive", room.lines("audit.log"), messages(1))
+
+
+@test
+def standard_error_closed(room):
+    relay = with_closed(room, 2)
+    same("status", relay.ends(), 0)
+    same("totals", relay.output(), totals(1, 0, 0, ("audit", 1, 1, 0, 0)))
+    same("archive", room.lines("audit.log"), messages(1))
+
+
+@test
+def standard_input_closed(room):
+    port = room.port()
+    hub_files(room, port)
+    relay = Relay(room, "hub", ["site", "hub"], limits=lambda: os.close(0))
+    same("status", relay.ends() in (0, 4), True)
+    same("archive", room.lines("audit.log"), [])
 
 
 @test
