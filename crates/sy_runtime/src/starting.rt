@@ -17,6 +17,7 @@ use std::time::Clock;
 use sy_actions::Hatch;
 use sy_board::{Board, Guard};
 use sy_rules::Plan;
+use sy_rules::laws::plans_are_whole;
 
 // Of each of so many inputs the hands that connections have: none.
 fn free_hands(alloc: Global, inputs: usize) -> Result<Vec<u64>, AllocError> {
@@ -102,16 +103,16 @@ fn start_workers<R, G>(
     rt: R,
     alloc: Global,
     common: &Arc<Common<G>>,
-    count: usize,
+    count: u32,
 ) -> Result<Vec<JoinHandle<()>>, AllocError>
 where
     R: Threads + Wait + Clock + Copy + Send + 'static,
     G: Gate + Send + Sync + 'static,
 {
-    let mut joins = Vec::with_capacity(alloc, count)?;
+    let mut joins = Vec::with_capacity(alloc, count as usize)?;
     for worker in 0..count {
         let common = Arc::try_clone(common)?;
-        joins.push(start_worker(rt, alloc, common, worker as u32)?)?;
+        joins.push(start_worker(rt, alloc, common, worker)?)?;
     }
     Ok(joins)
 }
@@ -134,7 +135,8 @@ impl<G: Gate + Send + Sync + 'static> Relay<G> {
         ensures ok { IfOk result (λ started. started.0 ≡ guard) }
         ensures err { IfErr result (λ fault. fault ≡ RunFault.NoMemory) }
     {
-        let workers = plan.workers().len();
+        plans_are_whole(&plan);
+        let workers = plan.workers().len() as u32;
         let Ok(room) = Vec::with_capacity(alloc, devices.len()) else {
             return Err(RunFault::NoMemory);
         };

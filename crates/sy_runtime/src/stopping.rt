@@ -61,25 +61,25 @@ fn are_made(actions: &[ActionCounts], hatches: &[Hatch<BoxedDevice>]) -> bool
 }
 
 // Whether as many messages were taken as these connections took.
-fn has_taken(board: &Board, ends: &[ConnEnd]) -> bool
-    ensures { IsTrue result → board.now.totals.taken ≡ sum_by (λ end. end.took) ends.now }
+fn has_taken(accounts: &Accounts, ends: &[ConnEnd]) -> bool
+    ensures { IsTrue result → accounts.now.totals.taken ≡ sum_by (λ end. end.took) ends.now }
 {
     match taken_by(ends) {
-        Some(taken) => taken == board.accounts().taken(),
+        Some(taken) => taken == accounts.taken(),
         None => false,
     }
 }
 
 // Whether of each action as many runs are done as its hatch made receipts.
-fn has_done(board: &Board, hatches: &[Hatch<BoxedDevice>]) -> bool
-    ensures { IsTrue result → map (λ counts. counts.done) board.now.totals.actions ≡ map (λ hatch. hatch.made) hatches.now }
+fn has_done(accounts: &Accounts, hatches: &[Hatch<BoxedDevice>]) -> bool
+    ensures { IsTrue result → map (λ counts. counts.done) accounts.now.totals.actions ≡ map (λ hatch. hatch.made) hatches.now }
 {
-    are_made(board.accounts().actions(), hatches)
+    are_made(accounts.actions(), hatches)
 }
 
 // Whether both are the same guard, or none.
 fn is_same_guard(one: Option<&Guard>, other: Option<&Guard>) -> bool
-    ensures { IsTrue result → option_copied one ≡ option_copied other }
+    ensures { IsTrue result → option_copied one.entry ≡ option_copied other.entry }
 {
     match (one, other) {
         (None, None) => true,
@@ -90,7 +90,7 @@ fn is_same_guard(one: Option<&Guard>, other: Option<&Guard>) -> bool
 
 // Whether the board has this guard, or has none where this is none.
 fn has_guard(board: &Board, guard: Option<&Guard>) -> bool
-    ensures { IsTrue result → board.now.guard ≡ option_copied guard }
+    ensures { IsTrue result → board.now.guard ≡ option_copied guard.entry }
 {
     is_same_guard(board.guard(), guard)
 }
@@ -120,10 +120,11 @@ fn compare(
     ends: &[ConnEnd],
     guard: Option<&Guard>,
 ) -> Result<Stopped, Mismatch>
-    ensures { IfOk result (λ stopped. Stops (option_copied guard) ends.now stopped.accounts stopped.left
+    ensures { IfOk result (λ stopped. Stops (option_copied guard.entry) ends.now stopped.accounts stopped.left
         (map (λ hatch. hatch.made) stopped.hatches.items)) }
 {
-    if !has_taken(&board, ends) || !has_done(&board, hatches.as_slice()) {
+    let accounts = board.accounts();
+    if !has_taken(accounts, ends) || !has_done(accounts, hatches.as_slice()) {
         return Err(Mismatch);
     }
     if !has_guard(&board, guard) {
