@@ -88,7 +88,12 @@ fn lose(board: &mut Board, worker: u32) -> PostOutcome
 }
 
 /// Does the post of a worker. It is lost where memory for its entry was refused.
-pub(crate) fn post(alloc: Global, board: &mut Board, worker: u32, used: &mut Vec<Node>) -> PostOutcome
+pub(crate) fn post(
+    alloc: Global,
+    board: &mut Board,
+    worker: u32,
+    used: &mut Vec<Node>,
+) -> PostOutcome
     requires { worker < length board.old.plan.workers }
     ensures { PostWas result board.old worker board.new }
 {

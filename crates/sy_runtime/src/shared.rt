@@ -36,4 +36,11 @@ impl Shared {
         self.work.notify_all();
         self.room.notify_all();
     }
+
+    /// The same, where this is so.
+    pub(crate) fn wake_if(&self, has_moved: bool) {
+        if has_moved {
+            self.wake_all();
+        }
+    }
 }

@@ -18,7 +18,26 @@ struct Run {
     messages: Vec<Arc<Message>>,
 }
 
-// The next messages that a worker offers, however long it waits for them; none once it is to end.
+// Waits until a worker may find something else to do, or the relay closes.
+fn wait_for<'a, R: Wait + Clock>(
+    rt: &R,
+    alloc: Global,
+    shared: &'a Shared,
+    locked: MutexGuard<'a, Locked>,
+    worker: u32,
+    next: Next,
+) -> MutexGuard<'a, Locked> {
+    match next {
+        Next::Held => wait_for_room(rt, alloc, shared, locked, worker),
+        Next::NoMemory => pause(rt, shared, locked, MEMORY_WAIT),
+        Next::Idle | Next::Run(_) | Next::Posted | Next::Grabbed | Next::Ends => {
+            shared.work.wait(rt, locked)
+        }
+    }
+}
+
+// The next messages that a worker offers, however long it waits for them; none once it is to end. Others are woken where it moved entries, as it lets go
+// of the lock.
 fn next_run<'a, R: Wait + Clock>(
     rt: &R,
     alloc: Global,
@@ -27,14 +46,25 @@ fn next_run<'a, R: Wait + Clock>(
     worker: u32,
 ) -> Option<Run> {
     let mut messages = Vec::new(alloc);
+    let mut has_moved = false;
     for _ in rt.forever() {
         match locked.find(alloc, worker, &mut messages) {
-            Next::Run(action) => return Some(Run { action, messages }),
-            Next::Posted | Next::Grabbed => shared.wake_all(),
-            Next::Held => locked = wait_for_room(rt, alloc, shared, locked, worker),
-            Next::Idle => locked = shared.work.wait(rt, locked),
-            Next::NoMemory => locked = pause(rt, shared, locked, MEMORY_WAIT),
-            Next::Ends => return None,
+            Next::Posted | Next::Grabbed => has_moved = true,
+            Next::Run(action) => {
+                drop(locked);
+                shared.wake_if(has_moved);
+                return Some(Run { action, messages });
+            }
+            Next::Ends => {
+                drop(locked);
+                shared.wake_if(has_moved);
+                return None;
+            }
+            next => {
+                shared.wake_if(has_moved);
+                has_moved = false;
+                locked = wait_for(rt, alloc, shared, locked, worker, next);
+            }
         }
     }
     unreachable!()
