@@ -62,7 +62,7 @@ use serving::Serving;
 use std::alloc::Global;
 use std::env;
 use std::fs::{File, Files};
-use std::io::BufWriter;
+use std::io::{self, BufWriter};
 use std::net::{Net, TcpListener, TcpStream};
 use std::process::ExitCode;
 use std::rt::{Stderr, Stdout};
@@ -138,6 +138,16 @@ fn no_devices<E: Sink>(errors: &mut E, fault: OpenFault) -> u8 {
     }
 }
 
+// Takes the numbers of those standard streams that were closed when the process began: a file or a link that got one would
+// have written into it what belongs on that stream. They are kept until the process ends; writing to them fails.
+fn take_closed_streams<R: Files<File = File>>(rt: &R) -> [io::Result<File>; 3] {
+    [
+        File::open(rt, "/dev/null"),
+        File::open(rt, "/dev/null"),
+        File::open(rt, "/dev/null"),
+    ]
+}
+
 // Makes the devices of a relay, and serves it.
 fn serve_on<
     R: Threads
@@ -159,6 +169,7 @@ fn serve_on<
     reader: &mut S,
     out: Outputs<W, E>,
 ) -> u8 {
+    let _taken = take_closed_streams(&rt);
     let (site, relay, guard) = prepared;
     let Outputs {
         mut writer,
