@@ -4,12 +4,14 @@
 mod accepting;
 mod all;
 mod answer;
+mod archive;
 mod ask;
 mod at_port;
 mod carry;
 mod check;
 mod command;
 mod connections;
+mod control;
 mod culprit;
 mod devices;
 mod ending;
@@ -66,7 +68,7 @@ use std::io::{self, BufWriter};
 use std::net::{Net, TcpListener, TcpStream};
 use std::process::ExitCode;
 use std::rt::{Stderr, Stdout};
-use std::sync::atomic::AtomicBool;
+use std::sync::atomic::{AtomicBool, AtomicU64};
 use std::sync::{Arc, Wait};
 use std::thread::Threads;
 use std::time::Clock;
@@ -181,7 +183,10 @@ fn serve_on<
     let Ok(is_ending) = Arc::new(alloc, AtomicBool::new(false)) else {
         return stop::out_of_memory(&mut errors);
     };
-    let devices = match devices(rt, alloc, outlets.as_slice(), &is_ending) {
+    let Ok(reopens) = Arc::new(alloc, AtomicU64::new(0)) else {
+        return stop::out_of_memory(&mut errors);
+    };
+    let devices = match devices(rt, alloc, outlets.as_slice(), &is_ending, &reopens) {
         Ok(devices) => devices,
         Err(fault) => return no_devices(&mut errors, fault),
     };
@@ -191,6 +196,7 @@ fn serve_on<
         guard,
         devices,
         is_ending,
+        reopens,
     };
     let Ok(serving) = Arc::new(alloc, Serving::new(alloc, errors)) else {
         return 3;

@@ -9,13 +9,14 @@ ghost use Rattle.syc.specs.Totals.{EndsWithTotals, totals_text};
 ghost use Rattle.syc.specs.internal.Served.{IsLeft};
 
 use crate::accepting::start_accepting;
+use crate::control::read_control;
 use crate::ending::{end_connections, end_loops};
 use crate::listening::{ListenFault, Listening, listen_all};
 use crate::serving::{OpenGate, Serving};
 use crate::totals::{TotalsFault, write_totals};
 use std::alloc::{AllocError, Global};
 use std::net::{Ipv4Addr, Net, TcpListener, TcpStream};
-use std::sync::atomic::AtomicBool;
+use std::sync::atomic::{AtomicBool, AtomicU64};
 use std::sync::{Arc, Wait};
 use std::thread::Threads;
 use std::time::Clock;
@@ -36,17 +37,8 @@ pub struct Served<'a> {
     pub devices: Vec<BoxedDevice>,
     /// Set once no device is to wait.
     pub is_ending: Arc<AtomicBool>,
-}
-
-// Reads until there is nothing more. What is read means nothing.
-fn read_to_end<S: Source>(reader: &mut S) {
-    let mut room = [0u8; 1024];
-    for _ in 0..u64::MAX {
-        match reader.read(&mut room) {
-            Ok(0) | Err(_) => return,
-            Ok(_) => {}
-        }
-    }
+    /// How often archives are to be opened anew.
+    pub reopens: Arc<AtomicU64>,
 }
 
 // Tells that memory ran out, and answers the exit status for that.
@@ -142,6 +134,7 @@ struct Started<'a> {
     inputs: &'a [Input],
     all: Vec<Listening>,
     is_ending: Arc<AtomicBool>,
+    reopens: Arc<AtomicU64>,
 }
 
 // Runs a relay until there is nothing more to read, and stops it. Where an input's connections can't be accepted, it is
@@ -172,11 +165,12 @@ fn run_relay<
         inputs,
         all,
         is_ending,
+        reopens,
     } = started;
     let reserve = reserve(all.as_slice());
     let is_accepting = accept_at_all(rt, alloc, &relay, serving, all).is_ok();
     if is_accepting {
-        read_to_end(reader);
+        read_control(reader, &reopens);
     }
     drop(reserve);
     end_loops(&rt, serving, address, inputs);
@@ -242,6 +236,7 @@ pub fn serve<
         guard,
         devices,
         is_ending,
+        reopens,
     } = served;
     let plan = site.plan(relay);
     plans_are_whole(plan);
@@ -260,6 +255,7 @@ pub fn serve<
         inputs: plan.inputs(),
         all,
         is_ending,
+        reopens,
     };
     let (is_accepting, answer) = run_relay(rt, alloc, started, reader, serving);
     if !is_accepting {

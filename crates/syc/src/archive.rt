@@ -1,0 +1,121 @@
+//! The device of an archive.
+ghost use Rattle.std.specs.Prelude.{◌≡◌, ◌≤◌, ⊤};
+ghost use Rattle.sy_wire.specs.Streams.{count_after};
+
+use std::alloc::Global;
+use std::fs::{self, File, Files, OpenOptions};
+use std::io::{self, Read, Seek, SeekFrom, Write};
+use std::sync::Arc;
+use std::sync::atomic::{AtomicU64, Ordering};
+use sy_actions::{Device, DeviceFault, LineSink};
+use sy_wire::{FromWrite, Message};
+
+/// The device of an archive: it writes lines to the end of a file, and opens that anew where this was asked for since its
+/// last offer. Where it can't be opened, lines go on to the file that it has, and the next offer tries again.
+#[derive(Drop)]
+pub struct Archive<R: Drop> {
+    rt: R,
+    alloc: Global,
+    name: String,
+    sink: LineSink<FromWrite<File>>,
+    // how often it was asked for, in all, and up to which of these this file is the new one
+    asked: Arc<AtomicU64>,
+    followed: u64,
+    // the offers that failed, counted up to 2^64 - 1
+    failed: u64,
+}
+
+// Whether what stands last in a file is no line feed. Only ordinary files are read.
+fn is_torn<R: Files<File = File>>(rt: &R, name: &str) -> io::Result<bool> {
+    let about = fs::metadata(rt, name)?;
+    if !about.is_file() || about.len() == 0 {
+        return Ok(false);
+    }
+    let mut file = File::open(rt, name)?;
+    file.seek(SeekFrom::End(-1))?;
+    let mut last = [0u8; 1];
+    let count = file.read(&mut last)?;
+    Ok(count == 1 && last[0] != b'\n')
+}
+
+// The file of that name, to whose end lines are written. Where it ends in the middle of one, that line is ended.
+fn open_file<R: Files<File = File>>(rt: &R, name: &str) -> io::Result<File> {
+    let is_torn = is_torn(rt, name).unwrap_or(false);
+    let mut file = OpenOptions::new().append(true).create(true).open(rt, name)?;
+    if is_torn {
+        file.write_all(b"\n")?;
+    }
+    Ok(file)
+}
+
+impl<R: Files<File = File> + Drop> Archive<R> {
+    /// The archive of that name, whose file is opened for appending; none where it can't be.
+    pub fn open(rt: R, alloc: Global, name: String, asked: Arc<AtomicU64>) -> Option<Archive<R>> {
+        let followed = asked.load(Ordering::SeqCst);
+        let file = open_file(&rt, name.as_str()).ok()?;
+        Some(Archive {
+            rt,
+            alloc,
+            name,
+            sink: LineSink::new(alloc, FromWrite::new(file)),
+            asked,
+            followed,
+            failed: 0,
+        })
+    }
+
+    // Opens the file anew, where that was asked for.
+    fn follow(&mut self)
+        ensures { self.new.failed ≡ self.old.failed }
+    {
+        let asked = self.asked.load(Ordering::SeqCst);
+        if asked == self.followed {
+            return;
+        }
+        if let Ok(file) = open_file(&self.rt, self.name.as_str()) {
+            self.sink = LineSink::new(self.alloc, FromWrite::new(file));
+            self.followed = asked;
+        }
+    }
+
+    // Counts an offer that failed.
+    fn fail(&mut self, fault: DeviceFault) -> DeviceFault
+        ensures fault { result ≡ fault }
+        ensures counted { self.new.failed ≡ count_after self.old.failed 1 }
+        ensures more { self.old.failed ≤ self.new.failed }
+    {
+        self.failed = self.failed.saturating_add(1);
+        fault
+    }
+}
+
+impl<R: Files<File = File> + Drop> Device for Archive<R> {
+    ghost faults = { λ it. it.failed };
+
+    // of a file no proof can say what it holds
+    ghost stands_for = { λ _ _ _. ⊤ };
+
+    ghost offered = { λ _ _ _ _. ⊤ };
+
+    ghost State = { ⊤ };
+
+    ghost state = { λ _. tt };
+
+    ghost steps = { λ _ _ _ _. ⊤ };
+
+    fn offer(&mut self, message: &Arc<Message>) -> Result<(), DeviceFault> {
+        self.follow();
+        match self.sink.offer(message) {
+            Ok(()) => Ok(()),
+            Err(fault) => Err(self.fail(fault)),
+        }
+    }
+
+    fn offer_all(&mut self, messages: &[Arc<Message>]) -> (usize, Option<DeviceFault>) {
+        self.follow();
+        match self.sink.offer_all(messages) {
+            (taken, None) => (taken, None),
+            (taken, Some(fault)) => (taken, Some(self.fail(fault))),
+        }
+    }
+}
