@@ -149,3 +149,36 @@ def archive_is_appended_to(room):
         relay.stops_with(totals(100, 0, 0, ("audit", 100, 100, 0, 0)))
         relay = room.start("hub", port)
     relay.stops_with(totals(0, 0, 0, ("audit", 0, 0, 0, 0)))
+
+
+@test
+def archives_opened_anew(room):
+    relay, port = room.hub()
+    send_all(port, messages(2))
+    room.holds("audit.log", messages(2))
+    os.rename(room.path("audit.log"), room.path("audit.old"))
+    # (other lines, and a line that is cut, ask nothing)
+    relay.is_told(b"reopened\nreope\n reopen\nREOPEN\nreop", port)
+    send_all(port, messages(1, 2))
+    room.holds("audit.old", messages(3))
+    relay.is_told(b"en\n", port)
+    send_all(port, messages(2, 3))
+    room.holds("audit.log", messages(2, 3))
+    same("the old archive", room.lines("audit.old"), messages(3))
+    relay.stops_with(totals(5, 0, 0, ("audit", 5, 5, 0, 0)))
+
+
+@test
+def archive_that_cannot_be_opened_anew(room):
+    relay, port = room.hub()
+    send_all(port, messages(1))
+    room.holds("audit.log", messages(1))
+    os.rename(room.path("audit.log"), room.path("audit.old"))
+    os.mkdir(room.path("audit.log"))
+    relay.is_told(b"reopen\n", port)
+    send_all(port, messages(2, 1))
+    room.holds("audit.old", messages(3))
+    os.rmdir(room.path("audit.log"))
+    send_all(port, messages(2, 3))
+    room.holds("audit.log", messages(2, 3))
+    relay.stops_with(totals(5, 0, 0, ("audit", 5, 5, 0, 0)))

@@ -1,9 +1,12 @@
 """A test's folder and ports, the relays that run there, and what is wanted of them."""
 
+import array
+import fcntl
 import os
 import re
 import socket
 import subprocess
+import termios
 import time
 
 # Ports of tests lie below those that the host gives to outgoing connections; each test has PORTS of them.
@@ -152,6 +155,19 @@ class Relay:
     def says(self, line, times=1):
         """Waits for a line on standard error."""
         until(f"{self.name} says {line!r}", lambda: self.errors().splitlines().count(line) >= times, came=self.errors)
+
+    def is_told(self, text, *ports):
+        """Writes to its standard input, and waits until that is read and it has nothing to do."""
+        self.process.stdin.write(text)
+        self.process.stdin.flush()
+        until(f"{self.name} has read its standard input", lambda: not self.unread(), came=self.unread)
+        self.rests(*ports)
+
+    def unread(self):
+        """How many bytes of its standard input it hasn't read yet."""
+        found = array.array("i", [0])
+        fcntl.ioctl(self.process.stdin, termios.FIONREAD, found)
+        return found[0]
 
     def ends(self, seconds=STOP):
         """Waits for its end, and answers its status."""
