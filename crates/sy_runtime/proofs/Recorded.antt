@@ -1,28 +1,19 @@
 -- What is settled by receipts one after the other.
-use Rattle.std.proofs.Common.{◌≡◌, ◌≢◌, ◌<◌, ℕ, List, [], ◌∷◌, length, arith, refl, sym, ap, ◌∙◌, subst}
-use Rattle.sy_rules.specs.PlanValue.{Plan}
+use Rattle.std.proofs.Common.{◌≡◌, ℕ, sym, ap, subst}
 use Rattle.sy_actions.specs.Devices.{DeliveredAll}
 use Rattle.sy_board.specs.declared.fault.BoardFault.{BoardFault}
 use Rattle.sy_board.specs.relay.Boards.{BoardState, SettlesNext, SettlesNoNext}
-use Rattle.sy_runtime.specs.internal.Recording.{AllSettled, Settled, SomeSettled}
+use Rattle.sy_runtime.specs.internal.Recording.{Settled, SomeSettled}
 
 -- a receipt that settles changes no plan
 pub same_plan : (old : BoardState) (w : ℕ) (receipts : DeliveredAll) (new : BoardState) (left : DeliveredAll) → SettlesNext old w receipts new left
     → new.plan ≡ old.plan
 same_plan old w receipts new left (next, is, made) = ap (λ (b : BoardState). b.plan) made.2
 
--- and is one less
-pub one_less : (old : BoardState) (w : ℕ) (receipts : DeliveredAll) (new : BoardState) (left : DeliveredAll) → SettlesNext old w receipts new left
-    → length left.messages < length receipts.messages
-one_less old w receipts new left (next, is, made) = let e = ap length is.are in omega (arith, e)
-
+-- a receipt more
 pub one_more : (w : ℕ) (old between new : BoardState) (receipts left later : DeliveredAll) → Settled w old receipts between left
     → SettlesNext between w left new later → Settled w old receipts new later
 one_more w old between new receipts left later settled next = Settled.more settled next
-
--- nothing is left
-pub all_settled : (w : ℕ) (old new : BoardState) (receipts left : DeliveredAll) → Settled w old receipts new left → left.messages ≡ [] → AllSettled w old receipts new
-all_settled w old new receipts left settled none = (left, settled, none)
 
 -- the next is refused, and nothing changed
 pub some_settled : (fault : BoardFault) (w : ℕ) (old between new : BoardState) (receipts left : DeliveredAll) → Settled w old receipts between left → new ≡ between

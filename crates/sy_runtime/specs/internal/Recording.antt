@@ -1,5 +1,5 @@
 -- What a worker records of an offer.
-use Rattle.std.specs.Prelude.{◌≡◌, ◌≤◌, ◌*◌, ◌==◌, ◌⊎◌, ℕ, List, [], Option, None, Some, if◌then◌else◌, length, slice_get}
+use Rattle.std.specs.Prelude.{◌≡◌, ◌≤◌, ◌*◌, ◌==◌, ◌⊎◌, ℕ, [], Option, None, Some, if◌then◌else◌, length, slice_get}
 use Rattle.sy_actions.specs.Devices.{DeliveredAll, Refused}
 use Rattle.sy_rules.specs.PlanValue.{Plan}
 use Rattle.sy_rules.specs.declared.parts.Action.{Action}

@@ -1,5 +1,3 @@
-use Rattle.std.proofs.Common.{subst}
-use Rattle.sy_board.specs.relay.Boards.{RunsIs}
 use Rattle.sy_runtime.proofs.finding.find_runs.Goals as goal
 
 pub unreachable-requires : goal.unreachable-requires

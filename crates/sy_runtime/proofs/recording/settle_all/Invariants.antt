@@ -1,4 +1,4 @@
-use Rattle.std.proofs.Common.{◌≡◌, length, ℕ}
+use Rattle.std.proofs.Common.{◌≡◌, length}
 use Rattle.sy_runtime.specs.internal.Recording.{Settled}
 use Rattle.sy_runtime.proofs.recording.settle_all.Given as goal
 
