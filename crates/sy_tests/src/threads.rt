@@ -4,6 +4,7 @@ pub mod door;
 pub mod log;
 mod offers;
 mod queues;
+mod refusals;
 mod retries;
 mod stopping;
 
