@@ -19,7 +19,8 @@ def edge(room, retries, interval=0, after=True, more=""):
 
 @test
 def receiver_down_without_retries(room):
-    relay, port, _ = edge(room, 0)
+    # (the interval is waited for before a retry alone: not after a message that is given up)
+    relay, port, _ = edge(room, 0, 30)
     send_all(port, messages(40))
     room.holds("after.log", messages(40))
     relay.stops_with(totals(40, 0, 0, ("up", 40, 0, 40, 0), ("after", 40, 40, 0, 0)))
