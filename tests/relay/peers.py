@@ -184,6 +184,17 @@ class Receiver:
         except OSError:
             pass
 
+    def drips(self):
+        """Reads from now on 4 KiB of each connection, a hundred times a second at most."""
+        def run(connection):
+            try:
+                while connection.recv(4096):
+                    time.sleep(0.01)
+            except OSError:
+                pass
+        for connection, _ in self.connections:
+            threading.Thread(target=run, args=(connection,), daemon=True).start()
+
     def messages(self):
         """All messages that came whole."""
         return [it for data in list(self.came) for it in split(bytes(data))[0]]

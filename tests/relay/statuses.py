@@ -39,6 +39,27 @@ def second_port_in_use(room):
 
 
 @test
+def address_of_another_host(room):
+    port = room.port()
+    hub_files(room, port)
+    room.write("site", f"relay hub hub.conf 192.0.2.1\nentry hub {port}\nprotect auth.* hub audit\n")
+    refuses(room, ["site", "hub"], 4, "", f"syc: 72 Bind at {port}\n")
+
+
+@test
+def all_addresses_of_this_host(room):
+    port = room.port()
+    hub_files(room, port)
+    room.write("site", f"relay hub hub.conf 0.0.0.0\nentry hub {port}\nprotect auth.* hub audit\n")
+    relay = room.start("hub", port)
+    send_all(port, messages(2))
+    send_all(port, messages(2, 2), "127.0.0.5")
+    room.holds("audit.log", messages(4))
+    relay.stops_with(totals(4, 0, 0, ("audit", 4, 4, 0, 0)))
+    room.ports_are_free(port)
+
+
+@test
 def port_of_another_relay(room):
     relay, port = room.hub()
     refuses(room, ["site", "hub"], 4, "", f"syc: 72 Bind at {port}\n")

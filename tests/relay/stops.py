@@ -193,6 +193,20 @@ def while_a_receiver_reads_nothing(room):
 
 
 @test
+def while_a_receiver_reads_slowly(room):
+    relay, port, inner = forwarding(room, size=1000, fullDelayMark=900)
+    receiver = Receiver(inner, reads=False, small=True)
+    pump = Pump(port, 0, "a" * 60_000)
+    receiver.is_connected()
+    pump.is_held()
+    receiver.drips()
+    _, lost, _, _, _ = stopped(room, relay, port)
+    same("lost", lost, 0)
+    pump.end()
+    receiver.close()
+
+
+@test
 def while_a_receiver_takes_no_connection(room):
     relay, port, inner = forwarding(room)
     # A listener whose places are all taken: a further connection is neither made nor refused.
