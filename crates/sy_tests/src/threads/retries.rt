@@ -38,9 +38,11 @@ fn runs<R: Threads + Wait + Clock + Copy + Drop + Send + 'static>(
     Ok(is_offered && is_right)
 }
 
-// Each row: what stands behind the input; how many messages the devices take at first, and then refuse; the bytes; how many offers are taken and refused
-// then; and the totals.
-const RETRIES: [(&str, (u64, u64), &str, (u32, u32), &str); 7] = [
+// What stands behind the input; how many messages the devices take at first, and then refuse; the bytes that come; how many offers are taken and
+// refused then; and the totals.
+type Row = (&'static str, (u64, u64), &'static str, (u32, u32), &'static str);
+
+static RETRIES: [Row; 7] = [
     (
         r#"action(name="audit" type="omfile" file="a" action.resumeRetryCount="-1" action.resumeInterval="0")"#,
         (1, 2),
@@ -92,13 +94,25 @@ const RETRIES: [(&str, (u64, u64), &str, (u32, u32), &str); 7] = [
     ),
 ];
 
+// The number of the first row that isn't right.
+fn first_wrong<R: Threads + Wait + Clock + Copy + Drop + Send + 'static>(
+    rt: R,
+    alloc: Global,
+    rows: &[Row],
+) -> Result<Option<usize>, AllocError> {
+    for (number, row) in rows.iter().enumerate() {
+        let (behind, answers, bytes, offers, wanted) = *row;
+        let script = script_of(alloc, behind)?;
+        if !runs(rt, alloc, script.as_str(), answers, bytes, offers, wanted)? {
+            return Ok(Some(number));
+        }
+    }
+    Ok(None)
+}
+
 #[test]
 fn failing_devices_are_tried_again(rt: HostRuntime) -> Result<(), Fail> {
-    let alloc = rt.alloc();
-    for (behind, answers, bytes, offers, wanted) in RETRIES {
-        let script = script_of(alloc, behind)?;
-        let is_right = runs(rt, alloc, script.as_str(), answers, bytes, offers, wanted)?;
-        assert!(rt; is_right, "{behind}: {wanted}");
-    }
+    let wrong = first_wrong(rt, rt.alloc(), &RETRIES)?;
+    assert!(rt; wrong.is_none(), "row {}", wrong.unwrap_or(0));
     Ok(())
 }
