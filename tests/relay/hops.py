@@ -111,6 +111,23 @@ def two_inputs_with_rulesets_and_tests(room):
 
 
 @test
+def widest_relay(room):
+    # 64 inputs, 256 archives, and 256 workers: one of the main queue, the others of four rulesets
+    ports, text = [room.port() for _ in range(64)], ""
+    for queue in range(4):
+        text += f'ruleset(name="r{queue}" queue.type="LinkedList" queue.workerThreads="{63 + (queue > 0)}") {{\n'
+        text += "".join(omfile(f"a{it}", f"a{it}.log") for it in range(64 * queue, 64 * queue + 64)) + "}\n"
+    room.site({"hub": module() + "".join(imtcp(port, ruleset=f"r{it % 4}") for it, port in enumerate(ports)) + text})
+    relay = room.start_unchecked("hub", *ports)
+    for it, port in enumerate(ports):
+        send_all(port, messages(5, connection=it))
+    for it in range(256):
+        room.has(f"a{it}.log", 80)
+    relay.stops_with(totals(320, 0, 0, *((f"a{it}", 80, 80, 0, 0) for it in range(256))))
+    room.ports_are_free(*ports)
+
+
+@test
 def longest_and_odd_messages(room):
     edge, hub, port = two_relays(room, 100)
     head = b"<34>1 - - - - - - "

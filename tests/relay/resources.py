@@ -2,9 +2,10 @@
 
 import os
 import resource
+import threading
 
 from peers import Sender, frame, message, messages, send_all
-from room import Failure, same, test, totals, until
+from room import Failure, imtcp, is_read, main_queue, module, omfile, omfwd, same, test, totals, until
 
 MANY = 1000
 
@@ -147,6 +148,30 @@ def stop_without_descriptors(room):
     room.ports_are_free(port)
     for it in senders:
         it.close()
+
+
+@test
+def memory_that_runs_out_for_a_while(room):
+    entry, inner, count = room.port(), room.port(), 200_000
+    room.site({"edge": module() + main_queue(size=1_000_000, fullDelayMark=900_000) + imtcp(entry) + omfwd("up", "hub", inner, -1, 1),
+               "hub": module() + imtcp(inner) + omfile("audit", "audit.log")}, f"entry edge {entry}", "protect auth.* hub audit")
+    edge = room.start("edge", entry)
+    send_all(entry, messages(10))
+    room_left = edge.status_field("VmSize") * 1024 + 30_000_000
+    resource.prlimit(edge.pid, resource.RLIMIT_AS, (room_left, resource.RLIM_INFINITY))
+    texts = messages(count, 10, text="a" * 300)
+    sending = threading.Thread(target=send_all, args=(entry, texts), daemon=True)
+    sending.start()
+    until("it has no memory left", lambda: edge.status_field("VmSize") * 1024 > room_left - 1_000_000)
+    until("it reads no more", lambda: not is_read(entry))
+    resource.prlimit(edge.pid, resource.RLIMIT_AS, (resource.RLIM_INFINITY, resource.RLIM_INFINITY))
+    hub = room.start("hub", inner)
+    room.has("audit.log", count + 10)
+    sending.join()
+    edge.stops_with(totals(count + 10, 0, 0, ("up", count + 10, count + 10, 0, 0)))
+    hub.stops_with(totals(count + 10, 0, 0, ("audit", count + 10, count + 10, 0, 0)))
+    if room.lines("audit.log") != messages(10) + texts:
+        raise Failure("the archive has other lines than the messages")
 
 
 @test
