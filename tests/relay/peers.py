@@ -185,11 +185,11 @@ class Receiver:
             pass
 
     def drips(self):
-        """Reads from now on 4 KiB of each connection, a hundred times a second at most."""
+        """Reads from now on 16 KiB of each connection, ten times a second at most."""
         def run(connection):
             try:
-                while connection.recv(4096):
-                    time.sleep(0.01)
+                while connection.recv(16_384):
+                    time.sleep(0.1)
             except OSError:
                 pass
         for connection, _ in self.connections:

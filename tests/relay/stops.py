@@ -195,7 +195,7 @@ def while_a_receiver_reads_nothing(room):
 @test
 def while_a_receiver_reads_slowly(room):
     relay, port, inner = forwarding(room, size=1000, fullDelayMark=900)
-    receiver = Receiver(inner, reads=False, small=True)
+    receiver = Receiver(inner, reads=False)
     pump = Pump(port, 0, "a" * 60_000)
     receiver.is_connected()
     pump.is_held()
