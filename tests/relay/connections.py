@@ -1,6 +1,6 @@
 """More connections than hands, and senders that are slow, half-closed or reset."""
 
-from peers import Pump, Sender, frame, frames, message, messages, send_all
+from peers import Pump, Sender, frame, frames, message, messages, send_all, send_side_by_side
 from room import Failure, imtcp, is_read, module, omfile, same, test, totals, until
 
 HANDS = 64
@@ -65,6 +65,20 @@ def hands_of_each_input(room):
 
 
 @test
+def all_hands_at_once(room):
+    relay, port = room.hub()
+    lists = [messages(500, connection=it, text="a" * it) for it in range(HANDS)]
+    send_side_by_side(port, lists)
+    count = 500 * HANDS
+    room.has("audit.log", count)
+    relay.stops_with(totals(count, 0, 0, ("audit", count, count, 0, 0)))
+    lines = room.lines("audit.log")
+    for it, texts in enumerate(lists):
+        if [line for line in lines if line.split(b" ")[7] == b"c%d" % it] != texts:
+            raise Failure(f"connection {it}: the archive has other lines than its messages in their order")
+
+
+@test
 def half_closed_at_once(room):
     relay, port = room.hub()
     send_all(port, messages(5000))
@@ -92,6 +106,18 @@ def reset_between_frames(room):
     send_all(port, messages(1, 100))
     room.holds("audit.log", messages(101))
     relay.stops_with(totals(101, 0, 0, ("audit", 101, 101, 0, 0)), [f"syc: 71 Read at {port}"])
+
+
+@test
+def reset_at_once(room):
+    relay, port = room.hub()
+    for _ in range(300):
+        Sender(port).reset()
+    send_all(port, messages(5))
+    room.holds("audit.log", messages(5))
+    relay.rests(port)
+    same("totals", relay.stop(), totals(5, 0, 0, ("audit", 5, 5, 0, 0)))
+    same("faults", set(relay.faults()) <= {f"syc: 71 Read at {port}"}, True)
 
 
 @test
