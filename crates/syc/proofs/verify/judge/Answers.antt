@@ -1,3 +1,4 @@
+use Rattle.std.proofs.Common.{◌∷◌}
 use Rattle.sy_site.specs.texts.Files.{file_names}
 use Rattle.std.proofs.lemmas.Result.{err_from_is_err_and}
 use Rattle.syc.proofs.Endings.{certificate_unread, site_unread}
@@ -50,7 +51,7 @@ returns-in_err-certificate-clause-unread g c =
     let why = c.in_err-certificate.field-0.0 in
     rw (p.1, p.2) (λ text is_site.
     let may_fail = g.F.Files.may_fail c.args.files.now in
-    unread_behind may_fail c.args.site_name.now _ why
+    unread_behind may_fail c.args.site_name.now (c.args.certificate_name.now ∷ file_names text) why
     (unread_first may_fail c.args.certificate_name.now (file_names text) why c.in_err-certificate.ensures.unread))
 
 pub returns-in_err-answer-clause-unread : goal.returns-in_err-answer-clause-unread
