@@ -1,0 +1,10 @@
+use Rattle.std.proofs.Common.{rules}
+use Rattle.std.specs.Arc.{arc_value}
+use Rattle.syc.proofs.Offers.{all_taken, some_taken}
+use Rattle.syc.proofs.archive.ArchiveDevice.offer_all.Goals as goal
+
+pub returns-in_default-None-clause-steps : goal.returns-in_default-None-clause-steps
+returns-in_default-None-clause-steps g c = all_taken arc_value c.args.messages.now c.offer_all.result.0 (search rules)
+
+pub returns-in_default-Some-clause-steps : goal.returns-in_default-Some-clause-steps
+returns-in_default-Some-clause-steps g c = some_taken arc_value c.args.messages.now c.offer_all.result.0 c.fail.result (search rules)
