@@ -20,29 +20,48 @@ use std::time::Clock;
 use sy_runtime::{ConnEnd, Gate, Relay, RunFault, Stopped, Workers};
 use sy_wire::FromRead;
 
-// The relay of a script, with devices that take so many messages, refuse so many, and then take all.
-pub(crate) fn started<R, G>(
+// A relay at work.
+#[derive(Drop)]
+pub(crate) struct Running<R: Threads + Wait + Clock + Copy + Drop + Send + Sync + 'static> {
+    pub(crate) relay: Relay<Holding<R>>,
+    pub(crate) workers: Workers,
+    pub(crate) door: Arc<Door>,
+    pub(crate) log: Arc<Log>,
+}
+
+// The relay of a script that has this behind its input, with devices that take so many messages, refuse so many, and then take all; its gate holds the
+// call of this number, and each offer of this worker.
+pub(crate) fn started<R: Threads + Wait + Clock + Copy + Drop + Send + Sync + 'static>(
     rt: R,
     alloc: Global,
-    script: &str,
-    log: &Arc<Log>,
+    behind: &str,
     answers: (u64, u64),
-    gate: G,
-) -> Result<Option<(Relay<G>, Workers)>, AllocError>
-where
-    R: Threads + Wait + Clock + Copy + Drop + Send + 'static,
-    G: Gate + Send + Sync + 'static,
-{
+    call: u32,
+    worker: u32,
+) -> Result<Option<Running<R>>, AllocError> {
+    let script = script_of(alloc, behind)?;
     let Ok(plan) = planned(alloc, script.as_bytes())? else {
         return Ok(None);
     };
-    let devices = devices_of(rt, alloc, &plan, log, answers.0, answers.1)?;
+    let (door, log) = (Door::new(alloc)?, Log::new(alloc)?);
+    let devices = devices_of(alloc, &plan, &log, answers)?;
     if devices.len() != plan.actions().len() {
         return Ok(None);
     }
     let plan = Arc::new(alloc, plan).map_err(|_| AllocError)?;
+    let gate = Holding {
+        rt,
+        door: Arc::try_clone(&door)?,
+        call,
+        worker,
+    };
     match Relay::start(rt, alloc, plan, None, devices, gate) {
-        Ok(started) => Ok(Some(started)),
+        Ok((relay, workers)) => Ok(Some(Running {
+            relay,
+            workers,
+            door,
+            log,
+        })),
         Err(RunFault::NoMemory) => Err(AllocError),
         Err(_) => Ok(None),
     }
@@ -121,40 +140,4 @@ pub(crate) fn script_of(alloc: Global, behind: &str) -> Result<String, AllocErro
     script.push_str(INPUT)?;
     script.push_str(behind)?;
     Ok(script)
-}
-
-// A relay whose gate holds the call of this number, or each offer of this worker.
-#[derive(Drop)]
-pub(crate) struct Held<R: Threads + Wait + Clock + Copy + Drop + Send + Sync + 'static> {
-    pub(crate) relay: Relay<Holding<R>>,
-    pub(crate) workers: Workers,
-    pub(crate) door: Arc<Door>,
-    pub(crate) log: Arc<Log>,
-}
-
-pub(crate) fn held<R: Threads + Wait + Clock + Copy + Drop + Send + Sync + 'static>(
-    rt: R,
-    alloc: Global,
-    behind: &str,
-    call: u32,
-    worker: u32,
-) -> Result<Option<Held<R>>, AllocError> {
-    let script = script_of(alloc, behind)?;
-    let door = Door::new(alloc)?;
-    let log = Log::new(alloc, 0)?;
-    let gate = Holding {
-        rt,
-        door: Arc::try_clone(&door)?,
-        call,
-        worker,
-    };
-    match started(rt, alloc, script.as_str(), &log, (0, 0), gate)? {
-        Some((relay, workers)) => Ok(Some(Held {
-            relay,
-            workers,
-            door,
-            log,
-        })),
-        None => Ok(None),
-    }
 }

@@ -1,16 +1,20 @@
-//! A gate that holds a worker until it is let go.
+//! A gate that holds a worker until it is let go, and tells of offers that ended.
 
-use super::log::LIMIT;
+use super::log::Log;
 use std::alloc::{AllocError, Global};
 use std::sync::{Arc, Condvar, Mutex, Wait};
 use std::time::{Clock, Duration};
 use sy_runtime::Gate;
 
+/// How long a test waits for another thread, in seconds.
+const LIMIT: u64 = 20;
+
 #[derive(Drop)]
 struct Calls {
-    // how many calls there were, and of how many workers that are held
+    // how many calls there were, of how many workers that are held, and behind how many offers of the first worker
     count: u32,
     held: u32,
+    first: u32,
     is_free: bool,
 }
 
@@ -27,6 +31,7 @@ impl Door {
             calls: Mutex::new(Calls {
                 count: 0,
                 held: 0,
+                first: 0,
                 is_free: false,
             }),
             told: Condvar::new(),
@@ -35,19 +40,18 @@ impl Door {
     }
 
     // A call, which is held where it is this one, or is to be held.
-    fn pass<R: Wait + Clock>(&self, rt: &R, call: u32, is_held: bool) {
+    fn pass<R: Wait + Clock>(&self, rt: &R, call: u32, is_held: bool, is_first: bool) {
         let mut calls = self.calls.lock(rt);
         calls.count = calls.count.wrapping_add(1);
+        calls.first = calls.first.wrapping_add(u32::from(is_first));
+        self.told.notify_all();
         if calls.count == call || is_held {
             calls.held = calls.held.wrapping_add(1);
-            self.told.notify_all();
             let limit = Duration::from_secs(LIMIT);
             let _ = self
                 .told
                 .wait_timeout_while(rt, calls, limit, |it| !it.is_free);
-            return;
         }
-        self.told.notify_all();
     }
 
     /// Waits until there were so many calls, one of which is held; whether it is so.
@@ -58,6 +62,32 @@ impl Door {
             it.count < count || it.held == 0
         });
         calls.count >= count && calls.held > 0
+    }
+
+    /// Waits until so many offers of the first worker have ended; whether they have.
+    pub fn waits_for_first<R: Wait + Clock>(&self, rt: &R, count: u32) -> bool {
+        let calls = self.calls.lock(rt);
+        let limit = Duration::from_secs(LIMIT);
+        let (calls, _) = self
+            .told
+            .wait_timeout_while(rt, calls, limit, |it| it.first < count);
+        calls.first >= count
+    }
+
+    /// Waits until so many offers were taken and so many refused; whether they were.
+    pub fn waits_for_offers<R: Wait + Clock>(
+        &self,
+        rt: &R,
+        log: &Log,
+        taken: u32,
+        refused: u32,
+    ) -> bool {
+        let calls = self.calls.lock(rt);
+        let limit = Duration::from_secs(LIMIT);
+        let _ = self
+            .told
+            .wait_timeout_while(rt, calls, limit, |_| !log.has(taken, refused));
+        log.has(taken, refused)
     }
 
     /// Lets go whoever is held, and holds nobody any more.
@@ -78,10 +108,11 @@ pub struct Holding<R: Wait + Clock + Drop> {
 
 impl<R: Wait + Clock + Drop> Gate for Holding<R> {
     fn before(&self, worker: u32) {
-        self.door.pass(&self.rt, self.call, worker == self.worker);
+        self.door
+            .pass(&self.rt, self.call, worker == self.worker, false);
     }
 
-    fn after(&self, _: u32) {
-        self.door.pass(&self.rt, self.call, false);
+    fn after(&self, worker: u32) {
+        self.door.pass(&self.rt, self.call, false, worker == 0);
     }
 }

@@ -1,8 +1,7 @@
 //! What devices are offered, and when.
 
-use super::log::Log;
-use super::retries::NoGate;
-use super::{ONE, connected, one_end, script_of, started, stops};
+use super::door::Holding;
+use super::{ONE, connected, one_end, started, stops};
 use crate::rows::put_text;
 use std::alloc::{AllocError, Global};
 use std::sync::Wait;
@@ -16,37 +15,26 @@ use sy_runtime::{ConnEnd, Relay};
 const APART: &str =
     r#"action(name="audit" type="omfile" file="a" queue.type="LinkedList") action(name="copy" type="omfile" file="c" queue.type="LinkedList")"#;
 
-// A relay of a script whose offers wait until so many have begun: whether it is given these bytes, has so many taken, and stops with these totals; and
-// whether these lines were taken.
-fn takes<R: Threads + Wait + Clock + Copy + Drop + Send + 'static>(
+// While the worker of one action is held at the gate with a message, that of the other has it taken.
+fn go_on_apart<R: Threads + Wait + Clock + Copy + Drop + Send + Sync + 'static>(
     rt: R,
     alloc: Global,
-    behind: &str,
-    meeting: u32,
-    bytes: &str,
-    taken: u32,
-    wanted: &str,
-    lines: &str,
 ) -> Result<bool, AllocError> {
-    let script = script_of(alloc, behind)?;
-    let log = Log::new(alloc, meeting)?;
-    let Some((relay, workers)) = started(rt, alloc, script.as_str(), &log, (0, 0), NoGate)? else {
+    let Some(held) = started(rt, alloc, APART, (0, 0), 0, 1)? else {
         return Ok(false);
     };
-    let end = connected(&rt, alloc, &relay, bytes);
-    let is_taken = log.waits_for(&rt, taken, 0);
-    let is_right = stops(&rt, relay, workers, one_end(alloc, end)?, wanted);
-    Ok(is_taken && is_right && log.is(&rt, lines.as_bytes()))
+    let end = connected(&rt, alloc, &held.relay, ONE);
+    let is_apart = held.door.waits_for(&rt, 1) && held.door.waits_for_offers(&rt, &held.log, 1, 0);
+    held.door.release(&rt);
+    let is_taken = held.door.waits_for_offers(&rt, &held.log, 2, 0);
+    let ends = one_end(alloc, end)?;
+    let wanted = "1/0/2/0/0/0 1/0/0 1/0/0";
+    Ok(stops(&rt, held.relay, held.workers, ends, wanted) && is_apart && is_taken)
 }
 
-const TWICE: &str = "<34>1 - - - - - -\n<34>1 - - - - - -\n";
-
-// The offer to each of two devices waits until the other's has begun.
 #[test]
-fn devices_are_offered_at_once(rt: HostRuntime) -> Result<(), Fail> {
-    let wanted = "1/0/2/0/0/0 1/0/0 1/0/0";
-    let is_right = takes(rt, rt.alloc(), APART, 2, ONE, 2, wanted, TWICE)?;
-    assert!(rt; is_right);
+fn no_lock_is_held_over_an_offer(rt: HostRuntime) -> Result<(), Fail> {
+    assert!(rt; go_on_apart(rt, rt.alloc())?);
     Ok(())
 }
 
@@ -72,13 +60,29 @@ fn framed(alloc: Global, messages: &[&str]) -> Result<(String, String), AllocErr
     Ok((frames, lines))
 }
 
+// Whether three messages that come as these frames are taken as these lines.
+fn takes<R: Threads + Wait + Clock + Copy + Drop + Send + Sync + 'static>(
+    rt: R,
+    alloc: Global,
+    frames: &str,
+    lines: &str,
+) -> Result<bool, AllocError> {
+    let Some(running) = started(rt, alloc, AUDIT, (0, 0), 0, u32::MAX)? else {
+        return Ok(false);
+    };
+    let end = connected(&rt, alloc, &running.relay, frames);
+    let is_taken = running.door.waits_for_offers(&rt, &running.log, 3, 0);
+    let is_same = running.log.is(lines.as_bytes());
+    let ends = one_end(alloc, end)?;
+    let wanted = "3/0/0/0/0/0 3/0/0";
+    Ok(stops(&rt, running.relay, running.workers, ends, wanted) && is_taken && is_same)
+}
+
 #[test]
 fn messages_are_offered_as_they_came(rt: HostRuntime) -> Result<(), Fail> {
     let alloc = rt.alloc();
     let (frames, lines) = framed(alloc, &MESSAGES)?;
-    let (frames, lines) = (frames.as_str(), lines.as_str());
-    let is_right = takes(rt, alloc, AUDIT, 0, frames, 3, "3/0/0/0/0/0 3/0/0", lines)?;
-    assert!(rt; is_right);
+    assert!(rt; takes(rt, alloc, frames.as_str(), lines.as_str())?);
     Ok(())
 }
 
@@ -86,10 +90,10 @@ const WORKERS: &str =
     r#"main_queue(queue.workerThreads="3" queue.size="300" queue.dequeueBatchSize="20" queue.timeoutEnqueue="60000") action(name="audit" type="omfile" file="a" queue.type="LinkedList" queue.workerThreads="2" queue.size="100" queue.timeoutEnqueue="60000") action(name="copy" type="omfile" file="c")"#;
 
 // What two connections at once count.
-fn both<R: Threads + Wait + Clock + Sync>(
+fn both<R: Threads + Wait + Clock + Copy + Drop + Send + Sync + 'static>(
     rt: &R,
     alloc: Global,
-    relay: &Relay<NoGate>,
+    relay: &Relay<Holding<R>>,
     bytes: &str,
 ) -> (ConnEnd, ConnEnd) {
     thread::join(
@@ -105,17 +109,17 @@ fn takes_all<R: Threads + Wait + Clock + Copy + Drop + Send + Sync + 'static>(
     alloc: Global,
     bytes: &str,
 ) -> Result<bool, AllocError> {
-    let script = script_of(alloc, WORKERS)?;
-    let log = Log::new(alloc, 0)?;
-    let Some((relay, workers)) = started(rt, alloc, script.as_str(), &log, (0, 0), NoGate)? else {
+    let Some(running) = started(rt, alloc, WORKERS, (0, 0), 0, u32::MAX)? else {
         return Ok(false);
     };
-    let (one, other) = both(&rt, alloc, &relay, bytes);
-    let is_taken = log.waits_for(&rt, 20000, 0);
+    let (one, other) = both(&rt, alloc, &running.relay, bytes);
+    let is_taken = running
+        .door
+        .waits_for_offers(&rt, &running.log, 20000, 0);
     let mut ends = one_end(alloc, one)?;
     ends.push(other)?;
     let wanted = "10000/0/10000/0/0/0 10000/0/0 10000/0/0";
-    Ok(stops(&rt, relay, workers, ends, wanted) && is_taken)
+    Ok(stops(&rt, running.relay, running.workers, ends, wanted) && is_taken)
 }
 
 #[test]

@@ -1,6 +1,6 @@
 //! Full queues and discard marks.
 
-use super::{connected, held, one_end, stops};
+use super::{connected, one_end, started, stops};
 use std::alloc::{AllocError, Global};
 use std::sync::Wait;
 use std::test::Fail;
@@ -25,7 +25,7 @@ fn filled<R: Threads + Wait + Clock + Copy + Drop + Send + Sync + 'static>(
     taken: u32,
     wanted: &str,
 ) -> Result<bool, AllocError> {
-    let Some(held) = held(rt, alloc, behind, 0, worker)? else {
+    let Some(held) = started(rt, alloc, behind, (0, 0), 0, worker)? else {
         return Ok(false);
     };
     let mut ends = one_end(
@@ -34,9 +34,9 @@ fn filled<R: Threads + Wait + Clock + Copy + Drop + Send + Sync + 'static>(
     )?;
     let is_held = held.door.waits_for(&rt, 1);
     ends.push(connected(&rt, alloc, &held.relay, bytes))?;
-    let is_copied = held.log.waits_for(&rt, copied, 0);
+    let is_copied = held.door.waits_for_offers(&rt, &held.log, copied, 0);
     held.door.release(&rt);
-    let is_taken = held.log.waits_for(&rt, taken, 0);
+    let is_taken = held.door.waits_for_offers(&rt, &held.log, taken, 0);
     let is_right = stops(&rt, held.relay, held.workers, ends, wanted);
     Ok(is_held && is_copied && is_taken && is_right)
 }

@@ -1,42 +1,11 @@
 //! Devices that fail, and how often they are tried again.
 
-use super::log::Log;
-use super::{ONE, TWO, connected, one_end, script_of, started, stops};
+use super::{ONE, TWO, connected, one_end, started, stops};
 use std::alloc::{AllocError, Global};
 use std::sync::Wait;
 use std::test::Fail;
 use std::thread::Threads;
 use std::time::Clock;
-use sy_runtime::Gate;
-
-#[derive(Drop)]
-pub(crate) struct NoGate;
-
-impl Gate for NoGate {
-    fn before(&self, _: u32) {}
-
-    fn after(&self, _: u32) {}
-}
-
-// A relay of a script, whose devices answer so: it is given these bytes, waits until so many were taken and so many refused, and stops.
-fn runs<R: Threads + Wait + Clock + Copy + Drop + Send + 'static>(
-    rt: R,
-    alloc: Global,
-    script: &str,
-    answers: (u64, u64),
-    bytes: &str,
-    offers: (u32, u32),
-    wanted: &str,
-) -> Result<bool, AllocError> {
-    let log = Log::new(alloc, 0)?;
-    let Some((relay, workers)) = started(rt, alloc, script, &log, answers, NoGate)? else {
-        return Ok(false);
-    };
-    let end = connected(&rt, alloc, &relay, bytes);
-    let is_offered = log.waits_for(&rt, offers.0, offers.1);
-    let is_right = stops(&rt, relay, workers, one_end(alloc, end)?, wanted);
-    Ok(is_offered && is_right)
-}
 
 // What stands behind the input; how many messages the devices take at first, and then refuse; the bytes that come; how many offers are taken and
 // refused then; and the totals.
@@ -94,16 +63,33 @@ static RETRIES: [Row; 7] = [
     ),
 ];
 
+// Whether a relay whose devices answer so is given these bytes, has so many offers taken and refused, and stops with these totals.
+fn is_right<R: Threads + Wait + Clock + Copy + Drop + Send + Sync + 'static>(
+    rt: R,
+    alloc: Global,
+    row: &Row,
+) -> Result<bool, AllocError> {
+    let (behind, answers, bytes, offers, wanted) = *row;
+    let Some(running) = started(rt, alloc, behind, answers, 0, u32::MAX)? else {
+        return Ok(false);
+    };
+    let end = connected(&rt, alloc, &running.relay, bytes);
+    let is_offered = running
+        .door
+        .waits_for_offers(&rt, &running.log, offers.0, offers.1);
+    let ends = one_end(alloc, end)?;
+    let is_right = stops(&rt, running.relay, running.workers, ends, wanted);
+    Ok(is_offered && is_right)
+}
+
 // The number of the first row that isn't right.
-fn first_wrong<R: Threads + Wait + Clock + Copy + Drop + Send + 'static>(
+fn first_wrong<R: Threads + Wait + Clock + Copy + Drop + Send + Sync + 'static>(
     rt: R,
     alloc: Global,
     rows: &[Row],
 ) -> Result<Option<usize>, AllocError> {
-    for (number, row) in rows.iter().enumerate() {
-        let (behind, answers, bytes, offers, wanted) = *row;
-        let script = script_of(alloc, behind)?;
-        if !runs(rt, alloc, script.as_str(), answers, bytes, offers, wanted)? {
+    for number in 0..rows.len() {
+        if !is_right(rt, alloc, &rows[number])? {
             return Ok(Some(number));
         }
     }

@@ -1,6 +1,6 @@
 //! Relays that stop while their workers are at the gate.
 
-use super::{THREE, TWO, connected, held, one_end, stops};
+use super::{THREE, TWO, connected, one_end, started, stops};
 use std::alloc::{AllocError, Global};
 use std::sync::Wait;
 use std::test::Fail;
@@ -16,13 +16,13 @@ fn offers_at_once<R: Threads + Wait + Clock + Copy + Drop + Send + Sync + 'stati
     has_end: bool,
     wanted: &str,
 ) -> Result<bool, AllocError> {
-    let Some(held) = held(rt, alloc, PAIR, 1, u32::MAX)? else {
+    let Some(held) = started(rt, alloc, PAIR, (0, 0), 1, u32::MAX)? else {
         return Ok(false);
     };
     let end = connected(&rt, alloc, &held.relay, TWO);
     let is_begun = held.door.waits_for(&rt, 2);
     held.door.release(&rt);
-    let is_taken = held.log.waits_for(&rt, 2, 0);
+    let is_taken = held.door.waits_for_offers(&rt, &held.log, 2, 0);
     let ends = if has_end {
         one_end(alloc, end)?
     } else {
@@ -51,7 +51,7 @@ fn stops_at<R: Threads + Wait + Clock + Copy + Drop + Send + Sync + 'static>(
     call: u32,
     wanted: &str,
 ) -> Result<bool, AllocError> {
-    let Some(held) = held(rt, alloc, SINGLE, call, u32::MAX)? else {
+    let Some(held) = started(rt, alloc, SINGLE, (0, 0), call, u32::MAX)? else {
         return Ok(false);
     };
     let end = connected(&rt, alloc, &held.relay, THREE);
