@@ -70,25 +70,25 @@ module _ (one : (text : List ℕ) (files : List File) (a b : Site) → Describes
   -- ---- what was printed
 
   printed_whole : (text : List ℕ) (status : ℕ) (old new : Streams) → Prints text true status old new → status ≡ 0 → Printed text old new
-  printed_whole text status old new (inl printed) zero = record { wrote = printed.1; flushed = printed.2; quiet = printed.4 }
-  printed_whole text status old new (inr torn) zero = absurd (omega (arith, torn.0, zero))
+  printed_whole text status old new (inl printed) ends = record { wrote = printed.1; flushed = printed.2; quiet = printed.4 }
+  printed_whole text status old new (inr torn) ends = absurd (omega (arith, torn.0, ends))
 
   not_refused : (text : List ℕ) (is_accepted : Bool) (status : ℕ) (old new : Streams) → is_accepted ≡ false → Prints text is_accepted status old new
       → status ≡ 0 → ⊥
-  not_refused text true status old new refused printed zero = cc
-  not_refused text false status old new refused (inl printed) zero = omega (arith, printed.0, zero)
-  not_refused text false status old new refused (inr torn) zero = omega (arith, torn.0, zero)
+  not_refused text true status old new refused printed ends = cc
+  not_refused text false status old new refused (inl printed) ends = omega (arith, printed.0, ends)
+  not_refused text false status old new refused (inr torn) ends = omega (arith, torn.0, ends)
 
   some_answer : (status : ℕ) (IsReported : List ℕ → Type 0) → HasNoAnswer bytes_of SITE.now status IsReported → status ≡ 0 → ⊥
-  some_answer status IsReported (inl faulty) zero = omega (arith, faulty.0, zero)
-  some_answer status IsReported (inr (inl no_memory)) zero = omega (arith, no_memory.0, zero)
-  some_answer status IsReported (inr (inr unread)) zero = omega (arith, unread.0, zero)
+  some_answer status IsReported (inl faulty) ends = omega (arith, faulty.0, ends)
+  some_answer status IsReported (inr (inl no_memory)) ends = omega (arith, no_memory.0, ends)
+  some_answer status IsReported (inr (inr unread)) ends = omega (arith, unread.0, ends)
 
   accepts : (site : Site) (count status : ℕ) (text : List ℕ) (is_accepted : Bool) (old new : Streams) → IsSiteOf bytes_of SITE.now site
       → KeepsAll site count → text ≡ accepted_line count → is_accepted ≡ true → Prints text is_accepted status old new → status ≡ 0 → IsAccepted old new
-  accepts site count status text is_accepted old new is keeps text_is accepted printed zero =
+  accepts site count status text is_accepted old new is keeps text_is accepted printed ends =
       let number = eight_kept site count is keeps in
-      let whole = printed_whole text status old new (subst (λ b. Prints text b status old new) accepted printed) zero in
+      let whole = printed_whole text status old new (subst (λ b. Prints text b status old new) accepted printed) ends in
       record {
         site = site;
         is = the_site site is;
@@ -97,15 +97,15 @@ module _ (one : (text : List ℕ) (files : List File) (a b : Site) → Describes
       }
 
   pub checked : (status : ℕ) (old new : Streams) → AskedIs asked.Check bytes_of SITE.now status old new → status ≡ 0 → IsAccepted old new
-  checked status old new (inl (site, is, text, is_accepted, inl kept, printed)) zero =
-      accepts site kept.count status text is_accepted old new is kept.keeps kept.text_is kept.accepted printed zero
-  checked status old new (inl (site, is, text, is_accepted, inr found, printed)) zero =
-      absurd (not_refused text is_accepted status old new found.refused printed zero)
-  checked status old new (inr none) zero = absurd (some_answer status (Tells old new) none.0 zero)
+  checked status old new (inl (site, is, text, is_accepted, inl kept, printed)) ends =
+      accepts site kept.count status text is_accepted old new is kept.keeps kept.text_is kept.accepted printed ends
+  checked status old new (inl (site, is, text, is_accepted, inr found, printed)) ends =
+      absurd (not_refused text is_accepted status old new found.refused printed ends)
+  checked status old new (inr none) ends = absurd (some_answer status (Tells old new) none.0 ends)
 
   pub certified : ((site : Site) (rows : List Row) → IsFit site rows → IsSound site) → (status : ℕ) (old new : Streams)
       → AskedIs asked.Certify bytes_of SITE.now status old new → status ≡ 0 → IsCertified old new
-  certified fit_is_sound status old new (inl (site, is, text, is_accepted, inl fit, printed)) zero = record {
+  certified fit_is_sound status old new (inl (site, is, text, is_accepted, inl fit, printed)) ends = record {
     site = site;
     is = the_site site is;
     rows = fit.rows;
@@ -113,44 +113,44 @@ module _ (one : (text : List ℕ) (files : List File) (a b : Site) → Describes
     sound = fit_is_sound site fit.rows fit.fit;
     text = text;
     is_text = fit.is_text;
-    printed = printed_whole text status old new (subst (λ b. Prints text b status old new) fit.accepted printed) zero;
+    printed = printed_whole text status old new (subst (λ b. Prints text b status old new) fit.accepted printed) ends;
   }
-  certified fit_is_sound status old new (inl (site, is, text, is_accepted, inr found, printed)) zero =
-      absurd (not_refused text is_accepted status old new found.refused printed zero)
-  certified fit_is_sound status old new (inr none) zero = absurd (some_answer status (Tells old new) none.0 zero)
+  certified fit_is_sound status old new (inl (site, is, text, is_accepted, inr found, printed)) ends =
+      absurd (not_refused text is_accepted status old new found.refused printed ends)
+  certified fit_is_sound status old new (inr none) ends = absurd (some_answer status (Tells old new) none.0 ends)
 
   -- a verdict on the certificate
   pub verified : (status : ℕ) (old new : Streams) → VerifyIs bytes_of SITE.now CERTIFICATE.now status old new → status ≡ 0 → IsAccepted old new × IsVerified
-  verified status old new (inl (text, is_accepted, of_files, printed)) zero =
+  verified status old new (inl (text, is_accepted, of_files, printed)) ends =
       elim of_files.says [
         | inl fit ↦ (
-          accepts of_files.site fit.count status text is_accepted old new of_files.is_site fit.keeps fit.text_is fit.accepted printed zero,
+          accepts of_files.site fit.count status text is_accepted old new of_files.is_site fit.keeps fit.text_is fit.accepted printed ends,
           record { site = of_files.site; is = the_site of_files.site of_files.is_site; rows = of_files.rows; are_of = of_files.are_of; fit = fit.fit },
         )
-        | inr wrong ↦ absurd (not_refused text is_accepted status old new wrong.refused printed zero)
+        | inr wrong ↦ absurd (not_refused text is_accepted status old new wrong.refused printed ends)
       ]
-  verified status old new (inr (same, inl faulty)) zero = absurd (omega (arith, faulty.0, zero))
-  verified status old new (inr (same, inr none)) zero = absurd (some_answer status (Tells old new) none zero)
+  verified status old new (inr (same, inl faulty)) ends = absurd (omega (arith, faulty.0, ends))
+  verified status old new (inr (same, inr none)) ends = absurd (some_answer status (Tells old new) none ends)
 
   -- ---- a replay
 
   whole_replay : (site : Site) (out : List ℕ) (ending : Ending) (status : ℕ) (old new : SinkState)
       → Replays site 1 0 (opened site) (lines_of EVENTS.now) out ending → replays.IsLeft ending old new → status ≡ replays.status_of ending → status ≡ 0
       → Replays site 1 0 (opened site) (lines_of EVENTS.now) out Ending.Done × (new.is_flushed ≡ true)
-  whole_replay site out Ending.Done status old new replays left is zero = (replays, left.1)
-  whole_replay site out (Ending.Faulty line) status old new replays left is zero = absurd (omega (arith, is, zero))
-  whole_replay site out (Ending.Illegal line) status old new replays left is zero = absurd (omega (arith, is, zero))
-  whole_replay site out (Ending.Full line) status old new replays left is zero = absurd (omega (arith, is, zero))
-  whole_replay site out Ending.NoMemory status old new replays left is zero = absurd (omega (arith, is, zero))
-  whole_replay site out Ending.ReadFailed status old new replays left is zero = absurd (omega (arith, is, zero))
-  whole_replay site out Ending.WriteFailed status old new replays left is zero = absurd (omega (arith, is, zero))
+  whole_replay site out Ending.Done status old new replays left is ends = (replays, left.1)
+  whole_replay site out (Ending.Faulty line) status old new replays left is ends = absurd (omega (arith, is, ends))
+  whole_replay site out (Ending.Illegal line) status old new replays left is ends = absurd (omega (arith, is, ends))
+  whole_replay site out (Ending.Full line) status old new replays left is ends = absurd (omega (arith, is, ends))
+  whole_replay site out Ending.NoMemory status old new replays left is ends = absurd (omega (arith, is, ends))
+  whole_replay site out Ending.ReadFailed status old new replays left is ends = absurd (omega (arith, is, ends))
+  whole_replay site out Ending.WriteFailed status old new replays left is ends = absurd (omega (arith, is, ends))
 
   pub replayed : (status : ℕ) (old new : Streams) → ReplayIs bytes_of SITE.now EVENTS.now status old new → status ≡ 0 → IsReplayed old new
-  replayed status old new (inl (kept, inl none)) zero = absurd (some_answer status (Tells old new) none.0 zero)
-  replayed status old new (inl (kept, inr (inl no_memory))) zero = absurd (omega (arith, no_memory.0, zero))
-  replayed status old new (inl (kept, inr (inr unwritten))) zero = absurd (omega (arith, unwritten.0, zero))
-  replayed status old new (inr (site, is, r)) zero =
-      let whole = whole_replay site r.out r.ending status old.output new.output r.replays r.left r.status_is zero in
+  replayed status old new (inl (kept, inl none)) ends = absurd (some_answer status (Tells old new) none.0 ends)
+  replayed status old new (inl (kept, inr (inl no_memory))) ends = absurd (omega (arith, no_memory.0, ends))
+  replayed status old new (inl (kept, inr (inr unwritten))) ends = absurd (omega (arith, unwritten.0, ends))
+  replayed status old new (inr (site, is, r)) ends =
+      let whole = whole_replay site r.out r.ending status old.output new.output r.replays r.left r.status_is ends in
       record { site = site; is = the_site site is; out = r.out; replays = whole.0; wrote = r.wrote; flushed = whole.1 }
 
 -- ---- status 4

@@ -1,5 +1,5 @@
 //! Files in memory.
-ghost use Rattle.std.specs.Prelude.{◌≡◌, IfErr, IfOk, None, Some, map};
+ghost use Rattle.std.specs.Prelude.{◌≡◌, IfErr, IfOk, IfSome, None, Some, map};
 ghost use Rattle.std.specs.Option.{option_copied};
 ghost use Rattle.sy_site.specs.internal.Given.{file};
 ghost use Rattle.sy_site.specs.texts.Describes.{file_named};
@@ -81,9 +81,9 @@ impl<'a> Files for MemoryFiles<'a> {
     ghost may_fail = { λ m name. bytes_in m name ≡ None };
 
     fn read(&self, name: &str) -> Result<Vec<u8>, FileFault>
-        ensures ok { IfOk result (λ v. bytes_in self.now name.now ≡ Some v.items) }
+        ensures bytes { IfOk result (λ v. IfSome (bytes_in self.now name.now) (λ bytes. v.items ≡ bytes)) }
         ensures err { IfErr result (λ why. why ≡ FileFault.Read → bytes_in self.now name.now ≡ None) }
-        ensures missing { bytes_in self.now name.now ≡ None → IfErr result (λ why. why ≡ FileFault.Read) }
+        ensures missing { bytes_in self.now name.now ≡ None → result ≡ Err FileFault.Read }
     {
         match find(self.files, name) {
             Some(bytes) => copy_of(self.alloc, bytes),
@@ -92,8 +92,9 @@ impl<'a> Files for MemoryFiles<'a> {
     }
 
     fn open(&self, name: &str) -> Result<MemoryFile<'a>, FileFault>
-        ensures ok { IfOk result (λ f. bytes_in self.now name.now ≡ Some f.left.now) }
-        ensures err { IfErr result (λ why. (why ≡ FileFault.Read) × (bytes_in self.now name.now ≡ None)) }
+        ensures bytes { IfOk result (λ f. IfSome (bytes_in self.now name.now) (λ bytes. Some f.left.now ≡ Some bytes)) }
+        ensures err { IfErr result (λ why. why ≡ FileFault.Read → bytes_in self.now name.now ≡ None) }
+        ensures missing { bytes_in self.now name.now ≡ None → result ≡ Err FileFault.Read }
     {
         match find(self.files, name) {
             Some(left) => Ok(MemoryFile { left, calls: 0 }),

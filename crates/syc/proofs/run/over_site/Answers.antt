@@ -14,3 +14,9 @@ returns-in-Replay-clause-fails g c = rw c.in-Replay.is (λ text input is_site is
 
 pub returns-in-Verify-clause-fails : goal.returns-in-Verify-clause-fails
 returns-in-Verify-clause-fails g c = rw c.in-Verify.is (λ text is_site. c.verify.ensures.fails text is_site)
+
+pub returns-in-Ask-clause-answers : goal.returns-in-Ask-clause-answers
+returns-in-Ask-clause-answers g c = rw c.in-Ask.is (λ text known. c.ask.ensures.answered text known)
+
+pub returns-in-Ask-clause-fails : goal.returns-in-Ask-clause-fails
+returns-in-Ask-clause-fails g c = rw c.in-Ask.is (λ text known. c.ask.ensures.fails text known)
