@@ -7,7 +7,8 @@ use Rattle.sy_wire.specs.declared.class.Class.{Class}
 use Rattle.sy_select.specs.Names.{facility_of}
 use Rattle.sy_select.specs.Selectors.{IsSelector, IsSetOf, Part, add, apply, every, holds, last, listed, no_pairs, one, pairs_of, star}
 use Rattle.sy_select.proofs.OneReading.{one_list}
-use Rattle.sy_site.specs.Sites.{Protection, Site, asks_for, is_protected}
+use Rattle.sy_site.specs.Sites.{Site, asks_for, is_protected}
+use Rattle.sy_site.specs.declared.site.Protection.{Protection}
 use Rattle.sy_site.specs.texts.Lines.{is_skipped, word_lines, words}
 use Rattle.sy_site.specs.texts.Files.{file_names}
 use Rattle.sy_site.specs.texts.Shapes.{IsLine, IsProtectLine, Line, ProtectLine}
