@@ -1,5 +1,5 @@
 -- The totals that a relay prints as it ends (this profile's own).
-use Rattle.std.specs.Prelude.{ℕ, ◌+◌, ◌-◌, List, [], ◌∷◌, ◌++◌, Option, codes, length}
+use Rattle.std.specs.Prelude.{◌≡◌, ℕ, ◌+◌, ◌-◌, ◌<◌, ◌^◌, List, [], ◌∷◌, ◌++◌, Option, codes, length}
 use Rattle.std.specs.Fmt.{decimal}
 use Rattle.std.specs.Io.KnownBytes.{Appends}
 use Rattle.sy_chain.specs.Entries.{Entry}
@@ -41,6 +41,12 @@ action_lines _ _ = []
 abbrev pub totals_text : List Action → Totals → ℕ → List ℕ
 totals_text actions totals held = messages_line totals held ++ action_lines actions totals.actions
 
+-- The totals were written, with the number of the entries that are left. (Of 2^64 entries or more it isn't said which number.)
+pub record WroteTotals (actions : List Action) (totals : Totals) (left : List Entry) (old new : Option (List ℕ)) : Type 0 where
+  pub held : ℕ
+  pub held_is : length left < 2 ^ 64 → held ≡ length left
+  pub wrote : Appends old new (totals_text actions totals held)
+
 -- What was written is the totals of a relay that was started with this guard, or with none, and has stopped: they meet the laws, and agree with what
 -- its connections and the hatches of its actions counted.
 pub record EndsWithTotals (actions : List Action) (guard : Option Pairs) (old new : Option (List ℕ)) : Type 0 where
@@ -49,4 +55,4 @@ pub record EndsWithTotals (actions : List Action) (guard : Option Pairs) (old ne
   pub left : List Entry
   pub made : List ℕ
   pub stops : Stops guard ends account left made
-  pub wrote : Appends old new (totals_text actions account.totals (length left))
+  pub wrote : WroteTotals actions account.totals left old new

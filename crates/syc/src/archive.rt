@@ -3,7 +3,7 @@ ghost use Rattle.std.specs.Prelude.{◌≡◌, ◌≤◌, ⊤};
 ghost use Rattle.sy_wire.specs.Streams.{count_after};
 
 use std::alloc::Global;
-use std::fs::{self, File, Files, OpenOptions};
+use std::fs::{self, File, OpenOptions};
 use std::io::{self, Read, Seek, SeekFrom, Write};
 use std::sync::Arc;
 use std::sync::atomic::{AtomicU64, Ordering};
@@ -13,8 +13,8 @@ use sy_wire::{FromWrite, Message};
 /// The device of an archive: it writes lines to the end of a file, and opens that anew where this was asked for since its
 /// last offer. Where it can't be opened, lines go on to the file that it has, and the next offer tries again.
 #[derive(Drop)]
-pub struct Archive<R: Drop> {
-    rt: R,
+pub struct Archive {
+    rt: HostRuntime,
     alloc: Global,
     name: String,
     sink: LineSink<FromWrite<File>>,
@@ -26,7 +26,7 @@ pub struct Archive<R: Drop> {
 }
 
 // Whether what stands last in a file is no line feed. Only ordinary files are read.
-fn is_torn<R: Files<File = File>>(rt: &R, name: &str) -> io::Result<bool> {
+fn is_torn(rt: &HostRuntime, name: &str) -> io::Result<bool> {
     let about = fs::metadata(rt, name)?;
     if !about.is_file() || about.len() == 0 {
         return Ok(false);
@@ -39,7 +39,7 @@ fn is_torn<R: Files<File = File>>(rt: &R, name: &str) -> io::Result<bool> {
 }
 
 // The file of that name, to whose end lines are written. Where it ends in the middle of one, that line is ended.
-fn open_file<R: Files<File = File>>(rt: &R, name: &str) -> io::Result<File> {
+fn open_file(rt: &HostRuntime, name: &str) -> io::Result<File> {
     let is_torn = is_torn(rt, name).unwrap_or(false);
     let mut file = OpenOptions::new().append(true).create(true).open(rt, name)?;
     if is_torn {
@@ -48,9 +48,14 @@ fn open_file<R: Files<File = File>>(rt: &R, name: &str) -> io::Result<File> {
     Ok(file)
 }
 
-impl<R: Files<File = File> + Drop> Archive<R> {
+impl Archive {
     /// The archive of that name, whose file is opened for appending; none where it can't be.
-    pub fn open(rt: R, alloc: Global, name: String, asked: Arc<AtomicU64>) -> Option<Archive<R>> {
+    pub fn open(
+        rt: HostRuntime,
+        alloc: Global,
+        name: String,
+        asked: Arc<AtomicU64>,
+    ) -> Option<Archive> {
         let followed = asked.load(Ordering::SeqCst);
         let file = open_file(&rt, name.as_str()).ok()?;
         Some(Archive {
@@ -89,7 +94,7 @@ impl<R: Files<File = File> + Drop> Archive<R> {
     }
 }
 
-impl<R: Files<File = File> + Drop> Device for Archive<R> {
+impl Device for Archive {
     ghost faults = { λ it. it.failed };
 
     // of a file no proof can say what it holds

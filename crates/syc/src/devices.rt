@@ -1,4 +1,5 @@
 //! The devices of the host.
+ghost use Rattle.std.specs.Prelude.{◌≡◌, IfOk, length};
 
 use crate::archive::Archive;
 use crate::link::Link;
@@ -6,8 +7,7 @@ use crate::listening::socket_address;
 use crate::nowhere::Nowhere;
 use crate::outlets::Outlet;
 use std::alloc::Global;
-use std::fs::{File, Files};
-use std::net::{Ipv4Addr, Net, TcpStream};
+use std::net::Ipv4Addr;
 use std::str;
 use std::sync::Arc;
 use std::sync::atomic::{AtomicBool, AtomicU64};
@@ -21,8 +21,8 @@ pub enum OpenFault {
     NoMemory,
 }
 
-fn archive<R: Files<File = File> + Copy + Drop + Send + 'static>(
-    rt: R,
+fn archive(
+    rt: HostRuntime,
     alloc: Global,
     name: &[u8],
     reopens: &Arc<AtomicU64>,
@@ -45,8 +45,8 @@ fn archive<R: Files<File = File> + Copy + Drop + Send + 'static>(
     Ok(device)
 }
 
-fn forward<R: Net<Stream = TcpStream> + Copy + Drop + Send + 'static>(
-    rt: R,
+fn forward(
+    rt: HostRuntime,
     alloc: Global,
     address: Ipv4Addr,
     port: u16,
@@ -69,8 +69,8 @@ fn nowhere(alloc: Global) -> Result<BoxedDevice, OpenFault> {
     Ok(device)
 }
 
-fn device<R: Net<Stream = TcpStream> + Files<File = File> + Copy + Drop + Send + 'static>(
-    rt: R,
+fn device(
+    rt: HostRuntime,
     alloc: Global,
     outlet: Outlet<'_>,
     is_ending: &Arc<AtomicBool>,
@@ -85,13 +85,15 @@ fn device<R: Net<Stream = TcpStream> + Files<File = File> + Copy + Drop + Send +
 
 /// A device for each outlet, in their order. Files are opened for appending, and anew each time that this is counted; links
 /// are connected when they are needed, and none of their writes waits once the flag is set.
-pub fn devices<R: Net<Stream = TcpStream> + Files<File = File> + Copy + Drop + Send + 'static>(
-    rt: R,
+pub fn devices(
+    rt: HostRuntime,
     alloc: Global,
     outlets: &[Outlet<'_>],
     is_ending: &Arc<AtomicBool>,
     reopens: &Arc<AtomicU64>,
-) -> Result<Vec<BoxedDevice>, OpenFault> {
+) -> Result<Vec<BoxedDevice>, OpenFault>
+    ensures { IfOk result (λ found. length found.items ≡ length outlets.now) }
+{
     let mut found = Vec::new(alloc);
     for outlet in outlets {
         let device = device(rt, alloc, *outlet, is_ending, reopens)?;

@@ -4,7 +4,7 @@ ghost use Rattle.sy_wire.specs.Streams.{count_after};
 
 use crate::link_writer::{LinkWriter, is_open};
 use std::alloc::{AllocError, Global};
-use std::net::{Net, SocketAddr, TcpStream};
+use std::net::{SocketAddr, TcpStream};
 use std::sync::Arc;
 use std::sync::atomic::AtomicBool;
 use std::time::Duration;
@@ -29,8 +29,8 @@ struct Connected {
 /// A link that failed, or that the receiver closed, is dropped, and the next offer connects a new one. So a frame that
 /// wasn't written whole is written from its beginning, on another link.
 #[derive(Drop)]
-pub struct Link<R: Drop> {
-    rt: R,
+pub struct Link {
+    rt: HostRuntime,
     alloc: Global,
     address: SocketAddr,
     is_ending: Arc<AtomicBool>,
@@ -40,7 +40,7 @@ pub struct Link<R: Drop> {
 }
 
 // A stream to that address, whose writes have a time limit.
-fn stream_to<R: Net<Stream = TcpStream>>(rt: &R, address: &SocketAddr) -> Option<TcpStream> {
+fn stream_to(rt: &HostRuntime, address: &SocketAddr) -> Option<TcpStream> {
     let stream = TcpStream::connect_timeout(rt, address, Duration::from_millis(CONNECT_WAIT)).ok()?;
     stream
         .set_write_timeout(Some(Duration::from_millis(WRITE_WAIT)))
@@ -50,8 +50,8 @@ fn stream_to<R: Net<Stream = TcpStream>>(rt: &R, address: &SocketAddr) -> Option
 }
 
 // A new link to that address.
-fn connect<R: Net<Stream = TcpStream>>(
-    rt: &R,
+fn connect(
+    rt: &HostRuntime,
     alloc: Global,
     address: &SocketAddr,
     is_ending: &Arc<AtomicBool>,
@@ -63,9 +63,14 @@ fn connect<R: Net<Stream = TcpStream>>(
     Some(Connected { stream, sink })
 }
 
-impl<R: Net<Stream = TcpStream> + Drop> Link<R> {
+impl Link {
     /// A link to this address, which isn't connected yet. Once the flag is set, none of its writes waits.
-    pub fn new(rt: R, alloc: Global, address: SocketAddr, is_ending: Arc<AtomicBool>) -> Link<R> {
+    pub fn new(
+        rt: HostRuntime,
+        alloc: Global,
+        address: SocketAddr,
+        is_ending: Arc<AtomicBool>,
+    ) -> Link {
         Link {
             rt,
             alloc,
@@ -129,7 +134,7 @@ impl<R: Net<Stream = TcpStream> + Drop> Link<R> {
     }
 }
 
-impl<R: Net<Stream = TcpStream> + Drop> Device for Link<R> {
+impl Device for Link {
     ghost faults = { λ it. it.failed };
 
     // what a link hands on isn't known

@@ -1,6 +1,9 @@
 //! The program `syc`.
 #![tactic(auto)]
 
+ghost use Rattle.std.specs.Prelude.{◌≡◌, ◌<◌, IfOk, length};
+ghost use Rattle.sy_site.specs.Sites.{plan_at};
+
 mod accepting;
 mod all;
 mod answer;
@@ -63,7 +66,7 @@ use serve::{Served, serve};
 use serving::Serving;
 use std::alloc::Global;
 use std::env;
-use std::fs::{File, Files};
+use std::fs::File;
 use std::io::{self, BufWriter};
 use std::net::{Net, TcpListener, TcpStream};
 use std::process::ExitCode;
@@ -72,7 +75,7 @@ use std::sync::atomic::{AtomicBool, AtomicU64};
 use std::sync::{Arc, Wait};
 use std::thread::Threads;
 use std::time::Clock;
-use sy_board::Guard;
+use sy_runtime::BoxedDevice;
 use sy_site::Site;
 use sy_wire::{Buffered, FromRead, FromWrite, Sink, Source};
 
@@ -89,21 +92,33 @@ fn main(rt: HostRuntime) -> ExitCode {
         Ok(begun) => begun,
         Err(status) => return ExitCode::from(status),
     };
-    let status = if is_run(words.as_slice()) {
-        match prepare(rt.alloc(), words.as_slice(), &HostFiles::new(&rt), &mut out) {
-            Ok(prepared) => serve_on(
-                rt,
-                rt.alloc(),
-                prepared,
-                &mut FromRead::new(rt.stdin()),
-                out,
-            ),
-            Err(status) => status,
-        }
-    } else {
-        start(&rt, words.as_slice(), &mut out)
+    if !is_run(words.as_slice()) {
+        return ExitCode::from(start(&rt, words.as_slice(), &mut out));
+    }
+    let alloc = rt.alloc();
+    let (site, relay, guard) = match prepare(
+        alloc,
+        words.as_slice(),
+        &HostFiles::new(&rt),
+        &mut out,
+    ) {
+        Ok(prepared) => prepared,
+        Err(status) => return ExitCode::from(status),
     };
-    ExitCode::from(status)
+    let _taken = take_closed_streams(&rt);
+    let (devices, is_ending, reopens) = match host_devices(rt, &site, relay, &mut out.errors) {
+        Ok(made) => made,
+        Err(status) => return ExitCode::from(status),
+    };
+    let served = Served {
+        site: &site,
+        relay,
+        guard,
+        devices,
+        is_ending,
+        reopens,
+    };
+    ExitCode::from(serve_on(rt, alloc, served, &mut FromRead::new(rt.stdin()), out))
 }
 
 // The process's own words and streams, or the exit status where memory ran out.
@@ -142,7 +157,7 @@ fn no_devices<E: Sink>(errors: &mut E, fault: OpenFault) -> u8 {
 
 // Takes the numbers of those standard streams that were closed when the process began: a file or a link that got one would
 // have written into it what belongs on that stream. They are kept until the process ends; writing to them fails.
-fn take_closed_streams<R: Files<File = File>>(rt: &R) -> [io::Result<File>; 3] {
+fn take_closed_streams(rt: &HostRuntime) -> [io::Result<File>; 3] {
     [
         File::open(rt, "/dev/null"),
         File::open(rt, "/dev/null"),
@@ -150,54 +165,46 @@ fn take_closed_streams<R: Files<File = File>>(rt: &R) -> [io::Result<File>; 3] {
     ]
 }
 
-// Makes the devices of a relay, and serves it.
+// The devices of a relay, with the flag that none is to wait and the count of how often archives are opened anew, or the exit status.
+fn host_devices<E: Sink>(
+    rt: HostRuntime,
+    site: &Site,
+    relay: u32,
+    errors: &mut E,
+) -> Result<(Vec<BoxedDevice>, Arc<AtomicBool>, Arc<AtomicU64>), u8>
+    requires exists { relay < length site.now.relays }
+    ensures { IfOk result (λ made. length made.0.items ≡ length (plan_at site.now relay).actions) }
+{
+    let alloc = rt.alloc();
+    let Ok(outlets) = outlets(alloc, site, relay) else {
+        return Err(stop::out_of_memory(errors));
+    };
+    let Ok(is_ending) = Arc::new(alloc, AtomicBool::new(false)) else {
+        return Err(stop::out_of_memory(errors));
+    };
+    let Ok(reopens) = Arc::new(alloc, AtomicU64::new(0)) else {
+        return Err(stop::out_of_memory(errors));
+    };
+    match devices(rt, alloc, outlets.as_slice(), &is_ending, &reopens) {
+        Ok(devices) => Ok((devices, is_ending, reopens)),
+        Err(fault) => Err(no_devices(errors, fault)),
+    }
+}
+
+// Serves a relay with the process's own streams.
 fn serve_on<
     R: Threads
         + Wait
         + Clock
         + Net<Listener = TcpListener, Stream = TcpStream>
-        + Files<File = File>
         + Copy
-        + Drop
         + Send
         + 'static,
     S: Source,
     W: Sink + Drop,
     E: Sink + Drop + Send + 'static,
->(
-    rt: R,
-    alloc: Global,
-    prepared: (Site, u32, Option<Guard>),
-    reader: &mut S,
-    out: Outputs<W, E>,
-) -> u8 {
-    let _taken = take_closed_streams(&rt);
-    let (site, relay, guard) = prepared;
-    let Outputs {
-        mut writer,
-        mut errors,
-    } = out;
-    let Ok(outlets) = outlets(alloc, &site, relay) else {
-        return stop::out_of_memory(&mut errors);
-    };
-    let Ok(is_ending) = Arc::new(alloc, AtomicBool::new(false)) else {
-        return stop::out_of_memory(&mut errors);
-    };
-    let Ok(reopens) = Arc::new(alloc, AtomicU64::new(0)) else {
-        return stop::out_of_memory(&mut errors);
-    };
-    let devices = match devices(rt, alloc, outlets.as_slice(), &is_ending, &reopens) {
-        Ok(devices) => devices,
-        Err(fault) => return no_devices(&mut errors, fault),
-    };
-    let served = Served {
-        site: &site,
-        relay,
-        guard,
-        devices,
-        is_ending,
-        reopens,
-    };
+>(rt: R, alloc: Global, served: Served<'_>, reader: &mut S, out: Outputs<W, E>) -> u8 {
+    let Outputs { mut writer, errors } = out;
     let Ok(serving) = Arc::new(alloc, Serving::new(alloc, errors)) else {
         return 3;
     };

@@ -1,11 +1,10 @@
 //! Serving a relay until its reader ends.
 ghost use Rattle.std.specs.Prelude.{◌≡◌, ◌<◌, ◌≤◌, Option, IfOk, IfSome, length};
 ghost use Rattle.std.specs.Arc.{arc_value};
-ghost use Rattle.std.specs.Io.KnownBytes.{Appends};
 ghost use Rattle.sy_board.specs.relay.Guards.{MayGuard};
 ghost use Rattle.sy_board.specs.relay.Totals.{Pairs};
 ghost use Rattle.sy_site.specs.Sites.{plan_at};
-ghost use Rattle.syc.specs.Totals.{EndsWithTotals, totals_text};
+ghost use Rattle.syc.specs.Totals.{EndsWithTotals, WroteTotals};
 ghost use Rattle.syc.specs.internal.Served.{IsLeft};
 
 use crate::accepting::start_accepting;
@@ -93,8 +92,8 @@ fn print_totals<R: Wait, W: Sink, E: Sink + Drop>(
     stopped: &Stopped,
 ) -> u8
     ensures status { result ≤ 4 }
-    ensures done { result ≡ 0 → Appends (W.contents writer.old) (W.contents writer.new)
-        (totals_text actions.now stopped.now.accounts.totals (length stopped.now.left)) }
+    ensures done { result ≡ 0 → WroteTotals actions.now stopped.now.accounts.totals stopped.now.left
+        (W.contents writer.old) (W.contents writer.new) }
 {
     let held = stopped.left.len();
     match write_totals(alloc, writer, actions, &stopped.accounts, held) {
@@ -156,7 +155,7 @@ fn run_relay<
     reader: &mut S,
     serving: &Arc<Serving<E>>,
 ) -> (bool, Result<Stopped, Mismatch>)
-    ensures { IfOk result.1 (λ stopped. IsLeft started.relay stopped.accounts stopped.left) }
+    ensures { IfOk result.1 (λ stopped. IsLeft started.entry.relay stopped.accounts stopped.left) }
 {
     let Started {
         relay,
@@ -223,11 +222,11 @@ pub fn serve<
     writer: &mut W,
     serving: &Arc<Serving<E>>,
 ) -> u8
-    requires exists { served.relay < length served.site.entry.relays }
-    requires guard { IfSome served.guard (λ pairs. MayGuard (plan_at served.site.entry served.relay) pairs) }
-    requires devices { length served.devices.items ≡ length (plan_at served.site.entry served.relay).actions }
+    requires exists { served.relay < length served.site.now.relays }
+    requires guard { IfSome served.guard (λ pairs. MayGuard (plan_at served.site.now served.relay) pairs) }
+    requires devices { length served.devices.items ≡ length (plan_at served.site.now served.relay).actions }
     ensures status { result ≤ 4 }
-    ensures done { result ≡ 0 → EndsWithTotals (plan_at served.site.entry served.relay).actions served.guard
+    ensures done { result ≡ 0 → EndsWithTotals (plan_at served.entry.site.now served.entry.relay).actions served.entry.guard
         (W.contents writer.old) (W.contents writer.new) }
 {
     let Served {
