@@ -47,13 +47,17 @@ fn write_some(mut stream: &TcpStream, is_ending: &AtomicBool, bytes: &[u8]) -> O
     ensures bound { IfSome result (λ n. n ≤ length bytes.now) }
 {
     for _ in 0..u64::MAX {
+        // (a receiver that reads slowly takes a part each time)
+        if is_ending.load(Ordering::SeqCst) {
+            return None;
+        }
         match stream.write(bytes) {
             Ok(0) => return None,
             Ok(count) => return Some(count),
             Err(error) if error.kind() == ErrorKind::WouldBlock => {}
             Err(_) => return None,
         }
-        if is_ending.load(Ordering::SeqCst) || !is_open(stream) {
+        if !is_open(stream) {
             return None;
         }
     }

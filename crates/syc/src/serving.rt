@@ -59,7 +59,7 @@ impl<E: Sink + Drop> Serving<E> {
         tell_text(&mut *self.errors.lock(rt), text);
     }
 
-    // Prints how a connection ended, where there is something to say.
+    // Prints how a connection ended, where there is something to say. (Where nothing is, whatever reads the lines isn't waited for.)
     fn tell_end<R: Wait>(
         &self,
         rt: &R,
@@ -67,12 +67,11 @@ impl<E: Sink + Drop> Serving<E> {
         end: &ConnEnd,
         answer: Result<Finish, RunFault>,
     ) {
-        let mut errors = self.errors.lock(rt);
         if let Some(first) = end.first_unread() {
-            tell_unread(&mut *errors, end.unread(), port, first);
+            tell_unread(&mut *self.errors.lock(rt), end.unread(), port, first);
         }
         if let Err(fault) = answer {
-            tell_at_port(&mut *errors, end_words(fault).as_bytes(), port);
+            self.tell(rt, end_words(fault).as_bytes(), port);
         }
     }
 
