@@ -6,6 +6,7 @@ use std::alloc::{AllocError, Global};
 use std::sync::{Arc, Wait};
 use std::test::Fail;
 use std::thread;
+use std::thread::Threads;
 use std::time::{Clock, Duration};
 use sy_runtime::{ConnEnd, Finish, Gate, Relay, RunFault, Unread};
 use sy_wire::FromRead;
@@ -159,25 +160,35 @@ fn connections_count_what_they_read(rt: HostRuntime) -> Result<(), Fail> {
 const FULL: &[u8] =
     br#"module(load="imtcp") input(type="imtcp" port="6515" flowControl="full") main_queue(queue.type="LinkedList" queue.size="4" queue.fullDelayMark="2") action(name="audit" type="omfile" file="audit.log")"#;
 
-#[test]
-fn closing_ends_a_wait(rt: HostRuntime) -> Result<(), Fail> {
-    let Some(relay) = opened(rt.alloc(), FULL)? else {
-        return Err(AllocError.into());
-    };
+// What a connection counts whose third message waits until the relay closes, and how it ends.
+fn waits_until_closed<R: Threads + Wait + Clock + Sync>(
+    rt: &R,
+    alloc: Global,
+    relay: &Relay<NoGate>,
+) -> (bool, u32) {
     let connected = || {
         let mut reader = FromRead::new(Pieces {
             rest: b"17 <34>1 - - - - - -17 <34>1 - - - - - -17 <34>1 - - - - - -17 <34>1 - - - - - -",
             size: 70000,
             failing: usize::MAX,
         });
-        let (end, answer) = relay.connect(&rt, rt.alloc(), 0, &mut reader);
+        let (end, answer) = relay.connect(rt, alloc, 0, &mut reader);
         (counts(&end, "3/0/3"), number_of(answer))
     };
     let closed = || {
-        thread::sleep(&rt, Duration::from_millis(100));
-        relay.close(&rt);
+        thread::sleep(rt, Duration::from_millis(100));
+        relay.close(rt);
     };
-    let ((is_counted, answer), ()) = thread::join(&rt, connected, closed);
+    let ((is_counted, answer), ()) = thread::join(rt, connected, closed);
+    (is_counted, answer)
+}
+
+#[test]
+fn closing_ends_a_wait(rt: HostRuntime) -> Result<(), Fail> {
+    let Some(relay) = opened(rt.alloc(), FULL)? else {
+        return Err(AllocError.into());
+    };
+    let (is_counted, answer) = waits_until_closed(&rt, rt.alloc(), &relay);
     assert!(rt; is_counted && answer == 1, "the third message waits");
     Ok(())
 }

@@ -113,9 +113,7 @@ fn takes_all<R: Threads + Wait + Clock + Copy + Drop + Send + Sync + 'static>(
         return Ok(false);
     };
     let (one, other) = both(&rt, alloc, &running.relay, bytes);
-    let is_taken = running
-        .door
-        .waits_for_offers(&rt, &running.log, 20000, 0);
+    let is_taken = running.door.waits_for_offers(&rt, &running.log, 20000, 0);
     let mut ends = one_end(alloc, one)?;
     ends.push(other)?;
     let wanted = "10000/0/10000/0/0/0 10000/0/0 10000/0/0";

@@ -9,7 +9,13 @@ use std::time::Clock;
 
 // What stands behind the input; how many messages the devices take at first, and then refuse; the bytes that come; how many offers are taken and
 // refused then; and the totals.
-type Row = (&'static str, (u64, u64), &'static str, (u32, u32), &'static str);
+type Row = (
+    &'static str,
+    (u64, u64),
+    &'static str,
+    (u32, u32),
+    &'static str,
+);
 
 static RETRIES: [Row; 7] = [
     (

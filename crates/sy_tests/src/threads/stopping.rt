@@ -7,7 +7,8 @@ use std::test::Fail;
 use std::thread::Threads;
 use std::time::Clock;
 
-const PAIR: &str = r#"main_queue(queue.workerThreads="2" queue.dequeueBatchSize="1") action(name="audit" type="omfile" file="a")"#;
+const PAIR: &str =
+    r#"main_queue(queue.workerThreads="2" queue.dequeueBatchSize="1") action(name="audit" type="omfile" file="a")"#;
 
 // Two workers on one queue: while one is held at the gate, the other's offer begins. Whether the relay then stops so, with its end or without.
 fn offers_at_once<R: Threads + Wait + Clock + Copy + Drop + Send + Sync + 'static>(
