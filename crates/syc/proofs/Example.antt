@@ -1,7 +1,7 @@
 -- What the example site's file says: one class in each severity of the facility auth is protected, which are eight.
-use Rattle.std.proofs.Common.{◌≡◌, ◌≢◌, ℕ, zero, suc, ◌+◌, ◌-◌, ◌*◌, ◌||◌, ◌<◌, ◌≤◌, ◌==◌, ◌⊎◌, inl, inr, Bool, true, false, List, [], ◌∷◌, length, refl, sym, ap, subst, ◌∙◌, arith}
+use Rattle.std.proofs.Common.{◌≡◌, ◌≢◌, ℕ, zero, suc, ◌+◌, ◌-◌, ◌||◌, ◌<◌, ◌≤◌, ◌==◌, ◌⊎◌, inl, inr, Bool, true, false, List, [], ◌∷◌, length, refl, sym, ap, subst, ◌∙◌, arith}
 use Rattle.std.specs.List.{list_any}
-use Rattle.std.specs.Prelude.{AllPairs, Contains, Some, codes}
+use Rattle.std.specs.Prelude.{AllPairs, Contains, codes}
 use Rattle.std.proofs.lemmas.Bool.{eqb-true, false≢true}
 use Rattle.sy_wire.specs.declared.class.Class.{Class}
 use Rattle.sy_select.specs.Names.{facility_of}

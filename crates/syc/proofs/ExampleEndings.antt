@@ -1,9 +1,7 @@
 -- What the commands over the example site show.
-use Rattle.std.proofs.Common.{◌≡◌, ℕ, zero, suc, ◌+◌, ◌≤◌, ◌⊎◌, inl, inr, Bool, true, false, List, [], ◌∷◌, length, map, refl, sym, ap, subst, ◌∙◌, arith}
+use Rattle.std.proofs.Common.{◌≡◌, ℕ, zero, suc, ◌⊎◌, inl, inr, Bool, true, false, List, [], ◌∷◌, length, map, refl, sym, ap, subst, ◌∙◌, arith}
 use Rattle.std.specs.List.{Any}
-use Rattle.std.specs.Prelude.{IfSome, Option, Some, None, codes}
-use Rattle.std.specs.Str.{bytes_eq}
-use Rattle.sy_wire.specs.Streams.{Rose}
+use Rattle.std.specs.Prelude.{IfSome, Some, None, codes}
 use Rattle.sy_cert.specs.declared.row.Row.{Row}
 use Rattle.sy_checker.specs.Fit.{IsFit}
 use Rattle.sy_site.specs.Sites.{Site}
@@ -16,7 +14,7 @@ use Rattle.syc.specs.Outcomes.{FailsBy, Prints}
 use Rattle.syc.specs.Replays.{Ending, MayRise, PiecesMayFail, ReplayIs, Replays, lines_of, opened}
 use Rattle.syc.specs.Reports.{SinkState, Streams, Tells}
 use Rattle.syc.specs.Replays as replays
-use Rattle.syc.specs.SiteFiles.{AreFilesOf, AreGiven, AreTold, HasNoAnswer, IsSiteOf}
+use Rattle.syc.specs.SiteFiles.{AreGiven, AreTold, HasNoAnswer, IsSiteOf}
 use Rattle.syc.specs.Verdicts.{VerifyIs}
 use Rattle.syc.specs.declared.command.Asked.TheVariants as asked
 use Rattle.syc.specs.declared.examples.TheConstants.{CERTIFICATE, EDGE, EVENTS, HUB, SITE}

@@ -1,4 +1,4 @@
-use Rattle.std.proofs.Common.{◌≡◌, ◌∙◌, Some, ap, codes, map, subst, sym}
+use Rattle.std.proofs.Common.{◌∙◌, ap, codes, map, subst, sym}
 use Rattle.std.specs.Prelude.{string_bytes}
 use Rattle.sy_site.specs.texts.Describes.{file_named}
 use Rattle.syc.specs.Checks.{AskedIs}
