@@ -6,7 +6,9 @@ use denote.Param.Send.{IsSend, IsSync, sendable}
 use Rattle.std.proofs.Crossing.{crosses}
 use Rattle.sy_runtime.specs.contracts.relay.Relay as Relay
 use Rattle.sy_runtime.proofs.Sent.{relay_send}
+use Rattle.syc.specs.contracts.accepting.Acceptor as Acceptor
 use Rattle.syc.specs.contracts.connections.Connections as Connections
+use Rattle.syc.specs.contracts.serving.Connection as Connection
 use Rattle.syc.specs.contracts.serving.OpenGate as Gate
 use Rattle.syc.specs.contracts.serving.Serving as Serving
 
@@ -19,13 +21,20 @@ gate_send = search (sendable, crosses) depth 20
 gate_sync : IsSync Gate.the_row
 gate_sync = search (sendable, crosses) depth 20
 
-module _ (T : RattleType) (g : Ghosts T.Denot) (s : Sends (table_of T.Denot g)) (t : IsSend T) where
-  pub open_send : IsSend (Relay.the_row Gate.the_row T g)
-  open_send = relay_send T g s t Gate.the_row gate_send gate_sync
-
 module _ (E : RattleType) where
-  pub serving_send : IsSend E → IsSend (Serving.the_row E)
+  serving_send : IsSend E → IsSend (Serving.the_row E)
   serving_send a = search (connections_send, sendable, crosses) depth 40 fits 5000
 
-  pub serving_sync : IsSend E → IsSync (Serving.the_row E)
+  serving_sync : IsSend E → IsSync (Serving.the_row E)
   serving_sync a = search (connections_send, sendable, crosses) depth 40 fits 5000
+
+module _ (T : RattleType) (g : Ghosts T.Denot) (s : Sends (table_of T.Denot g)) (t : IsSend T) where
+  open_send : IsSend (Relay.the_row Gate.the_row T g)
+  open_send = relay_send T g s t Gate.the_row gate_send gate_sync
+
+  module _ (E : RattleType) where
+    pub connection_send : IsSend E → IsSend (Connection.the_row E T g)
+    connection_send a = search (open_send, serving_send, serving_sync, sendable, crosses) depth 20 fits 5000
+
+    pub acceptor_send : IsSend E → IsSend (Acceptor.the_row E T g)
+    acceptor_send a = search (open_send, serving_send, serving_sync, sendable, crosses) depth 20 fits 5000

@@ -1,7 +1,7 @@
 //! Accepting the connections of an input.
 
 use crate::listening::Listening;
-use crate::serving::{OpenGate, Port, Serving, serve_connection};
+use crate::serving::{Connection, OpenGate, Port, Serving, serve_connection};
 use std::alloc::{AllocError, Global};
 use std::net::{TcpListener, TcpStream};
 use std::sync::{Arc, Wait};
@@ -29,14 +29,19 @@ fn start_connection<
     at: Port,
     stream: TcpStream,
 ) -> Result<(), AllocError> {
+    let stream = Arc::new(alloc, stream)?;
+    let written = Arc::try_clone(&stream)?;
     let relay = relay.try_clone()?;
     let theirs = Arc::try_clone(serving)?;
-    let stream = Arc::new(alloc, stream)?;
-    let place = serving.enter(&rt, Arc::try_clone(&stream)?)?;
-    let started = thread::spawn(&rt, move || {
-        serve_connection(&rt, alloc, &relay, &theirs, at, &stream, place)
-    });
-    match started {
+    let place = serving.enter(&rt, written)?;
+    let connection = Connection {
+        relay,
+        serving: theirs,
+        at,
+        stream,
+        place,
+    };
+    match thread::spawn(&rt, move || serve_connection(rt, alloc, connection)) {
         Ok(_thread) => Ok(()),
         Err(_) => {
             serving.leave(&rt, place);
@@ -64,22 +69,34 @@ fn accept<R: Threads + Wait + Clock + Copy + Send + 'static, E: Sink + Drop + Se
     start_connection(rt, alloc, relay, serving, at, stream)
 }
 
-// Accepts connections of an input until nothing new is to be accepted. An accept that fails is tried again, and said once
-// until one succeeds.
-fn accept_all<R: Threads + Wait + Clock + Copy + Send + 'static, E: Sink + Drop + Send + 'static>(
+// What accepts the connections of an input.
+#[derive(Drop)]
+struct Acceptor<E: Drop> {
+    relay: Relay<OpenGate>,
+    serving: Arc<Serving<E>>,
+    listening: Listening,
+}
+
+// Accepts connections until nothing new is to be accepted. An accept that fails is tried again, and said once until one
+// succeeds.
+fn accept_all<
+    R: Threads + Wait + Clock + Copy + Send + 'static,
+    E: Sink + Drop + Send + 'static,
+>(
     rt: R,
     alloc: Global,
     relay: &Relay<OpenGate>,
     serving: &Arc<Serving<E>>,
-    at: Port,
-    listener: &TcpListener,
+    listening: &Listening,
 ) {
     let mut has_failed = false;
     for _ in rt.forever() {
         if serving.is_stopping() {
             return;
         }
-        let has_accepted = accept(rt, alloc, relay, serving, at, listener).is_ok();
+        let at = listening.at;
+        let has_accepted =
+            accept(rt, alloc, relay, serving, at, &listening.listener).is_ok();
         if !has_accepted {
             if !has_failed {
                 serving.tell(&rt, b"accept failed", at.port);
@@ -90,14 +107,22 @@ fn accept_all<R: Threads + Wait + Clock + Copy + Send + 'static, E: Sink + Drop 
     }
 }
 
-// Accepts connections of an input, and listens no more once that ends.
+// Accepts connections, and listens no more once that ends.
 fn accept_and_close<
     R: Threads + Wait + Clock + Copy + Send + 'static,
     E: Sink + Drop + Send + 'static,
->(rt: R, alloc: Global, relay: &Relay<OpenGate>, serving: &Arc<Serving<E>>, listening: Listening) {
-    let Listening { at, listener } = listening;
-    accept_all(rt, alloc, relay, serving, at, &listener);
-    drop(listener);
+>(
+    rt: R,
+    alloc: Global,
+    acceptor: Acceptor<E>,
+) {
+    let Acceptor {
+        relay,
+        serving,
+        listening,
+    } = acceptor;
+    accept_all(rt, alloc, &relay, &serving, &listening);
+    drop(listening);
     serving.end_loop(&rt);
 }
 
@@ -112,13 +137,13 @@ pub fn start_accepting<
     serving: &Arc<Serving<E>>,
     listening: Listening,
 ) -> Result<(), AllocError> {
-    let relay = relay.try_clone()?;
-    let theirs = Arc::try_clone(serving)?;
+    let acceptor = Acceptor {
+        relay: relay.try_clone()?,
+        serving: Arc::try_clone(serving)?,
+        listening,
+    };
     serving.begin_loop(&rt);
-    let started = thread::spawn(&rt, move || {
-        accept_and_close(rt, alloc, &relay, &theirs, listening)
-    });
-    match started {
+    match thread::spawn(&rt, move || accept_and_close(rt, alloc, acceptor)) {
         Ok(_thread) => Ok(()),
         Err(_) => {
             serving.end_loop(&rt);

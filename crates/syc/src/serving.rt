@@ -155,18 +155,32 @@ impl<E: Sink + Drop> Serving<E> {
     }
 }
 
+/// A connection that was accepted.
+#[derive(Drop)]
+pub struct Connection<E: Drop> {
+    pub relay: Relay<OpenGate>,
+    pub serving: Arc<Serving<E>>,
+    pub at: Port,
+    pub stream: Arc<TcpStream>,
+    /// its place among those that are open
+    pub place: usize,
+}
+
 /// Serves a connection until it ends.
-pub fn serve_connection<R: Wait + Clock, E: Sink + Drop>(
-    rt: &R,
+pub fn serve_connection<R: Wait + Clock + Drop, E: Sink + Drop>(
+    rt: R,
     alloc: Global,
-    relay: &Relay<OpenGate>,
-    serving: &Serving<E>,
-    at: Port,
-    stream: &TcpStream,
-    place: usize,
+    connection: Connection<E>,
 ) {
-    let mut reader = FromRead::new(stream);
-    let (end, answer) = relay.connect(rt, alloc, at.input, &mut reader);
-    serving.tell_end(rt, at.port, &end, answer);
-    serving.end(rt, place, end);
+    let Connection {
+        relay,
+        serving,
+        at,
+        stream,
+        place,
+    } = connection;
+    let mut reader = FromRead::new(&*stream);
+    let (end, answer) = relay.connect(&rt, alloc, at.input, &mut reader);
+    serving.tell_end(&rt, at.port, &end, answer);
+    serving.end(&rt, place, end);
 }

@@ -1,7 +1,7 @@
 use denote.Param.Send.{sendable}
 use Rattle.std.proofs.Crossing.{crosses}
-use Rattle.syc.proofs.Sent.{open_send, serving_send, serving_sync}
+use Rattle.syc.proofs.Sent.{connection_send}
 use Rattle.syc.proofs.accepting.start_connection.Goals as goal
 
-pub spawn-started-requires-send-F : goal.spawn-started-requires-send-F
-spawn-started-requires-send-F g c κs within = search (open_send, serving_send, serving_sync, sendable, crosses) depth 30 fits 5000
+pub spawn-requires-send-F : goal.spawn-requires-send-F
+spawn-requires-send-F g c κs within = search (connection_send, sendable, crosses) depth 20
