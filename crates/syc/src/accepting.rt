@@ -79,10 +79,7 @@ struct Acceptor<E: Drop> {
 
 // Accepts connections until nothing new is to be accepted. An accept that fails is tried again, and said once until one
 // succeeds.
-fn accept_all<
-    R: Threads + Wait + Clock + Copy + Send + 'static,
-    E: Sink + Drop + Send + 'static,
->(
+fn accept_all<R: Threads + Wait + Clock + Copy + Send + 'static, E: Sink + Drop + Send + 'static>(
     rt: R,
     alloc: Global,
     relay: &Relay<OpenGate>,
@@ -95,8 +92,7 @@ fn accept_all<
             return;
         }
         let at = listening.at;
-        let has_accepted =
-            accept(rt, alloc, relay, serving, at, &listening.listener).is_ok();
+        let has_accepted = accept(rt, alloc, relay, serving, at, &listening.listener).is_ok();
         if !has_accepted {
             if !has_failed {
                 serving.tell(&rt, b"accept failed", at.port);
@@ -111,11 +107,7 @@ fn accept_all<
 fn accept_and_close<
     R: Threads + Wait + Clock + Copy + Send + 'static,
     E: Sink + Drop + Send + 'static,
->(
-    rt: R,
-    alloc: Global,
-    acceptor: Acceptor<E>,
-) {
+>(rt: R, alloc: Global, acceptor: Acceptor<E>) {
     let Acceptor {
         relay,
         serving,

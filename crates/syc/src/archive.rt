@@ -1,6 +1,5 @@
-//! The device of an archive.
-ghost use Rattle.std.specs.Prelude.{◌≡◌, ◌≤◌, ⊤};
-ghost use Rattle.sy_wire.specs.Streams.{count_after};
+//! The file of an archive.
+ghost use Rattle.std.specs.Prelude.{◌≡◌, ◌≢◌, ◌<◌, length, IfErr, IfNone, IfSome, OnSome};
 
 use std::alloc::Global;
 use std::fs::{self, File, OpenOptions};
@@ -10,8 +9,8 @@ use std::sync::atomic::{AtomicU64, Ordering};
 use sy_actions::{Device, DeviceFault, LineSink};
 use sy_wire::{FromWrite, Message};
 
-/// The device of an archive: it writes lines to the end of a file, and opens that anew where this was asked for since its
-/// last offer. Where it can't be opened, lines go on to the file that it has, and the next offer tries again.
+/// The file of an archive, to whose end lines are written, and which is opened anew where this was asked for since its
+/// last offer. Where it can't be opened, lines go on to the one that is open, and the next offer tries again.
 #[derive(Drop)]
 pub struct Archive {
     rt: HostRuntime,
@@ -21,8 +20,6 @@ pub struct Archive {
     // how often it was asked for, in all, and up to which of these this file is the new one
     asked: Arc<AtomicU64>,
     followed: u64,
-    // the offers that failed, counted up to 2^64 - 1
-    failed: u64,
 }
 
 // Whether what stands last in a file is no line feed. Only ordinary files are read.
@@ -65,14 +62,11 @@ impl Archive {
             sink: LineSink::new(alloc, FromWrite::new(file)),
             asked,
             followed,
-            failed: 0,
         })
     }
 
     // Opens the file anew, where that was asked for.
-    fn follow(&mut self)
-        ensures { self.new.failed ≡ self.old.failed }
-    {
+    fn follow(&mut self) {
         let asked = self.asked.load(Ordering::SeqCst);
         if asked == self.followed {
             return;
@@ -83,44 +77,21 @@ impl Archive {
         }
     }
 
-    // Counts an offer that failed.
-    fn fail(&mut self, fault: DeviceFault) -> DeviceFault
-        ensures fault { result ≡ fault }
-        ensures counted { self.new.failed ≡ count_after self.old.failed 1 }
-        ensures more { self.old.failed ≤ self.new.failed }
+    /// Offers a message.
+    pub fn offer(&mut self, message: &Arc<Message>) -> Result<(), DeviceFault>
+        ensures { IfErr result (λ f. f ≢ DeviceFault.CountFull) }
     {
-        self.failed = self.failed.saturating_add(1);
-        fault
-    }
-}
-
-impl Device for Archive {
-    ghost faults = { λ it. it.failed };
-
-    // of a file no proof can say what it holds
-    ghost stands_for = { λ _ _ _. ⊤ };
-
-    ghost offered = { λ _ _ _ _. ⊤ };
-
-    ghost State = { ⊤ };
-
-    ghost state = { λ _. tt };
-
-    ghost steps = { λ _ _ _ _. ⊤ };
-
-    fn offer(&mut self, message: &Arc<Message>) -> Result<(), DeviceFault> {
         self.follow();
-        match self.sink.offer(message) {
-            Ok(()) => Ok(()),
-            Err(fault) => Err(self.fail(fault)),
-        }
+        self.sink.offer(message)
     }
 
-    fn offer_all(&mut self, messages: &[Arc<Message>]) -> (usize, Option<DeviceFault>) {
+    /// Offers messages, up to the first that fails.
+    pub fn offer_all(&mut self, messages: &[Arc<Message>]) -> (usize, Option<DeviceFault>)
+        ensures all { IfNone result.1 (result.0 ≡ length messages.now) }
+        ensures some { OnSome result.1 (result.0 < length messages.now) }
+        ensures own { IfSome result.1 (λ f. f ≢ DeviceFault.CountFull) }
+    {
         self.follow();
-        match self.sink.offer_all(messages) {
-            (taken, None) => (taken, None),
-            (taken, Some(fault)) => (taken, Some(self.fail(fault))),
-        }
+        self.sink.offer_all(messages)
     }
 }

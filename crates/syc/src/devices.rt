@@ -1,17 +1,33 @@
 //! The devices of the host.
-ghost use Rattle.std.specs.Prelude.{◌≡◌, IfOk, length};
 
 use crate::archive::Archive;
+use crate::host_device::Taker;
 use crate::link::Link;
 use crate::listening::socket_address;
-use crate::nowhere::Nowhere;
 use crate::outlets::Outlet;
 use std::alloc::Global;
-use std::net::Ipv4Addr;
+use std::net::SocketAddr;
 use std::str;
 use std::sync::Arc;
 use std::sync::atomic::{AtomicBool, AtomicU64};
-use sy_runtime::BoxedDevice;
+
+/// What devices look at.
+#[derive(Drop)]
+pub struct Signals {
+    /// Set once none of their writes is to wait.
+    pub is_ending: Arc<AtomicBool>,
+    /// How often archives are to be opened anew.
+    pub reopens: Arc<AtomicU64>,
+}
+
+impl Signals {
+    /// Nothing is asked yet; none where memory runs out.
+    pub fn new(alloc: Global) -> Option<Signals> {
+        let is_ending = Arc::new(alloc, AtomicBool::new(false)).ok()?;
+        let reopens = Arc::new(alloc, AtomicU64::new(0)).ok()?;
+        Some(Signals { is_ending, reopens })
+    }
+}
 
 /// Why there is no device.
 #[derive(Clone, Copy)]
@@ -26,7 +42,7 @@ fn archive(
     alloc: Global,
     name: &[u8],
     reopens: &Arc<AtomicU64>,
-) -> Result<BoxedDevice, OpenFault> {
+) -> Result<Taker, OpenFault> {
     let Ok(name) = str::from_utf8(name) else {
         return Err(OpenFault::Write);
     };
@@ -36,70 +52,38 @@ fn archive(
     let Ok(reopens) = Arc::try_clone(reopens) else {
         return Err(OpenFault::NoMemory);
     };
-    let Some(archive) = Archive::open(rt, alloc, name, reopens) else {
-        return Err(OpenFault::Write);
-    };
-    let Ok(device) = Box::new(alloc, archive) else {
-        return Err(OpenFault::NoMemory);
-    };
-    Ok(device)
+    match Archive::open(rt, alloc, name, reopens) {
+        Some(archive) => Ok(Taker::Archive(archive)),
+        None => Err(OpenFault::Write),
+    }
 }
 
-fn forward(
+fn link(
     rt: HostRuntime,
     alloc: Global,
-    address: Ipv4Addr,
-    port: u16,
+    address: SocketAddr,
     is_ending: &Arc<AtomicBool>,
-) -> Result<BoxedDevice, OpenFault> {
-    let Ok(is_ending) = Arc::try_clone(is_ending) else {
-        return Err(OpenFault::NoMemory);
-    };
-    let link = Link::new(rt, alloc, socket_address(address, port), is_ending);
-    let Ok(device) = Box::new(alloc, link) else {
-        return Err(OpenFault::NoMemory);
-    };
-    Ok(device)
+) -> Result<Taker, OpenFault> {
+    match Arc::try_clone(is_ending) {
+        Ok(is_ending) => Ok(Taker::Link(Link::new(rt, alloc, address, is_ending))),
+        Err(_) => Err(OpenFault::NoMemory),
+    }
 }
 
-fn nowhere(alloc: Global) -> Result<BoxedDevice, OpenFault> {
-    let Ok(device) = Box::new(alloc, Nowhere::new()) else {
-        return Err(OpenFault::NoMemory);
-    };
-    Ok(device)
-}
-
-fn device(
+/// What takes the messages that are brought there. A file is opened for appending, and anew as that is counted; a link is
+/// connected when it is needed.
+pub fn taker(
     rt: HostRuntime,
     alloc: Global,
     outlet: Outlet<'_>,
-    is_ending: &Arc<AtomicBool>,
-    reopens: &Arc<AtomicU64>,
-) -> Result<BoxedDevice, OpenFault> {
+    signals: &Signals,
+) -> Result<Taker, OpenFault> {
     match outlet {
-        Outlet::File(name) => archive(rt, alloc, name, reopens),
-        Outlet::Forward { address, port } => forward(rt, alloc, address, port, is_ending),
-        Outlet::Nowhere => nowhere(alloc),
+        Outlet::File(name) => archive(rt, alloc, name, &signals.reopens),
+        Outlet::Forward { address, port } => {
+            let address = socket_address(address, port);
+            link(rt, alloc, address, &signals.is_ending)
+        }
+        Outlet::Nowhere => Ok(Taker::Nothing),
     }
-}
-
-/// A device for each outlet, in their order. Files are opened for appending, and anew each time that this is counted; links
-/// are connected when they are needed, and none of their writes waits once the flag is set.
-pub fn devices(
-    rt: HostRuntime,
-    alloc: Global,
-    outlets: &[Outlet<'_>],
-    is_ending: &Arc<AtomicBool>,
-    reopens: &Arc<AtomicU64>,
-) -> Result<Vec<BoxedDevice>, OpenFault>
-    ensures { IfOk result (λ found. length found.items ≡ length outlets.now) }
-{
-    let mut found = Vec::new(alloc);
-    for outlet in outlets {
-        let device = device(rt, alloc, *outlet, is_ending, reopens)?;
-        let Ok(()) = found.push(device) else {
-            return Err(OpenFault::NoMemory);
-        };
-    }
-    Ok(found)
 }

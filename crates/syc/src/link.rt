@@ -1,6 +1,5 @@
-//! The device of a forward.
-ghost use Rattle.std.specs.Prelude.{◌≡◌, ◌≢◌, ◌<◌, ◌≤◌, ⊤, length, IfErr, IfNone, IfSome, OnSome};
-ghost use Rattle.sy_wire.specs.Streams.{count_after};
+//! The link of a forward.
+ghost use Rattle.std.specs.Prelude.{◌≡◌, ◌≢◌, ◌<◌, length, IfErr, IfNone, IfSome, OnSome};
 
 use crate::link_writer::{LinkWriter, is_open};
 use std::alloc::{AllocError, Global};
@@ -24,9 +23,9 @@ struct Connected {
     sink: FrameSink<LinkWriter>,
 }
 
-/// The device of a forward: it writes frames to a link, which it connects when it is offered a message and has none.
+/// The link of a forward: frames are written to it, and it is connected when it is offered a message and isn't yet.
 ///
-/// A link that failed, or that the receiver closed, is dropped, and the next offer connects a new one. So a frame that
+/// One that failed, or that the receiver closed, is dropped, and the next offer connects a new one. So a frame that
 /// wasn't written whole is written from its beginning, on another link.
 #[derive(Drop)]
 pub struct Link {
@@ -35,8 +34,6 @@ pub struct Link {
     address: SocketAddr,
     is_ending: Arc<AtomicBool>,
     link: Option<Connected>,
-    // the offers that failed, counted up to 2^64 - 1
-    failed: u64,
 }
 
 // A stream to that address, whose writes have a time limit.
@@ -77,14 +74,11 @@ impl Link {
             address,
             is_ending,
             link: None,
-            failed: 0,
         }
     }
 
     // Has a link, where one comes about: a new one where there is none, or where the receiver has closed it.
-    fn renew(&mut self)
-        ensures { self.new.failed ≡ self.old.failed }
-    {
+    fn renew(&mut self) {
         if let Some(link) = &self.link {
             if !is_open(&link.stream) {
                 self.link = None;
@@ -95,73 +89,40 @@ impl Link {
         }
     }
 
-    // Offers a message to the link, where there is one.
-    fn offer_to_link(&mut self, message: &Arc<Message>) -> Result<(), DeviceFault>
-        ensures same { self.new.failed ≡ self.old.failed }
-        ensures own { IfErr result (λ f. f ≢ DeviceFault.CountFull) }
+    /// Offers a message, and drops the link where that fails.
+    pub fn offer(&mut self, message: &Arc<Message>) -> Result<(), DeviceFault>
+        ensures { IfErr result (λ f. f ≢ DeviceFault.CountFull) }
     {
         self.renew();
-        match &mut self.link {
-            Some(link) => link.sink.offer(message),
-            None => Err(DeviceFault::Broken),
+        let Some(link) = &mut self.link else {
+            return Err(DeviceFault::Broken);
+        };
+        match link.sink.offer(message) {
+            Ok(()) => Ok(()),
+            Err(fault) => {
+                self.link = None;
+                Err(fault)
+            }
         }
     }
 
-    // Offers messages to the link, where there is one.
-    fn offer_all_to_link(&mut self, messages: &[Arc<Message>]) -> (usize, Option<DeviceFault>)
+    /// Offers messages, up to the first that fails, and drops the link then.
+    pub fn offer_all(&mut self, messages: &[Arc<Message>]) -> (usize, Option<DeviceFault>)
         requires { 0 < length messages.now }
-        ensures same { self.new.failed ≡ self.old.failed }
         ensures all { IfNone result.1 (result.0 ≡ length messages.now) }
         ensures some { OnSome result.1 (result.0 < length messages.now) }
         ensures own { IfSome result.1 (λ f. f ≢ DeviceFault.CountFull) }
     {
         self.renew();
-        match &mut self.link {
-            Some(link) => link.sink.offer_all(messages),
-            None => (0, Some(DeviceFault::Broken)),
-        }
-    }
-
-    // Counts an offer that failed, and drops the link.
-    fn fail(&mut self, fault: DeviceFault) -> DeviceFault
-        ensures fault { result ≡ fault }
-        ensures counted { self.new.failed ≡ count_after self.old.failed 1 }
-        ensures more { self.old.failed ≤ self.new.failed }
-    {
-        self.failed = self.failed.saturating_add(1);
-        self.link = None;
-        fault
-    }
-}
-
-impl Device for Link {
-    ghost faults = { λ it. it.failed };
-
-    // what a link hands on isn't known
-    ghost stands_for = { λ _ _ _. ⊤ };
-
-    ghost offered = { λ _ _ _ _. ⊤ };
-
-    ghost State = { ⊤ };
-
-    ghost state = { λ _. tt };
-
-    ghost steps = { λ _ _ _ _. ⊤ };
-
-    fn offer(&mut self, message: &Arc<Message>) -> Result<(), DeviceFault> {
-        match self.offer_to_link(message) {
-            Ok(()) => Ok(()),
-            Err(fault) => Err(self.fail(fault)),
-        }
-    }
-
-    fn offer_all(&mut self, messages: &[Arc<Message>]) -> (usize, Option<DeviceFault>) {
-        if messages.is_empty() {
-            return (0, None);
-        }
-        match self.offer_all_to_link(messages) {
+        let Some(link) = &mut self.link else {
+            return (0, Some(DeviceFault::Broken));
+        };
+        match link.sink.offer_all(messages) {
             (taken, None) => (taken, None),
-            (taken, Some(fault)) => (taken, Some(self.fail(fault))),
+            (taken, Some(fault)) => {
+                self.link = None;
+                (taken, Some(fault))
+            }
         }
     }
 }

@@ -1,7 +1,8 @@
 //! The program `syc`.
 #![tactic(auto)]
 
-ghost use Rattle.std.specs.Prelude.{◌≡◌, ◌<◌, IfOk, length};
+ghost use Rattle.std.specs.Prelude.{◌≡◌, ◌<◌, IfSome, length};
+ghost use Rattle.sy_board.specs.relay.Guards.{MayGuard};
 ghost use Rattle.sy_site.specs.Sites.{plan_at};
 
 mod accepting;
@@ -24,13 +25,13 @@ mod explanation;
 mod files;
 mod findings;
 mod halt;
+mod host_device;
 mod link;
 mod link_writer;
 mod listening;
 mod losses;
 mod meant;
 mod memory;
-mod nowhere;
 mod outlets;
 mod outline;
 mod output;
@@ -55,9 +56,10 @@ mod verdict;
 mod verify;
 mod words;
 
-use devices::{OpenFault, devices};
+use devices::{OpenFault, Signals, taker};
 use files::HostFiles;
-use outlets::outlets;
+use host_device::HostDevice;
+use outlets::{Outlet, outlets};
 use outputs::Outputs;
 use prepare::prepare;
 use run::run;
@@ -75,6 +77,7 @@ use std::sync::atomic::{AtomicBool, AtomicU64};
 use std::sync::{Arc, Wait};
 use std::thread::Threads;
 use std::time::Clock;
+use sy_board::Guard;
 use sy_runtime::BoxedDevice;
 use sy_site::Site;
 use sy_wire::{Buffered, FromRead, FromWrite, Sink, Source};
@@ -106,19 +109,10 @@ fn main(rt: HostRuntime) -> ExitCode {
         Err(status) => return ExitCode::from(status),
     };
     let _taken = take_closed_streams(&rt);
-    let (devices, is_ending, reopens) = match host_devices(rt, &site, relay, &mut out.errors) {
-        Ok(made) => made,
-        Err(status) => return ExitCode::from(status),
+    let Ok(outlets) = outlets(alloc, &site, relay) else {
+        return ExitCode::from(stop::out_of_memory(&mut out.errors));
     };
-    let served = Served {
-        site: &site,
-        relay,
-        guard,
-        devices,
-        is_ending,
-        reopens,
-    };
-    ExitCode::from(serve_on(rt, alloc, served, &mut FromRead::new(rt.stdin()), out))
+    ExitCode::from(serve_on(rt, rt, &site, relay, guard, outlets.as_slice(), out))
 }
 
 // The process's own words and streams, or the exit status where memory ran out.
@@ -165,33 +159,8 @@ fn take_closed_streams(rt: &HostRuntime) -> [io::Result<File>; 3] {
     ]
 }
 
-// The devices of a relay, with the flag that none is to wait and the count of how often archives are opened anew, or the exit status.
-fn host_devices<E: Sink>(
-    rt: HostRuntime,
-    site: &Site,
-    relay: u32,
-    errors: &mut E,
-) -> Result<(Vec<BoxedDevice>, Arc<AtomicBool>, Arc<AtomicU64>), u8>
-    requires exists { relay < length site.now.relays }
-    ensures { IfOk result (λ made. length made.0.items ≡ length (plan_at site.now relay).actions) }
-{
-    let alloc = rt.alloc();
-    let Ok(outlets) = outlets(alloc, site, relay) else {
-        return Err(stop::out_of_memory(errors));
-    };
-    let Ok(is_ending) = Arc::new(alloc, AtomicBool::new(false)) else {
-        return Err(stop::out_of_memory(errors));
-    };
-    let Ok(reopens) = Arc::new(alloc, AtomicU64::new(0)) else {
-        return Err(stop::out_of_memory(errors));
-    };
-    match devices(rt, alloc, outlets.as_slice(), &is_ending, &reopens) {
-        Ok(devices) => Ok((devices, is_ending, reopens)),
-        Err(fault) => Err(no_devices(errors, fault)),
-    }
-}
-
-// Serves a relay with the process's own streams.
+// Makes the devices of a relay's actions, and serves it with the process's own streams. (No function hands out a boxed
+// device: of what a function makes and hands out behind an interface its contract may say nothing.)
 fn serve_on<
     R: Threads
         + Wait
@@ -200,13 +169,67 @@ fn serve_on<
         + Copy
         + Send
         + 'static,
-    S: Source,
-    W: Sink + Drop,
-    E: Sink + Drop + Send + 'static,
->(rt: R, alloc: Global, served: Served<'_>, reader: &mut S, out: Outputs<W, E>) -> u8 {
+>(
+    rt: R,
+    host: HostRuntime,
+    site: &Site,
+    relay: u32,
+    guard: Option<Guard>,
+    outlets: &[Outlet<'_>],
+    mut out: HostOutputs,
+) -> u8
+    requires exists { relay < length site.now.relays }
+    requires guard { IfSome guard (λ pairs. MayGuard (plan_at site.now relay) pairs) }
+    requires outlets { length outlets.now ≡ length (plan_at site.now relay).actions }
+{
+    let alloc = host.alloc();
+    let Some(signals) = Signals::new(alloc) else {
+        return stop::out_of_memory(&mut out.errors);
+    };
+    let mut devices: Vec<BoxedDevice> = Vec::new(alloc);
+    for outlet in outlets {
+        let taker = match taker(host, alloc, *outlet, &signals) {
+            Ok(taker) => taker,
+            Err(fault) => return no_devices(&mut out.errors, fault),
+        };
+        let Ok(device) = Box::new(alloc, HostDevice::new(taker)) else {
+            return stop::out_of_memory(&mut out.errors);
+        };
+        let Ok(()) = devices.push(device) else {
+            return stop::out_of_memory(&mut out.errors);
+        };
+    }
+    let Signals { is_ending, reopens } = signals;
+    let served = Served {
+        site,
+        relay,
+        guard,
+        devices,
+        is_ending,
+        reopens,
+    };
+    serve_devices(rt, host, served, out)
+}
+
+// Serves a relay with the process's own streams.
+fn serve_devices<
+    R: Threads
+        + Wait
+        + Clock
+        + Net<Listener = TcpListener, Stream = TcpStream>
+        + Copy
+        + Send
+        + 'static,
+>(rt: R, host: HostRuntime, served: Served<'_>, out: HostOutputs) -> u8
+    requires exists { served.relay < length served.site.now.relays }
+    requires guard { IfSome served.guard (λ pairs. MayGuard (plan_at served.site.now served.relay) pairs) }
+    requires devices { length served.devices.items ≡ length (plan_at served.site.now served.relay).actions }
+{
+    let alloc = host.alloc();
     let Outputs { mut writer, errors } = out;
     let Ok(serving) = Arc::new(alloc, Serving::new(alloc, errors)) else {
         return 3;
     };
-    serve(rt, alloc, served, reader, &mut writer, &serving)
+    let mut reader = FromRead::new(host.stdin());
+    serve(rt, alloc, served, &mut reader, &mut writer, &serving)
 }

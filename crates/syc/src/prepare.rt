@@ -1,4 +1,9 @@
 //! What a relay needs to run: its site and, where that was checked, its guard.
+ghost use Rattle.std.specs.Prelude.{◌≡◌, ◌<◌, ◌≤◌, ℕ, List, Some, IfErr, IfOk, length, map, string_bytes};
+ghost use Rattle.sy_site.specs.Sites.{relay_named};
+ghost use Rattle.sy_checker.specs.Finding.{IsTrueRefusal};
+ghost use Rattle.syc.specs.Prepared.{HasGuard, IsGuardOf, IsPrepared};
+ghost use Rattle.syc.specs.SiteFiles.{IsSiteOf};
 
 use crate::answer::print;
 use crate::check::say_found;
@@ -19,13 +24,19 @@ use sy_site::Site;
 use sy_wire::Sink;
 
 // Tells that the site has no relay of that name, and answers the exit status.
-fn no_relay<E: Sink>(errors: &mut E, name: &str) -> u8 {
+fn no_relay<E: Sink>(errors: &mut E, name: &str) -> u8
+    ensures { result ≡ 2 }
+{
     tell_texts(errors, &[b"syc: no relay ", name.as_bytes(), b"\n"]);
     2
 }
 
 // The guard of a relay of a site that is sound, or why it isn't.
-fn guard_of(alloc: Global, site: &Site, relay: u32) -> Result<Guard, Refusal> {
+fn guard_of(alloc: Global, site: &Site, relay: u32) -> Result<Guard, Refusal>
+    requires { relay < length site.now.relays }
+    ensures ok { IfOk result (λ guard. HasGuard site.now relay guard) }
+    ensures found { IfErr result (IsTrueRefusal site.now) }
+{
     let accepted = match check_site(alloc, site) {
         Ok(accepted) => accepted,
         Err(why) => return Err(why),
@@ -42,7 +53,11 @@ fn checked<W: Sink, E: Sink>(
     site: &Site,
     relay: u32,
     out: &mut Outputs<W, E>,
-) -> Result<Guard, u8> {
+) -> Result<Guard, u8>
+    requires { relay < length site.now.relays }
+    ensures ok { IfOk result (λ guard. HasGuard site.now relay guard) }
+    ensures status { IfErr result (λ status. status ≤ 4) }
+{
     match guard_of(alloc, site, relay) {
         Ok(guard) => Ok(guard),
         Err(why) => Err(print(say_found(alloc, site, why), out)),
@@ -50,12 +65,18 @@ fn checked<W: Sink, E: Sink>(
 }
 
 // The site of that name and the number of its relay, or the exit status.
+#[tactic(auto, using(crate::proofs::Halted::at_most_four))]
 fn named<F: Files, E: Sink>(
     alloc: Global,
     words: RunWords<'_>,
     files: &F,
     errors: &mut E,
-) -> Result<(Site, u32), u8> {
+) -> Result<(Site, u32), u8>
+    ensures site { IfOk result (λ found. (text : List ℕ) → F.bytes_of files.now words.entry.site.now ≡ Some text →
+        IsSiteOf (F.bytes_of files.now) text found.0) }
+    ensures relay { IfOk result (λ found. relay_named found.0.relays words.entry.relay.now ≡ Some found.1) }
+    ensures status { IfErr result (λ status. status ≤ 4) }
+{
     let site = match read_site(alloc, files, words.site) {
         Ok(site) => site,
         Err(halt) => {
@@ -69,19 +90,49 @@ fn named<F: Files, E: Sink>(
     }
 }
 
+// The guard of a relay where the site is checked, or the exit status.
+fn guard_if<W: Sink, E: Sink>(
+    alloc: Global,
+    site: &Site,
+    relay: u32,
+    is_unchecked: bool,
+    out: &mut Outputs<W, E>,
+) -> Result<Option<Guard>, u8>
+    requires { relay < length site.now.relays }
+    ensures ok { IfOk result (IsGuardOf is_unchecked site.now relay) }
+    ensures status { IfErr result (λ status. status ≤ 4) }
+{
+    if is_unchecked {
+        return Ok(None);
+    }
+    match checked(alloc, site, relay, out) {
+        Ok(guard) => Ok(Some(guard)),
+        Err(status) => Err(status),
+    }
+}
+
 // What the words name.
+#[tactic(auto, using(crate::proofs::Named::is_there))]
 fn ready<F: Files, W: Sink, E: Sink>(
     alloc: Global,
     words: RunWords<'_>,
     files: &F,
     out: &mut Outputs<W, E>,
-) -> Result<(Site, u32, Option<Guard>), u8> {
-    let (site, relay) = named(alloc, words, files, &mut out.errors)?;
-    if words.is_unchecked {
-        return Ok((site, relay, None));
+) -> Result<(Site, u32, Option<Guard>), u8>
+    ensures site { IfOk result (λ found. (text : List ℕ) → F.bytes_of files.now words.entry.site.now ≡ Some text →
+        IsSiteOf (F.bytes_of files.now) text found.0) }
+    ensures relay { IfOk result (λ found. relay_named found.0.relays words.entry.relay.now ≡ Some found.1) }
+    ensures guard { IfOk result (λ found. IsGuardOf words.entry.is_unchecked found.0 found.1 found.2) }
+    ensures status { IfErr result (λ status. status ≤ 4) }
+{
+    let (site, relay) = match named(alloc, words, files, &mut out.errors) {
+        Ok(found) => found,
+        Err(status) => return Err(status),
+    };
+    match guard_if(alloc, &site, relay, words.is_unchecked, out) {
+        Ok(guard) => Ok((site, relay, guard)),
+        Err(status) => Err(status),
     }
-    let guard = checked(alloc, &site, relay, out)?;
-    Ok((site, relay, Some(guard)))
 }
 
 /// What the command that runs a relay needs: the site that the words name, the number of its relay, and the relay's guard,
@@ -93,7 +144,10 @@ pub fn prepare<F: Files, W: Sink, E: Sink>(
     args: &[String],
     files: &F,
     out: &mut Outputs<W, E>,
-) -> Result<(Site, u32, Option<Guard>), u8> {
+) -> Result<(Site, u32, Option<Guard>), u8>
+    ensures ok { IfOk result (λ found. IsPrepared (F.bytes_of files.now) (map string_bytes args.now) found.0 found.1 found.2) }
+    ensures status { IfErr result (λ status. status ≤ 4) }
+{
     let Ok(words) = all_words(alloc, args) else {
         return Err(out_of_memory(&mut out.errors));
     };

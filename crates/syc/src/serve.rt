@@ -14,14 +14,14 @@ use crate::listening::{ListenFault, Listening, listen_all};
 use crate::serving::{OpenGate, Serving};
 use crate::totals::{TotalsFault, write_totals};
 use std::alloc::{AllocError, Global};
-use std::net::{Ipv4Addr, Net, TcpListener, TcpStream};
+use std::net::{Net, TcpListener, TcpStream};
 use std::sync::atomic::{AtomicBool, AtomicU64};
 use std::sync::{Arc, Wait};
 use std::thread::Threads;
 use std::time::Clock;
 use sy_board::Guard;
 use sy_rules::laws::plans_are_whole;
-use sy_rules::{Action, Input, Plan};
+use sy_rules::{Action, Plan};
 use sy_runtime::{BoxedDevice, Mismatch, Relay, RunFault, Stopped, Workers};
 use sy_site::Site;
 use sy_wire::{Sink, Source};
@@ -124,57 +124,28 @@ fn start<R: Threads + Wait + Clock + Copy + Send + 'static>(
     Relay::start(rt, alloc, plan, guard, devices, OpenGate)
 }
 
-// A relay that was started, with what listens at the ports of its inputs.
-#[derive(Drop)]
-struct Started<'a> {
-    relay: Relay<OpenGate>,
-    workers: Workers,
-    address: Ipv4Addr,
-    inputs: &'a [Input],
-    all: Vec<Listening>,
-    is_ending: Arc<AtomicBool>,
-    reopens: Arc<AtomicU64>,
-}
-
-// Runs a relay until there is nothing more to read, and stops it. Where an input's connections can't be accepted, it is
-// stopped at once, and that is answered too.
-fn run_relay<
-    R: Threads
-        + Wait
-        + Clock
-        + Net<Listener = TcpListener, Stream = TcpStream>
-        + Copy
-        + Send
-        + 'static,
+// Has a relay's connections accepted until there is nothing more to read. Where they can't be, it answers so at once.
+fn accept_to_end<
+    R: Threads + Wait + Clock + Copy + Send + 'static,
     S: Source,
     E: Sink + Drop + Send + 'static,
 >(
     rt: R,
     alloc: Global,
-    started: Started<'_>,
+    relay: &Relay<OpenGate>,
+    all: Vec<Listening>,
     reader: &mut S,
+    reopens: &AtomicU64,
     serving: &Arc<Serving<E>>,
-) -> (bool, Result<Stopped, Mismatch>)
-    ensures { IfOk result.1 (λ stopped. IsLeft started.entry.relay stopped.accounts stopped.left) }
-{
-    let Started {
-        relay,
-        workers,
-        address,
-        inputs,
-        all,
-        is_ending,
-        reopens,
-    } = started;
+) -> bool {
+    // (its descriptor is free when the accept loops are to end)
     let reserve = reserve(all.as_slice());
-    let is_accepting = accept_at_all(rt, alloc, &relay, serving, all).is_ok();
+    let is_accepting = accept_at_all(rt, alloc, relay, serving, all).is_ok();
     if is_accepting {
-        read_control(reader, &reopens);
+        read_control(reader, reopens);
     }
     drop(reserve);
-    end_loops(&rt, serving, address, inputs);
-    let ends = end_connections(rt, alloc, &relay, serving, &is_ending);
-    (is_accepting, relay.stop(&rt, workers, ends))
+    is_accepting
 }
 
 // Prints the totals of a relay with these actions, or why there are none, and answers the exit status.
@@ -247,16 +218,10 @@ pub fn serve<
     let Ok((relay, workers)) = start(rt, alloc, plan, guard, devices) else {
         return out_of_memory(&rt, serving);
     };
-    let started = Started {
-        relay,
-        workers,
-        address,
-        inputs: plan.inputs(),
-        all,
-        is_ending,
-        reopens,
-    };
-    let (is_accepting, answer) = run_relay(rt, alloc, started, reader, serving);
+    let is_accepting = accept_to_end(rt, alloc, &relay, all, reader, &reopens, serving);
+    end_loops(&rt, serving, address, plan.inputs());
+    let ends = end_connections(rt, alloc, &relay, serving, &is_ending);
+    let answer = relay.stop(&rt, workers, ends);
     if !is_accepting {
         return out_of_memory(&rt, serving);
     }

@@ -1,0 +1,29 @@
+-- The guard of an accepted site's relay.
+use Rattle.std.proofs.Common.{◌≡◌, ℕ, suc, ◌<◌, List, [], ◌∷◌, length, refl, sym, ◌∙◌, ap, arith}
+use Rattle.std.proofs.lemmas.Option.{slice_get-map}
+use Rattle.std.specs.Prelude.{Some, option_map, slice_get}
+use Rattle.sy_rules.specs.PlanValue.{Plan}
+use Rattle.sy_board.specs.relay.Guards.{MayGuard}
+use Rattle.sy_board.specs.relay.Totals.{Pairs}
+use Rattle.sy_site.specs.Sites.{Relay, Site, plan_at, plan_in}
+use Rattle.sy_site.specs.machine.Soundness.{IsSound}
+use Rattle.sy_checker.specs.Acceptance.{Acceptance, ArePairsAt, IsOf, plans_of}
+use Rattle.syc.specs.Prepared.{HasGuard}
+
+there : (relays : List Relay) (relay : ℕ) → relay < length relays → Some (plan_in (slice_get relays relay)) ≡ option_map (λ (r : Relay). r.plan) (slice_get relays relay)
+there [] relay low = absurd (omega (arith, low))
+there (r ∷ rs) ℕ.zero low = refl
+there (r ∷ rs) (suc k) low = there rs k (omega (arith, low))
+
+pub has_guard : (site : Site) (accepted : Acceptance) (relay : ℕ) (pairs : Pairs) → relay < length site.relays → IsSound site → IsOf site accepted
+    → ArePairsAt accepted.pairs relay pairs → ((plan : Plan) → Some plan ≡ slice_get accepted.plans relay → MayGuard plan pairs)
+    → HasGuard site relay pairs
+has_guard site accepted relay pairs low sound is are may = record {
+  sound = sound;
+  exact = λ input class. (
+    (λ x. (is.pairs (record { relay = relay; input = input }) class).0 ((are input class).0 x)),
+    (λ y. (are input class).1 ((is.pairs (record { relay = relay; input = input }) class).1 y)),
+  );
+  may = may (plan_at site relay)
+      (there site.relays relay low ∙ sym (slice_get-map (λ (r : Relay). r.plan) site.relays relay) ∙ ap (λ plans. slice_get plans relay) (sym is.plans));
+}
