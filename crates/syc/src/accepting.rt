@@ -1,14 +1,14 @@
 //! Accepting the connections of an input.
 
 use crate::listening::Listening;
-use crate::serving::{Connection, OpenGate, Port, Serving, serve_connection};
+use crate::connector::Connector;
+use crate::serving::{Connection, Port, Serving, serve_connection};
 use std::alloc::{AllocError, Global};
 use std::net::{TcpListener, TcpStream};
 use std::sync::{Arc, Wait};
 use std::thread;
 use std::thread::Threads;
 use std::time::{Clock, Duration};
-use sy_runtime::Relay;
 use sy_wire::Sink;
 
 /// How many milliseconds a failed accept waits before it is tried again.
@@ -20,11 +20,12 @@ const ROOM: usize = 64;
 // Has a thread of its own serve a connection.
 fn start_connection<
     R: Threads + Wait + Clock + Copy + Send + 'static,
+    C: Connector + Send + 'static,
     E: Sink + Drop + Send + 'static,
 >(
     rt: R,
     alloc: Global,
-    relay: &Relay<OpenGate>,
+    relay: &C,
     serving: &Arc<Serving<E>>,
     at: Port,
     stream: TcpStream,
@@ -51,10 +52,14 @@ fn start_connection<
 }
 
 // Accepts the next connection.
-fn accept<R: Threads + Wait + Clock + Copy + Send + 'static, E: Sink + Drop + Send + 'static>(
+fn accept<
+    R: Threads + Wait + Clock + Copy + Send + 'static,
+    C: Connector + Send + 'static,
+    E: Sink + Drop + Send + 'static,
+>(
     rt: R,
     alloc: Global,
-    relay: &Relay<OpenGate>,
+    relay: &C,
     serving: &Arc<Serving<E>>,
     at: Port,
     listener: &TcpListener,
@@ -71,18 +76,22 @@ fn accept<R: Threads + Wait + Clock + Copy + Send + 'static, E: Sink + Drop + Se
 
 // What accepts the connections of an input.
 #[derive(Drop)]
-struct Acceptor<E: Drop> {
-    relay: Relay<OpenGate>,
+struct Acceptor<C: Drop, E: Drop> {
+    relay: C,
     serving: Arc<Serving<E>>,
     listening: Listening,
 }
 
 // Accepts connections until nothing new is to be accepted. An accept that fails is tried again, and said once until one
 // succeeds.
-fn accept_all<R: Threads + Wait + Clock + Copy + Send + 'static, E: Sink + Drop + Send + 'static>(
+fn accept_all<
+    R: Threads + Wait + Clock + Copy + Send + 'static,
+    C: Connector + Send + 'static,
+    E: Sink + Drop + Send + 'static,
+>(
     rt: R,
     alloc: Global,
-    relay: &Relay<OpenGate>,
+    relay: &C,
     serving: &Arc<Serving<E>>,
     listening: &Listening,
 ) {
@@ -106,8 +115,9 @@ fn accept_all<R: Threads + Wait + Clock + Copy + Send + 'static, E: Sink + Drop 
 // Accepts connections, and listens no more once that ends.
 fn accept_and_close<
     R: Threads + Wait + Clock + Copy + Send + 'static,
+    C: Connector + Send + 'static,
     E: Sink + Drop + Send + 'static,
->(rt: R, alloc: Global, acceptor: Acceptor<E>) {
+>(rt: R, alloc: Global, acceptor: Acceptor<C, E>) {
     let Acceptor {
         relay,
         serving,
@@ -121,11 +131,12 @@ fn accept_and_close<
 /// Has a thread of its own accept the connections of an input, until nothing new is to be accepted.
 pub fn start_accepting<
     R: Threads + Wait + Clock + Copy + Send + 'static,
+    C: Connector + Send + 'static,
     E: Sink + Drop + Send + 'static,
 >(
     rt: R,
     alloc: Global,
-    relay: &Relay<OpenGate>,
+    relay: &C,
     serving: &Arc<Serving<E>>,
     listening: Listening,
 ) -> Result<(), AllocError> {

@@ -1,7 +1,7 @@
 //! How a relay that is served ends.
 
 use crate::listening::socket_address;
-use crate::serving::{OpenGate, Serving};
+use crate::serving::Serving;
 use std::alloc::{AllocError, Global};
 use std::net::{Ipv4Addr, Net, Shutdown, TcpListener, TcpStream};
 use std::sync::atomic::{AtomicBool, Ordering};
@@ -10,7 +10,7 @@ use std::thread;
 use std::thread::Threads;
 use std::time::{Clock, Duration};
 use sy_rules::Input;
-use sy_runtime::{ConnEnd, Relay};
+use sy_runtime::ConnEnd;
 use sy_wire::Sink;
 
 /// For how many milliseconds connections may go on giving what is under way.
@@ -70,18 +70,19 @@ fn start_ending_links<R: Threads + Clock + Copy + Send + 'static>(
     }
 }
 
-/// Ends the connections and closes the relay. Connections get some time to give what is under way. Then what waits in
-/// a read is ended, and some time later what waits for a link.
+/// Gives the connections some time to give what is under way.
+pub fn half_close<R: Wait + Clock, E: Sink + Drop>(rt: &R, serving: &Serving<E>) {
+    serving.shut_down(rt, Shutdown::Write);
+    serving.wait_for_connections(rt, Duration::from_millis(CONNECTIONS_WAIT));
+}
+
+/// Ends the connections of a relay that is closed: what waits in a read at once, and some time later what waits for a link.
 pub fn end_connections<R: Threads + Wait + Clock + Copy + Send + 'static, E: Sink + Drop>(
     rt: R,
     alloc: Global,
-    relay: &Relay<OpenGate>,
     serving: &Serving<E>,
     is_ending: &Arc<AtomicBool>,
 ) -> Vec<ConnEnd> {
-    serving.shut_down(&rt, Shutdown::Write);
-    serving.wait_for_connections(&rt, Duration::from_millis(CONNECTIONS_WAIT));
-    relay.close(&rt);
     serving.shut_down(&rt, Shutdown::Read);
     if start_ending_links(rt, is_ending).is_err() {
         end_links(&rt, is_ending);

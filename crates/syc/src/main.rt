@@ -15,6 +15,7 @@ mod carry;
 mod check;
 mod command;
 mod connections;
+mod connector;
 mod control;
 mod culprit;
 mod devices;

@@ -9,9 +9,10 @@ ghost use Rattle.syc.specs.internal.Served.{IsLeft};
 
 use crate::accepting::start_accepting;
 use crate::control::read_control;
-use crate::ending::{end_connections, end_loops};
+use crate::ending::{end_connections, end_loops, half_close};
 use crate::listening::{ListenFault, Listening, listen_all};
-use crate::serving::{OpenGate, Serving};
+use crate::connector::{Connector, OpenGate};
+use crate::serving::Serving;
 use crate::totals::{TotalsFault, write_totals};
 use std::alloc::{AllocError, Global};
 use std::net::{Net, TcpListener, TcpStream};
@@ -62,11 +63,12 @@ fn listen_failed<R: Wait, E: Sink + Drop>(rt: &R, serving: &Serving<E>, fault: L
 // Has each input's connections accepted.
 fn accept_at_all<
     R: Threads + Wait + Clock + Copy + Send + 'static,
+    C: Connector + Send + 'static,
     E: Sink + Drop + Send + 'static,
 >(
     rt: R,
     alloc: Global,
-    relay: &Relay<OpenGate>,
+    relay: &C,
     serving: &Arc<Serving<E>>,
     all: Vec<Listening>,
 ) -> Result<(), AllocError> {
@@ -127,12 +129,13 @@ fn start<R: Threads + Wait + Clock + Copy + Send + 'static>(
 // Has a relay's connections accepted until there is nothing more to read. Where they can't be, it answers so at once.
 fn accept_to_end<
     R: Threads + Wait + Clock + Copy + Send + 'static,
+    C: Connector + Send + 'static,
     S: Source,
     E: Sink + Drop + Send + 'static,
 >(
     rt: R,
     alloc: Global,
-    relay: &Relay<OpenGate>,
+    relay: &C,
     all: Vec<Listening>,
     reader: &mut S,
     reopens: &AtomicU64,
@@ -220,7 +223,9 @@ pub fn serve<
     };
     let is_accepting = accept_to_end(rt, alloc, &relay, all, reader, &reopens, serving);
     end_loops(&rt, serving, address, plan.inputs());
-    let ends = end_connections(rt, alloc, &relay, serving, &is_ending);
+    half_close(&rt, serving);
+    relay.close(&rt);
+    let ends = end_connections(rt, alloc, serving, &is_ending);
     let answer = relay.stop(&rt, workers, ends);
     if !is_accepting {
         return out_of_memory(&rt, serving);

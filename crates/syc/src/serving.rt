@@ -2,24 +2,15 @@
 
 use crate::at_port::{end_words, tell_at_port, tell_unread};
 use crate::connections::Connections;
+use crate::connector::Connector;
 use crate::report::tell_text;
 use std::alloc::{AllocError, Global};
 use std::net::{Shutdown, TcpStream};
 use std::sync::atomic::{AtomicBool, Ordering};
 use std::sync::{Arc, Condvar, CondvarTimeouts, Mutex, Wait};
 use std::time::{Clock, Duration};
-use sy_runtime::{ConnEnd, Finish, Gate, Relay, RunFault};
+use sy_runtime::{ConnEnd, Finish, RunFault};
 use sy_wire::{FromRead, Sink};
-
-/// Nothing is done around an offer.
-#[derive(Drop)]
-pub struct OpenGate;
-
-impl Gate for OpenGate {
-    fn before(&self, _worker: u32) {}
-
-    fn after(&self, _worker: u32) {}
-}
 
 /// What the threads of a relay that is served share.
 #[derive(Drop)]
@@ -157,8 +148,8 @@ impl<E: Sink + Drop> Serving<E> {
 
 /// A connection that was accepted.
 #[derive(Drop)]
-pub struct Connection<E: Drop> {
-    pub relay: Relay<OpenGate>,
+pub struct Connection<C: Drop, E: Drop> {
+    pub relay: C,
     pub serving: Arc<Serving<E>>,
     pub at: Port,
     pub stream: Arc<TcpStream>,
@@ -167,10 +158,10 @@ pub struct Connection<E: Drop> {
 }
 
 /// Serves a connection until it ends.
-pub fn serve_connection<R: Wait + Clock + Drop, E: Sink + Drop>(
+pub fn serve_connection<R: Wait + Clock + Drop, C: Connector, E: Sink + Drop>(
     rt: R,
     alloc: Global,
-    connection: Connection<E>,
+    connection: Connection<C, E>,
 ) {
     let Connection {
         relay,
