@@ -160,27 +160,28 @@ fn connections_count_what_they_read(rt: HostRuntime) -> Result<(), Fail> {
 const FULL: &[u8] =
     br#"module(load="imtcp") input(type="imtcp" port="6515" flowControl="full") main_queue(queue.type="LinkedList" queue.size="4" queue.fullDelayMark="2") action(name="audit" type="omfile" file="audit.log")"#;
 
-// What a connection counts whose third message waits until the relay closes, and how it ends.
-fn waits_until_closed<R: Threads + Wait + Clock + Sync>(
-    rt: &R,
-    alloc: Global,
-    relay: &Relay<NoGate>,
-) -> (bool, u32) {
-    let connected = || {
-        let mut reader = FromRead::new(Pieces {
-            rest: b"17 <34>1 - - - - - -17 <34>1 - - - - - -17 <34>1 - - - - - -17 <34>1 - - - - - -",
-            size: 70000,
-            failing: usize::MAX,
-        });
-        let (end, answer) = relay.connect(rt, alloc, 0, &mut reader);
-        (counts(&end, "3/0/3"), number_of(answer))
+fn close_later<R: Wait + Clock, G: Gate>(rt: &R, relay: &Relay<G>) {
+    thread::sleep(rt, Duration::from_millis(100));
+    relay.close(rt);
+}
+
+// What a connection counts whose third message waits until another thread closes the relay, and how it ends.
+fn waits_until_closed<
+    R: Threads + Wait + Clock + Copy + Send + 'static,
+    G: Gate + Send + Sync + 'static,
+>(rt: R, alloc: Global, relay: &Relay<G>) -> Result<(bool, u32), AllocError> {
+    let theirs = relay.try_clone()?;
+    let Ok(closing) = thread::spawn(&rt, move || close_later(&rt, &theirs)) else {
+        return Err(AllocError);
     };
-    let closed = || {
-        thread::sleep(rt, Duration::from_millis(100));
-        relay.close(rt);
-    };
-    let ((is_counted, answer), ()) = thread::join(rt, connected, closed);
-    (is_counted, answer)
+    let mut reader = FromRead::new(Pieces {
+        rest: b"17 <34>1 - - - - - -17 <34>1 - - - - - -17 <34>1 - - - - - -17 <34>1 - - - - - -",
+        size: 70000,
+        failing: usize::MAX,
+    });
+    let (end, answer) = relay.connect(&rt, alloc, 0, &mut reader);
+    closing.join(&rt);
+    Ok((counts(&end, "3/0/3"), number_of(answer)))
 }
 
 #[test]
@@ -188,7 +189,7 @@ fn closing_ends_a_wait(rt: HostRuntime) -> Result<(), Fail> {
     let Some(relay) = opened(rt.alloc(), FULL)? else {
         return Err(AllocError.into());
     };
-    let (is_counted, answer) = waits_until_closed(&rt, rt.alloc(), &relay);
+    let (is_counted, answer) = waits_until_closed(rt, rt.alloc(), &relay)?;
     assert!(rt; is_counted && answer == 1, "the third message waits");
     Ok(())
 }

@@ -1,15 +1,13 @@
 //! What devices are offered, and when.
 
-use super::door::Holding;
 use super::{ONE, connected, one_end, started, stops};
 use crate::rows::put_text;
 use std::alloc::{AllocError, Global};
+use std::str;
 use std::sync::Wait;
 use std::test::Fail;
 use std::thread::Threads;
 use std::time::Clock;
-use std::{str, thread};
-use sy_runtime::{ConnEnd, Relay};
 
 // Two actions with a queue of their own each.
 const APART: &str =
@@ -89,21 +87,7 @@ fn messages_are_offered_as_they_came(rt: HostRuntime) -> Result<(), Fail> {
 const WORKERS: &str =
     r#"main_queue(queue.workerThreads="3" queue.size="300" queue.dequeueBatchSize="20" queue.timeoutEnqueue="60000") action(name="audit" type="omfile" file="a" queue.type="LinkedList" queue.workerThreads="2" queue.size="100" queue.timeoutEnqueue="60000") action(name="copy" type="omfile" file="c")"#;
 
-// What two connections at once count.
-fn both<R: Threads + Wait + Clock + Copy + Drop + Send + Sync + 'static>(
-    rt: &R,
-    alloc: Global,
-    relay: &Relay<Holding<R>>,
-    bytes: &str,
-) -> (ConnEnd, ConnEnd) {
-    thread::join(
-        rt,
-        || connected(rt, alloc, relay, bytes),
-        || connected(rt, alloc, relay, bytes),
-    )
-}
-
-// Whether each of more messages than the queues have room for, which come by two connections at once, is taken by each of two devices.
+// Whether each of more messages than the queues have room for, which come by two connections, is taken by each of two devices.
 fn takes_all<R: Threads + Wait + Clock + Copy + Drop + Send + Sync + 'static>(
     rt: R,
     alloc: Global,
@@ -112,7 +96,8 @@ fn takes_all<R: Threads + Wait + Clock + Copy + Drop + Send + Sync + 'static>(
     let Some(running) = started(rt, alloc, WORKERS, (0, 0), 0, u32::MAX)? else {
         return Ok(false);
     };
-    let (one, other) = both(&rt, alloc, &running.relay, bytes);
+    let one = connected(&rt, alloc, &running.relay, bytes);
+    let other = connected(&rt, alloc, &running.relay, bytes);
     let is_taken = running.door.waits_for_offers(&rt, &running.log, 20000, 0);
     let mut ends = one_end(alloc, one)?;
     ends.push(other)?;
