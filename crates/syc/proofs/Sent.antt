@@ -5,11 +5,11 @@ use denote.Param.Sent.{Sends}
 use denote.Param.Send.{IsSend, IsSync, sendable}
 use Rattle.std.proofs.Crossing.{crosses}
 use Rattle.sy_runtime.specs.contracts.relay.Relay as Relay
-use Rattle.sy_runtime.proofs.Sent.{relay_send}
+use Rattle.sy_runtime.proofs.Sent.{relay_send, relay_sync}
 use Rattle.syc.specs.contracts.accepting.Acceptor as Acceptor
 use Rattle.syc.specs.contracts.connections.Connections as Connections
+use Rattle.syc.specs.contracts.connector.OpenGate as Gate
 use Rattle.syc.specs.contracts.serving.Connection as Connection
-use Rattle.syc.specs.contracts.serving.OpenGate as Gate
 use Rattle.syc.specs.contracts.serving.Serving as Serving
 
 connections_send : IsSend Connections.the_row
@@ -22,19 +22,22 @@ gate_sync : IsSync Gate.the_row
 gate_sync = search (sendable, crosses) depth 20
 
 module _ (E : RattleType) where
-  serving_send : IsSend E → IsSend (Serving.the_row E)
+  pub serving_send : IsSend E → IsSend (Serving.the_row E)
   serving_send a = search (connections_send, sendable, crosses) depth 40 fits 5000
 
-  serving_sync : IsSend E → IsSync (Serving.the_row E)
+  pub serving_sync : IsSend E → IsSync (Serving.the_row E)
   serving_sync a = search (connections_send, sendable, crosses) depth 40 fits 5000
 
+module _ (C E : RattleType) where
+  pub connection_send : IsSend C → IsSync C → IsSend E → IsSend (Connection.the_row C E)
+  connection_send a b d = search (serving_send, serving_sync, sendable, crosses) depth 30 fits 5000
+
+  pub acceptor_send : IsSend C → IsSync C → IsSend E → IsSend (Acceptor.the_row C E)
+  acceptor_send a b d = search (serving_send, serving_sync, sendable, crosses) depth 30 fits 5000
+
 module _ (T : RattleType) (g : Ghosts T.Denot) (s : Sends (table_of T.Denot g)) (t : IsSend T) where
-  open_send : IsSend (Relay.the_row Gate.the_row T g)
+  pub open_send : IsSend (Relay.the_row Gate.the_row T g)
   open_send = relay_send T g s t Gate.the_row gate_send gate_sync
 
-  module _ (E : RattleType) where
-    pub connection_send : IsSend E → IsSend (Connection.the_row E T g)
-    connection_send a = search (open_send, serving_send, serving_sync, sendable, crosses) depth 20 fits 5000
-
-    pub acceptor_send : IsSend E → IsSend (Acceptor.the_row E T g)
-    acceptor_send a = search (open_send, serving_send, serving_sync, sendable, crosses) depth 20 fits 5000
+  pub open_sync : IsSync (Relay.the_row Gate.the_row T g)
+  open_sync = relay_sync T g s t Gate.the_row gate_send gate_sync

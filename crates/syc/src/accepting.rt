@@ -1,7 +1,7 @@
 //! Accepting the connections of an input.
 
-use crate::listening::Listening;
 use crate::connector::Connector;
+use crate::listening::Listening;
 use crate::serving::{Connection, Port, Serving, serve_connection};
 use std::alloc::{AllocError, Global};
 use std::net::{TcpListener, TcpStream};
@@ -20,19 +20,19 @@ const ROOM: usize = 64;
 // Has a thread of its own serve a connection.
 fn start_connection<
     R: Threads + Wait + Clock + Copy + Send + 'static,
-    C: Connector + Send + 'static,
+    C: Connector + Send + Sync + 'static,
     E: Sink + Drop + Send + 'static,
 >(
     rt: R,
     alloc: Global,
-    relay: &C,
+    relay: &Arc<C>,
     serving: &Arc<Serving<E>>,
     at: Port,
     stream: TcpStream,
 ) -> Result<(), AllocError> {
     let stream = Arc::new(alloc, stream)?;
     let written = Arc::try_clone(&stream)?;
-    let relay = relay.try_clone()?;
+    let relay = Arc::try_clone(relay)?;
     let theirs = Arc::try_clone(serving)?;
     let place = serving.enter(&rt, written)?;
     let connection = Connection {
@@ -54,12 +54,12 @@ fn start_connection<
 // Accepts the next connection.
 fn accept<
     R: Threads + Wait + Clock + Copy + Send + 'static,
-    C: Connector + Send + 'static,
+    C: Connector + Send + Sync + 'static,
     E: Sink + Drop + Send + 'static,
 >(
     rt: R,
     alloc: Global,
-    relay: &C,
+    relay: &Arc<C>,
     serving: &Arc<Serving<E>>,
     at: Port,
     listener: &TcpListener,
@@ -77,7 +77,7 @@ fn accept<
 // What accepts the connections of an input.
 #[derive(Drop)]
 struct Acceptor<C: Drop, E: Drop> {
-    relay: C,
+    relay: Arc<C>,
     serving: Arc<Serving<E>>,
     listening: Listening,
 }
@@ -86,15 +86,9 @@ struct Acceptor<C: Drop, E: Drop> {
 // succeeds.
 fn accept_all<
     R: Threads + Wait + Clock + Copy + Send + 'static,
-    C: Connector + Send + 'static,
+    C: Connector + Send + Sync + 'static,
     E: Sink + Drop + Send + 'static,
->(
-    rt: R,
-    alloc: Global,
-    relay: &C,
-    serving: &Arc<Serving<E>>,
-    listening: &Listening,
-) {
+>(rt: R, alloc: Global, relay: &Arc<C>, serving: &Arc<Serving<E>>, listening: &Listening) {
     let mut has_failed = false;
     for _ in rt.forever() {
         if serving.is_stopping() {
@@ -115,7 +109,7 @@ fn accept_all<
 // Accepts connections, and listens no more once that ends.
 fn accept_and_close<
     R: Threads + Wait + Clock + Copy + Send + 'static,
-    C: Connector + Send + 'static,
+    C: Connector + Send + Sync + 'static,
     E: Sink + Drop + Send + 'static,
 >(rt: R, alloc: Global, acceptor: Acceptor<C, E>) {
     let Acceptor {
@@ -131,17 +125,17 @@ fn accept_and_close<
 /// Has a thread of its own accept the connections of an input, until nothing new is to be accepted.
 pub fn start_accepting<
     R: Threads + Wait + Clock + Copy + Send + 'static,
-    C: Connector + Send + 'static,
+    C: Connector + Send + Sync + 'static,
     E: Sink + Drop + Send + 'static,
 >(
     rt: R,
     alloc: Global,
-    relay: &C,
+    relay: &Arc<C>,
     serving: &Arc<Serving<E>>,
     listening: Listening,
 ) -> Result<(), AllocError> {
     let acceptor = Acceptor {
-        relay: relay.try_clone()?,
+        relay: Arc::try_clone(relay)?,
         serving: Arc::try_clone(serving)?,
         listening,
     };

@@ -30,26 +30,18 @@ pub fn end_words(fault: RunFault) -> &'static str
 }
 
 // All numbers in digits.
-struct UnreadTexts<'a> {
+fn tell_count<'a, E: Sink>(
+    errors: &mut E,
     count: &'a [u8],
     port: &'a [u8],
     words: &'a [u8],
     offset: &'a [u8],
     frame: &'a [u8],
-}
-
-fn tell_texts_of<E: Sink>(errors: &mut E, texts: UnreadTexts<'_>)
+)
     ensures { Reported
         (seen E.contents E.is_flushed E.faults errors.old) (seen E.contents E.is_flushed E.faults errors.new)
-        (spec.unread_at texts.count.now texts.port.now texts.words.now texts.offset.now texts.frame.now) }
+        (spec.unread_at count.now port.now words.now offset.now frame.now) }
 {
-    let UnreadTexts {
-        count,
-        port,
-        words,
-        offset,
-        frame,
-    } = texts;
     tell_texts(
         errors,
         &[
@@ -78,14 +70,12 @@ pub fn tell_unread<E: Sink>(errors: &mut E, count: u64, port: u16, first: Unread
     let mut port_digits = Buffer::new();
     let mut offset_digits = Buffer::new();
     let mut frame_digits = Buffer::new();
-    tell_texts_of(
+    tell_count(
         errors,
-        UnreadTexts {
-            count: count_digits.format(count).as_bytes(),
-            port: port_digits.format(port).as_bytes(),
-            words: first.fault.code.words().as_bytes(),
-            offset: offset_digits.format(first.fault.offset as u64).as_bytes(),
-            frame: frame_digits.format(first.frame).as_bytes(),
-        },
+        count_digits.format(count).as_bytes(),
+        port_digits.format(port).as_bytes(),
+        first.fault.code.words().as_bytes(),
+        offset_digits.format(first.fault.offset as u64).as_bytes(),
+        frame_digits.format(first.frame).as_bytes(),
     );
 }

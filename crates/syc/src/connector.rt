@@ -1,6 +1,6 @@
 //! What serves the connections of a relay.
 
-use std::alloc::{AllocError, Global};
+use std::alloc::Global;
 use std::sync::Wait;
 use std::time::Clock;
 use sy_runtime::{ConnEnd, Finish, Gate, Relay, RunFault};
@@ -19,9 +19,6 @@ impl Gate for OpenGate {
 /// What serves connections, on the thread of each: a relay. (Behind it stand boxed devices, which a function's contract
 /// can't have beside what it makes itself, as a thread.)
 pub trait Connector: Drop {
-    /// Another handle of the same, for another thread.
-    fn try_clone(&self) -> Result<Self, AllocError>;
-
     /// Serves a connection of an input, to the end of its reader.
     fn connect<R: Wait + Clock, S: Source>(
         &self,
@@ -33,10 +30,6 @@ pub trait Connector: Drop {
 }
 
 impl Connector for Relay<OpenGate> {
-    fn try_clone(&self) -> Result<Relay<OpenGate>, AllocError> {
-        Relay::try_clone(self)
-    }
-
     fn connect<R: Wait + Clock, S: Source>(
         &self,
         rt: &R,

@@ -79,7 +79,6 @@ use std::sync::{Arc, Wait};
 use std::thread::Threads;
 use std::time::Clock;
 use sy_board::Guard;
-use sy_runtime::BoxedDevice;
 use sy_site::Site;
 use sy_wire::{Buffered, FromRead, FromWrite, Sink, Source};
 
@@ -160,8 +159,7 @@ fn take_closed_streams(rt: &HostRuntime) -> [io::Result<File>; 3] {
     ]
 }
 
-// Makes the devices of a relay's actions, and serves it with the process's own streams. (No function hands out a boxed
-// device: of what a function makes and hands out behind an interface its contract may say nothing.)
+// Makes the devices of a relay's actions, and serves it with the process's own streams.
 fn serve_on<
     R: Threads
         + Wait
@@ -187,16 +185,13 @@ fn serve_on<
     let Some(signals) = Signals::new(alloc) else {
         return stop::out_of_memory(&mut out.errors);
     };
-    let mut devices: Vec<BoxedDevice> = Vec::new(alloc);
+    let mut devices = Vec::new(alloc);
     for outlet in outlets {
         let taker = match taker(host, alloc, *outlet, &signals) {
             Ok(taker) => taker,
             Err(fault) => return no_devices(&mut out.errors, fault),
         };
-        let Ok(device) = Box::new(alloc, HostDevice::new(taker)) else {
-            return stop::out_of_memory(&mut out.errors);
-        };
-        let Ok(()) = devices.push(device) else {
+        let Ok(()) = devices.push(HostDevice::new(taker)) else {
             return stop::out_of_memory(&mut out.errors);
         };
     }

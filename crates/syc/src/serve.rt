@@ -8,13 +8,15 @@ ghost use Rattle.syc.specs.Totals.{EndsWithTotals, WroteTotals};
 ghost use Rattle.syc.specs.internal.Served.{IsLeft};
 
 use crate::accepting::start_accepting;
+use crate::connector::{Connector, OpenGate};
 use crate::control::read_control;
 use crate::ending::{end_connections, end_loops, half_close};
+use crate::host_device::HostDevice;
 use crate::listening::{ListenFault, Listening, listen_all};
-use crate::connector::{Connector, OpenGate};
 use crate::serving::Serving;
 use crate::totals::{TotalsFault, write_totals};
 use std::alloc::{AllocError, Global};
+use std::collections::VecDeque;
 use std::net::{Net, TcpListener, TcpStream};
 use std::sync::atomic::{AtomicBool, AtomicU64};
 use std::sync::{Arc, Wait};
@@ -34,7 +36,8 @@ pub struct Served<'a> {
     pub relay: u32,
     /// What is known to lose nothing, where that was checked.
     pub guard: Option<Guard>,
-    pub devices: Vec<BoxedDevice>,
+    /// The devices of its actions, in their order.
+    pub devices: Vec<HostDevice>,
     /// Set once no device is to wait.
     pub is_ending: Arc<AtomicBool>,
     /// How often archives are to be opened anew.
@@ -63,12 +66,12 @@ fn listen_failed<R: Wait, E: Sink + Drop>(rt: &R, serving: &Serving<E>, fault: L
 // Has each input's connections accepted.
 fn accept_at_all<
     R: Threads + Wait + Clock + Copy + Send + 'static,
-    C: Connector + Send + 'static,
+    C: Connector + Send + Sync + 'static,
     E: Sink + Drop + Send + 'static,
 >(
     rt: R,
     alloc: Global,
-    relay: &C,
+    relay: &Arc<C>,
     serving: &Arc<Serving<E>>,
     all: Vec<Listening>,
 ) -> Result<(), AllocError> {
@@ -129,21 +132,24 @@ fn start<R: Threads + Wait + Clock + Copy + Send + 'static>(
 // Has a relay's connections accepted until there is nothing more to read. Where they can't be, it answers so at once.
 fn accept_to_end<
     R: Threads + Wait + Clock + Copy + Send + 'static,
-    C: Connector + Send + 'static,
+    C: Connector + Send + Sync + 'static,
     S: Source,
     E: Sink + Drop + Send + 'static,
 >(
     rt: R,
     alloc: Global,
-    relay: &C,
+    relay: C,
     all: Vec<Listening>,
     reader: &mut S,
     reopens: &AtomicU64,
     serving: &Arc<Serving<E>>,
 ) -> bool {
+    let Ok(relay) = Arc::new(alloc, relay) else {
+        return false;
+    };
     // (its descriptor is free when the accept loops are to end)
     let reserve = reserve(all.as_slice());
-    let is_accepting = accept_at_all(rt, alloc, relay, serving, all).is_ok();
+    let is_accepting = accept_at_all(rt, alloc, &relay, serving, all).is_ok();
     if is_accepting {
         read_control(reader, reopens);
     }
@@ -177,6 +183,7 @@ fn finish<R: Wait, W: Sink, E: Sink + Drop>(
 /// connects there, and prints what happens. Then it ends within seconds, whatever its peers do, and prints the totals. It
 /// answers the exit status: 0 where the totals that were printed agree with what its threads counted, 3 where memory runs out, and 4
 /// where a port can't be listened at, the totals don't agree, or they can't be written.
+// (Boxes are made here, and in no function that takes or hands out one: its contract might say nothing.)
 pub fn serve<
     R: Threads
         + Wait
@@ -218,10 +225,23 @@ pub fn serve<
         Ok(all) => all,
         Err(fault) => return listen_failed(&rt, serving, fault),
     };
-    let Ok((relay, workers)) = start(rt, alloc, plan, guard, devices) else {
+    let mut boxes: Vec<BoxedDevice> = Vec::new(alloc);
+    let mut left = VecDeque::from(devices);
+    while let Some(device) = left.pop_front() {
+        let Ok(device) = Box::new(alloc, device) else {
+            return out_of_memory(&rt, serving);
+        };
+        let Ok(()) = boxes.push(device) else {
+            return out_of_memory(&rt, serving);
+        };
+    }
+    let Ok((relay, workers)) = start(rt, alloc, plan, guard, boxes) else {
         return out_of_memory(&rt, serving);
     };
-    let is_accepting = accept_to_end(rt, alloc, &relay, all, reader, &reopens, serving);
+    let is_accepting = match relay.try_clone() {
+        Ok(theirs) => accept_to_end(rt, alloc, theirs, all, reader, &reopens, serving),
+        Err(_) => false,
+    };
     end_loops(&rt, serving, address, plan.inputs());
     half_close(&rt, serving);
     relay.close(&rt);

@@ -149,7 +149,7 @@ impl<E: Sink + Drop> Serving<E> {
 /// A connection that was accepted.
 #[derive(Drop)]
 pub struct Connection<C: Drop, E: Drop> {
-    pub relay: C,
+    pub relay: Arc<C>,
     pub serving: Arc<Serving<E>>,
     pub at: Port,
     pub stream: Arc<TcpStream>,

@@ -1,0 +1,9 @@
+use Rattle.std.proofs.Common.{◌≡◌, ◌+◌, length}
+use Rattle.syc.proofs.serve.serve.Given as goal
+
+-- each device is in a box or still to be put into one
+abbrev pub invariant-loop-device : goal.invariant-loop-device
+invariant-loop-device g l = length l.boxes.items + length l.left.items ≡ length l.fn.served.devices.items
+
+abbrev pub decreases-loop-device : goal.decreases-loop-device
+decreases-loop-device g l = length l.left.items

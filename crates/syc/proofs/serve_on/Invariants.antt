@@ -1,0 +1,6 @@
+use Rattle.std.proofs.Common.{◌≡◌, length}
+use Rattle.syc.proofs.serve_on.Given as goal
+
+-- a device for each outlet so far
+abbrev pub invariant-loop-outlet : goal.invariant-loop-outlet
+invariant-loop-outlet g l = length l.devices.items ≡ l.outlet-index
