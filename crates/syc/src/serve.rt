@@ -1,5 +1,5 @@
 //! Serving a relay until its reader ends.
-ghost use Rattle.std.specs.Prelude.{◌≡◌, ◌<◌, ◌≤◌, Option, IfOk, IfSome, length};
+ghost use Rattle.std.specs.Prelude.{◌≡◌, ◌≢◌, ◌<◌, ◌≤◌, Option, IfOk, IfSome, length};
 ghost use Rattle.std.specs.Arc.{arc_value};
 ghost use Rattle.sy_board.specs.relay.Guards.{MayGuard};
 ghost use Rattle.sy_board.specs.relay.Totals.{Pairs};
@@ -53,7 +53,10 @@ fn out_of_memory<R: Wait, E: Sink + Drop>(rt: &R, serving: &Serving<E>) -> u8
 }
 
 // Tells why a relay doesn't listen, and answers the exit status.
-fn listen_failed<R: Wait, E: Sink + Drop>(rt: &R, serving: &Serving<E>, fault: ListenFault) -> u8 {
+fn listen_failed<R: Wait, E: Sink + Drop>(rt: &R, serving: &Serving<E>, fault: ListenFault) -> u8
+    ensures status { result ≤ 4 }
+    ensures failed { result ≢ 0 }
+{
     match fault {
         ListenFault::Bind(port) => {
             serving.tell(rt, RunFault::Bind.words().as_bytes(), port);
@@ -157,6 +160,23 @@ fn accept_to_end<
     is_accepting
 }
 
+// The same, for a relay.
+fn accept_for<
+    R: Threads + Wait + Clock + Copy + Send + 'static,
+    S: Source,
+    E: Sink + Drop + Send + 'static,
+>(
+    rt: R,
+    alloc: Global,
+    relay: Relay<OpenGate>,
+    all: Vec<Listening>,
+    reader: &mut S,
+    reopens: &AtomicU64,
+    serving: &Arc<Serving<E>>,
+) -> bool {
+    accept_to_end(rt, alloc, relay, all, reader, reopens, serving)
+}
+
 // Prints the totals of a relay with these actions, or why there are none, and answers the exit status.
 fn finish<R: Wait, W: Sink, E: Sink + Drop>(
     rt: &R,
@@ -239,7 +259,7 @@ pub fn serve<
         return out_of_memory(&rt, serving);
     };
     let is_accepting = match relay.try_clone() {
-        Ok(theirs) => accept_to_end(rt, alloc, theirs, all, reader, &reopens, serving),
+        Ok(theirs) => accept_for(rt, alloc, theirs, all, reader, &reopens, serving),
         Err(_) => false,
     };
     end_loops(&rt, serving, address, plan.inputs());

@@ -10,5 +10,5 @@ pub returns : goal.returns
 returns g c =
     subst
     (λ text. Reported (seen g.E.Sink.contents g.E.Sink.is_flushed g.E.Sink.faults c.args.errors.now)
-        (seen g.E.Sink.contents g.E.Sink.is_flushed g.E.Sink.faults c.tell_count.new.errors) text)
+    (seen g.E.Sink.contents g.E.Sink.is_flushed g.E.Sink.faults c.tell_count.new.errors) text)
     (same_line (search rules) (search rules) (search rules) (search rules) (search rules)) c.tell_count.ensures
