@@ -3,4 +3,7 @@ use Rattle.syc.proofs.serve_on.Given as goal
 
 -- a device for each outlet so far
 abbrev pub invariant-loop-outlet : goal.invariant-loop-outlet
-invariant-loop-outlet g l = length l.devices.items ≡ l.outlet-index
+invariant-loop-outlet g l = record {
+  count : length l.devices.items ≡ l.outlet-index;
+  guard : l.guard ≡ l.fn.guard;
+}

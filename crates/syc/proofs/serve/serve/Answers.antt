@@ -27,4 +27,4 @@ returns-clause-done g c = λ zero.
     (λ actions. EndsWithTotals actions c.args.served.guard (g.W.Sink.contents c.args.writer.now) (g.W.Sink.contents c.finish.new.writer))
     (search rules)
     (c.finish.ensures.done zero c.args.served.guard
-      (left_of c.stop-answer.result (λ stopped stops. left_with _ c.args.served.guard _ _ _ _ (search rules) stops) c.stop-answer.ensures))
+    (left_of c.stop-answer.result (λ stopped stops. left_with _ c.args.served.guard _ _ _ _ (search rules) stops) c.stop-answer.ensures))
