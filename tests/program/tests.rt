@@ -4,9 +4,14 @@
 use crate::examples::{CERTIFICATE, certify_example, check_example, replay_example, verify_example};
 use crate::files::{FileFault, Files};
 use crate::memory::MemoryFiles;
+use crate::outlets::{Outlet, outlets};
 use crate::outputs::Outputs;
-use std::alloc::Global;
+use crate::prepare::prepare;
+use std::alloc::{AllocError, Global};
+use std::net::Ipv4Addr;
 use std::test::Fail;
+use sy_board::Guard;
+use sy_site::Site;
 use sy_wire::{FromWrite, Source};
 
 type Kept = FromWrite<Vec<u8>>;
@@ -88,5 +93,86 @@ fn a_file_is_read_piece_by_piece(rt: HostRuntime) -> Result<(), Fail> {
     assert!(rt; matches!(file.read(&mut piece), Ok(2)));
     assert_eq!(rt; piece, *b"str");
     assert!(rt; matches!(file.read(&mut piece), Ok(0)));
+    Ok(())
+}
+
+// The example site, and one line more, of a relay that forwards to a name that no relay has, and to a port that is no input.
+const RELAYS: [(&str, &[u8]); 4] = [
+    (
+        "site",
+        b"relay edge edge.conf\nrelay hub hub.conf\nrelay far far.conf 127.0.0.2\nentry edge 6514\nprotect auth.* hub audit\n",
+    ),
+    (
+        "edge.conf",
+        br#"module(load="imtcp") input(type="imtcp" port="6514" flowControl="full" ruleset="out")
+ruleset(name="out" queue.type="LinkedList" queue.size="100" queue.fullDelayMark="90" queue.discardSeverity="8") {
+  action(name="up" type="omfwd" target="hub" port="6515" protocol="tcp" TCP_Framing="octet-counted" action.resumeRetryCount="-1")
+}"#,
+    ),
+    (
+        "hub.conf",
+        br#"module(load="imtcp") input(type="imtcp" port="6515" flowControl="full")
+action(name="audit" type="omfile" file="audit.log" action.resumeRetryCount="-1")"#,
+    ),
+    (
+        "far.conf",
+        br#"action(name="a" type="omfwd" target="nobody" port="6515" protocol="tcp" TCP_Framing="octet-counted")
+action(name="b" type="omfwd" target="far" port="7" protocol="tcp" TCP_Framing="octet-counted")"#,
+    ),
+];
+
+// What these words prepare, or the exit status.
+fn prepared(alloc: Global, words: &[&str]) -> Result<Result<(Site, u32, Option<Guard>), u8>, AllocError> {
+    let mut given = Vec::new(alloc);
+    for word in words {
+        given.push(String::from_str(alloc, word)?)?;
+    }
+    let files = MemoryFiles::new(alloc, &RELAYS);
+    Ok(prepare(alloc, given.as_slice(), &files, &mut streams(alloc)))
+}
+
+// Whether a guard has the eight classes of auth at input 0, and nothing else.
+fn guards_auth(guard: &Guard) -> bool {
+    let mut number = 32;
+    for (input, class) in guard.pairs() {
+        if *input != 0 || class.number() != number {
+            return false;
+        }
+        number = number.wrapping_add(1);
+    }
+    number == 40
+}
+
+#[test]
+fn a_relay_is_prepared(rt: HostRuntime) -> Result<(), Fail> {
+    match prepared(rt.alloc(), &["run", "site", "hub"])? {
+        Ok((_, relay, Some(guard))) => {
+            assert_eq!(rt; relay, 1);
+            assert!(rt; guards_auth(&guard));
+        }
+        _ => assert!(rt; false),
+    }
+    for words in [["run", "--unchecked", "site", "hub"], ["run", "site", "hub", "--unchecked"]] {
+        assert!(rt; matches!(prepared(rt.alloc(), &words)?, Ok((_, 1, None))));
+    }
+    assert!(rt; matches!(prepared(rt.alloc(), &["run", "site", "nobody"])?, Err(2)));
+    assert!(rt; matches!(prepared(rt.alloc(), &["run", "none", "hub"])?, Err(4)));
+    Ok(())
+}
+
+#[test]
+fn actions_lead_where_their_targets_are(rt: HostRuntime) -> Result<(), Fail> {
+    let Ok((site, _, _)) = prepared(rt.alloc(), &["run", "--unchecked", "site", "hub"])? else {
+        assert!(rt; false);
+        return Ok(());
+    };
+    let home = Ipv4Addr::new(127, 0, 0, 1);
+    let away = Ipv4Addr::new(127, 0, 0, 2);
+    let edge = outlets(rt.alloc(), &site, 0)?;
+    assert!(rt; matches!(edge.as_slice(), [Outlet::Forward { address, port: 6515 }] if *address == home));
+    let hub = outlets(rt.alloc(), &site, 1)?;
+    assert!(rt; matches!(hub.as_slice(), [Outlet::File(name)] if name.starts_with(b"audit.log") && name.len() == 9));
+    let far = outlets(rt.alloc(), &site, 2)?;
+    assert!(rt; matches!(far.as_slice(), [Outlet::Nowhere, Outlet::Forward { address, port: 7 }] if *address == away));
     Ok(())
 }
