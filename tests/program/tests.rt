@@ -3,16 +3,26 @@
 
 use crate::examples::{CERTIFICATE, certify_example, check_example, replay_example, verify_example};
 use crate::files::{FileFault, Files};
+use crate::archive::Archive;
+use crate::host_device::{HostDevice, Taker};
 use crate::memory::MemoryFiles;
 use crate::outlets::{Outlet, outlets};
 use crate::outputs::Outputs;
 use crate::prepare::prepare;
+use crate::serve::{Served, serve};
+use crate::serving::Serving;
 use std::alloc::{AllocError, Global};
-use std::net::Ipv4Addr;
+use std::fs;
+use std::io::{self, Read, Write};
+use std::net::{Ipv4Addr, TcpStream};
+use std::sync::Arc;
+use std::sync::atomic::{AtomicBool, AtomicU64};
 use std::test::Fail;
+use std::thread;
+use std::time::Duration;
 use sy_board::Guard;
 use sy_site::Site;
-use sy_wire::{FromWrite, Source};
+use sy_wire::{FromRead, FromWrite, Source};
 
 type Kept = FromWrite<Vec<u8>>;
 
@@ -174,5 +184,76 @@ fn actions_lead_where_their_targets_are(rt: HostRuntime) -> Result<(), Fail> {
     assert!(rt; matches!(hub.as_slice(), [Outlet::File(name)] if name.starts_with(b"audit.log") && name.len() == 9));
     let far = outlets(rt.alloc(), &site, 2)?;
     assert!(rt; matches!(far.as_slice(), [Outlet::Nowhere, Outlet::Forward { address, port: 7 }] if *address == away));
+    Ok(())
+}
+
+const LINES: &[u8] = b"<34>1 - - - - - -\n<35>1 - - - - - -\n";
+
+const TOTALS: &[u8] = b"taken 2 lost 0 held 0\naudit due 2 done 2 given-up 0 left 0\n";
+
+// A reader that ends once the file of the archive has both lines, or after ten seconds.
+#[derive(Drop)]
+struct UntilWritten {
+    rt: HostRuntime,
+}
+
+impl Read for UntilWritten {
+    fn read(&mut self, _buf: &mut [u8]) -> io::Result<usize> {
+        for _ in 0..1000 {
+            if let Ok(bytes) = fs::read(&self.rt, "served.log") {
+                if bytes.len() >= LINES.len() {
+                    return Ok(0);
+                }
+            }
+            thread::sleep(&self.rt, Duration::from_millis(10));
+        }
+        Ok(0)
+    }
+}
+
+// Sends both messages over one connection, as soon as somebody listens.
+fn send(rt: HostRuntime) {
+    for _ in 0..1000 {
+        if let Ok(mut stream) = TcpStream::connect(&rt, ("127.0.0.1", 6515)) {
+            let _ = stream.write_all(b"17 <34>1 - - - - - -17 <35>1 - - - - - -");
+            return;
+        }
+        thread::sleep(&rt, Duration::from_millis(10));
+    }
+}
+
+#[test]
+fn a_relay_is_served(rt: HostRuntime) -> Result<(), Fail> {
+    let alloc = rt.alloc();
+    let Ok((site, relay, guard)) = prepared(alloc, &["run", "site", "hub"])? else {
+        assert!(rt; false);
+        return Ok(());
+    };
+    let reopens = Arc::new(alloc, AtomicU64::new(0)).map_err(|_| AllocError)?;
+    let name = String::from_str(alloc, "served.log")?;
+    let mut devices = Vec::new(alloc);
+    if let Some(archive) = Archive::open(rt, alloc, name, Arc::try_clone(&reopens)?) {
+        devices.push(HostDevice::new(Taker::Archive(archive)))?;
+    }
+    let is_ending = Arc::new(alloc, AtomicBool::new(false)).map_err(|_| AllocError)?;
+    let served = Served {
+        site: &site,
+        relay,
+        guard,
+        devices,
+        is_ending,
+        reopens,
+    };
+    let errors = FromWrite::new(Vec::new(alloc));
+    let serving = Arc::new(alloc, Serving::new(alloc, errors)).map_err(|_| AllocError)?;
+    let mut writer = FromWrite::new(Vec::new(alloc));
+    let mut reader = FromRead::new(UntilWritten { rt });
+    let sender = thread::spawn(&rt, move || send(rt));
+    assert!(rt; sender.is_ok());
+    let status = serve(rt, alloc, served, &mut reader, &mut writer, &serving);
+    assert_eq!(rt; status, 0);
+    let printed = writer.into_inner();
+    assert!(rt; printed.as_slice() == TOTALS);
+    assert!(rt; matches!(fs::read(&rt, "served.log"), Ok(bytes) if bytes.as_slice() == LINES));
     Ok(())
 }
