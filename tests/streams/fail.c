@@ -11,6 +11,7 @@
 #include <stdio.h>
 #include <stdlib.h>
 #include <string.h>
+#include <sys/syscall.h>
 #include <unistd.h>
 
 struct stream {
@@ -48,6 +49,13 @@ static void *next(const char *name)
     return it;
 }
 
+/* Ends the program at once. */
+__attribute__((noreturn)) static void leave(int status)
+{
+    for (;;)
+        syscall(SYS_exit_group, status);
+}
+
 __attribute__((destructor)) static void end(void)
 {
     ssize_t (*to)(int, const void *, size_t) = (ssize_t (*)(int, const void *, size_t))next("write");
@@ -58,8 +66,15 @@ __attribute__((destructor)) static void end(void)
     if (!name || (file = open(name, O_WRONLY | O_CREAT | O_TRUNC, 0666)) < 0)
         return;
     if (to(file, text, length) != length)
-        _exit(99);
+        leave(99);
     close(file);
+}
+
+/* A program that may have threads ends so, past what others do at their end. */
+__attribute__((noreturn)) void _exit(int status)
+{
+    end();
+    leave(status);
 }
 
 /* Counts a call; whether it fails. */
