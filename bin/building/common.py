@@ -2,6 +2,7 @@
 
 import contextlib
 import fcntl
+import glob
 import hashlib
 import os
 import re
@@ -49,6 +50,12 @@ def kit_folder():
 def kit_name(kit):
     """The toolchain's name, which changes with it."""
     return text_of(f"{kit}/KIT-ID").strip() or "unknown"
+
+
+def keeps_proofs(kit):
+    """Whether the toolchain takes over what it proved in another tree on the machine: its command then says of a crate that
+    it is kept."""
+    return any("is kept" in text_of(it) for it in glob.glob(f"{glob.escape(kit)}/bin/rt*"))
 
 
 def needed_kit():

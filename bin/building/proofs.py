@@ -6,7 +6,7 @@ import shutil
 import time
 from concurrent.futures import FIRST_COMPLETED, ThreadPoolExecutor, wait
 
-from building.common import TOP, Failed, alone, below, crates_of, kit_name, lanes, needed_kit, rooms, run, say
+from building.common import TOP, Failed, alone, below, crates_of, keeps_proofs, kit_name, lanes, needed_kit, rooms, run, say
 from building.programs import Program, tell_sums
 
 MEASURED = "55 minutes on two processors, with the proofs of the tests beside it,"
@@ -15,12 +15,13 @@ OF_A_PROOF = 3_000_000_000  # bytes of memory, about
 
 class Proofs:
     """The proofs of the program's crates, each by the toolchain's gate over a tree of the crate and of those below it:
-    one tree for all would be locked by the first. The gate takes over what is proved in another tree."""
+    one tree for all would be locked by the first. The gate takes over what is proved in another tree, where the toolchain
+    keeps it; else there is one proof of all crates."""
 
     def __init__(self, source, room):
         self.source, self.room, self.crates = source, room, crates_of(source)
         self.order = below(self.crates, "syc")
-        self.is_kept, self.failed, self.ended = True, [], 0
+        self.is_kept, self.failed, self.ended = keeps_proofs(needed_kit()), [], 0
         self.behind = self.chains()
         longest = max(self.order, key=self.behind.get)
         # The longest chain of crates has the first claim to the processors.

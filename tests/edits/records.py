@@ -18,6 +18,8 @@ TABLE = re.compile(r"^static (\w+): .*?;\n", re.MULTILINE | re.DOTALL)
 LEMMAS = re.compile(r"\bRattle\.(\w+\.proofs\.[\w.]*\w)")
 # One in so many edits of a recorded crate is tried again in each run.
 SHARE = 20
+# In so many states a crate's record is kept.
+STATES = 2
 
 
 def digest(parts):
@@ -117,17 +119,28 @@ def sum_of(top, crate, below):
 
 
 class Record:
-    """Which edits of a crate were refused when all that this rests on was as it is now: of each the sum of its text."""
+    """Which edits of a crate were refused when all that this rests on was as it is now: of each the sum of its text. The
+    file keeps what was recorded last in another state, too, so that two kits of the toolchain can have a record each."""
 
     def __init__(self, top, crate, below):
         self.folder, self.crate = f"{top}/crates/{crate}/must-fail", crate
-        self.file, self.sum, self.refused = f"{top}/tests/edits/refused/{crate}", sum_of(top, crate, below), {}
+        self.file, self.sum = f"{top}/tests/edits/refused/{crate}", sum_of(top, crate, below)
+        self.states = self.read()
+        self.refused = self.states.pop(self.sum, {})
+
+    def read(self):
+        """What is recorded in each state, by its sum, in the order of the file."""
+        found, last = {}, None
         try:
-            head, *lines = text_of(self.file).splitlines()
-        except (FileNotFoundError, ValueError):
-            return
-        if head == f"sum: {self.sum}":
-            self.refused = dict(it.split(" ") for it in lines)
+            for line in text_of(self.file).splitlines():
+                name, what = line.split(" ")
+                if name == "sum:":
+                    last = found.setdefault(what, {})
+                else:
+                    last[name] = what
+        except (FileNotFoundError, ValueError, TypeError):
+            return {}
+        return found
 
     def sum_of(self, edit):
         return digest([("edit", text_of(f"{self.folder}/{edit.name}.edit"))])
@@ -148,6 +161,8 @@ class Record:
         now = {name: it for name, it in self.refused.items() if name not in names}
         now |= {it.name: self.sum_of(it) for it in refused}
         now = {name: it for name, it in now.items() if os.path.isfile(f"{self.folder}/{name}.edit")}
+        states = [(self.sum, now), *self.states.items()][:STATES]
         os.makedirs(os.path.dirname(self.file), exist_ok=True)
         with open(self.file, "w", encoding="utf-8") as it:
-            it.write("".join(f"{line}\n" for line in [f"sum: {self.sum}", *(f"{a} {b}" for a, b in sorted(now.items()))]))
+            for state, names in states:
+                it.write("".join(f"{line}\n" for line in [f"sum: {state}", *(f"{a} {b}" for a, b in sorted(names.items()))]))
