@@ -23,12 +23,20 @@ pub(super) const LINE_ENDS: [usize; 3] = [18, 36, 57];
 
 pub(super) const FRAME_ENDS: [usize; 3] = [20, 40, 63];
 
-// Takes so many bytes, then fails at so many writes, then takes all.
+/// Which writes take one byte: from the first number on, counted from 0, to before the second.
+type Slow = (u32, u32);
+
+const NONE: Slow = (0, 0);
+
+const EACH: Slow = (0, u32::MAX);
+
+// Takes so many bytes, then fails at so many writes, then takes all; at some writes one byte at most.
 #[derive(Drop)]
 pub(super) struct Torn {
     bytes: Vec<u8>,
     room: usize,
     failing: u32,
+    slow: Slow,
     // the writes that took bytes, and the flushes
     writes: u32,
     flushes: u32,
@@ -41,10 +49,16 @@ impl Torn {
 
     // The same with its memory.
     pub(super) fn into(bytes: Vec<u8>, room: usize, failing: u32) -> FromWrite<Torn> {
+        Torn::slowly(bytes, room, failing, NONE)
+    }
+
+    // The same, where these writes take one byte.
+    fn slowly(bytes: Vec<u8>, room: usize, failing: u32, slow: Slow) -> FromWrite<Torn> {
         FromWrite::new(Torn {
             bytes,
             room,
             failing,
+            slow,
             writes: 0,
             flushes: 0,
         })
@@ -53,10 +67,12 @@ impl Torn {
 
 impl Write for Torn {
     fn write(&mut self, buf: &[u8]) -> io::Result<usize> {
+        let is_slow = self.slow.0 <= self.writes && self.writes < self.slow.1;
+        let size = if is_slow { 1 } else { buf.len() };
         let most = if self.failing == 0 {
-            buf.len()
+            size.min(buf.len())
         } else {
-            self.room.min(buf.len())
+            self.room.min(size).min(buf.len())
         };
         if most == 0 {
             self.failing = self.failing.saturating_sub(1);
@@ -80,6 +96,7 @@ pub(super) fn taken(writer: FromWrite<Torn>) -> Vec<u8> {
         bytes,
         room: _,
         failing: _,
+        slow: _,
         writes: _,
         flushes: _,
     } = writer.into_inner();
@@ -166,8 +183,9 @@ pub(super) fn holds(writer: FromWrite<Torn>, wanted: &[u8]) -> bool {
     taken(writer).as_slice() == wanted
 }
 
-fn is_line_written(alloc: Global, row: &Row) -> Result<bool, AllocError> {
-    let mut sink = LineSink::new(alloc, Torn::new(alloc, row.0, row.1));
+fn is_line_written(alloc: Global, slow: Slow, row: &Row) -> Result<bool, AllocError> {
+    let writer = Torn::slowly(Vec::new(alloc), row.0, row.1, slow);
+    let mut sink = LineSink::new(alloc, writer);
     let answered = are_answered(alloc, &mut sink, row.2);
     let is_written = holds(sink.into_writer(), row.3);
     Ok(answered? && is_written)
@@ -176,7 +194,7 @@ fn is_line_written(alloc: Global, row: &Row) -> Result<bool, AllocError> {
 fn each_line_is_written(alloc: Global, rows: &[Row]) -> Result<bool, AllocError> {
     let mut is_right = true;
     for row in rows {
-        is_right = is_right && is_line_written(alloc, row)?;
+        is_right = is_right && is_line_written(alloc, NONE, row)?;
     }
     Ok(is_right)
 }
@@ -209,8 +227,8 @@ fn end_after(ends: &[usize], count: usize) -> (usize, bool) {
 }
 
 // Writes the three lines with the fault after so many bytes, each message offered until it is taken.
-fn insists(alloc: Global, count: usize) -> Result<bool, AllocError> {
-    let mut sink = LineSink::new(alloc, Torn::new(alloc, count, 1));
+fn insists(alloc: Global, slow: Slow, count: usize) -> Result<bool, AllocError> {
+    let mut sink = LineSink::new(alloc, Torn::slowly(Vec::new(alloc), count, 1, slow));
     let insisted = each_insisted(alloc, &mut sink);
     let is_written = holds(sink.into_writer(), LINES);
     Ok(insisted? && is_written)
@@ -238,7 +256,7 @@ fn lines_without(
 }
 
 // Writes them with each message offered once: the line in which the fault falls ends there.
-fn goes_on(alloc: Global, count: usize) -> Result<bool, AllocError> {
+fn goes_on(alloc: Global, slow: Slow, count: usize) -> Result<bool, AllocError> {
     let [first, second, third] = LINE_ENDS;
     let offers = [
         (A, answer_at(count, 0, first)),
@@ -247,13 +265,16 @@ fn goes_on(alloc: Global, count: usize) -> Result<bool, AllocError> {
     ];
     let (end, is_within) = end_after(&LINE_ENDS, count);
     let wanted = lines_without(alloc, count, end, is_within)?;
-    is_line_written(alloc, &(count, 1, &offers, wanted.as_slice()))
+    is_line_written(alloc, slow, &(count, 1, &offers, wanted.as_slice()))
 }
 
+// Of writes that take all, and of writes that take one byte each.
 #[test]
 fn lines_that_are_torn_at_each_byte(rt: HostRuntime) -> Result<(), Fail> {
+    let alloc = rt.alloc();
     for count in 0..LINES.len() {
-        assert!(rt; insists(rt.alloc(), count)? && goes_on(rt.alloc(), count)?);
+        assert!(rt; insists(alloc, NONE, count)? && goes_on(alloc, NONE, count)?);
+        assert!(rt; insists(alloc, EACH, count)? && goes_on(alloc, EACH, count)?);
     }
     Ok(())
 }
@@ -283,7 +304,7 @@ fn are_framed(
 
 // Writes the three frames with the fault after so many bytes: nothing comes after it, and all after a new writer has
 // come.
-fn breaks(alloc: Global, count: usize) -> Result<bool, AllocError> {
+fn breaks(alloc: Global, slow: Slow, count: usize) -> Result<bool, AllocError> {
     let [first, second, third] = FRAME_ENDS;
     let offers = [
         (A, answer_in_frames(count, 0, first)),
@@ -291,7 +312,7 @@ fn breaks(alloc: Global, count: usize) -> Result<bool, AllocError> {
         (C, answer_in_frames(count, second, third)),
     ];
     let front = FRAMES.get(..count).unwrap_or(b"");
-    let mut sink = FrameSink::new(alloc, Torn::new(alloc, count, 1));
+    let mut sink = FrameSink::new(alloc, Torn::slowly(Vec::new(alloc), count, 1, slow));
     let broken = are_framed(alloc, &mut sink, &offers, front);
     let renewed = are_framed(alloc, &mut sink, ALL, FRAMES);
     drop(sink);
@@ -301,7 +322,25 @@ fn breaks(alloc: Global, count: usize) -> Result<bool, AllocError> {
 #[test]
 fn frames_that_are_torn_at_each_byte(rt: HostRuntime) -> Result<(), Fail> {
     for count in 0..FRAMES.len() {
-        assert!(rt; breaks(rt.alloc(), count)?);
+        assert!(rt; breaks(rt.alloc(), NONE, count)? && breaks(rt.alloc(), EACH, count)?);
+    }
+    Ok(())
+}
+
+// The three lines and the three frames are written whole where these writes take one byte.
+fn are_whole(alloc: Global, slow: Slow) -> Result<bool, AllocError> {
+    let writer = Torn::slowly(Vec::new(alloc), 0, 0, slow);
+    let mut sink = FrameSink::new(alloc, writer);
+    let is_framed = are_framed(alloc, &mut sink, ALL, FRAMES);
+    drop(sink);
+    Ok(is_line_written(alloc, slow, &(0, 0, ALL, LINES))? && is_framed?)
+}
+
+// One write after the other takes one byte: there are four then, and the last of these numbers is none's.
+#[test]
+fn one_write_that_takes_one_byte(rt: HostRuntime) -> Result<(), Fail> {
+    for write in 0..5 {
+        assert!(rt; are_whole(rt.alloc(), (write, write + 1))?);
     }
     Ok(())
 }
