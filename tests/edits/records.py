@@ -1,5 +1,6 @@
 """Records of crates whose edits were all tried and refused, by the sum of all that the refusals rest on."""
 
+import functools
 import hashlib
 import os
 import re
@@ -16,8 +17,8 @@ OF_A_FUNCTION = {"Answers.antt", "Invariants.antt", "Proof.antt"}
 TABLE = re.compile(r"^static (\w+): .*?;\n", re.MULTILINE | re.DOTALL)
 # A file of lemmas where another one imports it.
 LEMMAS = re.compile(r"\bRattle\.(\w+\.proofs\.[\w.]*\w)")
-# One in so many edits of a recorded crate is tried again in each run.
-SHARE = 20
+# One in so many edits of a recorded crate is tried again in each run; of those recorded with another kit, one in so many.
+SHARE, SHARE_OF_ANOTHER_KIT = 20, 5
 # In so many states a crate's record is kept.
 STATES = 2
 
@@ -106,39 +107,55 @@ def parts_below(top, crate, lemmas):
     return without_tables(texts, lemmas)
 
 
-def sum_of(top, crate, below):
-    """The sum of all that the refusals of a crate's edits rest on, but for the edits; `below` are the crates that it
-    stands on."""
+@functools.lru_cache(maxsize=None)
+def toolchain_here():
+    """The kit's name, and the logic that it proves in."""
     said = subprocess.run(["rt", "version"], stdout=subprocess.PIPE, stdin=subprocess.DEVNULL, text=True, check=True)
-    parts = [("kit", said.stdout), *((it, text_of(f"{HERE}/{it}")) for it in JUDGES), *own_parts(top, crate)]
+    return tuple(said.stdout.split(" ", 1))
+
+
+def parts_of(top, crate, below):
+    """All that the refusals of a crate's edits rest on, but for the kit and the edits; `below` are the crates that it
+    stands on."""
+    parts = [*((it, text_of(f"{HERE}/{it}")) for it in JUDGES), *own_parts(top, crate)]
     below = sorted(below)
     lemmas = lemmas_named(top, crate, below)
     for name in below:
         parts += parts_below(top, name, lemmas)
-    return digest([*parts, *lemmas])
+    return [*parts, *lemmas]
 
 
 class Record:
     """Which edits of a crate were refused when all that this rests on was as it is now: of each the sum of its text. The
-    file keeps what was recorded last in another state, too, so that two kits of the toolchain can have a record each."""
+    file keeps the last states, each with the kit that it was recorded with; what was refused with another kit, where all
+    else is as it is now and the logic is the same, is known too."""
 
     def __init__(self, top, crate, below):
-        self.folder, self.crate = f"{top}/crates/{crate}/must-fail", crate
-        self.file, self.sum = f"{top}/tests/edits/refused/{crate}", sum_of(top, crate, below)
-        self.states = self.read()
-        self.refused = self.states.pop(self.sum, {})
+        self.folder, self.crate, self.file = f"{top}/crates/{crate}/must-fail", crate, f"{top}/tests/edits/refused/{crate}"
+        self.kit, self.logic = toolchain_here()
+        self.parts = parts_of(top, crate, below)
+        self.sum, self.states = self.sum_with(self.kit), self.read()
+        _, self.refused = self.states.pop(self.sum, (self.kit, {}))
+        self.refused_elsewhere = {}
+        for state, (kit, names) in self.states.items():
+            if state == self.sum_with(kit):
+                self.refused_elsewhere |= names
+
+    def sum_with(self, kit):
+        """The sum of the present state, with a kit of this name."""
+        return digest([("kit", f"{kit} {self.logic}"), *self.parts])
 
     def read(self):
-        """What is recorded in each state, by its sum, in the order of the file."""
+        """What is recorded: by the sum of each state its kit and the edits, in the order of the file."""
         found, last = {}, None
         try:
             for line in text_of(self.file).splitlines():
-                name, what = line.split(" ")
+                name, what, *kit = line.split(" ")
                 if name == "sum:":
-                    last = found.setdefault(what, {})
+                    last = found.setdefault(what, (kit[0], {}))[1]
                 else:
                     last[name] = what
-        except (FileNotFoundError, ValueError, TypeError):
+        except (FileNotFoundError, ValueError, TypeError, IndexError):
             return {}
         return found
 
@@ -148,12 +165,17 @@ class Record:
     def has(self, edit):
         return self.refused.get(edit.name) == self.sum_of(edit)
 
+    def has_elsewhere(self, edit):
+        return not self.has(edit) and self.refused_elsewhere.get(edit.name) == self.sum_of(edit)
+
     def left(self, given):
         """Of these edits those that aren't recorded, and some of the others: one in twenty, others in each state of the
-        crate, and one at least."""
-        recorded = sorted(filter(self.has, given), key=lambda it: digest([(it.label, self.sum)]))
-        again = {it.name for it in recorded[: (len(recorded) + SHARE - 1) // SHARE]}
-        return [it for it in given if it.name in again or not self.has(it)]
+        crate, and one at least; of those that were recorded with another kit more of them."""
+        again = set()
+        for has, share in ((self.has, SHARE), (self.has_elsewhere, SHARE_OF_ANOTHER_KIT)):
+            recorded = sorted(filter(has, given), key=lambda it: digest([(it.label, self.sum)]))
+            again |= {it.name for it in recorded[: (len(recorded) + share - 1) // share]}
+        return [it for it in given if it.name in again or not (self.has(it) or self.has_elsewhere(it))]
 
     def write(self, given, refused):
         """Writes that these edits were refused, of those given; what was recorded of others in this state stays."""
@@ -161,8 +183,8 @@ class Record:
         now = {name: it for name, it in self.refused.items() if name not in names}
         now |= {it.name: self.sum_of(it) for it in refused}
         now = {name: it for name, it in now.items() if os.path.isfile(f"{self.folder}/{name}.edit")}
-        states = [(self.sum, now), *self.states.items()][:STATES]
+        states = [(self.sum, (self.kit, now)), *self.states.items()][:STATES]
         os.makedirs(os.path.dirname(self.file), exist_ok=True)
         with open(self.file, "w", encoding="utf-8") as it:
-            for state, names in states:
-                it.write("".join(f"{line}\n" for line in [f"sum: {state}", *(f"{a} {b}" for a, b in sorted(names.items()))]))
+            for state, (kit, names) in states:
+                it.write("".join(f"{line}\n" for line in [f"sum: {state} {kit}", *(f"{a} {b}" for a, b in sorted(names.items()))]))
