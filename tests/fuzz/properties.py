@@ -1,0 +1,127 @@
+"""What holds of each case, by kind. None of it is a second model of the program: its answers are compared with each other,
+and with what the formats allow."""
+
+import re
+
+from mutate import cuttings
+from program import hold
+
+ACCEPTED = re.compile(rb"accepted: \d+ protected classes\n")
+REFUSED = re.compile(rb"refused: [a-z0-9]+\.[a-z]+ at [A-Za-z0-9._-]+ \d+: \d+ [A-Z][A-Za-z]+( [A-Za-z0-9._-]+ [^\n]*)?\n(  [A-Za-z0-9._-]+ \d+ by \d+\n)*", re.DOTALL)
+WRONG_ROW = re.compile(rb"refused: certificate line \d+: (cert|class|reach|branch|rank|path)\n")
+LOSS = re.compile(rb"loss line (\d+) message (\d+) at ([A-Za-z0-9._-]+) ([a-z0-9]+\.[a-z]+) (take|expire|grab|giveup|post|postlost)")
+EVENTS = re.compile(rb"events (\d+) messages (\d+) losses (\d+)")
+SEVERITIES = b"emerg alert crit err warning notice info debug".split()
+FACILITIES = b"kern user mail daemon auth syslog lpr news uucp cron authpriv ftp 12 13 14 15 local0 local1 local2 local3 local4 local5 local6 local7".split()
+
+
+def of_stream(runner, random, text):
+    """A stream: one answer for every cutting; a prefix of it has a prefix of its lines, and its fault or none of its own."""
+    whole = runner.run("pass", given=text)
+    hold(whole.status in (0, 2), f"pass ended with {whole.status}")
+    hold(len(whole.out) <= len(text), "more was written than was read")
+    for _ in range(2):
+        cut = runner.run("pass", pieces=cuttings(random, text))
+        hold(cut == whole, f"another answer for another cutting: {cut.status} {cut.said[:99]!r} {len(cut.out)} for {whole.status} {whole.said[:99]!r} {len(whole.out)}")
+    front = runner.run("pass", given=text[: random.randint(0, len(text))])
+    hold(whole.out.startswith(front.out), "a prefix has other lines")
+    hold(front.status == 0 or b" 13 Truncated " in front.said or front == whole, f"a prefix has a fault of its own: {front.said[:99]!r}")
+
+
+def of_site(runner, random, files):
+    """A site: check, certify, --explain, --all and verify agree."""
+    runner.put(files)
+    checked = runner.run("check", "site")
+    certified = runner.run("certify", "site")
+    if checked.status == 0:
+        hold(ACCEPTED.fullmatch(checked.out), f"check wrote {checked.out[:200]!r}")
+        hold(certified.status == 0, f"check accepts, certify ends with {certified.status}")
+        runner.put({**files, "fuzz.cert": certified.out})
+        verified = runner.run("verify", "site", "fuzz.cert")
+        hold(verified == checked, f"the certificate that certify wrote: {verified.status} {verified.out[:200]!r}")
+        hold(runner.run("check", "--all", "site") == checked, "check --all answers otherwise")
+        return
+    hold(certified == checked, f"certify answers otherwise: {certified.status} {certified.out[:99]!r} {certified.said[:99]!r}")
+    more = runner.run("check", "--explain", "site")
+    told = runner.run("check", "--all", "site")
+    hold((more.status, told.status) == (checked.status, checked.status), f"--explain or --all: {more.status}, {told.status}")
+    if checked.status == 1:
+        hold(REFUSED.fullmatch(checked.out), f"check wrote {checked.out[:200]!r}")
+        hold(more.out.startswith(checked.out), "check --explain begins with other lines")
+        count = re.match(rb"refused: (\d+) findings? for \d+ class", told.out)
+        hold(count and told.out.count(b"\n") == int(count[1]) + 1, f"check --all wrote {told.out[:200]!r}")
+    else:
+        hold(checked.out == b"" and (more, told) == (checked, checked), "a faulty site, with another answer")
+
+
+def freed(certificate):
+    """A certificate without what may be chosen freely in it: the numbers of ranks, and the occurrences of paths."""
+    rows = []
+    for row in certificate.split(b"\n"):
+        words = row.split(b" ")
+        rows.append(b" ".join(words[:2] if words[0] == b"rank" else words[:5] if words[0] == b"path" else words))
+    return rows
+
+
+def of_certificate(runner, random, files, text):
+    """A mutant of a certificate that certify wrote, for its site: it is accepted only where it is fit, so far as may be said
+    without knowing the site: its rows are the certificate's, but for ranks, which fall along each path, and paths."""
+    runner.put(files)
+    own = runner.run("certify", "site")
+    runner.put({**files, "fuzz.cert": text})
+    ended = runner.run("verify", "site", "fuzz.cert")
+    if ended.status == 1 and own.status == 0:
+        hold(WRONG_ROW.fullmatch(ended.out), f"verify wrote {ended.out[:200]!r}")
+    if own.status == 0 and text == own.out:
+        hold(ended.status == 0, f"verify ends with {ended.status} for what certify writes")
+    if ended.status != 0:
+        return
+    hold(own.status == 0, "verify accepts where certify refuses")
+    hold(freed(text) == freed(own.out), "verify accepts other rows")
+    ranks = {}
+    for words in (row.split(b" ") for row in text.split(b"\n")):
+        if words[0] == b"class":
+            ranks = {}
+        if words[0] == b"rank":
+            ranks[words[1]] = int(words[2])
+        if words[0] == b"path":
+            hold(words[1] == words[3] or ranks[words[1]] > ranks[words[3]], "verify accepts ranks that don't fall along a path")
+            hold((words[1] == words[3]) == (len(words) == 5), "verify accepts a path without forwards between two relays, or one with some at home")
+
+
+def protected(certificate):
+    """The protected classes of a site, by name, and its entries."""
+    classes, entries = set(), set()
+    for words in (row.split(b" ") for row in certificate.split(b"\n")):
+        if words[0] == b"class":
+            number = int(words[1])
+            classes.add(FACILITIES[number // 8] + b"." + SEVERITIES[number % 8])
+        if words[0] == b"path":
+            entries.add((words[1], words[2]))
+    return classes, entries
+
+
+def of_events(runner, random, files, text):
+    """Events over a site: the lines that are told are of the format and add up; where the site is accepted, no message of a
+    protected class that came in at an entry is lost."""
+    runner.put({**files, "fuzz.events": text})
+    ended = runner.run("replay", "site", "fuzz.events")
+    lines = text.split(b"\n")
+    brought = [it.split(b" ")[1:3] for it in lines if re.match(rb"take [^ ]+ \d+ \d+ new ", it)]
+    rows = ended.out.split(b"\n")[:-1]
+    hold(ended.out == b"" or ended.out.endswith(b"\n"), "an unended line")
+    if ended.status == 0:
+        last = EVENTS.fullmatch(rows.pop() if rows else b"")
+        hold(last, f"no last line: {ended.out[-200:]!r}")
+        made = sum(1 for it in lines if it and not it.startswith(b"#"))
+        hold((int(last[1]), int(last[2]), int(last[3])) == (made, len(brought), len(rows)), f"{last[0]!r} after {made} events, {len(brought)} messages, {len(rows)} losses")
+    losses = [LOSS.fullmatch(it) for it in rows]
+    hold(all(losses), f"replay wrote {ended.out[:200]!r}")
+    if not losses:
+        return ended
+    own = runner.run("certify", "site")
+    if own.status == 0:
+        classes, entries = protected(own.out)
+        for it in losses:
+            hold(it[4] not in classes or tuple(brought[int(it[2])]) not in entries, f"an accepted site lost a protected message: {it[0]!r}")
+    return ended
