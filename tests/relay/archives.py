@@ -3,10 +3,11 @@
 import os
 import resource
 import signal
+import subprocess
 import threading
 
 from peers import message, messages, send_all
-from room import imtcp, main_queue, module, omfile, same, test, totals, until
+from room import LeftOut, imtcp, is_listening, main_queue, module, omfile, same, test, totals, until
 
 
 @test
@@ -129,6 +130,52 @@ def archive_that_is_a_pipe(room):
     until("all comes through the pipe", lambda: len(came) >= len(wanted), came=lambda: len(came))
     same("what comes through the pipe", bytes(came), wanted)
     relay.stops_with(totals(20_000, 0, 0, ("audit", 20_000, 20_000, 0, 0)))
+
+
+@test
+def archive_is_a_pipe_that_nobody_reads(room):
+    os.mkfifo(room.path("audit.log"))
+    port = room.port()
+    room.site({"hub": module() + imtcp(port) + omfile("audit", "audit.log")}, f"entry hub {port}", "protect auth.* hub audit")
+    relay = room.start("hub")
+    relay.rests()
+    same("listens before somebody reads the pipe", is_listening(port), False)
+    with open(room.path("audit.log"), "rb") as pipe:
+        relay.listens(port)
+        send_all(port, messages(5))
+        same("what comes through the pipe", [pipe.readline() for _ in range(5)], [it + b"\n" for it in messages(5)])
+        relay.stops_with(totals(5, 0, 0, ("audit", 5, 5, 0, 0)))
+
+
+def with_a_small_disk(room):
+    """Mounts a disk of 64 KiB, of which the archive has 4 KiB; answers a relay whose archive lies there, its port and the disk."""
+    os.mkdir(room.path("disk"))
+    mount = ["mount", "-t", "tmpfs", "-o", "size=64k", "tmpfs", room.path("disk")]
+    if subprocess.run(mount, stdin=subprocess.DEVNULL, capture_output=True, check=False).returncode:
+        raise LeftOut("mounting a small disk isn't allowed here")
+    try:
+        disk = f"/proc/{os.getpid()}/fd/{os.open(room.path('disk'), os.O_RDONLY)}"
+        room.write("disk/other", b"x" * 61_440)
+        port = room.port()
+        room.site({"hub": module() + imtcp(port) + omfile("audit", "disk/audit.log", -1, 0)}, f"entry hub {port}", "protect auth.* hub audit")
+        return room.start("hub", port), port, disk
+    finally:
+        # (it lasts as long as its files are open)
+        subprocess.run(["umount", "-l", room.path("disk")], stdin=subprocess.DEVNULL, check=False)
+
+
+@test
+def archive_on_a_disk_that_is_full_for_a_while(room):
+    relay, port, disk = with_a_small_disk(room)
+    send_all(port, messages(500))
+    # (the disk cuts a line)
+    until("the disk is full", lambda: os.stat(f"{disk}/audit.log").st_size == 4096, came=lambda: os.stat(f"{disk}/audit.log").st_size)
+    os.unlink(f"{disk}/other")
+    wanted = b"".join(it + b"\n" for it in messages(500))
+    until("all is written", lambda: os.stat(f"{disk}/audit.log").st_size >= len(wanted))
+    with open(f"{disk}/audit.log", "rb") as it:
+        same("the archive", it.read(), wanted)
+    relay.stops_with(totals(500, 0, 0, ("audit", 500, 500, 0, 0)))
 
 
 @test

@@ -151,6 +151,20 @@ def stop_without_descriptors(room):
 
 
 @test
+def deepest_script_within_a_mebibyte_of_stack(room):
+    port, rulesets = room.port(), []
+    for it in range(17):
+        inner = f"call r{it + 1}" if it < 16 else omfile("audit", "audit.log")
+        rulesets.append(f'ruleset(name="r{it}") {{ {"if $msg contains ~x~ then { " * 31}{inner}{" }" * 31} }}\n'.replace("~", '"'))
+    room.site({"edge": module() + imtcp(port, ruleset="r0") + "".join(rulesets)})
+    little = lambda: resource.setrlimit(resource.RLIMIT_STACK, (1 << 20, 1 << 20))  # noqa: E731
+    relay = room.start("edge", port, words=["--unchecked", "site", "edge"], limits=little)
+    send_all(port, messages(10, text="x") + messages(10, 10, text="y"))
+    room.holds("audit.log", messages(10, text="x"))
+    relay.stops_with(totals(20, 0, 0, ("audit", 10, 10, 0, 0)))
+
+
+@test
 def memory_that_runs_out_for_a_while(room):
     entry, inner, count = room.port(), room.port(), 200_000
     room.site({"edge": module() + main_queue(size=1_000_000, fullDelayMark=900_000) + imtcp(entry) + omfwd("up", "hub", inner, -1, 1),
