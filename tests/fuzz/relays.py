@@ -1,5 +1,6 @@
 """A relay that runs, and streams that come to it over TCP."""
 
+import contextlib
 import os
 import re
 import signal
@@ -20,26 +21,47 @@ class Relay:
     """A relay with an archive, in the runner's folder."""
 
     def __init__(self, runner):
+        self.room, self.written, self.is_over = runner.room, 0, True
+        for _ in range(5):
+            self.start(runner)
+            if self.listens():
+                return
+        hold(False, f"the relay doesn't start: {self.told('said')!r}")
+
+    def start(self, runner):
         with socket.create_server(("127.0.0.1", 0)) as it:
             self.port = it.getsockname()[1]
         runner.put({"site": b"relay hub hub.conf\nentry hub %d\nprotect *.* hub audit\n" % self.port, "hub.conf": CONFIGURATION % self.port})
-        self.room, reads = runner.room, None
         reads, self.stdin = os.pipe2(os.O_CLOEXEC)
         streams = {it: os.open(f"{self.room}/relay.{it}", os.O_RDWR | os.O_CREAT | os.O_TRUNC | os.O_CLOEXEC) for it in ("out", "said")}
         known = [(os.POSIX_SPAWN_DUP2, of, to) for of, to in ((reads, 0), (streams["out"], 1), (streams["said"], 2))]
         self.pid = os.posix_spawn(runner.program, ["syc", "run", "site", "hub"], {}, file_actions=known)
         for it in reads, *streams.values():
             os.close(it)
-        self.written, self.is_over = 0, False
+        self.is_over = False
+
+    def listens(self):
+        """Whether it listens; if not, it has ended."""
+        end = time.monotonic() + LIMIT
+        while time.monotonic() < end:
+            with contextlib.suppress(ConnectionRefusedError):
+                self.connect().close()
+                return True
+            if os.waitpid(self.pid, os.WNOHANG) != (0, 0):
+                os.close(self.stdin)
+                self.is_over = True
+                # (another process may have taken the port)
+                hold(b"72 Bind" in self.told("said"), f"the relay ended at once: {self.told('said')!r}")
+                return False
+            time.sleep(0.01)
+        return False
 
     def connect(self):
-        end = time.monotonic() + LIMIT
-        while True:
-            try:
-                return socket.create_connection(("127.0.0.1", self.port), LIMIT)
-            except ConnectionRefusedError:
-                hold(time.monotonic() < end and os.waitpid(self.pid, os.WNOHANG) == (0, 0), "the relay doesn't listen")
-                time.sleep(0.01)
+        return socket.create_connection(("127.0.0.1", self.port), LIMIT)
+
+    def told(self, name):
+        with open(f"{self.room}/relay.{name}", "rb") as it:
+            return it.read()
 
     def sends(self, pieces):
         """Sends a stream over a connection, and waits until the relay has ended it."""
@@ -79,8 +101,7 @@ class Relay:
         self.is_over = True
         hold(os.WIFEXITED(how), f"the relay ended by signal {os.WTERMSIG(how) if os.WIFSIGNALED(how) else '?'}")
         hold(used.ru_maxrss < MEMORY, f"the relay took {used.ru_maxrss} KiB")
-        with open(f"{self.room}/relay.out", "rb") as out, open(f"{self.room}/relay.said", "rb") as said:
-            return os.WEXITSTATUS(how), out.read(), said.read()
+        return os.WEXITSTATUS(how), self.told("out"), self.told("said")
 
     def close(self):
         if not self.is_over:
