@@ -79,8 +79,44 @@ def changed(random, text, others):
     return text[:begin] + bytes(reversed(some)) + text[end:]
 
 
+def gently(random, text, others):
+    """The text with a change that often leaves it in its grammar: a number, a quoted value, a word, a line, a statement."""
+    how = random.randrange(8)
+    if how < 3:
+        found = list(re.finditer(rb"\d+", text))
+        if found:
+            it = random.choice(found)
+            near = b"%d" % max(0, int(it[0][:30]) + random.choice([-2, -1, 1, 2]))
+            return text[: it.start()] + random.choice([near, near, random.choice(found)[0], random.choice(NUMBERS)]) + text[it.end() :]
+    if how == 3:
+        own = list(re.finditer(rb'"[^"\n]*"', text))
+        values = re.findall(rb'"[^"\n]*"', random.choice(others)) if random.random() < 0.3 else [it[0] for it in own]
+        if own and values:
+            it = random.choice(own)
+            return text[: it.start()] + random.choice(values) + text[it.end() :]
+    if how == 4:
+        own = list(re.finditer(rb"[A-Za-z][A-Za-z0-9._-]*", text))
+        if own:
+            it = random.choice(own)
+            return text[: it.start()] + random.choice(own)[0] + text[it.end() :]
+    parts = re.findall(rb"[^\n]*\n|[^\n]+", text) if how < 7 else re.findall(rb"[^()]*\([^()]*\)|[^()]+|[()]", text)
+    if not parts:
+        return text
+    at, to = random.randrange(len(parts)), random.randrange(len(parts))
+    some = parts[at]
+    if random.random() < 0.6:
+        del parts[at]
+    if random.random() < 0.6:
+        parts.insert(min(to, len(parts)), some)
+    return b"".join(parts)
+
+
 def mutant(random, text, others):
     """The text with one change, or some."""
+    if random.random() < 0.5:
+        for _ in range(random.choice([1, 1, 1, 2, 3])):
+            text = gently(random, text, others)[:MOST]
+        return text
     for _ in range(random.choice([1, 1, 1, 2, 2, 3, 5, 8])):
         text = changed(random, text, others)[:MOST]
     return text

@@ -35,7 +35,7 @@ class Runner:
     """Runs the program in a folder of its own."""
 
     def __init__(self, program, room):
-        self.program, self.room, self.runs, self.slowest, self.largest = program, room, 0, 0.0, 0
+        self.program, self.room, self.ends, self.slowest, self.largest = program, room, {}, 0.0, 0
         os.makedirs(f"{room}/files")
         os.chdir(f"{room}/files")
         self.written = {}
@@ -79,7 +79,6 @@ class Runner:
             self.feed(sink, pieces)
         _, how, used = os.wait4(pid, 0)
         signal.alarm(0)
-        self.runs += 1
         return self.judged(words, how, used)
 
     def feed(self, sink, pieces):
@@ -95,6 +94,8 @@ class Runner:
         call = " ".join(words)
         hold(os.WIFEXITED(how), f"`{call}` ended by signal {os.WTERMSIG(how) if os.WIFSIGNALED(how) else '?'}")
         ended = Ended(os.WEXITSTATUS(how), self.read("out"), self.read("said"))
+        end = f"{words[0]} {ended.status}"
+        self.ends[end] = self.ends.get(end, 0) + 1
         seconds = used.ru_utime + used.ru_stime
         self.slowest, self.largest = max(self.slowest, seconds), max(self.largest, used.ru_maxrss)
         hold(seconds < SECONDS, f"`{call}` took {seconds:.2f} s of processor time")
