@@ -11,6 +11,7 @@ mod gathering;
 mod halt;
 pub mod laws;
 mod locked;
+mod losing;
 mod makings;
 mod posting;
 mod putting;

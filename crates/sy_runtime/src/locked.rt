@@ -2,6 +2,7 @@
 ghost use Rattle.std.specs.Prelude.{◌≡◌, ◌<◌, IfOk};
 
 use crate::halt::Halt;
+use crate::losing::Lost;
 use crate::taking::{Hand, has_hand};
 use sy_board::Board;
 use sy_chain::Node;
@@ -17,6 +18,8 @@ pub(crate) struct Locked {
     pub(crate) used: Vec<Node>,
     // of each input the hands that connections have: bit k stands for hand k
     pub(crate) hands: Vec<u64>,
+    // what who has the lock lost at a queue and hasn't told yet; it does before it lets go of the lock
+    pub(crate) lost: Option<Lost>,
 }
 
 impl Locked {

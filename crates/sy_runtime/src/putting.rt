@@ -5,9 +5,10 @@ ghost use Rattle.sy_runtime.specs.internal.Held.{Holds};
 
 use crate::connection_end::ConnEnd;
 use crate::halt::Halt;
-use crate::shared::Shared;
+use crate::losing::tell_lost;
+use crate::shared::{Gate, Shared};
 use crate::taking::{Hand, Pause, put_some};
-use crate::waiting::wait_out;
+use crate::waiting::{Waiting, wait_and_tell};
 use std::collections::VecDeque;
 use std::mem;
 use std::sync::Wait;
@@ -15,9 +16,10 @@ use std::time::Clock;
 use sy_chain::Node;
 
 /// Puts a batch in, however long it waits. It looks whether the relay closes with an empty batch too.
-pub(crate) fn put<R: Wait + Clock>(
+pub(crate) fn put<R: Wait + Clock, G: Gate>(
     rt: &R,
     shared: &Shared,
+    gate: &G,
     hand: Hand,
     batch: &mut VecDeque<Option<Node>>,
     end: &mut ConnEnd,
@@ -33,19 +35,24 @@ pub(crate) fn put<R: Wait + Clock>(
         if locked.is_closing {
             return Err(Halt::Closed);
         }
+        let lost = locked.lost_in();
         let Some(board) = locked.board.as_mut() else {
             return Err(Halt::Closed);
         };
         match put_some(board, hand, batch, end, is_in_hand, used) {
             Ok(()) => {
+                let lost = locked.lost_in().wrapping_sub(lost);
                 mem::swap(&mut locked.used, used);
                 drop(locked);
                 shared.work.notify_all();
+                tell_lost(gate, hand.input, lost);
                 return Ok(());
             }
             Err(Pause::Held(hold)) => {
                 shared.work.notify_all();
-                locked = wait_out(rt, shared, locked, hand, hold, is_in_hand);
+                let lost = locked.lost_in().wrapping_sub(lost);
+                let waiting = Waiting { hand, hold, lost };
+                locked = wait_and_tell(rt, shared, gate, locked, waiting, is_in_hand);
             }
             Err(Pause::TotalsFull) => return Err(Halt::TotalsFull),
             Err(Pause::Hands) => return Err(Halt::Hands),

@@ -93,7 +93,8 @@ impl<G: Gate> Relay<G> {
             Ok(hand) => hand,
             Err(halt) => return (end, answer_of(halt)),
         };
-        let answer = serve(rt, alloc, &self.common.shared, hand, reader, &mut end);
+        let Common { shared, gate } = &*self.common;
+        let answer = serve(rt, alloc, shared, gate, hand, reader, &mut end);
         (end, answer)
     }
 

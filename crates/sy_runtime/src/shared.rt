@@ -4,16 +4,30 @@ use crate::locked::Locked;
 use std::sync::{Condvar, Mutex};
 use sy_actions::{Device, Hatch};
 use sy_board::Guard;
+use sy_marks::Hold;
 
 /// A device that may move to another thread.
 pub type BoxedDevice = Box<dyn Device + Send>;
 
-/// What is called around each time that a worker offers messages to a device, outside of every lock: before it asks for
-/// the device, and after it has let go of it. Workers are known by their numbers.
+/// What is called, outside of every lock, around each time that a worker offers messages to a device: before it asks for
+/// the device, and after it has let go of it; and where messages are held or lost. Workers, inputs and queues are known by their
+/// numbers.
 pub trait Gate: Drop {
     fn before(&self, worker: u32);
 
     fn after(&self, worker: u32);
+
+    /// A connection of this input begins to wait: its message is held by the full-delay mark, or by a full queue.
+    fn held(&self, _input: u32, _hold: Hold) {}
+
+    /// It waits no more. (Where the relay closes, this isn't called.)
+    fn goes_on(&self, _input: u32) {}
+
+    /// So many messages of this input were lost: discarded, or held by a full queue for too long.
+    fn loses(&self, _input: u32, _count: u64) {}
+
+    /// So many entries were lost at this queue: posts to it, or entries that were discarded as they left it.
+    fn queue_loses(&self, _queue: u32, _count: u64) {}
 }
 
 /// What the threads of a relay share.

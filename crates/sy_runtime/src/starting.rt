@@ -71,6 +71,7 @@ pub(crate) fn share(
             is_closing: false,
             used: Vec::new(alloc),
             hands,
+            lost: None,
         }),
         work: Condvar::new(),
         room: Condvar::new(),

@@ -10,7 +10,7 @@ use crate::halt::{Halt, answer_at};
 use crate::makings::Makings;
 use crate::putting::put;
 use crate::reading::{Step, read_more};
-use crate::shared::Shared;
+use crate::shared::{Gate, Shared};
 use crate::taking::Hand;
 use crate::waiting::wait_for_memory;
 use std::alloc::Global;
@@ -102,10 +102,11 @@ fn sum_up(stop: Gathered, put: Result<(), Halt>) -> Round
 }
 
 // Takes in whatever whole frames the framer holds, up to a batch.
-fn take_in<R: Wait + Clock>(
+fn take_in<R: Wait + Clock, G: Gate>(
     rt: &R,
     alloc: Global,
     shared: &Shared,
+    gate: &G,
     hand: Hand,
     intake: &mut Intake,
     end: &mut ConnEnd,
@@ -129,7 +130,16 @@ fn take_in<R: Wait + Clock>(
     if first_unread.is_none() {
         *first_unread = unread_of(makings, batch, end);
     }
-    let put = put(rt, shared, hand, batch, end, is_in_hand, &mut makings.used);
+    let put = put(
+        rt,
+        shared,
+        gate,
+        hand,
+        batch,
+        end,
+        is_in_hand,
+        &mut makings.used,
+    );
     sum_up(stop, put)
 }
 
@@ -145,10 +155,11 @@ fn wait<R: Wait + Clock>(rt: &R, shared: &Shared) -> Option<Result<Finish, RunFa
 }
 
 // A batch, and a read where no whole frame is left; the answer where it is over.
-fn turn<R: Wait + Clock, S: Source>(
+fn turn<R: Wait + Clock, G: Gate, S: Source>(
     rt: &R,
     alloc: Global,
     shared: &Shared,
+    gate: &G,
     hand: Hand,
     reader: &mut S,
     intake: &mut Intake,
@@ -160,7 +171,7 @@ fn turn<R: Wait + Clock, S: Source>(
         Turns ahead (S.remaining reader.old) failed (S.faults reader.old) end.old intake.old.framer intake.old.is_over intake.old.batch.items →
         TurnIs result ahead (S.remaining reader.new) failed (S.faults reader.new) end.new intake.new.framer intake.new.is_over intake.new.batch.items }
 {
-    match take_in(rt, alloc, shared, hand, intake, end) {
+    match take_in(rt, alloc, shared, gate, hand, intake, end) {
         Round::Over(answer) => Some(answer),
         Round::Again => None,
         Round::NoMemory => wait(rt, shared),
@@ -173,10 +184,11 @@ fn turn<R: Wait + Clock, S: Source>(
 }
 
 /// Serves a connection that has a hand, which is given back with nothing in it, or kept with a message.
-pub(crate) fn serve<R: Wait + Clock, S: Source>(
+pub(crate) fn serve<R: Wait + Clock, G: Gate, S: Source>(
     rt: &R,
     alloc: Global,
     shared: &Shared,
+    gate: &G,
     hand: Hand,
     reader: &mut S,
     end: &mut ConnEnd,
@@ -186,7 +198,7 @@ pub(crate) fn serve<R: Wait + Clock, S: Source>(
 {
     let mut intake = Intake::new(alloc);
     for _ in rt.forever() {
-        if let Some(answer) = turn(rt, alloc, shared, hand, reader, &mut intake, end) {
+        if let Some(answer) = turn(rt, alloc, shared, gate, hand, reader, &mut intake, end) {
             if !intake.is_in_hand {
                 shared.locked.lock(rt).give_back(hand);
             }

@@ -1,7 +1,8 @@
 //! How long connections and workers wait, and what they do where they waited long enough.
 
 use crate::locked::Locked;
-use crate::shared::Shared;
+use crate::losing::{tell_lost, tell_lost_at_queue};
+use crate::shared::{Gate, Shared};
 use crate::taking::{Hand, enter, has_hand};
 use crate::used::keep;
 use std::alloc::Global;
@@ -54,8 +55,8 @@ fn patience(locked: &Locked, hand: Hand, hold: Hold) -> Option<Duration> {
     }
 }
 
-/// Waits while this holds the hand's message, and does what is to be done where it waited long enough.
-pub(crate) fn wait_out<'a, R: Wait + Clock>(
+// Waits while this holds the hand's message, and does what is to be done where it waited long enough.
+fn wait_out<'a, R: Wait + Clock>(
     rt: &R,
     shared: &'a Shared,
     locked: MutexGuard<'a, Locked>,
@@ -75,6 +76,61 @@ pub(crate) fn wait_out<'a, R: Wait + Clock>(
         time_is_up(&mut locked, hand, hold, is_in_hand);
     }
     locked
+}
+
+/// Why a connection waits, and how many messages it lost right before.
+#[derive(Clone, Copy)]
+pub(crate) struct Waiting {
+    pub(crate) hand: Hand,
+    pub(crate) hold: Hold,
+    pub(crate) lost: u64,
+}
+
+// The same; it is told that the input is held and then goes on, and what it lost.
+fn wait_told<'a, R: Wait + Clock, G: Gate>(
+    rt: &R,
+    shared: &'a Shared,
+    gate: &G,
+    waiting: Waiting,
+    is_in_hand: &mut bool,
+) -> MutexGuard<'a, Locked> {
+    let Waiting { hand, hold, .. } = waiting;
+    gate.held(hand.input, hold);
+    let locked = shared.locked.lock(rt);
+    let locked = wait_out(rt, shared, locked, hand, hold, is_in_hand);
+    if locked.is_closing {
+        return locked;
+    }
+    drop(locked);
+    gate.goes_on(hand.input);
+    tell_lost(
+        gate,
+        hand.input,
+        u64::from(hold == Hold::Full && !*is_in_hand),
+    );
+    shared.locked.lock(rt)
+}
+
+/// Waits while the hand's message is held, and does what is to be done where it waited long enough. A full-delay mark and a full queue
+/// are told, with the lock let go; a light-delay mark isn't.
+pub(crate) fn wait_and_tell<'a, R: Wait + Clock, G: Gate>(
+    rt: &R,
+    shared: &'a Shared,
+    gate: &G,
+    locked: MutexGuard<'a, Locked>,
+    waiting: Waiting,
+    is_in_hand: &mut bool,
+) -> MutexGuard<'a, Locked> {
+    let Waiting { hand, hold, lost } = waiting;
+    drop(locked);
+    tell_lost(gate, hand.input, lost);
+    match hold {
+        Hold::FullDelay | Hold::Full => wait_told(rt, shared, gate, waiting, is_in_hand),
+        Hold::LightDelay | Hold::Clear => {
+            let locked = shared.locked.lock(rt);
+            wait_out(rt, shared, locked, hand, hold, is_in_hand)
+        }
+    }
 }
 
 /// Waits until memory may be asked for again; false once the relay closes.
@@ -102,10 +158,11 @@ pub(crate) fn pause<'a, R: Wait + Clock>(
 }
 
 /// Waits while a full queue holds the post of a worker, which is lost where it waited long enough.
-pub(crate) fn wait_for_room<'a, R: Wait + Clock>(
+pub(crate) fn wait_for_room<'a, R: Wait + Clock, G: Gate>(
     rt: &R,
     alloc: Global,
     shared: &'a Shared,
+    gate: &G,
     locked: MutexGuard<'a, Locked>,
     worker: u32,
 ) -> MutexGuard<'a, Locked> {
@@ -118,5 +175,5 @@ pub(crate) fn wait_for_room<'a, R: Wait + Clock>(
     }
     // (either way it is dealt with, or the relay closes)
     shared.wake_all();
-    locked
+    tell_lost_at_queue(rt, shared, gate, locked).0
 }

@@ -2,6 +2,7 @@
 
 use crate::finding::Next;
 use crate::locked::Locked;
+use crate::losing::tell_lost_at_queue;
 use crate::recording::After;
 use crate::shared::{Gate, Shared};
 use crate::waiting::{MEMORY_WAIT, pause, wait_for_room};
@@ -19,16 +20,17 @@ struct Run {
 }
 
 // Waits until a worker may find something else to do, or the relay closes.
-fn wait_for<'a, R: Wait + Clock>(
+fn wait_for<'a, R: Wait + Clock, G: Gate>(
     rt: &R,
     alloc: Global,
     shared: &'a Shared,
+    gate: &G,
     locked: MutexGuard<'a, Locked>,
     worker: u32,
     next: Next,
 ) -> MutexGuard<'a, Locked> {
     match next {
-        Next::Held => wait_for_room(rt, alloc, shared, locked, worker),
+        Next::Held => wait_for_room(rt, alloc, shared, gate, locked, worker),
         Next::NoMemory => pause(rt, shared, locked, MEMORY_WAIT),
         Next::Idle | Next::Run(_) | Next::Posted | Next::Grabbed | Next::Ends => {
             shared.work.wait(rt, locked)
@@ -36,19 +38,41 @@ fn wait_for<'a, R: Wait + Clock>(
     }
 }
 
-// The next messages that a worker offers, however long it waits for them; none once it is to end. Others are woken where it moved entries, as it lets go
-// of the lock.
-fn next_run<'a, R: Wait + Clock>(
+// What a worker does next. Where it lost something by that, it is told, and the worker looks anew.
+fn find<'a, R: Wait, G: Gate>(
     rt: &R,
     alloc: Global,
     shared: &'a Shared,
+    gate: &G,
+    mut locked: MutexGuard<'a, Locked>,
+    worker: u32,
+    messages: &mut Vec<Arc<Message>>,
+) -> (MutexGuard<'a, Locked>, Next) {
+    let next = locked.find(alloc, worker, messages);
+    let (locked, is_told) = tell_lost_at_queue(rt, shared, gate, locked);
+    if is_told {
+        (locked, Next::Posted)
+    } else {
+        (locked, next)
+    }
+}
+
+// The next messages that a worker offers, however long it waits for them; none once it is to end. Others are woken where it moved entries, as it lets go
+// of the lock.
+fn next_run<'a, R: Wait + Clock, G: Gate>(
+    rt: &R,
+    alloc: Global,
+    shared: &'a Shared,
+    gate: &G,
     mut locked: MutexGuard<'a, Locked>,
     worker: u32,
 ) -> Option<Run> {
     let mut messages = Vec::new(alloc);
     let mut has_moved = false;
     for _ in rt.forever() {
-        match locked.find(alloc, worker, &mut messages) {
+        let (found, next) = find(rt, alloc, shared, gate, locked, worker, &mut messages);
+        locked = found;
+        match next {
             Next::Posted | Next::Grabbed => has_moved = true,
             Next::Run(action) => {
                 drop(locked);
@@ -63,7 +87,7 @@ fn next_run<'a, R: Wait + Clock>(
             next => {
                 shared.wake_if(has_moved);
                 has_moved = false;
-                locked = wait_for(rt, alloc, shared, locked, worker, next);
+                locked = wait_for(rt, alloc, shared, gate, locked, worker, next);
             }
         }
     }
@@ -95,20 +119,21 @@ fn offer<R: Wait, G: Gate>(
 }
 
 // Records what came of an offer, and looks for the next under the same holding of the lock; none once the worker is to end.
-fn record<R: Wait + Clock>(
+fn record<R: Wait + Clock, G: Gate>(
     rt: &R,
     alloc: Global,
     shared: &Shared,
+    gate: &G,
     worker: u32,
     receipts: Receipts,
     failure: Option<Failure>,
 ) -> Option<Run> {
     let mut locked = shared.locked.lock(rt);
     match locked.record(worker, receipts, failure) {
-        After::GoesOn => next_run(rt, alloc, shared, locked, worker),
+        After::GoesOn => next_run(rt, alloc, shared, gate, locked, worker),
         After::Pauses(time) => {
             let locked = pause(rt, shared, locked, time);
-            next_run(rt, alloc, shared, locked, worker)
+            next_run(rt, alloc, shared, gate, locked, worker)
         }
         After::Ends => None,
     }
@@ -122,14 +147,15 @@ pub(crate) fn work<R: Wait + Clock, G: Gate>(
     gate: &G,
     worker: u32,
 ) {
-    let Some(mut run) = next_run(rt, alloc, shared, shared.locked.lock(rt), worker) else {
+    let locked = shared.locked.lock(rt);
+    let Some(mut run) = next_run(rt, alloc, shared, gate, locked, worker) else {
         return;
     };
     for _ in rt.forever() {
         let Some((receipts, failure)) = offer(rt, shared, gate, worker, run) else {
             return;
         };
-        match record(rt, alloc, shared, worker, receipts, failure) {
+        match record(rt, alloc, shared, gate, worker, receipts, failure) {
             Some(next) => run = next,
             None => return,
         }

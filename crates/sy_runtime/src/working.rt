@@ -2,6 +2,7 @@
 
 use crate::finding::{Next, find, has_worker};
 use crate::locked::Locked;
+use crate::losing::{Lost, lost_before, lost_since};
 use crate::posting::{PostOutcome, patience, post};
 use crate::recording::{After, discard, record};
 use std::alloc::Global;
@@ -22,9 +23,36 @@ impl Locked {
         if self.is_closing {
             return Next::Ends;
         }
-        match self.board.as_mut() {
+        let before = self.lost_before(worker);
+        let next = match self.board.as_mut() {
             Some(board) => find(alloc, board, worker, messages, &mut self.used),
             None => Next::Ends,
+        };
+        self.note_lost(before);
+        next
+    }
+
+    // What was lost at queues before a worker's next step.
+    fn lost_before(&self, worker: u32) -> Option<Lost> {
+        match &self.board {
+            Some(board) => {
+                if has_worker(board, worker) {
+                    Some(lost_before(board, worker))
+                } else {
+                    None
+                }
+            }
+            None => None,
+        }
+    }
+
+    // Notes what was lost at a queue since then.
+    fn note_lost(&mut self, before: Option<Lost>) {
+        let Some(before) = before else {
+            return;
+        };
+        if let Some(board) = &self.board {
+            self.lost = lost_since(board, before);
         }
     }
 
@@ -46,22 +74,27 @@ impl Locked {
         if self.is_closing {
             return false;
         }
-        match self.board.as_mut() {
+        let before = self.lost_before(worker);
+        let holds = match self.board.as_mut() {
             Some(board) => {
                 has_worker(board, worker)
                     && post(alloc, board, worker, &mut self.used) == PostOutcome::Held
             }
             None => false,
-        }
+        };
+        self.note_lost(before);
+        holds
     }
 
     /// Loses the post of a worker, unless its queue has room by now.
     pub(crate) fn lose_post(&mut self, worker: u32) {
+        let before = self.lost_before(worker);
         if let Some(board) = self.board.as_mut() {
             if has_worker(board, worker) {
                 let _ = board.post_lost(worker, PostCause::Full);
             }
         }
+        self.note_lost(before);
     }
 
     /// How long the post of a worker waits at a full queue.

@@ -3,11 +3,13 @@ use crate::rows::{Judge, cut, each_is_right_in, number};
 use crate::rules::faults::planned;
 use crate::wire::streams::Pieces;
 use std::alloc::{AllocError, Global};
+use std::sync::atomic::{AtomicU64, Ordering};
 use std::sync::{Arc, Wait};
 use std::test::Fail;
 use std::thread;
 use std::thread::Threads;
 use std::time::{Clock, Duration};
+use sy_marks::Hold;
 use sy_runtime::{ConnEnd, Finish, Gate, Relay, RunFault, Unread};
 use sy_wire::FromRead;
 
@@ -20,14 +22,85 @@ impl Gate for NoGate {
     fn after(&self, _: u32) {}
 }
 
-// The relay of a script.
-fn opened(alloc: Global, script: &[u8]) -> Result<Option<Relay<NoGate>>, AllocError> {
+// What a gate was told: how often the first input was held by its full-delay mark, by a full queue, and went on, and what it lost.
+#[derive(Drop)]
+struct Told {
+    marked: AtomicU64,
+    filled: AtomicU64,
+    went_on: AtomicU64,
+    lost: AtomicU64,
+}
+
+#[derive(Drop)]
+struct Telling {
+    told: Arc<Told>,
+}
+
+fn add(count: &AtomicU64, more: u64) {
+    let _ = count.fetch_add(more, Ordering::SeqCst);
+}
+
+impl Gate for Telling {
+    fn before(&self, _: u32) {}
+
+    fn after(&self, _: u32) {}
+
+    fn held(&self, input: u32, hold: Hold) {
+        if input == 0 && hold == Hold::FullDelay {
+            add(&self.told.marked, 1);
+        }
+        if input == 0 && hold == Hold::Full {
+            add(&self.told.filled, 1);
+        }
+    }
+
+    fn goes_on(&self, input: u32) {
+        add(&self.told.went_on, u64::from(input == 0));
+    }
+
+    fn loses(&self, input: u32, count: u64) {
+        if input == 0 {
+            add(&self.told.lost, count);
+        }
+    }
+}
+
+// Nothing was told yet.
+fn untold(alloc: Global) -> Result<Arc<Told>, AllocError> {
+    let told = Told {
+        marked: AtomicU64::new(0),
+        filled: AtomicU64::new(0),
+        went_on: AtomicU64::new(0),
+        lost: AtomicU64::new(0),
+    };
+    Arc::new(alloc, told).map_err(|_| AllocError)
+}
+
+// Whether this was told, in the order of the fields.
+fn was_told(told: &Told, wanted: [u64; 4]) -> bool {
+    told.marked.load(Ordering::SeqCst) == wanted[0]
+        && told.filled.load(Ordering::SeqCst) == wanted[1]
+        && told.went_on.load(Ordering::SeqCst) == wanted[2]
+        && told.lost.load(Ordering::SeqCst) == wanted[3]
+}
+
+// The relay of a script, with this gate.
+fn opened_with<G: Gate>(
+    alloc: Global,
+    script: &[u8],
+    gate: G,
+) -> Result<Option<Relay<G>>, AllocError> {
     let plan = match planned(alloc, script)? {
         Ok(plan) => plan,
         Err(_) => return Ok(None),
     };
     let plan = Arc::new(alloc, plan).map_err(|_| AllocError)?;
-    Ok(Some(Relay::new(alloc, plan, None, NoGate)?))
+    Ok(Some(Relay::new(alloc, plan, None, gate)?))
+}
+
+// The relay of a script.
+fn opened(alloc: Global, script: &[u8]) -> Result<Option<Relay<NoGate>>, AllocError> {
+    opened_with(alloc, script, NoGate)
 }
 
 // How a connection ended: 0 at its reader's end, 1 where the relay closed, or the number of the fault, of a frame its own.
@@ -186,10 +259,60 @@ fn waits_until_closed<
 
 #[test]
 fn closing_ends_a_wait(rt: HostRuntime) -> Result<(), Fail> {
-    let Some(relay) = opened(rt.alloc(), FULL)? else {
+    let told = untold(rt.alloc())?;
+    let gate = Telling {
+        told: Arc::try_clone(&told)?,
+    };
+    let Some(relay) = opened_with(rt.alloc(), FULL, gate)? else {
         return Err(AllocError.into());
     };
     let (is_counted, answer) = waits_until_closed(rt, rt.alloc(), &relay)?;
     assert!(rt; is_counted && answer == 1, "the third message waits");
+    assert!(rt; was_told(&told, [1, 0, 0, 0]), "it goes on with none");
+    Ok(())
+}
+
+// Two messages fill the queue, and the others are held for a while and then lost, one after the other.
+const SHORT: &[u8] =
+    br#"module(load="imtcp") input(type="imtcp" port="6515" flowControl="off") main_queue(queue.type="LinkedList" queue.size="2" queue.timeoutEnqueue="20") action(name="audit" type="omfile" file="audit.log")"#;
+
+// The first is in the queue, and the others are discarded.
+const STRICT: &[u8] =
+    br#"module(load="imtcp") input(type="imtcp" port="6515" flowControl="off") main_queue(queue.type="LinkedList" queue.size="2" queue.discardMark="1" queue.discardSeverity="0") action(name="audit" type="omfile" file="audit.log")"#;
+
+// What a gate is told of four messages that come to the relay of a script.
+fn is_told<R: Wait + Clock>(
+    rt: &R,
+    alloc: Global,
+    script: &[u8],
+    wanted: [u64; 4],
+) -> Result<bool, AllocError> {
+    let told = untold(alloc)?;
+    let gate = Telling {
+        told: Arc::try_clone(&told)?,
+    };
+    let Some(relay) = opened_with(alloc, script, gate)? else {
+        return Ok(false);
+    };
+    let mut reader = FromRead::new(Pieces {
+        rest: b"17 <34>1 - - - - - -17 <34>1 - - - - - -17 <34>1 - - - - - -17 <34>1 - - - - - -",
+        size: 70000,
+        failing: usize::MAX,
+    });
+    let (end, answer) = relay.connect(rt, alloc, 0, &mut reader);
+    Ok(counts(&end, "4/0/4") && number_of(answer) == 0 && was_told(&told, wanted))
+}
+
+#[test]
+fn a_gate_is_told_of_losses(rt: HostRuntime) -> Result<(), Fail> {
+    let alloc = rt.alloc();
+    assert!(rt;
+        is_told(&rt, alloc, SHORT, [0, 2, 2, 2])?,
+        "two are held and lost"
+    );
+    assert!(rt;
+        is_told(&rt, alloc, STRICT, [0, 0, 0, 3])?,
+        "three are discarded"
+    );
     Ok(())
 }

@@ -16,6 +16,9 @@ struct Calls {
     held: u32,
     first: u32,
     is_free: bool,
+    // how many messages were lost at inputs, and how many entries at queues
+    lost_in: u64,
+    lost_at: u64,
 }
 
 /// Where workers are held.
@@ -33,6 +36,8 @@ impl Door {
                 held: 0,
                 first: 0,
                 is_free: false,
+                lost_in: 0,
+                lost_at: 0,
             }),
             told: Condvar::new(),
         };
@@ -90,6 +95,12 @@ impl Door {
         log.has(taken, refused)
     }
 
+    /// How many messages were told lost at inputs, and how many entries at queues.
+    pub fn lost<R: Wait>(&self, rt: &R) -> (u64, u64) {
+        let calls = self.calls.lock(rt);
+        (calls.lost_in, calls.lost_at)
+    }
+
     /// Lets go whoever is held, and holds nobody any more.
     pub fn release<R: Wait>(&self, rt: &R) {
         self.calls.lock(rt).is_free = true;
@@ -114,5 +125,15 @@ impl<R: Wait + Clock + Drop> Gate for Holding<R> {
 
     fn after(&self, worker: u32) {
         self.door.pass(&self.rt, self.call, false, worker == 0);
+    }
+
+    fn loses(&self, _: u32, count: u64) {
+        let mut calls = self.door.calls.lock(&self.rt);
+        calls.lost_in = calls.lost_in.wrapping_add(count);
+    }
+
+    fn queue_loses(&self, _: u32, count: u64) {
+        let mut calls = self.door.calls.lock(&self.rt);
+        calls.lost_at = calls.lost_at.wrapping_add(count);
     }
 }

@@ -14,7 +14,7 @@ const LOSING: &str =
 const WAITING: &str =
     r#"action(name="audit" type="omfile" file="a" queue.type="LinkedList" queue.size="2" queue.dequeueBatchSize="1" queue.timeoutEnqueue="20000") action(name="copy" type="omfile" file="c")"#;
 
-// The worker of `audit` is held with a first message, and then these come.
+// The worker of `audit` is held with a first message, and then these come; so many losses are told, at the input and at queues.
 fn filled<R: Threads + Wait + Clock + Copy + Drop + Send + Sync + 'static>(
     rt: R,
     alloc: Global,
@@ -24,6 +24,7 @@ fn filled<R: Threads + Wait + Clock + Copy + Drop + Send + Sync + 'static>(
     copied: u32,
     taken: u32,
     wanted: &str,
+    lost: (u64, u64),
 ) -> Result<bool, AllocError> {
     let Some(held) = started(rt, alloc, behind, (0, 0), 0, worker)? else {
         return Ok(false);
@@ -38,7 +39,8 @@ fn filled<R: Threads + Wait + Clock + Copy + Drop + Send + Sync + 'static>(
     held.door.release(&rt);
     let is_taken = held.door.waits_for_offers(&rt, &held.log, taken, 0);
     let is_right = stops(&rt, held.relay, held.workers, ends, wanted);
-    Ok(is_held && is_copied && is_taken && is_right)
+    let is_told = held.door.lost(&rt) == lost;
+    Ok(is_held && is_copied && is_taken && is_right && is_told)
 }
 
 const FOUR: &str =
@@ -47,7 +49,17 @@ const FOUR: &str =
 #[test]
 fn a_post_waits_at_a_full_queue(rt: HostRuntime) -> Result<(), Fail> {
     let alloc = rt.alloc();
-    let is_right = filled(rt, alloc, LOSING, 1, FOUR, 5, 8, "5/0/3/2/0/0 3/0/0 5/0/0")?;
+    let is_right = filled(
+        rt,
+        alloc,
+        LOSING,
+        1,
+        FOUR,
+        5,
+        8,
+        "5/0/3/2/0/0 3/0/0 5/0/0",
+        (0, 2),
+    )?;
     assert!(rt; is_right, "two posts are lost");
     let is_right = filled(
         rt,
@@ -58,6 +70,7 @@ fn a_post_waits_at_a_full_queue(rt: HostRuntime) -> Result<(), Fail> {
         3,
         10,
         "5/0/5/0/0/0 5/0/0 5/0/0",
+        (0, 0),
     )?;
     assert!(rt; is_right, "no post is lost");
     Ok(())
@@ -73,7 +86,17 @@ const MIXED: &str =
 #[test]
 fn a_queue_discards_at_its_mark(rt: HostRuntime) -> Result<(), Fail> {
     let alloc = rt.alloc();
-    let is_right = filled(rt, alloc, DISCARDING, 0, MIXED, 0, 3, "7/2/0/0/2/0 3/0/0")?;
+    let is_right = filled(
+        rt,
+        alloc,
+        DISCARDING,
+        0,
+        MIXED,
+        0,
+        3,
+        "7/2/0/0/2/0 3/0/0",
+        (2, 2),
+    )?;
     assert!(rt;
         is_right,
         "two are lost at the input, and two as they are grabbed"
