@@ -104,6 +104,7 @@ class Runner:
         if ended.status == 0 or ended.status == 1 and words[0] != "replay":
             hold(ended.said == b"", f"`{call}` ended with {ended.status} and said {ended.said[:200]!r}")
         else:
-            form = SAID["pass" if words[0] == "pass" else "site"]
+            # (notes may follow where an explanation is asked for)
+            form = SAID["pass" if words[0] == "pass" else "site"] + (b".*" if "--explain" in words else b"")
             hold(re.fullmatch(form, ended.said, re.DOTALL), f"`{call}` ended with {ended.status} and said {ended.said[:200]!r}")
         return ended

@@ -10,7 +10,8 @@ import time
 from mutate import cuttings
 from program import LIMIT, MEMORY, hold
 
-LINE = re.compile(rb"syc: (1[123] [A-Za-z]+|71 Read) at \d+|syc: \d+ unread at \d+: [1-9] [A-Za-z]+ at \d+ in frame \d+")
+# What a relay says: lines of text, whatever was sent.
+LINE = re.compile(rb"syc: [ -~]{1,300}")
 CONFIGURATION = b"""module(load="imtcp")
 input(type="imtcp" port="%d" flowControl="full")
 action(name="audit" type="omfile" file="audit.log" action.resumeRetryCount="-1")
