@@ -1,11 +1,13 @@
 """What many connections leave behind: descriptors, threads and memory."""
 
 import os
+import re
 import resource
 import threading
+import time
 
-from peers import Sender, frame, message, messages, send_all
-from room import Failure, imtcp, is_read, main_queue, module, omfile, omfwd, same, test, totals, until
+from peers import Sender, frame, frames, message, messages, send_all
+from room import TURN, Failure, imtcp, is_read, main_queue, module, omfile, omfwd, same, test, totals, until
 
 MANY = 1000
 
@@ -93,6 +95,34 @@ def memory_of_half_frames(room):
         it.send_bytes(b"a" * (65536 - 18 - 32_000)).end()
     room.has("audit.log", 64)
     relay.stops_with(totals(64, 0, 0, ("audit", 64, 64, 0, 0)))
+
+
+@test
+def memory_of_senders_that_are_held(room):
+    port = room.port()
+    room.site({"hub": module() + main_queue(size=2, fullDelayMark=1, dequeueBatchSize=1) + imtcp(port) + omfile("full", "/dev/full", -1, 1)})
+    relay = room.start_unchecked("hub", port)
+    senders, data = [Sender(port) for _ in range(64)], frames([b"<34>1 - - - - - -"] * 3000)
+    for it in senders:
+        it.socket.setblocking(False)
+    still = 0
+    while still < 50:
+        # (until the kernel takes no more of any)
+        still += 1
+        for it in senders:
+            try:
+                it.socket.send(data)
+                still = 0
+            except BlockingIOError:
+                pass
+        time.sleep(TURN)
+    memory = relay.status_field("VmRSS")
+    if memory > 32 * 1024:
+        raise Failure(f"64 senders that are held: {memory} KiB are resident")
+    taken = re.fullmatch(r"taken (\d+) lost 0 held (\d+)\nfull due \d+ done 0 given-up 0 left \d+\n", relay.stop())
+    same("messages held", bool(taken) and taken[1], bool(taken) and taken[2])
+    for it in senders:
+        it.close()
 
 
 @test
