@@ -57,8 +57,9 @@ def read(path):
 
 
 def folder_files(folder):
-    """The files of a folder, by name."""
-    return {it: read(f"{folder}/{it}") for it in sorted(os.listdir(folder)) if os.path.isfile(f"{folder}/{it}")}
+    """The files of a folder, by name, but for pages and pictures."""
+    names = [it for it in sorted(os.listdir(folder)) if os.path.isfile(f"{folder}/{it}") and not it.endswith((".md", ".svg"))]
+    return {it: read(f"{folder}/{it}") for it in names}
 
 
 def rows():
@@ -69,7 +70,8 @@ def rows():
             continue
         words = read(f"{row}/args").decode().split("\n")[:-1] if os.path.exists(f"{row}/args") else []
         stdin = read(f"{row}/stdin") if os.path.exists(f"{row}/stdin") else b""
-        yield words, stdin, folder_files(f"{row}/files") if os.path.isdir(f"{row}/files") else {}
+        folder = f"{TOP}/{read(f'{row}/files.of').decode().strip()}" if os.path.exists(f"{row}/files.of") else f"{row}/files"
+        yield words, stdin, folder_files(folder) if os.path.isdir(folder) else {}
 
 
 def sites():
