@@ -32,6 +32,14 @@ def hold(is_so, what):
         raise Wrong(what)
 
 
+def piped():
+    """A pipe of which each read gets one write, where there are such."""
+    try:
+        return os.pipe2(os.O_DIRECT | os.O_CLOEXEC)
+    except OSError:
+        return os.pipe2(os.O_CLOEXEC)
+
+
 class Runner:
     """Runs the program in a folder of its own."""
 
@@ -70,7 +78,7 @@ class Runner:
             os.write(source, given)
             os.lseek(source, 0, os.SEEK_SET)
         else:
-            source, sink = os.pipe2(os.O_DIRECT | os.O_CLOEXEC)
+            source, sink = piped()
         known = [(os.POSIX_SPAWN_DUP2, source, 0), (os.POSIX_SPAWN_DUP2, self.streams["out"], 1), (os.POSIX_SPAWN_DUP2, self.streams["said"], 2)]
         pid = os.posix_spawn(self.program, ["syc", *words], {}, file_actions=known)
         signal.signal(signal.SIGALRM, lambda *_: os.kill(pid, signal.SIGKILL))
