@@ -7,6 +7,7 @@ import time
 from concurrent.futures import FIRST_COMPLETED, ThreadPoolExecutor, wait
 
 import edits
+import paths
 import records
 import rounds
 import toolchain
@@ -80,7 +81,7 @@ def try_one(top, crate, wanted, share, flags):
     controls, lacking = controls_of(top, crate.name)
     record = records.Record(top, crate.name, [it.name for it in crate.below()])
     given = record.left(good) if flags["uses records"] else good
-    tried, cost = rounds.try_crate(crate, given, controls, share) if given or controls else ([], "no check")
+    tried, cost = paths.try_crate(crate, given, controls, share) if given or controls else ([], "no check")
     if flags["-r"]:
         refused = {it.label for it in tried if it.is_well}
         record.write(given, [it for it in given if it.label in refused])
@@ -169,13 +170,15 @@ def main(top, argv, usage):
         finally:
             running.discard(name)
 
-    passed = failed = 0
+    passed = failed = unanswered = 0
     largest_first = sorted(wanted, key=lambda it: -len(edits_of(top, it, wanted[it])[0]))
     for name, tried, cost, seconds in side_by_side(largest_first, jobs, readiness(crates, log), work):
         for it in tried:
-            passed, failed = passed + it.is_well, failed + (not it.is_well)
-            if not it.is_well or names and not flags["-k"] or it.label.endswith("/control"):
+            is_unanswered = it.text.startswith(paths.UNANSWERED)
+            passed, failed, unanswered = passed + it.is_well, failed + (not it.is_well), unanswered + is_unanswered
+            if not it.is_well or is_unanswered or names and not flags["-k"] or it.label.endswith("/control"):
                 print(f"edits: {it.label}: {it.text}", flush=True)
         print(f"edits: {name}: {len(tried)} tried, {cost}, {seconds:.0f} s", flush=True)
+    print(f"edits: {unanswered} of those that passed were {paths.UNANSWERED}")
     print(f"edits: {passed} passed, {failed} failed")
     return 1 if failed else 0
