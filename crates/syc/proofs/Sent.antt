@@ -8,25 +8,37 @@ use Rattle.sy_runtime.specs.contracts.relay.Relay as Relay
 use Rattle.sy_runtime.proofs.Sent.{relay_send, relay_sync}
 use Rattle.syc.specs.contracts.accepting.Acceptor as Acceptor
 use Rattle.syc.specs.contracts.connections.Connections as Connections
-use Rattle.syc.specs.contracts.connector.OpenGate as Gate
+use Rattle.syc.specs.contracts.log.Log as Log
+use Rattle.syc.specs.contracts.log.LogGate as Gate
 use Rattle.syc.specs.contracts.serving.Connection as Connection
 use Rattle.syc.specs.contracts.serving.Serving as Serving
+use Rattle.syc.specs.contracts.telling.Teller as Teller
 
 connections_send : IsSend Connections.the_row
 connections_send = search (sendable, crosses) depth 40 fits 5000
 
+log_send : IsSend Log.the_row
+log_send = search (sendable, crosses) depth 40 fits 5000
+
+log_sync : IsSync Log.the_row
+log_sync = search (sendable, crosses) depth 40 fits 5000
+
 gate_send : IsSend Gate.the_row
-gate_send = search (sendable, crosses) depth 20
+gate_send = search (log_send, log_sync, sendable, crosses) depth 20
 
 gate_sync : IsSync Gate.the_row
-gate_sync = search (sendable, crosses) depth 20
+gate_sync = search (log_send, log_sync, sendable, crosses) depth 20
 
 module _ (E : RattleType) where
   pub serving_send : IsSend E → IsSend (Serving.the_row E)
-  serving_send a = search (connections_send, sendable, crosses) depth 40 fits 5000
+  serving_send a = search (connections_send, log_send, log_sync, sendable, crosses) depth 40 fits 5000
 
   pub serving_sync : IsSend E → IsSync (Serving.the_row E)
-  serving_sync a = search (connections_send, sendable, crosses) depth 40 fits 5000
+  serving_sync a = search (connections_send, log_send, log_sync, sendable, crosses) depth 40 fits 5000
+
+module _ (E : RattleType) where
+  pub teller_send : IsSend E → IsSend (Teller.the_row E)
+  teller_send a = search (serving_send, serving_sync, sendable, crosses) depth 30 fits 5000
 
 module _ (C E : RattleType) where
   pub connection_send : IsSend C → IsSync C → IsSend E → IsSend (Connection.the_row C E)

@@ -4,7 +4,7 @@ use crate::connector::Connector;
 use crate::listening::Listening;
 use crate::serving::{Connection, Port, Serving, serve_connection};
 use std::alloc::{AllocError, Global};
-use std::net::{TcpListener, TcpStream};
+use std::net::{SocketAddr, TcpListener, TcpStream};
 use std::sync::{Arc, Wait};
 use std::thread;
 use std::thread::Threads;
@@ -28,6 +28,7 @@ fn start_connection<
     relay: &Arc<C>,
     serving: &Arc<Serving<E>>,
     at: Port,
+    peer: SocketAddr,
     stream: TcpStream,
 ) -> Result<(), AllocError> {
     let stream = Arc::new(alloc, stream)?;
@@ -39,6 +40,7 @@ fn start_connection<
         relay,
         serving: theirs,
         at,
+        peer,
         stream,
         place,
     };
@@ -65,13 +67,13 @@ fn accept<
     listener: &TcpListener,
 ) -> Result<(), AllocError> {
     serving.make_room(&rt, ROOM)?;
-    let Ok((stream, _)) = listener.accept() else {
+    let Ok((stream, peer)) = listener.accept() else {
         return Err(AllocError);
     };
     if serving.is_stopping() {
         return Ok(());
     }
-    start_connection(rt, alloc, relay, serving, at, stream)
+    start_connection(rt, alloc, relay, serving, at, peer, stream)
 }
 
 // What accepts the connections of an input.

@@ -1,13 +1,15 @@
 //! The file of an archive.
 ghost use Rattle.std.specs.Prelude.{◌≡◌, ◌≢◌, ◌<◌, length, IfErr, IfNone, IfSome, OnSome};
 
+use crate::file_writer::FileWriter;
+use crate::log::ActionLog;
 use std::alloc::Global;
 use std::fs::{self, File, OpenOptions};
 use std::io::{self, Read, Seek, SeekFrom, Write};
 use std::sync::Arc;
 use std::sync::atomic::{AtomicU64, Ordering};
 use sy_actions::{Device, DeviceFault, LineSink};
-use sy_wire::{FromWrite, Message};
+use sy_wire::Message;
 
 /// The file of an archive, to whose end lines are written, and which is opened anew where this was asked for since its
 /// last offer. Where it can't be opened, lines go on to the one that is open, and the next offer tries again.
@@ -16,7 +18,8 @@ pub struct Archive {
     rt: HostRuntime,
     alloc: Global,
     name: String,
-    sink: LineSink<FromWrite<File>>,
+    log: ActionLog,
+    sink: LineSink<FileWriter>,
     // how often it was asked for, in all, and up to which of these this file is the new one
     asked: Arc<AtomicU64>,
     followed: u64,
@@ -52,14 +55,17 @@ impl Archive {
         alloc: Global,
         name: String,
         asked: Arc<AtomicU64>,
+        log: ActionLog,
     ) -> Option<Archive> {
         let followed = asked.load(Ordering::SeqCst);
         let file = open_file(&rt, name.as_str()).ok()?;
+        let sink = LineSink::new(alloc, FileWriter::new(file, log.try_clone().ok()?));
         Some(Archive {
             rt,
             alloc,
             name,
-            sink: LineSink::new(alloc, FromWrite::new(file)),
+            log,
+            sink,
             asked,
             followed,
         })
@@ -71,8 +77,11 @@ impl Archive {
         if asked == self.followed {
             return;
         }
+        let Ok(log) = self.log.try_clone() else {
+            return;
+        };
         if let Ok(file) = open_file(&self.rt, self.name.as_str()) {
-            self.sink = LineSink::new(self.alloc, FromWrite::new(file));
+            self.sink = LineSink::new(self.alloc, FileWriter::new(file, log));
             self.followed = asked;
         }
     }

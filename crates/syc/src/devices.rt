@@ -4,6 +4,7 @@ use crate::archive::Archive;
 use crate::host_device::Taker;
 use crate::link::Link;
 use crate::listening::socket_address;
+use crate::log::ActionLog;
 use crate::outlets::Outlet;
 use std::alloc::Global;
 use std::net::SocketAddr;
@@ -42,6 +43,7 @@ fn archive(
     alloc: Global,
     name: &[u8],
     reopens: &Arc<AtomicU64>,
+    log: ActionLog,
 ) -> Result<Taker, OpenFault> {
     let Ok(name) = str::from_utf8(name) else {
         return Err(OpenFault::Write);
@@ -52,7 +54,7 @@ fn archive(
     let Ok(reopens) = Arc::try_clone(reopens) else {
         return Err(OpenFault::NoMemory);
     };
-    match Archive::open(rt, alloc, name, reopens) {
+    match Archive::open(rt, alloc, name, reopens, log) {
         Some(archive) => Ok(Taker::Archive(archive)),
         None => Err(OpenFault::Write),
     }
@@ -63,26 +65,28 @@ fn link(
     alloc: Global,
     address: SocketAddr,
     is_ending: &Arc<AtomicBool>,
+    log: ActionLog,
 ) -> Result<Taker, OpenFault> {
     match Arc::try_clone(is_ending) {
-        Ok(is_ending) => Ok(Taker::Link(Link::new(rt, alloc, address, is_ending))),
+        Ok(is_ending) => Ok(Taker::Link(Link::new(rt, alloc, address, is_ending, log))),
         Err(_) => Err(OpenFault::NoMemory),
     }
 }
 
 /// What takes the messages that are brought there. A file is opened for appending, and anew as that is counted; a link is
-/// connected when it is needed.
+/// connected when it is needed. Why an offer fails is noted.
 pub fn taker(
     rt: HostRuntime,
     alloc: Global,
     outlet: Outlet<'_>,
     signals: &Signals,
+    log: ActionLog,
 ) -> Result<Taker, OpenFault> {
     match outlet {
-        Outlet::File(name) => archive(rt, alloc, name, &signals.reopens),
+        Outlet::File(name) => archive(rt, alloc, name, &signals.reopens, log),
         Outlet::Forward { address, port } => {
             let address = socket_address(address, port);
-            link(rt, alloc, address, &signals.is_ending)
+            link(rt, alloc, address, &signals.is_ending, log)
         }
         Outlet::Nowhere => Ok(Taker::Nothing),
     }

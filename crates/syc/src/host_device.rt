@@ -4,6 +4,8 @@ ghost use Rattle.sy_wire.specs.Streams.{count_after};
 
 use crate::archive::Archive;
 use crate::link::Link;
+use crate::log::ActionLog;
+use crate::reason::Reason;
 use std::sync::Arc;
 use sy_actions::{Device, DeviceFault};
 use sy_wire::Message;
@@ -23,14 +25,31 @@ pub struct HostDevice {
     taker: Taker,
     // the offers that failed, counted up to 2^64 - 1
     failed: u64,
+    log: ActionLog,
+    // whether the last offer failed, where that was noted
+    is_failing: bool,
+}
+
+// What is said of a fault whose reason nobody gave.
+fn reason_of(fault: DeviceFault) -> Reason {
+    match fault {
+        DeviceFault::NoMemory => Reason::NoMemory,
+        DeviceFault::Broken => Reason::NoTarget,
+        DeviceFault::Write | DeviceFault::CountFull => Reason::Write,
+    }
 }
 
 impl HostDevice {
-    /// A device to which nothing was offered yet.
-    pub fn new(taker: Taker) -> HostDevice
+    /// A device to which nothing was offered yet, and what notes whether it fails.
+    pub fn new(taker: Taker, log: ActionLog) -> HostDevice
         ensures { result.failed ≡ 0 }
     {
-        HostDevice { taker, failed: 0 }
+        HostDevice {
+            taker,
+            failed: 0,
+            log,
+            is_failing: false,
+        }
     }
 
     // Offers a message to what takes it.
@@ -60,12 +79,38 @@ impl HostDevice {
         }
     }
 
+    // Notes that an offer failed, where the one before it didn't. One that the relay's end cut short isn't noted.
+    fn note_failure(&mut self, fault: DeviceFault)
+        ensures { self.new.failed ≡ self.old.failed }
+    {
+        let reason = match self.log.take_reason() {
+            Some(Reason::Ending) => return,
+            Some(reason) => reason,
+            None => reason_of(fault),
+        };
+        if !self.is_failing {
+            self.is_failing = true;
+            self.log.begin(reason);
+        }
+    }
+
+    // Notes that an offer succeeded, where the one before it didn't.
+    fn note_success(&mut self)
+        ensures { self.new.failed ≡ self.old.failed }
+    {
+        if self.is_failing {
+            self.is_failing = false;
+            self.log.end();
+        }
+    }
+
     // Counts an offer that failed.
     fn fail(&mut self, fault: DeviceFault) -> DeviceFault
         ensures fault { result ≡ fault }
         ensures counted { self.new.failed ≡ count_after self.old.failed 1 }
         ensures more { self.old.failed ≤ self.new.failed }
     {
+        self.note_failure(fault);
         self.failed = self.failed.saturating_add(1);
         fault
     }
@@ -87,7 +132,10 @@ impl Device for HostDevice {
 
     fn offer(&mut self, message: &Arc<Message>) -> Result<(), DeviceFault> {
         match self.hand_on(message) {
-            Ok(()) => Ok(()),
+            Ok(()) => {
+                self.note_success();
+                Ok(())
+            }
             Err(fault) => Err(self.fail(fault)),
         }
     }
@@ -97,7 +145,10 @@ impl Device for HostDevice {
             return (0, None);
         }
         match self.hand_all_on(messages) {
-            (taken, None) => (taken, None),
+            (taken, None) => {
+                self.note_success();
+                (taken, None)
+            }
             (taken, Some(fault)) => (taken, Some(self.fail(fault))),
         }
     }

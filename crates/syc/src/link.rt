@@ -2,7 +2,10 @@
 ghost use Rattle.std.specs.Prelude.{◌≡◌, ◌≢◌, ◌<◌, length, IfErr, IfNone, IfSome, OnSome};
 
 use crate::link_writer::{LinkWriter, is_open};
+use crate::log::ActionLog;
+use crate::reason::Reason;
 use std::alloc::{AllocError, Global};
+use std::io;
 use std::net::{SocketAddr, TcpStream};
 use std::sync::Arc;
 use std::sync::atomic::AtomicBool;
@@ -33,31 +36,50 @@ pub struct Link {
     alloc: Global,
     address: SocketAddr,
     is_ending: Arc<AtomicBool>,
+    log: ActionLog,
     link: Option<Connected>,
 }
 
 // A stream to that address, whose writes have a time limit.
-fn stream_to(rt: &HostRuntime, address: &SocketAddr) -> Option<TcpStream> {
-    let stream = TcpStream::connect_timeout(rt, address, Duration::from_millis(CONNECT_WAIT)).ok()?;
-    stream
-        .set_write_timeout(Some(Duration::from_millis(WRITE_WAIT)))
-        .ok()?;
-    stream.set_nodelay(true).ok()?;
-    Some(stream)
+fn stream_to(rt: &HostRuntime, address: &SocketAddr) -> io::Result<TcpStream> {
+    let stream = TcpStream::connect_timeout(rt, address, Duration::from_millis(CONNECT_WAIT))?;
+    stream.set_write_timeout(Some(Duration::from_millis(WRITE_WAIT)))?;
+    stream.set_nodelay(true)?;
+    Ok(stream)
 }
 
-// A new link to that address.
+// A link of this stream.
+fn link_of(
+    alloc: Global,
+    stream: TcpStream,
+    is_ending: &Arc<AtomicBool>,
+    log: &ActionLog,
+) -> Result<Connected, AllocError> {
+    let Ok(stream) = Arc::new(alloc, stream) else {
+        return Err(AllocError);
+    };
+    let written = Arc::try_clone(&stream)?;
+    let is_ending = Arc::try_clone(is_ending)?;
+    let sink = FrameSink::new(alloc, LinkWriter::new(written, is_ending, log.try_clone()?));
+    Ok(Connected { stream, sink })
+}
+
+// A new link to that address, or why there is none.
 fn connect(
     rt: &HostRuntime,
     alloc: Global,
     address: &SocketAddr,
     is_ending: &Arc<AtomicBool>,
-) -> Option<Connected> {
-    let stream = Arc::new(alloc, stream_to(rt, address)?).ok()?;
-    let written = Arc::try_clone(&stream).ok()?;
-    let is_ending = Arc::try_clone(is_ending).ok()?;
-    let sink = FrameSink::new(alloc, LinkWriter::new(written, is_ending));
-    Some(Connected { stream, sink })
+    log: &ActionLog,
+) -> Result<Connected, Reason> {
+    let stream = match stream_to(rt, address) {
+        Ok(stream) => stream,
+        Err(error) => return Err(Reason::of(&error)),
+    };
+    match link_of(alloc, stream, is_ending, log) {
+        Ok(link) => Ok(link),
+        Err(_) => Err(Reason::NoMemory),
+    }
 }
 
 impl Link {
@@ -67,12 +89,14 @@ impl Link {
         alloc: Global,
         address: SocketAddr,
         is_ending: Arc<AtomicBool>,
+        log: ActionLog,
     ) -> Link {
         Link {
             rt,
             alloc,
             address,
             is_ending,
+            log,
             link: None,
         }
     }
@@ -85,7 +109,16 @@ impl Link {
             }
         }
         if self.link.is_none() {
-            self.link = connect(&self.rt, self.alloc, &self.address, &self.is_ending);
+            match connect(
+                &self.rt,
+                self.alloc,
+                &self.address,
+                &self.is_ending,
+                &self.log,
+            ) {
+                Ok(link) => self.link = Some(link),
+                Err(reason) => self.log.because(reason),
+            }
         }
     }
 

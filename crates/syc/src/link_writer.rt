@@ -1,6 +1,8 @@
 //! What writes to a link.
-ghost use Rattle.std.specs.Prelude.{None, ◌<◌, ◌≤◌, length, IfSome};
+ghost use Rattle.std.specs.Prelude.{None, ◌<◌, ◌≤◌, length, IfOk};
 
+use crate::log::ActionLog;
+use crate::reason::Reason;
 use std::io::{ErrorKind, Read, Write};
 use std::net::TcpStream;
 use std::sync::Arc;
@@ -16,6 +18,7 @@ const READS: u32 = 16;
 pub struct LinkWriter {
     stream: Arc<TcpStream>,
     is_ending: Arc<AtomicBool>,
+    log: ActionLog,
     faults: u64,
     is_flushed: bool,
 }
@@ -41,35 +44,36 @@ pub fn is_open(stream: &TcpStream) -> bool {
     drop_received(stream) && stream.set_nonblocking(false).is_ok()
 }
 
-// Writes a prefix of the bytes, and waits for it as long as that is of use. It answers how many were taken, if any.
-fn write_some(mut stream: &TcpStream, is_ending: &AtomicBool, bytes: &[u8]) -> Option<usize>
-    ensures some { IfSome result (λ n. 0 < n) }
-    ensures bound { IfSome result (λ n. n ≤ length bytes.now) }
+// Writes a prefix of the bytes, and waits for it as long as that is of use. It answers how many were taken, or why none were.
+fn write_some(mut stream: &TcpStream, is_ending: &AtomicBool, bytes: &[u8]) -> Result<usize, Reason>
+    ensures some { IfOk result (λ n. 0 < n) }
+    ensures bound { IfOk result (λ n. n ≤ length bytes.now) }
 {
     for _ in 0..u64::MAX {
         // (a receiver that reads slowly takes a part each time)
         if is_ending.load(Ordering::SeqCst) {
-            return None;
+            return Err(Reason::Ending);
         }
         match stream.write(bytes) {
-            Ok(0) => return None,
-            Ok(count) => return Some(count),
+            Ok(0) => return Err(Reason::Write),
+            Ok(count) => return Ok(count),
             Err(error) if error.kind() == ErrorKind::WouldBlock => {}
-            Err(_) => return None,
+            Err(error) => return Err(Reason::of(&error)),
         }
         if !is_open(stream) {
-            return None;
+            return Err(Reason::Closed);
         }
     }
-    None
+    Err(Reason::Write)
 }
 
 impl LinkWriter {
-    /// A writer to this link. It waits in no write once the flag is set.
-    pub fn new(stream: Arc<TcpStream>, is_ending: Arc<AtomicBool>) -> LinkWriter {
+    /// A writer to this link, which notes why a write fails. It waits in no write once the flag is set.
+    pub fn new(stream: Arc<TcpStream>, is_ending: Arc<AtomicBool>, log: ActionLog) -> LinkWriter {
         LinkWriter {
             stream,
             is_ending,
+            log,
             faults: 0,
             is_flushed: true,
         }
@@ -90,8 +94,9 @@ impl Sink for LinkWriter {
         }
         self.is_flushed = false;
         match write_some(&self.stream, &self.is_ending, bytes) {
-            Some(count) => Ok(count),
-            None => {
+            Ok(count) => Ok(count),
+            Err(reason) => {
+                self.log.because(reason);
                 self.faults = self.faults.saturating_add(1);
                 Err(WriteFault)
             }

@@ -23,6 +23,7 @@ mod ending;
 mod examples;
 mod explain;
 mod explanation;
+mod file_writer;
 mod files;
 mod findings;
 mod halt;
@@ -30,6 +31,8 @@ mod host_device;
 mod link;
 mod link_writer;
 mod listening;
+mod log;
+mod log_lines;
 mod losses;
 mod meant;
 mod memory;
@@ -37,9 +40,11 @@ mod outlets;
 mod outline;
 mod output;
 mod outputs;
+mod pace;
 mod pass;
 mod places;
 mod prepare;
+mod reason;
 mod remedies;
 mod replay;
 mod report;
@@ -48,10 +53,14 @@ mod run_words;
 mod serve;
 mod serving;
 mod site;
+mod spell;
 mod stop;
+mod subject;
 mod tally;
+mod telling;
 mod texts;
 mod things;
+mod told;
 mod totals;
 mod verdict;
 mod verify;
@@ -60,6 +69,7 @@ mod words;
 use devices::{OpenFault, Signals, taker};
 use files::HostFiles;
 use host_device::HostDevice;
+use log::{ActionLog, Log};
 use outlets::{Outlet, outlets};
 use outputs::Outputs;
 use prepare::prepare;
@@ -86,7 +96,7 @@ use sy_wire::{Buffered, FromRead, FromWrite, Sink, Source};
 const OUTPUT_BUFFER: usize = 65536;
 
 /// Room for the longest line on standard error, so that it is written at once.
-const ERROR_BUFFER: usize = 128;
+const ERROR_BUFFER: usize = 512;
 
 type HostOutputs = Outputs<Buffered<FromWrite<Stdout>>, FromWrite<BufWriter<Stderr>>>;
 
@@ -159,6 +169,27 @@ fn take_closed_streams(rt: &HostRuntime) -> [io::Result<File>; 3] {
     ]
 }
 
+// The device of an action of this number, which notes in the log whether it fails.
+fn device_of(
+    host: HostRuntime,
+    alloc: Global,
+    outlet: Outlet<'_>,
+    signals: &Signals,
+    log: &Arc<Log>,
+    action: usize,
+) -> Result<HostDevice, OpenFault> {
+    let Ok(noted) = ActionLog::new(alloc, log, action) else {
+        return Err(OpenFault::NoMemory);
+    };
+    let Ok(theirs) = noted.try_clone() else {
+        return Err(OpenFault::NoMemory);
+    };
+    match taker(host, alloc, outlet, signals, theirs) {
+        Ok(taker) => Ok(HostDevice::new(taker, noted)),
+        Err(fault) => Err(fault),
+    }
+}
+
 // Makes the devices of a relay's actions, and serves it with the process's own streams.
 fn serve_on<
     R: Threads
@@ -185,13 +216,16 @@ fn serve_on<
     let Some(signals) = Signals::new(alloc) else {
         return stop::out_of_memory(&mut out.errors);
     };
+    let Ok(log) = Log::new(alloc, site.plan(relay)) else {
+        return stop::out_of_memory(&mut out.errors);
+    };
     let mut devices = Vec::new(alloc);
     for outlet in outlets {
-        let taker = match taker(host, alloc, *outlet, &signals) {
-            Ok(taker) => taker,
+        let device = match device_of(host, alloc, *outlet, &signals, &log, devices.len()) {
+            Ok(device) => device,
             Err(fault) => return no_devices(&mut out.errors, fault),
         };
-        let Ok(()) = devices.push(HostDevice::new(taker)) else {
+        let Ok(()) = devices.push(device) else {
             return stop::out_of_memory(&mut out.errors);
         };
     }
@@ -204,7 +238,7 @@ fn serve_on<
         is_ending,
         reopens,
     };
-    serve_devices(rt, host, served, out)
+    serve_devices(rt, host, served, log, out)
 }
 
 // Serves a relay with the process's own streams.
@@ -216,14 +250,14 @@ fn serve_devices<
         + Copy
         + Send
         + 'static,
->(rt: R, host: HostRuntime, served: Served<'_>, out: HostOutputs) -> u8
+>(rt: R, host: HostRuntime, served: Served<'_>, log: Arc<Log>, out: HostOutputs) -> u8
     requires exists { served.relay < length served.site.now.relays }
     requires guard { IfSome served.guard (λ pairs. MayGuard (plan_at served.site.now served.relay) pairs) }
     requires devices { length served.devices.items ≡ length (plan_at served.site.now served.relay).actions }
 {
     let alloc = host.alloc();
     let Outputs { mut writer, errors } = out;
-    let Ok(serving) = Arc::new(alloc, Serving::new(alloc, errors)) else {
+    let Ok(serving) = Arc::new(alloc, Serving::new(alloc, errors, log)) else {
         return 3;
     };
     let mut reader = FromRead::new(host.stdin());

@@ -8,12 +8,14 @@ ghost use Rattle.syc.specs.Totals.{EndsWithTotals, WroteTotals};
 ghost use Rattle.syc.specs.internal.Served.{IsLeft};
 
 use crate::accepting::start_accepting;
-use crate::connector::{Connector, OpenGate};
+use crate::connector::Connector;
 use crate::control::read_control;
 use crate::ending::{end_connections, end_loops, half_close};
 use crate::host_device::HostDevice;
 use crate::listening::{ListenFault, Listening, listen_all};
+use crate::log::{Log, LogGate};
 use crate::serving::Serving;
+use crate::telling::{end_telling, start_telling};
 use crate::totals::{TotalsFault, write_totals};
 use std::alloc::{AllocError, Global};
 use std::collections::VecDeque;
@@ -121,7 +123,8 @@ fn start<R: Threads + Wait + Clock + Copy + Send + 'static>(
     plan: &Arc<Plan>,
     guard: Option<Guard>,
     devices: Vec<BoxedDevice>,
-) -> Result<(Relay<OpenGate>, Workers), RunFault>
+    log: &Arc<Log>,
+) -> Result<(Relay<LogGate>, Workers), RunFault>
     requires guard { IfSome guard (λ pairs. MayGuard (arc_value plan.now) pairs) }
     requires devices { length devices.items ≡ length (arc_value plan.now).actions }
     ensures { IfOk result (λ started. started.0 ≡ guard) }
@@ -129,7 +132,10 @@ fn start<R: Threads + Wait + Clock + Copy + Send + 'static>(
     let Ok(plan) = Arc::try_clone(plan) else {
         return Err(RunFault::NoMemory);
     };
-    Relay::start(rt, alloc, plan, guard, devices, OpenGate)
+    let Ok(log) = Arc::try_clone(log) else {
+        return Err(RunFault::NoMemory);
+    };
+    Relay::start(rt, alloc, plan, guard, devices, LogGate { log })
 }
 
 // Has a relay's connections accepted until there is nothing more to read. Where they can't be, it answers so at once.
@@ -152,7 +158,8 @@ fn accept_to_end<
     };
     // (its descriptor is free when the accept loops are to end)
     let reserve = reserve(all.as_slice());
-    let is_accepting = accept_at_all(rt, alloc, &relay, serving, all).is_ok();
+    let is_accepting = start_telling(rt, alloc, serving).is_ok()
+        && accept_at_all(rt, alloc, &relay, serving, all).is_ok();
     if is_accepting {
         read_control(reader, reopens);
     }
@@ -168,7 +175,7 @@ fn accept_for<
 >(
     rt: R,
     alloc: Global,
-    relay: Relay<OpenGate>,
+    relay: Relay<LogGate>,
     all: Vec<Listening>,
     reader: &mut S,
     reopens: &AtomicU64,
@@ -255,7 +262,7 @@ pub fn serve<
             return out_of_memory(&rt, serving);
         };
     }
-    let Ok((relay, workers)) = start(rt, alloc, plan, guard, boxes) else {
+    let Ok((relay, workers)) = start(rt, alloc, plan, guard, boxes, serving.log()) else {
         return out_of_memory(&rt, serving);
     };
     let is_accepting = match relay.try_clone() {
@@ -267,6 +274,7 @@ pub fn serve<
     relay.close(&rt);
     let ends = end_connections(rt, alloc, serving, &is_ending);
     let answer = relay.stop(&rt, workers, ends);
+    end_telling(&rt, serving);
     if !is_accepting {
         return out_of_memory(&rt, serving);
     }

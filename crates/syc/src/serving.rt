@@ -3,9 +3,10 @@
 use crate::at_port::{end_words, tell_at_port, tell_unread};
 use crate::connections::Connections;
 use crate::connector::Connector;
-use crate::report::tell_text;
+use crate::log::{Log, PeerEnd};
+use crate::report::{tell_text, tell_texts};
 use std::alloc::{AllocError, Global};
-use std::net::{Shutdown, TcpStream};
+use std::net::{Shutdown, SocketAddr, TcpStream};
 use std::sync::atomic::{AtomicBool, Ordering};
 use std::sync::{Arc, Condvar, CondvarTimeouts, Mutex, Wait};
 use std::time::{Clock, Duration};
@@ -16,6 +17,7 @@ use sy_wire::{FromRead, Sink};
 #[derive(Drop)]
 pub struct Serving<E: Drop> {
     errors: Mutex<E>,
+    log: Arc<Log>,
     connections: Mutex<Connections>,
     // told when a connection or an accept loop has ended
     ended: Condvar,
@@ -30,14 +32,25 @@ pub struct Port {
 }
 
 impl<E: Sink + Drop> Serving<E> {
-    /// Nothing is served yet. What happens is printed here.
-    pub fn new(alloc: Global, errors: E) -> Serving<E> {
+    /// Nothing is served yet. What happens is noted there and printed here.
+    pub fn new(alloc: Global, errors: E, log: Arc<Log>) -> Serving<E> {
         Serving {
             errors: Mutex::new(errors),
+            log,
             connections: Mutex::new(Connections::new(alloc)),
             ended: Condvar::new(),
             is_stopping: AtomicBool::new(false),
         }
+    }
+
+    /// What an operator is told of the relay.
+    pub fn log(&self) -> &Arc<Log> {
+        &self.log
+    }
+
+    /// Prints this line.
+    pub fn tell_line<R: Wait>(&self, rt: &R, line: &[u8]) {
+        tell_texts(&mut *self.errors.lock(rt), &[line]);
     }
 
     /// Prints what happened at a port.
@@ -54,16 +67,29 @@ impl<E: Sink + Drop> Serving<E> {
     fn tell_end<R: Wait>(
         &self,
         rt: &R,
-        port: u16,
+        at: Port,
+        peer: SocketAddr,
         end: &ConnEnd,
         answer: Result<Finish, RunFault>,
     ) {
-        if let Some(first) = end.first_unread() {
-            tell_unread(&mut *self.errors.lock(rt), end.unread(), port, first);
+        let first = end.first_unread();
+        let fault = answer.err();
+        if first.is_none() && fault.is_none() {
+            return;
         }
-        if let Err(fault) = answer {
-            self.tell(rt, end_words(fault).as_bytes(), port);
+        if let Some(first) = first {
+            tell_unread(&mut *self.errors.lock(rt), end.unread(), at.port, first);
         }
+        if let Some(fault) = fault {
+            self.tell(rt, end_words(fault).as_bytes(), at.port);
+        }
+        let ended = PeerEnd {
+            peer,
+            unread: end.unread(),
+            first,
+            fault,
+        };
+        self.log.connection_ended(rt, at.input, ended);
     }
 
     /// Whether nothing new is to be accepted.
@@ -152,6 +178,7 @@ pub struct Connection<C: Drop, E: Drop> {
     pub relay: Arc<C>,
     pub serving: Arc<Serving<E>>,
     pub at: Port,
+    pub peer: SocketAddr,
     pub stream: Arc<TcpStream>,
     /// its place among those that are open
     pub place: usize,
@@ -167,11 +194,12 @@ pub fn serve_connection<R: Wait + Clock + Drop, C: Connector, E: Sink + Drop>(
         relay,
         serving,
         at,
+        peer,
         stream,
         place,
     } = connection;
     let mut reader = FromRead::new(&*stream);
     let (end, answer) = relay.connect(&rt, alloc, at.input, &mut reader);
-    serving.tell_end(&rt, at.port, &end, answer);
+    serving.tell_end(&rt, at, peer, &end, answer);
     serving.end(&rt, place, end);
 }

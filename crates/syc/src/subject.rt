@@ -1,0 +1,88 @@
+//! What an operator is told of, as threads note it.
+
+use std::sync::atomic::{AtomicBool, AtomicU64, Ordering};
+
+/// What kind of thing it is.
+#[derive(Clone, Copy, PartialEq, Eq)]
+pub enum Kind {
+    Action,
+    Input,
+    Queue,
+}
+
+/// An action, an input or a queue, of which an operator is told. Threads note here what happens, and wait for nothing.
+#[derive(Drop)]
+pub struct Subject {
+    pub kind: Kind,
+    pub name: Vec<u8>,
+    // 1 while an action fails; how many connections of an input are held
+    on: AtomicU64,
+    // how often that began
+    begun: AtomicU64,
+    why: AtomicU64,
+    // how many messages were lost
+    lost: AtomicU64,
+    // whether a change was noted that hasn't been looked at
+    is_noted: AtomicBool,
+}
+
+/// What stands there at one moment.
+#[derive(Clone, Copy, PartialEq, Eq)]
+pub struct Seen {
+    pub on: u64,
+    pub begun: u64,
+    pub lost: u64,
+}
+
+impl Subject {
+    pub fn new(kind: Kind, name: Vec<u8>) -> Subject {
+        Subject {
+            kind,
+            name,
+            on: AtomicU64::new(0),
+            begun: AtomicU64::new(0),
+            why: AtomicU64::new(0),
+            lost: AtomicU64::new(0),
+            is_noted: AtomicBool::new(false),
+        }
+    }
+
+    /// It begins to fail, or one more connection is held; and why.
+    pub fn begin(&self, why: u64) {
+        self.why.store(why, Ordering::SeqCst);
+        let _ = self.on.fetch_add(1, Ordering::SeqCst);
+        let _ = self.begun.fetch_add(1, Ordering::SeqCst);
+    }
+
+    /// It works again, or one connection fewer is held.
+    pub fn end(&self) {
+        let _ = self.on.fetch_sub(1, Ordering::SeqCst);
+    }
+
+    /// So many messages were lost.
+    pub fn lose(&self, count: u64) {
+        let _ = self.lost.fetch_add(count, Ordering::SeqCst);
+    }
+
+    /// Whether who looks has to be woken for a change: it wasn't noted before.
+    pub fn note(&self) -> bool {
+        !self.is_noted.swap(true, Ordering::SeqCst)
+    }
+
+    /// From now on a change wakes who looks.
+    pub fn listen(&self) {
+        self.is_noted.store(false, Ordering::SeqCst);
+    }
+
+    pub fn seen(&self) -> Seen {
+        Seen {
+            on: self.on.load(Ordering::SeqCst),
+            begun: self.begun.load(Ordering::SeqCst),
+            lost: self.lost.load(Ordering::SeqCst),
+        }
+    }
+
+    pub fn why(&self) -> u64 {
+        self.why.load(Ordering::SeqCst)
+    }
+}
