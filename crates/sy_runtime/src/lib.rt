@@ -5,6 +5,7 @@
 #![tactic(auto)]
 
 pub mod connection_end;
+mod draining;
 pub mod fault;
 mod finding;
 mod gathering;
@@ -19,6 +20,7 @@ mod reading;
 mod recording;
 pub mod relay;
 pub mod shared;
+pub mod standing;
 pub mod starting;
 pub mod stopping;
 mod taking;
@@ -32,4 +34,5 @@ pub use connection_end::{ConnEnd, Finish, Unread};
 pub use fault::RunFault;
 pub use relay::Relay;
 pub use shared::{BoxedDevice, Gate};
+pub use standing::Standing;
 pub use stopping::{Mismatch, Stopped, Workers};

@@ -1,8 +1,11 @@
 //! What the lock of a relay holds.
-ghost use Rattle.std.specs.Prelude.{◌≡◌, ◌<◌, IfOk};
+ghost use Rattle.std.specs.Prelude.{◌≡◌, ◌<◌, IfOk, IfSome, IsTrue};
+ghost use Rattle.sy_board.specs.relay.Boards.{account_of};
+ghost use Rattle.sy_runtime.specs.Standing.{held_by};
 
 use crate::halt::Halt;
 use crate::losing::Lost;
+use crate::standing::held_of;
 use crate::taking::{Hand, has_hand};
 use sy_board::Board;
 use sy_chain::Node;
@@ -14,6 +17,8 @@ pub(crate) struct Locked {
     // none once the relay has stopped
     pub(crate) board: Option<Board>,
     pub(crate) is_closing: bool,
+    // connections take nothing more, but go on with what is in their hands
+    pub(crate) is_ending: bool,
     // entries that have left the relay, whose memory may be used again
     pub(crate) used: Vec<Node>,
     // of each input the hands that connections have: bit k stands for hand k
@@ -23,6 +28,21 @@ pub(crate) struct Locked {
 }
 
 impl Locked {
+    /// Whether a connection goes on, which has a message in its hand or none.
+    pub(crate) fn takes(&self, is_in_hand: bool) -> bool {
+        !self.is_closing && (!self.is_ending || is_in_hand)
+    }
+
+    /// Whether the board holds nothing. One that is no longer here does so.
+    pub(crate) fn is_empty(&self) -> bool
+        ensures { IsTrue result → IfSome self.now.board (λ board. held_by (account_of board) ≡ 0) }
+    {
+        match &self.board {
+            Some(board) => matches!(held_of(board.accounts()), Some(0)),
+            None => true,
+        }
+    }
+
     /// What holds the message of a hand; nothing does once the relay closes.
     pub(crate) fn hold(&self, hand: Hand) -> Hold {
         if self.is_closing {
@@ -44,7 +64,7 @@ impl Locked {
     pub(crate) fn claim(&mut self, input: u32) -> Result<Hand, Halt>
         ensures { IfOk result (λ hand. (hand.input ≡ input) × (hand.number < 64)) }
     {
-        if self.is_closing || self.board.is_none() {
+        if !self.takes(false) || self.board.is_none() {
             return Err(Halt::Closed);
         }
         let Some(hands) = self.hands.get_mut(input as usize) else {

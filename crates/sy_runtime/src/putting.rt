@@ -32,7 +32,7 @@ pub(crate) fn put<R: Wait + Clock, G: Gate>(
 {
     let mut locked = shared.locked.lock(rt);
     for _ in rt.forever() {
-        if locked.is_closing {
+        if !locked.takes(*is_in_hand) {
             return Err(Halt::Closed);
         }
         let lost = locked.lost_in();

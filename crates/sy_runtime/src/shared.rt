@@ -38,6 +38,8 @@ pub(crate) struct Shared {
     pub(crate) work: Condvar,
     // told when a queue may have room
     pub(crate) room: Condvar,
+    // told when a worker finds nothing more to do
+    pub(crate) idle: Condvar,
     // the hatch of each action, in their order; none once the relay has stopped
     pub(crate) hatches: Vec<Mutex<Option<Hatch<BoxedDevice>>>>,
     // a copy of the board's guard, as it was given

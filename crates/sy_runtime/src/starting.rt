@@ -69,12 +69,14 @@ pub(crate) fn share(
         locked: Mutex::new(Locked {
             board: Some(board),
             is_closing: false,
+            is_ending: false,
             used: Vec::new(alloc),
             hands,
             lost: None,
         }),
         work: Condvar::new(),
         room: Condvar::new(),
+        idle: Condvar::new(),
         hatches,
         guard: copy,
     })

@@ -33,6 +33,7 @@ fn wait_for<'a, R: Wait + Clock, G: Gate>(
         Next::Held => wait_for_room(rt, alloc, shared, gate, locked, worker),
         Next::NoMemory => pause(rt, shared, locked, MEMORY_WAIT),
         Next::Idle | Next::Run(_) | Next::Posted | Next::Grabbed | Next::Ends => {
+            shared.idle.notify_all();
             shared.work.wait(rt, locked)
         }
     }

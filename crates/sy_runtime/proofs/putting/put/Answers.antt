@@ -1,8 +1,8 @@
 use Rattle.sy_runtime.proofs.Taken.{begins_somehow}
 use Rattle.sy_runtime.proofs.putting.put.Goals as goal
 
-pub returns-then-deref-clause-kept : goal.returns-then-deref-clause-kept
-returns-then-deref-clause-kept g c = λ read left h. begins_somehow _ _ _ _ (c.loop.invariant.kept read left h)
+pub returns-then-not-takes-clause-kept : goal.returns-then-not-takes-clause-kept
+returns-then-not-takes-clause-kept g c = λ read left h. begins_somehow _ _ _ _ (c.loop.invariant.kept read left h)
 
 pub returns-in_default-clause-kept : goal.returns-in_default-clause-kept
 returns-in_default-clause-kept g c = λ read left h. begins_somehow _ _ _ _ (c.loop.invariant.kept read left h)
