@@ -26,7 +26,8 @@ UNSEEN = re.compile(r"did not look into")
 NAMES = re.compile(judge.TAKEN_AWAY.pattern + r"|\(nearest: ")
 # What a body branches by.
 BRANCH = re.compile(r"\b(?:if|match|while|for|loop|return|break|continue)\b|&&|\|\||\?|=>")
-# How an answer is offered: the goal's name and its variables.
+# How an answer is offered: the function's folder, then lines with a goal's name and its variables.
+OFFER = re.compile(r"^help: .*?\./proofs/(\S+)/Answers\.antt")
 OFFERED = re.compile(r"^    (\S+)((?: \S+)*) = \?$")
 # What answers cite, and what they open.
 IMPORT = re.compile(r"^use (Rattle\.\S+?)\.\{([^}]*)\}", re.M)
@@ -56,12 +57,15 @@ class Refusal:
         is_refused_there = bool(self.open & of_the_right) or bool(self.wrong) and not adds_a_path(self.edit)
         return self.is_unclear() and not is_refused_there
 
-    def take(self, later):
-        """Takes what was found of it later."""
+    def takes(self, later):
+        """Takes what a later check found of it; whether other answers are then to be tried."""
+        is_more = bool(later.offered.keys() - self.offered.keys() or later.unnamed - self.unnamed)
+        is_lost = bool(later.wrong & self.offered.keys())
         self.open |= later.open
         self.wrong |= later.wrong
         self.unnamed |= later.unnamed
         self.offered |= later.offered
+        return is_more and not is_lost
 
 
 def adds_a_path(edit):
@@ -87,8 +91,18 @@ def refusal_of(edit, said, lines, prefix=""):
         if name and VALUES.search(line) and not UNSEEN.search(line):
             found.false.add(name)
     found.open = {it for it in found.open | set(listed(said.line)) if it.startswith(prefix)}
-    found.offered = dict(it.groups() for it in map(OFFERED.match, lines) if it and it[1] in found.open)
+    found.offered = {name: it for name, it in offered(lines, edit.function.replace("::", "/")) if name in found.open}
     return found
+
+
+def offered(lines, folder):
+    """The answers that a check offers for the function of this folder: of each goal its name and its variables."""
+    is_of_it = False
+    for line in lines:
+        offer, answer = OFFER.match(line), OFFERED.match(line)
+        is_of_it = offer[1] == folder if offer else is_of_it and line.startswith("    ")
+        if answer and is_of_it:
+            yield answer.groups()
 
 
 class Trial(rounds.Trial):
@@ -142,9 +156,9 @@ class Trial(rounds.Trial):
 
     def try_again(self, chosen, left):
         """Tries edits without the answers that don't fit them, and with what the stored answers cite for the goals that
-        are left, twice where more are left then: what is proved so, its contract allows."""
+        are left, up to three times where more are left then: what is proved so, its contract allows."""
         sources, gone = self.emptied(chosen)
-        for _ in range(2):
+        for _ in range(3):
             answers = {it.edit.function: answers_for(it, self.answers_of(it.edit.function)) for it in left}
             lines = self.check_with(sources, list(answers), gone, answers) if left else []
             said, again = judge.judged(self.sources, lines) or {}, []
@@ -157,8 +171,7 @@ class Trial(rounds.Trial):
                     self.tell(it.edit, False, f"{ALLOWED}: {how}")
                 elif later.false:
                     self.tell(it.edit, True, f"refused, as it must be: {it.edit.function}")
-                elif later.offered.keys() - it.offered.keys() and not later.wrong & it.offered.keys():
-                    it.take(later)
+                elif it.takes(later):
                     again.append(it)
             left = again
 
