@@ -15,7 +15,8 @@ def refuses(room, words, status, output, errors):
     """A relay that ends by itself, with all that it prints."""
     relay = Relay(room, "refused", words)
     same("status", relay.ends(), status)
-    same("standard output", relay.output(), output)
+    if output is not None:
+        same("standard output", relay.output(), output)
     if errors is not None:
         same("standard error", relay.errors(), errors)
     return relay

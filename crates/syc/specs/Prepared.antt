@@ -7,6 +7,8 @@ use Rattle.sy_site.specs.Sites.{Site, plan_at, relay_named}
 use Rattle.sy_site.specs.machine.Soundness.{IsGuarded, IsSound}
 use Rattle.syc.specs.SiteFiles.{IsSiteOf}
 use Rattle.syc.specs.Words.{AreRunOf}
+use Rattle.syc.specs.internal.Commands.{options_of}
+use Rattle.syc.specs.declared.run_words.RunWords.{RunWords}
 
 -- The site is sound, and these are exactly the guarded pairs of the relay, whose plan meets their condition.
 pub record HasGuard (site : Site) (relay : ℕ) (pairs : Pairs) : Type 0 where
@@ -20,11 +22,9 @@ IsGuardOf true site relay guard = guard ≡ None
 IsGuardOf false site relay guard = (pairs : Pairs) × (guard ≡ Some pairs) × HasGuard site relay pairs
 
 -- the site that the words name, the number of its relay, and the guard
-pub record IsPrepared (bytes_of : List ℕ → Option (List ℕ)) (words : List (List ℕ)) (site : Site) (relay : ℕ) (guard : Option Pairs) : Type 0 where
-  pub site_name : List ℕ
-  pub relay_name : List ℕ
-  pub is_unchecked : Bool
-  pub words_are : AreRunOf is_unchecked words site_name relay_name
-  pub site_is : (text : List ℕ) → bytes_of site_name ≡ Some text → IsSiteOf bytes_of text site
-  pub named : relay_named site.relays relay_name ≡ Some relay
-  pub guard_is : IsGuardOf is_unchecked site relay guard
+pub record IsPrepared (bytes_of : List ℕ → Option (List ℕ)) (words : List (List ℕ)) (site : Site) (relay : ℕ) (guard : Option Pairs) (found : RunWords) :
+    Type 0 where
+  pub words_are : AreRunOf (options_of found) words found.site.now found.relay.now
+  pub site_is : (text : List ℕ) → bytes_of found.site.now ≡ Some text → IsSiteOf bytes_of text site
+  pub named : relay_named site.relays found.relay.now ≡ Some relay
+  pub guard_is : IsGuardOf found.is_unchecked site relay guard

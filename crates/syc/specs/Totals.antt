@@ -1,4 +1,4 @@
--- The totals that a relay prints as it ends (this profile's own).
+-- The totals that a relay prints (this profile's own).
 use Rattle.std.specs.Prelude.{◌≡◌, ℕ, ◌+◌, ◌-◌, ◌<◌, ◌^◌, List, [], ◌∷◌, ◌++◌, Option, codes, length}
 use Rattle.std.specs.Fmt.{decimal}
 use Rattle.std.specs.Io.KnownBytes.{Appends}
@@ -15,9 +15,9 @@ abbrev pub lost : Totals → ℕ
 lost totals = totals.lost_in + totals.lost_post + totals.lost_out
 
 -- taken T lost L held H
-abbrev pub messages_line : Totals → ℕ → List ℕ
-messages_line totals held =
-    codes "taken " ++ decimal totals.taken ++ codes " lost " ++ decimal (lost totals) ++ codes " held " ++ decimal held ++ line_feed ∷ []
+abbrev pub messages_line : (taken lost held : ℕ) → List ℕ
+messages_line taken lost held =
+    codes "taken " ++ decimal taken ++ codes " lost " ++ decimal lost ++ codes " held " ++ decimal held ++ line_feed ∷ []
 
 -- behind the name of an action: due D done X given-up G left F
 abbrev pub counts_text : ℕ → ℕ → ℕ → ℕ → List ℕ
@@ -37,9 +37,13 @@ abbrev pub action_lines : List Action → List Counts → List ℕ
 action_lines (action ∷ actions) (counts ∷ others) = action_line action.name counts ++ action_lines actions others
 action_lines _ _ = []
 
+-- so many messages were taken and lost, so many are held, and this was counted of these actions
+abbrev pub counts_lines : List Action → (taken lost held : ℕ) → List Counts → List ℕ
+counts_lines actions taken lost held counts = messages_line taken lost held ++ action_lines actions counts
+
 -- the totals of a relay with these actions, which still holds so many entries
 abbrev pub totals_text : List Action → Totals → ℕ → List ℕ
-totals_text actions totals held = messages_line totals held ++ action_lines actions totals.actions
+totals_text actions totals held = counts_lines actions totals.taken (lost totals) held totals.actions
 
 -- The totals were written, with the number of the entries that are left. (Of 2^64 entries or more it isn't said which number.)
 pub record WroteTotals (actions : List Action) (totals : Totals) (left : List Entry) (old new : Option (List ℕ)) : Type 0 where

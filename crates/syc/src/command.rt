@@ -64,6 +64,11 @@ const RUN_ABOUT: &str = "Check a site, and run one of its relays until standard 
 
 const UNCHECKED_ABOUT: &str = "Run it without a check";
 
+const LEFT_ABOUT: &str = "Write what the relay still holds at its end to this file, as frames";
+
+const DRAIN_ABOUT: &str =
+    "Wait until the relay holds nothing, before it ends, but so many seconds at most: 0 to 86400";
+
 const VERIFY_ABOUT: &str =
     "Say whether a certificate shows that a site keeps the messages of its protected classes";
 
@@ -277,6 +282,23 @@ fn unchecked_flag<'a>(alloc: Global) -> Result<Arg<'a>, AllocError> {
     Ok(flag.action(ArgAction::SetTrue))
 }
 
+// A parser with an option more that has a value.
+fn with_value<'a>(
+    alloc: Global,
+    parser: Result<Parser<'a>, AllocError>,
+    name: &'a str,
+    value: &'a str,
+    about: &'a str,
+) -> Result<Parser<'a>, AllocError> {
+    match parser {
+        Ok(parser) => {
+            let option = Arg::new(alloc, name).long(name).value_name(value);
+            parser.arg(option.help(about).action(ArgAction::Set))
+        }
+        Err(why) => Err(why),
+    }
+}
+
 fn with_flag<'a>(
     parser: Result<Parser<'a>, AllocError>,
     flag: Result<Arg<'a>, AllocError>,
@@ -299,7 +321,9 @@ fn parser_of<'a>(
 ) -> Result<Parser<'a>, AllocError> {
     let parser = plain_parser(alloc, word, about, names);
     if is_word(word, "run") {
-        return with_flag(parser, unchecked_flag(alloc));
+        let parser = with_flag(parser, unchecked_flag(alloc));
+        let parser = with_value(alloc, parser, "left", "FILE", LEFT_ABOUT);
+        return with_value(alloc, parser, "drain", "SECONDS", DRAIN_ABOUT);
     }
     if !is_word(word, "check") {
         return parser;

@@ -1,13 +1,16 @@
 //! What serves the connections of a relay.
+ghost use Rattle.std.specs.Prelude.{IfSome, map};
+ghost use Rattle.sy_board.specs.relay.Boards.{counts_of};
+ghost use Rattle.sy_runtime.specs.Standing.{Stands};
 
 use crate::log::LogGate;
 use std::alloc::Global;
 use std::sync::Wait;
 use std::time::Clock;
-use sy_runtime::{ConnEnd, Finish, Relay, RunFault};
+use sy_runtime::{ConnEnd, Finish, Relay, RunFault, Standing};
 use sy_wire::Source;
 
-/// What serves connections, on the thread of each: a relay. (Behind it stand boxed devices, which a function's contract
+/// What serves connections, on the thread of each, and tells its totals: a relay. (Behind it stand boxed devices, which a function's contract
 /// can't have beside what it makes itself, as a thread.)
 pub trait Connector: Drop {
     /// Serves a connection of an input, to the end of its reader.
@@ -18,6 +21,10 @@ pub trait Connector: Drop {
         input: u32,
         reader: &mut S,
     ) -> (ConnEnd, Result<Finish, RunFault>);
+
+    /// The totals as they stand; none where there is no memory for them.
+    fn status<R: Wait>(&self, rt: &R, alloc: Global) -> Option<Standing>
+        ensures { IfSome result (λ s. Stands s.taken s.lost s.held (map counts_of s.actions.items)) };
 }
 
 impl Connector for Relay<LogGate> {
@@ -29,5 +36,9 @@ impl Connector for Relay<LogGate> {
         reader: &mut S,
     ) -> (ConnEnd, Result<Finish, RunFault>) {
         Relay::connect(self, rt, alloc, input, reader)
+    }
+
+    fn status<R: Wait>(&self, rt: &R, alloc: Global) -> Option<Standing> {
+        Relay::status(self, rt, alloc)
     }
 }

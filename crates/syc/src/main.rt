@@ -28,6 +28,8 @@ mod files;
 mod findings;
 mod halt;
 mod host_device;
+mod left;
+mod left_file;
 mod link;
 mod link_writer;
 mod listening;
@@ -54,6 +56,7 @@ mod serve;
 mod serving;
 mod site;
 mod spell;
+mod status;
 mod stop;
 mod subject;
 mod tally;
@@ -69,6 +72,7 @@ mod words;
 use devices::{OpenFault, Signals, taker};
 use files::HostFiles;
 use host_device::HostDevice;
+use left_file::LeftFile;
 use log::{ActionLog, Log};
 use outlets::{Outlet, outlets};
 use outputs::Outputs;
@@ -77,7 +81,7 @@ use run::run;
 use run_words::is_run;
 use serve::{Served, serve};
 use serving::Serving;
-use std::alloc::Global;
+use std::alloc::{AllocError, Global};
 use std::env;
 use std::fs::File;
 use std::io::{self, BufWriter};
@@ -109,7 +113,7 @@ fn main(rt: HostRuntime) -> ExitCode {
         return ExitCode::from(start(&rt, words.as_slice(), &mut out));
     }
     let alloc = rt.alloc();
-    let (site, relay, guard) = match prepare(
+    let (site, relay, guard, found) = match prepare(
         alloc,
         words.as_slice(),
         &HostFiles::new(&rt),
@@ -122,7 +126,14 @@ fn main(rt: HostRuntime) -> ExitCode {
     let Ok(outlets) = outlets(alloc, &site, relay) else {
         return ExitCode::from(stop::out_of_memory(&mut out.errors));
     };
-    ExitCode::from(serve_on(rt, rt, &site, relay, guard, outlets.as_slice(), out))
+    let Ok(store) = store_of(rt, found.left) else {
+        return ExitCode::from(stop::out_of_memory(&mut out.errors));
+    };
+    let with = With {
+        drain: found.drain,
+        store,
+    };
+    ExitCode::from(serve_on(rt, rt, &site, relay, guard, outlets.as_slice(), &with, out))
 }
 
 // The process's own words and streams, or the exit status where memory ran out.
@@ -190,6 +201,26 @@ fn device_of(
     }
 }
 
+// What the options of a relay that runs ask for.
+#[derive(Drop)]
+struct With {
+    // for how many seconds it may empty before it stops
+    drain: Option<u32>,
+    // where what is left is written
+    store: Option<LeftFile>,
+}
+
+// The file of that name for what is left, if there is to be one.
+fn store_of(rt: HostRuntime, name: Option<&str>) -> Result<Option<LeftFile>, AllocError> {
+    match name {
+        Some(name) => match LeftFile::new(rt, rt.alloc(), name) {
+            Some(store) => Ok(Some(store)),
+            None => Err(AllocError),
+        },
+        None => Ok(None),
+    }
+}
+
 // Makes the devices of a relay's actions, and serves it with the process's own streams.
 fn serve_on<
     R: Threads
@@ -206,6 +237,7 @@ fn serve_on<
     relay: u32,
     guard: Option<Guard>,
     outlets: &[Outlet<'_>],
+    with: &With,
     mut out: HostOutputs,
 ) -> u8
     requires exists { relay < length site.now.relays }
@@ -237,8 +269,9 @@ fn serve_on<
         devices,
         is_ending,
         reopens,
+        drain: with.drain,
     };
-    serve_devices(rt, host, served, log, out)
+    serve_devices(rt, host, served, with.store.as_ref(), log, out)
 }
 
 // Serves a relay with the process's own streams.
@@ -250,7 +283,14 @@ fn serve_devices<
         + Copy
         + Send
         + 'static,
->(rt: R, host: HostRuntime, served: Served<'_>, log: Arc<Log>, out: HostOutputs) -> u8
+>(
+    rt: R,
+    host: HostRuntime,
+    served: Served<'_>,
+    store: Option<&LeftFile>,
+    log: Arc<Log>,
+    out: HostOutputs,
+) -> u8
     requires exists { served.relay < length served.site.now.relays }
     requires guard { IfSome served.guard (λ pairs. MayGuard (plan_at served.site.now served.relay) pairs) }
     requires devices { length served.devices.items ≡ length (plan_at served.site.now served.relay).actions }
@@ -261,5 +301,5 @@ fn serve_devices<
         return 3;
     };
     let mut reader = FromRead::new(host.stdin());
-    serve(rt, alloc, served, &mut reader, &mut writer, &serving)
+    serve(rt, alloc, served, store, &mut reader, &mut writer, &serving)
 }

@@ -135,24 +135,27 @@ fn ready<F: Files, W: Sink, E: Sink>(
     }
 }
 
-/// What the command that runs a relay needs: the site that the words name, the number of its relay, and the relay's guard,
-/// where the site is checked and sound. With `--unchecked` among the words no check is made, and there is no guard. Else
+/// What the command that runs a relay needs: the site that the words name, the number of its relay, the relay's guard,
+/// where the site is checked and sound, and what the words say. With `--unchecked` among the words no check is made, and there is no guard. Else
 /// an exit status, and what is to be said of it is printed: 1 for a site that is refused, 2 for a faulty site, a relay that it doesn't have
 /// or other words (0 where they ask for help), 3 where memory runs out, and 4 where a read or write failed.
-pub fn prepare<F: Files, W: Sink, E: Sink>(
+pub fn prepare<'a, F: Files, W: Sink, E: Sink>(
     alloc: Global,
-    args: &[String],
+    args: &'a [String],
     files: &F,
     out: &mut Outputs<W, E>,
-) -> Result<(Site, u32, Option<Guard>), u8>
-    ensures ok { IfOk result (λ found. IsPrepared (F.bytes_of files.now) (map string_bytes args.now) found.0 found.1 found.2) }
+) -> Result<(Site, u32, Option<Guard>, RunWords<'a>), u8>
+    ensures ok { IfOk result (λ found. IsPrepared (F.bytes_of files.now) (map string_bytes args.now) found.0 found.1 found.2 found.3) }
     ensures status { IfErr result (λ status. status ≤ 4) }
 {
     let Ok(words) = all_words(alloc, args) else {
         return Err(out_of_memory(&mut out.errors));
     };
     match run_words(words.as_slice()) {
-        Some(found) => ready(alloc, found, files, out),
+        Some(found) => match ready(alloc, found, files, out) {
+            Ok((site, relay, guard)) => Ok((site, relay, guard, found)),
+            Err(status) => Err(status),
+        },
         None => Err(refuse(alloc, out, &refusal(alloc, words.as_slice()))),
     }
 }

@@ -9,22 +9,24 @@ ghost use Rattle.syc.specs.internal.Served.{IsLeft};
 
 use crate::accepting::start_accepting;
 use crate::connector::Connector;
-use crate::control::read_control;
+use crate::control::{Controlled, read_control};
 use crate::ending::{end_connections, end_loops, half_close};
 use crate::host_device::HostDevice;
+use crate::left::{Store, keep_left};
 use crate::listening::{ListenFault, Listening, listen_all};
 use crate::log::{Log, LogGate};
 use crate::serving::Serving;
 use crate::telling::{end_telling, start_telling};
-use crate::totals::{TotalsFault, write_totals};
+use crate::totals::{TotalsFault, numbers_of, write_totals};
 use std::alloc::{AllocError, Global};
 use std::collections::VecDeque;
 use std::net::{Net, TcpListener, TcpStream};
 use std::sync::atomic::{AtomicBool, AtomicU64};
 use std::sync::{Arc, Wait};
 use std::thread::Threads;
-use std::time::Clock;
+use std::time::{Clock, Duration};
 use sy_board::Guard;
+use sy_chain::Chain;
 use sy_rules::laws::plans_are_whole;
 use sy_rules::{Action, Plan};
 use sy_runtime::{BoxedDevice, Mismatch, Relay, RunFault, Stopped, Workers};
@@ -44,6 +46,8 @@ pub struct Served<'a> {
     pub is_ending: Arc<AtomicBool>,
     /// How often archives are to be opened anew.
     pub reopens: Arc<AtomicU64>,
+    /// For how many seconds it may empty before it stops.
+    pub drain: Option<u32>,
 }
 
 // Tells that memory ran out, and answers the exit status for that.
@@ -105,8 +109,8 @@ fn print_totals<R: Wait, W: Sink, E: Sink + Drop>(
     ensures done { result ≡ 0 → WroteTotals actions.now stopped.now.accounts.totals stopped.now.left
         (W.contents writer.old) (W.contents writer.new) }
 {
-    let held = stopped.left.len();
-    match write_totals(alloc, writer, actions, &stopped.accounts, held) {
+    let numbers = numbers_of(&stopped.accounts, stopped.left.len() as u128);
+    match write_totals(alloc, writer, actions, numbers) {
         Ok(()) => 0,
         Err(TotalsFault::NoMemory) => out_of_memory(rt, serving),
         Err(TotalsFault::Write) => {
@@ -150,6 +154,7 @@ fn accept_to_end<
     relay: C,
     all: Vec<Listening>,
     reader: &mut S,
+    actions: &[Action],
     reopens: &AtomicU64,
     serving: &Arc<Serving<E>>,
 ) -> bool {
@@ -161,7 +166,13 @@ fn accept_to_end<
     let is_accepting = start_telling(rt, alloc, serving).is_ok()
         && accept_at_all(rt, alloc, &relay, serving, all).is_ok();
     if is_accepting {
-        read_control(reader, reopens);
+        let of = Controlled {
+            relay: &*relay,
+            actions,
+            reopens,
+            serving: &**serving,
+        };
+        read_control(&rt, alloc, &of, reader);
     }
     drop(reserve);
     is_accepting
@@ -178,17 +189,43 @@ fn accept_for<
     relay: Relay<LogGate>,
     all: Vec<Listening>,
     reader: &mut S,
+    actions: &[Action],
     reopens: &AtomicU64,
     serving: &Arc<Serving<E>>,
 ) -> bool {
-    accept_to_end(rt, alloc, relay, all, reader, reopens, serving)
+    accept_to_end(rt, alloc, relay, all, reader, actions, reopens, serving)
 }
 
-// Prints the totals of a relay with these actions, or why there are none, and answers the exit status.
-fn finish<R: Wait, W: Sink, E: Sink + Drop>(
+// Keeps what a relay still held, and answers the exit status, where it was this before.
+fn keep<R: Wait, T: Store, E: Sink + Drop>(
+    rt: &R,
+    serving: &Serving<E>,
+    store: Option<&T>,
+    left: Chain,
+    status: u8,
+) -> u8
+    requires { status ≤ 4 }
+    ensures status { result ≤ 4 }
+    ensures done { result ≡ 0 → status ≡ 0 }
+{
+    let Some(store) = store else {
+        return status;
+    };
+    match keep_left(store, left) {
+        Ok(()) => status,
+        Err(_) => {
+            serving.tell_text(rt, "write failed");
+            4
+        }
+    }
+}
+
+// Prints the totals of a relay with these actions, or why there are none, keeps what it still held, and answers the exit status.
+fn finish<R: Wait, T: Store, W: Sink, E: Sink + Drop>(
     rt: &R,
     alloc: Global,
     serving: &Serving<E>,
+    store: Option<&T>,
     writer: &mut W,
     actions: &[Action],
     answer: Result<Stopped, Mismatch>,
@@ -198,7 +235,10 @@ fn finish<R: Wait, W: Sink, E: Sink + Drop>(
         → EndsWithTotals actions.now guard (W.contents writer.old) (W.contents writer.new) }
 {
     match answer {
-        Ok(stopped) => print_totals(rt, alloc, serving, writer, actions, &stopped),
+        Ok(stopped) => {
+            let status = print_totals(rt, alloc, serving, writer, actions, &stopped);
+            keep(rt, serving, store, stopped.left, status)
+        }
         Err(Mismatch) => {
             serving.tell_text(rt, "totals differ");
             4
@@ -209,7 +249,7 @@ fn finish<R: Wait, W: Sink, E: Sink + Drop>(
 /// Serves a relay until there is nothing more to read: listens at the ports of its inputs, takes the messages of what
 /// connects there, and prints what happens. Then it ends within seconds, whatever its peers do, and prints the totals. It
 /// answers the exit status: 0 where the totals that were printed agree with what its threads counted, 3 where memory runs out, and 4
-/// where a port can't be listened at, the totals don't agree, or they can't be written.
+/// where a port can't be listened at, the totals don't agree, or they, or what is left, can't be written.
 // (Boxes are made here, and in no function that takes or hands out one: its contract might say nothing.)
 pub fn serve<
     R: Threads
@@ -219,6 +259,7 @@ pub fn serve<
         + Copy
         + Send
         + 'static,
+    T: Store,
     S: Source,
     W: Sink,
     E: Sink + Drop + Send + 'static,
@@ -226,6 +267,7 @@ pub fn serve<
     rt: R,
     alloc: Global,
     served: Served<'_>,
+    store: Option<&T>,
     reader: &mut S,
     writer: &mut W,
     serving: &Arc<Serving<E>>,
@@ -244,6 +286,7 @@ pub fn serve<
         devices,
         is_ending,
         reopens,
+        drain,
     } = served;
     let plan = site.plan(relay);
     plans_are_whole(plan);
@@ -266,11 +309,23 @@ pub fn serve<
         return out_of_memory(&rt, serving);
     };
     let is_accepting = match relay.try_clone() {
-        Ok(theirs) => accept_for(rt, alloc, theirs, all, reader, &reopens, serving),
+        Ok(theirs) => accept_for(
+            rt,
+            alloc,
+            theirs,
+            all,
+            reader,
+            plan.actions(),
+            &reopens,
+            serving,
+        ),
         Err(_) => false,
     };
     end_loops(&rt, serving, address, plan.inputs());
     half_close(&rt, serving);
+    if let Some(seconds) = drain {
+        relay.drain(&rt, Duration::from_secs(u64::from(seconds)));
+    }
     relay.close(&rt);
     let ends = end_connections(rt, alloc, serving, &is_ending);
     let answer = relay.stop(&rt, workers, ends);
@@ -278,5 +333,5 @@ pub fn serve<
     if !is_accepting {
         return out_of_memory(&rt, serving);
     }
-    finish(&rt, alloc, serving, writer, plan.actions(), answer)
+    finish(&rt, alloc, serving, store, writer, plan.actions(), answer)
 }

@@ -16,7 +16,7 @@ use sy_wire::{FromRead, Sink};
 /// What the threads of a relay that is served share.
 #[derive(Drop)]
 pub struct Serving<E: Drop> {
-    errors: Mutex<E>,
+    pub(crate) errors: Mutex<E>,
     log: Arc<Log>,
     connections: Mutex<Connections>,
     // told when a connection or an accept loop has ended

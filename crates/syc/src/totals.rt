@@ -1,4 +1,4 @@
-//! The totals that a relay prints as it ends.
+//! The totals that a relay prints.
 ghost use Rattle.std.specs.Prelude.{◌≡◌, ◌++◌, OnOk, map};
 ghost use Rattle.std.specs.Io.KnownBytes.{Appends};
 ghost use Rattle.sy_board.specs.relay.Boards.{counts_of};
@@ -18,6 +18,15 @@ pub enum TotalsFault {
     Write,
 }
 
+/// What totals tell: messages taken, losses, what is held, and the counts of the actions, in their order.
+#[derive(Clone, Copy)]
+pub struct Numbers<'a> {
+    pub taken: u64,
+    pub lost: u128,
+    pub held: u128,
+    pub actions: &'a [ActionCounts],
+}
+
 // The losses: at an input or in its hand, by a post, and as an entry left a queue.
 fn lost(accounts: &Accounts) -> u128
     ensures { result ≡ spec.lost accounts.now.totals }
@@ -27,17 +36,31 @@ fn lost(accounts: &Accounts) -> u128
         + u128::from(accounts.lost_out())
 }
 
+/// The numbers of a relay that still holds so many entries.
+pub fn numbers_of(accounts: &Accounts, held: u128) -> Numbers<'_>
+    ensures numbers { result ≡ record { taken = accounts.now.totals.taken; lost = spec.lost accounts.now.totals; held = held; actions = result.actions } }
+    ensures actions { map counts_of result.actions.now ≡ accounts.now.totals.actions }
+{
+    Numbers {
+        taken: accounts.taken(),
+        lost: lost(accounts),
+        held,
+        actions: accounts.actions(),
+    }
+}
+
 // The line of the messages.
-fn put_messages(text: &mut Vec<u8>, accounts: &Accounts, held: usize) -> Result<(), AllocError>
-    ensures { OnOk result (text.new.items ≡ text.old.items ++ spec.messages_line accounts.now.totals held) }
+fn put_messages(text: &mut Vec<u8>, numbers: Numbers<'_>) -> Result<(), AllocError>
+    ensures { OnOk result (text.new.items
+        ≡ text.old.items ++ spec.messages_line numbers.entry.taken numbers.entry.lost numbers.entry.held) }
 {
     let parts = [
         Part::Text(b"taken "),
-        Part::Number(accounts.taken()),
+        Part::Number(numbers.taken),
         Part::Text(b" lost "),
-        Part::Sum(lost(accounts)),
+        Part::Sum(numbers.lost),
         Part::Text(b" held "),
-        Part::Number(held as u64),
+        Part::Sum(numbers.held),
         Part::Text(b"\n"),
     ];
     put_parts(text, &parts)
@@ -103,32 +126,31 @@ fn put_actions(
     Ok(())
 }
 
-// Puts the totals of a relay with these actions, which still holds so many entries, behind a text.
+// Puts the totals of a relay with these actions behind a text.
 fn put_totals(
     text: &mut Vec<u8>,
     actions: &[Action],
-    accounts: &Accounts,
-    held: usize,
+    numbers: Numbers<'_>,
 ) -> Result<(), AllocError>
-    ensures { OnOk result (text.new.items ≡ text.old.items ++ spec.totals_text actions.now accounts.now.totals held) }
+    ensures { OnOk result (text.new.items ≡ text.old.items
+        ++ spec.counts_lines actions.now numbers.entry.taken numbers.entry.lost numbers.entry.held (map counts_of numbers.entry.actions.now)) }
 {
-    put_messages(text, accounts, held)?;
-    put_actions(text, actions, accounts.actions())
+    put_messages(text, numbers)?;
+    put_actions(text, actions, numbers.actions)
 }
 
-/// Writes the totals of a relay with these actions, which still holds so many entries, and hands them on.
+/// Writes the totals of a relay with these actions, and hands them on.
 pub fn write_totals<W: Sink>(
     alloc: Global,
     writer: &mut W,
     actions: &[Action],
-    accounts: &Accounts,
-    held: usize,
+    numbers: Numbers<'_>,
 ) -> Result<(), TotalsFault>
     ensures { OnOk result (Appends (W.contents writer.old) (W.contents writer.new)
-        (spec.totals_text actions.now accounts.now.totals held)) }
+        (spec.counts_lines actions.now numbers.entry.taken numbers.entry.lost numbers.entry.held (map counts_of numbers.entry.actions.now))) }
 {
     let mut text = Vec::new(alloc);
-    let Ok(()) = put_totals(&mut text, actions, accounts, held) else {
+    let Ok(()) = put_totals(&mut text, actions, numbers) else {
         return Err(TotalsFault::NoMemory);
     };
     match send(writer, text.as_slice()) {

@@ -1,5 +1,5 @@
 -- Which words are no command, and what a command over a site answers.
-use Rattle.std.specs.Prelude.{◌≡◌, ℕ, ◌⊎◌, List, ◌∷◌, Option, Some, codes}
+use Rattle.std.specs.Prelude.{◌≡◌, ℕ, true, ◌⊎◌, List, ◌∷◌, ◌++◌, Option, Some, None, IfNone, IfSome, codes, map, option_map, option_to_list}
 use Rattle.std.specs.List.{Any}
 use Rattle.sy_site.specs.texts.Files.{file_names}
 use Rattle.syc.specs.Checks.{AskedIs}
@@ -7,10 +7,11 @@ use Rattle.syc.specs.Outcomes.{FailsBy}
 use Rattle.syc.specs.Reports.{Streams}
 use Rattle.syc.specs.Replays.{ReplayIs}
 use Rattle.syc.specs.Verdicts.{DescribesKept, VerifyIs}
-use Rattle.syc.specs.Words.{AreAsking, AreAskingOf, ArePass, AreReplay, AreReplayOf, AreRunOf, AreVerify, AreVerifyOf}
+use Rattle.syc.specs.Words.{AreAsking, AreAskingOf, ArePass, AreReplay, AreReplayOf, AreRunArgs, AreRunOf, AreVerify, AreVerifyOf, RunOptions}
 use Rattle.syc.specs.declared.command.Asked.{Asked}
 use Rattle.syc.specs.declared.command.SiteCommand.{SiteCommand}
 use Rattle.syc.specs.declared.command.SiteCommand.TheVariants as of_site
+use Rattle.syc.specs.declared.run_words.Args.{Args}
 use Rattle.syc.specs.declared.run_words.RunWords.{RunWords}
 
 -- no command over a site, with the program's name before it
@@ -56,8 +57,18 @@ Fails bytes_of MayFail PiecesFail (of_site.Replay site events) status old new =
 Fails bytes_of MayFail PiecesFail (of_site.Verify site certificate) status old new =
     (text : List ℕ) → bytes_of site.now ≡ Some text → FailsBy (Any MayFail (site.now ∷ certificate.now ∷ file_names text)) status old new
 
--- the words of the command that runs a relay, with the program's name before them
+-- the options of the command that runs a relay
+abbrev pub options_of : RunWords → RunOptions
+options_of found = record { is_unchecked = found.is_unchecked; left = option_map (λ file. file.now) found.left; drain = found.drain }
+
+-- the words of that command, with the program's name before them
 pub record IsRun (words : List (List ℕ)) (found : RunWords) : Type 0 where
   pub args : List (List ℕ)
   pub words_are : words ≡ codes "syc" ∷ args
-  pub are_run : AreRunOf found.is_unchecked args found.site.now found.relay.now
+  pub are_run : AreRunOf (options_of found) args found.site.now found.relay.now
+
+-- what some of the words behind it are
+abbrev pub AreArgs : List (List ℕ) → Args → Type 0
+AreArgs words found =
+    AreRunArgs words (option_to_list (option_map (λ word. word.now) found.first) ++ option_to_list (option_map (λ word. word.now) found.second))
+    (record { is_unchecked = found.is_unchecked; left = option_map (λ file. file.now) found.left; drain = found.drain })
