@@ -39,7 +39,8 @@ pub(crate) fn held_of(accounts: &Accounts) -> Option<u128>
     let others = u128::from(accounts.in_hands())
         + u128::from(accounts.in_queues())
         + u128::from(accounts.posts_left());
-    others.checked_add(runs)
+    let held = others.checked_add(runs)?;
+    Some(held)
 }
 
 // The losses: at an input or in its hand, by a post, and as an entry left a queue.
