@@ -4,7 +4,7 @@ use crate::log::{MARK, PeerEnd};
 use crate::reason::Reason;
 use crate::subject::{Kind, Subject};
 use crate::texts::{Part, put_parts};
-use crate::told::Line;
+use crate::notices::Line;
 use std::alloc::{AllocError, Global};
 
 fn put(text: &mut Vec<u8>, words: &'static str) -> Result<(), AllocError> {

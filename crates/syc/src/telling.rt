@@ -5,7 +5,7 @@ use crate::log::Log;
 use crate::log_lines::{peer_line, subject_line};
 use crate::serving::Serving;
 use crate::subject::Subject;
-use crate::told::{Line, Told};
+use crate::notices::{Line, Told};
 use std::alloc::{AllocError, Global};
 use std::sync::{Arc, Wait};
 use std::thread;
