@@ -19,9 +19,9 @@ ALLOWED = "LET THROUGH"
 OPEN = re.compile(r"^note: src/\S+: it is not proved .*\(`([^`]+)`\)(?:;|$)")
 # The goals that a function's line lists: those that the search left, or all that it has where nothing is searched for.
 LISTED = re.compile(r"(?:`search` did not prove|`#\[tactic\(none\)\]` leaves) ((?:`[^`]+`(?:, | and )?)+)")
-# The prover knows values at which the goal is false, unless it didn't look into a definition.
-VALUES = re.compile(r"allow values at which this goal is false|the goal fails,? at")
-UNSEEN = re.compile(r"did not look into")
+# The prover knows values at which the goal is false, unless it didn't look into a definition or stopped at a limit.
+VALUES = re.compile(r"allow values at which this goal is false|the goal fails at")
+UNSURE = re.compile(r"did not look into|may hold")
 # An answer names what the edited body doesn't have.
 NAMES = re.compile(judge.TAKEN_AWAY.pattern + r"|\(nearest: ")
 # What a body branches by.
@@ -88,7 +88,7 @@ def refusal_of(edit, said, lines, prefix=""):
             found.open.add(name)
         elif name:
             (found.unnamed if NAMES.search(answer[3]) else found.wrong).add(name)
-        if name and VALUES.search(line) and not UNSEEN.search(line):
+        if name and VALUES.search(line) and not UNSURE.search(line):
             found.false.add(name)
     found.open = {it for it in found.open | set(listed(said.line)) if it.startswith(prefix)}
     found.offered = {name: it for name, it in offered(lines, edit.function.replace("::", "/")) if name in found.open}
@@ -130,15 +130,18 @@ class Trial(rounds.Trial):
         super().run()
         unclear = [it for it in self.refused if it.is_unclear()]
         right = self.goals_of_the_right({it.edit.function for it in unclear if it.open})
+        again = {}
         for it in unclear:
-            if it.is_unanswered(right.get(it.edit.function, set())):
+            is_unanswered = it.is_unanswered(right.get(it.edit.function, set()))
+            if is_unanswered:
                 goals = ", ".join(sorted(it.open | it.wrong | it.unnamed))
                 self.tell(it.edit, True, f"{UNANSWERED}: {it.edit.function}: {goals}")
-        by_name = {it.edit.name: it for it in unclear if self.answers_of(it.edit.function)}
-        left = [it.edit for it in by_name.values()]
+            if (is_unanswered or adds_a_path(it.edit)) and self.answers_of(it.edit.function):
+                again[it.edit.name] = it
+        left = [it.edit for it in again.values()]
         while left:
             chosen, left = self.next_round(left)
-            self.try_again(chosen, [by_name[it.name] for it in chosen.taken])
+            self.try_again(chosen, [again[it.name] for it in chosen.taken])
         return [self.found[it.name] for it in [*self.controls, *self.given]]
 
     def goals_of_the_right(self, functions):
