@@ -47,13 +47,13 @@ class Refusal:
     offered: dict = field(default_factory=dict)
 
     def is_unclear(self):
-        """Whether it may be for want of an answer: the edit adds a path or takes away what answers name, and no values are
-        known at which a goal is false."""
+        """Whether it may be for want of an answer: the edit adds a path or takes away what answers name, and no values
+        are known at which a goal is false."""
         return not self.false and (adds_a_path(self.edit) or bool(self.unnamed))
 
     def is_unanswered(self, of_the_right):
-        """Whether no goal is left that is proved by the search in the right body, which has these goals, and no answer is
-        wrong where no path was added: what is left is of a new path or name, or has an answer in the right body."""
+        """Whether no goal is left that is proved by the search in the right body, which has these goals, and no answer
+        is wrong where no path was added: what is left is of a new path or name, or has an answer in the right body."""
         is_refused_there = bool(self.open & of_the_right) or bool(self.wrong) and not adds_a_path(self.edit)
         return self.is_unclear() and not is_refused_there
 
