@@ -1,5 +1,5 @@
 -- Frames one behind the other.
-use Rattle.std.proofs.Common.{◌≡◌, ℕ, List, [], ◌∷◌, map, sym, ◌∙◌}
+use Rattle.std.proofs.Common.{◌≡◌, ℕ, List, [], ◌∷◌, map, sym, subst, ◌∙◌}
 use Rattle.std.specs.Prelude.{Option, Some, None}
 use Rattle.std.specs.Io.KnownBytes.{Appends, Keeps}
 use Rattle.std.proofs.KnownBytes.{Appends-trans}
@@ -16,3 +16,10 @@ pub frames_more : (a b c : Option (List ℕ)) (entry : Entry) (later : List Entr
     → Appends b c (stream (map (λ (e : Entry). e.message.raw) later)) → Appends a c (stream (map (λ (e : Entry). e.message.raw) (entry ∷ later)))
 frames_more a b c entry later one more =
     Appends-trans a b c (frame entry.message.raw) (stream (map (λ (e : Entry). e.message.raw) later)) one more
+
+-- the same of a list with that entry in front
+pub frames_at_front : (a b c : Option (List ℕ)) (all : List Entry) (entry : Entry) (later : List Entry) → all ≡ entry ∷ later
+    → Appends a b (frame entry.message.raw) → Appends b c (stream (map (λ (e : Entry). e.message.raw) later))
+    → Appends a c (stream (map (λ (e : Entry). e.message.raw) all))
+frames_at_front a b c all entry later is one more =
+    subst (λ entries. Appends a c (stream (map (λ (e : Entry). e.message.raw) entries))) (sym is) (frames_more a b c entry later one more)

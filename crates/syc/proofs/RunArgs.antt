@@ -1,7 +1,22 @@
--- Numbers that are read digit by digit.
-use Rattle.std.proofs.Common.{◌≡◌, ◌<◌, ◌≤◌, ◌^◌, ℕ, suc, ◌+◌, ◌*◌, pow-suc, arith}
+-- The words of the command that runs a relay.
+use Rattle.std.proofs.Common.{◌≡◌, ◌<◌, ◌≤◌, ◌^◌, ℕ, suc, ◌+◌, ◌*◌, Bool, true, false, List, [], ◌∷◌, ◌++◌, option_to_list, is_some, refl, ap, subst, ◌∙◌, pow-suc, arith}
+use Rattle.std.specs.Prelude.{Option, None, Some, option_map}
+use Rattle.std.proofs.lemmas.List.{append-nil}
+use Rattle.syc.specs.Words.{AreRunArgs, RunOptions, is_plain}
 
 pub one_digit_more : (n d i : ℕ) → n < 10 ^ i → d ≤ 9 → n * 10 + d < 10 ^ (i + 1)
 one_digit_more n d i less digit =
     let next : i + 1 ≡ suc i = omega arith in
     rw next (omega (arith, less, digit, pow-suc 10 i))
+
+-- where there is none, none is seen
+pub none_seen : {A B : Type 0} (f : A → B) (o : Option A) → is_some o ≡ false → option_map f o ≡ None
+none_seen f None none = refl
+none_seen f (Some x) none = cc
+
+-- one name in front of one, or of none
+pub name_more : (word : List ℕ) (words : List (List ℕ)) (first second : Option (List ℕ)) (options : RunOptions) → second ≡ None → is_plain word ≡ true
+    → AreRunArgs words (option_to_list first ++ option_to_list second) options → AreRunArgs (word ∷ words) (word ∷ option_to_list first) options
+name_more word words first second options none plain are =
+    AreRunArgs.name word plain
+    (subst (λ names. AreRunArgs words names options) (ap (λ other. option_to_list first ++ option_to_list other) none ∙ append-nil (option_to_list first)) are)

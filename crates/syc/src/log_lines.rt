@@ -1,10 +1,10 @@
 //! The lines of a relay's log.
 
 use crate::log::{MARK, PeerEnd};
+use crate::notices::Line;
 use crate::reason::Reason;
 use crate::subject::{Kind, Subject};
 use crate::texts::{Part, put_parts};
-use crate::notices::Line;
 use std::alloc::{AllocError, Global};
 
 fn put(text: &mut Vec<u8>, words: &'static str) -> Result<(), AllocError> {

@@ -3,9 +3,9 @@
 use crate::at_port::end_words;
 use crate::log::Log;
 use crate::log_lines::{peer_line, subject_line};
+use crate::notices::{Line, Told};
 use crate::serving::Serving;
 use crate::subject::Subject;
-use crate::notices::{Line, Told};
 use std::alloc::{AllocError, Global};
 use std::sync::{Arc, Wait};
 use std::thread;
