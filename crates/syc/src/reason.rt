@@ -28,7 +28,10 @@ impl Reason {
     /// Why a call of the host failed.
     pub fn of(error: &Error) -> Reason {
         if let Some(code) = error.raw_os_error() {
-            return Reason::Os(code as u32);
+            return match u32::try_from(code) {
+                Ok(code) => Reason::Os(code),
+                Err(_) => Reason::Write,
+            };
         }
         match error.kind() {
             ErrorKind::TimedOut => Reason::TimedOut,
