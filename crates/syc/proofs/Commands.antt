@@ -224,6 +224,30 @@ module _ (bytes_of : List ℕ → Option (List ℕ)) (status : ℕ) (after : Lis
       let both = others_same (sym h.words_are ∙ are.words_are) in
       shows text (ap bytes_of both.0 ∙ known) zero
 
+  -- and that of a check
+  pub for_checked : (command : SiteCommand) → IsSiteCommandOf after command → ShowsKept bytes_of command status
+      → (site text : List ℕ) → AreAskingOf asked.Check after site → bytes_of site ≡ Some text → status ≡ 0 → DescribesKept bytes_of text
+  for_checked (of_site.Ask asked.Check name) h shows site text are known zero =
+      let both = one_question asked.Check asked.Check _ _ (sym h.words_are ∙ are.words_are) in
+      shows text (ap bytes_of both.1 ∙ known) zero
+  for_checked (of_site.Ask asked.Explain name) h shows site text are known zero = absurd (two_three (sym are.words_are ∙ h.words_are))
+  for_checked (of_site.Ask asked.All name) h shows site text are known zero = absurd (two_three (sym are.words_are ∙ h.words_are))
+  for_checked (of_site.Ask asked.Certify name) h shows site text are known zero =
+      absurd (check_or_certify (first_same (sym are.words_are ∙ h.words_are)))
+  for_checked (of_site.Replay name events) h shows site text are known zero =
+      absurd (replay_no_question asked.Check _ _ _ (sym are.words_are ∙ h.words_are))
+  for_checked (of_site.Verify name certificate) h shows site text are known zero =
+      absurd (verify_no_question asked.Check _ _ _ (sym are.words_are ∙ h.words_are))
+
+-- A check shows it, and another question nothing.
+pub shows_checked : (bytes_of : List ℕ → Option (List ℕ)) (question : Asked) (name : _) (status : ℕ)
+    → ((text : List ℕ) → bytes_of name.now ≡ Some text → question ≡ asked.Check → status ≡ 0 → DescribesKept bytes_of text)
+    → ShowsKept bytes_of (of_site.Ask question name) status
+shows_checked bytes_of asked.Check name status shows = λ text known zero. shows text known refl zero
+shows_checked bytes_of asked.Explain name status shows = tt
+shows_checked bytes_of asked.All name status shows = tt
+shows_checked bytes_of asked.Certify name status shows = tt
+
 -- So is what status 4 comes by.
 module _ (bytes_of : List ℕ → Option (List ℕ)) (MayFail PiecesFail : List ℕ → Type 0) (status : ℕ) (old new : Streams) (after : List (List ℕ)) where
   pub asked_fails : (command : SiteCommand) → IsSiteCommandOf after command → Fails bytes_of MayFail PiecesFail command status old new

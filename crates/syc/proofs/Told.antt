@@ -1,16 +1,17 @@
 -- Where the bytes of all its files are known, a site file describes one site; and what an accepted certificate shows of it.
 use Rattle.std.proofs.Common.{◌≡◌, ℕ, Bool, List, [], ◌∷◌, inl, inr, map, refl, sym, subst, ap, ◌∙◌, arith}
-use Rattle.std.specs.Prelude.{IfErr, IfOk, IfSome, Option, Some, Result, Ok, Err, true, false, ◌≢◌}
+use Rattle.std.specs.Prelude.{IfErr, IfOk, IfSome, Option, Some, Result, Ok, Err, true, false, ◌≢◌, ◌⊎◌}
 use Rattle.sy_cert.specs.declared.row.Row.{Row}
 use Rattle.sy_site.specs.Sites.{Site}
 use Rattle.sy_site.specs.texts.Describes.{Describes, File}
 use Rattle.sy_site.specs.texts.Files.{file_names}
-use Rattle.syc.specs.Checks.{KeepsAll}
+use Rattle.syc.specs.Checks.{AskedIs, KeepsAll, SaysChecked}
 use Rattle.syc.specs.Outcomes.{Prints}
 use Rattle.syc.specs.Reports.{Streams}
 use Rattle.syc.specs.SiteFiles.{AreGiven, AreTold, IsSiteOf}
 use Rattle.syc.specs.Verdicts.{DescribesKept, SaysOf}
 use Rattle.syc.specs.declared.answer.Answer.{Answer}
+use Rattle.syc.specs.declared.command.Asked.TheVariants as asked
 use Rattle.syc.specs.declared.halt.Halt.{Halt}
 
 -- ---- one site
@@ -89,3 +90,24 @@ pub kept_by_zero : (bytes_of : List ℕ → Option (List ℕ)) (name text : List
 kept_by_zero bytes_of name text (Ok a) status old new kept printed failed known zero =
     kept text known (zero_is_accepted a.text.items a.is_accepted status old new printed zero)
 kept_by_zero bytes_of name text (Err why) status old new kept printed failed known zero = absurd (failed zero)
+
+checked_count : (site : Site) (printed : List ℕ) (is_accepted : Bool) → SaysChecked site printed is_accepted → is_accepted ≡ true
+    → (count : ℕ) × KeepsAll site count
+checked_count site printed is_accepted (inl says) accepts = (says.count, says.keeps)
+checked_count site printed is_accepted (inr says) accepts = absurd (true_or_false accepts says.refused)
+
+no_zero : (status : ℕ) → status ≡ 0 → (status ≡ 2) ⊎ (status ≡ 3) ⊎ (status ≡ 4) → ⊥
+no_zero status zero (inl is) = omega (arith, zero, is)
+no_zero status zero (inr (inl is)) = omega (arith, zero, is)
+no_zero status zero (inr (inr is)) = omega (arith, zero, is)
+
+-- So does a check.
+pub checked_by_zero : ((text : List ℕ) (files : List File) (a b : Site) → Describes text files a → Describes text files b → a ≡ b)
+    → (bytes_of : List ℕ → Option (List ℕ)) (text : List ℕ) (status : ℕ) (old new : Streams) → AskedIs asked.Check bytes_of text status old new
+    → status ≡ 0 → DescribesKept bytes_of text
+checked_by_zero one bytes_of text status old new (inl (site, is, printed, is_accepted, says, prints)) zero =
+    let kept = checked_count site printed is_accepted says (zero_is_accepted printed is_accepted status old new prints zero) in
+    record { site = site; is_site = is; count = kept.0; keeps = kept.1; alone = one_of_files bytes_of one text site is }
+checked_by_zero one bytes_of text status old new (inr (inl none, same)) zero = absurd (no_zero status zero (inl none.0))
+checked_by_zero one bytes_of text status old new (inr (inr (inl none), same)) zero = absurd (no_zero status zero (inr (inl none.0)))
+checked_by_zero one bytes_of text status old new (inr (inr (inr none), same)) zero = absurd (no_zero status zero (inr (inr none.0)))

@@ -7,6 +7,8 @@ ghost use Rattle.sy_site.specs.texts.Files.{file_names};
 ghost use Rattle.syc.specs.Checks as spec;
 ghost use Rattle.syc.specs.Outcomes.{FailsBy};
 ghost use Rattle.syc.specs.SiteFiles.{IsSiteOf};
+ghost use Rattle.syc.specs.Verdicts.{DescribesKept};
+ghost use Rattle.syc.specs.declared.command.Asked.TheVariants as any_asked;
 ghost use Rattle.syc.specs.internal.Halts.{IsNoSite, IsUnread};
 
 use crate::all::say_all;
@@ -20,6 +22,7 @@ use crate::outputs::Outputs;
 use crate::site::read_site;
 use std::alloc::Global;
 use sy_site::Site;
+use sy_site::laws::one_site;
 use sy_wire::Sink;
 
 // What is said of a site; its files are read once more where that explains what is found.
@@ -67,11 +70,14 @@ pub fn ask<F: Files, W: Sink, E: Sink>(
 ) -> u8
     ensures answered { (text : List ℕ) → F.bytes_of files.now site.now ≡ Some text →
         spec.AskedIs asked (F.bytes_of files.now) text result out.old out.new }
+    ensures check_safe { (text : List ℕ) → F.bytes_of files.now site.now ≡ Some text → asked ≡ any_asked.Check →
+        result ≡ 0 → DescribesKept (F.bytes_of files.now) text }
     ensures fails { (text : List ℕ) → F.bytes_of files.now site.now ≡ Some text →
         FailsBy (Any (F.may_fail files.now) (site.now ∷ file_names text)) result out.old out.new }
     ensures status { result ≤ 4 }
     ensures none_failed { result ≢ 4 → out.new.output.faults ≡ out.old.output.faults }
     ensures quiet { result ≡ 0 → Keeps out.old.errors.contents out.new.errors.contents }
 {
+    one_site();
     print(answer_of(alloc, files, site, asked), out)
 }

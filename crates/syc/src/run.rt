@@ -10,6 +10,7 @@ ghost use Rattle.syc.specs.Replays.{PiecesMayFail, ReplayIs};
 ghost use Rattle.syc.specs.Verdicts.{DescribesKept, VerifyIs};
 ghost use Rattle.syc.specs.Words.{AreAskingOf, AreNoCommandOf, ArePassAlone, AreReplayOf, AreVerifyOf};
 ghost use Rattle.syc.specs.declared.command.Asked.{Asked as AnyAsked};
+ghost use Rattle.syc.specs.declared.command.Asked.TheVariants as asked;
 ghost use Rattle.syc.specs.internal.Commands.{Answers, Fails, ShowsKept};
 
 use crate::ask::ask;
@@ -100,6 +101,8 @@ pub fn run<R: Source, W: Sink, E: Sink, F: Files>(
     ensures verify { (site certificate site_text text : List ℕ) → AreVerifyOf (map string_bytes args.now) site certificate →
         F.bytes_of files.now site ≡ Some site_text → F.bytes_of files.now certificate ≡ Some text →
         VerifyIs (F.bytes_of files.now) site_text text result out.old out.new }
+    ensures check_safe { (site text : List ℕ) → AreAskingOf asked.Check (map string_bytes args.now) site →
+        F.bytes_of files.now site ≡ Some text → result ≡ 0 → DescribesKept (F.bytes_of files.now) text }
     ensures verify_safe { (site certificate text : List ℕ) → AreVerifyOf (map string_bytes args.now) site certificate →
         F.bytes_of files.now site ≡ Some text → result ≡ 0 → DescribesKept (F.bytes_of files.now) text }
     ensures replay_fails { (site events text input : List ℕ) → AreReplayOf (map string_bytes args.now) site events →

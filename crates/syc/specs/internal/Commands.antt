@@ -9,6 +9,7 @@ use Rattle.syc.specs.Replays.{ReplayIs}
 use Rattle.syc.specs.Verdicts.{DescribesKept, VerifyIs}
 use Rattle.syc.specs.Words.{AreAsking, AreAskingOf, ArePass, AreReplay, AreReplayOf, AreRunArgs, AreRunOf, AreVerify, AreVerifyOf, RunOptions}
 use Rattle.syc.specs.declared.command.Asked.{Asked}
+use Rattle.syc.specs.declared.command.Asked.TheVariants as asked
 use Rattle.syc.specs.declared.command.SiteCommand.{SiteCommand}
 use Rattle.syc.specs.declared.command.SiteCommand.TheVariants as of_site
 use Rattle.syc.specs.declared.run_words.Args.{Args}
@@ -42,9 +43,10 @@ Answers bytes_of (of_site.Verify site certificate) status old new =
     (site_text text : List ℕ) → bytes_of site.now ≡ Some site_text → bytes_of certificate.now ≡ Some text
     → VerifyIs bytes_of site_text text status old new
 
--- A verify that ends with 0 shows that the site is kept, whatever the certificate's bytes are. Of the other commands nothing is said here.
+-- A check that ends with 0 shows that the site is kept; so does a verify, whatever the certificate's bytes are. Of the other commands nothing is said here.
 abbrev pub ShowsKept : (List ℕ → Option (List ℕ)) → SiteCommand → ℕ → Type 0
 ShowsKept bytes_of (of_site.Verify site certificate) status = (text : List ℕ) → bytes_of site.now ≡ Some text → status ≡ 0 → DescribesKept bytes_of text
+ShowsKept bytes_of (of_site.Ask asked.Check site) status = (text : List ℕ) → bytes_of site.now ≡ Some text → status ≡ 0 → DescribesKept bytes_of text
 ShowsKept bytes_of _ status = Unit {0}
 
 -- Status 4 has its cause: a file that the command reads may fail, or the events, which are read piece by piece, or a write failed.

@@ -1,5 +1,6 @@
-use Rattle.syc.proofs.Commands.{asked_fails, for_asked, for_kept, for_replay, for_verify, none_of_site, none_without_name, pass_alone, pass_asks_nothing, pass_is_apart, pass_no_replay, pass_no_verify, replay_fails, verify_fails, without_name}
+use Rattle.syc.proofs.Commands.{asked_fails, for_asked, for_checked, for_kept, for_replay, for_verify, none_of_site, none_without_name, pass_alone, pass_asks_nothing, pass_is_apart, pass_no_replay, pass_no_verify, replay_fails, verify_fails, without_name}
 use Rattle.syc.proofs.Statuses.{nothing_passed}
+use Rattle.syc.specs.declared.command.Asked.TheVariants as asked
 use Rattle.syc.proofs.run.run.Goals as goal
 
 pub returns-in_default-clause-pass : goal.returns-in_default-clause-pass
@@ -153,3 +154,20 @@ pub returns-clause-leaves : goal.returns-clause-leaves
 returns-clause-leaves g c =
     let none = none_without_name _ _ _ _ c.as_slice.ensures.value c.in-Ok.ensures c.in-Err.ensures.err in
     λ pass. absurd (none.no_pass pass)
+
+-- ---- that a check ends with 0 only where the site is kept
+
+pub returns-in-Ok-Pass-clause-check_safe : goal.returns-in-Ok-Pass-clause-check_safe
+returns-in-Ok-Pass-clause-check_safe g c =
+    let alone = pass_alone _ _ _ _ c.as_slice.ensures.value c.in-Ok.ensures (rw c.in-Ok-Pass.field-0-is at c.in-Ok-Pass.ensures.ok) in
+    λ site text are known zero. absurd (pass_asks_nothing _ alone asked.Check site are)
+
+pub returns-in-Ok-OverSite-clause-check_safe : goal.returns-in-Ok-OverSite-clause-check_safe
+returns-in-Ok-OverSite-clause-check_safe g c =
+    let wanted = without_name _ _ _ _ c.as_slice.ensures.value c.in-Ok.ensures c.in-Ok-OverSite.command (rw c.in-Ok-OverSite.field-0-is at c.in-Ok-OverSite.ensures.ok) in
+    λ site text are known zero. for_checked _ _ _ c.in-Ok-OverSite.command wanted c.over_site.ensures.kept site text are known zero
+
+pub returns-clause-check_safe : goal.returns-clause-check_safe
+returns-clause-check_safe g c =
+    let none = none_without_name _ _ _ _ c.as_slice.ensures.value c.in-Ok.ensures c.in-Err.ensures.err in
+    λ site text are known zero. absurd (none.no_asking asked.Check site are)
