@@ -1,5 +1,5 @@
 -- The words of the command that runs a relay.
-use Rattle.std.proofs.Common.{◌≡◌, ◌<◌, ◌≤◌, ◌^◌, ℕ, suc, ◌+◌, ◌*◌, Bool, true, false, List, [], ◌∷◌, ◌++◌, option_to_list, is_some, refl, ap, subst, ◌∙◌, pow-suc, arith}
+use Rattle.std.proofs.Common.{◌≡◌, ◌<◌, ◌≤◌, ◌^◌, ℕ, suc, ◌+◌, ◌*◌, Bool, true, false, List, [], ◌∷◌, ◌++◌, option_to_list, is_some, length, refl, ap, subst, ◌∙◌, pow-suc, arith}
 use Rattle.std.specs.Prelude.{Option, None, Some, option_map}
 use Rattle.std.proofs.lemmas.List.{append-nil}
 use Rattle.syc.specs.Words.{AreRunArgs, RunOptions, is_plain}
@@ -20,3 +20,8 @@ pub name_more : (word : List ℕ) (words : List (List ℕ)) (first second : Opti
 name_more word words first second options none plain are =
     AreRunArgs.name word plain
     (subst (λ names. AreRunArgs words names options) (ap (λ other. option_to_list first ++ option_to_list other) none ∙ append-nil (option_to_list first)) are)
+
+-- no words
+pub none_there : {A : Type 0} (items : List A) → length items < 1 → items ≡ []
+none_there [] few = refl
+none_there (item ∷ others) few = absurd (omega (arith, few))
