@@ -239,14 +239,20 @@ module _ (bytes_of : List ℕ → Option (List ℕ)) (status : ℕ) (after : Lis
   for_checked (of_site.Verify name certificate) h shows site text are known zero =
       absurd (verify_no_question asked.Check _ _ _ (sym are.words_are ∙ h.words_are))
 
--- A check shows it, and another question nothing.
-pub shows_checked : (bytes_of : List ℕ → Option (List ℕ)) (question : Asked) (name : _) (status : ℕ)
-    → ((text : List ℕ) → bytes_of name.now ≡ Some text → question ≡ asked.Check → status ≡ 0 → DescribesKept bytes_of text)
-    → ShowsKept bytes_of (of_site.Ask question name) status
-shows_checked bytes_of asked.Check name status shows = λ text known zero. shows text known refl zero
-shows_checked bytes_of asked.Explain name status shows = tt
-shows_checked bytes_of asked.All name status shows = tt
-shows_checked bytes_of asked.Certify name status shows = tt
+-- what is known where the question is told by an equation
+abbrev pub ShowsIfChecked : (List ℕ → Option (List ℕ)) → SiteCommand → ℕ → Type 0
+ShowsIfChecked bytes_of (of_site.Ask question site) status =
+    (text : List ℕ) → bytes_of site.now ≡ Some text → question ≡ asked.Check → status ≡ 0 → DescribesKept bytes_of text
+ShowsIfChecked bytes_of command status = ShowsKept bytes_of command status
+
+pub shows_checked : (bytes_of : List ℕ → Option (List ℕ)) (command : SiteCommand) (status : ℕ)
+    → ShowsIfChecked bytes_of command status → ShowsKept bytes_of command status
+shows_checked bytes_of (of_site.Ask asked.Check site) status shows = λ text known zero. shows text known refl zero
+shows_checked bytes_of (of_site.Ask asked.Explain site) status shows = tt
+shows_checked bytes_of (of_site.Ask asked.All site) status shows = tt
+shows_checked bytes_of (of_site.Ask asked.Certify site) status shows = tt
+shows_checked bytes_of (of_site.Replay site events) status shows = shows
+shows_checked bytes_of (of_site.Verify site certificate) status shows = shows
 
 -- So is what status 4 comes by.
 module _ (bytes_of : List ℕ → Option (List ℕ)) (MayFail PiecesFail : List ℕ → Type 0) (status : ℕ) (old new : Streams) (after : List (List ℕ)) where
