@@ -170,15 +170,19 @@ def main(top, argv, usage):
         finally:
             running.discard(name)
 
-    passed = failed = unanswered = 0
+    passed = failed = unanswered = allowed = 0
     largest_first = sorted(wanted, key=lambda it: -len(edits_of(top, it, wanted[it])[0]))
     for name, tried, cost, seconds in side_by_side(largest_first, jobs, readiness(crates, log), work):
         for it in tried:
             is_unanswered = it.text.startswith(paths.UNANSWERED)
-            passed, failed, unanswered = passed + it.is_well, failed + (not it.is_well), unanswered + is_unanswered
+            # (the stored proof refuses it, as it did before the second look; in a run of the gate that look is told alone)
+            is_allowed = flags["-k"] and it.text.startswith(paths.ALLOWED)
+            is_well = it.is_well or is_allowed
+            passed, failed = passed + is_well, failed + (not is_well)
+            unanswered, allowed = unanswered + is_unanswered, allowed + is_allowed
             if not it.is_well or is_unanswered or names and not flags["-k"] or it.label.endswith("/control"):
                 print(f"edits: {it.label}: {it.text}", flush=True)
         print(f"edits: {name}: {len(tried)} tried, {cost}, {seconds:.0f} s", flush=True)
-    print(f"edits: {unanswered} of those that passed were {paths.UNANSWERED}")
+    print(f"edits: {unanswered} of those that passed were {paths.UNANSWERED}, and {allowed} {paths.ALLOWED} by a second look")
     print(f"edits: {passed} passed, {failed} failed")
     return 1 if failed else 0
