@@ -121,6 +121,7 @@ def left_while_the_receiver_is_down(room):
     relay, port, inner = edge(room, ["--left", "left"], dequeueBatchSize=8)
     sent = [message(it, "x" * (it * 37 % 400)) for it in range(300)]
     send_all(port, sent)
+    relay.rests(port)
     relay.stops_with(totals(300, 0, 300, ("up", 8, 0, 0, 8)))
     # (hands come first, then queues, then what workers have)
     left_by(room, "left", sent[8:] + sent[:8])
@@ -137,6 +138,7 @@ def left_takes_the_place_of_an_earlier_file(room):
     room.write("left", "an earlier one, which is longer than what comes")
     relay, port, inner = edge(room, ["--left", "left"])
     send_all(port, messages(1))
+    relay.rests(port)
     relay.stops_with(totals(1, 0, 1, ("up", 1, 0, 0, 1)))
     left_by(room, "left", messages(1))
 
@@ -241,7 +243,7 @@ def drain_with_a_receiver_that_is_down(room):
     send_all(port, messages(20))
     begun = time.monotonic()
     relay.process.stdin.close()
-    same("status", relay.ends(8), 0)
+    same("status", relay.ends(12), 0)
     took = time.monotonic() - begun
     if took < 2:
         raise Failure(f"it ended within {took:.3f} s, and not after two seconds")
