@@ -86,6 +86,8 @@ def status_amid_load(room):
     if found[0][0] == found[-1][0]:
         raise Failure(f"forty totals amid load tell the same: {found[0]}")
     sent = sum(it.sent for it in pumps)
+    room.has("audit.log", sent)
+    relay.rests(port)
     relay.stops_with(totals(sent, 0, 0, ("audit", sent, sent, 0, 0)))
 
 
@@ -121,7 +123,8 @@ def left_while_the_receiver_is_down(room):
     relay, port, inner = edge(room, ["--left", "left"], dequeueBatchSize=8)
     sent = [message(it, "x" * (it * 37 % 400)) for it in range(300)]
     send_all(port, sent)
-    relay.rests(port)
+    # (it has its batch then)
+    relay.says("syc: action up fails: connection refused")
     relay.stops_with(totals(300, 0, 300, ("up", 8, 0, 0, 8)))
     # (hands come first, then queues, then what workers have)
     left_by(room, "left", sent[8:] + sent[:8])
@@ -138,7 +141,7 @@ def left_takes_the_place_of_an_earlier_file(room):
     room.write("left", "an earlier one, which is longer than what comes")
     relay, port, inner = edge(room, ["--left", "left"])
     send_all(port, messages(1))
-    relay.rests(port)
+    relay.says("syc: action up fails: connection refused")
     relay.stops_with(totals(1, 0, 1, ("up", 1, 0, 0, 1)))
     left_by(room, "left", messages(1))
 
