@@ -121,14 +121,14 @@ def main_queue(**parameters):
 # ---- Relays
 
 class Relay:
-    """A relay that runs."""
+    """A relay that runs, by itself or under another program that becomes it."""
 
-    def __init__(self, room, name, words, stdin=subprocess.PIPE, stdout=None, limits=None):
+    def __init__(self, room, name, words, stdin=subprocess.PIPE, stdout=None, limits=None, under=()):
         self.room, self.name = room, name
         self.err_path, self.out_path = room.path(f"{name}.stderr"), room.path(f"{name}.stdout")
         with open(self.err_path, "wb") as err, open(self.out_path, "wb") as out:
-            self.process = subprocess.Popen([room.program, "run", *words], cwd=room.folder, stdin=stdin, preexec_fn=limits,
-                                            stdout=out if stdout is None else stdout, stderr=err)
+            self.process = subprocess.Popen([*under, room.program, "run", *words], cwd=room.folder, stdin=stdin,
+                                            preexec_fn=limits, stdout=out if stdout is None else stdout, stderr=err)
         self.pid = self.process.pid
 
     def listens(self, *ports):
