@@ -1,12 +1,14 @@
 """Archives that can't be written, or only in part, and what stands in them before."""
 
 import os
+import re
 import resource
 import signal
 import subprocess
 import threading
+import time
 
-from peers import message, messages, send_all
+from peers import Pump, Sender, message, messages, send_all
 from room import LeftOut, imtcp, is_listening, main_queue, module, omfile, same, test, totals, until
 
 
@@ -42,6 +44,21 @@ def archive_without_a_final_line_feed(room):
     send_all(port, messages(2))
     room.has("audit.log", 4)
     same("the archive", room.lines("audit.log"), [b"whole", b"torn", *messages(2)])
+    relay.stops_with(totals(2, 0, 0, ("audit", 2, 2, 0, 0)))
+
+
+@test
+def archive_torn_by_an_earlier_run(room):
+    port = room.port()
+    room.site({"hub": module() + imtcp(port) + omfile("audit", "audit.log", -1, 0)}, f"entry hub {port}", "protect auth.* hub audit")
+    relay = room.start("hub", port, words=["site", "hub"], limits=limited(1003))
+    send_all(port, messages(500))
+    until("the archive is full", lambda: room.size("audit.log") == 1003, came=lambda: room.size("audit.log"))
+    relay.kill()
+    relay = room.start("hub", port)
+    send_all(port, messages(2))
+    whole = b"".join(it + b"\n" for it in messages(500))[:1003].split(b"\n")
+    room.holds("audit.log", [*whole, *messages(2)])
     relay.stops_with(totals(2, 0, 0, ("audit", 2, 2, 0, 0)))
 
 
@@ -112,24 +129,94 @@ def archive_that_is_full_without_retries(room):
     same("other.log", room.lines("other.log"), wanted)
 
 
+class Pipe:
+    """An archive that is a FIFO. What comes is read, slowly where a pause is given, or not until `reads` is called."""
+
+    def __init__(self, room, reads=True, pause=0.0):
+        if not os.path.exists(room.path("audit.log")):
+            os.mkfifo(room.path("audit.log"))
+        # (its other end is kept too, so that it opens at once, and no end is read while nobody writes)
+        self.ends, self.came, self.pause = os.open(room.path("audit.log"), os.O_RDWR), bytearray(), pause
+        if reads:
+            self.reads()
+
+    def reads(self):
+        threading.Thread(target=self.run, daemon=True).start()
+
+    def run(self):
+        while data := os.read(self.ends, 1000):
+            self.came.extend(data)
+            time.sleep(self.pause)
+
+    def has(self, texts):
+        """Waits until lines of these messages came, and compares them."""
+        wanted = b"".join(it + b"\n" for it in texts)
+        until("all comes through the pipe", lambda: len(self.came) >= len(wanted), came=lambda: len(self.came))
+        same("what comes through the pipe", bytes(self.came), wanted)
+
+
 @test
 def archive_that_is_a_pipe(room):
-    os.mkfifo(room.path("audit.log"))
-    ends = os.open(room.path("audit.log"), os.O_RDWR)
-    came = bytearray()
-
-    def read():
-        while data := os.read(ends, 1000):
-            came.extend(data)
-
-    threading.Thread(target=read, daemon=True).start()
+    pipe = Pipe(room)
     relay, port = room.hub()
     texts = messages(20_000, text="a" * 100)
     send_all(port, texts)
-    wanted = b"".join(it + b"\n" for it in texts)
-    until("all comes through the pipe", lambda: len(came) >= len(wanted), came=lambda: len(came))
-    same("what comes through the pipe", bytes(came), wanted)
+    pipe.has(texts)
     relay.stops_with(totals(20_000, 0, 0, ("audit", 20_000, 20_000, 0, 0)))
+
+
+@test
+def archive_that_is_a_pipe_with_a_slow_reader(room):
+    pipe = Pipe(room, pause=0.002)
+    relay, port = room.hub(main_queue(size=1000, fullDelayMark=900))
+    # (the pipe takes 64 KiB at once, and the queue half of what is sent: the sender waits for the reader)
+    texts = messages(2000, text="a" * 500)
+    send_all(port, texts)
+    pipe.has(texts)
+    relay.stops_with(totals(2000, 0, 0, ("audit", 2000, 2000, 0, 0)))
+
+
+@test
+def archive_that_is_a_pipe_whose_reader_comes_back(room):
+    os.mkfifo(room.path("audit.log"))
+    first = os.open(room.path("audit.log"), os.O_RDONLY | os.O_NONBLOCK)
+    port = room.port()
+    room.site({"hub": module() + imtcp(port) + omfile("audit", "audit.log", -1, 0)}, f"entry hub {port}", "protect auth.* hub audit")
+    relay = room.start("hub", port)
+    send_all(port, messages(5))
+    came = bytearray()
+    wanted = b"".join(it + b"\n" for it in messages(5))
+    os.set_blocking(first, True)
+    while len(came) < len(wanted):
+        came.extend(os.read(first, 1000))
+    same("what the first reader has", bytes(came), wanted)
+    os.close(first)
+    # (nobody reads it: a write fails, and is tried again)
+    send_all(port, messages(5, 5))
+    relay.says("syc: action audit fails: broken pipe")
+    Pipe(room).has(messages(5, 5))
+    relay.stops_with(totals(10, 0, 0, ("audit", 10, 10, 0, 0)))
+
+
+@test
+def archive_is_a_pipe_that_nobody_reads_at_a_stop(room):
+    pipe = Pipe(room, reads=False)
+    relay, port = room.hub(main_queue(size=1000, fullDelayMark=900))
+    texts = messages(1000, text="a" * 500)
+    sender = Sender(port).send(*texts)
+    relay.rests()
+    relay.process.stdin.close()
+    # (the write that waits for room in the pipe holds the stop: nothing is taken any more, and no total is printed)
+    sender.is_ended()
+    until("the port is free", lambda: not is_listening(port))
+    relay.rests()
+    same("what it has printed, and its status", (relay.output(), relay.process.poll()), ("", None))
+    pipe.reads()
+    same("status", relay.ends(), 0)
+    found = re.fullmatch(r"taken (\d+) lost 0 held (\d+)\naudit due \d+ done (\d+) given-up 0 left \d+\n", relay.output())
+    same("totals", bool(found) and int(found[1]) == int(found[2]) + int(found[3]), True)
+    # (the line that was under way comes whole)
+    pipe.has(texts[:int(found[3])])
 
 
 @test
@@ -213,6 +300,51 @@ def archives_opened_anew(room):
     room.holds("audit.log", messages(2, 3))
     same("the old archive", room.lines("audit.old"), messages(3))
     relay.stops_with(totals(5, 0, 0, ("audit", 5, 5, 0, 0)))
+
+
+@test
+def archives_opened_anew_under_load(room):
+    relay, port = room.hub()
+    pump, names = Pump(port, 0, "a" * 50), []
+    for turn in range(5):
+        room.has("audit.log", 500)
+        names.append(f"audit.{turn}")
+        os.rename(room.path("audit.log"), room.path(names[-1]))
+        relay.process.stdin.write(b"reopen\n")
+        relay.process.stdin.flush()
+    pump.finish()
+    until("all is written", lambda: sum(map(room.count, [*names, "audit.log"])) >= pump.sent)
+    relay.stops_with(totals(pump.sent, 0, 0, ("audit", pump.sent, pump.sent, 0, 0)))
+    # (no line is torn between two files, and none stands in both)
+    lines = [line for name in [*names, "audit.log"] for line in room.lines(name)]
+    same("the lines of all files", lines == messages(pump.sent, text="a" * 50), True)
+
+
+@test
+def archive_opened_anew_while_a_line_is_torn(room):
+    port = room.port()
+    room.site({"hub": module() + imtcp(port) + omfile("audit", "audit.log", -1, 0)}, f"entry hub {port}", "protect auth.* hub audit")
+    room.write("audit.log", b"x" * 9999 + b"\n")
+    relay = room.start("hub", port, words=["site", "hub"], limits=limited(10_010))
+    send_all(port, messages(3))
+    until("the archive is full", lambda: room.size("audit.log") == 10_010, came=lambda: room.size("audit.log"))
+    os.rename(room.path("audit.log"), room.path("audit.old"))
+    relay.process.stdin.write(b"reopen\n")
+    relay.process.stdin.flush()
+    # (the new file has the line whole, and the old one keeps what it had)
+    room.holds("audit.log", messages(3))
+    same("the old file", room.read("audit.old")[10_000:], message(0)[:10])
+    relay.stops_with(totals(3, 0, 0, ("audit", 3, 3, 0, 0)))
+
+
+@test
+def archive_has_the_mode_of_the_umask(room):
+    port = room.port()
+    room.site({"hub": module() + imtcp(port) + omfile("audit", "audit.log")}, f"entry hub {port}", "protect auth.* hub audit")
+    for mask, mode in (0o027, 0o640), (0o022, 0o644):
+        room.start("hub", port, words=["site", "hub"], limits=lambda: os.umask(mask)).stops_with(totals(0, 0, 0, ("audit", 0, 0, 0, 0)))
+        same(f"mode by the umask {mask:o}", os.stat(room.path("audit.log")).st_mode & 0o777, mode)
+        os.unlink(room.path("audit.log"))
 
 
 @test

@@ -2,9 +2,11 @@
 
 import os
 import re
+import signal
+import socket
 import time
 
-from peers import Receiver, Sender, messages, send_all
+from peers import Pump, Receiver, Sender, messages, send_all
 from room import Failure, imtcp, main_queue, module, omfile, omfwd, same, test, totals, until
 
 
@@ -15,6 +17,43 @@ def edge(room, retries, interval=0, after=True, more=""):
                + omfwd("up", "hub", inner, retries, interval, more) + (omfile("after", "after.log") if after else ""),
                "hub": module() + imtcp(inner) + omfile("audit", "audit.log")})
     return room.start_unchecked("edge", entry), entry, inner
+
+
+def numbers(texts):
+    """The places of messages in their connection."""
+    return [int(it.split(b" ")[8][1:]) for it in texts]
+
+
+def full(room, retries=-1, **more):
+    """A relay whose link is full, since the receiver reads nothing; answers it, its port, the receiver and what sends."""
+    relay, port, inner = edge(room, retries, after=False)
+    receiver = Receiver(inner, reads=False, small=True, **more)
+    pump = Pump(port, 0, "a" * 1000)
+    receiver.is_connected()
+    pump.is_held()
+    return relay, port, receiver, pump
+
+
+def wakes(relay, times):
+    """Waits until its worker has waked so often, as it does each second in which a write takes nothing."""
+    def turns():
+        return sum(int(it[3]) for it in relay.threads().values())
+    before = turns()
+    until(f"{relay.name} has waked {times} times", lambda: turns() >= before + times)
+
+
+def all_received(relay, port, receiver, pump, links):
+    """What was sent comes, over so many links where that is told, each message once, whole and in order; the last link
+    ends in no torn frame."""
+    receiver.begins_to_read()
+    pump.finish()
+    until("all is received", lambda: len(receiver.messages()) >= pump.sent, came=lambda: len(receiver.messages()))
+    relay.stops_with(totals(pump.sent, 0, 0, ("up", pump.sent, pump.sent, 0, 0)))
+    found = receiver.ended()
+    if links:
+        same("links", len(found), links)
+    same("messages", numbers(it for texts, _ in found for it in texts) == list(range(pump.sent)), True)
+    same("what the last link ends in", found[-1][1], b"")
 
 
 @test
@@ -151,14 +190,17 @@ def receiver_killed_under_load(room):
     sender.send(*last).end()
     until("the last message is received", lambda: receivers[-1].messages()[-1:] == last)
     relay.stops_with(totals(count + 1, 0, 0, ("up", count + 1, count + 1, 0, 0)))
-    # (a link that breaks loses what stood in it; nothing comes in another order over one link)
-    for numbers in ([int(it.split(b" ")[8][1:]) for it in receiver.messages()] for receiver in receivers):
-        if numbers != list(range(numbers[0], numbers[0] + len(numbers))):
-            raise Failure(f"a receiver got other messages than those behind each other: {numbers[:20]}..")
+    # (a link that breaks loses what stood in it; over one link nothing is lost, and none comes twice over two)
+    came = [numbers(receiver.messages()) for receiver in receivers]
+    for it in came:
+        if it != list(range(it[0], it[0] + len(it))):
+            raise Failure(f"a receiver got other messages than those behind each other: {it[:20]}..")
+    ranges = [(it[0], it[-1]) for it in came]
+    same("messages over the links", [*ranges], sorted(ranges))
+    same("messages that came over two links", [it for it in zip(ranges, ranges[1:]) if it[0][1] >= it[1][0]], [])
 
 
-@test
-def link_cut_while_idle_twenty_times(room):
+def cut_while_idle_twenty_times(room, end):
     relay, port, inner = edge(room, -1, after=False)
     sender, before = Sender(port), None
     for turn in range(20):
@@ -166,10 +208,20 @@ def link_cut_while_idle_twenty_times(room):
         sender.send(*messages(5, turn * 5))
         receiver.has(messages(5, turn * 5))
         before = before or len(os.listdir(f"/proc/{relay.pid}/fd"))
-        (receiver.close if turn % 2 else receiver.kill)()
+        end(receiver)
     same("descriptors after 20 links", len(os.listdir(f"/proc/{relay.pid}/fd")), before)
     sender.end()
     relay.stops_with(totals(100, 0, 0, ("up", 100, 100, 0, 0)))
+
+
+@test
+def link_closed_while_idle_twenty_times(room):
+    cut_while_idle_twenty_times(room, Receiver.close)
+
+
+@test
+def link_reset_while_idle_twenty_times(room):
+    cut_while_idle_twenty_times(room, Receiver.kill)
 
 
 @test
@@ -210,3 +262,61 @@ def receiver_that_talks_back(room):
         receiver.connections[0][0].sendall(b"220 welcome\r\n" * 10_000)
     sender.end()
     relay.stops_with(totals(50, 0, 0, ("up", 50, 50, 0, 0)))
+
+
+@test
+def receiver_that_ends_its_side_while_the_link_is_full(room):
+    relay, port, receiver, pump = full(room)
+    for links in 2, 3:
+        receiver.connections[-1][0].shutdown(socket.SHUT_WR)
+        # (it looks each second, and what it has written is still read from the link before)
+        receiver.is_connected(links)
+        relay.rests()
+    all_received(relay, port, receiver, pump, 3)
+
+
+@test
+def receiver_that_reads_nothing_for_a_while(room):
+    relay, port, receiver, pump = full(room)
+    wakes(relay, 3)
+    # (a write that waits goes on over the same link)
+    all_received(relay, port, receiver, pump, 1)
+
+
+@test
+def receiver_that_talks_back_and_reads_nothing_for_a_while(room):
+    relay, port, receiver, pump = full(room)
+    for _ in range(3):
+        receiver.connections[0][0].sendall(b"220 welcome\r\n" * 1000)
+        wakes(relay, 1)
+    all_received(relay, port, receiver, pump, 1)
+
+
+@test
+def relay_halted_by_signals_while_the_link_is_full(room):
+    relay, port, receiver, pump = full(room)
+    for _ in range(5):
+        os.kill(relay.pid, signal.SIGSTOP)
+        until("it is halted", lambda: {it[0] for it in relay.threads().values()} == {"T"})
+        os.kill(relay.pid, signal.SIGCONT)
+        relay.rests()
+    # (each may interrupt a write that waits, which is a failure like any other: the next link begins with its frame)
+    all_received(relay, port, receiver, pump, None)
+
+
+@test
+def receiver_that_takes_no_connection_for_a_while(room):
+    relay, port, inner = edge(room, -1, after=False)
+    # A listener whose places are all taken: a further connection is neither made nor refused.
+    silent, waiting = socket.create_server(("127.0.0.1", inner), backlog=0), []
+    for _ in range(4):
+        waiting.append(socket.socket())
+        waiting[-1].setblocking(False)
+        waiting[-1].connect_ex(("127.0.0.1", inner))
+    send_all(port, messages(10))
+    relay.says("syc: action up fails: timed out")
+    for it in waiting + [silent]:
+        it.close()
+    receiver = Receiver(inner)
+    receiver.has(messages(10))
+    relay.stops_with(totals(10, 0, 0, ("up", 10, 10, 0, 0)))

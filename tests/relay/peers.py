@@ -135,13 +135,14 @@ class Pump:
 
 def split(data):
     """The messages of whole frames, and what is left behind them."""
-    found = []
+    found, at = [], 0
     while True:
-        head, space, rest = data.partition(b" ")
-        if not space or not head.isdigit() or len(rest) < int(head):
-            return found, data
-        found.append(rest[:int(head)])
-        data = rest[int(head):]
+        space = data.find(b" ", at)
+        head = data[at:max(space, at)]
+        if not head.isdigit() or len(data) - space - 1 < int(head):
+            return found, data[at:]
+        at = space + 1 + int(head)
+        found.append(data[space + 1:at])
 
 
 class Receiver:
@@ -183,6 +184,16 @@ class Receiver:
                 into += data
         except OSError:
             pass
+
+    def begins_to_read(self):
+        """Reads all that comes over the connections that there are, and over others, from now on."""
+        self.reads = True
+        for _, thread in list(self.connections):
+            thread.start()
+
+    def ended(self):
+        """The messages of each connection, of all of which the whole is wanted, and what is left behind each."""
+        return [split(bytes(it)) for it in self.came]
 
     def drips(self):
         """Reads from now on 16 KiB of each connection, ten times a second at most."""
