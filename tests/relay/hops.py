@@ -78,14 +78,15 @@ def logger_as_a_sender(room):
     if shutil.which("logger") is None:
         raise LeftOut("there is no logger (package bsdutils)")
     relay, port = room.hub()
-    room.write("texts", "".join(f"text {it}\n" for it in range(200)))
+    texts = ["a single text with äöü"] + [f"text {it} {'a' * (it % 300)}" for it in range(4999)]
+    room.write("texts", "".join(f"{it}\n" for it in texts[1:]))
     command = ["logger", "--rfc5424", "--tcp", "--octet-count", "-n", "127.0.0.1", "-P", str(port), "-p", "auth.crit", "-t", "tests"]
-    subprocess.run([*command, "a single text with äöü"], check=True, timeout=20)
-    subprocess.run([*command, "-f", room.path("texts")], check=True, timeout=20)
-    room.has("audit.log", 201)
-    relay.stops_with(totals(201, 0, 0, ("audit", 201, 201, 0, 0)))
+    subprocess.run([*command, texts[0]], check=True, timeout=40)
+    subprocess.run([*command, "-f", room.path("texts")], check=True, timeout=40)
+    room.has("audit.log", 5000)
+    relay.stops_with(totals(5000, 0, 0, ("audit", 5000, 5000, 0, 0)))
     lines = [it.decode() for it in room.lines("audit.log")]
-    texts = ["a single text with äöü"] + [f"text {it}" for it in range(200)]
+    same("lines", len(lines), 5000)
     for line, text in zip(lines, texts):
         if not (line.startswith("<34>1 2") and " tests - - [timeQuality " in line and line.endswith(f"] {text}")):
             raise Failure(f"wanted a line of auth.crit, tests and {text!r}, came {line!r}")

@@ -6,10 +6,11 @@ import resource
 import threading
 import time
 
-from peers import Sender, frame, frames, message, messages, send_all
+from peers import Pump, Receiver, Sender, frame, frames, message, messages, send_all
 from room import TURN, Failure, imtcp, is_read, main_queue, module, omfile, omfwd, same, test, totals, until
+from stops import forwarding
 
-MANY = 1000
+MANY = 1500
 
 
 def left(relay):
@@ -51,6 +52,22 @@ def many_short_connections(room):
         raise Failure(f"{MANY} more connections left {grown} KiB more resident, after {memory}")
     same("archive", sorted(room.lines("audit.log")), sorted([message("first"), *messages(2 * MANY)]))
     relay.stops_with(totals(count, 0, 0, ("audit", count, count, 0, 0)))
+
+
+@test
+def half_frames_leave_nothing(room):
+    relay, port = room.hub()
+    before = left_at_first(room, relay, port)
+    for _ in range(3):
+        senders = [Sender(port).send_bytes(b"65536 <34>1 - - - - - - " + b"a" * (500 * it)) for it in range(64)]
+        relay.rests(port)
+        same("connections that wait", left(relay)[1] - before[1], 64)
+        for it in senders:
+            it.end()
+        settles(relay, before)
+    send_all(port, messages(1))
+    room.holds("audit.log", [message("first"), message(0)])
+    relay.stops_with(totals(2, 0, 0, ("audit", 2, 2, 0, 0)), [f"syc: 13 Truncated at {port}"] * 192)
 
 
 @test
@@ -231,3 +248,58 @@ def idle_relay_does_nothing(room):
     for it in senders:
         it.end()
     relay.stops_with(totals(10, 0, 0, ("audit", 10, 10, 0, 0)))
+
+
+def took(relay):
+    """Nanoseconds of processor time that its threads have had."""
+    found = 0
+    for thread in os.listdir(f"/proc/{relay.pid}/task"):
+        with open(f"/proc/{relay.pid}/task/{thread}/schedstat") as it:
+            found += int(it.read().split()[0])
+    return found
+
+
+def takes_next_to_nothing(relay, *ports):
+    """Compares its processor time with the time that passes, in which it has nothing to do but to wait: 1 ms a second at most."""
+    relay.rests(*ports)
+    begun, before = time.monotonic(), took(relay)
+    # (long enough for what is done once a second)
+    until("three seconds have passed", lambda: time.monotonic() > begun + 3)
+    used, passed = took(relay) - before, time.monotonic() - begun
+    if used > passed * 1e6:
+        raise Failure(f"it took {used / 1e6:.2f} ms of processor time in {passed:.1f} s")
+
+
+@test
+def idle_relay_takes_next_to_no_processor(room):
+    relay, port = room.hub()
+    senders = [Sender(port).send(message(it)) for it in range(64)]
+    room.has("audit.log", 64)
+    takes_next_to_nothing(relay, port)
+    for it in senders:
+        it.end()
+    relay.stops_with(totals(64, 0, 0, ("audit", 64, 64, 0, 0)))
+
+
+@test
+def relay_whose_receiver_is_down_takes_next_to_no_processor(room):
+    relay, port, _ = forwarding(room, 30, size=100, fullDelayMark=4, dequeueBatchSize=1)
+    senders = [Sender(port).send(*messages(50, connection=it)) for it in range(20)]
+    takes_next_to_nothing(relay)
+    # (one in the worker, four in the queue, one in each hand)
+    relay.stops_with(totals(25, 0, 25, ("up", 1, 0, 0, 1)))
+    for it in senders:
+        it.is_ended()
+
+
+@test
+def relay_whose_link_is_full_takes_next_to_no_processor(room):
+    relay, port, inner = forwarding(room, 30, size=1000, fullDelayMark=900)
+    receiver = Receiver(inner, reads=False, small=True)
+    pump = Pump(port, 0, "a" * 1000)
+    receiver.is_connected()
+    pump.is_held()
+    takes_next_to_nothing(relay)
+    relay.stop()
+    pump.end()
+    receiver.close()

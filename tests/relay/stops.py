@@ -109,6 +109,32 @@ def with_a_sender_that_goes_on_after_it(room):
 
 
 @test
+def what_senders_send_at_once_after_it_is_taken(room):
+    relay, port = room.hub()
+    for turn in range(10):
+        if turn:
+            room.write("audit.log", "")
+            relay = room.start("hub", port)
+        senders = [Sender(port).send(message(0, connection=it)) for it in range(8)]
+        room.has("audit.log", 8)
+        relay.process.stdin.close()
+        # (it has ended its side of the connections, and reads on for two seconds)
+        for connection, sender in enumerate(senders):
+            sender.is_ended()
+            try:
+                sender.send(message(1, connection=connection)).half_close()
+            except OSError:
+                pass
+        same("status", relay.ends(), 0)
+        taken, lost, held, done, _ = balanced("totals", relay.output())
+        same("lost and held, and lines of the archive", (lost, held, len(room.lines("audit.log"))), (0, 0, done))
+        # (on a machine that does much else two seconds may pass before this sends)
+        if taken == 16:
+            return
+    raise Failure(f"{taken} messages were taken, and none of those that were sent once the relay had ended its side")
+
+
+@test
 def amid_short_connections(room):
     relay, port = room.hub()
     is_over = threading.Event()
