@@ -126,9 +126,9 @@ def what_senders_send_at_once_after_it_is_taken(room):
             except OSError:
                 pass
         same("status", relay.ends(), 0)
-        taken, lost, held, done, _ = balanced("totals", relay.output())
-        same("lost and held, and lines of the archive", (lost, held, len(room.lines("audit.log"))), (0, 0, done))
-        # (on a machine that does much else two seconds may pass before this sends)
+        taken, lost, _, done, _ = balanced("totals", relay.output())
+        same("lost, and lines of the archive", (lost, len(room.lines("audit.log"))), (0, done))
+        # (on a machine that does much else two seconds may pass before this has sent)
         if taken == 16:
             return
     raise Failure(f"{taken} messages were taken, and none of those that were sent once the relay had ended its side")
