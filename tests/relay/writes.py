@@ -8,11 +8,11 @@ import resource
 import shutil
 import signal
 import subprocess
+import time
 
 from archives import lift
 from control import asked
-from devices import edge
-from peers import Pump, Receiver, Sender, message, messages, send_all, split
+from peers import Receiver, Sender, message, messages, send_all, split
 from room import Failure, LeftOut, imtcp, main_queue, module, omfile, omfwd, same, test, totals, until
 from statuses import hub_files
 
@@ -113,6 +113,22 @@ def archive_that_fails_each_third_time_under_load(room):
         room.holds("audit.log", messages(MANY))
         relay.stops_with(totals(MANY, 0, 0, ("audit", MANY, MANY, 0, 0)))
         same("some writes failed", answered(room) > 0, True)
+
+
+@test
+def archive_that_fails_and_works_many_times(room):
+    needs_strace(room)
+    begun = time.monotonic()
+    relay, port = archive(room, -1, "EIO", "1+2")
+    texts = messages(100)
+    send_all(port, texts)
+    room.holds("after.log", texts)
+    relay.stops_with(totals(100, 0, 0, ("audit", 100, 100, 0, 0), ("after", 100, 100, 0, 0)))
+    same("writes that failed", answered(room), 100)
+    took, lines = time.monotonic() - begun, relay.errors().splitlines()
+    # (a line a second at most, and what is left to be told as it ends)
+    if not 1 <= len(lines) <= took + 2 or [it for it in lines if not it.startswith("syc: action audit ")]:
+        raise Failure(f"a hundred failures were told within {took:.1f} s by {lines}")
 
 
 # ---- Links
