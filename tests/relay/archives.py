@@ -220,6 +220,38 @@ def archive_is_a_pipe_that_nobody_reads_at_a_stop(room):
 
 
 @test
+def archive_becomes_a_pipe_that_nobody_reads(room):
+    relay, port = room.hub()
+    send_all(port, messages(1))
+    room.holds("audit.log", messages(1))
+    os.rename(room.path("audit.log"), room.path("audit.old"))
+    os.mkfifo(room.path("audit.log"))
+    relay.is_told(b"reopen\n", port)
+    send_all(port, messages(2, 1))
+    relay.rests(port)
+    # (it is opened anew once somebody reads it, and the stop waits for that)
+    relay.process.stdin.close()
+    until("the port is free", lambda: not is_listening(port))
+    relay.rests()
+    same("what it has printed, and its status", (relay.output(), relay.process.poll()), ("", None))
+    Pipe(room).has(messages(2, 1))
+    same("status and totals", (relay.ends(), relay.output()), (0, totals(3, 0, 0, ("audit", 3, 3, 0, 0))))
+
+
+@test
+def archive_is_a_pipe_that_nobody_reads_before_a_stop(room):
+    os.mkfifo(room.path("audit.log"))
+    port = room.port()
+    room.site({"hub": module() + imtcp(port) + omfile("audit", "audit.log")}, f"entry hub {port}", "protect auth.* hub audit")
+    relay = room.start("hub")
+    relay.process.stdin.close()
+    relay.rests()
+    same("what it has printed, and its status", (relay.output(), relay.process.poll()), ("", None))
+    Pipe(room)
+    same("status and totals", (relay.ends(), relay.output()), (0, totals(0, 0, 0, ("audit", 0, 0, 0, 0))))
+
+
+@test
 def archive_is_a_pipe_that_nobody_reads(room):
     os.mkfifo(room.path("audit.log"))
     port = room.port()
