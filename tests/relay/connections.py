@@ -1,6 +1,6 @@
 """More connections than hands, and senders that are slow, half-closed or reset."""
 
-from peers import Pump, Sender, frame, frames, message, messages, send_all, send_side_by_side
+from peers import Pump, Sender, frame, frames, message, messages, places, send_all, send_side_by_side
 from room import Failure, imtcp, is_read, module, omfile, same, test, totals, until
 
 HANDS = 64
@@ -187,7 +187,6 @@ def senders_that_come_and_go(room):
     taken = len(room.lines("audit.log"))
     came = relay.stop()
     same("totals", came, totals(taken, 0, 0, ("audit", taken, taken, 0, 0)))
-    for it in range(4):
-        numbers = [int(line.split(b" ")[8][1:]) for line in room.lines("audit.log") if line.split(b" ")[7] == b"c%d" % it]
+    for connection, numbers in places(room.lines("audit.log")).items():
         if numbers != list(range(len(numbers))):
-            raise Failure(f"connection {it}: the archive has other messages than its first {len(numbers)}")
+            raise Failure(f"connection {connection}: the archive has other messages than its first {len(numbers)}")

@@ -19,6 +19,15 @@ def messages(count, first=0, **more):
     return [message(number, **more) for number in range(first, first + count)]
 
 
+def places(lines):
+    """Of each connection the places of its messages, in the order of these lines."""
+    found = {}
+    for line in lines:
+        words = line.split(b" ", 9)
+        found.setdefault(int(words[7][1:]), []).append(int(words[8][1:]))
+    return found
+
+
 def frame(text):
     return b"%d %s" % (len(text), text)
 

@@ -5,7 +5,7 @@ import socket
 import subprocess
 import threading
 
-from peers import Pump, Receiver, Sender, frame, message, messages, send_all
+from peers import Pump, Receiver, Sender, frame, message, messages, places, send_all
 from room import Failure, Relay, imtcp, main_queue, module, omfile, omfwd, same, test, totals, until
 
 
@@ -181,11 +181,11 @@ def under_load_at_any_moment(room):
         same("lost", lost, 0)
         lines = room.lines("audit.log")
         same("lines of the archive", len(lines), done)
-        for it in range(len(pumps)):
-            numbers = [int(line.split(b" ")[8][1:]) for line in lines if line.split(b" ")[7] == b"c%d" % it]
+        for connection, numbers in places(lines).items():
             if numbers != list(range(len(numbers))):
-                raise Failure(f"connection {it}: the archive has other messages than its first {len(numbers)}")
-            pumps[it].end()
+                raise Failure(f"connection {connection}: the archive has other messages than its first {len(numbers)}")
+        for it in pumps:
+            it.end()
 
 
 @test
