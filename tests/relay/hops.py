@@ -3,7 +3,9 @@
 import shutil
 import subprocess
 
-from peers import Pump, Sender, message, messages, send_all, send_side_by_side
+from archives import Pipe
+from control import asked
+from peers import Pump, Sender, frame, message, messages, send_all, send_side_by_side, split
 from room import Failure, LeftOut, imtcp, main_queue, module, omfile, omfwd, same, test, totals, until
 
 COUNT = 100_000
@@ -193,6 +195,44 @@ def hub_restarted_in_order_under_load(room):
     # each once and in order, but for what a hub held as it was stopped
     same("messages that came twice or in another order", numbers == sorted(set(numbers)), True)
     same("messages in the archive or held", len(numbers) + held, pump.sent)
+
+
+BUFFERS = 12_000_000  # bytes that the buffers of a link may hold, whatever the host's settings usually are
+
+
+@test
+def hub_restarted_in_order_while_it_is_held(room):
+    entry, inner = room.port(), room.port()
+    edge = module() + imtcp(entry, ruleset="out") + QUEUE.format(1000, 900, omfwd("up", "hub", inner, -1, 0))
+    hub_text = module() + main_queue(size=100, fullDelayMark=90) + imtcp(inner) + omfile("audit", "audit.log", -1, 0)
+    room.site({"edge": edge, "hub": hub_text}, f"entry edge {entry}", "protect auth.* hub audit")
+    pipe = Pipe(room, reads=False)
+    hub = room.start("hub", inner, words=["site", "hub", "--left", "left"])
+    edge = room.start("edge", entry)
+    pump = Pump(entry, 0, "a" * 1000)
+    pump.is_held()
+    before = len(hub.threads())
+    hub.process.stdin.close()
+    until("nothing is accepted and read any more", lambda: len(hub.threads()) == before - 2, came=hub.threads)
+    pipe.reads()
+    same("status of hub", hub.ends(), 0)
+    held, rest = split(room.read("left"))
+    same("behind the last message that is left", rest, b"")
+    hub = room.start("hub", inner)
+    pump.finish()
+    until("edge has sent all", lambda: asked(edge, 1) == [totals(pump.sent, 0, 0, ("up", pump.sent, pump.sent, 0, 0))], came=edge.errors)
+    edge.stop()
+    hub.rests(inner)
+    hub.stop()
+    lines = bytes(pipe.came).split(b"\n")[:-1]
+    found = [int(it.split(b" ")[8][1:]) for it in lines + held]
+    same("messages that came twice", len(found) - len(set(found)), 0)
+    same("messages in another order", lines == sorted(lines, key=lambda it: int(it.split(b" ")[8][1:])), True)
+    # (what the hub had not read as it ended stood in socket buffers: one run of messages, behind those that it held)
+    missing = sorted(set(range(pump.sent)) - set(found))
+    same("runs that are missing", missing, missing and list(range(missing[0], missing[-1] + 1)))
+    if len(missing) * len(frame(message(0, "a" * 1000))) > BUFFERS:
+        raise Failure(f"{len(missing)} messages are missing, more than socket buffers hold")
 
 
 @test
