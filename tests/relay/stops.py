@@ -5,7 +5,7 @@ import socket
 import subprocess
 import threading
 
-from peers import Pump, Receiver, Sender, frame, message, messages, places, send_all
+from peers import PAUSE, Pump, Receiver, Sender, frame, message, messages, places, send_all
 from room import Failure, Relay, imtcp, main_queue, module, omfile, omfwd, same, test, totals, until
 
 
@@ -230,6 +230,23 @@ def while_a_receiver_reads_slowly(room):
     same("lost", lost, 0)
     pump.end()
     receiver.close()
+
+
+@test
+def what_is_done_comes_behind_the_end(room):
+    relay, port, inner = forwarding(room, size=1000, fullDelayMark=900)
+    receiver = Receiver(inner, reads=False, small=True)
+    pump = Pump(port, 0, "a" * 1000)
+    receiver.is_connected()
+    pump.is_held()
+    _, lost, _, done, _ = stopped(room, relay, port)
+    same("lost", lost, 0)
+    # (it stands in socket buffers, and the host sends it on: at most the frame that was under way is cut)
+    receiver.begins_to_read()
+    until("all that is done is received", lambda: len(receiver.messages()) >= done, came=lambda: len(receiver.messages()))
+    receiver.connections[0][1].join(PAUSE)
+    same("what is received", receiver.messages(), messages(done, text="a" * 1000))
+    pump.end()
 
 
 @test
