@@ -26,5 +26,6 @@ plan = record {
   workers = 0 ∷ [];
   actions = action ∷ [];
   lists = record { body = Body.Run 0 Body.End; queue = None } ∷ [];
+  rulesets = 0;
   names = default_ruleset ∷ [];
 }

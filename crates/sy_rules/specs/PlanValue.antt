@@ -1,5 +1,5 @@
 -- A plan as a value, and the plan of a script.
-use Rattle.std.specs.Prelude.{◌≡◌, ℕ, ◌+◌, List, [], ◌∷◌, map, Option, Some, None, slice_get}
+use Rattle.std.specs.Prelude.{◌≡◌, ℕ, ◌+◌, List, [], ◌∷◌, length, map, Option, Some, None, slice_get}
 use Rattle.std.specs.List.{filter_map}
 use Rattle.sy_script.specs.declared.tree.ExprTree.{ExprTree}
 use Rattle.sy_script.specs.declared.tree.Script.{Script}
@@ -26,6 +26,8 @@ pub record Plan : Type 0 where
   pub workers : List ℕ
   pub actions : List Action
   pub lists : List Listed
+  -- how many of the lists behind list 0 are those of rulesets; actions' own lists follow them
+  pub rulesets : ℕ
   -- the name of each list
   pub names : List (List ℕ)
 
@@ -90,6 +92,7 @@ pub record HasParts (script : Script) (plan : Plan) : Type 0 where
   pub workers : plan.workers ≡ workers_of (items script)
   pub actions : plan.actions ≡ action_parts 0 (actions_of (items script))
   pub lists : plan.lists ≡ listed_from (lines_of script tests) 0 (list_queues (items script))
+  pub rulesets : plan.rulesets ≡ length (rulesets_of (items script))
   pub names : plan.names ≡ list_names (rulesets_of (items script)) (actions_of (items script))
 
 -- Each part of a plan is one that an object of the script gives, at its number, and each object that gives one has it there.
@@ -101,6 +104,7 @@ pub record IsGiven (script : Script) (plan : Plan) : Type 0 where
   pub workers : GiveWorkers 0 plan.queues plan.workers
   pub actions : Given GivesAction 0 [] (items script) plan.actions
   pub lists : GiveLists (items script) (lines_of script tests) plan.lists
+  pub rulesets : plan.rulesets ≡ length (rulesets_of (items script))
   pub names : plan.names ≡ list_names (rulesets_of (items script)) (actions_of (items script))
 
 -- A script with a fault has no plan.

@@ -18,7 +18,7 @@ ghost use Rattle.sy_rules.specs.check.ScriptFaults.{untested};
 ghost use Rattle.sy_rules.specs.lists.Laws.{IsChain, IsRising};
 ghost use Rattle.sy_rules.specs.lists.Sets.{IsLowest};
 ghost use Rattle.sy_rules.specs.lists.Body.{Body, ◌then◌, ◌⧺◌, count, executed, occurrences, tests, walk};
-ghost use Rattle.sy_rules.specs.Whole.{IsWhole, body_at, queue_at};
+ghost use Rattle.sy_rules.specs.Whole.{IsWhole, body_at, owner_at, queue_at};
 ghost use Rattle.sy_rules.specs.lists.Work.{Due, HasClass, May, Must};
 
 use crate::plan::Plan;
@@ -116,6 +116,16 @@ pub fn lists_of_actions()
     ensures run { (script : Script) (plan : Plan) (number : ℕ) (a : ActionParameters) → IsPlan script plan
         → slice_get (actions_of (items script)) number ≡ Some a → is_some a.queue ≡ true
         → body_at plan (list_of_action (untested (items script)) number) ≡ Body.Run number Body.End }
+{}
+
+/// The list to which an action with a queue posts is that action's own, and no other list is an action's own: none of a ruleset, whatever it runs.
+pub fn own_lists_are_those_of_actions()
+    ensures own { (script : Script) (plan : Plan) (number : ℕ) (a : ActionParameters) → IsPlan script plan
+        → slice_get (actions_of (items script)) number ≡ Some a → is_some a.queue ≡ true
+        → owner_at plan (list_of_action (untested (items script)) number) ≡ Some number }
+    ensures others { (script : Script) (plan : Plan) (list number : ℕ) → IsPlan script plan → owner_at plan list ≡ Some number
+        → (a : ActionParameters) × (slice_get (actions_of (items script)) number ≡ Some a) × (is_some a.queue ≡ true)
+        × (list ≡ list_of_action (untested (items script)) number) }
 {}
 
 /// The texts of a file's parts have the tests, actions and calls of its items, in the same order, and there are as many parts of rulesets

@@ -1,6 +1,7 @@
 //! The lists of a plan: their tables, what is executed of them, and their limits.
 
 pub mod build;
+pub mod called;
 pub mod class_flows;
 pub mod columns;
 pub mod condition;

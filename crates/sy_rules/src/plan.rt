@@ -1,5 +1,5 @@
 //! What a relay does.
-ghost use Rattle.std.specs.Prelude.{◌≡◌, ◌<◌, ◌⊎◌, ◌∷◌, [], length, map, IfOk, IfErr, OnOk};
+ghost use Rattle.std.specs.Prelude.{◌≡◌, ◌<◌, ◌⊎◌, ◌∷◌, [], length, map, IfErr, IfNone, IfOk, IfSome, OnOk, ℕ};
 ghost use Rattle.sy_rules.specs.Faults.{IsAnswered, no_memory};
 ghost use Rattle.sy_rules.specs.check.FaultsThere.{HasFault, HasNoFault};
 ghost use Rattle.sy_rules.specs.internal.ClassFlows.{AreFlows};
@@ -10,7 +10,7 @@ ghost use Rattle.sy_rules.specs.PassPlan as pass;
 ghost use Rattle.sy_rules.specs.PlanValue.{HasParts, IsPlan};
 ghost use Rattle.sy_rules.specs.check.ScriptFaults.{faults_after, faults_of, too_many_workers};
 ghost use Rattle.sy_rules.specs.lists.Body as body;
-ghost use Rattle.sy_rules.specs.Whole.{IsWhole, name_at, queue_at, body_at};
+ghost use Rattle.sy_rules.specs.Whole.{IsWhole, body_at, name_at, owner_at, queue_at};
 ghost use Rattle.sy_rules.specs.lists.Sets.{Bits};
 ghost use Rattle.sy_rules.specs.lists.Work.{Due, May, Must, work};
 ghost use Rattle.sy_wire.specs.Messages.{Said};
@@ -45,7 +45,8 @@ use sy_wire::{Class, Message};
 /// Each number that it gives exists: the list and the queue of an input, the queue of a worker, the action of a run. The list of a post
 /// has a queue. No two inputs have the same port, and no two actions the same name. An input's queue is the one of its list, or queue 0
 /// where that list has none. The workers are those that the queues have, in the order of the queues. List 0 has no queue of its own; queue
-/// 0 is that of no list, and each other queue that of one list and no other. There is a queue and a list at least; there are at most 64
+/// 0 is that of no list, and each other queue that of one list and no other. Behind the lists of the rulesets stand those of the actions
+/// that have a queue, each of which runs its action alone. There is a queue and a list at least; there are at most 64
 /// inputs, 256 actions and 256 workers, and a list has at most 64 occurrences and 65,536 statements, where what replaces a call counts.
 #[derive(Drop)]
 pub struct Plan {
@@ -60,6 +61,8 @@ pub struct Plan {
     list_queues: Vec<Option<u32>>,
     // and its name
     names: Vec<Items<u8>>,
+    // how many of the lists behind list 0 are those of rulesets
+    rulesets: u32,
     class_flows: ClassFlows,
 }
 
@@ -152,6 +155,7 @@ fn pass(alloc: Global) -> Result<Plan, AllocError>
         occurrences,
         list_queues,
         names: one(alloc, Items::from_slice(alloc, DEFAULT_RULESET)?)?,
+        rulesets: 0,
         class_flows,
     })
 }
@@ -173,6 +177,7 @@ fn assemble(alloc: Global, script: &Script, found: &[Item<'_>]) -> Result<Plan, 
         gathered.rulesets.as_slice(),
         gathered.actions.as_slice(),
     )?;
+    let rulesets = gathered.rulesets.len() as u32;
     let actions = action_parts(alloc, gathered.actions)?;
     let Ok(class_flows) = class_flows(
         alloc,
@@ -195,6 +200,7 @@ fn assemble(alloc: Global, script: &Script, found: &[Item<'_>]) -> Result<Plan, 
         occurrences: lists.occurrences,
         list_queues: gathered.list_queues,
         names,
+        rulesets,
         class_flows,
     })
 }
@@ -209,6 +215,17 @@ fn load_items(alloc: Global, script: &Script, found: &[Item<'_>]) -> Result<Plan
 {
     check_script(alloc, found)?;
     assemble(alloc, script, found)
+}
+
+// The action that these occurrences run, where they are one run.
+fn run_alone(occurrences: &[Occurrence]) -> Option<u32>
+    ensures some { IfSome result (λ action. occurrences.now ≡ Occurrence.Run action ∷ []) }
+    ensures none { IfNone result ((action : ℕ) → occurrences.now ≡ Occurrence.Run action ∷ [] → ⊥) }
+{
+    match occurrences {
+        [Occurrence::Run(action)] => Some(*action),
+        _ => None,
+    }
 }
 
 impl Plan {
@@ -304,6 +321,20 @@ impl Plan {
         ensures { result ≡ queue_at self.now list }
     {
         self.list_queues[list as usize]
+    }
+
+    /// The action whose own list this is: it has a queue, and its queue leads to this list, which runs the action alone. `None` for the list
+    /// of a ruleset, also where that runs one action and nothing else, and for a list that isn't there.
+    pub fn own_action(&self, list: u32) -> Option<u32>
+        ensures { result ≡ owner_at self.now list }
+    {
+        if list <= self.rulesets {
+            return None;
+        }
+        match self.occurrences.get(list as usize) {
+            Some(occurrences) => run_alone(occurrences.as_slice()),
+            None => None,
+        }
     }
 
     /// Which occurrences of a list a message executes: bit k stands for occurrence k. It takes no memory. Where its class decides them, they

@@ -21,7 +21,11 @@ pub mod KnownWalks
 pub mod MayMust
 pub mod FlowTables
 pub mod FlowRuns
+pub mod Turns
+pub mod Settled
+pub mod Between
 pub mod ClassVerdicts
 pub mod Decided
 pub mod ColumnLaws
 pub mod FlowRows
+pub mod KnownRows

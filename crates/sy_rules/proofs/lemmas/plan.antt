@@ -2,6 +2,7 @@
 pub mod Different
 pub mod Led
 pub mod Leads
+pub mod OwnLists
 pub mod Loads
 pub mod WholePlans
 pub mod Kept

@@ -61,9 +61,13 @@ abbrev pub executes : ℕ → Reached
 executes set = record { set = set; goes_on = true }
 
 -- Whatever the tests say that the judge leaves open, the first statements of a table execute these occurrences, and then the others follow.
+abbrev pub IsHeadAt : ℕ → (ℕ → Verdict) → List (List Statement) → List Statement → Head → Type 0
+IsHeadAt depth judge tables table head = (met : ℕ → Bool) → AreMet judge met
+    → met_statements met tables depth table 0 ≡ followed_by (executes head.executed) (met_statements met tables depth (drop head.size table) 0)
+
+-- where lists may lie in one another as deep as in a plan
 abbrev pub IsHead : (ℕ → Verdict) → List (List Statement) → List Statement → Head → Type 0
-IsHead judge tables table head = (met : ℕ → Bool) → AreMet judge met
-    → met_statements met tables CALL_DEPTH table 0 ≡ followed_by (executes head.executed) (met_statements met tables CALL_DEPTH (drop head.size table) 0)
+IsHead judge tables table head = IsHeadAt CALL_DEPTH judge tables table head
 
 -- the later statements of a table
 abbrev pub IsTail : List Statement → List Statement → Type 0

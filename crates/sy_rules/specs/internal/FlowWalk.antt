@@ -1,5 +1,6 @@
 -- The walk by verdicts that the code makes over tables, for its private functions.
-use Rattle.std.specs.Prelude.{ℕ, bit_or, ◌||◌, ◌&&◌, List}
+use Rattle.std.specs.Prelude.{◌≡◌, ◌≤◌, ℕ, bit_or, ◌||◌, ◌&&◌, List, Option, Some, None, IfSome, slice_get}
+use Rattle.std.specs.Int.{w64, rotate_left}
 use Rattle.sy_wire.specs.declared.class.Class.{Class}
 use Rattle.sy_select.specs.declared.condition.Test.{Test}
 use Rattle.sy_select.specs.declared.verdict.Verdict.{Verdict}
@@ -50,3 +51,33 @@ flow_followed_by first next = record { may = followed_by first.may next.may; mus
 
 abbrev pub flow_take : Verdict → Flow → Flow → Flow
 flow_take v a b = record { may = may_take v a.may b.may; must = must_take v a.must b.must }
+
+-- ---- lists whose flows are known
+
+-- a part whose occurrences have numbers larger by so much
+abbrev pub turned : Reached → ℕ → Reached
+turned r base = record { set = rotate_left w64 r.set base; goes_on = r.goes_on }
+
+abbrev pub flow_turned : Flow → ℕ → Flow
+flow_turned flow base = record { may = turned flow.may base; must = turned flow.must base }
+
+abbrev pub known_in : Option (List Flow) → ℕ → Option Flow
+known_in None column = None
+known_in (Some row) column = slice_get row column
+
+-- what is known of a list, in a column of classes
+abbrev pub known_flow : List (List Flow) → ℕ → ℕ → Option Flow
+known_flow known list column = known_in (slice_get known list) column
+
+-- What is known of a list is what it does, wherever it is called, where lists may lie in one another as deep as in a plan or deeper.
+abbrev pub AreKnown : Class → List (Formula Test) → List (List Statement) → List (List Flow) → ℕ → Type 0
+AreKnown class tests tables known column = (list depth base : ℕ) → 17 ≤ depth
+    → IfSome (known_flow known list column) (λ flow. flow_of_list class tests tables depth list base ≡ flow_turned flow base)
+
+-- what a list does, of each column
+abbrev pub IsKnownRow : List (Formula Test) → List (List Statement) → List Class → ℕ → List Flow → Type 0
+IsKnownRow tests tables classes list row = (column : ℕ) (flow : Flow) (one : Class) → slice_get row column ≡ Some flow → slice_get classes column ≡ Some one
+    → flow ≡ flow_of_list one tests tables 17 list 0
+
+abbrev pub AreKnownRows : List (Formula Test) → List (List Statement) → List Class → List (List Flow) → Type 0
+AreKnownRows tests tables classes known = (list : ℕ) (row : List Flow) → slice_get known list ≡ Some row → IsKnownRow tests tables classes list row

@@ -66,12 +66,12 @@ listed_code =
     code_by (Body × Option ℕ) (coded× body_code (coded_option coded_ℕ)) (λ l. (l.body, l.queue)) (λ p. record { body = p.0; queue = p.1 }) (λ _. refl)
 
 abbrev pub Parts : Type 0
-Parts = List Input × (List QueueParameters × (List ℕ × (List Action × (List Listed × List (List ℕ)))))
+Parts = List Input × (List QueueParameters × (List ℕ × (List Action × (List Listed × (ℕ × List (List ℕ))))))
 
 abbrev pub plan_code : Coded Plan
 plan_code =
     code_by Parts
-    (coded× (coded_list input.the_row.coded) (coded× (coded_list queue.the_row.coded) (coded× (coded_list coded_ℕ) (coded× (coded_list action.the_row.coded) (coded× (coded_list listed_code) (coded_list (coded_list coded_ℕ)))))))
-    (λ p. (p.inputs, (p.queues, (p.workers, (p.actions, (p.lists, p.names))))))
-    (λ p. record { inputs = p.0; queues = p.1.0; workers = p.1.1.0; actions = p.1.1.1.0; lists = p.1.1.1.1.0; names = p.1.1.1.1.1 })
+    (coded× (coded_list input.the_row.coded) (coded× (coded_list queue.the_row.coded) (coded× (coded_list coded_ℕ) (coded× (coded_list action.the_row.coded) (coded× (coded_list listed_code) (coded× coded_ℕ (coded_list (coded_list coded_ℕ))))))))
+    (λ p. (p.inputs, (p.queues, (p.workers, (p.actions, (p.lists, (p.rulesets, p.names)))))))
+    (λ p. record { inputs = p.0; queues = p.1.0; workers = p.1.1.0; actions = p.1.1.1.0; lists = p.1.1.1.1.0; rulesets = p.1.1.1.1.1.0; names = p.1.1.1.1.1.1 })
     (λ _. refl)

@@ -1,5 +1,5 @@
 -- What the code keeps of a plan.
-use Rattle.std.specs.Prelude.{◌≡◌, filter_map, map}
+use Rattle.std.specs.Prelude.{◌≡◌, filter_map, length, map}
 use Rattle.sy_script.specs.declared.tree.Script.{Script}
 use Rattle.sy_rules.specs.declared.plan.Plan.TheInside.{Inside}
 use Rattle.sy_rules.specs.items.Outline.{items}
@@ -18,6 +18,7 @@ plan_of p = record {
   workers = p.workers.items;
   actions = p.actions.items;
   lists = listed_from (lines_of_tables p.tests.items p.tables.items) 0 p.list_queues.items;
+  rulesets = p.rulesets;
   names = p.names.items;
 }
 
@@ -33,6 +34,7 @@ pub record AreParts (script : Script) (p : Inside) : Type 0 where
   pub queues : p.queues.items ≡ queues_of (items script)
   pub workers : p.workers.items ≡ workers_of (items script)
   pub actions : p.actions.items ≡ action_parts 0 (actions_of (items script))
+  pub rulesets : p.rulesets ≡ length (rulesets_of (items script))
   pub names : p.names.items ≡ list_names (rulesets_of (items script)) (actions_of (items script))
   pub own_queues : p.list_queues.items ≡ list_queues (items script)
   pub tests : AreExprs (filter_map test_of_item (items script)) p.tests.items

@@ -1,13 +1,16 @@
 //! What each class executes of the lists of a plan, made once and looked up.
 
 ghost use Rattle.std.specs.Prelude.{◌≡◌, IfOk};
-ghost use Rattle.sy_rules.specs.internal.ClassFlows.{AreFlows, flow_at};
+ghost use Rattle.sy_rules.specs.internal.ClassFlows.{AreFlows, IsFlow, flow_at};
+ghost use Rattle.sy_rules.specs.internal.FlowWalk.{AreKnown, judged};
 ghost use Rattle.sy_rules.specs.internal.Tables.{AreTables};
 
+use crate::limits::LISTS_DEEP;
+use crate::lists::called::{Callers, no_rows};
 use crate::lists::columns::{Columns, columns_of};
 use crate::lists::condition::Condition;
-use crate::lists::decided::{Head, head_of_list, no_head};
-use crate::lists::flow::flows;
+use crate::lists::decided::{Head, no_head};
+use crate::lists::flow::{Flow, Judge};
 use crate::lists::statement::Statement;
 use crate::parts::Input;
 use std::alloc::{AllocError, Global};
@@ -45,6 +48,22 @@ impl ClassFlows {
     }
 }
 
+fn class_flow(judge: Judge<'_>, list: u32) -> ClassFlow
+    requires tables { AreTables judge.tests.now judge.tables.now }
+    requires known { AreKnown judge.class judge.tests.now judge.tables.now judge.known.now judge.column }
+    ensures { IsFlow (judged judge.entry.class judge.entry.tests.now) judge.entry.tables.now list result }
+{
+    let flow = judge.flow(list);
+    let (may, must) = (flow.may.set, flow.must.set);
+    // (where both are the same no table is walked)
+    let head = if may == must {
+        no_head()
+    } else {
+        judge.head(list)
+    };
+    ClassFlow { may, must, head }
+}
+
 /// What the flows of a plan are made of.
 #[derive(Clone, Copy)]
 pub struct Parts<'p> {
@@ -57,8 +76,8 @@ pub struct Parts<'p> {
 
 impl Parts<'_> {
     ghost use Rattle.std.specs.Prelude.{◌≡◌, IfOk};
-    ghost use Rattle.sy_rules.specs.internal.ClassFlows.{AreRows, IsFlow, IsRow};
-    ghost use Rattle.sy_rules.specs.internal.FlowWalk.{judged};
+    ghost use Rattle.sy_rules.specs.internal.ClassFlows.{AreRows, IsRow};
+    ghost use Rattle.sy_rules.specs.internal.FlowWalk.{AreKnownRows};
     ghost use Rattle.sy_rules.specs.internal.Tables.{AreTables};
 
     // Whether messages come to a list by itself: from an input, or out of its queue.
@@ -74,18 +93,26 @@ impl Parts<'_> {
         false
     }
 
-    fn flow(self, list: u32, class: Class) -> ClassFlow
+    // What the lists do that are called by those that messages come to by themselves.
+    fn known(self, alloc: Global, classes: &[Class]) -> Result<Vec<Items<Flow>>, AllocError>
         requires { AreTables self.tests.now self.tables.now }
-        ensures { IsFlow (judged class self.entry.tests.now) self.entry.tables.now list result }
+        ensures { IfOk result (λ known. AreKnownRows self.entry.tests.now self.entry.tables.now classes.now known.items) }
     {
-        let (may, must) = flows(self.tables, self.tests, list, class);
-        // (where both are the same no table is walked)
-        let head = if may == must {
-            no_head()
-        } else {
-            head_of_list(self.tables, self.tests, list, class)
+        let callers = Callers {
+            tables: self.tables,
+            tests: self.tests,
+            classes,
         };
-        ClassFlow { may, must, head }
+        let mut known = no_rows(alloc, self.tables)?;
+        for list in 0..u32::MAX {
+            if self.tables.len() <= list as usize {
+                return Ok(known);
+            }
+            if self.is_reached(list) {
+                callers.put_called(alloc, LISTS_DEEP, list, &mut known)?;
+            }
+        }
+        Ok(known)
     }
 
     // The row of a list.
@@ -94,23 +121,38 @@ impl Parts<'_> {
         alloc: Global,
         list: u32,
         classes: &[Class],
+        known: &[Items<Flow>],
     ) -> Result<Items<ClassFlow>, AllocError>
-        requires { AreTables self.tests.now self.tables.now }
+        requires tables { AreTables self.tests.now self.tables.now }
+        requires known { AreKnownRows self.tests.now self.tables.now classes.now known.now }
         ensures { IfOk result (λ row. IsRow self.entry.tests.now self.entry.tables.now list classes.now row) }
     {
         let mut row = Items::new(alloc);
         if !self.is_reached(list) {
             return Ok(row);
         }
-        for class in classes {
-            row.push(self.flow(list, *class))?;
+        for (column, class) in classes.iter().enumerate() {
+            let judge = Judge {
+                tables: self.tables,
+                tests: self.tests,
+                class: *class,
+                known,
+                column,
+            };
+            row.push(class_flow(judge, list))?;
         }
         Ok(row)
     }
 
     // The rows of all lists, in their order.
-    fn rows(self, alloc: Global, classes: &[Class]) -> Result<Vec<Items<ClassFlow>>, AllocError>
-        requires { AreTables self.tests.now self.tables.now }
+    fn rows(
+        self,
+        alloc: Global,
+        classes: &[Class],
+        known: &[Items<Flow>],
+    ) -> Result<Vec<Items<ClassFlow>>, AllocError>
+        requires tables { AreTables self.tests.now self.tables.now }
+        requires known { AreKnownRows self.tests.now self.tables.now classes.now known.now }
         ensures { IfOk result (λ rows. AreRows self.entry.tests.now self.entry.tables.now classes.now rows.items) }
     {
         let mut rows = Vec::new(alloc);
@@ -118,7 +160,7 @@ impl Parts<'_> {
             if self.tables.len() <= list as usize {
                 return Ok(rows);
             }
-            rows.push(self.row(alloc, list, classes)?)?;
+            rows.push(self.row(alloc, list, classes, known)?)?;
         }
         Ok(rows)
     }
@@ -130,6 +172,8 @@ pub fn class_flows(alloc: Global, parts: Parts<'_>) -> Result<ClassFlows, AllocE
     ensures { IfOk result (λ flows. AreFlows parts.entry.tests.now parts.entry.tables.now flows) }
 {
     let columns = columns_of(alloc, parts.tests)?;
-    let rows = parts.rows(alloc, columns.classes.as_slice())?;
+    let classes = columns.classes.as_slice();
+    let known = parts.known(alloc, classes)?;
+    let rows = parts.rows(alloc, classes, known.as_slice())?;
     Ok(ClassFlows { columns, rows })
 }

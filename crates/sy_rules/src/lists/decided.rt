@@ -1,20 +1,15 @@
 //! What a class alone decides of a text.
 
-ghost use Rattle.std.specs.Prelude.{◌≡◌, ◌≤◌, ◌-◌, ℕ, List, length};
+ghost use Rattle.std.specs.Prelude.{◌≡◌, ◌≤◌, ◌-◌, ℕ, List, IfSome, length};
 ghost use Rattle.sy_select.specs.declared.verdict.Verdict.{Verdict};
 ghost use Rattle.sy_rules.specs.declared.lists.statement.Statement.{Statement};
 ghost use Rattle.sy_rules.specs.internal.ClassFlows.{IsHead};
-ghost use Rattle.sy_rules.specs.internal.FlowWalk.{judged};
-ghost use Rattle.sy_rules.specs.internal.Tables.{table_at};
 
 use crate::limits::LISTS_DEEP;
-use crate::lists::condition::Condition;
-use crate::lists::flow::Judge;
+use crate::lists::flow::{Flow, Judge};
 use crate::lists::statement::Statement;
 use crate::lists::walk::{Reached, followed_by, nothing, one, place, split, stopped, table_at};
-use sy_script::Items;
 use sy_select::Verdict;
-use sy_wire::Class;
 
 /// The statements at the beginning of a table that a class decides alone, one after the other.
 #[derive(Clone, Copy)]
@@ -37,21 +32,38 @@ fn head_before(table: &[Statement], rest: &[Statement], executed: u64) -> Head
     }
 }
 
+// What is executed, where all is that may be.
+fn decided_flow(flow: Flow) -> Option<Reached>
+    ensures { IfSome result (λ reached. (flow.may ≡ reached) × (flow.must ≡ reached)) }
+{
+    if flow.may.set == flow.must.set && flow.may.goes_on == flow.must.goes_on {
+        Some(flow.may)
+    } else {
+        None
+    }
+}
+
 impl Judge<'_> {
     ghost use Rattle.std.specs.Prelude.{◌≡◌, ◌≤◌, ◌∷◌, ℕ, Bool, IfSome, length};
-    ghost use Rattle.sy_rules.specs.internal.ClassFlows.{AreMet, IsHead, IsMet, IsTail, met_list, met_statements};
+    ghost use Rattle.sy_rules.specs.internal.FlowWalk.{AreKnown};
+    ghost use Rattle.sy_rules.specs.internal.Tables.{AreTables, table_at};
+    ghost use Rattle.sy_rules.specs.internal.ClassFlows.{AreMet, IsHead, IsHeadAt, IsMet, IsTail, met_list, met_statements};
     ghost use Rattle.sy_rules.specs.internal.FlowWalk.{judged};
     ghost use Rattle.sy_rules.specs.internal.TableWalk as spec;
 
     // What each message of the class executes of a list, where the class decides all tests that it reaches.
     #[cycle(decide)]
     fn decided_list(self, depth: u32, list: u32, base: u32) -> Option<Reached>
+        requires known { AreKnown self.class self.tests.now self.tables.now self.known.now self.column }
         ensures { IfSome result (λ reached. (met : ℕ → Bool)
             → AreMet (judged self.entry.class self.entry.tests.now) met
             → met_list met self.entry.tables.now depth list base ≡ reached) }
     {
         if depth == 0 {
             return Some(nothing());
+        }
+        if let Some(flow) = self.known_at(depth, list, base) {
+            return decided_flow(flow);
         }
         self.decided_statements(depth - 1, table_at(self.tables, list), base)
     }
@@ -66,6 +78,7 @@ impl Judge<'_> {
         otherwise: &[Statement],
         base: u32,
     ) -> Option<Reached>
+        requires known { AreKnown self.class self.tests.now self.tables.now self.known.now self.column }
         ensures { IfSome result (λ reached. (met : ℕ → Bool) (is_met : Bool)
             → AreMet (judged self.entry.class self.entry.tests.now) met → IsMet verdict is_met
             → let walked = met_statements met self.entry.tables.now depth
@@ -87,6 +100,7 @@ impl Judge<'_> {
         after: &'t [Statement],
         base: u32,
     ) -> Option<(Reached, &'t [Statement])>
+        requires known { AreKnown self.class self.tests.now self.tables.now self.known.now self.column }
         ensures reached { IfSome result (λ found. (met : ℕ → Bool)
             → AreMet (judged self.entry.class self.entry.tests.now) met
             → let walked = met_statements met self.entry.tables.now depth
@@ -119,6 +133,7 @@ impl Judge<'_> {
 
     #[cycle(decide)]
     fn decided_statements(self, depth: u32, statements: &[Statement], base: u32) -> Option<Reached>
+        requires known { AreKnown self.class self.tests.now self.tables.now self.known.now self.column }
         ensures { IfSome result (λ reached. (met : ℕ → Bool)
             → AreMet (judged self.entry.class self.entry.tests.now) met
             → met_statements met self.entry.tables.now depth statements.now base ≡ reached) }
@@ -139,13 +154,14 @@ impl Judge<'_> {
     }
 
     // The head of a table, as far as all that follows is executed too.
-    fn head(self, table: &[Statement]) -> Head
-        ensures { IsHead (judged self.entry.class self.entry.tests.now) self.entry.tables.now table.now result }
+    fn head_of_table(self, table: &[Statement]) -> Head
+        requires known { AreKnown self.class self.tests.now self.tables.now self.known.now self.column }
+        ensures { IsHeadAt 17 (judged self.entry.class self.entry.tests.now) self.entry.tables.now table.now result }
     {
         let mut executed = 0;
         let mut rest = table;
         while let [statement, after @ ..] = rest {
-            let Some((next, later)) = self.decided(LISTS_DEEP - 1, *statement, after, 0) else {
+            let Some((next, later)) = self.decided(LISTS_DEEP, *statement, after, 0) else {
                 return head_before(table, rest, executed);
             };
             if !next.goes_on {
@@ -155,6 +171,16 @@ impl Judge<'_> {
             rest = later;
         }
         head_before(table, rest, executed)
+    }
+
+    /// The head of a list.
+    pub fn head(self, list: u32) -> Head
+        requires tables { AreTables self.tests.now self.tables.now }
+        requires known { AreKnown self.class self.tests.now self.tables.now self.known.now self.column }
+        ensures { IsHead (judged self.entry.class self.entry.tests.now) self.entry.tables.now
+            (table_at self.entry.tables.now list) result }
+    {
+        self.head_of_table(table_at(self.tables, list))
     }
 }
 
@@ -167,21 +193,4 @@ pub fn no_head() -> Head
         size: 0,
         executed: 0,
     }
-}
-
-/// The head of a list for a class.
-pub fn head_of_list(
-    tables: &[Items<Statement>],
-    tests: &[Condition],
-    list: u32,
-    class: Class,
-) -> Head
-    ensures { IsHead (judged class tests.now) tables.now (table_at tables.now list) result }
-{
-    let judge = Judge {
-        tables,
-        tests,
-        class,
-    };
-    judge.head(table_at(tables, list))
 }

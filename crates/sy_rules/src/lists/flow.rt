@@ -19,9 +19,9 @@ use sy_wire::Class;
 
 /// What messages of a class may execute of a part of a text, and what each of them executes.
 #[derive(Clone, Copy)]
-struct Flow {
-    may: Reached,
-    must: Reached,
+pub struct Flow {
+    pub may: Reached,
+    pub must: Reached,
 }
 
 fn both(reached: Reached) -> Flow
@@ -60,17 +60,42 @@ fn either(done: Flow, otherwise: Flow) -> Flow
     }
 }
 
+// A part whose occurrences have numbers larger by so much.
+fn turned(reached: Reached, base: u32) -> Reached
+    ensures { result ≡ spec.turned reached base }
+{
+    Reached {
+        set: reached.set.rotate_left(base),
+        goes_on: reached.goes_on,
+    }
+}
+
+fn flow_turned(flow: Flow, base: u32) -> Flow
+    ensures { result ≡ spec.flow_turned flow base }
+{
+    Flow {
+        may: turned(flow.may, base),
+        must: turned(flow.must, base),
+    }
+}
+
 /// What a walk looks at.
 #[derive(Clone, Copy)]
 pub struct Judge<'p> {
     pub tables: &'p [Items<Statement>],
     pub tests: &'p [Condition],
     pub class: Class,
+    /// of each list what it does, of each column; of many lists nothing is known
+    pub known: &'p [Items<Flow>],
+    /// that of the class
+    pub column: usize,
 }
 
 impl Judge<'_> {
-    ghost use Rattle.std.specs.Prelude.{◌≡◌, ◌≤◌, ◌∷◌, ℕ, IfSome, length};
+    ghost use Rattle.std.specs.Prelude.{◌≡◌, ◌≤◌, ◌+◌, ◌∷◌, ℕ, IfSome, length};
     ghost use Rattle.sy_rules.specs.internal.FlowWalk as spec;
+    ghost use Rattle.sy_rules.specs.internal.FlowWalk.{AreKnown, known_flow};
+    ghost use Rattle.sy_rules.specs.internal.Tables.{AreTables};
 
     pub fn verdict(self, test: u32) -> Verdict
         ensures { result ≡ spec.judged self.entry.class self.entry.tests.now test }
@@ -103,14 +128,44 @@ impl Judge<'_> {
         }
     }
 
+    // What is known of a list by itself.
+    fn kept(self, list: u32) -> Option<Flow>
+        ensures { result ≡ known_flow self.entry.known.now list self.entry.column }
+    {
+        match self.known.get(list as usize) {
+            Some(row) => row.as_slice().get(self.column).copied(),
+            None => None,
+        }
+    }
+
+    /// What a list does whose occurrences begin at this number, where it is known. It is known for lists that may lie in one another as deep
+    /// as in a plan, or deeper.
+    pub fn known_at(self, depth: u32, list: u32, base: u32) -> Option<Flow>
+        requires known { AreKnown self.class self.tests.now self.tables.now self.known.now self.column }
+        ensures { IfSome result (λ flow. spec.flow_of_list self.entry.class self.entry.tests.now self.entry.tables.now depth
+            list base ≡ flow) }
+    {
+        if depth < LISTS_DEEP {
+            return None;
+        }
+        match self.kept(list) {
+            Some(flow) => Some(flow_turned(flow, base)),
+            None => None,
+        }
+    }
+
     // A list whose occurrences begin at this number, where lists may lie in one another so deep.
     #[cycle(flow)]
     fn list(self, depth: u32, list: u32, base: u32) -> Flow
+        requires known { AreKnown self.class self.tests.now self.tables.now self.known.now self.column }
         ensures { result ≡ spec.flow_of_list self.entry.class self.entry.tests.now self.entry.tables.now depth
             list base }
     {
         if depth == 0 {
             return both(nothing());
+        }
+        if let Some(flow) = self.known_at(depth, list, base) {
+            return flow;
         }
         self.statements(depth - 1, table_at(self.tables, list), base)
     }
@@ -125,6 +180,7 @@ impl Judge<'_> {
         otherwise: &[Statement],
         base: u32,
     ) -> Flow
+        requires known { AreKnown self.class self.tests.now self.tables.now self.known.now self.column }
         ensures { let walked = spec.flow_of_statements self.entry.class self.entry.tests.now self.entry.tables.now depth
             in result ≡ spec.flow_take verdict (walked done.now base) (walked otherwise.now base) }
     {
@@ -147,6 +203,7 @@ impl Judge<'_> {
         after: &'t [Statement],
         base: u32,
     ) -> (Flow, &'t [Statement])
+        requires known { AreKnown self.class self.tests.now self.tables.now self.known.now self.column }
         ensures reached { let walked = spec.flow_of_statements self.entry.class self.entry.tests.now
             self.entry.tables.now depth
             in walked (statement ∷ after.now) base ≡ spec.flow_followed_by result.0 (walked result.1.now base) }
@@ -170,6 +227,7 @@ impl Judge<'_> {
     // It goes as deep as blocks nest, and calls may lie in one another so deep. It ends early where nothing that follows can be executed.
     #[cycle(flow)]
     fn statements(self, depth: u32, statements: &[Statement], base: u32) -> Flow
+        requires known { AreKnown self.class self.tests.now self.tables.now self.known.now self.column }
         ensures { result ≡ spec.flow_of_statements self.entry.class self.entry.tests.now self.entry.tables.now depth
             statements.now base }
     {
@@ -189,6 +247,15 @@ impl Judge<'_> {
         }
         flow
     }
+
+    /// What a list does. What is known of those that it calls isn't worked out again.
+    pub fn flow(self, list: u32) -> Flow
+        requires tables { AreTables self.tests.now self.tables.now }
+        requires known { AreKnown self.class self.tests.now self.tables.now self.known.now self.column }
+        ensures { result ≡ spec.flow_of_list self.entry.class self.entry.tests.now self.entry.tables.now 17 list 0 }
+    {
+        self.list(LISTS_DEEP + 1, list, 0)
+    }
 }
 
 /// May and must of a list for a class: bit k stands for occurrence k.
@@ -201,14 +268,14 @@ pub fn flows(
     requires { AreTables tests.now tables.now }
     ensures may { Bits (May (body_of (lines_of_tables tests.now tables.now) list) class) result.0 }
     ensures must { Bits (Must (body_of (lines_of_tables tests.now tables.now) list) class) result.1 }
-    ensures sets { let flow = spec.flow_of_list class tests.now tables.now 17 list 0
-        in (result.0 ≡ flow.may.set) × (result.1 ≡ flow.must.set) }
 {
     let judge = Judge {
         tables,
         tests,
         class,
+        known: &[],
+        column: 0,
     };
-    let flow = judge.list(LISTS_DEEP, list, 0);
+    let flow = judge.flow(list);
     (flow.may.set, flow.must.set)
 }

@@ -189,7 +189,7 @@ next_exprs all before (Item.Call name ∷ later) e = next_exprs all (before ++ I
 pub parts_of : (script : Script) → faults_of script ≡ [] → (plan : Plan) × HasParts script plan
 parts_of script clean =
     let x = next_exprs (items script) [] (items script) (clean_items script clean) in
-    (plan_from (items script) (lines_of script x.0), record { tests = x.0; are_tests = x.1; inputs = refl; queues = refl; workers = refl; actions = refl; lists = refl; names = refl })
+    (plan_from (items script) (lines_of script x.0), record { tests = x.0; are_tests = x.1; inputs = refl; queues = refl; workers = refl; actions = refl; lists = refl; rulesets = refl; names = refl })
 
 pub plan_of : (script : Script) → faults_of script ≡ [] → (plan : Plan) × IsPlan script plan
 plan_of script clean = let p = parts_of script clean in (p.0, record { clean = fault_refuted script clean; given = is_given script p.0 (clean_items script clean) p.1 })

@@ -8,7 +8,7 @@ use Rattle.sy_rules.specs.declared.lists.decided.Head.{Head}
 use Rattle.sy_rules.specs.declared.lists.statement.Statement.{Statement}
 use Rattle.sy_rules.specs.declared.lists.statement.Statement.TheVariants as statement
 use Rattle.sy_rules.specs.declared.lists.walk.Reached.{Reached}
-use Rattle.sy_rules.specs.internal.ClassFlows.{AreMet, IsHead, IsMet, IsTail, executes, met_list, met_statements}
+use Rattle.sy_rules.specs.internal.ClassFlows.{AreMet, IsHeadAt, IsMet, IsTail, executes, met_list, met_statements}
 use Rattle.sy_rules.specs.internal.TableWalk.{followed_by, take_met}
 use Rattle.sy_rules.specs.internal.Tables.{table_at}
 use Rattle.sy_rules.proofs.lemmas.lists.TableLaws.{before_nothing, ends, followed_by_both, run_if}
@@ -90,11 +90,11 @@ pub executes_more : (set new : ℕ) (next : Reached) → next.goes_on ≡ true �
 executes_more set new next goes is = rw (is, goes) refl
 
 -- the rest of a table is what its head leaves
-pub head_left : (judge : ℕ → Verdict) (tables : List (List Statement)) (table rest : List Statement) (head : Head) (executed : ℕ) → IsTail rest table
-    → head.size ≡ length table - length rest → head.executed ≡ executed → SoFar judge tables 16 table 0 (executes executed) rest → IsHead judge tables table head
-head_left judge tables table rest head executed tail size is so_far met are =
-    so_far met are ∙ ap (λ n. followed_by (executes n) (met_statements met tables 16 rest 0)) (sym is)
-    ∙ ap (λ r. followed_by (executes head.executed) (met_statements met tables 16 r 0)) (tail ∙ ap (λ n. drop n table) (sym size))
+pub head_left : (judge : ℕ → Verdict) (tables : List (List Statement)) (depth : ℕ) (table rest : List Statement) (head : Head) (executed : ℕ) → IsTail rest table
+    → head.size ≡ length table - length rest → head.executed ≡ executed → SoFar judge tables depth table 0 (executes executed) rest → IsHeadAt depth judge tables table head
+head_left judge tables depth table rest head executed tail size is so_far met are =
+    so_far met are ∙ ap (λ n. followed_by (executes n) (met_statements met tables depth rest 0)) (sym is)
+    ∙ ap (λ r. followed_by (executes head.executed) (met_statements met tables depth r 0)) (tail ∙ ap (λ n. drop n table) (sym size))
 
 -- ---- a list by its table
 

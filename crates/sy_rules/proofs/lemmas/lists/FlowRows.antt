@@ -44,7 +44,7 @@ last_is : {A : Type 0} (xs : List A) (x : A) → slice_get (xs ++ x ∷ []) (len
 last_is [] x = refl
 last_is (y ∷ xs) x = last_is xs x
 
-some_same : {A : Type 0} (x y : A) → Some x ≡ Some y → x ≡ y
+pub some_same : {A : Type 0} (x y : A) → Some x ≡ Some y → x ≡ y
 some_same x y e = cc
 
 -- what holds of each element, by its number, and of one more

@@ -29,11 +29,11 @@ use Rattle.sy_rules.proofs.lemmas.lists.Walks.{flow-⧺, work_is}
 
 -- ---- calls that don't lie too deep
 
-or_left : (a b : Bool) → (a || b) ≡ false → a ≡ false
+pub or_left : (a b : Bool) → (a || b) ≡ false → a ≡ false
 or_left true b h = cc
 or_left false b h = refl
 
-or_right : (a b : Bool) → (a || b) ≡ false → b ≡ false
+pub or_right : (a b : Bool) → (a || b) ≡ false → b ≡ false
 or_right true b h = cc
 or_right false b h = h
 
@@ -44,13 +44,13 @@ module _ (bad : ℕ → Bool) (done otherwise : ℕ) (rest : List Statement) (h 
       ∙ ap (λ r. list_any bad (called (take done rest)) || r) (list_any-append bad (called (take otherwise (drop done rest))) (called (drop otherwise (drop done rest)))))
       ∙ ap (list_any bad) (sym (cut_called done otherwise rest)) ∙ h
 
-  none_in_done : list_any bad (called (take done rest)) ≡ false
+  pub none_in_done : list_any bad (called (take done rest)) ≡ false
   none_in_done = or_left _ _ split
 
-  none_in_otherwise : list_any bad (called (take otherwise (drop done rest))) ≡ false
+  pub none_in_otherwise : list_any bad (called (take otherwise (drop done rest))) ≡ false
   none_in_otherwise = or_left _ _ (or_right _ _ split)
 
-  none_behind : list_any bad (called (drop otherwise (drop done rest))) ≡ false
+  pub none_behind : list_any bad (called (drop otherwise (drop done rest))) ≡ false
   none_behind = or_right _ _ (or_right _ _ split)
 
 -- ---- the lists of tables
@@ -80,7 +80,7 @@ same_expand f g bad (Lines.If t d o x) e h =
     let third = same_expand f g bad x e (or_right _ _ (or_right _ _ all)) in
     rw (first, second, third) refl
 
-never : (A : Type 0) → true ≡ false → A
+pub never : (A : Type 0) → true ≡ false → A
 never A e = cc
 
 module _ (lists : List Lines) where

@@ -1,5 +1,5 @@
 -- The lists that rulesets and actions give are those of the plan's definitions.
-use Rattle.std.proofs.Common.{◌≡◌, ℕ, zero, suc, ◌+◌, Bool, true, false, if◌then◌else◌, List, [], ◌∷◌, ◌++◌, length, take, slice_get, Option, Some, None, is_some, refl, sym, ap, ◌∙◌, subst, append_assoc, arith}
+use Rattle.std.proofs.Common.{◌≡◌, ℕ, zero, suc, ◌+◌, ◌-◌, ◌<◌, Bool, true, false, if◌then◌else◌, List, [], ◌∷◌, ◌++◌, length, take, slice_get, Option, Some, None, is_some, refl, sym, ap, ◌∙◌, subst, append_assoc, arith}
 use Rattle.std.proofs.Math.Seq.{take-append_seam}
 use Rattle.std.proofs.lemmas.List.Elements.{filter_map-append}
 use Rattle.std.specs.List.{cons_option, filter_map}
@@ -105,6 +105,68 @@ single_at number (x ∷ later) (suc a) m e h = next (is_some x.queue) (single_at
         let more : queued (take a later) + 1 ≡ suc (queued (take a later)) = omega arith in
         rw more f
     next false f = f
+
+-- the run at a place among those of queued actions
+record Single (number : ℕ) (actions : List ActionParameters) (runs : List Lines) (k : ℕ) : Type 0 where
+  pub action : ℕ
+  pub is : list_at runs k ≡ Lines.Run (number + action) Lines.End
+  pub has : action_has_queue (slice_get actions action) ≡ true
+  pub before : queued (take action actions) ≡ k
+
+-- one stands for each
+single_there : (number : ℕ) (actions : List ActionParameters) (k : ℕ) → k < queued actions → Single number actions (singles number actions) k
+single_there number [] k le = absurd (omega (arith, le))
+single_there number (x ∷ later) k le = by_case (is_some x.queue) refl k (single_there (number + 1) later) le
+  where
+    by_case : (b : Bool) → is_some x.queue ≡ b → (k : ℕ) → ((j : ℕ) → j < queued later → Single (number + 1) later (singles (number + 1) later) j)
+        → k < (if b then queued later + 1 else queued later)
+        → Single number (x ∷ later) (if b then Lines.Run number Lines.End ∷ singles (number + 1) later else singles (number + 1) later) k
+    by_case true e zero rest le = record {
+      action = 0;
+      is = ap (λ n. Lines.Run n Lines.End) (omega arith);
+      has = e;
+      before = refl;
+    }
+    by_case true e (suc k) rest le =
+        let s = rest k (omega (arith, le)) in
+        record {
+          action = suc s.action;
+          is = s.is ∙ ap (λ n. Lines.Run n Lines.End) (omega arith);
+          has = s.has;
+          before = ap (λ b. if b then queued (take s.action later) + 1 else queued (take s.action later)) e ∙ omega (arith, s.before);
+        }
+    by_case false e k rest le =
+        let s = rest k le in
+        record {
+          action = suc s.action;
+          is = s.is ∙ ap (λ n. Lines.Run n Lines.End) (omega arith);
+          has = s.has;
+          before = ap (λ b. if b then queued (take s.action later) + 1 else queued (take s.action later)) e ∙ s.before;
+        }
+
+-- Each list behind those of the rulesets is one that a queued action posts to, and runs that action alone.
+pub record IsOwnList (script : Script) (tests : List (Formula Test)) (list : ℕ) : Type 0 where
+  pub action : ℕ
+  pub body : body_of (lines_of script tests) list ≡ Body.Run action Body.End
+  pub has : action_has_queue (slice_get (actions_of (items script)) action) ≡ true
+  pub is : list ≡ list_of_action (file_of (items script) tests) action
+
+pub own_list : (script : Script) (tests : List (Formula Test)) (list : ℕ) → length (rulesets_of (items script)) < list
+    → list < 1 + length (rulesets_of (items script)) + queued (actions_of (items script)) → IsOwnList script tests list
+own_list script tests list le most =
+    let all = items script in
+    let file = file_of all tests in
+    let many = as_many_rulesets file 0 0 script.tops in
+    let k = list - (1 + length (rulesets_of all)) in
+    let single = single_there 0 (actions_of all) k (omega (arith, le, most)) in
+    record {
+      action = single.action;
+      body = run_expanded (lines_of script tests) CALL_DEPTH list single.action
+          (list_behind _ (inside file 0 0 (parts script.tops)) (singles 0 (actions_of all)) list k (omega (arith, le, many))
+          ∙ (single.is ∙ ap (λ n. Lines.Run n Lines.End) (omega arith)));
+      has = single.has;
+      is = omega (arith, single.before, le);
+    }
 
 -- The list that a queued action posts to runs that action alone.
 pub post_runs : (script : Script) (tests : List (Formula Test)) (number : ℕ) → action_has_queue (slice_get (actions_of (items script)) number) ≡ true → body_of (lines_of script tests) (list_of_action (file_of (items script) tests) number) ≡ Body.Run number Body.End

@@ -59,6 +59,7 @@ is_given script plan clean p =
       workers = subst (λ qs. GiveWorkers 0 qs plan.workers) (sym p.queues) (subst (GiveWorkers 0 (queues_of all)) (sym p.workers) (workers_given 0 (queues_of all)));
       actions = subst (Given GivesAction 0 [] all) (sym p.actions) (of.actions_given all);
       lists = subst (GiveLists all (lines_of script p.tests)) (sym p.lists) (lists_by_objects script p.tests);
+      rulesets = p.rulesets;
       names = p.names;
     }
 
@@ -90,5 +91,6 @@ has_parts script plan clean g =
       workers = one_workers 0 plan.queues plan.workers g.workers ∙ ap (workers_from 0) same;
       actions = one_list GivesAction same_action 0 [] all plan.actions _ g.actions (of.actions_given all);
       lists = one_lists all (lines_of script g.tests) plan.lists _ g.lists (lists_by_objects script g.tests);
+      rulesets = g.rulesets;
       names = g.names;
     }

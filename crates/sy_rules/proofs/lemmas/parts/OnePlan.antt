@@ -33,7 +33,8 @@ same_parts script p q a b =
     ∙ ap (λ x. record p { inputs = q.inputs; queues = q.queues; workers = x }) (a.workers ∙ sym b.workers)
     ∙ ap (λ x. record p { inputs = q.inputs; queues = q.queues; workers = q.workers; actions = x }) (a.actions ∙ sym b.actions)
     ∙ ap (λ x. record p { inputs = q.inputs; queues = q.queues; workers = q.workers; actions = q.actions; lists = x }) (same_lists script p q a b)
-    ∙ ap (λ x. record p { inputs = q.inputs; queues = q.queues; workers = q.workers; actions = q.actions; lists = q.lists; names = x }) (a.names ∙ sym b.names)
+    ∙ ap (λ x. record p { inputs = q.inputs; queues = q.queues; workers = q.workers; actions = q.actions; lists = q.lists; rulesets = x }) (a.rulesets ∙ sym b.rulesets)
+    ∙ ap (λ x. record p { inputs = q.inputs; queues = q.queues; workers = q.workers; actions = q.actions; lists = q.lists; rulesets = q.rulesets; names = x }) (a.names ∙ sym b.names)
 
 pub one_plan : (script : Script) (p q : Plan) → IsPlan script p → IsPlan script q → p ≡ q
 one_plan script p q a b = same_parts script p q (listed_parts script p a) (listed_parts script q b)

@@ -1,5 +1,5 @@
 -- The lists of rulesets and of actions with a queue: which queue leads to each, and that an action's list runs that action.
-use Rattle.std.proofs.Common.{◌≡◌, ℕ, zero, suc, ◌+◌, true, if◌then◌else◌, List, [], ◌∷◌, ◌++◌, length, take, slice_get, Option, Some, None, is_some, option_and_then, refl, sym, ap, ◌∙◌, arith}
+use Rattle.std.proofs.Common.{◌≡◌, ℕ, zero, suc, ◌+◌, ◌<◌, true, if◌then◌else◌, List, [], ◌∷◌, ◌++◌, length, take, slice_get, Option, Some, None, is_some, option_and_then, refl, sym, ap, ◌∙◌, arith}
 use Rattle.std.proofs.Math.Seq.{take-append_seam}
 use Rattle.std.proofs.lemmas.List.Elements.{filter_map-append}
 use Rattle.std.specs.List.{cons_option, filter_map}
@@ -16,12 +16,14 @@ use Rattle.sy_rules.specs.PlanValue.{HasParts, IsPlan, Plan, lines_of, listed_fr
 use Rattle.sy_rules.specs.check.ScriptFaults.{untested}
 use Rattle.sy_rules.specs.lists.Body.{Body}
 use Rattle.sy_rules.specs.Whole as whole
-use Rattle.sy_rules.specs.Whole.{queue_in, body_at, body_in}
+use Rattle.sy_rules.specs.Whole.{body_at, body_in, owner_at, queue_in, runs_alone}
 use Rattle.sy_rules.proofs.lemmas.parts.GivenInputs.{moved, ruleset_queue}
 use Rattle.sy_rules.proofs.lemmas.parts.GivenItems.{action_item, not_both, queued_at, ruleset_item, same_some}
-use Rattle.sy_rules.proofs.lemmas.parts.GivenLists.{count_queued, item_at, post_runs}
+use Rattle.sy_rules.proofs.lemmas.parts.GivenLists.{count_queued, item_at, own_list, post_runs}
+use Rattle.sy_rules.proofs.lemmas.parts.Listed.{body_listed_at, length-listed_from}
+use Rattle.sy_rules.proofs.lemmas.plan.OwnLists.{owned, owned_within, owner_runs}
 use Rattle.sy_rules.proofs.lemmas.check.FaultLaws.{listed_parts}
-use Rattle.sy_rules.proofs.lemmas.parts.WholeItems.{length-ruleset_queues}
+use Rattle.sy_rules.proofs.lemmas.parts.WholeItems.{length-list_queues, length-ruleset_queues}
 
 -- ---- the item that gives what stands at a place
 
@@ -151,3 +153,43 @@ run_of_action script plan number a is h has =
     let l = queued_list script number a h has in
     ap body_in (list_there script plan p (list_of_action (untested (items script)) number) l.0 l.1)
     ∙ post_runs script p.tests number (ap action_has_queue h ∙ has)
+
+-- ---- own lists
+
+-- an action's own list is the one that it posts to
+pub own_of_action : (script : Script) (plan : Plan) (number : ℕ) (a : ActionParameters) → IsPlan script plan → slice_get (actions_of (items script)) number ≡ Some a → is_some a.queue ≡ true
+    → owner_at plan (list_of_action (untested (items script)) number) ≡ Some number
+own_of_action script plan number a is h has =
+    owned plan (list_of_action (untested (items script)) number) (let many = (listed_parts script plan is).rulesets in omega (arith, many))
+    ∙ ap runs_alone (run_of_action script plan number a is h has)
+
+-- the action has a queue, and posts to the list
+pub record IsOwner (script : Script) (number list : ℕ) : Type 0 where
+  pub action : ActionParameters
+  pub found : slice_get (actions_of (items script)) number ≡ Some action
+  pub has : is_some action.queue ≡ true
+  pub is : list ≡ list_of_action (untested (items script)) number
+
+with_queue : (o : Option ActionParameters) → action_has_queue o ≡ true → (a : ActionParameters) × (o ≡ Some a) × (is_some a.queue ≡ true)
+with_queue None e = cc
+with_queue (Some a) e = (a, refl, e)
+
+one_run : (a b : ℕ) → Some a ≡ Some b → a ≡ b
+one_run a b e = cc
+
+pub owner_of_list : (script : Script) (plan : Plan) (list number : ℕ) → IsPlan script plan → owner_at plan list ≡ Some number → IsOwner script number list
+owner_of_list script plan list number is e =
+    let p = listed_parts script plan is in
+    let all = items script in
+    let lines = lines_of script p.tests in
+    let many : length plan.lists ≡ length (list_queues all) = ap length p.lists ∙ length-listed_from lines 0 (list_queues all) in
+    let counted = length-list_queues all in
+    let within = owned_within plan list number e in
+    let above : length (rulesets_of all) < list = (let le = within.0 in let r = p.rulesets in omega (arith, le, r)) in
+    let below : list < length (list_queues all) = (let le = within.1 in omega (arith, le, many)) in
+    let own = own_list script p.tests list above (omega (arith, below, counted)) in
+    let body : body_at plan list ≡ Body.Run own.action Body.End =
+    ap (λ ls. body_in (slice_get ls list)) p.lists ∙ (body_listed_at lines 0 (list_queues all) list list below (omega arith) ∙ own.body) in
+    let same : own.action ≡ number = one_run own.action number (sym (ap runs_alone body) ∙ owner_runs plan list number e) in
+    let there = with_queue (slice_get (actions_of all) number) (ap (λ n. action_has_queue (slice_get (actions_of all) n)) (sym same) ∙ own.has) in
+    record { action = there.0; found = there.1; has = there.2; is = own.is ∙ ap (list_of_action (untested all)) same }

@@ -249,10 +249,9 @@ place_exists : (name : List ℕ) (names : List (List ℕ)) → list_at_place (pl
 place_exists name [] = omega arith
 place_exists name (n ∷ names) = here_or_later (bytes_eq name n) (place_of name names) (length names) (place_exists name names)
 
-list_of_input_exists : (all : List Item) (name : Option (List ℕ)) → list_of_input all name < length (list_queues all)
+list_of_input_exists : (all : List Item) (name : Option (List ℕ)) → list_of_input all name ≤ length (rulesets_of all)
 list_of_input_exists all None = omega arith
-list_of_input_exists all (Some name) =
-    omega (arith, place_exists name (ruleset_names all), length-map (rulesets_of all) (λ r. r.name), length-list_queues all)
+list_of_input_exists all (Some name) = omega (arith, place_exists name (ruleset_names all), length-map (rulesets_of all) (λ r. r.name))
 
 queue_exists : (most : ℕ) (o : Option (Option ℕ)) → 0 < most → IfSome o (Exists most) → queue_or_main o < most
 queue_exists most None le e = le
@@ -260,7 +259,7 @@ queue_exists most (Some None) le e = le
 queue_exists most (Some (Some q)) le e = e
 
 abbrev pub IsBound : List Item → Input → Type 0
-IsBound all i = (1 ≤ i.port) × (i.list < length (list_queues all)) × (i.queue < length (queues_of all))
+IsBound all i = (1 ≤ i.port) × (i.list ≤ length (rulesets_of all)) × (i.queue < length (queues_of all))
 
 part_is_bound : (all : List Item) (i : InputParameters) → 1 ≤ i.port → IsBound all (input_part all i)
 part_is_bound all i port = (

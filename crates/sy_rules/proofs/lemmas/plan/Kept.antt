@@ -23,11 +23,11 @@ use Rattle.sy_rules.specs.internal.Tables.{count_of}
 use Rattle.sy_rules.specs.Whole.{IsWhole}
 use Rattle.sy_rules.proofs.lemmas.plan.WholePlans.{is_whole, plan_from}
 
-abbrev pub made : List Input → List QueueParameters → List ℕ → List Action → List Lines → List (Option ℕ) → List (List ℕ) → Plan
-made inputs queues workers actions lines list_queues names = record { inputs = inputs; queues = queues; workers = workers; actions = actions; lists = listed_from lines 0 list_queues; names = names }
+abbrev pub made : List Input → List QueueParameters → List ℕ → List Action → List Lines → List (Option ℕ) → ℕ → List (List ℕ) → Plan
+made inputs queues workers actions lines list_queues rulesets names = record { inputs = inputs; queues = queues; workers = workers; actions = actions; lists = listed_from lines 0 list_queues; rulesets = rulesets; names = names }
 
-pub same_made : (i j : List Input) (q r : List QueueParameters) (w v : List ℕ) (a b : List Action) (l m : List Lines) (p o : List (Option ℕ)) (n k : List (List ℕ)) → i ≡ j → q ≡ r → w ≡ v → a ≡ b → l ≡ m → p ≡ o → n ≡ k → made i q w a l p n ≡ made j r v b m o k
-same_made i j q r w v a b l m p o n k ei eq ew ea el ep en = rw (ei, eq, ew, ea, el, ep, en) refl
+pub same_made : (i j : List Input) (q r : List QueueParameters) (w v : List ℕ) (a b : List Action) (l m : List Lines) (p o : List (Option ℕ)) (s t : ℕ) (n k : List (List ℕ)) → i ≡ j → q ≡ r → w ≡ v → a ≡ b → l ≡ m → p ≡ o → s ≡ t → n ≡ k → made i q w a l p s n ≡ made j r v b m o t k
+same_made i j q r w v a b l m p o s t n k ei eq ew ea el ep es en = rw (ei, eq, ew, ea, el, ep, es, en) refl
 
 same_listed : (l m : List Lines) (p o : List (Option ℕ)) → l ≡ m → p ≡ o → listed_from l 0 p ≡ listed_from m 0 o
 same_listed l m p o el ep = rw (el, ep) refl
@@ -41,7 +41,7 @@ few_in l m e h = subst (λ x. (k : ℕ) → count_of x k ≤ 64) e h
 pub kept : (script : Script) (p : Inside) → AreParts script p → faults_after (items script) [] (items script) ≡ [] → too_many_workers (items script) ≡ [] → IsKept p
 kept script p parts clean workers =
     let whole = is_whole script p.tests.items clean workers (small_in _ _ parts.lines parts.tables.small) (few_in _ _ parts.lines parts.tables.few) in
-    let same : plan_of p ≡ plan_from (items script) (lines_of script p.tests.items) = same_made _ _ _ _ _ _ _ _ _ _ _ _ _ _ parts.inputs parts.queues parts.workers parts.actions parts.lines parts.own_queues parts.names in
+    let same : plan_of p ≡ plan_from (items script) (lines_of script p.tests.items) = same_made _ _ _ _ _ _ _ _ _ _ _ _ _ _ _ _ parts.inputs parts.queues parts.workers parts.actions parts.lines parts.own_queues parts.rulesets parts.names in
     record {
       whole = subst IsWhole (sym same) whole;
       tables = parts.tables;
@@ -58,6 +58,7 @@ is_plan script p parts = record {
   workers = parts.workers;
   actions = parts.actions;
   lists = same_listed _ _ _ _ parts.lines parts.own_queues;
+  rulesets = parts.rulesets;
   names = parts.names;
 }
 

@@ -29,7 +29,7 @@ is_whole = record {
   inputs_most = omega arith;
   input_ports = All-from_recursion (λ i. 1 ≤ i.port) plan.inputs (omega arith, tt);
   ports_differ = one_differs 1;
-  input_lists = All-from_recursion (λ i. i.list < 1) plan.inputs (omega arith, tt);
+  input_lists = All-from_recursion (λ i. i.list ≤ 0) plan.inputs (omega arith, tt);
   input_queues_are_those_of_their_lists = All-from_recursion (λ i. i.queue ≡ queue_for plan i.list) plan.inputs (refl, tt);
   input_queues = All-from_recursion (λ i. i.queue < 1) plan.inputs (omega arith, tt);
   queues_least = omega arith;
@@ -44,6 +44,8 @@ is_whole = record {
   lists_least = omega arith;
   lists_most = omega arith;
   list_names = refl;
+  rulesets_before = omega arith;
+  own_lists = λ list least most. absurd (omega (arith, least, most));
   main_list = refl;
   list_queues = All-from_recursion (λ l. IfSome l.queue (λ queue. (1 ≤ queue) × (queue < 1))) plan.lists (tt, tt);
   queues_are_led = λ queue least most. absurd (omega (arith, least, most));
@@ -76,11 +78,11 @@ pub same_tables : (tests : List (Formula Test)) (found : List (List Statement)) 
 same_tables tests found e f = rw (e, f) are_tables
 
 pub kept : (p : Inside) → p.inputs.items ≡ plan.inputs → p.queues.items ≡ plan.queues → p.workers.items ≡ plan.workers → p.actions.items ≡ plan.actions → p.tests.items ≡ [] → p.tables.items ≡ (statement.Run 0 0 ∷ []) ∷ []
-    → p.occurrences.items ≡ (occurrence.Run 0 ∷ []) ∷ [] → p.list_queues.items ≡ None ∷ [] → p.names.items ≡ plan.names
+    → p.occurrences.items ≡ (occurrence.Run 0 ∷ []) ∷ [] → p.list_queues.items ≡ None ∷ [] → p.rulesets ≡ 0 → p.names.items ≡ plan.names
     → AreFlows p.tests.items p.tables.items p.class_flows → IsKept p
-kept p inputs queues workers actions tests found occurred own names flows =
+kept p inputs queues workers actions tests found occurred own rulesets names flows =
     let lines : lines_of_tables p.tests.items p.tables.items ≡ lines_of_tables [] tables = ap (λ ts. lines_of_tables ts p.tables.items) tests ∙ ap (lines_of_tables []) found in
-    let same : plan_of p ≡ plan = same_made _ _ _ _ _ _ _ _ _ _ _ _ _ _ inputs queues workers actions lines own names in
+    let same : plan_of p ≡ plan = same_made _ _ _ _ _ _ _ _ _ _ _ _ _ _ _ _ inputs queues workers actions lines own rulesets names in
     record {
       whole = subst IsWhole (sym same) is_whole;
       tables = same_tables p.tests.items p.tables.items tests found;

@@ -20,12 +20,13 @@ use Rattle.sy_rules.specs.check.ScriptFaults.{faults_after, too_many_workers}
 use Rattle.sy_rules.specs.lists.Body.{Body, count, occurrences, size}
 use Rattle.sy_rules.specs.lists.Texts.{parts}
 use Rattle.sy_rules.specs.Whole as whole
-use Rattle.sy_rules.specs.Whole.{IsLed, IsWhole, Leads, queue_for, queue_in}
+use Rattle.sy_rules.specs.Whole.{IsLed, IsWhole, Leads, queue_for, queue_in, runs_alone}
 use Rattle.sy_rules.proofs.lemmas.check.CleanItems.{are_clean, few_inputs, few_rulesets, few_actions, few_workers, queues_of_both}
 use Rattle.sy_rules.proofs.lemmas.plan.Different.{names_differ, ports_differ}
 use Rattle.sy_rules.proofs.lemmas.plan.Leads.{bodies_all}
 use Rattle.sy_rules.proofs.lemmas.plan.Led.{IsInner, alone, found, lists_are_inner, once_listed, own}
-use Rattle.sy_rules.proofs.lemmas.parts.Listed.{length-listed_from}
+use Rattle.sy_rules.proofs.lemmas.parts.GivenLists.{own_list}
+use Rattle.sy_rules.proofs.lemmas.parts.Listed.{body_listed_at, length-listed_from}
 use Rattle.sy_rules.proofs.lemmas.items.TextItems.{as_many_actions}
 use Rattle.sy_rules.proofs.lemmas.lists.BodySizes.{size_at_most}
 use Rattle.sy_rules.proofs.lemmas.parts.WholeItems.{Exists, IsBound, inputs_are_bound, list_queues_exist, length-action_parts, length-list_queues, length-ruleset_queues, length-workers_from, queued_at_most, queues_in_range, targets_have_ports, workers_exist}
@@ -159,6 +160,7 @@ plan_from all lines = record {
   workers = workers_of all;
   actions = action_parts 0 (actions_of all);
   lists = listed_from lines 0 (list_queues all);
+  rulesets = length (rulesets_of all);
   names = list_names (rulesets_of all) (actions_of all);
 }
 
@@ -205,6 +207,14 @@ module _ (script : Script) (tests : List (Formula Test))
       (λ place h. posts (place + 1) (call_leads all place h))
       (parts script.tops) (as_many_actions script.tops)
 
+  -- a list behind those of the rulesets runs an action alone
+  own_lists : (list : ℕ) → plan.rulesets < list → list < length plan.lists → (action : ℕ) × (runs_alone (whole.body_at plan list) ≡ Some action)
+  own_lists list le most =
+      let lines = lines_of script tests in
+      let many = length-list_queues all in
+      let own = own_list script tests list le (omega (arith, most, lists_are_as_many, many)) in
+      (own.action, ap runs_alone (body_listed_at lines 0 (list_queues all) list list (omega (arith, most, lists_are_as_many)) (omega arith) ∙ own.body))
+
   pub is_whole : IsWhole plan
   is_whole =
       let kept = are_clean all clean in
@@ -216,7 +226,7 @@ module _ (script : Script) (tests : List (Formula Test))
         inputs_most = omega (arith, few_inputs all clean, length-map (inputs_of all) (input_part all));
         input_ports = All-from_recursion (λ i. 1 ≤ i.port) plan.inputs (each (IsBound all) (λ i. 1 ≤ i.port) (λ i p. p.0) plan.inputs bound);
         ports_differ = ports_differ all clean;
-        input_lists = All-from_recursion (λ i. i.list < length plan.lists) plan.inputs (each (IsBound all) (λ i. i.list < length plan.lists) (λ i p. omega (arith, p.1, lists_are_as_many)) plan.inputs bound);
+        input_lists = All-from_recursion (λ i. i.list ≤ plan.rulesets) plan.inputs (each (IsBound all) (λ i. i.list ≤ plan.rulesets) (λ i p. p.1) plan.inputs bound);
         input_queues_are_those_of_their_lists = All-map (λ i. i.queue ≡ queue_for plan i.list) (input_part all) (inputs_of all) (λ k d within. puts (slice_index_or (inputs_of all) k d));
         input_queues = All-from_recursion (λ i. i.queue < length plan.queues) plan.inputs (each (IsBound all) (λ i. i.queue < length plan.queues) (λ i p. p.2) plan.inputs bound);
         queues_least = omega arith;
@@ -231,6 +241,8 @@ module _ (script : Script) (tests : List (Formula Test))
         lists_least = omega (arith, lists_are_as_many);
         lists_most = omega (arith, lists_are_as_many, length-list_queues all, rulesets, actions, queued_at_most (actions_of all));
         list_names = omega (arith, names_are_as_many all, lists_are_as_many);
+        rulesets_before = omega (arith, lists_are_as_many, length-list_queues all);
+        own_lists = own_lists;
         main_list = refl;
         list_queues = All-from_recursion (λ l. IsOwn (length plan.queues) l.queue) plan.lists
             (queues_listed (IsOwn (length plan.queues)) (lines_of script tests) 0 (list_queues all) (are_own (length plan.queues) (list_queues all) (lists_are_inner all) (list_queues_exist all)));

@@ -20,6 +20,12 @@ action_parts-requires c =
     let g = subst (λ x. IsGathered x c.in_ok-gathered.gathered) c.requires.items c.in_ok-gathered.ensures.ok in
     record { few = omega (arith, ap length g.actions, few_actions all c.requires.clean) }
 
+pub overflow_cast-rulesets : goal.overflow_cast-rulesets
+overflow_cast-rulesets c =
+    let all = items c.args.script.now in
+    let g = subst (λ x. IsGathered x c.in_ok-gathered.gathered) c.requires.items c.in_ok-gathered.ensures.ok in
+    omega (arith, c.len-rulesets.ensures, ap length g.rulesets, few_rulesets all c.requires.clean)
+
 pub invariant_of-result : goal.invariant_of-result
 invariant_of-result c =
     let g = subst (λ x. IsGathered x c.in_ok-gathered.gathered) c.requires.items c.in_ok-gathered.ensures.ok in
@@ -30,6 +36,7 @@ invariant_of-result c =
       queues = g.queues;
       workers = g.workers;
       actions = c.in_ok-actions.ensures.ok ∙ ap (action_parts 0) g.actions;
+      rulesets = omega (arith, c.len-rulesets.ensures, ap length g.rulesets);
       names = c.in_ok-names.ensures.ok ∙ same_names _ _ _ _ (c.as_slice.ensures.value ∙ g.rulesets) (c.as_slice-2.ensures.value ∙ g.actions);
       own_queues = g.list_queues;
       tests = g.tests;

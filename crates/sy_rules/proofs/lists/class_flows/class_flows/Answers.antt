@@ -8,4 +8,4 @@ returns c =
     let tests = c.args.parts.tests.now in
     let tables = c.args.parts.tables.now in
     flows_by_rows tests tables (record { columns = c.in_ok-columns.columns; rows = c.in_ok-rows.rows }) c.in_ok-columns.ensures
-    (subst (λ classes. AreRows tests tables classes c.in_ok-rows.rows.items) c.as_slice.ensures.value c.in_ok-rows.ensures)
+    (subst (λ classes. AreRows tests tables classes c.in_ok-rows.rows.items) c.as_slice-classes.ensures.value c.in_ok-rows.ensures)

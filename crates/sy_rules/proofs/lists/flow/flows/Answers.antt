@@ -9,10 +9,10 @@ use Rattle.sy_rules.proofs.lists.flow.flows.Goals as goal
 
 pub returns-clause-may : goal.returns-clause-may
 returns-clause-may c =
-    subst (λ (f : Flow). Bits (May (body_of (lines_of_tables c.args.tests.now c.args.tables.now) c.args.list) c.args.class) f.may.set) (sym c.list-flow.ensures)
+    subst (λ (f : Flow). Bits (May (body_of (lines_of_tables c.args.tests.now c.args.tables.now) c.args.list) c.args.class) f.may.set) (sym c.flow-flow.ensures)
     (may_set c.args.tests.now c.args.tables.now c.args.class c.args.list c.requires)
 
 pub returns-clause-must : goal.returns-clause-must
 returns-clause-must c =
-    subst (λ (f : Flow). Bits (Must (body_of (lines_of_tables c.args.tests.now c.args.tables.now) c.args.list) c.args.class) f.must.set) (sym c.list-flow.ensures)
+    subst (λ (f : Flow). Bits (Must (body_of (lines_of_tables c.args.tests.now c.args.tables.now) c.args.list) c.args.class) f.must.set) (sym c.flow-flow.ensures)
     (must_set c.args.tests.now c.args.tables.now c.args.class c.args.list c.requires)

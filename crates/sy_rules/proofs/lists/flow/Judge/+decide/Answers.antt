@@ -2,6 +2,7 @@ use Rattle.std.proofs.Common.{◌∷◌, ◌≤◌, ◌-◌, length, sum_by, tak
 use Rattle.std.proofs.lemmas.List.{length-take, length-drop}
 use Rattle.sy_rules.specs.internal.ClassFlows.{IsMet, met_statements}
 use Rattle.sy_rules.specs.internal.FlowWalk.{judged}
+use Rattle.sy_rules.proofs.lemmas.lists.Between.{list_decided}
 use Rattle.sy_rules.proofs.lemmas.lists.Decided.{by_statements, decided_if, so_far_done, so_far_more}
 use Rattle.sy_rules.proofs.lemmas.lists.TableLaws.{falls_by_depth, first_and_rest, no_rest, table_length}
 use Rattle.sy_rules.proofs.lists.flow.Judge.+decide.Goals as goal
@@ -21,6 +22,10 @@ decided_list-decided_statements-requires t c =
     let long : length c.table_at.result.now ≤ sum_by length c.args.self.tables.now = rw c.table_at.ensures short in
     let falls = falls_by_depth c.args.depth (sum_by length c.args.self.tables.now) (length c.table_at.result.now) c.if-depth-eq0.false long in
     search (rules, falls)
+
+pub decided_list-returns-in-Some : goal.decided_list-returns-in-Some
+decided_list-returns-in-Some t c =
+    list_decided c.args.self.class c.args.self.tests.now c.args.self.tables.now c.args.depth c.args.list c.args.base c.in-Some.flow c.decided_flow.result c.in-Some.ensures c.decided_flow.ensures
 
 pub decided_list-returns : goal.decided_list-returns
 decided_list-returns t c =
