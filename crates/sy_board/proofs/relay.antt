@@ -13,6 +13,7 @@ pub mod Firsts
 pub mod Running
 pub mod SamePairs
 pub mod Keeps
+pub mod Spares
 pub mod Marks
 pub mod Guards
 pub mod Orderly

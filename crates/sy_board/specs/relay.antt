@@ -3,6 +3,7 @@ pub mod Plans
 pub mod Cells
 pub mod Steps
 pub mod Runs
+pub mod Spares
 pub mod Totals
 pub mod Moves
 pub mod Feeders

@@ -21,7 +21,7 @@ ghost use Rattle.sy_board.specs.declared.relay.answers.Retry.TheVariants as Retr
 ghost use Rattle.sy_board.specs.declared.relay.answers.Posted.TheVariants as Posted;
 ghost use Rattle.sy_board.specs.relay.Patience.{IsPatient};
 ghost use Rattle.sy_board.specs.relay.Guards.{IsGuarding, IsWithinGuard, MayGuard};
-ghost use Rattle.sy_board.specs.relay.Totals.{Laws, Pairs, Totals, counted, guarded_losses, nothing_counted, total};
+ghost use Rattle.sy_board.specs.relay.Totals.{GuardState, Laws, Totals, counted, guarded_losses, nothing_counted, total};
 ghost use Rattle.sy_board.specs.relay.Moves.{IsLeftAlone, added, came, over, removed, went, worker_of};
 
 pub mod accounts;
@@ -65,9 +65,9 @@ pub fn workers_stay_apart()
 
 /// Each step keeps the laws of accounts, with what it counts.
 pub fn accounts_balance()
-    ensures { (plan : Plan) → (pairs : Pairs) → (old : RelayState) → (event : Event) → (new : RelayState) → (outs : List Out) → (totals : Totals)
-        → IsWhole plan → IsShaped plan old → Laws plan old totals → Step plan old event new outs
-        → Laws plan new (counted plan pairs old event new outs totals) }
+    ensures { (plan : Plan) → (guard : GuardState) → (old : RelayState) → (event : Event) → (new : RelayState) → (outs : List Out)
+        → (totals : Totals) → IsWhole plan → IsShaped plan old → Laws plan old totals → Step plan old event new outs
+        → Laws plan new (counted plan guard old event new outs totals) }
 {}
 
 /// No job fails more often than it may be tried again: not before the first message, and no step changes it.
@@ -140,17 +140,17 @@ pub fn one_outcome()
         → Step plan old event one outs → Step plan old event other others → (one ≡ other) × (outs ≡ others) }
 {}
 
-/// Where a plan meets the condition of a guard, no step loses anything of its pairs, and the queue of each pair's input, where all its feeders are
-/// full-delay inputs, stays within its full-delay mark: before the first message each queue and each entry is as that asks, and each step keeps it.
-/// A guard without pairs asks nothing.
+/// Where a plan meets the condition of a guard, no step loses anything of its pairs but at or after spare actions, and the queue of each pair's
+/// input, where all its feeders are full-delay inputs, stays within its full-delay mark: before the first message each queue and each entry is as
+/// that asks, and each step keeps it. A guard without pairs asks nothing.
 pub fn nothing_guarded_is_lost()
-    ensures opening { (plan : Plan) → (pairs : Pairs) → IsGuarding plan pairs (opening plan) }
-    ensures step { (plan : Plan) → (pairs : Pairs) → (old : RelayState) → (event : Event) → (new : RelayState) → (outs : List Out)
-        → MayGuard plan pairs → IsGuarding plan pairs old → Step plan old event new outs
-        → IsGuarding plan pairs new × (guarded_losses pairs outs ≡ 0) }
-    ensures within { (plan : Plan) → (pairs : Pairs) → (state : RelayState) → MayGuard plan pairs → IsGuarding plan pairs state
-        → IsWithinGuard plan pairs state }
-    ensures unasked { (plan : Plan) → MayGuard plan [] }
+    ensures opening { (plan : Plan) → (guard : GuardState) → IsGuarding plan guard (opening plan) }
+    ensures step { (plan : Plan) → (guard : GuardState) → (old : RelayState) → (event : Event) → (new : RelayState) → (outs : List Out)
+        → MayGuard plan guard → IsGuarding plan guard old → Step plan old event new outs
+        → IsGuarding plan guard new × (guarded_losses plan guard outs ≡ 0) }
+    ensures within { (plan : Plan) → (guard : GuardState) → (state : RelayState) → MayGuard plan guard → IsGuarding plan guard state
+        → IsWithinGuard plan guard state }
+    ensures unasked { (plan : Plan) → (spares : List ℕ) → MayGuard plan (record { pairs = []; spares = spares }) }
 {}
 
 /// The messages that a board gives at once are those of the worker's jobs, one after the other: the first is that of its job; and once this is

@@ -35,9 +35,9 @@ pub struct Relay<G: Gate> {
 impl<G: Gate> Model for Relay<G> {
     ghost use Rattle.std.specs.Prelude.{Option};
     ghost use Rattle.std.specs.Arc.{arc_value};
-    ghost use Rattle.sy_board.specs.relay.Totals.{Pairs};
+    ghost use Rattle.sy_board.specs.relay.Totals.{GuardState};
 
-    ghost Value = { Option Pairs };
+    ghost Value = { Option GuardState };
 
     ghost view = { λ r. (arc_value r.common).shared.guard };
 }
@@ -55,7 +55,7 @@ impl<G: Gate> Relay<G> {
         guard: Option<Guard>,
         gate: G,
     ) -> Result<Relay<G>, AllocError>
-        requires { IfSome guard (λ pairs. MayGuard (arc_value plan) pairs) }
+        requires { IfSome guard (MayGuard (arc_value plan)) }
         ensures { IfOk result (λ relay. relay ≡ guard) }
     {
         let shared = share(alloc, plan, guard, Vec::new(alloc))?;

@@ -58,7 +58,7 @@ pub(crate) fn share(
     guard: Option<Guard>,
     devices: Vec<BoxedDevice>,
 ) -> Result<Shared, AllocError>
-    requires { IfSome guard (λ pairs. MayGuard (arc_value plan) pairs) }
+    requires { IfSome guard (MayGuard (arc_value plan)) }
     ensures { IfOk result (λ shared. shared.guard ≡ guard) }
 {
     let copy = copy_of(alloc, &guard)?;
@@ -133,7 +133,7 @@ impl<G: Gate + Send + Sync + 'static> Relay<G> {
         devices: Vec<BoxedDevice>,
         gate: G,
     ) -> Result<(Relay<G>, Workers), RunFault>
-        requires guard { IfSome guard (λ pairs. MayGuard (arc_value plan) pairs) }
+        requires guard { IfSome guard (MayGuard (arc_value plan)) }
         requires devices { length devices.items ≡ length (arc_value plan).actions }
         ensures ok { IfOk result (λ started. started.0 ≡ guard) }
         ensures err { IfErr result (λ fault. fault ≡ RunFault.NoMemory) }

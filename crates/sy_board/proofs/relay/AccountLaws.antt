@@ -14,7 +14,7 @@ use Rattle.sy_rules.specs.PlanValue.{Plan}
 use Rattle.sy_board.specs.relay.Cells.{Cell, IsShaped, RelayState, at, opening, put, hand}
 use Rattle.sy_board.specs.relay.Plans.{marks_at, occurrences_at, parameters_at, queue_of_input, queue_of_worker}
 use Rattle.sy_board.specs.relay.Steps.{Cause, Enters, Event, Expires, Fails, GivesUp, Grabs, Job, LosesPost, Out, Posts, Settles, Step, Takes, advanced, if_so, still}
-use Rattle.sy_board.specs.relay.Totals.{Counts, Laws, Pairs, Totals, counted, counted_by, counts_at, counts_done, counts_given_up, due_for, due_of, in_hands, in_queues, is_post, is_run_of, left_of, no_counts, nothing_counted, total, with_due}
+use Rattle.sy_board.specs.relay.Totals.{Counts, GuardState, Laws, Totals, counted, counted_by, counts_at, counts_done, counts_given_up, due_for, due_of, in_hands, in_queues, is_post, is_run_of, left_of, no_counts, nothing_counted, total, with_due}
 use Rattle.sy_rules.specs.Whole.{IsWhole, queue_for}
 use Rattle.sy_board.proofs.relay.There.{hand_there, input_queue_there, list_queue_there, worker_queue_there, worker_there}
 use Rattle.sy_board.proofs.relay.Put.{at_put, if_elim, set_length}
@@ -319,8 +319,8 @@ laws_step plan old (Event.PostLost x no_memory) new outs t w s laws (l, e, loses
     (laws_lose_post plan old new x l no_memory e t (worker_there plan old x s loses.job.there) laws loses)
 
 -- the laws don't look at guarded losses
-pub laws_counted : (plan : Plan) (pairs : Pairs) (old : RelayState) (e : Event) (new : RelayState) (outs : List Out) (t : Totals) → IsWhole plan → IsShaped plan old → Laws plan old t → Step plan old e new outs
-    → Laws plan new (counted plan pairs old e new outs t)
-laws_counted plan pairs old e new outs t w s laws step =
+pub laws_counted : (plan : Plan) (guard : GuardState) (old : RelayState) (e : Event) (new : RelayState) (outs : List Out) (t : Totals) → IsWhole plan → IsShaped plan old → Laws plan old t → Step plan old e new outs
+    → Laws plan new (counted plan guard old e new outs t)
+laws_counted plan guard old e new outs t w s laws step =
     let l = laws_step plan old e new outs t w s laws step in
     record { entries = l.entries; posts = l.posts; actions = l.actions; runs = l.runs }

@@ -6,7 +6,7 @@ use Rattle.sy_chain.specs.Entries.{Entry}
 use Rattle.sy_marks.specs.Marks.{front_where, is_kept, kept_of, lost_of}
 use Rattle.sy_rules.specs.PlanValue.{Plan}
 use Rattle.sy_rules.specs.Whole.{IsWhole}
-use Rattle.sy_board.specs.relay.Boards.{Account, BoardState, Fits, Is64, account_of, pairs, stepped}
+use Rattle.sy_board.specs.relay.Boards.{Account, BoardState, Fits, Is64, account_of, guard_of, stepped}
 use Rattle.sy_board.specs.relay.Cells.{Cell, RelayState, at, put, waiting}
 use Rattle.sy_board.specs.relay.Plans.{marks_at, parameters_at, queue_of_worker}
 use Rattle.sy_board.specs.relay.Steps.{Cause, Event, Out}
@@ -45,7 +45,7 @@ grabbed board worker =
 -- its account, but for what the kept entries have due
 abbrev pub grab_counted : BoardState → ℕ → Account
 grab_counted board worker = after_grab (count_by board.plan board.state worker) (length (lost_by board.plan board.state worker))
-    (guarded_losses (pairs board) (losses_of (lost_by board.plan board.state worker))) (account_of board)
+    (guarded_losses board.plan (guard_of board) (losses_of (lost_by board.plan board.state worker))) (account_of board)
 
 module _ (board : BoardState) (worker : ℕ) (there : worker < length board.state.workers)
     (queue_there : queue_of_worker board.plan worker < length board.state.queues) where
@@ -78,7 +78,7 @@ module _ (board : BoardState) (worker : ℕ) (there : worker < length board.stat
         totals = record t {
           grabbed = t.grabbed + count_by board.plan board.state worker;
           lost_out = t.lost_out + lost;
-          guarded_lost = t.guarded_lost + guarded_losses (pairs board) outs;
+          guarded_lost = t.guarded_lost + guarded_losses board.plan (guard_of board) outs;
           posts_due = t.posts_due + due_for board.plan is_post kept;
           actions = with_due (λ action. due_for board.plan (is_run_of action) kept) 0 t.actions;
         };

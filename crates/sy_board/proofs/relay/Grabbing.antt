@@ -11,7 +11,7 @@ use Rattle.sy_rules.specs.PlanValue.{Plan}
 use Rattle.sy_board.specs.declared.relay.board.Board.TheInside.{Inside}
 use Rattle.sy_board.specs.declared.relay.board.Worker.{Worker}
 use Rattle.sy_board.specs.declared.fault.BoardFault.TheVariants as fault
-use Rattle.sy_board.specs.relay.Boards.{Account, BoardState, Fits, GrabFails, GrabIs, account_of, pairs}
+use Rattle.sy_board.specs.relay.Boards.{Account, BoardState, Fits, GrabFails, GrabIs, account_of, guard_of}
 use Rattle.sy_board.specs.relay.Cells.{Cell, RelayState, at}
 use Rattle.sy_board.specs.relay.Plans.{marks_at, marks_of, parameters_at, queue_of_worker}
 use Rattle.sy_board.specs.relay.Steps.{Event, Grabs}
@@ -195,19 +195,19 @@ module _ {b : Inside} {worker count number : ℕ} {slot : Worker} {queue : Queue
 
   -- what count_grab was given
   counted_is : (lost guarded : ℕ) → lost ≡ length (lost_of queue.marks count queue.entries)
-      → guarded ≡ guarded_losses (pairs board) (losses_of (lost_of queue.marks count queue.entries))
+      → guarded ≡ guarded_losses board.plan (guard_of board) (losses_of (lost_of queue.marks count queue.entries))
       → after_grab count lost guarded b.accounts ≡ grab_counted board worker
   counted_is lost guarded many few =
       ap (λ n. after_grab n lost guarded b.accounts) count_now
       ∙ ap (λ n. after_grab (count_by plan old worker) n guarded b.accounts) (many ∙ ap length lost_are)
-      ∙ ap (λ n. after_grab (count_by plan old worker) (length (lost_by plan old worker)) n b.accounts) (few ∙ ap (λ es. guarded_losses (pairs board) (losses_of es)) lost_are)
-      ∙ ap (after_grab (count_by plan old worker) (length (lost_by plan old worker)) (guarded_losses (pairs board) (losses_of (lost_by plan old worker)))) kept.orderly.counted
+      ∙ ap (λ n. after_grab (count_by plan old worker) (length (lost_by plan old worker)) n b.accounts) (few ∙ ap (λ es. guarded_losses board.plan (guard_of board) (losses_of es)) lost_are)
+      ∙ ap (after_grab (count_by plan old worker) (length (lost_by plan old worker)) (guarded_losses board.plan (guard_of board) (losses_of (lost_by plan old worker)))) kept.orderly.counted
 
   account_is : account_of (grabbed board worker) ≡ became_due plan (kept_by plan old worker) (grab_counted board worker)
   account_is = grab_account board worker slot_there queue_there
 
   pub too_full : 0 < count → (lost guarded : ℕ) → lost ≡ length (lost_of queue.marks count queue.entries)
-      → guarded ≡ guarded_losses (pairs board) (losses_of (lost_of queue.marks count queue.entries))
+      → guarded ≡ guarded_losses board.plan (guard_of board) (losses_of (lost_of queue.marks count queue.entries))
       → (Fits (after_grab count lost guarded b.accounts) → ⊥) → (value : BoardState) → board ≡ value → GrabFails fault.TotalsFull value worker
   too_full some lost guarded many few full value is = subst (λ x. GrabFails fault.TotalsFull x worker) is (
     lost_by plan old worker,
@@ -218,7 +218,7 @@ module _ {b : Inside} {worker count number : ℕ} {slot : Worker} {queue : Queue
 
   -- the accounts have room for what the kept entries have due
   pub room : (lost guarded : ℕ) → lost ≡ length (lost_of queue.marks count queue.entries)
-      → guarded ≡ guarded_losses (pairs board) (losses_of (lost_of queue.marks count queue.entries))
+      → guarded ≡ guarded_losses board.plan (guard_of board) (losses_of (lost_of queue.marks count queue.entries))
       → (es : List Entry) → es ≡ kept_by plan old worker → (a : Account) → a ≡ after_grab count lost guarded b.accounts → HasRoomFor plan es a
   room lost guarded many few es is a counted =
       subst (λ es. HasRoomFor plan es a) (sym is)
@@ -226,7 +226,7 @@ module _ {b : Inside} {worker count number : ℕ} {slot : Worker} {queue : Queue
       (room_for_kept board b.accounts worker kept.orderly (let s = kept.orderly.shaped.queues in omega (arith, queue_there, s))))
 
   pub account_after : (lost guarded : ℕ) → lost ≡ length (lost_of queue.marks count queue.entries)
-      → guarded ≡ guarded_losses (pairs board) (losses_of (lost_of queue.marks count queue.entries))
+      → guarded ≡ guarded_losses board.plan (guard_of board) (losses_of (lost_of queue.marks count queue.entries))
       → (es : List Entry) → es ≡ kept_by plan old worker → (a : Account) → a ≡ after_grab count lost guarded b.accounts → (c : Account) → c ≡ became_due plan es a
       → c ≡ account_of (grabbed board worker)
   account_after lost guarded many few es is a counted c due =

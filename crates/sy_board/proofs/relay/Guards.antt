@@ -1,8 +1,8 @@
 -- Where a plan meets the condition of a guard, nothing guarded is lost.
-use Rattle.std.proofs.Common.{◌≡◌, ℕ, ◌+◌, ◌*◌, ◌<◌, ◌≤◌, ◌==◌, ◌||◌, Bool, true, false, if◌then◌else◌, List, [], ◌∷◌, length, All, refl, sym, subst, ap, ◌∙◌, arith, inl, inr, Some}
-use Rattle.std.specs.Prelude.{◌≢◌, Contains, slice_get}
+use Rattle.std.proofs.Common.{◌≡◌, ℕ, ◌+◌, ◌*◌, ◌<◌, ◌≤◌, ◌==◌, ◌||◌, ◌&&◌, not, Bool, true, false, if◌then◌else◌, List, [], ◌∷◌, length, All, refl, sym, subst, ap, ◌∙◌, arith, inl, inr, Some}
+use Rattle.std.specs.Prelude.{◌≢◌, Contains}
 use Rattle.std.specs.Int.{bit_at}
-use Rattle.std.proofs.lemmas.Bool.{and_parts, eqb-true, eqb-false, false_from_ne_true}
+use Rattle.std.proofs.lemmas.Bool.{and_from, and_parts, eqb-true, eqb-false, false_from_ne_true}
 use Rattle.std.proofs.lemmas.Bool.Decides.{nat_tests}
 use Rattle.sy_wire.specs.Messages.{Said}
 use Rattle.sy_wire.specs.declared.class.Class.{Class}
@@ -14,20 +14,22 @@ use Rattle.sy_marks.specs.Marks.{discards}
 use Rattle.sy_rules.specs.declared.lists.occurrence.Occurrence.{Occurrence}
 use Rattle.sy_rules.specs.declared.lists.occurrence.Occurrence.TheVariants as occurrence
 use Rattle.sy_rules.specs.lists.Sets.{IsLowest}
-use Rattle.sy_rules.specs.lists.Work.{Due, May}
+use Rattle.sy_rules.specs.lists.Work.{Due}
 use Rattle.sy_rules.specs.PlanValue.{Plan}
 use Rattle.sy_rules.specs.Whole.{body_at}
 use Rattle.sy_rules.proofs.lemmas.lists.WorkLaws.{work_may}
 use Rattle.sy_board.specs.relay.Cells.{Cell, RelayState, at, hand, opening, waiting}
 use Rattle.sy_board.specs.relay.Feeders.{Feeder, IsFedFreely, IsWithinMarks, OnlyFullDelay}
 use Rattle.sy_board.specs.relay.Guards.{IsGuarding, IsOnItsWay, IsWithinGuard, MayGuard}
-use Rattle.sy_board.specs.relay.Kinds.{HoldsAt, Kind, MayAt, MayRun, occurrence_of, queue_of}
-use Rattle.sy_board.specs.relay.Plans.{flow_at, input_at, marks_at, occurrences_at, queue_of_input}
-use Rattle.sy_board.specs.relay.Steps.{Event, IsHand, Out, Step}
-use Rattle.sy_board.specs.relay.Totals.{Pairs, guarded_losses, guards}
+use Rattle.sy_board.specs.relay.Kinds.{HoldsAt, Kind, MayRun, queue_of}
+use Rattle.sy_board.specs.relay.Plans.{flow_at, input_at, marks_at, queue_of_input}
+use Rattle.sy_board.specs.relay.Spares.{MayDo, Scope, is_spare_occurrence, is_spare_own, loses_spare}
+use Rattle.sy_board.specs.relay.Steps.{Cause, Event, IsHand, IsPosted, Out, Step}
+use Rattle.sy_board.specs.relay.Totals.{GuardState, Pairs, guarded_losses, guards, is_guarded, is_guarded_loss}
 use Rattle.sy_board.proofs.relay.GuardTables.{is_pair}
 use Rattle.sy_board.proofs.relay.SamePairs.{same_class}
 use Rattle.sy_board.proofs.relay.Keeps.{Comes, Each, Kept, Owes, step_keeps}
+use Rattle.sy_board.proofs.relay.Spares.{firm_list}
 use Rattle.sy_board.proofs.relay.Marks.{InMarks, empty_everywhere, marks_start, marks_step, not_delayed}
 
 -- ---- each element
@@ -60,8 +62,13 @@ guards_one ((j, d) ∷ pairs) input class e = go (is_pair input class (j, d)) re
         let there = more (subst (λ b. (b || guards pairs input class) ≡ true) t e) in
         (ℕ.suc there.0, (let l = there.1 in omega (arith, l)), there.2)
 
-not_guarded : (pairs : Pairs) (input : ℕ) (class : Class) → (Contains pairs (input, class) → ⊥) → guards pairs input class ≡ false
-not_guarded pairs input class none = false_from_ne_true (guards pairs input class) (λ e. none (guards_one pairs input class e))
+not_true : (b : Bool) → not b ≡ true → b ≡ false
+not_true true e = absurd (cc)
+not_true false e = refl
+
+not_false : (b : Bool) → b ≡ false → not b ≡ true
+not_false true e = absurd (cc)
+not_false false e = refl
 
 pub discards_says : (marks : Marks) (severity n : ℕ) → discards marks severity n ≡ true
     → ((1 ≤ marks.discard_mark) × (marks.discard_mark ≤ n)) × (marks.discard_severity ≤ severity)
@@ -92,7 +99,7 @@ only_full plan queue none (Feeder.Post list number) feeds =
 
 -- ---- what the condition says of an input
 
-module _ (plan : Plan) (class : Class) (input : ℕ) (clean : (kind : Kind) → HoldsAt plan class input kind → ⊥) where
+module _ (plan : Plan) (spares : List ℕ) (class : Class) (input : ℕ) (clean : (kind : Kind) → HoldsAt plan spares class input kind → ⊥) where
   pub is_full : flow_at plan input ≡ flow.Full
   is_full = full_of (flow_at plan input) (clean Kind.NotFull)
 
@@ -111,29 +118,57 @@ module _ (plan : Plan) (class : Class) (input : ℕ) (clean : (kind : Kind) → 
 
 -- ---- entries of pairs
 
-module _ (plan : Plan) (pairs : Pairs) (may : MayGuard plan pairs) where
-  abbrev IsPair : Entry → Type 0
-  IsPair e = Contains pairs (e.input, e.message.class)
+module _ (plan : Plan) (guard : GuardState) (may : MayGuard plan guard) where
+  abbrev spares : List ℕ
+  spares = guard.spares
+
+  abbrev IsGuarded : Entry → Type 0
+  IsGuarded e = is_guarded plan guard e ≡ true
 
   abbrev P : Cell → Entry → Type 0
-  P p e = IsPair e → IsOnItsWay plan p e
+  P p e = IsGuarded e → IsOnItsWay plan p e
 
   abbrev O : Out → Type 0
   O (Out.Passed a e) = Unit {0}
-  O (Out.Lost cause e) = IsPair e → ⊥
+  O (Out.Lost cause e) = is_guarded_loss plan guard cause e ≡ true → ⊥
 
-  clean_at : (p : Cell) (e : Entry) → IsPair e → IsOnItsWay plan p e → (kind : Kind) → HoldsAt plan e.message.class e.input kind → ⊥
-  clean_at p e pair good = may e.input e.message.class (record { there = good.there; pair = pair })
+  -- of a pair, and in no spare action's own list
+  parts_of : (e : Entry) → IsGuarded e → Contains guard.pairs (e.input, e.message.class) × (is_spare_own plan spares e.list ≡ false)
+  parts_of e is =
+      let parts = and_parts (guards guard.pairs e.input e.message.class) _ is in
+      (guards_one guard.pairs e.input e.message.class parts.0, not_true (is_spare_own plan spares e.list) parts.1)
 
-  owes_may : (p : Cell) (e : Entry) (o : Occurrence) → IsOnItsWay plan p e → (w : Owes plan e o) → MayAt plan e.message.class e.input w.number
-  owes_may p e o good w = subst (λ l. May (body_at plan l) e.message.class w.number) good.follows (good.due w.number w.member)
+  clean_at : (p : Cell) (e : Entry) → IsGuarded e → IsOnItsWay plan p e → (kind : Kind) → HoldsAt plan spares e.message.class e.input kind → ⊥
+  clean_at p e is good = may e.input e.message.class (record { there = good.there; pair = (parts_of e is).0 })
 
-  owes_at : (p : Cell) (e : Entry) (o : Occurrence) → IsOnItsWay plan p e → (w : Owes plan e o) → occurrence_of plan e.input w.number ≡ Some o
-  owes_at p e o good w = subst (λ l. slice_get (occurrences_at plan l) w.number ≡ Some o) good.follows w.is
+  owes_may : (p : Cell) (e : Entry) (o : Occurrence) → IsOnItsWay plan p e → (w : Owes plan e o) → is_spare_occurrence plan spares o ≡ false
+      → MayDo plan spares e.message.class Scope.Firm (input_at plan e.input).list w.number o
+  owes_may p e o good w firm = subst (λ l. MayDo plan spares e.message.class Scope.Firm l w.number o) good.follows
+      (record { may = good.due w.number w.member; found = w.is; in_scope = firm })
 
-  no_post : (p : Cell) (e : Entry) (l : ℕ) → IsPair e → IsOnItsWay plan p e → Owes plan e (occurrence.Post l) → ⊥
-  no_post p e l pair good w = clean_at p e pair good Kind.InnerQueue
-      (record { number = w.number; may = owes_may p e (occurrence.Post l) good w; list = l; posts = owes_at p e (occurrence.Post l) good w })
+  no_post : (p : Cell) (e : Entry) (l : ℕ) → IsGuarded e → IsOnItsWay plan p e → Owes plan e (occurrence.Post l)
+      → is_spare_own plan spares l ≡ false → ⊥
+  no_post p e l is good w firm = clean_at p e is good Kind.InnerQueue
+      (record { number = w.number; list = l; does = owes_may p e (occurrence.Post l) good w firm })
+
+  -- an occurrence whose loss is guarded isn't spare, and its entry is guarded
+  lost_parts : (cause : Cause) (e : Entry) → is_guarded_loss plan guard cause e ≡ true → (loses_spare plan spares cause ≡ false) × IsGuarded e
+  lost_parts cause e is =
+      let parts = and_parts (not (loses_spare plan spares cause)) _ is in (not_true (loses_spare plan spares cause) parts.0, parts.1)
+
+  -- the entry of a post into a list that is no spare action's own is guarded where the posted one is
+  posted_from : (w : ℕ) (e : Entry) (l : ℕ) (node : Entry) → Owes plan e (occurrence.Post l) → IsPosted plan e l node → IsGuarded node
+      → IsGuarded e × (is_spare_own plan spares l ≡ false)
+  posted_from w e l node o m is =
+      let parts = and_parts (guards guard.pairs node.input node.message.class) _ is in
+      let firm : is_spare_own plan spares l ≡ false =
+      subst (λ z. is_spare_own plan spares z ≡ false) m.list_is (not_true (is_spare_own plan spares node.list) parts.1) in
+      let pair : guards guard.pairs e.input e.message.class ≡ true = subst (λ i. guards guard.pairs i e.message.class ≡ true) m.input
+      (subst (λ (z : Said). guards guard.pairs node.input z.class ≡ true) m.message parts.0) in (
+        and_from (guards guard.pairs e.input e.message.class) _ pair
+            (not_false (is_spare_own plan spares e.list) (firm_list plan spares e.list o.number (occurrence.Post l) o.is firm)),
+        firm,
+      )
 
   -- an entry in a hand is of the hand's input
   its_hand : (i h : ℕ) (e : Entry) → IsHand plan i h → IsOnItsWay plan (hand i h) e → e.input ≡ i
@@ -149,46 +184,44 @@ module _ (plan : Plan) (pairs : Pairs) (may : MayGuard plan pairs) where
         let good = p pair in
         record { there = good.there; place = tt; follows = good.follows; due = λ k b. good.due k (left_in e.due number left k l b) };
     runs = λ w e a p o. tt;
-    posts = λ w e l node p o m pair.
-        let here : IsPair e = subst (λ i. Contains pairs (i, e.message.class)) m.input
-        (subst (λ (z : Said). Contains pairs (node.input, z.class)) m.message pair) in
-        absurd (no_post (Cell.Worker w) e l here (p here) o);
+    posts = λ w e l node p o m is.
+        let from = posted_from w e l node o m is in absurd (no_post (Cell.Worker w) e l from.0 (p from.0) o from.1);
     lost_take = λ old i h e g p there t pair.
         let good = p pair in
         let same : i ≡ e.input = sym (its_hand i h e there good) in
         let clean = clean_at (hand i h) e pair good in
         let q = queue_of_input plan e.input in
-        never_discards plan e.message.class e.input clean (waiting old q)
-        (λ only. g (Cell.Queue q) only (has_mark plan e.message.class e.input clean))
+        never_discards plan spares e.message.class e.input clean (waiting old q)
+        (λ only. g (Cell.Queue q) only (has_mark plan spares e.message.class e.input clean))
         (subst (λ z. discards (marks_at plan (queue_of_input plan z)) e.message.class.severity (waiting old (queue_of_input plan z)) ≡ true) same t);
     lost_expire = λ old i h e p leaves full pair.
         let good = p pair in
         let same : e.input ≡ i = its_hand i h e leaves.there good in
-        let clean : (kind : Kind) → HoldsAt plan e.message.class i kind → ⊥ =
-        subst (λ z. (kind : Kind) → HoldsAt plan e.message.class z kind → ⊥) same (clean_at (hand i h) e pair good) in
+        let clean : (kind : Kind) → HoldsAt plan spares e.message.class i kind → ⊥ =
+        subst (λ z. (kind : Kind) → HoldsAt plan spares e.message.class z kind → ⊥) same (clean_at (hand i h) e pair good) in
         let q = queue_of_input plan i in
-        let below = not_delayed (flow_at plan i) (marks_at plan q) (waiting old q) (is_full plan e.message.class i clean)
-        (has_mark plan e.message.class i clean) leaves.not_held in
+        let below = not_delayed (flow_at plan i) (marks_at plan q) (waiting old q) (is_full plan spares e.message.class i clean)
+        (has_mark plan spares e.message.class i clean) leaves.not_held in
         clean Kind.MarkAboveSize (omega (arith, below, full));
     lost_grab = λ old q n e g p l t pair.
         let good = p pair in
         let is : queue_of_input plan e.input ≡ q = good.place in
         let clean = clean_at (Cell.Queue q) e pair good in
-        never_discards plan e.message.class e.input clean n
+        never_discards plan spares e.message.class e.input clean n
         (λ only.
-        let m = g (Cell.Queue (queue_of_input plan e.input)) only (has_mark plan e.message.class e.input clean) in
+        let m = g (Cell.Queue (queue_of_input plan e.input)) only (has_mark plan spares e.message.class e.input clean) in
         let less : n < waiting old (queue_of_input plan e.input) = subst (λ z. n < waiting old z) (sym is) l in omega (arith, m, less))
         (subst (λ z. discards (marks_at plan z) e.message.class.severity n ≡ true) (sym is) t);
-    lost_run = λ w n e a p o t pair.
-        let good = p pair in
-        let runs : MayRun plan e.message.class e.input a = record {
+    lost_run = λ w n e a p o t is.
+        let lost = lost_parts (Cause.GiveUp a) e is in
+        let good = p lost.1 in
+        let runs : MayRun plan spares e.message.class e.input a = record {
           number = o.number;
-          may = owes_may (Cell.Worker w) e (occurrence.Run a) good o;
-          runs = owes_at (Cell.Worker w) e (occurrence.Run a) good o;
+          does = owes_may (Cell.Worker w) e (occurrence.Run a) good o lost.0;
         } in
-        clean_at (Cell.Worker w) e pair good Kind.GivesUp (a, runs, n, t);
-    lost_post = λ w e l p o pair. no_post (Cell.Worker w) e l pair (p pair) o;
-    lost_node = λ w e l p o pair. no_post (Cell.Worker w) e l pair (p pair) o;
+        clean_at (Cell.Worker w) e lost.1 good Kind.GivesUp (a, runs, n, t);
+    lost_post = λ w e l p o is. let lost = lost_parts (Cause.PostLost l) e is in no_post (Cell.Worker w) e l lost.1 (p lost.1) o lost.0;
+    lost_node = λ w e l p o is. let lost = lost_parts (Cause.Post l) e is in no_post (Cell.Worker w) e l lost.1 (p lost.1) o lost.0;
   }
 
   -- an entry that comes by a take
@@ -212,13 +245,13 @@ module _ (plan : Plan) (pairs : Pairs) (may : MayGuard plan pairs) where
 
   -- ---- what is counted
 
-  none_lost : (outs : List Out) → Each O outs → guarded_losses pairs outs ≡ 0
+  none_lost : (outs : List Out) → Each O outs → guarded_losses plan guard outs ≡ 0
   none_lost [] a = refl
   none_lost (Out.Passed x e ∷ outs) a = none_lost outs a.1
   none_lost (Out.Lost cause e ∷ outs) a =
-      let none = not_guarded pairs e.input e.message.class a.0 in
+      let none = false_from_ne_true (is_guarded_loss plan guard cause e) a.0 in
       let rest = none_lost outs a.1 in
-      subst (λ b. (if b then 1 else 0) + guarded_losses pairs outs ≡ 0) (sym none) (omega (arith, rest))
+      subst (λ b. (if b then 1 else 0) + guarded_losses plan guard outs ≡ 0) (sym none) (omega (arith, rest))
 
   -- ---- a step
 
@@ -227,8 +260,8 @@ module _ (plan : Plan) (pairs : Pairs) (may : MayGuard plan pairs) where
   in_marks state marks (Cell.Queue q) = marks q
   in_marks state marks (Cell.Worker w) = tt
 
-  pub guarding_step : (old : RelayState) (event : Event) (new : RelayState) (outs : List Out) → IsGuarding plan pairs old
-      → Step plan old event new outs → IsGuarding plan pairs new × (guarded_losses pairs outs ≡ 0)
+  pub guarding_step : (old : RelayState) (event : Event) (new : RelayState) (outs : List Out) → IsGuarding plan guard old
+      → Step plan old event new outs → IsGuarding plan guard new × (guarded_losses plan guard outs ≡ 0)
   guarding_step old event new outs is step =
       let before = in_marks old is.marks in
       let marks = marks_step plan old event new outs before step in
@@ -238,19 +271,19 @@ module _ (plan : Plan) (pairs : Pairs) (may : MayGuard plan pairs) where
         none_lost outs kept.1,
       )
 
-  pub within_guard : (state : RelayState) → IsGuarding plan pairs state → IsWithinGuard plan pairs state
+  pub within_guard : (state : RelayState) → IsGuarding plan guard state → IsWithinGuard plan guard state
   within_guard state is input class pair only =
-      is.marks (queue_of_input plan input) only (has_mark plan class input (may input class pair))
+      is.marks (queue_of_input plan input) only (has_mark plan spares class input (may input class pair))
 
 -- ---- before the first step
 
-pub guarding_start : (plan : Plan) (pairs : Pairs) → IsGuarding plan pairs (opening plan)
-guarding_start plan pairs = record {
+pub guarding_start : (plan : Plan) (guard : GuardState) → IsGuarding plan guard (opening plan)
+guarding_start plan guard = record {
   marks = λ q. marks_start plan (Cell.Queue q);
-  entries = λ c. subst (All (λ (e : Entry). Contains pairs (e.input, e.message.class) → IsOnItsWay plan c e)) (sym (empty_everywhere plan c))
+  entries = λ c. subst (All (λ (e : Entry). is_guarded plan guard e ≡ true → IsOnItsWay plan c e)) (sym (empty_everywhere plan c))
       (λ k d l. absurd (omega (arith, l)));
 }
 
 -- a guard without pairs asks nothing
-pub unasked : (plan : Plan) → MayGuard plan []
-unasked plan input class is = let l = is.pair.1 in absurd (omega (arith, l))
+pub unasked : (plan : Plan) (spares : List ℕ) → MayGuard plan (record { pairs = []; spares = spares })
+unasked plan spares input class is = let l = is.pair.1 in absurd (omega (arith, l))

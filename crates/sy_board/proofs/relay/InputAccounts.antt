@@ -2,7 +2,7 @@
 use Rattle.std.proofs.Common.{◌≡◌, ℕ, ◌+◌, ◌*◌, ◌<◌, Bool, true, false, if◌then◌else◌, [], ◌∷◌, ◌++◌, length, length-append, refl, sym, subst, ap, ◌∙◌, arith}
 use Rattle.std.specs.Prelude.{◌&&◌}
 use Rattle.sy_chain.specs.Entries.{Entry}
-use Rattle.sy_board.specs.relay.Boards.{Account, BoardState, account_of, pairs, stepped}
+use Rattle.sy_board.specs.relay.Boards.{Account, BoardState, account_of, guard_of, stepped}
 use Rattle.sy_board.specs.relay.Cells.{Cell, RelayState, at, hand, put}
 use Rattle.sy_board.specs.relay.Plans.{queue_of_input}
 use Rattle.sy_board.specs.relay.Steps.{Cause, Enters, Event, Expires, IsHand, Out, Takes, if_so}
@@ -35,10 +35,10 @@ hand_within : (old : BoardState) (a : Account) → IsOrderly old a → (i h : �
 hand_within old a o i h there = hand_there old.plan old.state i h o.shaped there
 
 pub account_take : (old : BoardState) (a : Account) → IsOrderly old a → (i h : ℕ) (node : Entry) (lost : Bool) (new : RelayState) → Takes old.plan old.state i h node lost new
-    → account_of (stepped old (Event.Take i h node) new (if_so lost (Out.Lost Cause.Take node))) ≡ after_take lost (lost && is_guarded (pairs old) node) (account_of old)
-account_take old a o i h node true new takes = subst (λ x. account_of (stepped old (Event.Take i h node) x (Out.Lost Cause.Take node ∷ [])) ≡ after_take true (is_guarded (pairs old) node) (account_of old)) (sym takes.after)
+    → account_of (stepped old (Event.Take i h node) new (if_so lost (Out.Lost Cause.Take node))) ≡ after_take lost (lost && is_guarded old.plan (guard_of old) node) (account_of old)
+account_take old a o i h node true new takes = subst (λ x. account_of (stepped old (Event.Take i h node) x (Out.Lost Cause.Take node ∷ [])) ≡ after_take true (is_guarded old.plan (guard_of old) node) (account_of old)) (sym takes.after)
     (same_account _ _ _ _ _ _
-    (ap (λ (x : ℕ). lost_more (record old.totals { taken = old.totals.taken + 1 }) x) (one_loss (is_guarded (pairs old) node)))
+    (ap (λ (x : ℕ). lost_more (record old.totals { taken = old.totals.taken + 1 }) x) (one_loss (is_guarded old.plan (guard_of old) node)))
     (sym (zero (in_hands old.state))) refl)
 account_take old a o i h node false new takes = subst (λ x. account_of (stepped old (Event.Take i h node) x []) ≡ after_take false false (account_of old)) (sym takes.after)
     (let s = hand_sum old.state (64 * i + h) (node ∷ []) (hand_within old a o i h takes.there) in
@@ -59,12 +59,12 @@ account_enter old a o i h node new enters = subst (λ x. account_of (stepped old
     (omega (arith, s, f)) (omega (arith, q, n)))
 
 pub account_expire : (old : BoardState) (a : Account) → IsOrderly old a → (i h : ℕ) (node : Entry) (new : RelayState) → Expires old.plan old.state i h node new
-    → account_of (stepped old (Event.Expire i h) new (Out.Lost Cause.Expire node ∷ [])) ≡ after_expire (is_guarded (pairs old) node) (account_of old)
-account_expire old a o i h node new expires = subst (λ x. account_of (stepped old (Event.Expire i h) x (Out.Lost Cause.Expire node ∷ [])) ≡ after_expire (is_guarded (pairs old) node) (account_of old)) (sym expires.after)
+    → account_of (stepped old (Event.Expire i h) new (Out.Lost Cause.Expire node ∷ [])) ≡ after_expire (is_guarded old.plan (guard_of old) node) (account_of old)
+account_expire old a o i h node new expires = subst (λ x. account_of (stepped old (Event.Expire i h) x (Out.Lost Cause.Expire node ∷ [])) ≡ after_expire (is_guarded old.plan (guard_of old) node) (account_of old)) (sym expires.after)
     (let s = hand_sum old.state (64 * i + h) [] (hand_within old a o i h expires.leaves.there) in
     let f = ap length expires.leaves.held in
     same_account _ _ _ _ _ _
-    (ap (lost_more old.totals) (one_loss (is_guarded (pairs old) node)))
+    (ap (lost_more old.totals) (one_loss (is_guarded old.plan (guard_of old) node)))
     (omega (arith, s, f)) refl)
 
 -- a hand that holds an entry is counted

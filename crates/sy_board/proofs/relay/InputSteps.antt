@@ -9,7 +9,7 @@ use Rattle.sy_board.specs.internal.Jobs.{is_expiring, is_holding}
 use Rattle.sy_rules.specs.PlanValue.{Plan}
 use Rattle.sy_board.specs.internal.Kept.{IsKept, board_inside}
 use Rattle.sy_board.specs.declared.relay.board.Board.TheInside.{Inside}
-use Rattle.sy_board.specs.relay.Boards.{EnterFails, ExpireFails, Fits, account_of, pairs, stepped}
+use Rattle.sy_board.specs.relay.Boards.{EnterFails, ExpireFails, Fits, account_of, guard_of, stepped}
 use Rattle.sy_board.specs.declared.fault.BoardFault.{BoardFault}
 use Rattle.sy_board.specs.declared.fault.BoardFault.TheVariants as fault
 use Rattle.sy_board.specs.relay.Cells.{Cell, RelayState, at, hand, put, waiting}
@@ -66,12 +66,12 @@ takes_seen b kept i h node there made x read none q queue lost is = record {
 pub take_seen : (b : Inside) → IsKept b → (i h : ℕ) (node : Entry) → IsHand (board_inside b).plan i h → IsOfInput (board_inside b).plan i node
     → (x : Option Entry) → x ≡ get_or b.hands.items (64 * i + h) x → is_some x ≡ false
     → (q : QueueState) → IsQueue (board_inside b).plan (board_inside b).state (queue_of_input (board_inside b).plan i) q
-    → (lost guarded : Bool) → lost ≡ discards q.marks node.message.class.severity (length q.entries) → guarded ≡ (lost && is_guarded (pairs (board_inside b)) node)
+    → (lost guarded : Bool) → lost ≡ discards q.marks node.message.class.severity (length q.entries) → guarded ≡ (lost && is_guarded (board_inside b).plan (guard_of (board_inside b)) node)
     → TakeSeen b i h node lost guarded (if lost then (board_inside b).state else put (board_inside b).state (hand i h) (node ∷ []))
 take_seen b kept i h node there made x read none q queue lost guarded is g =
     let new = if lost then (board_inside b).state else put (board_inside b).state (hand i h) (node ∷ []) in
     let takes = takes_seen b kept i h node there made x read none q queue lost is in
-    let more = lost && is_guarded (pairs (board_inside b)) node in
+    let more = lost && is_guarded (board_inside b).plan (guard_of (board_inside b)) node in
     record {
       takes = takes;
       counted = account_take (board_inside b) b.accounts kept.orderly i h node lost new takes
@@ -167,7 +167,7 @@ full_if plan state i hold.Clear is full = cc
 
 pub record ExpireSeen (b : Inside) (i h : ℕ) (node : Entry) : Type 0 where
   pub expires : Expires (board_inside b).plan (board_inside b).state i h node (expired_state b i h)
-  pub counted : account_of (stepped (board_inside b) (Event.Expire i h) (expired_state b i h) (Out.Lost Cause.Expire node ∷ [])) ≡ after_expire (is_guarded (pairs (board_inside b)) node) b.accounts
+  pub counted : account_of (stepped (board_inside b) (Event.Expire i h) (expired_state b i h) (Out.Lost Cause.Expire node ∷ [])) ≡ after_expire (is_guarded (board_inside b).plan (guard_of (board_inside b)) node) b.accounts
 
 pub expire_seen : (b : Inside) → IsKept b → (i h : ℕ) → IsHand (board_inside b).plan i h → (node : Entry) (x : Option Entry) → x ≡ get_or b.hands.items (64 * i + h) x → x ≡ Some node
     → (is : Hold) → HoldIs is (flow_at (board_inside b).plan i) (marks_at (board_inside b).plan (queue_of_input (board_inside b).plan i)) (waiting (board_inside b).state (queue_of_input (board_inside b).plan i))
@@ -185,13 +185,13 @@ expire_seen b kept i h there node x read one is holds full =
     } in
     record {
       expires = expires;
-      counted = account_expire (board_inside b) b.accounts kept.orderly i h node (expired_state b i h) expires ∙ ap (after_expire (is_guarded (pairs (board_inside b)) node)) (sym kept.orderly.counted);
+      counted = account_expire (board_inside b) b.accounts kept.orderly i h node (expired_state b i h) expires ∙ ap (after_expire (is_guarded (board_inside b).plan (guard_of (board_inside b)) node)) (sym kept.orderly.counted);
     }
 
 -- why a hand's message can't be lost
 pub lose_fails : (b : Inside) → IsKept b → (i h : ℕ) → IsHand (board_inside b).plan i h → (x : Option Entry) → x ≡ get_or b.hands.items (64 * i + h) x
     → (is : Hold) → HoldIs is (flow_at (board_inside b).plan i) (marks_at (board_inside b).plan (queue_of_input (board_inside b).plan i)) (waiting (board_inside b).state (queue_of_input (board_inside b).plan i))
-    → true ≡ is_expiring is → (f : BoardFault) → LoseFails f x (pairs (board_inside b)) b.accounts → ExpireFails f (board_inside b) i h
+    → true ≡ is_expiring is → (f : BoardFault) → LoseFails f x (board_inside b).plan (guard_of (board_inside b)) b.accounts → ExpireFails f (board_inside b) i h
 lose_fails b kept i h there x read is holds full fault.HandEmpty none = hand_read b.hands.items (64 * i + h) x (hand_in_table b kept i h there) read ∙ ap option_to_list none
 lose_fails b kept i h there x read is holds full fault.TotalsFull (node, one, more) =
     let seen = expire_seen b kept i h there node x read one is holds full in

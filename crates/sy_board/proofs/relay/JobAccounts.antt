@@ -10,11 +10,11 @@ use Rattle.sy_rules.specs.Whole.{IsWhole, Leads, body_in}
 use Rattle.sy_rules.specs.lists.Body.{occurrences}
 use Rattle.sy_board.specs.declared.relay.board.Board.TheInside.{Inside}
 use Rattle.sy_board.specs.declared.relay.board.Worker.{Worker}
-use Rattle.sy_board.specs.relay.Boards.{Account, BoardState, account_of, pairs, stepped}
+use Rattle.sy_board.specs.relay.Boards.{Account, BoardState, account_of, guard_of, stepped}
 use Rattle.sy_board.specs.relay.Cells.{RelayState}
 use Rattle.sy_board.specs.relay.Plans.{occurrences_at}
 use Rattle.sy_board.specs.relay.Steps.{Cause, Event, Job, Out, Step, advanced, if_so}
-use Rattle.sy_board.specs.relay.Totals.{Totals, is_guarded, is_run_of, left_of}
+use Rattle.sy_board.specs.relay.Totals.{Totals, is_guarded_loss, is_run_of, left_of}
 use Rattle.sy_board.specs.internal.Counting.{HasRunLeft, after_done, after_give_up, one_if}
 use Rattle.sy_board.specs.internal.Kept.{IsKept, IsOrderly, board_inside, state_inside}
 use Rattle.sy_board.proofs.relay.AccountLaws.{advanced_sum}
@@ -67,9 +67,9 @@ fail_account old w action true e new hands queues = rw (hands, queues, none_more
 fail_account old w action false e new hands queues = rw (hands, queues, none_more old.totals.guarded_lost) refl
 
 pub give_up_account : (old : BoardState) (w action : ℕ) (took : Bool) (e : Entry) (new : RelayState) → new.hands ≡ old.state.hands → new.queues ≡ old.state.queues
-    → account_of (stepped old (Event.GiveUp w took) new (Out.Lost (Cause.GiveUp action) e ∷ if_so took (Out.Passed action e))) ≡ after_give_up action (is_guarded (pairs old) e) (account_of old)
-give_up_account old w action true e new hands queues = rw (hands, queues, none_more (one_if (is_guarded (pairs old) e))) refl
-give_up_account old w action false e new hands queues = rw (hands, queues, none_more (one_if (is_guarded (pairs old) e))) refl
+    → account_of (stepped old (Event.GiveUp w took) new (Out.Lost (Cause.GiveUp action) e ∷ if_so took (Out.Passed action e))) ≡ after_give_up action (is_guarded_loss old.plan (guard_of old) (Cause.GiveUp action) e) (account_of old)
+give_up_account old w action true e new hands queues = rw (hands, queues, none_more (one_if (is_guarded_loss old.plan (guard_of old) (Cause.GiveUp action) e))) refl
+give_up_account old w action false e new hands queues = rw (hands, queues, none_more (one_if (is_guarded_loss old.plan (guard_of old) (Cause.GiveUp action) e))) refl
 
 -- ---- the board after a step
 

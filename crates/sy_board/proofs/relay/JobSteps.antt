@@ -15,11 +15,11 @@ use Rattle.sy_board.specs.declared.fault.BoardFault.TheVariants as fault
 use Rattle.sy_board.specs.declared.relay.answers.Retry.TheVariants as retry
 use Rattle.sy_board.specs.declared.relay.board.Board.TheInside.{Inside}
 use Rattle.sy_board.specs.declared.relay.board.Worker.{Worker}
-use Rattle.sy_board.specs.relay.Boards.{Account, BoardState, FailFails, FailIs, Fits, HasNoRun, HasRun, IsFailureOf, IsOf, LeftIs, SettleFails, SettleIs, account_of, pairs, stepped}
+use Rattle.sy_board.specs.relay.Boards.{Account, BoardState, FailFails, FailIs, Fits, HasNoRun, HasRun, IsFailureOf, IsOf, LeftIs, SettleFails, SettleIs, account_of, guard_of, stepped}
 use Rattle.sy_board.specs.relay.Cells.{failures_at}
 use Rattle.sy_board.specs.relay.Plans.{retry_at}
 use Rattle.sy_board.specs.relay.Steps.{Cause, Event, Fails, GivesUp, Job, MayTry, Out, Settles, advanced, if_so, one_more}
-use Rattle.sy_board.specs.relay.Totals.{is_guarded}
+use Rattle.sy_board.specs.relay.Totals.{is_guarded_loss}
 use Rattle.sy_board.specs.internal.Counting.{after_done, after_give_up}
 use Rattle.sy_board.specs.internal.Jobs.{HasNextRun, IsNext, IsNextOf, RunFails, advanced_entries}
 use Rattle.sy_board.specs.internal.Kept.{IsKept, board_inside, state_inside}
@@ -253,11 +253,11 @@ again_is b w slot new failure left is again =
 pub record IsLast (b : Inside) (w : ℕ) (slot : Worker) (failure : Refused) (left : ℕ) (guarded : Bool) : Type 0 where
   pub is : IsRefused b w slot failure left
   pub last : retry_at (arc_value b.plan) failure.device ≡ Some slot.failures
-  pub marked : guarded ≡ is_guarded (pairs (board_inside b)) is.run.turn.next.entry
+  pub marked : guarded ≡ is_guarded_loss (arc_value b.plan) (guard_of (board_inside b)) (Cause.GiveUp failure.device) is.run.turn.next.entry
 
 pub last_of : (b : Inside) (w : ℕ) (slot : Worker) (failure : Refused) (left r : ℕ) (guarded : Bool) (node : Entry) → IsRefused b w slot failure left
     → retry_at (arc_value b.plan) failure.device ≡ Some r → r ≤ slot.failures → node ≡ get_or slot.entries 0 node
-    → guarded ≡ is_guarded (pairs (board_inside b)) node → IsLast b w slot failure left guarded
+    → guarded ≡ is_guarded_loss (arc_value b.plan) (guard_of (board_inside b)) (Cause.GiveUp failure.device) node → IsLast b w slot failure left guarded
 last_of b w slot failure left r guarded node is limit most read marked =
     let turn = is.run.turn in
     let patient = turn.kept.orderly.patient.runs w failure.device r (job_of b w slot (occurrence.Run failure.device) left turn.is turn.next) limit in
@@ -266,7 +266,7 @@ last_of b w slot failure left r guarded node is limit most read marked =
     record {
       is = is;
       last = limit ∙ ap (λ (n : ℕ). Some n) same;
-      marked = marked ∙ ap (is_guarded (pairs (board_inside b))) (front_is (arc_value b.plan) slot.entries (occurrence.Run failure.device) left node turn.next read);
+      marked = marked ∙ ap (is_guarded_loss (arc_value b.plan) (guard_of (board_inside b)) (Cause.GiveUp failure.device)) (front_is (arc_value b.plan) slot.entries (occurrence.Run failure.device) left node turn.next read);
     }
 
 gives_as : (b : Inside) (w : ℕ) (slot new : Worker) (failure : Refused) (left : ℕ) (guarded : Bool) (a : Account) (last : IsLast b w slot failure left guarded)

@@ -8,12 +8,12 @@ use Rattle.sy_rules.specs.PlanValue.{Plan}
 use Rattle.sy_rules.specs.Whole.{IsWhole}
 use Rattle.sy_board.specs.internal.Counting as counting
 use Rattle.sy_board.specs.internal.Kept.{IsOrderly, LARGEST_BATCH, empty_queue}
-use Rattle.sy_board.specs.relay.Boards.{account_of, opened, pairs}
+use Rattle.sy_board.specs.relay.Boards.{account_of, guard_of, opened}
 use Rattle.sy_board.specs.relay.Cells.{opening}
 use Rattle.sy_board.specs.relay.Guards.{MayGuard}
 use Rattle.sy_board.specs.relay.Patience.{IsPatient}
 use Rattle.sy_board.specs.relay.Plans.{marks_of}
-use Rattle.sy_board.specs.relay.Totals.{Pairs, total}
+use Rattle.sy_board.specs.relay.Totals.{GuardState, total}
 use Rattle.sy_board.proofs.relay.AccountLaws.{opens}
 use Rattle.sy_board.proofs.relay.Guards.{guarding_start, unasked}
 
@@ -46,7 +46,7 @@ pub empty_marks : (ps : List QueueParameters) → map (λ (q : QueueState). q.ma
 empty_marks [] = refl
 empty_marks (p ∷ ps) = ap (λ z. marks_of p ∷ z) (empty_marks ps)
 
-pub opened_account : (plan : Plan) (guard : Option Pairs) → counting.nothing (length plan.actions) ≡ account_of (opened plan guard)
+pub opened_account : (plan : Plan) (guard : Option GuardState) → counting.nothing (length plan.actions) ≡ account_of (opened plan guard)
 opened_account plan guard = rw (none (64 * length plan.inputs), none (length plan.queues)) refl
 
 pub opening_patient : (plan : Plan) → IsPatient plan (opening plan)
@@ -56,11 +56,11 @@ opening_patient plan = record {
 }
 
 -- without a guard nothing is asked
-may_open : (plan : Plan) (guard : Option Pairs) → IfSome guard (MayGuard plan) → MayGuard plan (pairs (opened plan guard))
-may_open plan None asked = unasked plan
-may_open plan (Some pairs) asked = asked
+may_open : (plan : Plan) (guard : Option GuardState) → IfSome guard (MayGuard plan) → MayGuard plan (guard_of (opened plan guard))
+may_open plan None asked = unasked plan []
+may_open plan (Some found) asked = asked
 
-pub opened_orderly : (plan : Plan) (guard : Option Pairs) → IsWhole plan → IfSome guard (MayGuard plan) → IsOrderly (opened plan guard) (account_of (opened plan guard))
+pub opened_orderly : (plan : Plan) (guard : Option GuardState) → IsWhole plan → IfSome guard (MayGuard plan) → IsOrderly (opened plan guard) (account_of (opened plan guard))
 opened_orderly plan guard whole asked = record {
   whole = whole;
   shaped = (opens plan).0;
@@ -69,6 +69,6 @@ opened_orderly plan guard whole asked = record {
   batches = short (length plan.workers);
   patient = opening_patient plan;
   may = may_open plan guard asked;
-  guarding = guarding_start plan (pairs (opened plan guard));
+  guarding = guarding_start plan (guard_of (opened plan guard));
   unlost = refl;
 }

@@ -1,6 +1,6 @@
 -- A step keeps a board orderly.
 use Rattle.std.proofs.Common.{◌≡◌, List, refl, sym, subst, ap, arith}
-use Rattle.sy_board.specs.relay.Boards.{Account, BoardState, account_of, pairs, stepped}
+use Rattle.sy_board.specs.relay.Boards.{Account, BoardState, account_of, guard_of, stepped}
 use Rattle.sy_board.specs.relay.Cells.{RelayState}
 use Rattle.sy_board.specs.relay.Steps.{Event, Out, Step}
 use Rattle.sy_board.specs.relay.Totals.{guarded_losses}
@@ -14,13 +14,13 @@ use Rattle.sy_board.proofs.relay.Shapes.{shape_step}
 pub orderly_step : (old : BoardState) → IsOrderly old (account_of old) → (event : Event) (new : RelayState) (outs : List Out)
     → Step old.plan old.state event new outs → IsOrderly (stepped old event new outs) (account_of (stepped old event new outs))
 orderly_step old o event new outs step =
-    let kept = guarding_step old.plan (pairs old) o.may old.state event new outs o.guarding step in
-    let none : guarded_losses (pairs old) outs ≡ 0 = kept.1 in
+    let kept = guarding_step old.plan (guard_of old) o.may old.state event new outs o.guarding step in
+    let none : guarded_losses old.plan (guard_of old) outs ≡ 0 = kept.1 in
     let before : old.totals.guarded_lost ≡ 0 = o.unlost in
     record {
       whole = o.whole;
       shaped = shape_step old.plan old.state event new outs o.shaped step;
-      laws = laws_counted old.plan (pairs old) old.state event new outs old.totals o.whole o.shaped o.laws step;
+      laws = laws_counted old.plan (guard_of old) old.state event new outs old.totals o.whole o.shaped o.laws step;
       counted = refl;
       batches = batches_step old.plan old.state event new outs o.whole o.batches step;
       patient = patient_step old.plan old.state event new outs o.patient step;

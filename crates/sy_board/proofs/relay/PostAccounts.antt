@@ -4,10 +4,10 @@ use Rattle.sy_chain.specs.Entries.{Entry}
 use Rattle.sy_rules.specs.declared.lists.occurrence.Occurrence.TheVariants as occurrence
 use Rattle.sy_rules.specs.PlanValue.{Plan}
 use Rattle.sy_rules.specs.Whole.{IsWhole, queue_for}
-use Rattle.sy_board.specs.relay.Boards.{Account, BoardState, account_of, pairs, stepped}
+use Rattle.sy_board.specs.relay.Boards.{Account, BoardState, account_of, guard_of, stepped}
 use Rattle.sy_board.specs.relay.Cells.{Cell, IsShaped, RelayState, at}
 use Rattle.sy_board.specs.relay.Steps.{Cause, Event, Job, LosesPost, Out, Posts}
-use Rattle.sy_board.specs.relay.Totals.{Laws, Pairs, Totals, in_hands, in_queues, is_guarded, is_post, total}
+use Rattle.sy_board.specs.relay.Totals.{Laws, Totals, in_hands, in_queues, is_guarded_loss, is_post, total}
 use Rattle.sy_board.specs.internal.Counting.{after_lost_post, after_post, one_if}
 use Rattle.sy_board.proofs.relay.AccountLaws.{advanced_sum, total_set}
 use Rattle.sy_board.proofs.relay.There.{list_queue_there, worker_there}
@@ -34,20 +34,17 @@ account_post b w l node new whole shaped posts =
     let queues : in_queues new ≡ total length (set b.state.queues q (at b.state (Cell.Queue q) ++ node ∷ [])) = ap in_queues posts.after in
     same_account b.totals _ _ _ _ _ _ _ _ _ _ refl (omega arith) (omega arith) (ap in_hands posts.after) (omega (arith, more, longer, queues))
 
-same_guarded : (p : Pairs) (e node : Entry) → node.message ≡ e.message → node.input ≡ e.input → is_guarded p e ≡ is_guarded p node
-same_guarded p e node message input = rw (message, input) refl
-
 guarded_count : (total : ℕ) (a b : Bool) → a ≡ b → total + ((if a then 1 else 0) + 0) ≡ total + one_if b
 guarded_count total a b same = rw same (omega arith)
 
 pub account_post_discarded : (b : BoardState) (w l : ℕ) (node : Entry) (new : RelayState) → (posts : Posts b.plan b.state w l node true new)
-    → account_of (stepped b (Event.Post w) new (Out.Lost (Cause.Post l) posts.job.entry ∷ [])) ≡ after_lost_post (is_guarded (pairs b) node) (account_of b)
+    → account_of (stepped b (Event.Post w) new (Out.Lost (Cause.Post l) posts.job.entry ∷ [])) ≡ after_lost_post (is_guarded_loss b.plan (guard_of b) (Cause.Post l) posts.job.entry) (account_of b)
 account_post_discarded b w l node new posts =
     same_account b.totals _ _ _ _ _ _ _ _ _ _ (omega arith) refl
-    (guarded_count b.totals.guarded_lost _ _ (same_guarded (pairs b) posts.job.entry node posts.made.message posts.made.input)) (ap in_hands posts.after) (ap in_queues posts.after)
+    (guarded_count b.totals.guarded_lost _ _ refl) (ap in_hands posts.after) (ap in_queues posts.after)
 
 pub account_post_lost : (b : BoardState) (w l : ℕ) (no_memory : Bool) (e : Entry) (new : RelayState) → LosesPost b.plan b.state w l no_memory e new
-    → account_of (stepped b (Event.PostLost w no_memory) new (Out.Lost (Cause.PostLost l) e ∷ [])) ≡ after_lost_post (is_guarded (pairs b) e) (account_of b)
+    → account_of (stepped b (Event.PostLost w no_memory) new (Out.Lost (Cause.PostLost l) e ∷ [])) ≡ after_lost_post (is_guarded_loss b.plan (guard_of b) (Cause.PostLost l) e) (account_of b)
 account_post_lost b w l no_memory e new loses =
     same_account b.totals _ _ _ _ _ _ _ _ _ _ refl refl
     (guarded_count b.totals.guarded_lost _ _ refl) (ap in_hands loses.after) (ap in_queues loses.after)

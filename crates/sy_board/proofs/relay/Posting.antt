@@ -17,17 +17,18 @@ use Rattle.sy_board.specs.declared.relay.answers.PostCause.TheVariants as cause
 use Rattle.sy_board.specs.declared.relay.answers.Posted.TheVariants as posted
 use Rattle.sy_board.specs.declared.relay.board.Board.TheInside.{Inside}
 use Rattle.sy_board.specs.declared.relay.board.Worker.{Worker}
-use Rattle.sy_board.specs.relay.Boards.{Account, BoardState, Fits, HasNoPost, IsForPost, PostFails, PostIs, PostLostFails, PostLostIs, account_of, is_no_memory, pairs, stepped}
+use Rattle.sy_board.specs.relay.Boards.{Account, BoardState, Fits, HasNoPost, IsForPost, PostFails, PostIs, PostLostFails, PostLostIs, account_of, guard_of, is_no_memory, stepped}
 use Rattle.sy_board.specs.relay.Cells.{Cell, RelayState, at, put}
 use Rattle.sy_board.specs.relay.Plans.{marks_at}
 use Rattle.sy_board.specs.relay.Steps.{Cause, Event, Job, LosesPost, Out, Posts, advanced}
-use Rattle.sy_board.specs.relay.Totals.{Totals, is_guarded}
+use Rattle.sy_board.specs.relay.Totals.{Totals, is_guarded_loss}
 use Rattle.sy_board.specs.internal.Counting.{HasPostLeft, after_lost_post, after_post}
 use Rattle.sy_board.specs.internal.Jobs.{IsNext}
 use Rattle.sy_board.specs.internal.Kept.{IsKept, IsOrderly, board_inside, state_inside}
 use Rattle.sy_board.proofs.relay.JobAccounts.{board_after, kept_after}
-use Rattle.sy_board.proofs.relay.JobSteps.{IsAdvanced, IsTurn, front_is}
+use Rattle.sy_board.proofs.relay.JobSteps.{IsAdvanced, IsTurn}
 use Rattle.sy_board.proofs.relay.Orderly.{orderly_step}
+use Rattle.sy_board.proofs.relay.Outcomes.{jobs_same}
 use Rattle.sy_board.proofs.relay.PostAccounts.{account_post, account_post_discarded, account_post_lost, post_left}
 use Rattle.sy_board.proofs.relay.Seen.{IsQueue, queue_seen}
 use Rattle.sy_board.proofs.relay.Slots.{IsSlot, advanced_state, job_of, next_of_job, with_worker}
@@ -110,6 +111,13 @@ module _ {b : Inside} {w list left : ℕ} {slot : Worker} (turn : IsTurn b w slo
 
   abbrev job : Job plan old w (occurrence.Post list)
   job = job_of b w slot (occurrence.Post list) left turn.is turn.next
+
+  abbrev entry : Entry
+  entry = turn.next.entry
+
+  -- its loss is guarded
+  abbrev is_lost_guarded : Bool
+  is_lost_guarded = is_guarded_loss plan (guard_of board) (Cause.Post list) entry
 
   abbrev moved : RelayState
   moved = advanced plan old w (occurrence.Post list) job
@@ -200,14 +208,16 @@ module _ {b : Inside} {w list left : ℕ} {slot : Worker} (turn : IsTurn b w slo
                 subst (λ x. IsOrderly x account) (sym board_is) (subst (IsOrderly (stepped board (Event.Post w) (state_inside after) [])) (sym account_after) next);
           }
 
-        module _ {guarded : Bool} (marked : guarded ≡ is_guarded (pairs board) node) {account : Account} (counted : account ≡ after_lost_post guarded b.accounts)
+        module _ {guarded : Bool} (marked : guarded ≡ is_lost_guarded) {account : Account} (counted : account ≡ after_lost_post guarded b.accounts)
             (lost : discards queue.marks node.message.class.severity (length queue.entries) ≡ true) where
           drops : Posts plan old w list node true (state_inside (with_worker b w worker account))
           drops = subst (Posts plan old w list node true) (sym (moved_state worker account on)) (posts_lost lost)
 
           account_less : account ≡ account_of (stepped board (Event.Post w) (state_inside (with_worker b w worker account)) (Out.Lost (Cause.Post list) drops.job.entry ∷ []))
           account_less =
-              counted ∙ ap (λ (g : Bool). after_lost_post g b.accounts) marked ∙ ap (after_lost_post (is_guarded (pairs board) node)) turn.kept.orderly.counted
+              counted ∙ ap (λ (g : Bool). after_lost_post g b.accounts) marked ∙ ap (after_lost_post is_lost_guarded) turn.kept.orderly.counted
+              ∙ ap (λ (e : Entry). after_lost_post (is_guarded_loss plan (guard_of board) (Cause.Post list) e) (account_of board))
+              (jobs_same plan old w (occurrence.Post list) (occurrence.Post list) job drops.job).1
               ∙ sym (account_post_discarded board w list node (state_inside (with_worker b w worker account)) drops)
 
           pub post_discarded : PostIs (posted.Discarded node) board w node (board_inside (with_worker (with_queue b q queue) w worker account))
@@ -218,10 +228,11 @@ module _ {b : Inside} {w list left : ℕ} {slot : Worker} (turn : IsTurn b w slo
           post_discarded_kept = queue_back (with_worker b w worker account) q queue is.read
               (kept_after b w worker account (Event.Post w) (Out.Lost (Cause.Post list) drops.job.entry ∷ []) turn.kept (list, node, true, drops, refl) account_less)
 
-      pub post_discarded_full : {guarded : Bool} → guarded ≡ is_guarded (pairs board) node → discards queue.marks node.message.class.severity (length queue.entries) ≡ true
+      pub post_discarded_full : {guarded : Bool} → guarded ≡ is_lost_guarded → discards queue.marks node.message.class.severity (length queue.entries) ≡ true
           → (Fits (after_lost_post guarded b.accounts) → ⊥) → PostFails fault.TotalsFull board w node
+      unfolding posts_lost
       post_discarded_full marked lost full =
-          let same = account_post_discarded board w list node moved (posts_lost lost) ∙ ap (after_lost_post (is_guarded (pairs board) node)) (sym turn.kept.orderly.counted)
+          let same = account_post_discarded board w list node moved (posts_lost lost) ∙ ap (after_lost_post is_lost_guarded) (sym turn.kept.orderly.counted)
           ∙ ap (λ (g : Bool). after_lost_post g b.accounts) (sym marked) in
           (list, true, moved, posts_lost lost, λ fits. full (subst Fits same fits))
 
@@ -230,37 +241,36 @@ module _ {b : Inside} {w list left : ℕ} {slot : Worker} (turn : IsTurn b w slo
     pub post_not_lost : (why : PostCause) → is_no_memory why ≡ false → length queue.entries < queue.marks.size → PostLostFails fault.NotExpired why board w
     post_not_lost why only room = (only, list, job, rw (is.marks, is.entries) at room)
 
-    module _ (why : PostCause) (reason : (is_no_memory why ≡ true) ⊎ (queue.marks.size ≤ length queue.entries)) {node : Entry} (first : node ≡ get_or slot.entries 0 node)
-        {guarded : Bool} (marked : guarded ≡ is_guarded (pairs board) node) where
-      loses : LosesPost plan old w list (is_no_memory why) node moved
+    module _ (why : PostCause) (reason : (is_no_memory why ≡ true) ⊎ (queue.marks.size ≤ length queue.entries)) {guarded : Bool} (marked : guarded ≡ is_lost_guarded) where
+      loses : LosesPost plan old w list (is_no_memory why) entry moved
       loses = record {
         job = job;
-        its = sym (front_is plan slot.entries (occurrence.Post list) left node turn.next first);
+        its = refl;
         cause = rw (is.marks, is.entries) at reason;
         after = refl;
       }
 
       pub post_lost_full : (Fits (after_lost_post guarded b.accounts) → ⊥) → PostLostFails fault.TotalsFull why board w
       post_lost_full full =
-          let same = account_post_lost board w list (is_no_memory why) node moved loses ∙ ap (after_lost_post (is_guarded (pairs board) node)) (sym turn.kept.orderly.counted)
+          let same = account_post_lost board w list (is_no_memory why) entry moved loses ∙ ap (after_lost_post is_lost_guarded) (sym turn.kept.orderly.counted)
           ∙ ap (λ (g : Bool). after_lost_post g b.accounts) (sym marked) in
-          (list, node, moved, loses, λ fits. full (subst Fits same fits))
+          (list, entry, moved, loses, λ fits. full (subst Fits same fits))
 
       module _ {worker : Worker} (on : IsAdvanced slot worker left) {account : Account} (counted : account ≡ after_lost_post guarded b.accounts) where
-        loses_now : LosesPost plan old w list (is_no_memory why) node (state_inside (with_worker b w worker account))
-        loses_now = subst (LosesPost plan old w list (is_no_memory why) node) (sym (moved_state worker account on)) loses
+        loses_now : LosesPost plan old w list (is_no_memory why) entry (state_inside (with_worker b w worker account))
+        loses_now = subst (LosesPost plan old w list (is_no_memory why) entry) (sym (moved_state worker account on)) loses
 
-        account_lost : account ≡ account_of (stepped board (Event.PostLost w (is_no_memory why)) (state_inside (with_worker b w worker account)) (Out.Lost (Cause.PostLost list) node ∷ []))
+        account_lost : account ≡ account_of (stepped board (Event.PostLost w (is_no_memory why)) (state_inside (with_worker b w worker account)) (Out.Lost (Cause.PostLost list) entry ∷ []))
         account_lost =
-            counted ∙ ap (λ (g : Bool). after_lost_post g b.accounts) marked ∙ ap (after_lost_post (is_guarded (pairs board) node)) turn.kept.orderly.counted
-            ∙ sym (account_post_lost board w list (is_no_memory why) node (state_inside (with_worker b w worker account)) loses_now)
+            counted ∙ ap (λ (g : Bool). after_lost_post g b.accounts) marked ∙ ap (after_lost_post is_lost_guarded) turn.kept.orderly.counted
+            ∙ sym (account_post_lost board w list (is_no_memory why) entry (state_inside (with_worker b w worker account)) loses_now)
 
         pub post_lost : PostLostIs why board w (board_inside (with_worker b w worker account))
-        post_lost = (list, node, loses_now, board_after b w worker account (Event.PostLost w (is_no_memory why)) (Out.Lost (Cause.PostLost list) node ∷ []) account_lost)
+        post_lost = (list, entry, loses_now, board_after b w worker account (Event.PostLost w (is_no_memory why)) (Out.Lost (Cause.PostLost list) entry ∷ []) account_lost)
 
         pub post_lost_kept : IsKept (with_worker b w worker account)
         post_lost_kept =
-            kept_after b w worker account (Event.PostLost w (is_no_memory why)) (Out.Lost (Cause.PostLost list) node ∷ []) turn.kept (list, node, loses_now, refl) account_lost
+            kept_after b w worker account (Event.PostLost w (is_no_memory why)) (Out.Lost (Cause.PostLost list) entry ∷ []) turn.kept (list, entry, loses_now, refl) account_lost
 
 -- ---- why a post is lost
 

@@ -6,7 +6,7 @@ use Rattle.sy_board.specs.declared.fault.BoardFault.{BoardFault}
 use Rattle.sy_board.specs.declared.fault.BoardFault.TheVariants as fault
 use Rattle.sy_board.specs.relay.Boards.{Account, Fits}
 use Rattle.sy_board.specs.relay.Plans.{occurrences_at}
-use Rattle.sy_board.specs.relay.Totals.{Pairs, is_guarded, counts_at, due_for, due_of, is_post, is_run_of, no_counts, with_done, with_due, with_given_up}
+use Rattle.sy_board.specs.relay.Totals.{GuardState, is_guarded, counts_at, due_for, due_of, is_post, is_run_of, no_counts, with_done, with_due, with_given_up}
 
 abbrev pub one_if : Bool → ℕ
 one_if so = if so then 1 else 0
@@ -132,8 +132,8 @@ BringFails fault.TotalsFull a = 2 ^ 64 ≤ a.held_in_queues + 1
 BringFails _ a = ⊥
 
 -- why a hand's entry can't be lost: there is none, or the loss can't be counted
-abbrev pub LoseFails : BoardFault → Option Entry → Pairs → Account → Type 0
-LoseFails fault.HandEmpty hand pairs a = hand ≡ None
-LoseFails fault.TotalsFull hand pairs a =
-    (node : Entry) × (hand ≡ Some node) × (Fits (after_expire (is_guarded pairs node) a) → ⊥)
-LoseFails _ hand pairs a = ⊥
+abbrev pub LoseFails : BoardFault → Option Entry → Plan → GuardState → Account → Type 0
+LoseFails fault.HandEmpty hand plan guard a = hand ≡ None
+LoseFails fault.TotalsFull hand plan guard a =
+    (node : Entry) × (hand ≡ Some node) × (Fits (after_expire (is_guarded plan guard node) a) → ⊥)
+LoseFails _ hand plan guard a = ⊥

@@ -1,7 +1,11 @@
--- The table of a guard.
+-- A guard's value, and its table.
 use Rattle.std.specs.Prelude.{◌≡◌, ℕ, ◌+◌, ◌*◌, ◌<◌, Bool, true, false, if◌then◌else◌, nat_lt, List, length, slice_index_or, slice_set}
 use Rattle.sy_wire.specs.declared.class.Class.{Class}
-use Rattle.sy_board.specs.relay.Totals.{Pairs, guards}
+use Rattle.sy_board.specs.declared.relay.guard.Guard.TheInside.{Inside}
+use Rattle.sy_board.specs.relay.Totals.{GuardState, Pairs, guards}
+
+abbrev pub guard_inside : Inside → GuardState
+guard_inside g = record { pairs = g.pairs.items; spares = g.spares.items }
 
 abbrev pub place : ℕ → Class → ℕ
 place input class = 192 * input + 8 * class.facility + class.severity

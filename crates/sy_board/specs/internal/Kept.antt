@@ -5,7 +5,7 @@ use Rattle.sy_marks.specs.Marks.{QueueState}
 use Rattle.sy_rules.specs.declared.parameters.settings.QueueParameters.{QueueParameters}
 use Rattle.sy_rules.specs.Whole.{IsWhole}
 use Rattle.sy_board.specs.declared.relay.board.Board.TheInside.{Inside}
-use Rattle.sy_board.specs.relay.Boards.{Account, BoardState, account_of, pairs}
+use Rattle.sy_board.specs.relay.Boards.{Account, BoardState, account_of, guard_of}
 use Rattle.sy_board.specs.relay.Cells.{IsShaped, RelayState}
 use Rattle.sy_board.specs.relay.Guards.{IsGuarding, MayGuard}
 use Rattle.sy_board.specs.relay.Patience.{IsPatient}
@@ -44,8 +44,8 @@ pub record IsOrderly (board : BoardState) (account : Account) : Type 0 where
   pub counted : account ≡ account_of board
   pub batches : All (λ entries. length entries ≤ LARGEST_BATCH) board.state.workers
   pub patient : IsPatient board.plan board.state
-  pub may : MayGuard board.plan (pairs board)
-  pub guarding : IsGuarding board.plan (pairs board) board.state
+  pub may : MayGuard board.plan (guard_of board)
+  pub guarding : IsGuarding board.plan (guard_of board) board.state
   pub unlost : board.totals.guarded_lost ≡ 0
 
 pub record IsKept (b : Inside) : Type 0 where

@@ -32,21 +32,21 @@ use Rattle.sy_board.specs.relay.Cells.{Cell, RelayState, at, hand, opening, wait
 use Rattle.sy_board.specs.relay.Plans.{flow_at, marks_at, parameters_at, queue_of_input, queue_of_worker}
 use Rattle.sy_board.specs.relay.Runs.{AreRuns}
 use Rattle.sy_board.specs.relay.Steps.{Cause, Enters, Event, Expires, Fails, GivesUp, Grabs, IsPosted, Job, LosesPost, Out, Posts, Settles, Step, Takes, if_so}
-use Rattle.sy_board.specs.relay.Totals.{Counts, Pairs, Totals, counted, in_hands, in_queues, nothing_counted}
+use Rattle.sy_board.specs.relay.Totals.{Counts, GuardState, Totals, counted, in_hands, in_queues, no_guard, nothing_counted}
 
--- The board of a relay: its plan, the guarded pairs where it has a guard, what the relay holds, and what its steps counted.
+-- The board of a relay: its plan, its guard where it has one, what the relay holds, and what its steps counted.
 pub record BoardState : Type 0 where
   pub plan : Plan
-  pub guard : Option Pairs
+  pub guard : Option GuardState
   pub state : RelayState
   pub totals : Totals
 
--- the guarded pairs: without a guard there are none
-abbrev pub pairs : BoardState → Pairs
-pairs board = unwrap_or board.guard []
+-- what is guarded: nothing, where there is no guard
+abbrev pub guard_of : BoardState → GuardState
+guard_of board = unwrap_or board.guard no_guard
 
 -- a board before the first message
-abbrev pub opened : Plan → Option Pairs → BoardState
+abbrev pub opened : Plan → Option GuardState → BoardState
 opened plan guard = record { plan = plan; guard = guard; state = opening plan; totals = nothing_counted plan }
 
 -- How many runs of an action became due isn't stored: each of them is done, given up, or still to be done.
@@ -84,7 +84,7 @@ stepped old event state outs = record {
   plan = old.plan;
   guard = old.guard;
   state = state;
-  totals = counted old.plan (pairs old) old.state event state outs old.totals;
+  totals = counted old.plan (guard_of old) old.state event state outs old.totals;
 }
 
 -- the board after a step couldn't tell what it has counted

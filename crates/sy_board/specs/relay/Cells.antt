@@ -1,5 +1,5 @@
 -- What a relay holds: entries, each at one place.
-use Rattle.std.specs.Prelude.{◌≡◌, ℕ, ◌+◌, ◌*◌, List, [], ◌∷◌, ◌++◌, length, replicate, slice_index_or, slice_set}
+use Rattle.std.specs.Prelude.{◌≡◌, ℕ, ◌+◌, ◌*◌, List, [], ◌∷◌, ◌++◌, Option, Some, None, length, replicate, slice_index_or, slice_set}
 use Rattle.sy_chain.specs.Entries.{Entry}
 use Rattle.sy_rules.specs.PlanValue.{Plan}
 
@@ -36,6 +36,15 @@ put part (Cell.Worker k) entries = record part { workers = slice_set part.worker
 
 abbrev pub failures_at : RelayState → ℕ → ℕ
 failures_at part worker = slice_index_or part.failures worker 0
+
+-- the list that the first of some entries follows
+abbrev pub first_list : List Entry → Option ℕ
+first_list [] = None
+first_list (e ∷ later) = Some e.list
+
+-- the list that a worker's first entry follows
+abbrev pub followed_at : RelayState → ℕ → Option ℕ
+followed_at part worker = first_list (at part (Cell.Worker worker))
 
 abbrev pub put_failures : RelayState → ℕ → ℕ → RelayState
 put_failures part worker count = record part { failures = slice_set part.failures worker count }

@@ -1,5 +1,5 @@
--- What is asked of a plan at the pairs of a guard, and what a relay with such a plan then keeps (this profile's own).
-use Rattle.std.specs.Prelude.{◌≡◌, ℕ, ◌+◌, ◌*◌, ◌<◌, ◌≤◌, All, Contains, length}
+-- What is asked of a plan by a guard, and what a relay with such a plan then keeps (this profile's own).
+use Rattle.std.specs.Prelude.{◌≡◌, ℕ, ◌+◌, ◌*◌, ◌<◌, ◌≤◌, true, All, Contains, length}
 use Rattle.std.specs.Int.{bit_at}
 use Rattle.sy_wire.specs.declared.class.Class.{Class}
 use Rattle.sy_chain.specs.Entries.{Entry}
@@ -10,7 +10,7 @@ use Rattle.sy_board.specs.relay.Cells.{Cell, RelayState, at, waiting}
 use Rattle.sy_board.specs.relay.Feeders.{IsWithinMarks, OnlyFullDelay}
 use Rattle.sy_board.specs.relay.Kinds.{HoldsAt, Kind}
 use Rattle.sy_board.specs.relay.Plans.{input_at, parameters_at, queue_of_input}
-use Rattle.sy_board.specs.relay.Totals.{Pairs}
+use Rattle.sy_board.specs.relay.Totals.{GuardState, Pairs, is_guarded}
 
 -- A pair of an input that the plan has. Those of other inputs guard nothing.
 pub record IsPairOf (plan : Plan) (pairs : Pairs) (input : ℕ) (class : Class) : Type 0 where
@@ -18,12 +18,13 @@ pub record IsPairOf (plan : Plan) (pairs : Pairs) (input : ℕ) (class : Class) 
   pub pair : Contains pairs (input, class)
 
 -- The condition of a guard: at none of its pairs one of the kinds holds.
-abbrev pub MayGuard : Plan → Pairs → Type 0
-MayGuard plan pairs = (input : ℕ) (class : Class) → IsPairOf plan pairs input class → (kind : Kind) → HoldsAt plan class input kind → ⊥
+abbrev pub MayGuard : Plan → GuardState → Type 0
+MayGuard plan guard =
+    (input : ℕ) (class : Class) → IsPairOf plan guard.pairs input class → (kind : Kind) → HoldsAt plan guard.spares class input kind → ⊥
 
 -- The queue of each pair's input, where all its feeders are full-delay inputs, is no longer than its full-delay mark.
-abbrev pub IsWithinGuard : Plan → Pairs → RelayState → Type 0
-IsWithinGuard plan pairs state = (input : ℕ) (class : Class) → IsPairOf plan pairs input class → OnlyFullDelay plan (queue_of_input plan input)
+abbrev pub IsWithinGuard : Plan → GuardState → RelayState → Type 0
+IsWithinGuard plan guard state = (input : ℕ) (class : Class) → IsPairOf plan guard.pairs input class → OnlyFullDelay plan (queue_of_input plan input)
     → waiting state (queue_of_input plan input) ≤ (parameters_at plan (queue_of_input plan input)).full_delay_mark
 
 -- ---- what each step keeps
@@ -41,7 +42,7 @@ pub record IsOnItsWay (plan : Plan) (cell : Cell) (entry : Entry) : Type 0 where
   pub follows : entry.list ≡ (input_at plan entry.input).list
   pub due : (number : ℕ) → bit_at entry.due number ≡ 1 → May (body_at plan entry.list) entry.message.class number
 
--- Queues are within their marks, and each entry of a pair is on its way.
-pub record IsGuarding (plan : Plan) (pairs : Pairs) (state : RelayState) : Type 0 where
+-- Queues are within their marks, and each guarded entry is on its way.
+pub record IsGuarding (plan : Plan) (guard : GuardState) (state : RelayState) : Type 0 where
   pub marks : IsWithinMarks plan state
-  pub entries : (cell : Cell) → All (λ entry. Contains pairs (entry.input, entry.message.class) → IsOnItsWay plan cell entry) (at state cell)
+  pub entries : (cell : Cell) → All (λ entry. is_guarded plan guard entry ≡ true → IsOnItsWay plan cell entry) (at state cell)

@@ -45,6 +45,10 @@ parameters_at plan queue = slice_index_or plan.queues queue (record {
 abbrev pub occurrences_at : Plan → ℕ → List Occurrence
 occurrences_at plan list = occurrences (body_at plan list)
 
+-- one of these
+abbrev pub occurrence_at : Plan → ℕ → ℕ → Option Occurrence
+occurrence_at plan list number = slice_get (occurrences_at plan list) number
+
 abbrev pub retry_in : Option Action → Option ℕ
 retry_in None = None
 retry_in (Some action) = action.retry

@@ -1,5 +1,5 @@
 -- What a relay counts over its steps, what is counted in what it holds, and the laws that join the two.
-use Rattle.std.specs.Prelude.{◌≡◌, ℕ, ◌+◌, ◌<◌, ◌==◌, ◌&&◌, Bool, true, false, if◌then◌else◌, List, [], ◌∷◌, length, min, replicate, slice_index_or, slice_set}
+use Rattle.std.specs.Prelude.{◌≡◌, ℕ, ◌+◌, ◌<◌, ◌==◌, ◌&&◌, not, Bool, true, false, if◌then◌else◌, List, [], ◌∷◌, length, min, replicate, slice_index_or, slice_set}
 use Rattle.std.specs.Int.{bit_at}
 use Rattle.std.specs.List.{list_any}
 use Rattle.sy_wire.specs.declared.class.Class.{Class}
@@ -9,6 +9,7 @@ use Rattle.sy_rules.specs.declared.lists.occurrence.Occurrence.TheVariants as oc
 use Rattle.sy_rules.specs.PlanValue.{Plan}
 use Rattle.sy_board.specs.relay.Cells.{Cell, RelayState, at, waiting}
 use Rattle.sy_board.specs.relay.Plans.{occurrences_at, parameters_at, queue_of_worker}
+use Rattle.sy_board.specs.relay.Spares.{is_spare_own, loses_spare}
 use Rattle.sy_board.specs.relay.Steps.{Cause, Event, Out}
 
 -- ---- counted in what a relay holds
@@ -64,7 +65,7 @@ pub record Totals : Type 0 where
   pub lost_out : ℕ
   -- posts that became due
   pub posts_due : ℕ
-  -- losses with a guarded pair, of entries and of occurrences
+  -- guarded losses, of entries and of occurrences
   pub guarded_lost : ℕ
   pub actions : List Counts
 
@@ -76,13 +77,27 @@ abbrev pub guards : Pairs → ℕ → Class → Bool
 guards pairs input class =
     list_any (λ pair. pair.0 == input && (pair.1.facility == class.facility && pair.1.severity == class.severity)) pairs
 
-abbrev pub is_guarded : Pairs → Entry → Bool
-is_guarded pairs e = guards pairs e.input e.message.class
+-- What a relay guards: pairs, and beside them its spare actions by their numbers, at and after which nothing is guarded.
+pub record GuardState : Type 0 where
+  pub pairs : Pairs
+  pub spares : List ℕ
 
-abbrev pub guarded_losses : Pairs → List Out → ℕ
-guarded_losses pairs [] = 0
-guarded_losses pairs (Out.Lost cause e ∷ outs) = (if is_guarded pairs e then 1 else 0) + guarded_losses pairs outs
-guarded_losses pairs (Out.Passed action e ∷ outs) = guarded_losses pairs outs
+-- nothing is guarded
+abbrev pub no_guard : GuardState
+no_guard = record { pairs = []; spares = [] }
+
+-- the entry is of a pair, and doesn't follow a spare action's own list
+abbrev pub is_guarded : Plan → GuardState → Entry → Bool
+is_guarded plan guard e = guards guard.pairs e.input e.message.class && not (is_spare_own plan guard.spares e.list)
+
+-- the loss of such an entry, or of an occurrence of it that isn't spare
+abbrev pub is_guarded_loss : Plan → GuardState → Cause → Entry → Bool
+is_guarded_loss plan guard cause e = not (loses_spare plan guard.spares cause) && is_guarded plan guard e
+
+abbrev pub guarded_losses : Plan → GuardState → List Out → ℕ
+guarded_losses plan guard [] = 0
+guarded_losses plan guard (Out.Lost cause e ∷ outs) = (if is_guarded_loss plan guard cause e then 1 else 0) + guarded_losses plan guard outs
+guarded_losses plan guard (Out.Passed action e ∷ outs) = guarded_losses plan guard outs
 
 abbrev pub no_counts : Counts
 no_counts = record { due = 0; done = 0; given_up = 0 }
@@ -135,9 +150,9 @@ counted_by plan old (Event.Post w) new outs t = record t { posted = t.posted + p
 counted_by plan old (Event.PostLost w no_memory) new outs t = record t { lost_post = t.lost_post + length outs }
 
 -- what a step counts
-abbrev pub counted : Plan → Pairs → RelayState → Event → RelayState → List Out → Totals → Totals
-counted plan pairs old event new outs t =
-    record (counted_by plan old event new outs t) { guarded_lost = t.guarded_lost + guarded_losses pairs outs }
+abbrev pub counted : Plan → GuardState → RelayState → Event → RelayState → List Out → Totals → Totals
+counted plan guard old event new outs t =
+    record (counted_by plan old event new outs t) { guarded_lost = t.guarded_lost + guarded_losses plan guard outs }
 
 -- before the first step
 abbrev pub nothing_counted : Plan → Totals

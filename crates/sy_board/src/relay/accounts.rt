@@ -171,7 +171,7 @@ impl Accounts {
         sum(self.posted, self.lost_post, self.posts_left)
     }
 
-    /// Losses of entries and of occurrences whose input and class are guarded.
+    /// Losses of entries and of occurrences whose input and class are guarded, but for those at or after spare actions.
     pub fn guarded_lost(&self) -> u64
         ensures { result ≡ self.now.totals.guarded_lost }
     {

@@ -1,12 +1,13 @@
 //! The state of a relay.
-ghost use Rattle.std.specs.Prelude.{◌≡◌, ◌+◌, ◌*◌, ◌<◌, ◌≤◌, [], None, length, map, replicate, Some, IfNone, IfOk, IfSome, unwrap_or};
+ghost use Rattle.std.specs.Prelude.{◌≡◌, ◌+◌, ◌*◌, ◌<◌, ◌≤◌, ◌&&◌, not, [], None, length, map, replicate, Some, IfNone, IfOk, IfSome, unwrap_or};
 ghost use Rattle.std.specs.Arc.{arc_value};
 ghost use Rattle.sy_marks.specs.Marks.{HoldIs, discards};
 ghost use Rattle.sy_board.specs.internal.Kept.{empty_queue};
-ghost use Rattle.sy_board.specs.relay.Boards.{account_of, opened, pairs};
-ghost use Rattle.sy_board.specs.relay.Cells.{IsShaped, failures_at, waiting};
+ghost use Rattle.sy_board.specs.relay.Boards.{account_of, guard_of, opened};
+ghost use Rattle.sy_board.specs.relay.Cells.{IsShaped, failures_at, followed_at, waiting};
 ghost use Rattle.sy_board.specs.relay.Guards.{IsWithinGuard, MayGuard};
 ghost use Rattle.sy_board.specs.relay.Patience.{IsPatient};
+ghost use Rattle.sy_board.specs.relay.Spares.{is_spare_occurrence};
 ghost use Rattle.sy_board.specs.relay.Plans.{flow_at, marks_at, queue_of_input};
 ghost use Rattle.sy_board.specs.relay.Totals.{Laws};
 ghost use Rattle.sy_board.specs.relay.Totals as spec;
@@ -26,8 +27,8 @@ use std::marker::Model;
 use std::sync::Arc;
 use sy_chain::{Chain, Node};
 use sy_marks::{Hold, MarkQueue};
-use sy_rules::Plan;
 use sy_rules::laws::plans_are_whole;
+use sy_rules::{Occurrence, Plan};
 
 /// How many messages an input can have in hand at once.
 const HANDS: usize = 64;
@@ -119,22 +120,41 @@ fn is_discarded(queue: &MarkQueue, node: &Node) -> bool
     queue.may_lose() && queue.discards(node.message().class().severity)
 }
 
-// Whether the losses of an entry are counted apart.
+// Whether an entry's loss is counted apart.
 #[inline(always)]
-fn is_guarded(guard: &Option<Guard>, node: &Node) -> bool
-    ensures { result ≡ spec.is_guarded (unwrap_or guard.now []) node.now }
+fn is_guarded(plan: &Plan, guard: &Option<Guard>, node: &Node) -> bool
+    ensures { result ≡ spec.is_guarded plan.now (unwrap_or guard.now spec.no_guard) node.now }
 {
     match guard {
-        Some(guard) => guard.guards(node.input(), node.message().class()),
+        Some(guard) => {
+            guard.guards(node.input(), node.message().class())
+                && !guard.is_spare_list(plan, node.list())
+        }
+        None => false,
+    }
+}
+
+// Whether the loss of an entry's occurrence is counted apart.
+fn is_guarded_occurrence(
+    plan: &Plan,
+    guard: &Option<Guard>,
+    node: &Node,
+    occurrence: Occurrence,
+) -> bool
+    ensures { result ≡ (not (is_spare_occurrence plan.now (unwrap_or guard.now spec.no_guard).spares occurrence)
+        && spec.is_guarded plan.now (unwrap_or guard.now spec.no_guard) node.now) }
+{
+    match guard {
+        Some(it) => !it.is_spare_occurrence(plan, occurrence) && is_guarded(plan, guard, node),
         None => false,
     }
 }
 
 impl Board {
-    /// The board of a relay with this plan. It holds no message yet. With a guard the plan meets its condition, so that no entry whose
-    /// input and class the guard has is ever lost; such losses would be counted apart.
+    /// The board of a relay with this plan. It holds no message yet. With a guard the plan meets its condition, so that of the entries whose
+    /// input and class the guard has nothing is ever lost but at or after spare actions; such losses would be counted apart.
     pub fn new(alloc: Global, plan: Arc<Plan>, guard: Option<Guard>) -> Result<Board, AllocError>
-        requires { IfSome guard (λ pairs. MayGuard (arc_value plan) pairs) }
+        requires { IfSome guard (MayGuard (arc_value plan)) }
         ensures { IfOk result (λ board. board ≡ opened (arc_value plan) guard) }
     {
         plans_are_whole(&plan);
@@ -176,7 +196,7 @@ impl Board {
         ensures shaped { IsShaped self.now.plan self.now.state }
         ensures patient { IsPatient self.now.plan self.now.state }
         ensures unlost { self.now.totals.guarded_lost ≡ 0 }
-        ensures within { IsWithinGuard self.now.plan (pairs self.now) self.now.state }
+        ensures within { IsWithinGuard self.now.plan (guard_of self.now) self.now.state }
     {
         &self.accounts
     }
@@ -187,6 +207,15 @@ impl Board {
         ensures { result ≡ failures_at self.now.state worker }
     {
         self.workers[worker as usize].failures
+    }
+
+    /// The list that a worker's first entry follows, if it has one.
+    pub fn followed(&self, worker: u32) -> Option<u32>
+        requires { worker < length self.now.plan.workers }
+        ensures { result ≡ followed_at self.now.state worker }
+    {
+        let first = self.workers[worker as usize].entries.front()?;
+        Some(first.list())
     }
 
     /// What holds a message of an input now: first the full-delay mark, then a full queue, then the light-delay mark.

@@ -5,7 +5,7 @@ ghost use Rattle.sy_marks.specs.Marks.{kept_of, lost_of};
 ghost use Rattle.sy_board.specs.internal.Counting.{HasRoomFor, became_due};
 ghost use Rattle.sy_board.specs.relay.Boards.{GrabFails, GrabIs};
 ghost use Rattle.sy_board.specs.relay.Steps.{Cause, Out};
-ghost use Rattle.sy_board.specs.relay.Totals.{guarded_losses};
+ghost use Rattle.sy_board.specs.relay.Totals.{guarded_losses, no_guard};
 
 use super::{Board, is_guarded};
 use crate::fault::BoardFault;
@@ -18,12 +18,13 @@ use sy_rules::Plan;
 
 // How many of the first entries of a queue would be lost to a worker, and how many of those are guarded. Each is taken
 // out, judged at the length that remains, and put back with the others.
-fn losses(queue: &mut MarkQueue, count: usize, guard: &Option<Guard>) -> (usize, usize)
+fn losses(queue: &mut MarkQueue, count: usize, plan: &Plan, guard: &Option<Guard>) -> (usize, usize)
     requires there { count ≤ length queue.old.entries }
     requires fits { length queue.old.entries ≤ queue.old.marks.size }
     ensures same { queue.new ≡ queue.old }
     ensures lost { result.0 ≡ length (lost_of queue.old.marks count queue.old.entries) }
-    ensures guarded { result.1 ≡ guarded_losses (unwrap_or guard.now []) (map (Out.Lost Cause.Grab) (lost_of queue.old.marks count queue.old.entries)) }
+    ensures guarded { result.1 ≡ guarded_losses plan.now (unwrap_or guard.now no_guard)
+        (map (Out.Lost Cause.Grab) (lost_of queue.old.marks count queue.old.entries)) }
 {
     let (mut lost, mut guarded) = (0, 0);
     if !queue.may_lose() {
@@ -38,7 +39,7 @@ fn losses(queue: &mut MarkQueue, count: usize, guard: &Option<Guard>) -> (usize,
         unjudged -= 1;
         if queue.loses(&entry) {
             lost += 1;
-            guarded += usize::from(is_guarded(guard, &entry));
+            guarded += usize::from(is_guarded(plan, guard, &entry));
         }
         front.push_back(entry);
     }
@@ -102,7 +103,7 @@ impl Board {
         if count == 0 {
             return Ok((0, Chain::new()));
         }
-        let (lost_count, guarded) = losses(queue, count, &self.guard);
+        let (lost_count, guarded) = losses(queue, count, &self.plan, &self.guard);
         let Ok(()) = self.accounts.count_grab(count, lost_count, guarded) else {
             return Err(BoardFault::TotalsFull);
         };

@@ -1,5 +1,5 @@
 //! The steps of messages on their way into a queue.
-ghost use Rattle.std.specs.Prelude.{◌≡◌, ◌<◌, ◌&&◌, ◌++◌, [], None, Some, length, option_to_list, IfErr, IfOk, OnErr, OnOk, unwrap_or};
+ghost use Rattle.std.specs.Prelude.{◌≡◌, ◌<◌, ◌&&◌, ◌++◌, None, Some, length, option_to_list, IfErr, IfOk, OnErr, OnOk, unwrap_or};
 ghost use Rattle.sy_board.specs.internal.Counting.{BringFails, LoseFails, after_enter, after_expire};
 ghost use Rattle.sy_board.specs.relay.Totals as spec;
 ghost use Rattle.sy_board.specs.internal.Jobs.{is_expiring, is_holding};
@@ -14,12 +14,13 @@ use crate::relay::guard::Guard;
 use crate::relay::reading::way_of;
 use sy_chain::Node;
 use sy_marks::{Hold, MarkQueue};
+use sy_rules::Plan;
 
 // Whether an entry is lost and its losses are counted apart.
-fn is_guarded_loss(lost: bool, guard: &Option<Guard>, node: &Node) -> bool
-    ensures { result ≡ (lost && spec.is_guarded (unwrap_or guard.now []) node.now) }
+fn is_guarded_loss(lost: bool, plan: &Plan, guard: &Option<Guard>, node: &Node) -> bool
+    ensures { result ≡ (lost && spec.is_guarded plan.now (unwrap_or guard.now spec.no_guard) node.now) }
 {
-    lost && is_guarded(guard, node)
+    lost && is_guarded(plan, guard, node)
 }
 
 // Whether a message stays in its hand.
@@ -68,18 +69,20 @@ fn bring(
 // Loses a hand's entry.
 fn lose(
     hand: &mut Option<Node>,
+    plan: &Plan,
     guard: &Option<Guard>,
     accounts: &mut Accounts,
 ) -> Result<Node, BoardFault>
     requires counted { 0 < accounts.old.held_in_hands }
     ensures node { IfOk result (λ node. hand.old ≡ Some node) }
     ensures hand { OnOk result (hand.new ≡ None) }
-    ensures accounts { IfOk result (λ node. accounts.new ≡ after_expire (spec.is_guarded (unwrap_or guard.now []) node) accounts.old) }
-    ensures err { IfErr result (λ fault. LoseFails fault hand.old (unwrap_or guard.now []) accounts.old) }
+    ensures accounts { IfOk result (λ node. accounts.new
+        ≡ after_expire (spec.is_guarded plan.now (unwrap_or guard.now spec.no_guard) node) accounts.old) }
+    ensures err { IfErr result (λ fault. LoseFails fault hand.old plan.now (unwrap_or guard.now spec.no_guard) accounts.old) }
     ensures unchanged { OnErr result ((hand.new ≡ hand.old) × (accounts.new ≡ accounts.old)) }
 {
     let guarded = match hand {
-        Some(node) => is_guarded(guard, node),
+        Some(node) => is_guarded(plan, guard, node),
         None => return Err(BoardFault::HandEmpty),
     };
     let Ok(()) = accounts.count_expire(guarded) else {
@@ -108,7 +111,7 @@ impl Board {
         }
         let (_, queue) = way_of(&self.plan, input);
         let lost = is_discarded(&self.queues[queue], &node);
-        let guarded = is_guarded_loss(lost, &self.guard, &node);
+        let guarded = is_guarded_loss(lost, &self.plan, &self.guard, &node);
         let Ok(()) = self.accounts.count_take(lost, guarded) else {
             return Err((node, BoardFault::TotalsFull));
         };
@@ -163,7 +166,12 @@ impl Board {
         if !expires(hold) {
             return Err(BoardFault::NotExpired);
         }
-        let lost = lose(&mut self.hands[place], &self.guard, &mut self.accounts);
+        let lost = lose(
+            &mut self.hands[place],
+            &self.plan,
+            &self.guard,
+            &mut self.accounts,
+        );
         let node = match lost {
             Ok(node) => node,
             Err(fault) => return Err(fault),

@@ -5,7 +5,7 @@ ghost use Rattle.sy_actions.specs.declared.device.DeviceFault.TheVariants.{Count
 ghost use Rattle.sy_board.specs.relay.Boards.{FailFails, FailIs, HasNoJob, JobIs, LeftIs, SettleFails, SettleIs, SettlesNext, SettlesNoNext};
 ghost use Rattle.sy_board.specs.internal.Jobs.{IsFirstOf, IsNext, IsNextOf, HasNext, HasNextRun, RunFails, advanced_entries};
 
-use super::{Board, Worker, is_guarded};
+use super::{Board, Worker, is_guarded_occurrence};
 use crate::fault::BoardFault;
 use crate::relay::answers::{Job, Retry};
 use crate::relay::reading::{occurrence_of, retry_of};
@@ -257,7 +257,8 @@ impl Board {
         let Some(node) = slot.entries.front() else {
             return Err(BoardFault::NoJob);
         };
-        let guarded = is_guarded(&self.guard, node);
+        let given_up = Occurrence::Run(device);
+        let guarded = is_guarded_occurrence(&self.plan, &self.guard, node, given_up);
         let Ok(()) = self.accounts.count_give_up(device, guarded) else {
             return Err(BoardFault::TotalsFull);
         };

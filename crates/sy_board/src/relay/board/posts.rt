@@ -1,13 +1,17 @@
 //! The steps of a worker's job that is a post.
-ghost use Rattle.std.specs.Prelude.{◌≡◌, ℕ, ◌<◌, IfErr, IfNone, IfOk, IfSome, OnErr, OnOk, length};
+ghost use Rattle.std.specs.Prelude.{◌≡◌, ℕ, ◌<◌, ◌∷◌, IfErr, IfNone, IfOk, IfSome, List, OnErr, OnOk, length, unwrap_or};
+ghost use Rattle.sy_chain.specs.Entries.{Entry};
 ghost use Rattle.sy_rules.specs.declared.lists.occurrence.Occurrence.TheVariants as occurrence;
 ghost use Rattle.sy_board.specs.relay.Boards.{IsForPost, PostFails, PostIs, PostLostFails, PostLostIs};
 ghost use Rattle.sy_board.specs.internal.Jobs.{IsNext};
+ghost use Rattle.sy_board.specs.relay.Steps.{Cause};
+ghost use Rattle.sy_board.specs.relay.Totals.{is_guarded_loss, no_guard};
 
 use super::jobs::{advance, next_of};
-use super::{Board, is_guarded};
+use super::{Board, is_guarded_occurrence};
 use crate::fault::BoardFault;
 use crate::relay::answers::{PostCause, Posted};
+use crate::relay::guard::Guard;
 use crate::relay::reading::queue_of_list;
 use sy_chain::{Chain, Node};
 use sy_rules::{Occurrence, Plan};
@@ -20,6 +24,17 @@ fn post_of(plan: &Plan, entries: &Chain) -> Option<(u32, u64)>
     match next_of(plan, entries)? {
         (Occurrence::Post(list), left) => Some((list, left)),
         (Occurrence::Run(_), _) => None,
+    }
+}
+
+// Whether the loss of the first entry's post to this list is counted apart.
+fn loses_guarded(plan: &Plan, guard: &Option<Guard>, list: u32, entries: &Chain) -> bool
+    ensures { (first : Entry) → (others : List Entry) → entries.now ≡ first ∷ others
+        → result ≡ is_guarded_loss plan.now (unwrap_or guard.now no_guard) (Cause.Post list) first }
+{
+    match entries.front() {
+        Some(node) => is_guarded_occurrence(plan, guard, node, Occurrence::Post(list)),
+        None => false,
     }
 }
 
@@ -40,7 +55,7 @@ impl Board {
         };
         let queue = &mut self.queues[queue_of_list(&self.plan, list)];
         if queue.discards(node.message().class().severity) {
-            let guarded = is_guarded(&self.guard, &node);
+            let guarded = loses_guarded(&self.plan, &self.guard, list, &slot.entries);
             let Ok(()) = self.accounts.count_lost_post(guarded) else {
                 return Err((node, BoardFault::TotalsFull));
             };
@@ -75,10 +90,7 @@ impl Board {
         if cause == PostCause::Full && !full {
             return Err(BoardFault::NotExpired);
         }
-        let Some(node) = slot.entries.front() else {
-            return Err(BoardFault::NoJob);
-        };
-        let guarded = is_guarded(&self.guard, node);
+        let guarded = loses_guarded(&self.plan, &self.guard, list, &slot.entries);
         let Ok(()) = self.accounts.count_lost_post(guarded) else {
             return Err(BoardFault::TotalsFull);
         };

@@ -23,7 +23,7 @@ returns-in-Err-clause-err c = rw (← c.self.view_is) (
     let read = rw c.place-place.ensures at c.index_mut.ensures.value in
     let holds = rw (← c.self.view_is) at c.gate-hold.ensures in
     let full = (sym c.if-not-expires.false ∙ c.expires.ensures) in
-    lose_fails b c.self.invariant i h there x read c.gate-hold.result holds full c.in-Err.fault c.in-Err.ensures.err)
+    lose_fails b c.self.invariant i h there x read c.gate-hold.result holds full c.in-Err.fault (rw c.deref.ensures at c.in-Err.ensures.err))
 
 pub invariant_of-self-2 : goal.invariant_of-self-2
 invariant_of-self-2 c =
@@ -36,7 +36,7 @@ invariant_of-self-2 c =
     let holds = rw (← c.self.view_is) at c.gate-hold.ensures in
     let full = (sym c.if-not-expires.false ∙ c.expires.ensures) in
     let seen = expire_seen b c.self.invariant i h there c.in-Ok.node x read c.in-Ok.ensures.node c.gate-hold.result holds full in
-    let counted = c.in-Ok.ensures.accounts ∙ sym seen.counted in
+    let counted = (rw c.deref.ensures at c.in-Ok.ensures.accounts) ∙ sym seen.counted in
     record {
       marks = c.self.invariant.marks;
       orderly = rw (c.in-Ok.ensures.hand, hand_write, c.place-place.ensures)
@@ -54,6 +54,6 @@ returns-clause-ok c = rw (← c.self.view_is) (
     let holds = rw (← c.self.view_is) at c.gate-hold.ensures in
     let full = (sym c.if-not-expires.false ∙ c.expires.ensures) in
     let seen = expire_seen b c.self.invariant i h there c.in-Ok.node x read c.in-Ok.ensures.node c.gate-hold.result holds full in
-    let counted = c.in-Ok.ensures.accounts ∙ sym seen.counted in
+    let counted = (rw c.deref.ensures at c.in-Ok.ensures.accounts) ∙ sym seen.counted in
     rw (c.in-Ok.ensures.hand, hand_write, c.place-place.ensures)
     (seen.expires, same_board (board_inside b) (Event.Expire i h) (expired_state b i h) (Out.Lost Cause.Expire c.in-Ok.node ∷ []) c.lose-lost.new.accounts counted))

@@ -79,10 +79,10 @@ returns-in_default-count_give_up-clause-err c =
     record { run = run; offered = c.was_offered.ensures.yes c.if-not-was_offered.false } in
     let limit : retry_at (arc_value c.self.inside.plan) c.args.failure.now.device ≡ Some c.in-Some.retry =
     rw (c.deref-3.ensures, c.device-device.ensures) at (sym c.retry_of.ensures ∙ c.in-Some.is) in
-    let last = last_of c.self.inside c.args.worker c.index_mut-slot.result.now c.args.failure.now c.in_ok-left.left c.in-Some.retry c.is_guarded-guarded.result c.in-Some-front.node.now
-    is limit c.if-slot-retry.false (front_read _ _ c.in-Some-front.ensures.some) c.is_guarded-guarded.ensures in
+    let last = last_of c.self.inside c.args.worker c.index_mut-slot.result.now c.args.failure.now c.in_ok-left.left c.in-Some.retry c.is_guarded_occurrence-guarded.result c.in-Some-front.node.now
+    is limit c.if-slot-retry.false (front_read _ _ c.in-Some-front.ensures.some) (rw (c.deref-4.ensures, c.device-device.ensures) at c.is_guarded_occurrence-guarded.ensures) in
     rw (← c.self.view_is)
-    (give_up_full c.self.inside c.args.worker c.index_mut-slot.result.now c.args.failure.now c.in_ok-left.left c.is_guarded-guarded.result last (rw c.device-device.ensures at c.in_default-count_give_up.ensures.full))
+    (give_up_full c.self.inside c.args.worker c.index_mut-slot.result.now c.args.failure.now c.in_ok-left.left c.is_guarded_occurrence-guarded.result last (rw c.device-device.ensures at c.in_default-count_give_up.ensures.full))
 
 pub invariant_of-self-2 : goal.invariant_of-self-2
 invariant_of-self-2 c =
@@ -93,10 +93,10 @@ invariant_of-self-2 c =
     record { run = run; offered = c.was_offered.ensures.yes c.if-not-was_offered.false } in
     let limit : retry_at (arc_value c.self.inside.plan) c.args.failure.now.device ≡ Some c.in-Some.retry =
     rw (c.deref-3.ensures, c.device-device.ensures) at (sym c.retry_of.ensures ∙ c.in-Some.is) in
-    let last = last_of c.self.inside c.args.worker c.index_mut-slot.result.now c.args.failure.now c.in_ok-left.left c.in-Some.retry c.is_guarded-guarded.result c.in-Some-front.node.now
-    is limit c.if-slot-retry.false (front_read _ _ c.in-Some-front.ensures.some) c.is_guarded-guarded.ensures in
+    let last = last_of c.self.inside c.args.worker c.index_mut-slot.result.now c.args.failure.now c.in_ok-left.left c.in-Some.retry c.is_guarded_occurrence-guarded.result c.in-Some-front.node.now
+    is limit c.if-slot-retry.false (front_read _ _ c.in-Some-front.ensures.some) (rw (c.deref-4.ensures, c.device-device.ensures) at c.is_guarded_occurrence-guarded.ensures) in
     let on : IsAdvanced c.index_mut-slot.result.now c.advance.new.worker c.in_ok-left.left = record { entries = c.advance.ensures.entries; failures = c.advance.ensures.failures } in
-    given_up_kept c.self.inside c.args.worker c.index_mut-slot.result.now c.advance.new.worker c.args.failure.now c.in_ok-left.left c.is_guarded-guarded.result c.count_give_up.new.self
+    given_up_kept c.self.inside c.args.worker c.index_mut-slot.result.now c.advance.new.worker c.args.failure.now c.in_ok-left.left c.is_guarded_occurrence-guarded.result c.count_give_up.new.self
     last on (rw c.device-device.ensures at c.in-Ok.ensures.ok)
 
 pub returns-clause-ok : goal.returns-clause-ok
@@ -108,9 +108,9 @@ returns-clause-ok c =
     record { run = run; offered = c.was_offered.ensures.yes c.if-not-was_offered.false } in
     let limit : retry_at (arc_value c.self.inside.plan) c.args.failure.now.device ≡ Some c.in-Some.retry =
     rw (c.deref-3.ensures, c.device-device.ensures) at (sym c.retry_of.ensures ∙ c.in-Some.is) in
-    let last = last_of c.self.inside c.args.worker c.index_mut-slot.result.now c.args.failure.now c.in_ok-left.left c.in-Some.retry c.is_guarded-guarded.result c.in-Some-front.node.now
-    is limit c.if-slot-retry.false (front_read _ _ c.in-Some-front.ensures.some) c.is_guarded-guarded.ensures in
+    let last = last_of c.self.inside c.args.worker c.index_mut-slot.result.now c.args.failure.now c.in_ok-left.left c.in-Some.retry c.is_guarded_occurrence-guarded.result c.in-Some-front.node.now
+    is limit c.if-slot-retry.false (front_read _ _ c.in-Some-front.ensures.some) (rw (c.deref-4.ensures, c.device-device.ensures) at c.is_guarded_occurrence-guarded.ensures) in
     let on : IsAdvanced c.index_mut-slot.result.now c.advance.new.worker c.in_ok-left.left = record { entries = c.advance.ensures.entries; failures = c.advance.ensures.failures } in
     subst (λ (old : BoardState). FailIs retry.GaveUp old c.args.worker c.args.failure.now (board_inside (with_worker c.self.inside c.args.worker c.advance.new.worker c.count_give_up.new.self))) c.self.view_is
-    (given_up_is c.self.inside c.args.worker c.index_mut-slot.result.now c.advance.new.worker c.args.failure.now c.in_ok-left.left c.is_guarded-guarded.result c.count_give_up.new.self
+    (given_up_is c.self.inside c.args.worker c.index_mut-slot.result.now c.advance.new.worker c.args.failure.now c.in_ok-left.left c.is_guarded_occurrence-guarded.result c.count_give_up.new.self
     last on (rw c.device-device.ensures at c.in-Ok.ensures.ok))

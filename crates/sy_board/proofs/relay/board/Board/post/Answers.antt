@@ -3,12 +3,15 @@ use Rattle.sy_wire.specs.declared.class.Class.{Class}
 use Rattle.sy_wire.specs.Messages.{Said}
 use Rattle.sy_rules.specs.declared.lists.occurrence.Occurrence.TheVariants as occurrence
 use Rattle.sy_marks.specs.Marks.{discards}
-use Rattle.sy_board.specs.relay.Boards.{IsForPost}
+use Rattle.std.specs.Arc.{arc_value}
+use Rattle.sy_board.specs.relay.Boards.{IsForPost, guard_of}
+use Rattle.sy_board.specs.relay.Steps.{Cause}
+use Rattle.sy_board.specs.relay.Totals.{is_guarded_loss}
 use Rattle.sy_board.specs.internal.Kept.{board_inside}
 use Rattle.sy_board.proofs.relay.JobSteps.{IsTurn, slot_in, turn_of}
 use Rattle.sy_board.proofs.relay.Posting.{IsListQueue, full_by, kept_back, left_to_count, list_queue, no_post, post_discarded, post_discarded_full, post_discarded_kept, post_done, post_done_kept, post_full, post_held, queue_there, room_by}
 use Rattle.sy_board.proofs.relay.board.Board.post.Goals as goal
-use Rattle.sy_board.proofs.relay.board.Board.post.Goals.{In-Some, After-discards, After-is_full}
+use Rattle.sy_board.proofs.relay.board.Board.post.Goals.{In-Some, After-discards, After-is_full, After-loses_guarded-guarded}
 
 turn : (c : In-Some) → IsTurn c.self.inside c.args.worker c.index_mut-slot.result.now (occurrence.Post c.in-Some.list) c.in-Some.left
 turn c = turn_of c.self.inside c.args.self.now c.args.worker c.index_mut-slot.result.now c.deref.result.now (occurrence.Post c.in-Some.list) c.in-Some.left
@@ -26,6 +29,10 @@ judged c =
     let severity : c.class.result.severity ≡ c.args.node.message.class.severity =
     ap (λ (x : Class). x.severity) (c.class.ensures ∙ ap (λ (x : Said). x.class) (c.deref-3.ensures ∙ c.message.ensures.value)) in
     sym (rw severity at c.discards.ensures)
+
+marked : (c : After-loses_guarded-guarded) (turn : IsTurn c.self.inside c.args.worker c.index_mut-slot.result.now (occurrence.Post c.in-Some.list) c.in-Some.left)
+    → c.loses_guarded-guarded.result ≡ is_guarded_loss (arc_value c.self.inside.plan) (guard_of (board_inside c.self.inside)) (Cause.Post c.in-Some.list) turn.next.entry
+marked c turn = rw c.deref-then-discards.ensures at (c.loses_guarded-guarded.ensures turn.next.entry turn.next.others turn.next.held)
 
 pub returns-in_default-clause-err : goal.returns-in_default-clause-err
 returns-in_default-clause-err c = rw (← c.self.view_is)
@@ -53,20 +60,20 @@ pub returns-in_default-count_lost_post-clause-err :
     goal.returns-in_default-count_lost_post-clause-err
 returns-in_default-count_lost_post-clause-err c =
     let before = goal.at.returns-in_default-count_lost_post-clause-err c in
-    rw (← c.self.view_is) (post_discarded_full (turn before.In-Some) (queue before.After-discards) (made before.In-Some) c.is_guarded-guarded.ensures
+    rw (← c.self.view_is) (post_discarded_full (turn before.In-Some) (queue before.After-discards) (made before.In-Some) (marked before.After-loses_guarded-guarded (turn before.In-Some))
     (judged before.After-discards ∙ c.if-discards.true) c.in_default-count_lost_post.ensures.full)
 
 pub invariant_of-self-then-discards : goal.invariant_of-self-then-discards
 invariant_of-self-then-discards c =
     let before = goal.at.invariant_of-self-then-discards c in
     post_discarded_kept (turn before.In-Some) (queue before.After-discards) (made before.In-Some) (record { entries = c.advance.ensures.entries; failures = c.advance.ensures.failures })
-    c.is_guarded-guarded.ensures c.in-Ok.ensures.ok (judged before.After-discards ∙ c.if-discards.true)
+    (marked before.After-loses_guarded-guarded (turn before.In-Some)) c.in-Ok.ensures.ok (judged before.After-discards ∙ c.if-discards.true)
 
 pub returns-then-discards-clause-ok : goal.returns-then-discards-clause-ok
 returns-then-discards-clause-ok c =
     let before = goal.at.returns-then-discards-clause-ok c in
     rw (← c.self.view_is) (post_discarded (turn before.In-Some) (queue before.After-discards) (made before.In-Some)
-    (record { entries = c.advance.ensures.entries; failures = c.advance.ensures.failures }) c.is_guarded-guarded.ensures c.in-Ok.ensures.ok (judged before.After-discards ∙ c.if-discards.true))
+    (record { entries = c.advance.ensures.entries; failures = c.advance.ensures.failures }) (marked before.After-loses_guarded-guarded (turn before.In-Some)) c.in-Ok.ensures.ok (judged before.After-discards ∙ c.if-discards.true))
 
 -- ---- not discarded
 

@@ -14,7 +14,7 @@ returns-in_default-clause-err c = rw (← c.self.view_is) (
     let b = c.self.inside in
     let queue = input_queue_seen b c.self.invariant c.args.input there.0 c.way_of-queue.result.1 c.index-2.result.now (rw c.deref.ensures at c.way_of-queue.ensures.queue) c.index-2.ensures in
     let seen = take_seen b c.self.invariant c.args.input c.args.hand c.args.node there made c.index.result.now (rw c.place-place.ensures at c.index.ensures) (sym c.is_some.ensures ∙ c.if-is_some.false)
-    c.index-2.result.now queue c.is_discarded-lost.result c.is_guarded_loss-guarded.result c.is_discarded-lost.ensures c.is_guarded_loss-guarded.ensures in
+    c.index-2.result.now queue c.is_discarded-lost.result c.is_guarded_loss-guarded.result c.is_discarded-lost.ensures (rw c.deref-2.ensures at c.is_guarded_loss-guarded.ensures) in
     (_, _, seen.takes, λ fits. c.in_default.ensures.full (subst Fits seen.counted fits)))
 
 pub returns-then-lost-clause-ok : goal.returns-then-lost-clause-ok
@@ -24,7 +24,7 @@ returns-then-lost-clause-ok c = rw (← c.self.view_is) (
     let b = c.self.inside in
     let queue = input_queue_seen b c.self.invariant c.args.input there.0 c.way_of-queue.result.1 c.index-2.result.now (rw c.deref.ensures at c.way_of-queue.ensures.queue) c.index-2.ensures in
     let seen = take_seen b c.self.invariant c.args.input c.args.hand c.args.node there made c.index.result.now (rw c.place-place.ensures at c.index.ensures) (sym c.is_some.ensures ∙ c.if-is_some.false)
-    c.index-2.result.now queue c.is_discarded-lost.result c.is_guarded_loss-guarded.result c.is_discarded-lost.ensures c.is_guarded_loss-guarded.ensures in
+    c.index-2.result.now queue c.is_discarded-lost.result c.is_guarded_loss-guarded.result c.is_discarded-lost.ensures (rw c.deref-2.ensures at c.is_guarded_loss-guarded.ensures) in
     let takes = rw c.if-lost.true at seen.takes in
     let same = rw c.if-lost.true at (same_board (board_inside b) (Event.Take c.args.input c.args.hand c.args.node) (taken_state b c.args.input c.args.hand c.args.node c.is_discarded-lost.result)
     (taken_outs c.args.node c.is_discarded-lost.result) c.count_take.new.self (c.in-Ok.ensures.ok ∙ sym seen.counted)) in
@@ -37,7 +37,7 @@ invariant_of-self-2 c =
     let b = c.self.inside in
     let queue = input_queue_seen b c.self.invariant c.args.input there.0 c.way_of-queue.result.1 c.index-2.result.now (rw c.deref.ensures at c.way_of-queue.ensures.queue) c.index-2.ensures in
     let seen = take_seen b c.self.invariant c.args.input c.args.hand c.args.node there made c.index.result.now (rw c.place-place.ensures at c.index.ensures) (sym c.is_some.ensures ∙ c.if-is_some.false)
-    c.index-2.result.now queue c.is_discarded-lost.result c.is_guarded_loss-guarded.result c.is_discarded-lost.ensures c.is_guarded_loss-guarded.ensures in
+    c.index-2.result.now queue c.is_discarded-lost.result c.is_guarded_loss-guarded.result c.is_discarded-lost.ensures (rw c.deref-2.ensures at c.is_guarded_loss-guarded.ensures) in
     let takes = rw c.if-lost.false at seen.takes in
     let counted = rw c.if-lost.false at (c.in-Ok.ensures.ok ∙ sym seen.counted) in
     record {
@@ -53,7 +53,7 @@ returns-clause-ok c = rw (← c.self.view_is) (
     let b = c.self.inside in
     let queue = input_queue_seen b c.self.invariant c.args.input there.0 c.way_of-queue.result.1 c.index-2.result.now (rw c.deref.ensures at c.way_of-queue.ensures.queue) c.index-2.ensures in
     let seen = take_seen b c.self.invariant c.args.input c.args.hand c.args.node there made c.index.result.now (rw c.place-place.ensures at c.index.ensures) (sym c.is_some.ensures ∙ c.if-is_some.false)
-    c.index-2.result.now queue c.is_discarded-lost.result c.is_guarded_loss-guarded.result c.is_discarded-lost.ensures c.is_guarded_loss-guarded.ensures in
+    c.index-2.result.now queue c.is_discarded-lost.result c.is_guarded_loss-guarded.result c.is_discarded-lost.ensures (rw c.deref-2.ensures at c.is_guarded_loss-guarded.ensures) in
     let takes = rw c.if-lost.false at seen.takes in
     let same = rw c.if-lost.false at (same_board (board_inside b) (Event.Take c.args.input c.args.hand c.args.node) (taken_state b c.args.input c.args.hand c.args.node c.is_discarded-lost.result)
     (taken_outs c.args.node c.is_discarded-lost.result) c.count_take.new.self (c.in-Ok.ensures.ok ∙ sym seen.counted)) in
@@ -66,7 +66,7 @@ invariant_of-self-then-lost c =
     let b = c.self.inside in
     let queue = input_queue_seen b c.self.invariant c.args.input there.0 c.way_of-queue.result.1 c.index-2.result.now (rw c.deref.ensures at c.way_of-queue.ensures.queue) c.index-2.ensures in
     let seen = take_seen b c.self.invariant c.args.input c.args.hand c.args.node there made c.index.result.now (rw c.place-place.ensures at c.index.ensures) (sym c.is_some.ensures ∙ c.if-is_some.false)
-    c.index-2.result.now queue c.is_discarded-lost.result c.is_guarded_loss-guarded.result c.is_discarded-lost.ensures c.is_guarded_loss-guarded.ensures in
+    c.index-2.result.now queue c.is_discarded-lost.result c.is_guarded_loss-guarded.result c.is_discarded-lost.ensures (rw c.deref-2.ensures at c.is_guarded_loss-guarded.ensures) in
     let takes = rw c.if-lost.true at seen.takes in
     let counted = rw c.if-lost.true at (c.in-Ok.ensures.ok ∙ sym seen.counted) in
     record {

@@ -1,6 +1,6 @@
 use Rattle.std.proofs.Common.{◌≡◌, ◌+◌, ◌≤◌, ◌++◌, [], length, unwrap_or}
 use Rattle.sy_marks.specs.Marks.{lost_of}
-use Rattle.sy_board.specs.relay.Totals.{guarded_losses}
+use Rattle.sy_board.specs.relay.Totals.{guarded_losses, no_guard}
 use Rattle.sy_board.proofs.relay.Losses.{losses_of}
 use Rattle.sy_board.proofs.relay.board.grabbing.losses.Given as goal
 
@@ -14,8 +14,8 @@ invariant-loop-unjudged l = record {
   few_guarded : l.guarded + l.unjudged ≤ l.count;
   lost : l.lost + length (lost_of l.queue.marks l.unjudged l.queue.entries)
       ≡ length (lost_of l.initial.queue.marks l.count l.initial.queue.entries);
-  guarded : l.guarded + guarded_losses (unwrap_or l.guard []) (losses_of (lost_of l.queue.marks l.unjudged l.queue.entries))
-      ≡ guarded_losses (unwrap_or l.guard []) (losses_of (lost_of l.initial.queue.marks l.count l.initial.queue.entries));
+  guarded : l.guarded + guarded_losses l.plan (unwrap_or l.guard no_guard) (losses_of (lost_of l.queue.marks l.unjudged l.queue.entries))
+      ≡ guarded_losses l.plan (unwrap_or l.guard no_guard) (losses_of (lost_of l.initial.queue.marks l.count l.initial.queue.entries));
 }
 
 abbrev pub decreases-loop-unjudged : goal.decreases-loop-unjudged
