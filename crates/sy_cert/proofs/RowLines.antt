@@ -11,7 +11,7 @@ use Rattle.sy_cert.specs.declared.kinds.Kind.{Kind}
 use Rattle.sy_cert.specs.declared.row.Row.{Row}
 use Rattle.sy_cert.specs.declared.row.Row.TheVariants as row
 use Rattle.sy_cert.specs.Faults.{HasShape, IsClassLine, IsPathLine, IsRelayLine, words_in}
-use Rattle.sy_cert.specs.Reading.{AreUnread, IsUnread}
+use Rattle.sy_cert.specs.Reading.{AreUnread, IsNotTaken, IsUnread}
 use Rattle.sy_cert.specs.Rows.{AreOccurrences, IsPort, IsRow, kind, last_from, words}
 
 -- ---- words by their places
@@ -45,47 +45,77 @@ after_fifth ws = after_second (after_second (after_first ws))
 
 -- ---- numbers that no row has
 
-pub class_unwritten : (ws : List (List ℕ)) (w : List ℕ) → IsClassLine (codes "class" ∷ ws) w → ((n : ℕ) → n ≤ 191 → w ≡ decimal n → ⊥)
-    → (r : Row) → IsRow r → words r ≡ codes "class" ∷ ws → ⊥
-class_unwritten ws w h none (row.Class c) is e =
+abbrev pub IsUnwritten : ℕ → List (List ℕ) → Type 0
+IsUnwritten version ws = (r : Row) → IsRow version r → words r ≡ ws → ⊥
+
+pub class_unwritten : (version : ℕ) (ws : List (List ℕ)) (w : List ℕ) → IsClassLine (codes "class" ∷ ws) w
+    → ((n : ℕ) → n ≤ 191 → w ≡ decimal n → ⊥) → IsUnwritten version (codes "class" ∷ ws)
+class_unwritten version ws w h none (row.Class c) is e =
     none (8 * c.facility + c.severity) (omega (arith, is.0, is.1)) (ap second (sym h.whole ∙ sym e))
-class_unwritten ws w h none (row.Reach relay port) is e = apart (codes "reach") (codes "class") refl (ap first e)
-class_unwritten ws w h none (row.Rank relay rank) is e = apart (codes "rank") (codes "class") refl (ap first e)
-class_unwritten ws w h none (row.Path relay port archive action ns) is e = apart (codes "path") (codes "class") refl (ap first e)
+class_unwritten version ws w h none (row.Reach relay port) is e = apart (codes "reach") (codes "class") refl (ap first e)
+class_unwritten version ws w h none (row.Branch relay port) is e = apart (codes "branch") (codes "class") refl (ap first e)
+class_unwritten version ws w h none (row.Rank relay rank) is e = apart (codes "rank") (codes "class") refl (ap first e)
+class_unwritten version ws w h none (row.Path relay port archive action ns) is e = apart (codes "path") (codes "class") refl (ap first e)
 
-pub port_unwritten : (ws : List (List ℕ)) (relay w : List ℕ) → IsRelayLine (codes "reach") (codes "reach" ∷ ws) relay w
-    → ((n : ℕ) → IsPort n → w ≡ decimal n → ⊥) → (r : Row) → IsRow r → words r ≡ codes "reach" ∷ ws → ⊥
-port_unwritten ws relay w h none (row.Class c) is e = apart (codes "class") (codes "reach") refl (ap first e)
-port_unwritten ws relay w h none (row.Reach name port) is e = none port is.1 (ap third (sym h.whole ∙ sym e))
-port_unwritten ws relay w h none (row.Rank name rank) is e = apart (codes "rank") (codes "reach") refl (ap first e)
-port_unwritten ws relay w h none (row.Path name port archive action ns) is e = apart (codes "path") (codes "reach") refl (ap first e)
+pub reach_unwritten : (version : ℕ) (ws : List (List ℕ)) (relay w : List ℕ) → IsRelayLine (codes "reach") (codes "reach" ∷ ws) relay w
+    → ((n : ℕ) → IsPort n → w ≡ decimal n → ⊥) → IsUnwritten version (codes "reach" ∷ ws)
+reach_unwritten version ws relay w h none (row.Class c) is e = apart (codes "class") (codes "reach") refl (ap first e)
+reach_unwritten version ws relay w h none (row.Reach name port) is e = none port is.1 (ap third (sym h.whole ∙ sym e))
+reach_unwritten version ws relay w h none (row.Branch name port) is e = apart (codes "branch") (codes "reach") refl (ap first e)
+reach_unwritten version ws relay w h none (row.Rank name rank) is e = apart (codes "rank") (codes "reach") refl (ap first e)
+reach_unwritten version ws relay w h none (row.Path name port archive action ns) is e = apart (codes "path") (codes "reach") refl (ap first e)
 
-pub rank_unwritten : (ws : List (List ℕ)) (relay w : List ℕ) → IsRelayLine (codes "rank") (codes "rank" ∷ ws) relay w
-    → ((n : ℕ) → n ≤ 4294967295 → w ≡ decimal n → ⊥) → (r : Row) → IsRow r → words r ≡ codes "rank" ∷ ws → ⊥
-rank_unwritten ws relay w h none (row.Class c) is e = apart (codes "class") (codes "rank") refl (ap first e)
-rank_unwritten ws relay w h none (row.Reach name port) is e = apart (codes "reach") (codes "rank") refl (ap first e)
-rank_unwritten ws relay w h none (row.Rank name rank) is e = none rank is.1 (ap third (sym h.whole ∙ sym e))
-rank_unwritten ws relay w h none (row.Path name port archive action ns) is e = apart (codes "path") (codes "rank") refl (ap first e)
+pub branch_unwritten : (version : ℕ) (ws : List (List ℕ)) (relay w : List ℕ) → IsRelayLine (codes "branch") (codes "branch" ∷ ws) relay w
+    → ((n : ℕ) → IsPort n → w ≡ decimal n → ⊥) → IsUnwritten version (codes "branch" ∷ ws)
+branch_unwritten version ws relay w h none (row.Class c) is e = apart (codes "class") (codes "branch") refl (ap first e)
+branch_unwritten version ws relay w h none (row.Reach name port) is e = apart (codes "reach") (codes "branch") refl (ap first e)
+branch_unwritten version ws relay w h none (row.Branch name port) is e = none port is.2 (ap third (sym h.whole ∙ sym e))
+branch_unwritten version ws relay w h none (row.Rank name rank) is e = apart (codes "rank") (codes "branch") refl (ap first e)
+branch_unwritten version ws relay w h none (row.Path name port archive action ns) is e = apart (codes "path") (codes "branch") refl (ap first e)
 
-pub path_unwritten : (ws : List (List ℕ)) (relay port archive action : List ℕ) (way : List (List ℕ))
+pub rank_unwritten : (version : ℕ) (ws : List (List ℕ)) (relay w : List ℕ) → IsRelayLine (codes "rank") (codes "rank" ∷ ws) relay w
+    → ((n : ℕ) → n ≤ 4294967295 → w ≡ decimal n → ⊥) → IsUnwritten version (codes "rank" ∷ ws)
+rank_unwritten version ws relay w h none (row.Class c) is e = apart (codes "class") (codes "rank") refl (ap first e)
+rank_unwritten version ws relay w h none (row.Reach name port) is e = apart (codes "reach") (codes "rank") refl (ap first e)
+rank_unwritten version ws relay w h none (row.Branch name port) is e = apart (codes "branch") (codes "rank") refl (ap first e)
+rank_unwritten version ws relay w h none (row.Rank name rank) is e = none rank is.1 (ap third (sym h.whole ∙ sym e))
+rank_unwritten version ws relay w h none (row.Path name port archive action ns) is e = apart (codes "path") (codes "rank") refl (ap first e)
+
+pub path_unwritten : (version : ℕ) (ws : List (List ℕ)) (relay port archive action : List ℕ) (way : List (List ℕ))
     → IsPathLine (codes "path" ∷ ws) relay port archive action way
     → ((n : ℕ) (ns : List ℕ) → IsPort n → AreOccurrences ns → port ≡ decimal n → map decimal ns ≡ way → ⊥)
-    → (r : Row) → IsRow r → words r ≡ codes "path" ∷ ws → ⊥
-path_unwritten ws relay port archive action way h none (row.Class c) is e = apart (codes "class") (codes "path") refl (ap first e)
-path_unwritten ws relay port archive action way h none (row.Reach name n) is e = apart (codes "reach") (codes "path") refl (ap first e)
-path_unwritten ws relay port archive action way h none (row.Rank name n) is e = apart (codes "rank") (codes "path") refl (ap first e)
-path_unwritten ws relay port archive action way h none (row.Path name n other name_of ns) is e =
+    → IsUnwritten version (codes "path" ∷ ws)
+path_unwritten version ws relay port archive action way h none (row.Class c) is e = apart (codes "class") (codes "path") refl (ap first e)
+path_unwritten version ws relay port archive action way h none (row.Reach name n) is e = apart (codes "reach") (codes "path") refl (ap first e)
+path_unwritten version ws relay port archive action way h none (row.Branch name n) is e = apart (codes "branch") (codes "path") refl (ap first e)
+path_unwritten version ws relay port archive action way h none (row.Rank name n) is e = apart (codes "rank") (codes "path") refl (ap first e)
+path_unwritten version ws relay port archive action way h none (row.Path name n other name_of ns) is e =
     none n ns is.1 is.4 (ap third (sym h.whole ∙ sym e)) (ap after_fifth (e ∙ h.whole))
 
-pub way_unread : (ws : List (List ℕ)) (relay port archive action : List ℕ) (way : List (List ℕ))
-    → IsPathLine (codes "path" ∷ ws) relay port archive action way → (c : FaultCode) → AreUnread way c → IsUnread (codes "path" ∷ ws) c
-way_unread ws relay port archive action way h code.Line never = absurd never
-way_unread ws relay port archive action way h code.Order never = never
-way_unread ws relay port archive action way h code.Number none = (
+pub way_unread : (version : ℕ) (ws : List (List ℕ)) (relay port archive action : List ℕ) (way : List (List ℕ))
+    → IsPathLine (codes "path" ∷ ws) relay port archive action way → (c : FaultCode) → AreUnread way c → IsUnread version (codes "path" ∷ ws) c
+way_unread version ws relay port archive action way h code.Line never = absurd never
+way_unread version ws relay port archive action way h code.Order never = never
+way_unread version ws relay port archive action way h code.Number none = (
   HasShape.path_line relay port archive action way h,
-  path_unwritten ws relay port archive action way h (λ n ns is are e f. none ns are f),
+  path_unwritten version ws relay port archive action way h (λ n ns is are e f. none ns are f),
 )
-way_unread ws relay port archive action way h code.NoMemory u = tt
+way_unread version ws relay port archive action way h code.NoMemory u = tt
+
+-- a branch line has a row's shape in version 2 alone
+pub no_branch : (version : ℕ) (ws : List (List ℕ)) → (version ≡ 2 → ⊥) → HasShape version (codes "branch" ∷ ws) → ⊥
+no_branch version ws other (HasShape.class_line class h) = apart (codes "branch") (codes "class") refl (ap first h.whole)
+no_branch version ws other (HasShape.reach_line relay port h) = apart (codes "branch") (codes "reach") refl (ap first h.whole)
+no_branch version ws other (HasShape.branch_line relay port is h) = other is
+no_branch version ws other (HasShape.rank_line relay rank h) = apart (codes "branch") (codes "rank") refl (ap first h.whole)
+no_branch version ws other (HasShape.path_line relay port archive action way h) = apart (codes "branch") (codes "path") refl (ap first h.whole)
+
+-- a line that is no row's is not taken
+pub not_taken : (version : ℕ) (before : Kind) (line : List (List ℕ)) (c : FaultCode) → IsUnread version line c → IsNotTaken version before line c
+not_taken version before line code.Line h = h
+not_taken version before line code.Order h = absurd h
+not_taken version before line code.Number h = h
+not_taken version before line code.NoMemory h = tt
 
 -- ---- occurrences one after another
 

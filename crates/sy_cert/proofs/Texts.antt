@@ -1,10 +1,12 @@
 -- The lines of rows, cut into their words, and texts with one row more.
-use Rattle.std.proofs.Common.{◌≡◌, ℕ, ◌+◌, ◌*◌, ◌^◌, ◌<◌, ◌==◌, ◌&&◌, Bool, true, false, List, [], ◌∷◌, ◌++◌, length, map, refl, sym, ap, subst, ◌∙◌, arith, eq-eqb, eqb-true}
+use Rattle.std.proofs.Common.{◌≡◌, ℕ, ◌+◌, ◌*◌, ◌^◌, ◌<◌, ◌==◌, ◌&&◌, Bool, true, false, List, [], ◌∷◌, ◌++◌, length, map, refl, sym, ap, subst, ◌∙◌, inl, inr, arith, eq-eqb, eqb-true}
 use Rattle.std.specs.Prelude.{codes}
 use Rattle.std.specs.Char.{is_ascii_digit}
 use Rattle.std.specs.Fmt.{decimal}
 use Rattle.std.specs.List.{list_all, join_with_byte}
+use Rattle.std.specs.Str.{bytes_eq}
 use Rattle.std.proofs.lemmas.Bool.{true≢false}
+use Rattle.std.proofs.lemmas.Slice.Eq.{bytes_eq-Decides}
 use Rattle.std.proofs.lemmas.Fmt.{decimal_digit, decimal_nonempty, digits_decimal}
 use Rattle.std.proofs.lemmas.List.{append_assoc, append-nil}
 use Rattle.std.proofs.lemmas.List.Splits.{join_with_byte-slice_split}
@@ -13,9 +15,10 @@ use Rattle.sy_cert.specs.declared.row.Row.{Row}
 use Rattle.sy_cert.specs.declared.row.Row.TheVariants as row
 use Rattle.sy_cert.specs.Faults.{BeginsWith, HasShape, Lacks, is_numeral, words_in}
 use Rattle.sy_cert.specs.Reading.{IsCut, IsTaken}
-use Rattle.sy_cert.specs.Rows.{AreOccurrences, IsRow, further, has_bytes, head, is_action, is_action_byte, is_name, is_name_byte, line, lines, spaced, text, words}
+use Rattle.sy_cert.specs.Rows.{AreOccurrences, IsRow, IsVersion, further, has_bytes, head, is_action, is_action_byte, is_name, is_name_byte, line, lines, spaced, text, words}
 use Rattle.sy_cert.proofs.Cutting.{split_last, split_part}
 use Rattle.sy_cert.proofs.Numbers.{own}
+use Rattle.sy_cert.proofs.RowLines.{apart}
 use Rattle.sy_cert.proofs.Rows.{one_more}
 
 -- ---- bytes without a mark
@@ -83,21 +86,23 @@ way_lacks : (c : ℕ) (ns : List ℕ) → is_ascii_digit c ≡ false → AreOccu
 way_lacks c [] out h = tt
 way_lacks c (n ∷ ns) out h = (digits_lack c n out (omega (arith, h.0)), way_lacks c ns out h.1)
 
--- none of the four words has the mark, nor do names and numbers
+-- none of the five words has the mark, nor do names and numbers
 record IsMark (c : ℕ) : Type 0 where
   class : Lacks c (codes "class")
   reach : Lacks c (codes "reach")
+  branch : Lacks c (codes "branch")
   rank : Lacks c (codes "rank")
   path : Lacks c (codes "path")
   digit : is_ascii_digit c ≡ false
   name : is_name_byte c ≡ false
   action : is_action_byte c ≡ false
 
-row_lacks : (c : ℕ) → IsMark c → (r : Row) → IsRow r → AllLack c (words r)
-row_lacks c m (row.Class k) h = (m.class, (digits_lack c (8 * k.facility + k.severity) m.digit (omega (arith, h.0, h.1)), tt))
-row_lacks c m (row.Reach relay port) h = (m.reach, (name_lacks c relay m.name h.0, (digits_lack c port m.digit (omega (arith, h.1.1)), tt)))
-row_lacks c m (row.Rank relay rank) h = (m.rank, (name_lacks c relay m.name h.0, (digits_lack c rank m.digit (omega (arith, h.1)), tt)))
-row_lacks c m (row.Path relay port archive action ns) h = (
+row_lacks : (version c : ℕ) → IsMark c → (r : Row) → IsRow version r → AllLack c (words r)
+row_lacks version c m (row.Class k) h = (m.class, (digits_lack c (8 * k.facility + k.severity) m.digit (omega (arith, h.0, h.1)), tt))
+row_lacks version c m (row.Reach relay port) h = (m.reach, (name_lacks c relay m.name h.0, (digits_lack c port m.digit (omega (arith, h.1.1)), tt)))
+row_lacks version c m (row.Branch relay port) h = (m.branch, (name_lacks c relay m.name h.1, (digits_lack c port m.digit (omega (arith, h.2.1)), tt)))
+row_lacks version c m (row.Rank relay rank) h = (m.rank, (name_lacks c relay m.name h.0, (digits_lack c rank m.digit (omega (arith, h.1)), tt)))
+row_lacks version c m (row.Path relay port archive action ns) h = (
   m.path,
   (
     name_lacks c relay m.name h.0,
@@ -112,6 +117,7 @@ space : IsMark 32
 space = record {
   class = (refl, (refl, (refl, (refl, (refl, tt)))));
   reach = (refl, (refl, (refl, (refl, (refl, tt)))));
+  branch = (refl, (refl, (refl, (refl, (refl, (refl, tt))))));
   rank = (refl, (refl, (refl, (refl, tt))));
   path = (refl, (refl, (refl, (refl, tt))));
   digit = refl;
@@ -123,6 +129,7 @@ feed : IsMark 10
 feed = record {
   class = (refl, (refl, (refl, (refl, (refl, tt)))));
   reach = (refl, (refl, (refl, (refl, (refl, tt)))));
+  branch = (refl, (refl, (refl, (refl, (refl, (refl, tt))))));
   rank = (refl, (refl, (refl, (refl, tt))));
   path = (refl, (refl, (refl, (refl, tt))));
   digit = refl;
@@ -133,17 +140,18 @@ feed = record {
 some_words : (r : Row) → (w : List ℕ) × (ws : List (List ℕ)) × (words r ≡ w ∷ ws)
 some_words (row.Class c) = (_, _, refl)
 some_words (row.Reach relay port) = (_, _, refl)
+some_words (row.Branch relay port) = (_, _, refl)
 some_words (row.Rank relay rank) = (_, _, refl)
 some_words (row.Path relay port archive action ns) = (_, _, refl)
 
-pub words_of_line : (r : Row) → IsRow r → words_in (line r) ≡ words r
-words_of_line r h =
+pub words_of_line : (version : ℕ) (r : Row) → IsRow version r → words_in (line r) ≡ words r
+words_of_line version r h =
     let s = some_words r in
-    let lack = subst (AllLack 32) s.2 (row_lacks 32 space r h) in
+    let lack = subst (AllLack 32) s.2 (row_lacks version 32 space r h) in
     ap (λ ws. words_in (spaced ws)) s.2 ∙ split_spaced s.0 s.1 lack ∙ sym s.2
 
-pub line_lacks : (r : Row) → IsRow r → Lacks 10 (line r)
-line_lacks r h = lacks_spaced 10 (words r) refl (row_lacks 10 feed r h)
+pub line_lacks : (version : ℕ) (r : Row) → IsRow version r → Lacks 10 (line r)
+line_lacks version r h = lacks_spaced 10 (words r) refl (row_lacks version 10 feed r h)
 
 -- ---- the shapes of rows
 
@@ -158,11 +166,12 @@ way_numerals : (ns : List ℕ) → AreOccurrences ns → list_all is_numeral (ma
 way_numerals [] h = refl
 way_numerals (n ∷ ns) h = rw (numeral n (omega (arith, h.0))) (way_numerals ns h.1)
 
-pub row_shape : (r : Row) → IsRow r → HasShape (words r)
-row_shape (row.Class c) h = HasShape.class_line (decimal (8 * c.facility + c.severity)) (record { whole = refl; class_is = numeral (8 * c.facility + c.severity) (omega (arith, h.0, h.1)) })
-row_shape (row.Reach relay port) h = HasShape.reach_line relay (decimal port) (record { whole = refl; relay_is = h.0; number_is = numeral port (omega (arith, h.1.1)) })
-row_shape (row.Rank relay rank) h = HasShape.rank_line relay (decimal rank) (record { whole = refl; relay_is = h.0; number_is = numeral rank (omega (arith, h.1)) })
-row_shape (row.Path relay port archive action ns) h =
+pub row_shape : (version : ℕ) (r : Row) → IsRow version r → HasShape version (words r)
+row_shape version (row.Class c) h = HasShape.class_line (decimal (8 * c.facility + c.severity)) (record { whole = refl; class_is = numeral (8 * c.facility + c.severity) (omega (arith, h.0, h.1)) })
+row_shape version (row.Reach relay port) h = HasShape.reach_line relay (decimal port) (record { whole = refl; relay_is = h.0; number_is = numeral port (omega (arith, h.1.1)) })
+row_shape version (row.Branch relay port) h = HasShape.branch_line relay (decimal port) h.0 (record { whole = refl; relay_is = h.1; number_is = numeral port (omega (arith, h.2.1)) })
+row_shape version (row.Rank relay rank) h = HasShape.rank_line relay (decimal rank) (record { whole = refl; relay_is = h.0; number_is = numeral rank (omega (arith, h.1)) })
+row_shape version (row.Path relay port archive action ns) h =
     HasShape.path_line relay (decimal port) archive action (map decimal ns) (record {
       whole = refl;
       relay_is = h.0;
@@ -180,29 +189,44 @@ lines_more (x ∷ rows) r rest =
     append_assoc (line x) (10 ∷ lines (rows ++ r ∷ [])) rest ∙ ap (λ l. line x ++ 10 ∷ l) (lines_more rows r rest)
     ∙ sym (append_assoc (line x) (10 ∷ lines rows) (line r ++ 10 ∷ rest))
 
-pub text_more : (rows : List Row) (r : Row) (rest : List ℕ) → text 1 (rows ++ r ∷ []) ++ rest ≡ text 1 rows ++ (line r ++ 10 ∷ rest)
-text_more rows r rest =
-    append_assoc (head 1) (10 ∷ lines (rows ++ r ∷ [])) rest ∙ ap (λ l. head 1 ++ 10 ∷ l) (lines_more rows r rest)
-    ∙ sym (append_assoc (head 1) (10 ∷ lines rows) (line r ++ 10 ∷ rest))
+pub text_more : (version : ℕ) (rows : List Row) (r : Row) (rest : List ℕ) → text version (rows ++ r ∷ []) ++ rest ≡ text version rows ++ (line r ++ 10 ∷ rest)
+text_more version rows r rest =
+    append_assoc (head version) (10 ∷ lines (rows ++ r ∷ [])) rest ∙ ap (λ l. head version ++ 10 ∷ l) (lines_more rows r rest)
+    ∙ sym (append_assoc (head version) (10 ∷ lines rows) (line r ++ 10 ∷ rest))
 
-pub begin_more : (bytes : List ℕ) (rows new : List Row) (rest bytes_of later : List ℕ) → BeginsWith bytes rows rest → IsCut 10 rest bytes_of later
-    → IsTaken (words_in bytes_of) rows new → BeginsWith bytes new later
-begin_more bytes rows new rest bytes_of later b cut taken =
+pub begin_more : (bytes : List ℕ) (version : ℕ) (rows new : List Row) (rest bytes_of later : List ℕ) → BeginsWith bytes version rows rest
+    → IsCut 10 rest bytes_of later → IsTaken version (words_in bytes_of) rows new → BeginsWith bytes version new later
+begin_more bytes version rows new rest bytes_of later b cut taken =
     let same : line taken.row ≡ bytes_of = ap spaced taken.is_row_of.words_are ∙ line_is bytes_of in
-    let is : text 1 (rows ++ taken.row ∷ []) ++ later ≡ bytes =
-    text_more rows taken.row later ∙ ap (λ l. text 1 rows ++ (l ++ 10 ∷ later)) same ∙ ap (λ l. text 1 rows ++ l) (sym cut.whole) ∙ sym b.whole in
-    subst (λ rs. BeginsWith bytes rs later) (sym taken.more) (record {
+    let is : text version (rows ++ taken.row ∷ []) ++ later ≡ bytes =
+    text_more version rows taken.row later ∙ ap (λ l. text version rows ++ (l ++ 10 ∷ later)) same ∙ ap (λ l. text version rows ++ l) (sym cut.whole)
+    ∙ sym b.whole in
+    subst (λ rs. BeginsWith bytes version rs later) (sym taken.more) (record {
       whole = sym is;
-      are_rows = one_more kinds.Cert rows taken.row b.are_rows taken.is_row_of.is_row taken.follows;
+      certificate = (b.certificate.0, one_more version kinds.Cert rows taken.row b.certificate.1 taken.is_row_of.is_row taken.follows);
     })
 
-pub head_is : head 1 ≡ codes "cert 1"
-head_is = ap (λ d. codes "cert" ++ 32 ∷ d) (decimal_digit 1 (omega arith))
+-- ---- the first line
 
-pub begin : (bytes first later : List ℕ) → IsCut 10 bytes first later → first ≡ codes "cert 1" → BeginsWith bytes [] later
-begin bytes first later cut is =
-    let whole : text 1 [] ++ later ≡ bytes = append_assoc (head 1) (10 ∷ []) later ∙ ap (λ h. h ++ 10 ∷ later) (head_is ∙ sym is) ∙ sym cut.whole in
-    record { whole = sym whole; are_rows = tt }
+pub head_1 : head 1 ≡ codes "cert 1"
+head_1 = ap (λ d. codes "cert" ++ 32 ∷ d) (decimal_digit 1 (omega arith))
+
+pub head_2 : head 2 ≡ codes "cert 2"
+head_2 = ap (λ d. codes "cert" ++ 32 ∷ d) (decimal_digit 2 (omega arith))
+
+-- a line, compared with one that is wanted
+pub same_line : (line wanted : List ℕ) (r : Bool) → r ≡ bytes_eq line wanted → r ≡ true → line ≡ wanted
+same_line line wanted r says is = (bytes_eq-Decides line wanted).0 (sym says ∙ is)
+
+pub other_line : (line wanted : List ℕ) (r : Bool) → r ≡ bytes_eq line wanted → r ≡ false → line ≡ wanted → ⊥
+other_line line wanted r says is e = true≢false (sym ((bytes_eq-Decides line wanted).1 e) ∙ sym says ∙ is)
+
+pub begin : (bytes first later : List ℕ) (version : ℕ) → IsCut 10 bytes first later → IsVersion version → first ≡ head version
+    → BeginsWith bytes version [] later
+begin bytes first later version cut is_version is =
+    let whole : text version [] ++ later ≡ bytes =
+    append_assoc (head version) (10 ∷ []) later ∙ ap (λ h. h ++ 10 ∷ later) (sym is) ∙ sym cut.whole in
+    record { whole = sym whole; certificate = (is_version, tt) }
 
 -- ---- one cut
 
@@ -232,14 +256,22 @@ one_cut c (x ∷ xs) ys (v ∷ vs) ws h g e =
     let later = one_cut c xs ys vs ws h.1 g.1 (ap tail e) in
     (ap (λ b. b ∷ xs) same ∙ ap (λ l. v ∷ l) later.0, later.1)
 
-pub head_lacks : Lacks 10 (head 1)
-head_lacks = subst (Lacks 10) (sym head_is) (refl, (refl, (refl, (refl, (refl, (refl, tt))))))
+pub head_lacks : (version : ℕ) → IsVersion version → Lacks 10 (head version)
+head_lacks version (inl is) = subst (Lacks 10) (sym (ap head is ∙ head_1)) (refl, (refl, (refl, (refl, (refl, (refl, tt))))))
+head_lacks version (inr is) = subst (Lacks 10) (sym (ap head is ∙ head_2)) (refl, (refl, (refl, (refl, (refl, (refl, tt))))))
+
+-- two first lines that are the same say the same version
+pub one_head : (version other : ℕ) → IsVersion version → IsVersion other → head version ≡ head other → version ≡ other
+one_head version other (inl is) (inl also) e = is ∙ sym also
+one_head version other (inl is) (inr also) e = absurd (apart (codes "cert 1") (codes "cert 2") refl (sym (ap head is ∙ head_1) ∙ e ∙ ap head also ∙ head_2))
+one_head version other (inr is) (inl also) e = absurd (apart (codes "cert 2") (codes "cert 1") refl (sym (ap head is ∙ head_2) ∙ e ∙ ap head also ∙ head_1))
+one_head version other (inr is) (inr also) e = is ∙ sym also
 
 -- a text of one line that isn't ended, and one with another first line
-pub no_first : (bytes : List ℕ) → Lacks 10 bytes → (rest : List ℕ) → bytes ≡ head 1 ++ 10 ∷ rest → ⊥
-no_first bytes h rest e = lacks_not 10 bytes (head 1) rest h e
+pub no_first : (bytes : List ℕ) → Lacks 10 bytes → (version : ℕ) (rest : List ℕ) → IsVersion version → bytes ≡ head version ++ 10 ∷ rest → ⊥
+no_first bytes h version rest is e = lacks_not 10 bytes (head version) rest h e
 
-pub other_first : (bytes first later : List ℕ) → IsCut 10 bytes first later → (first ≡ codes "cert 1" → ⊥) → (rest : List ℕ)
-    → bytes ≡ head 1 ++ 10 ∷ rest → ⊥
-other_first bytes first later cut other rest e =
-    other ((one_cut 10 first later (head 1) rest cut.lacks head_lacks (sym cut.whole ∙ e)).0 ∙ head_is)
+pub other_first : (bytes first later : List ℕ) → IsCut 10 bytes first later → ((version : ℕ) → IsVersion version → first ≡ head version → ⊥)
+    → (version : ℕ) (rest : List ℕ) → IsVersion version → bytes ≡ head version ++ 10 ∷ rest → ⊥
+other_first bytes first later cut other version rest is e =
+    other version is (one_cut 10 first later (head version) rest cut.lacks (head_lacks version is) (sym cut.whole ∙ e)).0

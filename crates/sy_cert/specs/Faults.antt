@@ -9,8 +9,7 @@ use Rattle.sy_cert.specs.declared.fault.FaultCode.TheVariants as code
 use Rattle.sy_cert.specs.declared.fault.TextFault.{TextFault}
 use Rattle.sy_cert.specs.declared.row.Row.{Row}
 use Rattle.sy_cert.specs.declared.kinds.Kind.{Kind}
-use Rattle.sy_cert.specs.declared.kinds.Kind.TheVariants as kinds
-use Rattle.sy_cert.specs.Rows.{AreRows, IsRow, has_bytes, head, is_action, is_name, kind, last_kind, may_follow, text, words}
+use Rattle.sy_cert.specs.Rows.{IsCertificate, IsRow, IsVersion, has_bytes, head, is_action, is_name, kind, last_kind, may_follow, text, words}
 
 -- ---- their numbers and names
 
@@ -42,7 +41,7 @@ pub record IsClassLine (line : List (List ℕ)) (class : List ℕ) : Type 0 wher
   pub whole : line ≡ codes "class" ∷ class ∷ []
   pub class_is : is_numeral class ≡ true
 
--- WORD RELAY NUMBER, where the word is `reach` or `rank`
+-- WORD RELAY NUMBER, where the word is `reach`, `branch` or `rank`
 pub record IsRelayLine (word : List ℕ) (line : List (List ℕ)) (relay number : List ℕ) : Type 0 where
   pub whole : line ≡ word ∷ relay ∷ number ∷ []
   pub relay_is : is_name relay ≡ true
@@ -57,23 +56,24 @@ pub record IsPathLine (line : List (List ℕ)) (relay port archive_relay action 
   pub action_is : is_action action ≡ true
   pub occurrences_are : list_all is_numeral occurrences ≡ true
 
--- a line of some row's shape
-pub data HasShape (line : List (List ℕ)) : Type 0 where
-  class_line : (class : List ℕ) → IsClassLine line class → HasShape line
-  reach_line : (relay port : List ℕ) → IsRelayLine (codes "reach") line relay port → HasShape line
-  rank_line : (relay rank : List ℕ) → IsRelayLine (codes "rank") line relay rank → HasShape line
+-- a line of the shape of some row of a version
+pub data HasShape (version : ℕ) (line : List (List ℕ)) : Type 0 where
+  class_line : (class : List ℕ) → IsClassLine line class → HasShape version line
+  reach_line : (relay port : List ℕ) → IsRelayLine (codes "reach") line relay port → HasShape version line
+  branch_line : (relay port : List ℕ) → version ≡ 2 → IsRelayLine (codes "branch") line relay port → HasShape version line
+  rank_line : (relay rank : List ℕ) → IsRelayLine (codes "rank") line relay rank → HasShape version line
   path_line : (relay port archive_relay action : List ℕ) (occurrences : List (List ℕ)) → IsPathLine line relay port archive_relay action occurrences
-      → HasShape line
+      → HasShape version line
 
 -- ---- the faults of a line, given as its words
 
--- 61: it has no row's shape. 63: it has the shape of a row, and is the line of none, since a number has a leading zero
--- or is out of range. 62: it is the line of a row that may not follow the one before.
-abbrev pub IsFaulty : Kind → List (List ℕ) → FaultCode → Type 0
-IsFaulty before line code.Line = HasShape line → ⊥
-IsFaulty before line code.Order = (r : Row) × IsRow r × (words r ≡ line) × (may_follow before (kind r) ≡ false)
-IsFaulty before line code.Number = HasShape line × ((r : Row) → IsRow r → words r ≡ line → ⊥)
-IsFaulty before line code.NoMemory = ⊥
+-- 61: it has the shape of no row of the version. 63: it has such a shape, and is the line of no row, since a number has a
+-- leading zero or is out of range. 62: it is the line of a row that may not follow the one before.
+abbrev pub IsFaulty : (version : ℕ) → Kind → List (List ℕ) → FaultCode → Type 0
+IsFaulty version before line code.Line = HasShape version line → ⊥
+IsFaulty version before line code.Order = (r : Row) × IsRow version r × (words r ≡ line) × (may_follow before (kind r) ≡ false)
+IsFaulty version before line code.Number = HasShape version line × ((r : Row) → IsRow version r → words r ≡ line → ⊥)
+IsFaulty version before line code.NoMemory = ⊥
 
 -- ---- the fault of a text, with its line
 
@@ -82,10 +82,10 @@ abbrev pub Lacks : ℕ → List ℕ → Type 0
 Lacks byte [] = Unit {0}
 Lacks byte (b ∷ bs) = ((b == byte) ≡ false) × Lacks byte bs
 
--- a text begins with the lines of a certificate, and this is after them
-pub record BeginsWith (bytes : List ℕ) (rows : List Row) (rest : List ℕ) : Type 0 where
-  pub whole : bytes ≡ text 1 rows ++ rest
-  pub are_rows : AreRows kinds.Cert rows
+-- a text begins with the lines of a certificate of this version, and this is after them
+pub record BeginsWith (bytes : List ℕ) (version : ℕ) (rows : List Row) (rest : List ℕ) : Type 0 where
+  pub whole : bytes ≡ text version rows ++ rest
+  pub certificate : IsCertificate version rows
 
 -- the line after these rows and the first one
 abbrev pub line_after : List Row → ℕ
@@ -96,20 +96,21 @@ abbrev pub words_in : List ℕ → List (List ℕ)
 words_in line = slice_split (λ b. b == 32) line
 
 pub data HasFault (bytes : List ℕ) : FaultCode → ℕ → Type 0 where
-  -- the first line isn't `cert 1`
-  no_head : ((rest : List ℕ) → bytes ≡ head 1 ++ 10 ∷ rest → ⊥) → HasFault bytes code.Line 1
+  -- the first line is neither `cert 1` nor `cert 2`
+  no_head : ((version : ℕ) (rest : List ℕ) → IsVersion version → bytes ≡ head version ++ 10 ∷ rest → ⊥) → HasFault bytes code.Line 1
   -- the last line isn't ended
-  not_ended : (rows : List Row) (b : ℕ) (line : List ℕ) → BeginsWith bytes rows (b ∷ line) → Lacks 10 (b ∷ line)
+  not_ended : (version : ℕ) (rows : List Row) (b : ℕ) (line : List ℕ) → BeginsWith bytes version rows (b ∷ line) → Lacks 10 (b ∷ line)
       → HasFault bytes code.Line (line_after rows)
   -- a line is faulty
-  faulty : (rows : List Row) (line rest : List ℕ) (c : FaultCode) → BeginsWith bytes rows (line ++ 10 ∷ rest) → Lacks 10 line
-      → IsFaulty (last_kind rows) (words_in line) c
+  faulty : (version : ℕ) (rows : List Row) (line rest : List ℕ) (c : FaultCode) → BeginsWith bytes version rows (line ++ 10 ∷ rest) → Lacks 10 line
+      → IsFaulty version (last_kind rows) (words_in line) c
       → HasFault bytes c (line_after rows)
 
 -- memory ran out where a whole line stands after some rows
 pub record IsRefused (bytes : List ℕ) (place : ℕ) : Type 0 where
+  pub version : ℕ
   pub rows : List Row
   pub line : List ℕ
   pub later : List ℕ
-  pub begins : BeginsWith bytes rows (line ++ 10 ∷ later)
+  pub begins : BeginsWith bytes version rows (line ++ 10 ∷ later)
   pub place_is : place ≡ line_after rows

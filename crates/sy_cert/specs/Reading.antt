@@ -18,17 +18,17 @@ abbrev pub words_left : Option (List ℕ) → List (List ℕ)
 words_left None = []
 words_left (Some rest) = words_in rest
 
--- the row of a line
-pub record IsRowOf (line : List (List ℕ)) (r : Row) : Type 0 where
-  pub is_row : IsRow r
+-- the row of a line, in a certificate of the version
+pub record IsRowOf (version : ℕ) (line : List (List ℕ)) (r : Row) : Type 0 where
+  pub is_row : IsRow version r
   pub words_are : words r ≡ line
 
 -- why a line gives no row
-abbrev pub IsUnread : List (List ℕ) → FaultCode → Type 0
-IsUnread line code.Line = HasShape line → ⊥
-IsUnread line code.Order = ⊥
-IsUnread line code.Number = HasShape line × ((r : Row) → IsRow r → words r ≡ line → ⊥)
-IsUnread line code.NoMemory = Unit {0}
+abbrev pub IsUnread : (version : ℕ) → List (List ℕ) → FaultCode → Type 0
+IsUnread version line code.Line = HasShape version line → ⊥
+IsUnread version line code.Order = ⊥
+IsUnread version line code.Number = HasShape version line × ((r : Row) → IsRow version r → words r ≡ line → ⊥)
+IsUnread version line code.NoMemory = Unit {0}
 
 -- why words give no occurrences
 abbrev pub AreUnread : List (List ℕ) → FaultCode → Type 0
@@ -38,13 +38,13 @@ AreUnread ws code.Number = (ns : List ℕ) → AreOccurrences ns → map decimal
 AreUnread ws code.NoMemory = Unit {0}
 
 -- a row for the line is put behind others
-pub record IsTaken (line : List (List ℕ)) (before after : List Row) : Type 0 where
+pub record IsTaken (version : ℕ) (line : List (List ℕ)) (before after : List Row) : Type 0 where
   pub row : Row
-  pub is_row_of : IsRowOf line row
+  pub is_row_of : IsRowOf version line row
   pub follows : may_follow (last_kind before) (kind row) ≡ true
   pub more : after ≡ before ++ row ∷ []
 
 -- why no row is put behind others
-abbrev pub IsNotTaken : Kind → List (List ℕ) → FaultCode → Type 0
-IsNotTaken before line code.NoMemory = Unit {0}
-IsNotTaken before line c = IsFaulty before line c
+abbrev pub IsNotTaken : (version : ℕ) → Kind → List (List ℕ) → FaultCode → Type 0
+IsNotTaken version before line code.NoMemory = Unit {0}
+IsNotTaken version before line c = IsFaulty version before line c

@@ -1,5 +1,5 @@
 -- The rows of a certificate and their text; this profile's own format.
-use Rattle.std.specs.Prelude.{◌≡◌, ℕ, ◌≤◌, ◌<◌, ◌+◌, ◌*◌, ◌==◌, ◌||◌, ◌&&◌, not, Bool, true, false, nat_le, List, [], ◌∷◌, ◌++◌, length, map, codes}
+use Rattle.std.specs.Prelude.{◌≡◌, ℕ, ◌≤◌, ◌<◌, ◌+◌, ◌*◌, ◌==◌, ◌||◌, ◌&&◌, ◌⊎◌, not, Bool, true, false, nat_le, List, [], ◌∷◌, ◌++◌, length, map, codes}
 use Rattle.std.specs.Char.{is_ascii_alphanumeric}
 use Rattle.std.specs.Fmt.{decimal}
 use Rattle.std.specs.List.{list_all}
@@ -14,6 +14,7 @@ use Rattle.sy_cert.specs.declared.row.Row.TheVariants as row
 abbrev pub words : Row → List (List ℕ)
 words (row.Class c) = codes "class" ∷ decimal (8 * c.facility + c.severity) ∷ []
 words (row.Reach relay port) = codes "reach" ∷ relay ∷ decimal port ∷ []
+words (row.Branch relay port) = codes "branch" ∷ relay ∷ decimal port ∷ []
 words (row.Rank relay rank) = codes "rank" ∷ relay ∷ decimal rank ∷ []
 words (row.Path relay port archive_relay action occurrences) =
     codes "path" ∷ relay ∷ decimal port ∷ archive_relay ∷ action ∷ map decimal occurrences
@@ -44,6 +45,10 @@ text version rows = head version ++ 10 ∷ lines rows
 
 -- ---- which rows there are
 
+-- the versions of the format: branch rows are version 2's alone, all else is common to both
+abbrev pub IsVersion : ℕ → Type 0
+IsVersion version = (version ≡ 1) ⊎ (version ≡ 2)
+
 abbrev pub has_bytes : List ℕ → Bool
 has_bytes [] = false
 has_bytes (b ∷ bs) = true
@@ -70,11 +75,13 @@ abbrev pub AreOccurrences : List ℕ → Type 0
 AreOccurrences [] = Unit {0}
 AreOccurrences (n ∷ ns) = (n < 64) × AreOccurrences ns
 
-abbrev pub IsRow : Row → Type 0
-IsRow (row.Class c) = (c.facility < 24) × (c.severity < 8)
-IsRow (row.Reach relay port) = (is_name relay ≡ true) × IsPort port
-IsRow (row.Rank relay rank) = (is_name relay ≡ true) × (rank ≤ 4294967295)
-IsRow (row.Path relay port archive_relay action occurrences) =
+-- a row of a version: it has its shape, with its numbers in range
+abbrev pub IsRow : (version : ℕ) → Row → Type 0
+IsRow version (row.Class c) = (c.facility < 24) × (c.severity < 8)
+IsRow version (row.Reach relay port) = (is_name relay ≡ true) × IsPort port
+IsRow version (row.Branch relay port) = (version ≡ 2) × (is_name relay ≡ true) × IsPort port
+IsRow version (row.Rank relay rank) = (is_name relay ≡ true) × (rank ≤ 4294967295)
+IsRow version (row.Path relay port archive_relay action occurrences) =
     (is_name relay ≡ true) × IsPort port × (is_name archive_relay ≡ true) × (is_action action ≡ true)
     × AreOccurrences occurrences
 
@@ -83,6 +90,7 @@ IsRow (row.Path relay port archive_relay action occurrences) =
 abbrev pub kind : Row → Kind
 kind (row.Class c) = kinds.Class
 kind (row.Reach relay port) = kinds.Reach
+kind (row.Branch relay port) = kinds.Branch
 kind (row.Rank relay rank) = kinds.Rank
 kind (row.Path relay port archive_relay action occurrences) = kinds.Path
 
@@ -99,12 +107,20 @@ may_follow kinds.Cert kinds.Class = true
 may_follow kinds.Path kinds.Class = true
 may_follow kinds.Class kinds.Reach = true
 may_follow kinds.Reach kinds.Reach = true
+may_follow kinds.Reach kinds.Branch = true
 may_follow kinds.Reach kinds.Rank = true
+may_follow kinds.Branch kinds.Branch = true
+may_follow kinds.Branch kinds.Rank = true
 may_follow kinds.Rank kinds.Rank = true
 may_follow kinds.Rank kinds.Path = true
 may_follow kinds.Path kinds.Path = true
 may_follow _ _ = false
 
-abbrev pub AreRows : Kind → List Row → Type 0
-AreRows before [] = Unit {0}
-AreRows before (r ∷ rows) = IsRow r × (may_follow before (kind r) ≡ true) × AreRows (kind r) rows
+-- behind a line of this kind each is a row of the version, and may follow the line before
+abbrev pub AreRows : (version : ℕ) → Kind → List Row → Type 0
+AreRows version before [] = Unit {0}
+AreRows version before (r ∷ rows) = IsRow version r × (may_follow before (kind r) ≡ true) × AreRows version (kind r) rows
+
+-- a certificate: its version is one that there is, and its rows are rows of it, each where it may stand
+abbrev pub IsCertificate : (version : ℕ) → List Row → Type 0
+IsCertificate version rows = IsVersion version × AreRows version kinds.Cert rows

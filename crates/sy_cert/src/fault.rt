@@ -9,7 +9,8 @@ use std::fmt;
 /// The faults of a certificate's text. Their numbers are those of `number`.
 #[derive(Clone, Copy, Debug, PartialEq, Eq)]
 pub enum FaultCode {
-    /// A line that has the shape of no row, or isn't ended by an LF; a first line other than `cert 1`.
+    /// A line that has the shape of no row of the version, or isn't ended by an LF; a first line other than `cert 1`
+    /// and `cert 2`.
     Line,
     /// A row of a kind that may not follow the row before.
     Order,

@@ -5,12 +5,13 @@ ghost use Rattle.sy_cert.specs.Rows as spec;
 
 use crate::row::Row;
 
-/// The kinds of lines: the first line, and the four kinds of rows.
+/// The kinds of lines: the first line, and the five kinds of rows.
 #[derive(Clone, Copy)]
 pub enum Kind {
     Cert,
     Class,
     Reach,
+    Branch,
     Rank,
     Path,
 }
@@ -22,6 +23,7 @@ pub fn kind_of(row: &Row) -> Kind
     match row {
         Row::Class(_) => Kind::Class,
         Row::Reach { .. } => Kind::Reach,
+        Row::Branch { .. } => Kind::Branch,
         Row::Rank { .. } => Kind::Rank,
         Row::Path { .. } => Kind::Path,
     }
@@ -44,7 +46,8 @@ pub fn follows(before: Kind, kind: Kind) -> bool
     match (before, kind) {
         (Kind::Cert | Kind::Path, Kind::Class) => true,
         (Kind::Class | Kind::Reach, Kind::Reach) => true,
-        (Kind::Reach | Kind::Rank, Kind::Rank) => true,
+        (Kind::Reach | Kind::Branch, Kind::Branch) => true,
+        (Kind::Reach | Kind::Branch | Kind::Rank, Kind::Rank) => true,
         (Kind::Rank | Kind::Path, Kind::Path) => true,
         _ => false,
     }

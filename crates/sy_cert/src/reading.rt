@@ -26,6 +26,9 @@ const MOST_PORT: u32 = 65_535;
 /// The highest rank.
 const MOST_RANK: u32 = u32::MAX;
 
+/// The version of certificates that have branch rows.
+const BRANCH_VERSION: u32 = 2;
+
 /// The highest occurrence.
 const MOST_OCCURRENCE: u32 = 63;
 
@@ -54,8 +57,10 @@ fn copy(alloc: Global, name: &[u8]) -> Result<Items<u8>, FaultCode>
 
 // The row of a class line, of what is after its first word.
 fn class_row(rest: Option<&[u8]>) -> Result<Row, FaultCode>
-    ensures ok { IfOk result (λ r. IsRowOf (codes "class" ∷ words_left (option_copied rest.entry)) r) }
-    ensures err { IfErr result (λ code. IsUnread (codes "class" ∷ words_left (option_copied rest.entry)) code) }
+    ensures ok { (version : ℕ) → IfOk result (λ r.
+        IsRowOf version (codes "class" ∷ words_left (option_copied rest.entry)) r) }
+    ensures err { (version : ℕ) → IfErr result (λ code.
+        IsUnread version (codes "class" ∷ words_left (option_copied rest.entry)) code) }
 {
     match class_line(rest) {
         Some(word) => match number(word, MOST_CLASS) {
@@ -68,8 +73,10 @@ fn class_row(rest: Option<&[u8]>) -> Result<Row, FaultCode>
 
 // The row of a reach line, of what is after its first word.
 fn reach_row(alloc: Global, rest: Option<&[u8]>) -> Result<Row, FaultCode>
-    ensures ok { IfOk result (λ r. IsRowOf (codes "reach" ∷ words_left (option_copied rest.entry)) r) }
-    ensures err { IfErr result (λ code. IsUnread (codes "reach" ∷ words_left (option_copied rest.entry)) code) }
+    ensures ok { (version : ℕ) → IfOk result (λ r.
+        IsRowOf version (codes "reach" ∷ words_left (option_copied rest.entry)) r) }
+    ensures err { (version : ℕ) → IfErr result (λ code.
+        IsUnread version (codes "reach" ∷ words_left (option_copied rest.entry)) code) }
 {
     match relay_line(rest) {
         Some(line) => match port(line.number) {
@@ -83,10 +90,32 @@ fn reach_row(alloc: Global, rest: Option<&[u8]>) -> Result<Row, FaultCode>
     }
 }
 
+// The row of a branch line, of what is after its first word. There are such rows in version 2 alone.
+fn branch_row(alloc: Global, version: u32, rest: Option<&[u8]>) -> Result<Row, FaultCode>
+    ensures ok { IfOk result (λ r. IsRowOf version (codes "branch" ∷ words_left (option_copied rest.entry)) r) }
+    ensures err { IfErr result (λ code. IsUnread version (codes "branch" ∷ words_left (option_copied rest.entry)) code) }
+{
+    if version != BRANCH_VERSION {
+        return Err(FaultCode::Line);
+    }
+    match relay_line(rest) {
+        Some(line) => match port(line.number) {
+            Some(port) => match copy(alloc, line.relay) {
+                Ok(relay) => Ok(Row::Branch { relay, port }),
+                Err(code) => Err(code),
+            },
+            None => Err(FaultCode::Number),
+        },
+        None => Err(FaultCode::Line),
+    }
+}
+
 // The row of a rank line, of what is after its first word.
 fn rank_row(alloc: Global, rest: Option<&[u8]>) -> Result<Row, FaultCode>
-    ensures ok { IfOk result (λ r. IsRowOf (codes "rank" ∷ words_left (option_copied rest.entry)) r) }
-    ensures err { IfErr result (λ code. IsUnread (codes "rank" ∷ words_left (option_copied rest.entry)) code) }
+    ensures ok { (version : ℕ) → IfOk result (λ r.
+        IsRowOf version (codes "rank" ∷ words_left (option_copied rest.entry)) r) }
+    ensures err { (version : ℕ) → IfErr result (λ code.
+        IsUnread version (codes "rank" ∷ words_left (option_copied rest.entry)) code) }
 {
     match relay_line(rest) {
         Some(line) => match number(line.number, MOST_RANK) {
@@ -144,8 +173,10 @@ fn named_path(
 
 // The row of a path line, of what is after its first word.
 fn path_row(alloc: Global, rest: Option<&[u8]>) -> Result<Row, FaultCode>
-    ensures ok { IfOk result (λ r. IsRowOf (codes "path" ∷ words_left (option_copied rest.entry)) r) }
-    ensures err { IfErr result (λ code. IsUnread (codes "path" ∷ words_left (option_copied rest.entry)) code) }
+    ensures ok { (version : ℕ) → IfOk result (λ r.
+        IsRowOf version (codes "path" ∷ words_left (option_copied rest.entry)) r) }
+    ensures err { (version : ℕ) → IfErr result (λ code.
+        IsUnread version (codes "path" ∷ words_left (option_copied rest.entry)) code) }
 {
     match path_line(rest) {
         Some(line) => match port(line.port) {
@@ -159,10 +190,10 @@ fn path_row(alloc: Global, rest: Option<&[u8]>) -> Result<Row, FaultCode>
     }
 }
 
-// The row of a line.
-fn row_of(alloc: Global, line: &[u8]) -> Result<Row, FaultCode>
-    ensures ok { IfOk result (λ r. IsRowOf (words_in line.now) r) }
-    ensures err { IfErr result (λ code. IsUnread (words_in line.now) code) }
+// The row of a line, in a certificate of the version.
+fn row_of(alloc: Global, version: u32, line: &[u8]) -> Result<Row, FaultCode>
+    ensures ok { IfOk result (λ r. IsRowOf version (words_in line.now) r) }
+    ensures err { IfErr result (λ code. IsUnread version (words_in line.now) code) }
 {
     let (first, rest) = first_word(line);
     if first == b"class".as_slice() {
@@ -170,6 +201,9 @@ fn row_of(alloc: Global, line: &[u8]) -> Result<Row, FaultCode>
     }
     if first == b"reach".as_slice() {
         return reach_row(alloc, rest);
+    }
+    if first == b"branch".as_slice() {
+        return branch_row(alloc, version, rest);
     }
     if first == b"rank".as_slice() {
         return rank_row(alloc, rest);
@@ -183,10 +217,11 @@ fn row_of(alloc: Global, line: &[u8]) -> Result<Row, FaultCode>
 /// Puts the row of a line after the others.
 pub fn take_line(alloc: Global, certificate: &mut Certificate, line: &[u8]) -> Result<(), FaultCode>
     ensures version { certificate.new.version ≡ certificate.old.version }
-    ensures ok { OnOk result (IsTaken (words_in line.now) certificate.old.rows certificate.new.rows) }
-    ensures err { IfErr result (λ code. IsNotTaken (last_kind certificate.old.rows) (words_in line.now) code) }
+    ensures ok { OnOk result (IsTaken certificate.old.version (words_in line.now) certificate.old.rows certificate.new.rows) }
+    ensures err { IfErr result (λ code. IsNotTaken certificate.old.version (last_kind certificate.old.rows)
+        (words_in line.now) code) }
 {
-    match row_of(alloc, line) {
+    match row_of(alloc, certificate.version(), line) {
         Ok(row) => {
             if !certificate.may_follow(&row) {
                 return Err(FaultCode::Order);

@@ -14,6 +14,11 @@ pub enum Row {
         relay: Items<u8>,
         port: u16,
     },
+    /// a relay and the port of an input that messages of the class reach only by way of a spare action; in version 2
+    Branch {
+        relay: Items<u8>,
+        port: u16,
+    },
     /// a relay and its rank, which is above those of the relays that it forwards such messages to
     Rank {
         relay: Items<u8>,

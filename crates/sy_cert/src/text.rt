@@ -1,10 +1,9 @@
 //! The text of a certificate.
-ghost use Rattle.std.specs.Prelude.{◌≡◌, ◌⊎◌, ◌++◌, [], ◌∷◌, List, map, IfOk, IfErr, OnOk};
+ghost use Rattle.std.specs.Prelude.{◌≡◌, ◌⊎◌, ◌++◌, [], ◌∷◌, ℕ, List, map, IfOk, IfErr, IfNone, IfSome, OnOk};
 ghost use Rattle.std.specs.Fmt.{decimal};
 ghost use Rattle.sy_cert.specs.Faults.{HasFault, IsRefused};
-ghost use Rattle.sy_cert.specs.declared.kinds.Kind.TheVariants as kinds;
 ghost use Rattle.sy_cert.specs.declared.row.Row.{Row as AnyRow};
-ghost use Rattle.sy_cert.specs.Rows.{AreRows, further, line, text};
+ghost use Rattle.sy_cert.specs.Rows.{IsCertificate, IsVersion, further, head, line, text};
 
 use crate::certificate::Certificate;
 use crate::fault::{FaultCode, TextFault};
@@ -54,6 +53,11 @@ fn push_row(text: &mut Vec<u8>, row: &Row) -> Result<(), AllocError>
             push_word(text, relay.as_slice())?;
             push_number(text, *port as u32)?;
         }
+        Row::Branch { relay, port } => {
+            text.extend_from_slice(b"branch")?;
+            push_word(text, relay.as_slice())?;
+            push_number(text, *port as u32)?;
+        }
         Row::Rank { relay, rank } => {
             text.extend_from_slice(b"rank")?;
             push_word(text, relay.as_slice())?;
@@ -93,6 +97,20 @@ pub fn write_cert(alloc: Global, certificate: &Certificate) -> Result<Vec<u8>, A
     Ok(bytes)
 }
 
+// The version of which this is the first line.
+fn head_version(line: &[u8]) -> Option<u32>
+    ensures some { IfSome result (λ version. IsVersion version × (line.now ≡ head version)) }
+    ensures none { IfNone result ((version : ℕ) → IsVersion version → line.now ≡ head version → ⊥) }
+{
+    if line == b"cert 1".as_slice() {
+        return Some(1);
+    }
+    if line == b"cert 2".as_slice() {
+        return Some(2);
+    }
+    None
+}
+
 /// The certificate that a text is. Refuses the first faulty line with its number, counted from 1; of several faults in
 /// that line `Line` comes first, `Number` second and `Order` last. It takes time and memory linear in the text.
 pub fn read_cert(alloc: Global, bytes: &[u8]) -> Result<Certificate, TextFault>
@@ -100,10 +118,10 @@ pub fn read_cert(alloc: Global, bytes: &[u8]) -> Result<Certificate, TextFault>
     ensures err { IfErr result (λ f. (f.code ≡ FaultCode.NoMemory) × IsRefused bytes.now f.line
         ⊎ HasFault bytes.now f.code f.line) }
     // The text of a certificate is read as it, and refused only where memory runs out.
-    ensures same { IfOk result (λ c. (rows : List AnyRow) → AreRows kinds.Cert rows → bytes.now ≡ text 1 rows
-        → c.rows ≡ rows) }
-    ensures memory { IfErr result (λ f. (rows : List AnyRow) → AreRows kinds.Cert rows → bytes.now ≡ text 1 rows
-        → f.code ≡ FaultCode.NoMemory) }
+    ensures same { IfOk result (λ c. (version : ℕ) (rows : List AnyRow) → IsCertificate version rows
+        → bytes.now ≡ text version rows → (c.version ≡ version) × (c.rows ≡ rows)) }
+    ensures memory { IfErr result (λ f. (version : ℕ) (rows : List AnyRow) → IsCertificate version rows
+        → bytes.now ≡ text version rows → f.code ≡ FaultCode.NoMemory) }
 {
     let (first, lines) = match cut(bytes, b'\n') {
         Some(parts) => parts,
@@ -112,13 +130,14 @@ pub fn read_cert(alloc: Global, bytes: &[u8]) -> Result<Certificate, TextFault>
             line: 1,
         }),
     };
-    if first != b"cert 1".as_slice() {
-        return Err(TextFault {
+    let version = match head_version(first) {
+        Some(version) => version,
+        None => return Err(TextFault {
             code: FaultCode::Line,
             line: 1,
-        });
-    }
-    let mut certificate = Certificate::new(alloc, 1);
+        }),
+    };
+    let mut certificate = Certificate::new(alloc, version);
     let mut rest = lines;
     while !rest.is_empty() {
         let line = certificate.rows().len() + 2;

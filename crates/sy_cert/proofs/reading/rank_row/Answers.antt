@@ -7,7 +7,7 @@ use Rattle.sy_cert.proofs.RowLines.{rank_unwritten}
 use Rattle.sy_cert.proofs.reading.rank_row.Goals as goal
 
 pub returns-in-Ok-clause-ok : goal.returns-in-Ok-clause-ok
-returns-in-Ok-clause-ok c =
+returns-in-Ok-clause-ok c version =
     let line = c.in-Some.ensures.some (codes "rank") in
     let relay = c.in-Ok.ensures.ok in
     let rank = c.in-Some-number.ensures.some in
@@ -18,8 +18,8 @@ returns-in-Ok-clause-ok c =
     }
 
 pub returns-in-None-number-clause-err : goal.returns-in-None-number-clause-err
-returns-in-None-number-clause-err c =
+returns-in-None-number-clause-err c version =
     let line = c.in-Some.ensures.some (codes "rank") in (
       HasShape.rank_line c.in-Some.line.relay.now c.in-Some.line.number.now line,
-      rank_unwritten _ c.in-Some.line.relay.now c.in-Some.line.number.now line c.in-None-number.ensures.none,
+      rank_unwritten version _ c.in-Some.line.relay.now c.in-Some.line.number.now line c.in-None-number.ensures.none,
     )

@@ -3,11 +3,11 @@ use Rattle.std.specs.Prelude.{codes}
 use Rattle.std.specs.Fmt.{decimal}
 use Rattle.sy_cert.specs.Rows.{is_name}
 use Rattle.sy_cert.specs.Faults.{HasShape}
-use Rattle.sy_cert.proofs.RowLines.{port_unwritten}
+use Rattle.sy_cert.proofs.RowLines.{reach_unwritten}
 use Rattle.sy_cert.proofs.reading.reach_row.Goals as goal
 
 pub returns-in-Ok-clause-ok : goal.returns-in-Ok-clause-ok
-returns-in-Ok-clause-ok c =
+returns-in-Ok-clause-ok c version =
     let line = c.in-Some.ensures.some (codes "reach") in
     let relay = c.in-Ok.ensures.ok in
     let port = c.in-Some-port.ensures.some in
@@ -18,8 +18,8 @@ returns-in-Ok-clause-ok c =
     }
 
 pub returns-in-None-port-clause-err : goal.returns-in-None-port-clause-err
-returns-in-None-port-clause-err c =
+returns-in-None-port-clause-err c version =
     let line = c.in-Some.ensures.some (codes "reach") in (
       HasShape.reach_line c.in-Some.line.relay.now c.in-Some.line.number.now line,
-      port_unwritten _ c.in-Some.line.relay.now c.in-Some.line.number.now line c.in-None-port.ensures.none,
+      reach_unwritten version _ c.in-Some.line.relay.now c.in-Some.line.number.now line c.in-None-port.ensures.none,
     )
