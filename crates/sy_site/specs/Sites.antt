@@ -8,7 +8,9 @@ use Rattle.sy_select.specs.Selectors.{holds}
 use Rattle.sy_rules.specs.declared.parameters.objects.Destination.{Destination}
 use Rattle.sy_rules.specs.declared.parameters.objects.Destination.TheVariants as destination
 use Rattle.sy_rules.specs.declared.parts.Action.{Action}
+use Rattle.sy_rules.specs.declared.lists.occurrence.Occurrence.{Occurrence}
 use Rattle.sy_rules.specs.PlanValue.{Plan}
+use Rattle.sy_board.specs.relay.Spares.{is_spare_action, is_spare_occurrence, is_spare_own}
 -- an input and an action of a relay, each by its number, and what a protect line says, as the code has them
 pub use Rattle.sy_site.specs.declared.site.Protection.{Protection}
 pub use Rattle.sy_site.specs.declared.site.SiteAction.{SiteAction}
@@ -20,16 +22,21 @@ pub record Relay : Type 0 where
   pub address : List ℕ
   pub plan : Plan
 
+-- Of policy 1 nothing is spare.
 pub record Site : Type 0 where
+  -- 1 or 2
+  pub policy : ℕ
   pub relays : List Relay
   pub entries : List SiteInput
   pub protections : List Protection
+  -- the spare actions: what is lost at or after one of them is no loss
+  pub spares : List SiteAction
 
 -- ---- plans and names
 
 -- of a relay that isn't there
 abbrev pub no_plan : Plan
-no_plan = record { inputs = []; queues = []; workers = []; actions = []; lists = []; names = [] }
+no_plan = record { inputs = []; queues = []; workers = []; actions = []; lists = []; rulesets = 0; names = [] }
 
 abbrev pub plan_in : Option Relay → Plan
 plan_in None = no_plan
@@ -59,10 +66,32 @@ target_of site (Some action) = leads action.destination where
 abbrev pub target : Site → SiteAction → Option SiteInput
 target site action = target_of site (slice_get (plan_at site action.relay).actions action.action)
 
--- ---- what is protected
+-- ---- what is spare
 
 abbrev pub same_action : SiteAction → SiteAction → Bool
 same_action a b = a.relay == b.relay && a.action == b.action
+
+-- the numbers of these that are a relay's
+abbrev pub actions_at : List SiteAction → ℕ → List ℕ
+actions_at [] relay = []
+actions_at (a ∷ later) relay = if a.relay == relay then a.action ∷ actions_at later relay else actions_at later relay
+
+-- the spare actions of a relay, by their numbers, in the order of the file
+abbrev pub spares_at : Site → ℕ → List ℕ
+spares_at site relay = actions_at site.spares relay
+
+abbrev pub is_spare : Site → SiteAction → Bool
+is_spare site action = is_spare_action (spares_at site action.relay) action.action
+
+-- a spare action's own list
+abbrev pub is_spare_list : Site → ℕ → ℕ → Bool
+is_spare_list site relay list = is_spare_own (plan_at site relay) (spares_at site relay) list
+
+-- a spare occurrence of a relay: it runs a spare action, or posts to that action's own list
+abbrev pub does_spare : Site → ℕ → Occurrence → Bool
+does_spare site relay is = is_spare_occurrence (plan_at site relay) (spares_at site relay) is
+
+-- ---- what is protected
 
 abbrev pub asks_for : Protection → Class → Bool
 asks_for protection class = holds protection.selector class.facility class.severity

@@ -7,7 +7,7 @@ ghost use Rattle.sy_site.specs.machine.States.{SiteState};
 ghost use Rattle.sy_site.specs.machine.Soundness.{IsSoundFor};
 ghost use Rattle.sy_site.specs.machine.Confinement.{AreConfined};
 ghost use Rattle.sy_site.specs.machine.Safety.{AreSafe};
-ghost use Rattle.sy_site.specs.machine.Counterexamples.{Bound, Bounds, EndsUnconfined, EndsUnsafe, Holds, Part, aimless_events, aimless_site, changing_events, changing_site, hasty_events, hasty_site, moving_events, moving_site, posting_events, posting_site, silent_events, silent_site, stray_site, twice_events, twice_site};
+ghost use Rattle.sy_site.specs.machine.Counterexamples.{Bound, Bounds, EndsUnconfined, EndsUnsafe, Holds, Part, aimless_events, aimless_site, changing_events, changing_site, circling_events, circling_site, hasty_events, hasty_site, moving_events, moving_site, silent_events, silent_site, spared_events, spared_site, stray_site, twice_events, twice_site};
 
 /// Safe is its four parts, and confined its seven.
 pub fn parts_are_the_whole()
@@ -39,16 +39,36 @@ pub fn a_message_that_came_twice_isnt_safe()
         → EndsUnsafe twice_site (twice_events class) Part.PassedOnce }
 {}
 
-/// A copy isn't confined on the link of a forward that leads nowhere, or to an input that its class doesn't reach.
-pub fn copies_on_such_links_arent_confined()
-    ensures to_nowhere { (class : Class) → EndsUnconfined aimless_site class (aimless_events class) Bound.LinkLeads }
-    ensures out_of_reach { (class : Class) → EndsUnconfined posting_site class (take 6 (posting_events class)) Bound.LinkInReach }
+/// A message that comes to its archive by a spare action alone isn't safe: neither where it waits for that action, nor on
+/// that action's link, nor behind it, nor in the archive.
+pub fn a_spared_message_isnt_safe()
+    ensures before { (class : Class) → class.facility ≡ 4 → class.severity ≡ 2
+        → EndsUnsafe spared_site (take 1 (spared_events class)) Part.Kept }
+    ensures on_the_link { (class : Class) → class.facility ≡ 4 → class.severity ≡ 2
+        → EndsUnsafe spared_site (take 4 (spared_events class)) Part.Kept }
+    ensures behind { (class : Class) → class.facility ≡ 4 → class.severity ≡ 2
+        → EndsUnsafe spared_site (take 5 (spared_events class)) Part.Kept }
+    ensures in_the_archive { (class : Class) → class.facility ≡ 4 → class.severity ≡ 2
+        → EndsUnsafe spared_site (spared_events class) Part.Kept }
 {}
 
-/// A copy isn't confined at an input that its class doesn't reach, nor where it follows another list than its input's.
-pub fn copies_at_such_inputs_arent_confined()
-    ensures out_of_reach { (class : Class) → EndsUnconfined posting_site class (posting_events class) Bound.InReach }
-    ensures of_another_list { (class : Class) → EndsUnconfined changing_site class (changing_events class) Bound.OnList }
+/// A message of which a flagged copy came to a relay twice isn't safe, though its archive has it: neither while that copy
+/// is held, nor on a link.
+pub fn a_flagged_copy_that_came_twice_isnt_safe()
+    ensures held { (class : Class) → class.facility ≡ 4 → class.severity ≡ 2
+        → EndsUnsafe circling_site (take 10 (circling_events class)) Part.HeldOnce }
+    ensures on_a_link { (class : Class) → class.facility ≡ 4 → class.severity ≡ 2
+        → EndsUnsafe circling_site (circling_events class) Part.PassedOnce }
+{}
+
+/// A copy isn't confined on the link of a forward that leads nowhere.
+pub fn copies_on_such_links_arent_confined()
+    ensures { (class : Class) → EndsUnconfined aimless_site class (aimless_events class) Bound.LinkLeads }
+{}
+
+/// A copy isn't confined where it follows another list than its input's.
+pub fn copies_of_another_list_arent_confined()
+    ensures { (class : Class) → EndsUnconfined changing_site class (changing_events class) Bound.OnList }
 {}
 
 /// A copy isn't confined in a queue that isn't its input's, nor with a worker of that queue.
@@ -65,4 +85,14 @@ pub fn a_lost_copy_isnt_confined()
 /// A forward that leads nowhere is enough for a site not to be sound.
 pub fn a_forward_to_nowhere_isnt_sound()
     ensures { (class : Class) → IsSoundFor stray_site class → ⊥ }
+{}
+
+/// Nor is a site sound in which spare actions alone lead to an archive that the policy names.
+pub fn an_archive_behind_a_spare_action_isnt_sound()
+    ensures { (class : Class) → class.facility ≡ 4 → class.severity ≡ 2 → IsSoundFor spared_site class → ⊥ }
+{}
+
+/// Nor one in which spare actions forward in a circle.
+pub fn a_circle_of_spare_actions_isnt_sound()
+    ensures { (class : Class) → IsSoundFor circling_site class → ⊥ }
 {}

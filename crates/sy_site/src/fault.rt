@@ -19,10 +19,11 @@ pub enum RelayFault {
 /// are those of `number`.
 #[derive(Debug, Drop)]
 pub enum SiteFault {
-    /// A line of no shape, one more than the most of its kind, or one with a relay that isn't there. A text that is
-    /// too long is one in line 1.
+    /// A line of no shape, one more than the most of its kind, one with a relay that isn't there, a policy line behind
+    /// another line, or a spare line in a text that doesn't begin with `policy 2`. A text that is too long is one in
+    /// line 1.
     Line(usize),
-    /// A relay's name, or an entry or protect line, given a second time.
+    /// A relay's name, or an entry, protect or spare line, given a second time.
     Duplicate(usize),
     /// A relay line whose file isn't given.
     NoFile(usize),
@@ -36,10 +37,14 @@ pub enum SiteFault {
     Relay(usize, Items<u8>, RelayFault),
     /// Memory ran out.
     NoMemory,
+    /// A spare line whose relay has no action of that name.
+    NoSuchAction(usize),
+    /// A spare line whose action a protect line names.
+    SpareArchive(usize),
 }
 
 impl SiteFault {
-    /// The number of the fault: 51 for `Line` to 58 for `NoMemory`.
+    /// The number of the fault: 51 for `Line` to 60 for `SpareArchive`.
     pub fn number(&self) -> u8
         ensures { result ≡ spec.number self.now }
     {
@@ -52,6 +57,8 @@ impl SiteFault {
             SiteFault::NothingProtected => 56,
             SiteFault::Relay(_, _, _) => 57,
             SiteFault::NoMemory => 58,
+            SiteFault::NoSuchAction(_) => 59,
+            SiteFault::SpareArchive(_) => 60,
         }
     }
 
@@ -68,6 +75,8 @@ impl SiteFault {
             SiteFault::NothingProtected => "56 NothingProtected",
             SiteFault::Relay(_, _, _) => "57 Relay",
             SiteFault::NoMemory => "58 NoMemory",
+            SiteFault::NoSuchAction(_) => "59 NoSuchAction",
+            SiteFault::SpareArchive(_) => "60 SpareArchive",
         }
     }
 }

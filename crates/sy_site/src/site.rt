@@ -1,6 +1,7 @@
 //! A site: a set of relays, as one site file and the relays' scripts describe it.
 
-ghost use Rattle.std.specs.Prelude.{◌≡◌, ◌<◌, ℕ, List, Some, length, map, option_map, slice_get};
+ghost use Rattle.std.specs.Prelude.{◌≡◌, ◌==◌, ◌&&◌, ◌<◌, ℕ, List, Some, length, map, option_map, slice_get};
+ghost use Rattle.std.specs.List.{list_any};
 ghost use Rattle.std.specs.Option.{option_copied};
 ghost use Rattle.std.specs.Arc.{arc_value};
 ghost use Rattle.std.specs.Net.Addr.{ipv4_octets};
@@ -45,15 +46,27 @@ pub struct Protection {
     pub archive: SiteAction,
 }
 
-/// The relays of a site, the inputs that messages of its policy enter by, and what of them is to come to which
-/// archive.
+fn is_among(actions: &[SiteAction], relay: u32, action: u32) -> bool
+    ensures { result ≡ list_any (λ a. a.relay == relay && a.action == action) actions.now }
+{
+    actions
+        .iter()
+        .any(|a| a.relay == relay && a.action == action)
+}
+
+/// The relays of a site, the inputs that messages of its policy enter by, what of them is to come to which archive, and
+/// which actions are spare: what is lost at or after one of these is no loss.
 ///
-/// Each plan is whole, each entry and each archive is there, and there are at most 64 relays. Some texts describe it.
+/// Each plan is whole, each entry, each archive and each spare action is there, no archive that is named is spare, and
+/// there are at most 64 relays. Some texts describe it.
 #[derive(Drop)]
 pub struct Site {
+    // 1 or 2
+    policy: u32,
     relays: Vec<Relay>,
     entries: Vec<SiteInput>,
     protections: Vec<Protection>,
+    spares: Vec<SiteAction>,
     // what each action of each relay leads to
     targets: Vec<Targets>,
 }
@@ -86,6 +99,13 @@ impl Site {
         ensures { IsDescribed self.now }
     {
         let _ = &self.entries;
+    }
+
+    /// The site's policy: 2 where its text begins with `policy 2`, else 1. Of policy 1 nothing is spare.
+    pub fn policy(&self) -> u32
+        ensures { result ≡ self.now.policy }
+    {
+        self.policy
     }
 
     /// How many relays there are. Their numbers are those below it.
@@ -138,6 +158,20 @@ impl Site {
         ensures { result.now ≡ self.now.protections }
     {
         self.protections.as_slice()
+    }
+
+    /// The spare actions, in the order of the file.
+    pub fn spares(&self) -> &[SiteAction]
+        ensures { result.now ≡ self.now.spares }
+    {
+        self.spares.as_slice()
+    }
+
+    /// Whether an action of a relay is spare. One that isn't there is not.
+    pub fn is_spare(&self, relay: u32, action: u32) -> bool
+        ensures { result ≡ spec.is_spare self.now (record { relay = relay; action = action }) }
+    {
+        is_among(self.spares.as_slice(), relay, action)
     }
 
     /// The input that an action of a relay forwards to: of the relay that it names, the one at its port. None for an

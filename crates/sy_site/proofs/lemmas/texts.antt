@@ -1,9 +1,14 @@
 pub mod Cutting
 pub mod Shaped
 pub mod Noted
+pub mod OneLine
 pub mod OneSite
 pub mod Once
+pub mod Again
+pub mod Kinds
+pub mod Placed
 pub mod Found
 pub mod Described
 pub mod FaultsFound
+pub mod Policies
 pub mod NoFault

@@ -17,7 +17,7 @@ module _ (class : Class) where
   node list = record { message = example_message class; list = list; input = 0; due = 1; tag = 0 }
 
   abbrev pub copy : Copy
-  copy = record { number = 0; message = example_message class; origin = edge_input; trail = 0 ∷ [] }
+  copy = record { number = 0; message = example_message class; origin = edge_input; trail = 0 ∷ []; flag = false }
 
   abbrev r0 : RelayState
   r0 = cells.opening changing_plan

@@ -1,8 +1,8 @@
 -- A run of the example that writes a message.
-use Rattle.std.proofs.Common.{◌≡◌, ℕ, ◌==◌, Bool, true, false, [], ◌∷◌, ◌++◌, refl, subst, arith}
-use Rattle.std.specs.Prelude.{◌||◌}
+use Rattle.std.proofs.Common.{inr, ◌≡◌, ℕ, ◌<◌, ◌==◌, Bool, true, false, [], ◌∷◌, ◌++◌, refl, sym, subst, ap, arith, ◌∙◌}
+use Rattle.std.specs.Prelude.{◌||◌, ◌≢◌, drop}
 use Rattle.std.specs.Int.{bit_at}
-use Rattle.std.proofs.lemmas.Nat.Bits.{bit_at-zero, bit_at-pow_same, bit_at-pow_other}
+use Rattle.std.proofs.lemmas.Nat.Bits.{bit_at-suc, bit_at-zero, bit_at-pow_same, bit_at-pow_other}
 use Rattle.std.proofs.lemmas.Bool.{eqb-true, eqb-false}
 use Rattle.sy_wire.specs.declared.class.Class.{Class}
 use Rattle.sy_chain.specs.Entries.{Entry}
@@ -10,12 +10,11 @@ use Rattle.sy_rules.specs.lists.Body.{is_in}
 use Rattle.sy_rules.specs.lists.Sets.{Bits, IsLowest}
 use Rattle.sy_board.specs.relay.Cells as cells
 use Rattle.sy_board.specs.relay.Cells.{Cell, RelayState, put, put_failures, hand}
-use Rattle.sy_board.specs.relay.Steps.{Enters, Event, Fails, Grabs, Settles, Takes}
+use Rattle.sy_board.specs.relay.Steps.{Cause, Enters, Event, Fails, GivesUp, Grabs, Posts, Settles, Takes}
 use Rattle.sy_site.specs.Sites.{SiteAction}
-use Rattle.sy_site.specs.machine.States.{Copy, SiteState, opening, taken_by, with_passed, with_relay}
-use Rattle.sy_site.specs.machine.Steps.{Runs, SiteEvent, SiteStep}
-use Rattle.sy_site.specs.machine.Safety.{IsWritten}
-use Rattle.sy_site.specs.machine.Examples.{audit, edge_input, edge_plan, example_events, example_message, example_site, hub_input, hub_plan, up}
+use Rattle.sy_site.specs.machine.States.{Copy, Loss, SiteState, off_link, opening, taken_by, with_passed, with_relay}
+use Rattle.sy_site.specs.machine.Steps.{Runs, SiteEvent, SiteStep, SiteSteps}
+use Rattle.sy_site.specs.machine.Examples.{audit, copying, copying_plan, edge_input, edge_plan, example_events, example_message, example_site, hub_input, mirror_input, mirror_plan, up}
 
 -- the set of occurrence 0 alone
 pub only_first : (k : ℕ) → bit_at 1 k ≡ 1 → k ≡ 0
@@ -39,6 +38,50 @@ first_in (ℕ.suc k) e = absurd (omega (arith, e))
 pub first_due : Bits (λ k. is_in k (0 ∷ []) ≡ true) 1
 first_due k = ((λ e. first_in k (only_first k e)), one_in k)
 
+-- the set of occurrences 0 and 1
+three : (k : ℕ) → bit_at 3 (ℕ.suc k) ≡ bit_at 1 k
+three k = bit_at-suc 3 k
+
+two : (k : ℕ) → bit_at 2 (ℕ.suc k) ≡ bit_at 1 k
+two k = bit_at-suc 2 k
+
+beyond : (k : ℕ) → bit_at 3 (ℕ.suc (ℕ.suc k)) ≡ 0
+beyond k = three (ℕ.suc k) ∙ bit_at-suc 1 k ∙ bit_at-zero k
+
+in_both : (k : ℕ) → is_in k (0 ∷ 1 ∷ []) ≡ true → bit_at 3 k ≡ 1
+in_both k i = go (0 == k) (1 == k) refl refl i
+  where
+    go : (a b : Bool) → (0 == k) ≡ a → (1 == k) ≡ b → (a || (b || false)) ≡ true → bit_at 3 k ≡ 1
+    go true b e f i = subst (λ z. bit_at 3 z ≡ 1) (eqb-true 0 k e) refl
+    go false true e f i = subst (λ z. bit_at 3 z ≡ 1) (eqb-true 1 k f) (three 0 ∙ bit_at-pow_same 0)
+    go false false e f i = cc
+
+of_both : (k : ℕ) → bit_at 3 k ≡ 1 → is_in k (0 ∷ 1 ∷ []) ≡ true
+of_both ℕ.zero e = refl
+of_both (ℕ.suc ℕ.zero) e = refl
+of_both (ℕ.suc (ℕ.suc k)) e = let z = beyond k in absurd (omega (arith, e, z))
+
+pub both_due : Bits (λ k. is_in k (0 ∷ 1 ∷ []) ≡ true) 3
+both_due k = (of_both k, in_both k)
+
+pub lowest_of_both : IsLowest 3 0 2
+lowest_of_both = record { member = refl; lowest = λ k l. absurd (omega arith); gone = refl; others = others }
+  where
+    others : (k : ℕ) → k ≢ 0 → bit_at 2 k ≡ bit_at 3 k
+    others ℕ.zero n = absurd (n refl)
+    others (ℕ.suc k) n = two k ∙ sym (three k)
+
+pub second_of_both : IsLowest 2 1 0
+second_of_both = record { member = two 0 ∙ bit_at-pow_same 0; lowest = first; gone = bit_at-zero 1; others = others }
+  where
+    first : (k : ℕ) → k < 1 → bit_at 2 k ≡ 0
+    first ℕ.zero l = refl
+    first (ℕ.suc k) l = absurd (omega (arith, l))
+
+    others : (k : ℕ) → k ≢ 1 → bit_at 0 k ≡ bit_at 2 k
+    others ℕ.zero n = refl
+    others (ℕ.suc k) n = bit_at-zero (ℕ.suc k) ∙ sym (two k ∙ bit_at-pow_other 0 k (λ e. n (ap ℕ.suc e)))
+
 pub lowest : IsLowest 1 0 0
 lowest = record {
   member = bit_at-pow_same 0;
@@ -48,22 +91,22 @@ lowest = record {
 }
 
 module _ (class : Class) where
-  -- at edge
+  abbrev node : ℕ → ℕ → ℕ → Entry
+  node list due tag = record { message = example_message class; list = list; input = 0; due = due; tag = tag }
 
-  abbrev node : ℕ → ℕ → Entry
-  node list tag = record { message = example_message class; list = list; input = 0; due = 1; tag = tag }
+  -- at edge
 
   abbrev edge0 : RelayState
   edge0 = cells.opening edge_plan
 
   abbrev edge1 : RelayState
-  edge1 = put edge0 (hand 0 0) (node 1 0 ∷ [])
+  edge1 = put edge0 (hand 0 0) (node 1 1 0 ∷ [])
 
   abbrev edge2 : RelayState
-  edge2 = put (put edge1 (hand 0 0) []) (Cell.Queue 1) (node 1 0 ∷ [])
+  edge2 = put (put edge1 (hand 0 0) []) (Cell.Queue 1) (node 1 1 0 ∷ [])
 
   abbrev edge3 : RelayState
-  edge3 = put (put edge2 (Cell.Queue 1) []) (Cell.Worker 1) (node 1 0 ∷ [])
+  edge3 = put (put edge2 (Cell.Queue 1) []) (Cell.Worker 1) (node 1 1 0 ∷ [])
 
   abbrev edge4 : RelayState
   edge4 = put_failures edge3 1 0
@@ -71,7 +114,7 @@ module _ (class : Class) where
   abbrev edge5 : RelayState
   edge5 = put_failures (put edge4 (Cell.Worker 1) []) 1 0
 
-  edge_takes : Takes edge_plan edge0 0 0 (node 1 0) false edge1
+  edge_takes : Takes edge_plan edge0 0 0 (node 1 1 0) false edge1
   edge_takes = record {
     there =
         (omega arith, omega arith);
@@ -81,23 +124,23 @@ module _ (class : Class) where
     after = refl;
   }
 
-  edge_enters : Enters edge_plan edge1 0 0 (node 1 0) edge2
+  edge_enters : Enters edge_plan edge1 0 0 (node 1 1 0) edge2
   edge_enters = record { leaves = record { there = (omega arith, omega arith); held = refl; not_held = refl }; room = omega arith; after = refl }
 
   edge_grabs : Grabs edge_plan edge2 1 [] edge3
   edge_grabs = record { there = omega arith; idle = refl; some = omega arith; lost_are = refl; after = refl }
 
-  edge_fails : Fails edge_plan edge3 1 0 (node 1 0) edge4
+  edge_fails : Fails edge_plan edge3 1 0 (node 1 1 0) edge4
   edge_fails = record {
-    job = record { there = omega arith; entry = node 1 0; others = []; held = refl; number = 0; left = 0; first = lowest; found = refl };
+    job = record { there = omega arith; entry = node 1 1 0; others = []; held = refl; number = 0; left = 0; first = lowest; found = refl };
     its = refl;
     again = tt;
     after = refl;
   }
 
-  edge_settles : Settles edge_plan edge4 1 0 (node 1 0) edge5
+  edge_settles : Settles edge_plan edge4 1 0 (node 1 1 0) edge5
   edge_settles = record {
-    job = record { there = omega arith; entry = node 1 0; others = []; held = refl; number = 0; left = 0; first = lowest; found = refl };
+    job = record { there = omega arith; entry = node 1 1 0; others = []; held = refl; number = 0; left = 0; first = lowest; found = refl };
     its = refl;
     after = refl;
   }
@@ -105,22 +148,90 @@ module _ (class : Class) where
   -- at hub: the second copy, with the second tag
 
   abbrev hub0 : RelayState
-  hub0 = cells.opening hub_plan
+  hub0 = cells.opening copying_plan
 
   abbrev hub1 : RelayState
-  hub1 = put hub0 (hand 0 0) (node 0 1 ∷ [])
+  hub1 = put hub0 (hand 0 0) (node 0 3 1 ∷ [])
 
   abbrev hub2 : RelayState
-  hub2 = put (put hub1 (hand 0 0) []) (Cell.Queue 0) (node 0 1 ∷ [])
+  hub2 = put (put hub1 (hand 0 0) []) (Cell.Queue 0) (node 0 3 1 ∷ [])
 
   abbrev hub3 : RelayState
-  hub3 = put (put hub2 (Cell.Queue 0) []) (Cell.Worker 0) (node 0 1 ∷ [])
+  hub3 = put (put hub2 (Cell.Queue 0) []) (Cell.Worker 0) (node 0 3 1 ∷ [])
 
   abbrev hub4 : RelayState
-  hub4 = put_failures (put hub3 (Cell.Worker 0) []) 0 0
+  hub4 = put_failures (put hub3 (Cell.Worker 0) (node 0 2 1 ∷ [])) 0 0
 
-  hub_takes : Takes hub_plan hub0 0 0 (node 0 1) false hub1
+  abbrev hub5 : RelayState
+  hub5 = put (put_failures (put hub4 (Cell.Worker 0) []) 0 0) (Cell.Queue 1) (node 1 1 1 ∷ [])
+
+  abbrev hub6 : RelayState
+  hub6 = put (put hub5 (Cell.Queue 1) []) (Cell.Worker 1) (node 1 1 1 ∷ [])
+
+  abbrev hub7 : RelayState
+  hub7 = put_failures (put hub6 (Cell.Worker 1) []) 1 0
+
+  hub_takes : Takes copying_plan hub0 0 0 (node 0 3 1) false hub1
   hub_takes = record {
+    there =
+        (omega arith, omega arith);
+    made = record { input_is = refl; list = refl; due = both_due };
+    free = refl;
+    discarded = refl;
+    after = refl;
+  }
+
+  hub_enters : Enters copying_plan hub1 0 0 (node 0 3 1) hub2
+  hub_enters = record { leaves = record { there = (omega arith, omega arith); held = refl; not_held = refl }; room = omega arith; after = refl }
+
+  hub_grabs : Grabs copying_plan hub2 0 [] hub3
+  hub_grabs = record { there = omega arith; idle = refl; some = omega arith; lost_are = refl; after = refl }
+
+  hub_settles : Settles copying_plan hub3 0 0 (node 0 3 1) hub4
+  hub_settles = record {
+    job = record { there = omega arith; entry = node 0 3 1; others = []; held = refl; number = 0; left = 2; first = lowest_of_both; found = refl };
+    its = refl;
+    after = refl;
+  }
+
+  hub_posts : Posts copying_plan hub4 0 1 (node 1 1 1) false hub5
+  hub_posts = record {
+    job = record { there = omega arith; entry = node 0 2 1; others = []; held = refl; number = 1; left = 0; first = second_of_both; found = refl };
+    made = record { message = refl; list_is = refl; input = refl; tag = refl; due = first_due };
+    discarded = refl;
+    room = inr (omega arith);
+    after = refl;
+  }
+
+  hub_grabs_again : Grabs copying_plan hub5 1 [] hub6
+  hub_grabs_again = record { there = omega arith; idle = refl; some = omega arith; lost_are = refl; after = refl }
+
+  hub_copies : Settles copying_plan hub6 1 1 (node 1 1 1) hub7
+  hub_copies = record {
+    job = record { there = omega arith; entry = node 1 1 1; others = []; held = refl; number = 0; left = 0; first = lowest; found = refl };
+    its = refl;
+    after = refl;
+  }
+
+  -- at mirror: the third copy, which is flagged
+
+  abbrev mirror0 : RelayState
+  mirror0 = cells.opening mirror_plan
+
+  abbrev mirror1 : RelayState
+  mirror1 = put mirror0 (hand 0 0) (node 0 1 2 ∷ [])
+
+  abbrev mirror2 : RelayState
+  mirror2 = put (put mirror1 (hand 0 0) []) (Cell.Queue 0) (node 0 1 2 ∷ [])
+
+  abbrev mirror3 : RelayState
+  mirror3 = put (put mirror2 (Cell.Queue 0) []) (Cell.Worker 0) (node 0 1 2 ∷ [])
+
+  abbrev mirror4 : RelayState
+  mirror4 = put_failures (put mirror3 (Cell.Worker 0) []) 0 0
+
+  mirror_takes : Takes mirror_plan mirror0 0 0 (node 0 1 2) false mirror1
+  mirror_takes = record {
     there =
         (omega arith, omega arith);
     made = record { input_is = refl; list = refl; due = first_due };
@@ -129,16 +240,17 @@ module _ (class : Class) where
     after = refl;
   }
 
-  hub_enters : Enters hub_plan hub1 0 0 (node 0 1) hub2
-  hub_enters = record { leaves = record { there = (omega arith, omega arith); held = refl; not_held = refl }; room = omega arith; after = refl }
+  mirror_enters : Enters mirror_plan mirror1 0 0 (node 0 1 2) mirror2
+  mirror_enters = record { leaves = record { there = (omega arith, omega arith); held = refl; not_held = refl }; room = omega arith; after = refl }
 
-  hub_grabs : Grabs hub_plan hub2 0 [] hub3
-  hub_grabs = record { there = omega arith; idle = refl; some = omega arith; lost_are = refl; after = refl }
+  mirror_grabs : Grabs mirror_plan mirror2 0 [] mirror3
+  mirror_grabs = record { there = omega arith; idle = refl; some = omega arith; lost_are = refl; after = refl }
 
-  hub_settles : Settles hub_plan hub3 0 0 (node 0 1) hub4
-  hub_settles = record {
-    job = record { there = omega arith; entry = node 0 1; others = []; held = refl; number = 0; left = 0; first = lowest; found = refl };
+  mirror_gives_up : GivesUp mirror_plan mirror3 0 0 (node 0 1 2) mirror4
+  mirror_gives_up = record {
+    job = record { there = omega arith; entry = node 0 1 2; others = []; held = refl; number = 0; left = 0; first = lowest; found = refl };
     its = refl;
+    last = refl;
     after = refl;
   }
 
@@ -151,7 +263,19 @@ module _ (class : Class) where
   sent s a tag = record s { passed = with_passed s.passed a (s.passed a ++ tag ∷ []) }
 
   abbrev came : Copy
-  came = record { number = 0; message = example_message class; origin = edge_input; trail = [] }
+  came = record { number = 0; message = example_message class; origin = edge_input; trail = []; flag = false }
+
+  abbrev at_edge : Copy
+  at_edge = taken_by 0 came
+
+  abbrev pub at_hub : Copy
+  at_hub = taken_by 1 (off_link example_site up at_edge)
+
+  abbrev pub at_mirror : Copy
+  at_mirror = taken_by 2 (off_link example_site copying at_hub)
+
+  abbrev pub given_up : Loss
+  given_up = record { copy = 2; relay = 2; list = 0; cause = Cause.GiveUp 0 }
 
   abbrev s0 : SiteState
   s0 = opening example_site
@@ -159,7 +283,7 @@ module _ (class : Class) where
   abbrev s1 : SiteState
   s1 = record {
     relays = with_relay s0.relays 0 edge1;
-    copies = taken_by 0 came ∷ [];
+    copies = at_edge ∷ [];
     passed = λ a. [];
     losses = [];
     arrivals = record { message = example_message class; origin = edge_input } ∷ [];
@@ -178,7 +302,7 @@ module _ (class : Class) where
   s5 = sent (on_relay s4 0 edge5) up 0
 
   abbrev s6 : SiteState
-  s6 = on_relay (record s5 { passed = with_passed s5.passed up (0 ∷ []); copies = taken_by 0 came ∷ taken_by 1 (taken_by 0 came) ∷ [] }) 1 hub1
+  s6 = on_relay (record s5 { passed = with_passed s5.passed up (0 ∷ []); copies = at_edge ∷ at_hub ∷ [] }) 1 hub1
 
   abbrev s7 : SiteState
   s7 = on_relay s6 1 hub2
@@ -189,31 +313,46 @@ module _ (class : Class) where
   abbrev s9 : SiteState
   s9 = sent (on_relay s8 1 hub4) audit 1
 
+  abbrev s10 : SiteState
+  s10 = on_relay s9 1 hub5
+
+  abbrev s11 : SiteState
+  s11 = on_relay s10 1 hub6
+
+  abbrev s12 : SiteState
+  s12 = sent (on_relay s11 1 hub7) copying 1
+
+  abbrev s13 : SiteState
+  s13 = on_relay (record s12 { passed = with_passed s12.passed copying []; copies = at_edge ∷ at_hub ∷ at_mirror ∷ [] }) 2 mirror1
+
+  abbrev s14 : SiteState
+  s14 = on_relay s13 2 mirror2
+
+  abbrev s15 : SiteState
+  s15 = on_relay s14 2 mirror3
+
+  abbrev pub s16 : SiteState
+  s16 = record (on_relay s15 2 mirror4) { losses = given_up ∷ [] }
+
   step1 : SiteStep example_site s0 (SiteEvent.TakeNew edge_input 0 (example_message class)) s1
   step1 = record {
-    node = node 1 0;
+    node = node 1 1 0;
     message = refl;
     tag = refl;
-    step = record {
-      state = edge1;
-      outs = [];
-      step =
-          (false, edge_takes, refl);
-      after = refl;
-    };
+    step = record { state = edge1; outs = []; step = (false, edge_takes, refl); after = refl };
   }
 
   step2 : SiteStep example_site s1 (SiteEvent.Inside 0 (Event.Enter 0 0)) s2
-  step2 = ((λ h. h), record { state = edge2; outs = []; step = (node 1 0, edge_enters, refl); after = refl })
+  step2 = ((λ h. h), record { state = edge2; outs = []; step = (node 1 1 0, edge_enters, refl); after = refl })
 
   step3 : SiteStep example_site s2 (SiteEvent.Inside 0 (Event.Grab 1)) s3
   step3 = ((λ h. h), record { state = edge3; outs = []; step = ([], edge_grabs, refl); after = refl })
 
   step4 : SiteStep example_site s3 (SiteEvent.Inside 0 (Event.Fail 1 true)) s4
-  step4 = ((λ h. h), record { state = edge4; outs = _; step = (0, node 1 0, edge_fails, refl); after = refl })
+  step4 = ((λ h. h), record { state = edge4; outs = _; step = (0, node 1 1 0, edge_fails, refl); after = refl })
 
   step5 : SiteStep example_site s4 (SiteEvent.Inside 0 (Event.Done 1)) s5
-  step5 = ((λ h. h), record { state = edge5; outs = _; step = (0, node 1 0, edge_settles, refl); after = refl })
+  step5 = ((λ h. h), record { state = edge5; outs = _; step = (0, node 1 1 0, edge_settles, refl); after = refl })
 
   step6 : SiteStep example_site s5 (SiteEvent.TakeFrom hub_input 0 up 1) s6
   step6 = record {
@@ -223,34 +362,63 @@ module _ (class : Class) where
     behind = [];
     on_link = refl;
     stands = refl;
-    copy = taken_by 0 came;
+    copy = at_edge;
     is = refl;
     takes = record {
-      node = node 0 1;
+      node = node 0 3 1;
       message = refl;
       tag = refl;
-      step = record {
-        state = hub1;
-        outs = [];
-        step =
-            (false, hub_takes, refl);
-        after = refl;
-      };
+      step = record { state = hub1; outs = []; step = (false, hub_takes, refl); after = refl };
     };
   }
 
   step7 : SiteStep example_site s6 (SiteEvent.Inside 1 (Event.Enter 0 0)) s7
-  step7 = ((λ h. h), record { state = hub2; outs = []; step = (node 0 1, hub_enters, refl); after = refl })
+  step7 = ((λ h. h), record { state = hub2; outs = []; step = (node 0 3 1, hub_enters, refl); after = refl })
 
   step8 : SiteStep example_site s7 (SiteEvent.Inside 1 (Event.Grab 0)) s8
   step8 = ((λ h. h), record { state = hub3; outs = []; step = ([], hub_grabs, refl); after = refl })
 
   step9 : SiteStep example_site s8 (SiteEvent.Inside 1 (Event.Done 0)) s9
-  step9 = ((λ h. h), record { state = hub4; outs = _; step = (0, node 0 1, hub_settles, refl); after = refl })
+  step9 = ((λ h. h), record { state = hub4; outs = _; step = (0, node 0 3 1, hub_settles, refl); after = refl })
 
-  pub example_run : (state : SiteState) × Runs example_site (example_events class) state × IsWritten state audit 0
-  example_run = (
-    s9,
-    (s1, step1, (s2, step2, (s3, step3, (s4, step4, (s5, step5, (s6, step6, (s7, step7, (s8, step8, (s9, step9, refl))))))))),
-    record { tag = 1; there = (0, omega arith, refl); copy = record { copy = taken_by 1 (taken_by 0 came); is = refl; numbered = refl } },
-  )
+  step10 : SiteStep example_site s9 (SiteEvent.Inside 1 (Event.Post 0)) s10
+  step10 = ((λ h. h), record { state = hub5; outs = []; step = (1, node 1 1 1, false, hub_posts, refl); after = refl })
+
+  step11 : SiteStep example_site s10 (SiteEvent.Inside 1 (Event.Grab 1)) s11
+  step11 = ((λ h. h), record { state = hub6; outs = []; step = ([], hub_grabs_again, refl); after = refl })
+
+  step12 : SiteStep example_site s11 (SiteEvent.Inside 1 (Event.Done 1)) s12
+  step12 = ((λ h. h), record { state = hub7; outs = _; step = (1, node 1 1 1, hub_copies, refl); after = refl })
+
+  step13 : SiteStep example_site s12 (SiteEvent.TakeFrom mirror_input 0 copying 0) s13
+  step13 = record {
+    leads = refl;
+    before = [];
+    tag = 1;
+    behind = [];
+    on_link = refl;
+    stands = refl;
+    copy = at_hub;
+    is = refl;
+    takes = record {
+      node = node 0 1 2;
+      message = refl;
+      tag = refl;
+      step = record { state = mirror1; outs = []; step = (false, mirror_takes, refl); after = refl };
+    };
+  }
+
+  step14 : SiteStep example_site s13 (SiteEvent.Inside 2 (Event.Enter 0 0)) s14
+  step14 = ((λ h. h), record { state = mirror2; outs = []; step = (node 0 1 2, mirror_enters, refl); after = refl })
+
+  step15 : SiteStep example_site s14 (SiteEvent.Inside 2 (Event.Grab 0)) s15
+  step15 = ((λ h. h), record { state = mirror3; outs = []; step = ([], mirror_grabs, refl); after = refl })
+
+  step16 : SiteStep example_site s15 (SiteEvent.Inside 2 (Event.GiveUp 0 false)) s16
+  step16 = ((λ h. h), record { state = mirror4; outs = _; step = (0, node 0 1 2, mirror_gives_up, refl); after = refl })
+
+  later : SiteSteps example_site s8 (drop 8 (example_events class)) s16
+  later = (s9, step9, (s10, step10, (s11, step11, (s12, step12, (s13, step13, (s14, step14, (s15, step15, (s16, step16, refl))))))))
+
+  pub example_run : Runs example_site (example_events class) s16
+  example_run = (s1, step1, (s2, step2, (s3, step3, (s4, step4, (s5, step5, (s6, step6, (s7, step7, (s8, step8, later))))))))

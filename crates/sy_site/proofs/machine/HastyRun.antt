@@ -60,7 +60,7 @@ module _ (class : Class) where
   }
 
   abbrev pub copy : Copy
-  copy = record { number = 0; message = example_message class; origin = edge_input; trail = 0 ∷ [] }
+  copy = record { number = 0; message = example_message class; origin = edge_input; trail = 0 ∷ []; flag = false }
 
   abbrev s0 : SiteState
   s0 = opening hasty_site
@@ -84,7 +84,7 @@ module _ (class : Class) where
   s4 = record s3 {
     relays = with_relay s3.relays 0 r4;
     passed = with_passed s3.passed up (0 ∷ []);
-    losses = record { copy = 0; relay = 0; cause = Cause.GiveUp 0 } ∷ [];
+    losses = record { copy = 0; relay = 0; list = 1; cause = Cause.GiveUp 0 } ∷ [];
   }
 
   step1 : SiteStep hasty_site s0 (SiteEvent.TakeNew edge_input 0 (example_message class)) s1
@@ -110,7 +110,8 @@ module _ (class : Class) where
     tag = 0;
     there = (0, omega arith, refl);
     copy = record { copy = copy; is = refl; numbered = refl };
-    heads = writes 0 (record { number = 0; member = refl; found = refl }) refl;
+    plain = refl;
+    heads = writes 0 (record { number = 0; member = refl; found = refl; firm = refl }) refl;
   }))
 
   abbrev arrival : Arrival

@@ -15,8 +15,8 @@ use Rattle.sy_board.specs.relay.Cells.{IsShaped, RelayState, at, hand}
 use Rattle.sy_board.specs.relay.Plans.{occurrences_at}
 use Rattle.sy_board.specs.relay.Steps.{Cause, Event, IsOfInput, Out, Step, Takes, if_so}
 use Rattle.sy_board.proofs.relay.There.{hand_there}
-use Rattle.sy_site.specs.Sites.{Site, SiteInput, SiteAction, plan_at, same_action, target}
-use Rattle.sy_site.specs.machine.States.{Copy, Loss, SiteState, copy_of_new, put_outs, taken_by, with_passed, with_relay}
+use Rattle.sy_site.specs.Sites.{Site, SiteInput, SiteAction, does_spare, is_spare, is_spare_list, plan_at, same_action, target}
+use Rattle.sy_site.specs.machine.States.{Copy, Loss, SiteState, copy_of_new, is_flagged_at, is_flagged_loss, loses_spare, off_link, put_outs, taken_by, with_passed, with_relay}
 use Rattle.sy_site.specs.machine.Steps.{RelaySteps, SiteEvent, SiteStep, TakesCopy}
 use Rattle.sy_site.specs.machine.Reach.{list_of}
 use Rattle.sy_site.specs.machine.Lawful.{IsLawful}
@@ -25,8 +25,9 @@ use Rattle.sy_board.proofs.relay.Keeps.{Each, Owes, each_left, each_right}
 use Rattle.sy_site.proofs.machine.Lawful.{whole_at}
 use Rattle.sy_site.proofs.machine.Marks.{relay_elim}
 use Rattle.sy_site.proofs.machine.Naming.{AllShaped}
+use Rattle.sy_site.proofs.machine.Spares.{both_false, firm_list}
 use Rattle.sy_site.proofs.machine.Spread.{action_elim, get_last, get_more, some_same}
-use Rattle.sy_site.proofs.machine.Stays.{Fitting, Held, Keeps, NotLost, PassedOn, SomeOf, put_here, some_left, some_right, stays}
+use Rattle.sy_site.proofs.machine.Stays.{ByCause, Fitting, Held, Keeps, NotLost, PassedOn, SomeOf, put_here, some_left, some_right, stays}
 
 some_split : {A : Type 0} (P : A → Type 0) (xs ys : List A) → SomeOf P (xs ++ ys) → SomeOf P xs ⊎ SomeOf P ys
 some_split P [] ys h = inr h
@@ -71,12 +72,14 @@ fitting site law r old e new outs shaped st = record { whole = whole_at site law
 
 -- ---- one message and one archive
 
--- the tag names a copy of this number, and of this message
+-- the tag names a copy of this number, and of this message,
 pub record IsCopied (copies : List Copy) (n : ℕ) (m : Said) (tag : ℕ) : Type 0 where
   pub copy : Copy
   pub is : slice_get copies tag ≡ Some copy
   pub number : copy.number ≡ n
   pub message : copy.message ≡ m
+  -- and it wasn't taken flagged
+  pub plain : copy.flag ≡ false
 
 module _ (site : Site) (archive : SiteAction) (n : ℕ) (m : Said) where
   -- the occurrence, once dealt with, writes the message to the archive, or the message heads there from elsewhere
@@ -86,12 +89,12 @@ module _ (site : Site) (archive : SiteAction) (n : ℕ) (m : Said) where
   Through r (occurrence.Post l) = Heads site archive m r l Left.All
 
   pub heads_by : (r l due : ℕ) → Heads site archive m r l (Left.StillDue due)
-      → (o : Occurrence) × HasLeft (plan_at site r) l m (Left.StillDue due) o × Through r o
+      → (o : Occurrence) × HasLeft site r l m (Left.StillDue due) o × Through r o
   heads_by r l due (writes a h e) = (occurrence.Run a, h, inl e)
   heads_by r l due (forwards a p h t k) = (occurrence.Run a, h, inr (p, t, k))
   heads_by r l due (posts j h k) = (occurrence.Post j, h, k)
 
-  pub heads_from : (r l due : ℕ) (o : Occurrence) → HasLeft (plan_at site r) l m (Left.StillDue due) o → Through r o
+  pub heads_from : (r l due : ℕ) (o : Occurrence) → HasLeft site r l m (Left.StillDue due) o → Through r o
       → Heads site archive m r l (Left.StillDue due)
   heads_from r l due (occurrence.Run a) h (inl e) = writes a h e
   heads_from r l due (occurrence.Run a) h (inr k) = forwards a k.0 h k.1 k.2
@@ -100,9 +103,9 @@ module _ (site : Site) (archive : SiteAction) (n : ℕ) (m : Said) where
   -- the whole work, once its bits are due
   whole_due : (r l due : ℕ) → ((k : ℕ) → Due (body_at (plan_at site r) l) m k → bit_at due k ≡ 1) → Heads site archive m r l Left.All
       → Heads site archive m r l (Left.StillDue due)
-  whole_due r l due all (writes a h e) = writes a (record { number = h.number; member = all h.number h.member; found = h.found }) e
-  whole_due r l due all (forwards a p h t k) = forwards a p (record { number = h.number; member = all h.number h.member; found = h.found }) t k
-  whole_due r l due all (posts j h k) = posts j (record { number = h.number; member = all h.number h.member; found = h.found }) k
+  whole_due r l due all (writes a h e) = writes a (record { number = h.number; member = all h.number h.member; found = h.found; firm = h.firm }) e
+  whole_due r l due all (forwards a p h t k) = forwards a p (record { number = h.number; member = all h.number h.member; found = h.found; firm = h.firm }) t k
+  whole_due r l due all (posts j h k) = posts j (record { number = h.number; member = all h.number h.member; found = h.found; firm = h.firm }) k
 
   -- an entry of the message that heads for the archive
   pub record IsHeading (copies : List Copy) (r : ℕ) (e : Entry) : Type 0 where
@@ -114,18 +117,22 @@ module _ (site : Site) (archive : SiteAction) (n : ℕ) (m : Said) where
     pub copy : IsCopied copies n m e.tag
     pub message : e.message ≡ m
     pub through : Through r o
+    pub firm : does_spare site r o ≡ false
 
-  -- a copy on this device is written, or heads for the archive from the link's end
+  -- a copy on this device, which isn't spare, is written, or heads for the archive from the link's end
   abbrev pub IsSent : List Copy → SiteAction → ℕ → Type 0
-  IsSent copies d tag = IsCopied copies n m tag
+  IsSent copies d tag = IsCopied copies n m tag × (is_spare site d ≡ false)
       × ((d ≡ archive) ⊎ ((p : SiteInput) × (target site d ≡ Some p) × Heads site archive m p.relay (list_of site p) Left.All))
 
   abbrev pub Met : SiteState → Type 0
   Met s = ((r : ℕ) × Held (IsHeading s.copies r) (s.relays r)) ⊎ ((d : SiteAction) × SomeOf (IsSent s.copies d) (s.passed d))
 
-  -- no copy of this number is lost
+  -- no copy of this number is lost, but flagged ones
+  abbrev pub NotIts : List Copy → Loss → Type 0
+  NotIts copies l = (c : IsCopied copies n m l.copy) → is_flagged_loss site l c.copy ≡ false → ⊥
+
   abbrev pub NoLoss : SiteState → Type 0
-  NoLoss s = Each (λ (l : Loss). IsCopied s.copies n m l.copy → ⊥) s.losses
+  NoLoss s = Each (NotIts s.copies) s.losses
 
   heading_keeps : (copies : List Copy) (r : ℕ) → Keeps (plan_at site r) (IsHeading copies r) (GoesBy copies r)
   heading_keeps copies r = record {
@@ -148,19 +155,25 @@ module _ (site : Site) (archive : SiteAction) (n : ℕ) (m : Said) where
     where
       go : (copies : List Copy) (r : ℕ) (e : Entry) (o : Occurrence) (left : ℕ) (owes : Owes (plan_at site r) e o)
           → IsLowest e.due owes.number left → IsHeading copies r e
-          → (x : Occurrence) (i : HasLeft (plan_at site r) e.list m (Left.StillDue e.due) x) → Through r x → (t : Bool) →
+          → (x : Occurrence) (i : HasLeft site r e.list m (Left.StillDue e.due) x) → Through r x → (t : Bool) →
           (i.number == owes.number) ≡ t
           → IsHeading copies r (record e { due = left }) ⊎ GoesBy copies r e o
       go copies r e o left owes low q x i k true same =
           let a : slice_get (occurrences_at (plan_at site r) e.list) owes.number ≡ Some x = subst
           (λ z. slice_get (occurrences_at (plan_at site r) e.list) z ≡ Some x) (eqb-true i.number owes.number same) i.found in
-          inr (record { copy = q.copy; message = q.message; through = subst (Through r) (some_same (sym a ∙ owes.is)) k })
+          let same = some_same (sym a ∙ owes.is) in
+          inr (record {
+            copy = q.copy;
+            message = q.message;
+            through = subst (Through r) same k;
+            firm = subst (λ z. does_spare site r z ≡ false) same i.firm;
+          })
       go copies r e o left owes low q x i k false other =
           inl (record {
             copy = q.copy;
             message = q.message;
             heads = heads_from r e.list left x
-                (record { number = i.number; member = low.others i.number (eqb-false i.number owes.number other) ∙ i.member; found = i.found }) k;
+                (record { number = i.number; member = low.others i.number (eqb-false i.number owes.number other) ∙ i.member; found = i.found; firm = i.firm }) k;
           })
 
   -- ---- what leaves a relay
@@ -168,16 +181,37 @@ module _ (site : Site) (archive : SiteAction) (n : ℕ) (m : Said) where
   abbrev Safely : SiteState → ℕ → Out → Type 0
   Safely s r = NotLost (plan_at site r) (IsHeading s.copies r) (GoesBy s.copies r)
 
+  -- an entry that heads isn't flagged
+  pub heading_plain : (copies : List Copy) (r : ℕ) (e : Entry) → (q : IsHeading copies r e) → is_flagged_at site r e.list q.copy.copy ≡ false
+  heading_plain copies r e q =
+      let b = heads_by r e.list e.due q.heads in
+      both_false q.copy.copy.flag (is_spare_list site r e.list) q.copy.plain (firm_list site r e.list b.1.number b.0 b.1.found b.1.firm)
+
+  cause_plain : (copies : List Copy) (r : ℕ) (e : Entry) (cause : Cause)
+      → ByCause (plan_at site r) (IsHeading copies r) (GoesBy copies r) e cause → loses_spare site r cause ≡ false
+  cause_plain copies r e Cause.Take by = refl
+  cause_plain copies r e Cause.Expire by = refl
+  cause_plain copies r e Cause.Grab by = refl
+  cause_plain copies r e (Cause.GiveUp action) by = by.firm
+  cause_plain copies r e (Cause.Post list) by = by.firm
+  cause_plain copies r e (Cause.PostLost list) by = by.firm
+
   put_outs_safe : (s : SiteState) (r : ℕ) (outs : List Out) → NoLoss (put_outs s r outs) → NoLoss s × Each (Safely s r) outs
   put_outs_safe s r [] a = (a, tt)
   put_outs_safe s r (Out.Passed x e ∷ outs) a =
       let d : SiteAction = record { relay = r; action = x } in
       let f = put_outs_safe (record s { passed = with_passed s.passed d (s.passed d ++ e.tag ∷ []) }) r outs a in (f.0, (tt, f.1))
   put_outs_safe s r (Out.Lost cause e ∷ outs) a =
-      let l : Loss = record { copy = e.tag; relay = r; cause = cause } in
+      let l : Loss = record { copy = e.tag; relay = r; list = e.list; cause = cause } in
       let f = put_outs_safe (record s { losses = s.losses ++ l ∷ [] }) r outs a in
-      let g = each_right (λ (l : Loss). IsCopied s.copies n m l.copy → ⊥) s.losses (l ∷ []) f.0 in
-      (each_left (λ (l : Loss). IsCopied s.copies n m l.copy → ⊥) s.losses (l ∷ []) f.0, ((λ q. g.0 q.copy), f.1))
+      let g = each_right (NotIts s.copies) s.losses (l ∷ []) f.0 in (
+        each_left (NotIts s.copies) s.losses (l ∷ []) f.0,
+        (
+          (λ q by. g.0 q.copy (both_false (is_flagged_at site r e.list q.copy.copy) (loses_spare site r cause) (heading_plain s.copies r e q)
+              (cause_plain s.copies r e cause by))),
+          f.1,
+        ),
+      )
 
   put_outs_met : (s : SiteState) (r : ℕ) (outs : List Out)
       → Met s ⊎ SomeOf (PassedOn (plan_at site r) (IsHeading s.copies r) (GoesBy s.copies r)) outs → Met (put_outs s r outs)
@@ -195,12 +229,12 @@ module _ (site : Site) (archive : SiteAction) (n : ℕ) (m : Said) where
               (λ w. here (some_left (IsSent s.copies d) (s.passed d) (e.tag ∷ []) w)) z.0 z.1
         ])
         | inr k ↦ elim k [
-          | inl g ↦ inl (here (some_right (IsSent s.copies d) (s.passed d) (e.tag ∷ []) (inl (g.copy, g.through))))
+          | inl g ↦ inl (here (some_right (IsSent s.copies d) (s.passed d) (e.tag ∷ []) (inl (g.copy, g.firm, g.through))))
           | inr more ↦ inr (more)
         ]
       ])
   put_outs_met s r (Out.Lost cause e ∷ outs) h =
-      let new : SiteState = record s { losses = s.losses ++ record { copy = e.tag; relay = r; cause = cause } ∷ [] } in
+      let new : SiteState = record s { losses = s.losses ++ record { copy = e.tag; relay = r; list = e.list; cause = cause } ∷ [] } in
       put_outs_met new r outs (elim h [ inl k ↦ inl k | inr k ↦ elim k [ inl none ↦ absurd none | inr more ↦ inr more ] ])
 
   -- ---- the steps of a site
@@ -226,7 +260,7 @@ module _ (site : Site) (archive : SiteAction) (n : ℕ) (m : Said) where
       ]))
 
   copy_more : (s : SiteState) (c : Copy) (tag : ℕ) → IsCopied s.copies n m tag → IsCopied (s.copies ++ c ∷ []) n m tag
-  copy_more s c tag k = record { copy = k.copy; is = get_more s.copies tag k.copy c k.is; number = k.number; message = k.message }
+  copy_more s c tag k = record { copy = k.copy; is = get_more s.copies tag k.copy c k.is; number = k.number; message = k.message; plain = k.plain }
 
   more_met : (s : SiteState) (c : Copy) → Met s → Met (record s { copies = s.copies ++ c ∷ [] })
   more_met s c (inl h) = inl (
@@ -237,7 +271,7 @@ module _ (site : Site) (archive : SiteAction) (n : ℕ) (m : Said) where
           (at (s.relays h.0) h.1.0) h.1.1,
     ),
   )
-  more_met s c (inr h) = inr (h.0, some_weaker _ _ (λ t k. (copy_more s c t k.0, k.1)) (s.passed h.0) h.1)
+  more_met s c (inr h) = inr (h.0, some_weaker _ _ (λ t k. (copy_more s c t k.0, k.1, k.2)) (s.passed h.0) h.1)
 
   arrives_met : (law : IsLawful site) (s : SiteState) (to : SiteInput) (h : ℕ) (c : Copy) (new : SiteState) → AllShaped site s.relays → NoLoss new
       → Met s → TakesCopy site s to h c new → Met new
@@ -247,9 +281,9 @@ module _ (site : Site) (archive : SiteAction) (n : ℕ) (m : Said) where
 
   -- a copy that heads for the archive is held once it came
   pub arrives_new : (s : SiteState) (to : SiteInput) (h : ℕ) (c : Copy) (new : SiteState) → AllShaped site s.relays → NoLoss new → c.number ≡ n
-      → c.message ≡ m
+      → c.message ≡ m → c.flag ≡ false
       → Heads site archive m to.relay (list_of site to) Left.All → TakesCopy site s to h c new → Met new
-  arrives_new s to h c new sized safe number message heads st = go st.step.step.0 st.step.step.1 st.step.step.2
+  arrives_new s to h c new sized safe number message plain heads st = go st.step.step.0 st.step.step.1 st.step.step.2
     where
       mid : SiteState
       mid = record s { copies = s.copies ++ taken_by to.relay c ∷ [] }
@@ -261,6 +295,7 @@ module _ (site : Site) (archive : SiteAction) (n : ℕ) (m : Said) where
             (sym st.tag) (get_last s.copies (taken_by to.relay c));
         number = number;
         message = message;
+        plain = plain;
       }
 
       is_m : st.node.message ≡ m
@@ -290,21 +325,23 @@ module _ (site : Site) (archive : SiteAction) (n : ℕ) (m : Said) where
         where
           held : (b : Bool) → Takes (plan_at site to.relay) (s.relays to.relay) to.input h st.node b st.step.state
               → Each (Safely mid to.relay) (if_so b (Out.Lost Cause.Take st.node)) → Held (IsHeading mid.copies to.relay) st.step.state
-          held true takes none = absurd (none.0 (heading takes.made))
+          held true takes none = absurd (none.0 (heading takes.made) tt)
           held false takes none = subst (Held (IsHeading mid.copies to.relay)) (sym takes.after)
               (put_here (IsHeading mid.copies to.relay) (s.relays to.relay) (hand to.input h) (st.node ∷ [])
               (hand_there (plan_at site to.relay) (s.relays to.relay) to.input h (sized to.relay) takes.there) (inl (heading takes.made)))
 
   -- the copy that stood on the link
-  off_link : (s : SiteState) (link : SiteAction) (to : SiteInput) (h tag : ℕ) (c : Copy) (new : SiteState) → AllShaped site s.relays
+  leaves_link : (s : SiteState) (link : SiteAction) (to : SiteInput) (h tag : ℕ) (c : Copy) (new : SiteState) → AllShaped site s.relays
       → target site archive ≡ None → target site link ≡ Some to
-      → slice_get s.copies tag ≡ Some c → NoLoss new → IsSent s.copies link tag → TakesCopy site s to h c new → Met new
-  off_link s link to h tag c new sized file leads is safe (copy, inl e) st = let k : target site link ≡ None = subst (λ z. target site z ≡ None)
+      → slice_get s.copies tag ≡ Some c → NoLoss new → IsSent s.copies link tag → TakesCopy site s to h (off_link site link c) new → Met new
+  leaves_link s link to h tag c new sized file leads is safe (copy, plain, inl e) st = let k : target site link ≡ None = subst (λ z. target site z ≡ None)
       (sym e) file in absurd (cc)
-  off_link s link to h tag c new sized file leads is safe (copy, inr (p, t, k)) st =
+  leaves_link s link to h tag c new sized file leads is safe (copy, plain, inr (p, t, k)) st =
       let e : p ≡ to = some_same (sym t ∙ leads) in
       let f : copy.copy ≡ c = some_same (sym copy.is ∙ is) in
-      arrives_new s to h c new sized safe (subst (λ (z : Copy). z.number ≡ n) f copy.number) (subst (λ (z : Copy). z.message ≡ m) f copy.message)
+      arrives_new s to h (off_link site link c) new sized safe (subst (λ (z : Copy). z.number ≡ n) f copy.number)
+      (subst (λ (z : Copy). z.message ≡ m) f copy.message)
+      (both_false c.flag (is_spare site link) (subst (λ (z : Copy). z.flag ≡ false) f copy.plain) plain)
       (subst (λ (z : SiteInput). Heads site archive m z.relay (list_of site z) Left.All) e k) st
 
   pub met_step : (law : IsLawful site) (s : SiteState) (e : SiteEvent) (new : SiteState) → AllShaped site s.relays → target site archive ≡ None
@@ -314,17 +351,17 @@ module _ (site : Site) (archive : SiteAction) (n : ℕ) (m : Said) where
   met_step law s (SiteEvent.TakeFrom to h link place) new sized file safe met st =
       let v = st.before ++ st.behind in
       let mid : SiteState = record s { passed = with_passed s.passed link v } in
-      let here : SomeOf (IsSent s.copies link) v → Met new = λ k. arrives_met law mid to h st.copy new sized safe
+      let here : SomeOf (IsSent s.copies link) v → Met new = λ k. arrives_met law mid to h (off_link site link st.copy) new sized safe
       (inr (link, subst (SomeOf (IsSent s.copies link)) (sym (with_device_here s.passed link v)) k)) st.takes in
       elim met [
-        | inl z ↦ arrives_met law mid to h st.copy new sized safe (inl z) st.takes
+        | inl z ↦ arrives_met law mid to h (off_link site link st.copy) new sized safe (inl z) st.takes
         | inr z ↦ some_device (λ y. SomeOf (IsSent s.copies y)) s.passed link v (Met new)
-            (λ y w. arrives_met law mid to h st.copy new sized safe (inr (y, w)) st.takes)
+            (λ y w. arrives_met law mid to h (off_link site link st.copy) new sized safe (inr (y, w)) st.takes)
             (λ w.
             elim (some_split (IsSent s.copies link) st.before (st.tag ∷ st.behind) (subst (SomeOf (IsSent s.copies link)) st.on_link w)) [
               | inl y ↦ here (some_left (IsSent s.copies link) st.before st.behind y)
               | inr y ↦ elim y [
-                | inl sent ↦ off_link mid link to h st.tag st.copy new sized file st.leads st.is safe sent st.takes
+                | inl sent ↦ leaves_link mid link to h st.tag st.copy new sized file st.leads st.is safe sent st.takes
                 | inr y ↦ here (some_right (IsSent s.copies link) st.before st.behind y)
               ]
             ])

@@ -21,7 +21,7 @@ put_outs_relays s r (Out.Passed a e ∷ outs) =
     let d : SiteAction = record { relay = r; action = a } in
     put_outs_relays (record s { passed = with_passed s.passed d (s.passed d ++ e.tag ∷ []) }) r outs
 put_outs_relays s r (Out.Lost cause e ∷ outs) =
-    put_outs_relays (record s { losses = s.losses ++ record { copy = e.tag; relay = r; cause = cause } ∷ [] }) r outs
+    put_outs_relays (record s { losses = s.losses ++ record { copy = e.tag; relay = r; list = e.list; cause = cause } ∷ [] }) r outs
 
 module _ (site : Site) where
   abbrev pub AllMarks : (ℕ → RelayState) → Type 0

@@ -8,7 +8,7 @@ use Rattle.sy_board.specs.relay.Cells.{Cell, IsShaped, RelayState}
 use Rattle.sy_board.specs.relay.Steps.{Cause, Event, Out}
 use Rattle.sy_board.proofs.relay.Shapes.{shape_step}
 use Rattle.sy_site.specs.Sites.{Site, SiteInput, SiteAction, plan_at}
-use Rattle.sy_site.specs.machine.States.{Arrival, Copy, SiteState, copy_of_new, opening, put_outs, taken_by, with_passed, with_relay}
+use Rattle.sy_site.specs.machine.States.{Arrival, Copy, SiteState, copy_of_new, off_link, opening, put_outs, taken_by, with_passed, with_relay}
 use Rattle.sy_site.specs.machine.Steps.{RelaySteps, Runs, SiteEvent, SiteStep, SiteSteps, TakesCopy}
 use Rattle.sy_site.specs.machine.Naming.{AreShaped, NumbersName, TagsName}
 use Rattle.sy_board.proofs.relay.Keeps.{Each, Kept}
@@ -29,7 +29,7 @@ put_outs_copies s r (Out.Passed a e ∷ outs) =
     let d : SiteAction = record { relay = r; action = a } in
     put_outs_copies (record s { passed = with_passed s.passed d (s.passed d ++ e.tag ∷ []) }) r outs
 put_outs_copies s r (Out.Lost cause e ∷ outs) =
-    put_outs_copies (record s { losses = s.losses ++ record { copy = e.tag; relay = r; cause = cause } ∷ [] }) r outs
+    put_outs_copies (record s { losses = s.losses ++ record { copy = e.tag; relay = r; list = e.list; cause = cause } ∷ [] }) r outs
 
 put_outs_arrivals : (s : SiteState) (r : ℕ) (outs : List Out) → (put_outs s r outs).arrivals ≡ s.arrivals
 put_outs_arrivals s r [] = refl
@@ -37,7 +37,7 @@ put_outs_arrivals s r (Out.Passed a e ∷ outs) =
     let d : SiteAction = record { relay = r; action = a } in
     put_outs_arrivals (record s { passed = with_passed s.passed d (s.passed d ++ e.tag ∷ []) }) r outs
 put_outs_arrivals s r (Out.Lost cause e ∷ outs) =
-    put_outs_arrivals (record s { losses = s.losses ++ record { copy = e.tag; relay = r; cause = cause } ∷ [] }) r outs
+    put_outs_arrivals (record s { losses = s.losses ++ record { copy = e.tag; relay = r; list = e.list; cause = cause } ∷ [] }) r outs
 
 -- what holds of each element, at one that the list contains
 pub each_in : {A : Type 0} (P : A → Type 0) (xs : List A) → Each P xs → (x : A) → Contains xs x → P x
@@ -76,7 +76,7 @@ module _ (site : Site) where
       copy_named (record s { arrivals = s.arrivals ++ x ∷ [] }) to h (copy_of_new s to m) new
       (λ t c e. get_more s.arrivals c.number _ x (a t c e)) (get_last s.arrivals x) st
   named_step s (SiteEvent.TakeFrom to h link place) new a st =
-      copy_named (record s { passed = with_passed s.passed link (st.before ++ st.behind) }) to h st.copy new a (a st.tag st.copy st.is) st.takes
+      copy_named (record s { passed = with_passed s.passed link (st.before ++ st.behind) }) to h (off_link site link st.copy) new a (a st.tag st.copy st.is) st.takes
   named_step s (SiteEvent.Inside r event) new a st =
       λ t x e. subst (λ z. slice_get z x.number ≡ Some (record { message = x.message; origin = x.origin })) (sym (relay_arrivals s r event new st.1))
       (a t x (subst (λ z. slice_get z t ≡ Some x) (relay_copies s r event new st.1) e))
@@ -96,8 +96,8 @@ module _ (site : Site) where
   abbrev D : SiteAction → Copy → Type 0
   D d x = Unit {0}
 
-  abbrev L : ℕ → Cause → Copy → Type 0
-  L r cause x = Unit {0}
+  abbrev L : ℕ → ℕ → Cause → Copy → Type 0
+  L r l cause x = Unit {0}
 
   abbrev G : ℕ → RelayState → Type 0
   G r state = Unit {0}
@@ -124,7 +124,7 @@ module _ (site : Site) where
   tags_grow = record {
     of_entry = λ t a r x c e p. p;
     of_copy = λ t a d x p. tt;
-    of_loss = λ t a r cause x p. tt;
+    of_loss = λ t a r l cause x p. tt;
     comes = λ t to h m node there made is. is;
   }
 

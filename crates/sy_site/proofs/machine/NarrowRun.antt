@@ -1,5 +1,6 @@
 -- A run with the steps by which messages are lost, and a post.
 use Rattle.std.proofs.Common.{ℕ, false, [], ◌∷◌, ◌++◌, refl, arith, inr}
+use Rattle.std.specs.Prelude.{drop}
 use Rattle.sy_wire.specs.declared.class.Class.{Class}
 use Rattle.sy_chain.specs.Entries.{Entry}
 use Rattle.sy_rules.specs.declared.lists.occurrence.Occurrence.TheVariants as occurrence
@@ -7,7 +8,7 @@ use Rattle.sy_board.specs.relay.Cells as cells
 use Rattle.sy_board.specs.relay.Cells.{Cell, RelayState, put, put_failures, hand}
 use Rattle.sy_board.specs.relay.Steps.{Cause, Enters, Event, Expires, Fails, GivesUp, Grabs, Job, LosesPost, Posts, Takes}
 use Rattle.sy_site.specs.machine.States.{Copy, SiteState, opening, with_relay}
-use Rattle.sy_site.specs.machine.Steps.{Runs, SiteEvent, SiteStep}
+use Rattle.sy_site.specs.machine.Steps.{Runs, SiteEvent, SiteStep, SiteSteps}
 use Rattle.sy_site.specs.machine.Examples.{edge_input, example_message, narrow_events, narrow_plan, narrow_site}
 use Rattle.sy_site.proofs.machine.ExampleRun.{first_due, lowest}
 
@@ -157,8 +158,8 @@ module _ (class : Class) where
   abbrev pub on : SiteState → RelayState → SiteState
   on s state = record s { relays = with_relay s.relays 0 state }
 
-  abbrev copy : ℕ → Copy
-  copy number = record { number = number; message = example_message class; origin = edge_input; trail = 0 ∷ [] }
+  abbrev pub copy : ℕ → Copy
+  copy number = record { number = number; message = example_message class; origin = edge_input; trail = 0 ∷ []; flag = false }
 
   abbrev pub with_new : SiteState → RelayState → ℕ → SiteState
   with_new s state number = record s {
@@ -167,8 +168,8 @@ module _ (class : Class) where
     arrivals = s.arrivals ++ record { message = example_message class; origin = edge_input } ∷ [];
   }
 
-  abbrev with_loss : SiteState → ℕ → Cause → SiteState
-  with_loss s tag cause = record s { losses = s.losses ++ record { copy = tag; relay = 0; cause = cause } ∷ [] }
+  abbrev with_loss : SiteState → ℕ → ℕ → Cause → SiteState
+  with_loss s tag list cause = record s { losses = s.losses ++ record { copy = tag; relay = 0; list = list; cause = cause } ∷ [] }
 
   abbrev pub s0 : SiteState
   s0 = opening narrow_site
@@ -183,7 +184,7 @@ module _ (class : Class) where
   s3 = with_new s2 r3 1
 
   abbrev pub s4 : SiteState
-  s4 = with_loss (on s3 r4) 1 Cause.Expire
+  s4 = with_loss (on s3 r4) 1 0 Cause.Expire
 
   abbrev pub s5 : SiteState
   s5 = on s4 r5
@@ -201,7 +202,7 @@ module _ (class : Class) where
   s9 = on s8 r9
 
   abbrev pub s10 : SiteState
-  s10 = with_loss (on s9 r10) 2 (Cause.PostLost 1)
+  s10 = with_loss (on s9 r10) 2 0 (Cause.PostLost 1)
 
   abbrev pub s11 : SiteState
   s11 = on s10 r11
@@ -210,7 +211,7 @@ module _ (class : Class) where
   s12 = on s11 r12
 
   abbrev pub s13 : SiteState
-  s13 = with_loss (on s12 r13) 0 (Cause.GiveUp 0)
+  s13 = with_loss (on s12 r13) 0 1 (Cause.GiveUp 0)
 
   pub step1 : SiteStep narrow_site s0 (SiteEvent.TakeNew edge_input 0 (example_message class)) s1
   step1 = record { node = node 0 0; message = refl; tag = refl; step = record { state = r1; outs = []; step = (false, takes1, refl); after = refl } }
@@ -251,48 +252,8 @@ module _ (class : Class) where
   pub step13 : SiteStep narrow_site s12 (SiteEvent.Inside 0 (Event.GiveUp 1 false)) s13
   step13 = ((λ h. h), record { state = r13; outs = _; step = (0, node 1 0, gives13, refl); after = refl })
 
-  pub narrow_run : (state : SiteState) × Runs narrow_site (narrow_events class) state
-  narrow_run = (
-    s13,
-    (
-      s1,
-      step1,
-      (
-        s2,
-        step2,
-        (
-          s3,
-          step3,
-          (
-            s4,
-            step4,
-            (
-              s5,
-              step5,
-              (
-                s6,
-                step6,
-                (
-                  s7,
-                  step7,
-                  (
-                    s8,
-                    step8,
-                    (
-                      s9,
-                      step9,
-                      (
-                        s10,
-                        step10,
-                        (s11, step11, (s12, step12, (s13, step13, refl))),
-                      ),
-                    ),
-                  ),
-                ),
-              ),
-            ),
-          ),
-        ),
-      ),
-    ),
-  )
+  later : SiteSteps narrow_site s7 (drop 7 (narrow_events class)) s13
+  later = (s8, step8, (s9, step9, (s10, step10, (s11, step11, (s12, step12, (s13, step13, refl))))))
+
+  pub narrow_run : Runs narrow_site (narrow_events class) s13
+  narrow_run = (s1, step1, (s2, step2, (s3, step3, (s4, step4, (s5, step5, (s6, step6, (s7, step7, later)))))))

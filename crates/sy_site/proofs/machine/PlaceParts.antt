@@ -1,26 +1,27 @@
--- What else holds of copies at inputs out of reach, of another list, and in another queue.
-use Rattle.std.proofs.Common.{◌≡◌, ℕ, ◌==◌, Bool, true, false, [], refl, sym, subst, arith}
+-- What else holds of copies of another list, and in another queue.
+use Rattle.std.proofs.Common.{◌≡◌, ℕ, ◌==◌, Bool, true, false, refl, sym, subst, arith}
 use Rattle.std.specs.Prelude.{◌≢◌}
 use Rattle.std.specs.Int.{bit_at}
-use Rattle.std.specs.List.{Contains}
 use Rattle.std.proofs.lemmas.Bool.{eqb-true}
 use Rattle.sy_wire.specs.declared.class.Class.{Class}
 use Rattle.sy_chain.specs.Entries.{Entry}
 use Rattle.sy_rules.specs.lists.Body.{Body}
+use Rattle.sy_rules.specs.lists.Work.{May}
+use Rattle.sy_rules.specs.Whole.{body_at}
 use Rattle.sy_rules.proofs.lemmas.lists.WorkLaws.{work_may}
-use Rattle.sy_board.specs.relay.Cells.{Cell, at, hand}
+use Rattle.sy_board.specs.relay.Cells.{Cell, at}
+use Rattle.sy_board.specs.relay.Spares.{Scope}
 use Rattle.sy_board.proofs.relay.Keeps.{Each}
-use Rattle.sy_site.specs.Sites.{SiteAction, plan_at, same_action}
-use Rattle.sy_site.specs.machine.Reach.{MayAt, Reach, entry, list_of}
+use Rattle.sy_site.specs.Sites.{plan_at}
+use Rattle.sy_site.specs.machine.Reach.{Reach, entry, list_of}
 use Rattle.sy_site.specs.machine.Confinement.{IsPlaceOf}
-use Rattle.sy_site.specs.machine.Examples.{edge_input, example_message, hub_input, up}
-use Rattle.sy_site.specs.machine.Counterexamples.{Bound, Bounds, OfHeld, changing_site, input_of, moving_site, posting_site}
+use Rattle.sy_site.specs.machine.Examples.{example_message}
+use Rattle.sy_site.specs.machine.Counterexamples.{Bound, Bounds, OfHeld, changing_site, input_of, moving_site}
 use Rattle.sy_site.proofs.machine.ExampleRun.{only_first}
 use Rattle.sy_site.proofs.machine.Naming.{each_in}
 use Rattle.sy_site.proofs.machine.Parts.{none_there, of_nothing, of_one_entry}
 use Rattle.sy_site.proofs.machine.ChangingRun as changing
 use Rattle.sy_site.proofs.machine.MovingRun as moving
-use Rattle.sy_site.proofs.machine.PostingRun as posting
 
 module _ (class : Class) where
   -- ---- in a queue that isn't the input's
@@ -35,17 +36,20 @@ module _ (class : Class) where
       go false e = rw e (of_nothing (plan_at moving_site relay) (P relay) cell)
 
   one_queue : (P : ℕ → Cell → Entry → Type 0) → P 0 (Cell.Queue 1) (moving.node class 1) → OfHeld moving_site class (moving.s4 class) P
-  one_queue P p relay cell e there copy followed =
+  one_queue P p relay cell e there copy followed plain =
       each_in (P relay cell) (at ((moving.s4 class).relays relay) cell) (held_queue P p relay cell) e there
 
   pub queue_others : (other : Bound) → other ≢ Bound.AtPlace → Bounds moving_site class (moving.s4 class) other
-  queue_others Bound.InReach differs = one_queue (λ relay cell e. Reach moving_site class (input_of relay e)) (entry (0, omega arith, refl))
+  queue_others Bound.InReach differs = one_queue (λ relay cell e. Reach moving_site class Scope.Firm (input_of relay e)) (entry (0, omega arith, refl))
   queue_others Bound.OnList differs = one_queue (λ relay cell e. e.list ≡ list_of moving_site (input_of relay e)) refl
-  queue_others Bound.MayRun differs = one_queue (λ relay cell e. (number : ℕ) → bit_at e.due number ≡ 1 → MayAt moving_site class (input_of relay e) number) (λ number set. subst (MayAt moving_site class edge_input) (sym (only_first number set)) (work_may (Body.Post 1 Body.End) (example_message class) class 0 refl refl))
+  queue_others Bound.MayRun differs = one_queue
+      (λ relay cell e. (number : ℕ) → bit_at e.due number ≡ 1 → May (body_at (plan_at moving_site relay) e.list) class number)
+      (λ number set. subst (May (Body.Post 1 Body.End) class) (sym (only_first number set))
+      (work_may (Body.Post 1 Body.End) (example_message class) class 0 refl refl))
   queue_others Bound.AtPlace differs = absurd (differs refl)
-  queue_others Bound.LinkLeads differs = λ link tag there copy followed forward. absurd (none_there tag there)
-  queue_others Bound.LinkInReach differs = λ link tag there copy followed forward. absurd (none_there tag there)
-  queue_others Bound.NoneLost differs = λ loss there copy followed. none_there loss there
+  queue_others Bound.LinkLeads differs = λ link tag there copy followed plain forward. absurd (none_there tag there)
+  queue_others Bound.LinkInReach differs = λ link tag there copy followed plain forward. absurd (none_there tag there)
+  queue_others Bound.NoneLost differs = λ loss there copy followed plain. none_there loss there
 
   -- ---- with a worker of that queue
 
@@ -59,17 +63,20 @@ module _ (class : Class) where
       go false e = rw e (of_nothing (plan_at moving_site relay) (P relay) cell)
 
   one_worker : (P : ℕ → Cell → Entry → Type 0) → P 0 (Cell.Worker 1) (moving.node class 1) → OfHeld moving_site class (moving.s5 class) P
-  one_worker P p relay cell e there copy followed =
+  one_worker P p relay cell e there copy followed plain =
       each_in (P relay cell) (at ((moving.s5 class).relays relay) cell) (held_worker P p relay cell) e there
 
   pub worker_others : (other : Bound) → other ≢ Bound.AtPlace → Bounds moving_site class (moving.s5 class) other
-  worker_others Bound.InReach differs = one_worker (λ relay cell e. Reach moving_site class (input_of relay e)) (entry (0, omega arith, refl))
+  worker_others Bound.InReach differs = one_worker (λ relay cell e. Reach moving_site class Scope.Firm (input_of relay e)) (entry (0, omega arith, refl))
   worker_others Bound.OnList differs = one_worker (λ relay cell e. e.list ≡ list_of moving_site (input_of relay e)) refl
-  worker_others Bound.MayRun differs = one_worker (λ relay cell e. (number : ℕ) → bit_at e.due number ≡ 1 → MayAt moving_site class (input_of relay e) number) (λ number set. subst (MayAt moving_site class edge_input) (sym (only_first number set)) (work_may (Body.Post 1 Body.End) (example_message class) class 0 refl refl))
+  worker_others Bound.MayRun differs = one_worker
+      (λ relay cell e. (number : ℕ) → bit_at e.due number ≡ 1 → May (body_at (plan_at moving_site relay) e.list) class number)
+      (λ number set. subst (May (Body.Post 1 Body.End) class) (sym (only_first number set))
+      (work_may (Body.Post 1 Body.End) (example_message class) class 0 refl refl))
   worker_others Bound.AtPlace differs = absurd (differs refl)
-  worker_others Bound.LinkLeads differs = λ link tag there copy followed forward. absurd (none_there tag there)
-  worker_others Bound.LinkInReach differs = λ link tag there copy followed forward. absurd (none_there tag there)
-  worker_others Bound.NoneLost differs = λ loss there copy followed. none_there loss there
+  worker_others Bound.LinkLeads differs = λ link tag there copy followed plain forward. absurd (none_there tag there)
+  worker_others Bound.LinkInReach differs = λ link tag there copy followed plain forward. absurd (none_there tag there)
+  worker_others Bound.NoneLost differs = λ loss there copy followed plain. none_there loss there
 
   -- ---- of another list
 
@@ -83,49 +90,17 @@ module _ (class : Class) where
       go false e = rw e (of_nothing (plan_at changing_site relay) (P relay) cell)
 
   one_list : (P : ℕ → Cell → Entry → Type 0) → P 0 (Cell.Queue 0) (changing.node class 1) → OfHeld changing_site class (changing.s4 class) P
-  one_list P p relay cell e there copy followed =
+  one_list P p relay cell e there copy followed plain =
       each_in (P relay cell) (at ((changing.s4 class).relays relay) cell) (held_list P p relay cell) e there
 
   pub list_others : (other : Bound) → other ≢ Bound.OnList → Bounds changing_site class (changing.s4 class) other
-  list_others Bound.InReach differs = one_list (λ relay cell e. Reach changing_site class (input_of relay e)) (entry (0, omega arith, refl))
+  list_others Bound.InReach differs = one_list (λ relay cell e. Reach changing_site class Scope.Firm (input_of relay e)) (entry (0, omega arith, refl))
   list_others Bound.OnList differs = absurd (differs refl)
-  list_others Bound.MayRun differs = one_list (λ relay cell e. (number : ℕ) → bit_at e.due number ≡ 1 → MayAt changing_site class (input_of relay e) number) (λ number set. subst (MayAt changing_site class edge_input) (sym (only_first number set)) (work_may (Body.Post 1 Body.End) (example_message class) class 0 refl refl))
+  list_others Bound.MayRun differs = one_list
+      (λ relay cell e. (number : ℕ) → bit_at e.due number ≡ 1 → May (body_at (plan_at changing_site relay) e.list) class number)
+      (λ number set. subst (May (Body.Run 0 Body.End) class) (sym (only_first number set))
+      (work_may (Body.Run 0 Body.End) (example_message class) class 0 refl refl))
   list_others Bound.AtPlace differs = one_list (λ relay cell e. IsPlaceOf (plan_at changing_site relay) cell e.input) refl
-  list_others Bound.LinkLeads differs = λ link tag there copy followed forward. absurd (none_there tag there)
-  list_others Bound.LinkInReach differs = λ link tag there copy followed forward. absurd (none_there tag there)
-  list_others Bound.NoneLost differs = λ loss there copy followed. none_there loss there
-
-  -- ---- at an input out of reach
-
-  held_hub : (P : ℕ → Cell → Entry → Type 0) → P 1 (hand 0 0) (posting.arrived class) → (relay : ℕ) (cell : Cell)
-      → Each (P relay cell) (at ((posting.s7 class).relays relay) cell)
-  held_hub P p relay cell = go (0 == relay) (1 == relay) refl refl
-    where
-      go : (a b : Bool) → (0 == relay) ≡ a → (1 == relay) ≡ b → Each (P relay cell) (at ((posting.s7 class).relays relay) cell)
-      go true b e f = subst (λ z. Each (P z cell) (at ((posting.s7 class).relays z) cell)) (eqb-true 0 relay e) (of_nothing (plan_at posting_site 0) (P 0) cell)
-      go false true e f = subst (λ z. Each (P z cell) (at ((posting.s7 class).relays z) cell)) (eqb-true 1 relay f)
-          (of_one_entry (plan_at posting_site 1) (P 1) (hand 0 0) (posting.arrived class) p cell)
-      go false false e f = rw (e, f) (of_nothing (plan_at posting_site relay) (P relay) cell)
-
-  one_hub : (P : ℕ → Cell → Entry → Type 0) → P 1 (hand 0 0) (posting.arrived class) → OfHeld posting_site class (posting.s7 class) P
-  one_hub P p relay cell e there copy followed =
-      each_in (P relay cell) (at ((posting.s7 class).relays relay) cell) (held_hub P p relay cell) e there
-
-  nothing_passed : (link : SiteAction) → (posting.s7 class).passed link ≡ []
-  nothing_passed link = go (same_action up link) refl
-    where
-      go : (b : Bool) → same_action up link ≡ b → (posting.s7 class).passed link ≡ []
-      go true e = rw e refl
-      go false e = rw e refl
-
-  pub hub_others : (other : Bound) → other ≢ Bound.InReach → Bounds posting_site class (posting.s7 class) other
-  hub_others Bound.InReach differs = absurd (differs refl)
-  hub_others Bound.OnList differs = one_hub (λ relay cell e. e.list ≡ list_of posting_site (input_of relay e)) refl
-  hub_others Bound.MayRun differs = one_hub (λ relay cell e. (number : ℕ) → bit_at e.due number ≡ 1 → MayAt posting_site class (input_of relay e) number)
-      (λ number set. subst (MayAt posting_site class hub_input) (sym (only_first number set)) (work_may (Body.Run 0 Body.End) (example_message class) class 0 refl refl))
-  hub_others Bound.AtPlace differs = one_hub (λ relay cell e. IsPlaceOf (plan_at posting_site relay) cell e.input) (0, omega arith, refl)
-  hub_others Bound.LinkLeads differs = λ link tag there copy followed forward.
-      absurd (none_there tag (subst (λ z. Contains z tag) (nothing_passed link) there))
-  hub_others Bound.LinkInReach differs = λ link tag there copy followed forward.
-      absurd (none_there tag (subst (λ z. Contains z tag) (nothing_passed link) there))
-  hub_others Bound.NoneLost differs = λ loss there copy followed. none_there loss there
+  list_others Bound.LinkLeads differs = λ link tag there copy followed plain forward. absurd (none_there tag there)
+  list_others Bound.LinkInReach differs = λ link tag there copy followed plain forward. absurd (none_there tag there)
+  list_others Bound.NoneLost differs = λ loss there copy followed plain. none_there loss there

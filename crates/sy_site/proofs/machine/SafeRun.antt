@@ -1,26 +1,29 @@
 -- Each run of a sound site ends in a safe state.
-use Rattle.std.proofs.Common.{◌≡◌, ℕ, true, List, [], ◌∷◌, ◌++◌, refl, sym, subst, ap, arith, inl, inr, Some}
+use Rattle.std.proofs.Common.{◌≡◌, ℕ, true, false, List, [], ◌∷◌, ◌++◌, refl, sym, subst, ap, arith, inl, inr, Some}
 use Rattle.std.specs.Prelude.{slice_get}
 use Rattle.std.specs.List.{Contains}
 use Rattle.sy_wire.specs.Messages.{Said}
+use Rattle.sy_rules.specs.declared.lists.occurrence.Occurrence.{Occurrence}
+use Rattle.sy_rules.specs.declared.lists.occurrence.Occurrence.TheVariants as occurrence
 use Rattle.sy_rules.proofs.lemmas.lists.WorkLaws.{must_work}
 use Rattle.sy_rules.specs.Whole.{body_at}
 use Rattle.sy_board.specs.relay.Cells.{at}
 use Rattle.sy_board.specs.relay.Steps.{Event}
-use Rattle.sy_site.specs.Sites.{Site, SiteInput, SiteAction, archives, is_protected, plan_at}
-use Rattle.sy_site.specs.machine.States.{Arrival, Copy, Loss, SiteState, copy_of_new, opening, taken_by}
+use Rattle.sy_site.specs.Sites.{Site, SiteInput, SiteAction, archives, is_protected, is_spare, plan_at}
+use Rattle.sy_site.specs.machine.States.{Arrival, Copy, SiteState, copy_of_new, opening, taken_by}
 use Rattle.sy_site.specs.machine.Steps.{Runs, SiteEvent, SiteStep, SiteSteps}
-use Rattle.sy_site.specs.machine.Reach.{LeadsTo, leads_on, list_of, writes}
+use Rattle.sy_site.specs.machine.Reach.{LeadsTo, MustDo, leads_on, list_of, writes}
 use Rattle.sy_site.specs.machine.Confinement.{IsFollowed}
 use Rattle.sy_site.specs.machine.Lawful.{IsLawful}
-use Rattle.sy_site.specs.machine.Safety.{AreSafe, AreWrittenOrHead, Heads, IsCopyOf, IsHeld, IsOnLink, IsWritten, IsWrittenOrHeads, Left, forwards}
+use Rattle.sy_site.specs.machine.Safety.{AreSafe, AreWrittenOrHead, HasLeft, Heads, IsCopyOf, IsHeld, IsOnLink, IsWritten, IsWrittenOrHeads, Left, forwards}
 use Rattle.sy_site.specs.machine.Safety as safety
 use Rattle.sy_site.specs.machine.Soundness.{IsSound}
 use Rattle.sy_site.proofs.machine.Guarded.{confined_run, falls_apart, falls_run}
-use Rattle.sy_site.proofs.machine.Heading.{IsCopied, Met, NoLoss, arrives_new, met_step}
+use Rattle.sy_site.proofs.machine.Heading.{IsCopied, Met, NoLoss, NotIts, arrives_new, heading_plain, met_step}
 use Rattle.sy_board.proofs.relay.Keeps.{Each}
 use Rattle.sy_site.proofs.machine.Lawful.{archives_lead_nowhere}
 use Rattle.sy_site.proofs.machine.Naming.{AllShaped, get_cases, named_run, relay_arrivals, shaped_start, shaped_step}
+use Rattle.sy_site.proofs.machine.Spares.{both_false}
 use Rattle.sy_site.proofs.machine.Stays.{SomeOf}
 
 some_in : {A : Type 0} (P : A → Type 0) (xs : List A) → SomeOf P xs → (x : A) × Contains xs x × P x
@@ -42,18 +45,18 @@ steps_on site s [] mid e new is st = (new, subst (λ z. SiteStep site z e new) i
 steps_on site s (x ∷ es) mid e new (next, first, more) st = (next, first, steps_on site next es mid e new more st)
 
 -- what must come to an archive heads there
+has_left : (site : Site) (m : Said) (r l number : ℕ) (o : Occurrence) → MustDo site m.class r l number o → HasLeft site r l m Left.All o
+has_left site m r l number o does = record {
+  number = number;
+  member = must_work (body_at (plan_at site r) l) m m.class number refl does.must;
+  found = does.found;
+  firm = does.firm;
+}
+
 leads_heads : (site : Site) (d : SiteAction) (m : Said) (p : SiteInput) → LeadsTo site m.class d p → Heads site d m p.relay (list_of site p) Left.All
-leads_heads site d m p (writes number a must is e) =
-    safety.writes a (record {
-      number = number;
-      member = must_work
-          (body_at (plan_at site p.relay) (list_of site p)) m m.class number refl must;
-      found = is;
-    }) e
-leads_heads site d m p (leads_on {to = q} number must goes more) =
-    forwards goes.action q
-    (record { number = number; member = must_work (body_at (plan_at site p.relay) (list_of site p)) m m.class number refl must; found = goes.runs })
-    goes.leads (leads_heads site d m q more)
+leads_heads site d m p (writes number a does e) = safety.writes a (has_left site m p.relay (list_of site p) number (occurrence.Run a) does) e
+leads_heads site d m p (leads_on number a to does goes more) =
+    forwards a to (has_left site m p.relay (list_of site p) number (occurrence.Run a) does) goes (leads_heads site d m to more)
 
 module _ (site : Site) (law : IsLawful site) (sound : IsSound site) where
   abbrev IsProtected : Arrival → Type 0
@@ -84,8 +87,8 @@ module _ (site : Site) (law : IsLawful site) (sound : IsSound site) where
       → (d : SiteAction) → NoLoss site d n a.message s
   no_loss s es run n a at p d =
       let never = confined_run site a.message.class (sound a.message.class p.0) es s run in
-      each_from (λ (l : Loss). IsCopied s.copies n a.message l.copy → ⊥) s.losses
-      (λ l k copy. never.not_lost l k copy.copy (followed s es run n a at p l.copy copy.copy copy.is copy.number))
+      each_from (NotIts site d n a.message s.copies) s.losses
+      (λ l k copy plain. never.not_lost l k copy.copy (followed s es run n a at p l.copy copy.copy copy.is copy.number) plain)
 
   met_on : (s : SiteState) (e : SiteEvent) (new : SiteState) → Kept s → SiteStep site s e new → (n : ℕ) (a : Arrival)
       → slice_get new.arrivals n ≡ Some a
@@ -99,7 +102,7 @@ module _ (site : Site) (law : IsLawful site) (sound : IsSound site) where
         | inl before ↦ met_step site d n a.message law s (SiteEvent.TakeNew to h m) new w.shaped
             (archives_lead_nowhere site law a.message.class d k) safe (w.met n a before p d k) st
         | inr here ↦ arrives_new site d n a.message mid to h (copy_of_new s to m) new w.shaped safe (sym here.0)
-            (ap (λ (z : Arrival). z.message) here.1)
+            (ap (λ (z : Arrival). z.message) here.1) refl
             (subst (λ (z : SiteInput). Heads site d a.message z.relay (list_of site z) Left.All) (sym (ap (λ (z : Arrival). z.origin) here.1))
             (leads_heads site d a.message a.origin ((sound a.message.class p.0).leads a.origin p.1 d k))) st
       ]
@@ -140,12 +143,18 @@ module _ (site : Site) (law : IsLawful site) (sound : IsSound site) where
         entry = f.0;
         there = f.1;
         copy = copy_of s n m f.0.tag f.2.copy;
+        plain = heading_plain site d n m s.copies h.0 f.0 f.2;
         heads = subst (λ z. Heads site d z h.0 f.0.list (Left.StillDue f.0.due)) (sym f.2.message) f.2.heads;
       }))
   met_says s d n m (inr h) =
       let f = some_in _ (s.passed h.0) h.1 in
-      elim f.2.1 [
-        | inl is ↦ inl (record { tag = f.0; there = subst (λ z. Contains (s.passed z) f.0) is f.1; copy = copy_of s n m f.0 f.2.0 })
+      elim f.2.2 [
+        | inl is ↦ inl (record {
+          tag = f.0;
+          there = subst (λ z. Contains (s.passed z) f.0) is f.1;
+          copy = copy_of s n m f.0 f.2.0;
+          plain = both_false f.2.0.copy.flag (is_spare site d) f.2.0.plain (subst (λ z. is_spare site z ≡ false) is f.2.1);
+        })
         | inr to ↦ inr (inr (record {
           link = h.0;
           to = to.0;
@@ -153,6 +162,7 @@ module _ (site : Site) (law : IsLawful site) (sound : IsSound site) where
           tag = f.0;
           there = f.1;
           copy = copy_of s n m f.0 f.2.0;
+          plain = both_false f.2.0.copy.flag (is_spare site h.0) f.2.0.plain f.2.1;
           heads = subst (λ z. Heads site d z to.0.relay (list_of site to.0) Left.All) (sym f.2.0.message) to.2;
         }))
       ]
@@ -171,7 +181,7 @@ module _ (site : Site) (law : IsLawful site) (sound : IsSound site) where
       = λ t c. followed s es run n a at (protected, entered) t c.copy c.is c.numbered in
       record {
         kept = written_run es s run n a at protected entered;
-        not_lost = λ l k c. never.not_lost l k c.copy (ours l.copy c);
-        held_once = λ r k e i c. falls_apart good.rank c.copy.trail (falls.held r k e i c.copy (ours e.tag c));
-        passed_once = λ d t i c. falls_apart good.rank c.copy.trail (falls.passed d t i c.copy (ours t c));
+        not_lost = λ l k c plain. never.not_lost l k c.copy (ours l.copy c) plain;
+        held_once = λ r k e i c. falls_apart good.rank c.copy.trail (falls.held r k e i c.copy (ours e.tag c)).0;
+        passed_once = λ d t i c. falls_apart good.rank c.copy.trail (falls.passed d t i c.copy (ours t c)).0;
       }

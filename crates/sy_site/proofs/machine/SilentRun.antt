@@ -62,7 +62,7 @@ module _ (class : Class) where
   }
 
   abbrev copy : Copy
-  copy = record { number = 0; message = example_message class; origin = edge_input; trail = 0 ∷ [] }
+  copy = record { number = 0; message = example_message class; origin = edge_input; trail = 0 ∷ []; flag = false }
 
   abbrev s0 : SiteState
   s0 = opening silent_site
@@ -107,7 +107,7 @@ module _ (class : Class) where
 
   pub others : (other : Part) → other ≢ Part.Kept → Holds silent_site s1 other
   others Part.Kept differs = absurd (differs refl)
-  others Part.NotLost differs = of_one silent_site s1 arrival refl Part.NotLost (λ loss there c. none_there loss there)
+  others Part.NotLost differs = of_one silent_site s1 arrival refl Part.NotLost (λ loss there c plain. none_there loss there)
   others Part.HeldOnce differs = of_one silent_site s1 arrival refl Part.HeldOnce
       (λ relay cell entry there c. one_trail copy entry.tag (one_differs 0) c)
   others Part.PassedOnce differs = of_one silent_site s1 arrival refl Part.PassedOnce

@@ -9,7 +9,7 @@ use Rattle.sy_board.specs.relay.Cells.{Cell, RelayState, at, hand}
 use Rattle.sy_board.specs.relay.Steps.{Cause, Event, IsHand, IsOfInput, Out}
 use Rattle.sy_board.proofs.relay.Put.{if_elim}
 use Rattle.sy_site.specs.Sites.{Site, SiteInput, SiteAction, plan_at, same_action, target}
-use Rattle.sy_site.specs.machine.States.{Arrival, Copy, Loss, SiteState, copy_of_new, opening, put_outs, taken_by, with_passed, with_relay}
+use Rattle.sy_site.specs.machine.States.{Arrival, Copy, Loss, SiteState, copy_of_new, off_link, opening, put_outs, taken_by, with_passed, with_relay}
 use Rattle.sy_site.specs.machine.Steps.{IsTake, RelaySteps, SiteEvent, SiteStep, SiteSteps, TakesCopy}
 use Rattle.sy_board.proofs.relay.Keeps.{Comes, Each, Everywhere, Kept, each_append, each_left, each_right, each_weaker, step_keeps}
 use Rattle.sy_board.proofs.relay.Marks.{empty_everywhere}
@@ -80,37 +80,37 @@ kept_of_all plan P O G copies k = record {
 }
 
 -- what leaves a relay, by what holds of an action's copies and of losses
-abbrev pub OutOf : (SiteAction → Copy → Type 0) → (ℕ → Cause → Copy → Type 0) → ℕ → Copy → Out → Type 0
+abbrev pub OutOf : (SiteAction → Copy → Type 0) → (ℕ → ℕ → Cause → Copy → Type 0) → ℕ → Copy → Out → Type 0
 OutOf D L r x (Out.Passed a e) = D (record { relay = r; action = a }) x
-OutOf D L r x (Out.Lost cause e) = L r cause x
+OutOf D L r x (Out.Lost cause e) = L r e.list cause x
 
 -- what the moves of a site keep
-pub record Moves (site : Site) (P : ℕ → Copy → Cell → Entry → Type 0) (D : SiteAction → Copy → Type 0) (L : ℕ → Cause → Copy → Type 0)
+pub record Moves (site : Site) (P : ℕ → Copy → Cell → Entry → Type 0) (D : SiteAction → Copy → Type 0) (L : ℕ → ℕ → Cause → Copy → Type 0)
     (G : ℕ → RelayState → Type 0) : Type 0 where
   pub inside : (r : ℕ) (x : Copy) → Kept (plan_at site r) (P r x) (OutOf D L r x) (G r)
   pub over : (d : SiteAction) (to : SiteInput) (h : ℕ) (x : Copy) (node : Entry) → D d x → target site d ≡ Some to
       → IsHand (plan_at site to.relay) to.input h
-      → IsOfInput (plan_at site to.relay) to.input node → node.message ≡ x.message → P to.relay (taken_by to.relay x) (hand to.input h) node
+      → IsOfInput (plan_at site to.relay) to.input node → node.message ≡ x.message → P to.relay (taken_by to.relay (off_link site d x)) (hand to.input h) node
 
 -- what goes on holding once one more message came, and of that message
 pub record Grows (site : Site) (P : List Arrival → ℕ → Copy → Cell → Entry → Type 0) (D : List Arrival → SiteAction → Copy → Type 0)
-    (L : List Arrival → ℕ → Cause → Copy → Type 0) : Type 0 where
+    (L : List Arrival → ℕ → ℕ → Cause → Copy → Type 0) : Type 0 where
   pub of_entry : (t : List Arrival) (a : Arrival) (r : ℕ) (x : Copy) (c : Cell) (e : Entry) → P t r x c e → P (t ++ a ∷ []) r x c e
   pub of_copy : (t : List Arrival) (a : Arrival) (d : SiteAction) (x : Copy) → D t d x → D (t ++ a ∷ []) d x
-  pub of_loss : (t : List Arrival) (a : Arrival) (r : ℕ) (cause : Cause) (x : Copy) → L t r cause x → L (t ++ a ∷ []) r cause x
+  pub of_loss : (t : List Arrival) (a : Arrival) (r l : ℕ) (cause : Cause) (x : Copy) → L t r l cause x → L (t ++ a ∷ []) r l cause x
   pub comes : (t : List Arrival) (to : SiteInput) (h : ℕ) (m : Said) (node : Entry) → IsHand (plan_at site to.relay) to.input h
       → IsOfInput (plan_at site to.relay) to.input node → node.message ≡ m
       → P (t ++ record { message = m; origin = to } ∷ []) to.relay
-      (record { number = length t; message = m; origin = to; trail = to.relay ∷ [] }) (hand to.input h) node
+      (record { number = length t; message = m; origin = to; trail = to.relay ∷ []; flag = false }) (hand to.input h) node
 
-pub record Spread (copies : List Copy) (P : ℕ → Copy → Cell → Entry → Type 0) (D : SiteAction → Copy → Type 0) (L : ℕ → Cause → Copy → Type 0)
+pub record Spread (copies : List Copy) (P : ℕ → Copy → Cell → Entry → Type 0) (D : SiteAction → Copy → Type 0) (L : ℕ → ℕ → Cause → Copy → Type 0)
     (s : SiteState) : Type 0 where
   pub held : (r : ℕ) → Everywhere (λ c e. Of copies (λ x. P r x c e) e.tag) (s.relays r)
   pub passed : (d : SiteAction) → Each (Of copies (D d)) (s.passed d)
-  pub losses : Each (λ l. Of copies (L l.relay l.cause) l.copy) s.losses
+  pub losses : Each (λ l. Of copies (L l.relay l.list l.cause) l.copy) s.losses
 
 module _ (site : Site) (P : List Arrival → ℕ → Copy → Cell → Entry → Type 0) (D : List Arrival → SiteAction → Copy → Type 0)
-    (L : List Arrival → ℕ → Cause → Copy → Type 0) (G : ℕ → RelayState → Type 0)
+    (L : List Arrival → ℕ → ℕ → Cause → Copy → Type 0) (G : ℕ → RelayState → Type 0)
     (moves : (t : List Arrival) → Moves site (P t) (D t) (L t) G) (grows : Grows site P D L) where
   abbrev pub Sp : SiteState → Type 0
   Sp s = Spread s.copies (P s.arrivals) (D s.arrivals) (L s.arrivals) s
@@ -131,12 +131,12 @@ module _ (site : Site) (P : List Arrival → ℕ → Copy → Cell → Entry →
       })
       o.1
   put_outs_keeps s r (Out.Lost cause e ∷ outs) a o =
-      let l : Loss = record { copy = e.tag; relay = r; cause = cause } in
+      let l : Loss = record { copy = e.tag; relay = r; list = e.list; cause = cause } in
       put_outs_keeps (record s { losses = s.losses ++ l ∷ [] }) r outs
       (record {
         held = a.held;
         passed = a.passed;
-        losses = each_append (λ (l : Loss). Of s.copies (L s.arrivals l.relay l.cause) l.copy) s.losses _ a.losses (o.0, tt);
+        losses = each_append (λ (l : Loss). Of s.copies (L s.arrivals l.relay l.list l.cause) l.copy) s.losses _ a.losses (o.0, tt);
       })
       o.1
 
@@ -169,7 +169,7 @@ module _ (site : Site) (P : List Arrival → ℕ → Copy → Cell → Entry →
       (record {
         held = λ z k. each_weaker _ _ (λ (e : Entry). of_more s.copies x (λ y. P s.arrivals z y k e) e.tag) (at (s.relays z) k) (a.held z k);
         passed = λ d. each_weaker _ _ (of_more s.copies x (D s.arrivals d)) (s.passed d) (a.passed d);
-        losses = each_weaker _ _ (λ (l : Loss). of_more s.copies x (L s.arrivals l.relay l.cause) l.copy) s.losses a.losses;
+        losses = each_weaker _ _ (λ (l : Loss). of_more s.copies x (L s.arrivals l.relay l.list l.cause) l.copy) s.losses a.losses;
       })
       (record {
         copy = x;
@@ -186,14 +186,14 @@ module _ (site : Site) (P : List Arrival → ℕ → Copy → Cell → Entry →
         held = λ z k. each_weaker _ _ (λ (e : Entry). of_weaker s.copies _ _ (λ y. grows.of_entry s.arrivals x z y k e) e.tag) (at (s.relays z) k)
             (a.held z k);
         passed = λ d. each_weaker _ _ (of_weaker s.copies _ _ (grows.of_copy s.arrivals x d)) (s.passed d) (a.passed d);
-        losses = each_weaker _ _ (λ (l : Loss). of_weaker s.copies _ _ (grows.of_loss s.arrivals x l.relay l.cause) l.copy) s.losses a.losses;
+        losses = each_weaker _ _ (λ (l : Loss). of_weaker s.copies _ _ (grows.of_loss s.arrivals x l.relay l.list l.cause) l.copy) s.losses a.losses;
       })
       (λ node there made is. grows.comes s.arrivals to h m node there made is) st
   site_keeps s (SiteEvent.TakeFrom to h link place) new g a st =
       let all : Each (Of s.copies (D s.arrivals link)) (st.before ++ st.tag ∷ st.behind) = subst
       (Each (Of s.copies (D s.arrivals link))) st.on_link (a.passed link) in
       let rest = each_right (Of s.copies (D s.arrivals link)) st.before (st.tag ∷ st.behind) all in
-      copy_keeps (record s { passed = with_passed s.passed link (st.before ++ st.behind) }) to h st.copy new (g to.relay)
+      copy_keeps (record s { passed = with_passed s.passed link (st.before ++ st.behind) }) to h (off_link site link st.copy) new (g to.relay)
       (record {
         held = a.held;
         passed = action_elim (λ z. Each (Of s.copies (D s.arrivals z))) s.passed link _

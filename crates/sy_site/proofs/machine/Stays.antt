@@ -81,9 +81,16 @@ module _ (plan : Plan) (Q : Entry → Type 0) (Through : Entry → Occurrence �
         → Q (record e { due = left }) ⊎ Through e o
     pub posts : (e : Entry) (l : ℕ) (node : Entry) → Through e (occurrence.Post l) → IsPosted plan e l node → Q node
 
+  -- what was lost of it, if not all, is what it goes through
+  abbrev pub ByCause : Entry → Cause → Type 0
+  ByCause e (Cause.GiveUp action) = Through e (occurrence.Run action)
+  ByCause e (Cause.Post list) = Through e (occurrence.Post list)
+  ByCause e (Cause.PostLost list) = Through e (occurrence.Post list)
+  ByCause e _ = Unit {0}
+
   abbrev pub NotLost : Out → Type 0
   NotLost (Out.Passed a e) = Unit {0}
-  NotLost (Out.Lost cause e) = Q e → ⊥
+  NotLost (Out.Lost cause e) = Q e → ByCause e cause → ⊥
 
   -- a copy that heads through the action is passed to it
   abbrev pub PassedOn : Out → Type 0
@@ -93,7 +100,7 @@ module _ (plan : Plan) (Q : Entry → Type 0) (Through : Entry → Occurrence �
   module _ (keeps : Keeps) where
     not_lost_all : (es : List Entry) → Each NotLost (map (Out.Lost Cause.Grab) es) → SomeOf Q es → ⊥
     not_lost_all [] a h = h
-    not_lost_all (e ∷ es) a h = elim h [ inl q ↦ a.0 q | inr t ↦ not_lost_all es a.1 t ]
+    not_lost_all (e ∷ es) a h = elim h [ inl q ↦ a.0 q tt | inr t ↦ not_lost_all es a.1 t ]
 
     -- a worker that deals with its occurrence
     advance : (old : RelayState) (w : ℕ) (o : Occurrence) → Fitting plan old → (job : Job plan old w o) → Held Q old
@@ -136,9 +143,9 @@ module _ (plan : Plan) (Q : Entry → Type 0) (Through : Entry → Occurrence �
         (λ s. put_here Q mid (Cell.Queue q) all has (some_left Q (at old (Cell.Queue q)) (node ∷ []) s)) m)
         (λ s. put_here Q mid (Cell.Queue q) all has (some_right Q (at old (Cell.Queue q)) (node ∷ []) (subst (SomeOf Q) enters.leaves.held s))) k))
     stays old (Event.Expire i h) new outs fits safe (node, expires, is) k =
-        let none : (Q node → ⊥) × Unit {0} = subst (Each NotLost) is safe in
+        let none : (Q node → Unit {0} → ⊥) × Unit {0} = subst (Each NotLost) is safe in
         inl (subst (Held Q) (sym expires.after) (put_held Q old (hand i h) [] (Held Q (put old (hand i h) [])) (λ z. z)
-        (λ s. elim (subst (SomeOf Q) expires.leaves.held s) [ inl q ↦ absurd (none.0 q) | inr b ↦ absurd b ]) k))
+        (λ s. elim (subst (SomeOf Q) expires.leaves.held s) [ inl q ↦ absurd (none.0 q tt) | inr b ↦ absurd b ]) k))
     stays old (Event.Grab w) new outs fits safe (lost, grabs, is) k =
         let q = queue_of_worker plan w in
         let l = marks_at plan q in
@@ -168,10 +175,10 @@ module _ (plan : Plan) (Q : Entry → Type 0) (Through : Entry → Occurrence �
         ]
     stays old (Event.Fail w took) new outs fits safe (a, e, fails, is) k = inl (subst (Held Q) (sym fails.after) k)
     stays old (Event.GiveUp w took) new outs fits safe (a, e, gives, is) k =
-        let none : (Q e → ⊥) × Each NotLost (if_so took (Out.Passed a e)) = subst (Each NotLost) is safe in
+        let none : (Q e → Through e (occurrence.Run a) → ⊥) × Each NotLost (if_so took (Out.Passed a e)) = subst (Each NotLost) is safe in
         elim (advance old w (occurrence.Run a) fits gives.job k) [
           | inl h ↦ inl (subst (Held Q) (sym gives.after) h)
-          | inr t ↦ absurd (none.0 (subst Q gives.its t.0))
+          | inr t ↦ absurd (none.0 (subst Q gives.its t.0) (subst (λ z. Through z (occurrence.Run a)) gives.its t.1))
         ]
     stays old (Event.Post w) new outs fits safe (l, node, lost, posts, is) k =
         inl (subst (Held Q) (sym posts.after) (go lost (subst (Each NotLost) is safe)))
@@ -180,7 +187,7 @@ module _ (plan : Plan) (Q : Entry → Type 0) (Through : Entry → Occurrence �
             → Held Q (if b then advanced plan old w (occurrence.Post l) posts.job else
             (put (advanced plan old w (occurrence.Post l) posts.job) (Cell.Queue (queue_for plan l))
             (at old (Cell.Queue (queue_for plan l)) ++ node ∷ [])))
-        go true none = elim (advance old w (occurrence.Post l) fits posts.job k) [ inl h ↦ h | inr t ↦ absurd (none.0 t.0) ]
+        go true none = elim (advance old w (occurrence.Post l) fits posts.job k) [ inl h ↦ h | inr t ↦ absurd (none.0 t.0 t.1) ]
         go false none = elim (advance old w (occurrence.Post l) fits posts.job k) [
           | inl h ↦ put_held Q (advanced plan old w (occurrence.Post l) posts.job) (Cell.Queue (queue_for plan l))
               (at old (Cell.Queue (queue_for plan l)) ++ node ∷ [])
@@ -194,8 +201,8 @@ module _ (plan : Plan) (Q : Entry → Type 0) (Through : Entry → Occurrence �
               (some_right Q (at old (Cell.Queue (queue_for plan l))) (node ∷ []) (inl (keeps.posts posts.job.entry l node t.1 posts.made)))
         ]
     stays old (Event.PostLost w no_memory) new outs fits safe (l, e, loses, is) k =
-        let none : (Q e → ⊥) × Unit {0} = subst (Each NotLost) is safe in
+        let none : (Q e → Through e (occurrence.Post l) → ⊥) × Unit {0} = subst (Each NotLost) is safe in
         elim (advance old w (occurrence.Post l) fits loses.job k) [
           | inl h ↦ inl (subst (Held Q) (sym loses.after) h)
-          | inr t ↦ absurd (none.0 (subst Q loses.its t.0))
+          | inr t ↦ absurd (none.0 (subst Q loses.its t.0) (subst (λ z. Through z (occurrence.Post l)) loses.its t.1))
         ]

@@ -28,7 +28,7 @@ module _ (class : Class) where
   -- ---- held at edge the second time
 
   at_hub : Heads twice_site audit (example_message class) 1 0 Left.All
-  at_hub = writes 0 (record { number = 0; member = refl; found = refl }) refl
+  at_hub = writes 0 (record { number = 0; member = refl; found = refl; firm = refl }) refl
 
   held_heads : IsWrittenOrHeads twice_site (twice.s5 class) audit 0
   held_heads = inr (inl (record {
@@ -37,7 +37,8 @@ module _ (class : Class) where
     entry = twice.node class 1 1 1;
     there = (0, omega arith, refl);
     copy = record { copy = twice.copy class (0 ∷ 0 ∷ []); is = refl; numbered = refl };
-    heads = forwards 1 hub_input (record { number = 0; member = lowest.member; found = refl }) refl at_hub;
+    plain = refl;
+    heads = forwards 1 hub_input (record { number = 0; member = lowest.member; found = refl; firm = refl }) refl at_hub;
   }))
 
   -- what is on a link is the first copy
@@ -53,7 +54,7 @@ module _ (class : Class) where
   pub held_others : (other : Part) → other ≢ Part.HeldOnce → Holds twice_site (twice.s5 class) other
   held_others Part.Kept differs = of_one twice_site (twice.s5 class) arrival refl Part.Kept
       (λ archive named. subst (λ z. IsWrittenOrHeads twice_site (twice.s5 class) z 0) (sym (only_audit_is_named class archive named)) held_heads)
-  held_others Part.NotLost differs = of_one twice_site (twice.s5 class) arrival refl Part.NotLost (λ loss there c. none_there loss there)
+  held_others Part.NotLost differs = of_one twice_site (twice.s5 class) arrival refl Part.NotLost (λ loss there c plain. none_there loss there)
   held_others Part.HeldOnce differs = absurd (differs refl)
   held_others Part.PassedOnce differs = of_one twice_site (twice.s5 class) arrival refl Part.PassedOnce
       (λ action tag there c. first_once tag (each_in (λ t. t ≡ 0) ((twice.s5 class).passed action) (first_on_links action) tag there) c)
@@ -68,6 +69,7 @@ module _ (class : Class) where
     tag = 1;
     there = (0, omega arith, refl);
     copy = record { copy = twice.copy class (0 ∷ 0 ∷ []); is = refl; numbered = refl };
+    plain = refl;
     heads = at_hub;
   }))
 
@@ -81,7 +83,7 @@ module _ (class : Class) where
   pub sent_others : (other : Part) → other ≢ Part.PassedOnce → Holds twice_site (twice.s8 class) other
   sent_others Part.Kept differs = of_one twice_site (twice.s8 class) arrival refl Part.Kept
       (λ archive named. subst (λ z. IsWrittenOrHeads twice_site (twice.s8 class) z 0) (sym (only_audit_is_named class archive named)) sent_heads)
-  sent_others Part.NotLost differs = of_one twice_site (twice.s8 class) arrival refl Part.NotLost (λ loss there c. none_there loss there)
+  sent_others Part.NotLost differs = of_one twice_site (twice.s8 class) arrival refl Part.NotLost (λ loss there c plain. none_there loss there)
   sent_others Part.HeldOnce differs = of_one twice_site (twice.s8 class) arrival refl Part.HeldOnce
       (λ relay cell entry there c. absurd (none_there entry (subst (λ z. Contains z entry) (sent_held relay cell) there)))
   sent_others Part.PassedOnce differs = absurd (differs refl)
@@ -93,6 +95,7 @@ module _ (class : Class) where
     tag = 2;
     there = (0, omega arith, refl);
     copy = record { copy = twice.copy class (0 ∷ 0 ∷ 1 ∷ []); is = refl; numbered = refl };
+    plain = refl;
   })
 
   written_held : (relay : ℕ) (cell : Cell) → at ((twice.s12 class).relays relay) cell ≡ []
@@ -106,7 +109,7 @@ module _ (class : Class) where
   pub written_others : (other : Part) → other ≢ Part.PassedOnce → Holds twice_site (twice.s12 class) other
   written_others Part.Kept differs = of_one twice_site (twice.s12 class) arrival refl Part.Kept
       (λ archive named. subst (λ z. IsWrittenOrHeads twice_site (twice.s12 class) z 0) (sym (only_audit_is_named class archive named)) written)
-  written_others Part.NotLost differs = of_one twice_site (twice.s12 class) arrival refl Part.NotLost (λ loss there c. none_there loss there)
+  written_others Part.NotLost differs = of_one twice_site (twice.s12 class) arrival refl Part.NotLost (λ loss there c plain. none_there loss there)
   written_others Part.HeldOnce differs = of_one twice_site (twice.s12 class) arrival refl Part.HeldOnce
       (λ relay cell entry there c. absurd (none_there entry (subst (λ z. Contains z entry) (written_held relay cell) there)))
   written_others Part.PassedOnce differs = absurd (differs refl)

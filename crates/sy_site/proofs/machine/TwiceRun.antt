@@ -136,7 +136,7 @@ module _ (class : Class) where
   -- the site
 
   abbrev pub copy : List ℕ → Copy
-  copy trail = record { number = 0; message = example_message class; origin = edge_input; trail = trail }
+  copy trail = record { number = 0; message = example_message class; origin = edge_input; trail = trail; flag = false }
 
   abbrev on : SiteState → ℕ → RelayState → SiteState
   on s relay state = record s { relays = with_relay s.relays relay state }

@@ -3,9 +3,10 @@ use Rattle.std.specs.Net.Addr.{ipv4_octets}
 use Rattle.sy_site.specs.declared.texts.shapes.RelayLine.{RelayLine as ReadRelay}
 use Rattle.sy_site.specs.declared.texts.shapes.EntryLine.{EntryLine as ReadEntry}
 use Rattle.sy_site.specs.declared.texts.shapes.ProtectLine.{ProtectLine as ReadProtect}
+use Rattle.sy_site.specs.declared.texts.shapes.SpareLine.{SpareLine as ReadSpare}
 use Rattle.sy_site.specs.declared.texts.shapes.Line.{Line as Read}
 use Rattle.sy_site.specs.declared.texts.shapes.Line.TheVariants as read
-use Rattle.sy_site.specs.texts.Shapes.{Line, RelayLine, EntryLine, ProtectLine}
+use Rattle.sy_site.specs.texts.Shapes.{Line, RelayLine, EntryLine, ProtectLine, SpareLine}
 
 abbrev pub relay_line_of : ReadRelay → RelayLine
 relay_line_of it = record { name = it.name.now; file = it.file.now; address = ipv4_octets it.address }
@@ -16,7 +17,12 @@ entry_line_of it = record { relay = it.relay.now; port = it.port }
 abbrev pub protect_line_of : ReadProtect → ProtectLine
 protect_line_of it = record { selector = it.selector; relay = it.relay.now; action = it.action.now }
 
+abbrev pub spare_line_of : ReadSpare → SpareLine
+spare_line_of it = record { relay = it.relay.now; action = it.action.now }
+
 abbrev pub line_of : Read → Line
+line_of read.Policy = Line.Policy
 line_of (read.Relay it) = Line.Relay (relay_line_of it)
 line_of (read.Entry it) = Line.Entry (entry_line_of it)
 line_of (read.Protect it) = Line.Protect (protect_line_of it)
+line_of (read.Spare it) = Line.Spare (spare_line_of it)

@@ -9,20 +9,24 @@ use Rattle.sy_site.specs.internal.Lines.{line_of}
 use Rattle.sy_site.specs.texts.Lines.{is_kind, is_skipped, word_lines, words}
 use Rattle.sy_site.specs.texts.Shapes.{Line, IsLine}
 use Rattle.sy_site.specs.texts.Files.{RELAYS}
-use Rattle.sy_site.specs.texts.Describes.{ENTRIES, PROTECTIONS, IsDuplicate}
-use Rattle.sy_site.specs.texts.HasFault.{Stands, number}
+use Rattle.sy_site.specs.texts.Describes.{ENTRIES, PROTECTIONS, SPARES, IsDuplicate, IsMisplaced, policy_of}
+use Rattle.sy_site.specs.texts.HasFault.{IsLimit, Stands, number}
 
 -- the first word of a line
 abbrev pub kind : Line → List ℕ
+kind Line.Policy = codes "policy"
 kind (Line.Relay it) = codes "relay"
 kind (Line.Entry it) = codes "entry"
 kind (Line.Protect it) = codes "protect"
+kind (Line.Spare it) = codes "spare"
 
 -- the most lines of its kind
 abbrev pub most : Line → ℕ
+most Line.Policy = 1
 most (Line.Relay it) = RELAYS
 most (Line.Entry it) = ENTRIES
 most (Line.Protect it) = PROTECTIONS
+most (Line.Spare it) = SPARES
 
 abbrev pub line_given : Given → Line
 line_given given = line_of given.line
@@ -41,37 +45,52 @@ pub record IsGiven (given : Given) (place : ℕ) (line : List (List ℕ)) : Type
   pub words_are : words_given given ≡ line
   pub shaped : IsLine line (line_given given)
 
+-- Behind these lines one like this has no place: a policy line behind another line, or a spare line where the first line sets no policy 2.
+abbrev pub HasNoPlace : List Line → Line → Type 0
+HasNoPlace before Line.Policy = before ≡ [] → ⊥
+HasNoPlace before (Line.Spare it) = policy_of before ≡ 1
+HasNoPlace before _ = ⊥
+
 -- behind these lines stands less than the most of the line's kind
 abbrev pub HasRoom : List (List (List ℕ)) → Line → Type 0
 HasRoom before line = length (filter (is_kind (kind line)) before) < most line
 
 -- the line is one more than the most of its kind
 pub record IsTooMany (before : List (List (List ℕ))) (line : List (List ℕ)) : Type 0 where
-  pub of : Line
-  pub is_of : is_kind (kind of) line ≡ true
-  pub many : most of ≤ length (filter (is_kind (kind of)) before)
+  pub word : List ℕ
+  pub limit : ℕ
+  pub is_limit : IsLimit word limit
+  pub is_of : is_kind word line ≡ true
+  pub many : limit ≤ length (filter (is_kind word) before)
 
 -- a line that is not skipped has no shape
 pub record IsShapeless (line : List (List ℕ)) : Type 0 where
   pub there : is_skipped line ≡ false
   pub never : (it : Line) → IsLine line it → ⊥
 
--- a line that has a shape, and is none too many, gives again what an earlier one gave
-pub record IsAgain (before : List (List (List ℕ))) (line : List (List ℕ)) : Type 0 where
+-- a line that has a shape has no place behind those that were read
+pub record IsUnplaced (found : List Given) (line : List (List ℕ)) : Type 0 where
   pub of : Line
   pub shaped : IsLine line of
-  pub room : HasRoom before of
-  pub again : IsDuplicate before line
+  pub unplaced : HasNoPlace (map line_given found) of
 
--- A line behind these is refused as one of no shape, or as one too many.
+-- a line that has a shape and a place, and is none too many, gives again what an earlier one gave
+pub record IsAgain (found : List Given) (line : List (List ℕ)) : Type 0 where
+  pub of : Line
+  pub shaped : IsLine line of
+  pub placed : HasNoPlace (map line_given found) of → ⊥
+  pub room : HasRoom (map words_given found) of
+  pub again : IsDuplicate (map words_given found) line
+
+-- A line behind these is refused as one of no shape, as one too many, or as one without a place.
 abbrev pub IsWrong : List (List (List ℕ)) → List (List ℕ) → Type 0
-IsWrong before line = IsShapeless line ⊎ IsTooMany before line
+IsWrong before line = IsShapeless line ⊎ (IsTooMany before line ⊎ IsMisplaced before line)
 
 -- Behind these lines that were read, reading stops at this one.
-abbrev pub IsStopped : List (List (List ℕ)) → List (List ℕ) → Halt → Type 0
-IsStopped before line halt.Line = IsWrong before line
-IsStopped before line halt.Duplicate = IsAgain before line
-IsStopped before line halt.NoMemory = Unit {0}
+abbrev pub IsStopped : List Given → List (List ℕ) → Halt → Type 0
+IsStopped found line halt.Line = IsShapeless line ⊎ (IsTooMany (map words_given found) line ⊎ IsUnplaced found line)
+IsStopped found line halt.Duplicate = IsAgain found line
+IsStopped found line halt.NoMemory = Unit {0}
 
 -- no line before the one of this number is refused
 abbrev pub NoneBefore : List ℕ → ℕ → Type 0
@@ -97,6 +116,7 @@ pub record IsAdded (old new : List Given) (place : ℕ) (line : List (List ℕ))
   pub given : Given
   pub is_given : IsGiven given place line
   pub behind : new ≡ old ++ given ∷ []
+  pub placed : HasNoPlace (map line_given old) (line_given given) → ⊥
   pub room : HasRoom (map words_given old) (line_given given)
   pub single : IsDuplicate (map words_given old) line → ⊥
 

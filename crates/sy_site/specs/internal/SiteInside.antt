@@ -13,11 +13,17 @@ abbrev pub relay_of : Kept → Relay
 relay_of r = record { name = r.name; address = ipv4_octets r.address; plan = arc_value r.plan }
 
 abbrev pub site_of : Inside → Site
-site_of s = record { relays = map relay_of s.relays.items; entries = s.entries.items; protections = s.protections.items }
+site_of s = record {
+  policy = s.policy;
+  relays = map relay_of s.relays.items;
+  entries = s.entries.items;
+  protections = s.protections.items;
+  spares = s.spares.items;
+}
 
--- these relays without entries and protect lines
+-- these relays without entries, protect lines and spare actions
 abbrev pub site_with : List Kept → Site
-site_with relays = record { relays = map relay_of relays; entries = []; protections = [] }
+site_with relays = record { policy = 1; relays = map relay_of relays; entries = []; protections = []; spares = [] }
 
 -- ---- what actions lead to, looked up once
 

@@ -1,6 +1,6 @@
 -- Small sites, which aren't sound, with runs that end in states that aren't safe, or not confined (this profile's own). So no part of either can be
 -- left out unseen.
-use Rattle.std.specs.Prelude.{◌≡◌, ◌≢◌, ℕ, true, List, [], ◌∷◌, Some, None, codes, slice_get, take}
+use Rattle.std.specs.Prelude.{◌≡◌, ◌≢◌, ℕ, true, false, List, [], ◌∷◌, Some, None, codes, slice_get, take}
 use Rattle.std.specs.Int.{bit_at}
 use Rattle.std.specs.List.{Contains}
 use Rattle.sy_wire.specs.declared.class.Class.{Class}
@@ -9,17 +9,19 @@ use Rattle.sy_rules.specs.declared.parameters.objects.Destination.TheVariants as
 use Rattle.sy_rules.specs.declared.parameters.settings.FlowControl.TheVariants as control
 use Rattle.sy_rules.specs.lists.Body.{Body}
 use Rattle.sy_rules.specs.PlanValue.{Plan}
-use Rattle.sy_rules.specs.Whole.{AreDifferent}
+use Rattle.sy_rules.specs.Whole.{AreDifferent, body_at}
+use Rattle.sy_rules.specs.lists.Work.{May}
 use Rattle.sy_board.specs.relay.Cells.{Cell, at}
+use Rattle.sy_board.specs.relay.Spares.{Scope}
 use Rattle.sy_board.specs.relay.Steps.{Event}
-use Rattle.sy_site.specs.Sites.{Relay, Site, SiteAction, SiteInput, archives, is_protected, plan_at, target}
-use Rattle.sy_site.specs.machine.States.{Arrival, Copy, Loss, SiteState}
+use Rattle.sy_site.specs.Sites.{Site, SiteAction, SiteInput, archives, is_protected, plan_at, target}
+use Rattle.sy_site.specs.machine.States.{Arrival, Copy, Loss, SiteState, is_flagged_at, is_flagged_loss, is_flagged_on}
 use Rattle.sy_site.specs.machine.Steps.{Runs, SiteEvent}
-use Rattle.sy_site.specs.machine.Reach.{MayAt, Reach, list_of}
+use Rattle.sy_site.specs.machine.Reach.{Reach, list_of}
 use Rattle.sy_site.specs.machine.Findings.{IsForward}
 use Rattle.sy_site.specs.machine.Confinement.{AreConfined, IsFollowed, IsPlaceOf}
 use Rattle.sy_site.specs.machine.Safety.{AreSafe, IsCopyOf, IsWrittenOrHeads}
-use Rattle.sy_site.specs.machine.Examples.{edge_input, edge_plan, example_message, example_queue, example_site, hub_input, hub_plan, narrow_plan, up}
+use Rattle.sy_site.specs.machine.Examples.{edge_input, edge_plan, example_message, example_queue, hub_input, hub_plan, narrow_plan, relay_of, site_of_two, up}
 
 -- the parts of safe
 pub data Part : Type 0 where
@@ -29,7 +31,8 @@ pub data Part : Type 0 where
 abbrev pub Says : Site → SiteState → ℕ → Class → Part → Type 0
 Says site state number class Part.Kept =
     (archive : SiteAction) → Contains (archives site class) archive → IsWrittenOrHeads site state archive number
-Says site state number class Part.NotLost = (loss : Loss) → Contains state.losses loss → IsCopyOf state.copies number loss.copy → ⊥
+Says site state number class Part.NotLost =
+    (loss : Loss) → Contains state.losses loss → (copy : IsCopyOf state.copies number loss.copy) → is_flagged_loss site loss copy.copy ≡ false → ⊥
 Says site state number class Part.HeldOnce =
     (relay : ℕ) (cell : Cell) (entry : Entry) → Contains (at (state.relays relay) cell) entry
     → (copy : IsCopyOf state.copies number entry.tag) → AreDifferent copy.copy.trail
@@ -52,15 +55,15 @@ EndsUnsafe site events part =
 pub data Bound : Type 0 where
   InReach OnList MayRun AtPlace LinkLeads LinkInReach NoneLost : Bound
 
--- this holds of each followed copy that is held
+-- this holds of each followed copy that is held and isn't flagged
 abbrev pub OfHeld : Site → Class → SiteState → (ℕ → Cell → Entry → Type 0) → Type 0
 OfHeld site class state Q = (relay : ℕ) (cell : Cell) (entry : Entry) → Contains (at (state.relays relay) cell) entry
-    → (copy : Copy) → IsFollowed site state class entry.tag copy → Q relay cell entry
+    → (copy : Copy) → IsFollowed site state class entry.tag copy → is_flagged_at site relay entry.list copy ≡ false → Q relay cell entry
 
--- this holds of each link of a forward that has a followed copy
+-- this holds of each link of a forward that has a followed copy that isn't flagged
 abbrev pub OfLinks : Site → Class → SiteState → (SiteAction → Type 0) → Type 0
 OfLinks site class state Q = (link : SiteAction) (tag : ℕ) → Contains (state.passed link) tag → (copy : Copy) → IsFollowed site state class tag copy
-    → IsForward (slice_get (plan_at site link.relay).actions link.action) → Q link
+    → is_flagged_on site link copy ≡ false → IsForward (slice_get (plan_at site link.relay).actions link.action) → Q link
 
 -- where a relay has the entry
 abbrev pub input_of : ℕ → Entry → SiteInput
@@ -68,24 +71,23 @@ input_of relay entry = record { relay = relay; input = entry.input }
 
 -- what a part says: `AreConfined` says all seven
 abbrev pub Bounds : Site → Class → SiteState → Bound → Type 0
-Bounds site class state Bound.InReach = OfHeld site class state (λ relay cell entry. Reach site class (input_of relay entry))
+Bounds site class state Bound.InReach = OfHeld site class state (λ relay cell entry. Reach site class Scope.Firm (input_of relay entry))
 Bounds site class state Bound.OnList = OfHeld site class state (λ relay cell entry. entry.list ≡ list_of site (input_of relay entry))
-Bounds site class state Bound.MayRun =
-    OfHeld site class state (λ relay cell entry. (number : ℕ) → bit_at entry.due number ≡ 1 → MayAt site class (input_of relay entry) number)
+Bounds site class state Bound.MayRun = OfHeld site class state (λ relay cell entry.
+    (number : ℕ) → bit_at entry.due number ≡ 1 → May (body_at (plan_at site relay) entry.list) class number)
 Bounds site class state Bound.AtPlace = OfHeld site class state (λ relay cell entry. IsPlaceOf (plan_at site relay) cell entry.input)
 Bounds site class state Bound.LinkLeads = OfLinks site class state (λ link. (to : SiteInput) × (target site link ≡ Some to))
-Bounds site class state Bound.LinkInReach = OfLinks site class state (λ link. (to : SiteInput) → target site link ≡ Some to → Reach site class to)
+Bounds site class state Bound.LinkInReach =
+    OfLinks site class state (λ link. (to : SiteInput) → target site link ≡ Some to → Reach site class Scope.Firm to)
 Bounds site class state Bound.NoneLost =
-    (loss : Loss) → Contains state.losses loss → (copy : Copy) → IsFollowed site state class loss.copy copy → ⊥
+    (loss : Loss) → Contains state.losses loss → (copy : Copy) → IsFollowed site state class loss.copy copy
+    → is_flagged_loss site loss copy ≡ false → ⊥
 
 -- A run of these events ends in a state that isn't confined for a class, for want of this part alone: the others hold there.
 abbrev pub EndsUnconfined : Site → Class → List SiteEvent → Bound → Type 0
 EndsUnconfined site class events part =
-    (state : SiteState) × Runs site events state × (AreConfined site class state → ⊥) × ((other : Bound) → other ≢ part → Bounds site class state other)
-
--- a relay that listens at 127.0.0.1
-abbrev pub relay_of : List ℕ → Plan → Relay
-relay_of name plan = record { name = name; address = 127 ∷ 0 ∷ 0 ∷ 1 ∷ []; plan = plan }
+    (state : SiteState) × Runs site events state × (AreConfined site class state → ⊥)
+    × ((other : Bound) → other ≢ part → Bounds site class state other)
 
 -- ---- a copy is lost, and its message heads for its archive all the same
 
@@ -96,7 +98,7 @@ hasty_plan = record edge_plan {
 }
 
 abbrev pub hasty_site : Site
-hasty_site = record example_site { relays = relay_of (codes "edge") hasty_plan ∷ relay_of (codes "hub") hub_plan ∷ [] }
+hasty_site = site_of_two hasty_plan hub_plan
 
 -- The link takes the message and fails, and edge gives it up.
 abbrev pub hasty_events : Class → List SiteEvent
@@ -114,7 +116,7 @@ abbrev pub silent_plan : Plan
 silent_plan = record edge_plan { lists = record { body = Body.End; queue = None } ∷ record { body = Body.End; queue = Some 1 } ∷ [] }
 
 abbrev pub silent_site : Site
-silent_site = record example_site { relays = relay_of (codes "edge") silent_plan ∷ relay_of (codes "hub") hub_plan ∷ [] }
+silent_site = site_of_two silent_plan hub_plan
 
 abbrev pub silent_events : Class → List SiteEvent
 silent_events class = SiteEvent.TakeNew edge_input 0 (example_message class) ∷ []
@@ -130,11 +132,12 @@ twice_plan = record {
   actions = record { name = codes "again"; destination = destination.Forward (codes "edge") 6515; retry = None; resume_interval = 30 }
       ∷ record { name = codes "up"; destination = destination.Forward (codes "hub") 6515; retry = None; resume_interval = 30 } ∷ [];
   lists = record { body = Body.Run 0 Body.End; queue = None } ∷ record { body = Body.Run 1 Body.End; queue = None } ∷ [];
+  rulesets = 1;
   names = codes "RSYSLOG_DefaultRuleset" ∷ codes "on" ∷ [];
 }
 
 abbrev pub twice_site : Site
-twice_site = record example_site { relays = relay_of (codes "edge") twice_plan ∷ relay_of (codes "hub") hub_plan ∷ [] }
+twice_site = site_of_two twice_plan hub_plan
 
 -- the input of port 6515, the forward to it and the one to hub
 abbrev pub again_input : SiteInput
@@ -163,6 +166,59 @@ twice_events class =
     ∷ SiteEvent.Inside 1 (Event.Done 0)
     ∷ []
 
+-- ---- a message comes to its archive by a spare action alone
+
+-- edge's forward to hub is spare
+abbrev pub spared_site : Site
+spared_site = record (site_of_two edge_plan hub_plan) { policy = 2; spares = up ∷ [] }
+
+-- Behind the fourth of them the link has the message, behind the fifth a hand of hub, at the end the archive.
+abbrev pub spared_events : Class → List SiteEvent
+spared_events class =
+    SiteEvent.TakeNew edge_input 0 (example_message class)
+    ∷ SiteEvent.Inside 0 (Event.Enter 0 0)
+    ∷ SiteEvent.Inside 0 (Event.Grab 1)
+    ∷ SiteEvent.Inside 0 (Event.Done 1)
+    ∷ SiteEvent.TakeFrom hub_input 0 up 0
+    ∷ SiteEvent.Inside 1 (Event.Enter 0 0)
+    ∷ SiteEvent.Inside 1 (Event.Grab 0)
+    ∷ SiteEvent.Inside 1 (Event.Done 0)
+    ∷ []
+
+-- ---- a flagged copy comes to a relay twice
+
+-- hub writes what comes in, and forwards it back to edge, by a spare action
+abbrev pub circling_plan : Plan
+circling_plan = record hub_plan {
+  actions = record { name = codes "audit"; destination = destination.Archive (codes "audit.log"); retry = None; resume_interval = 30 }
+      ∷ record { name = codes "back"; destination = destination.Forward (codes "edge") 6514; retry = None; resume_interval = 30 } ∷ [];
+  lists = record { body = Body.Run 0 (Body.Run 1 Body.End); queue = None } ∷ [];
+}
+
+abbrev pub back : SiteAction
+back = record { relay = 1; action = 1 }
+
+abbrev pub circling_site : Site
+circling_site = record (site_of_two edge_plan circling_plan) { policy = 2; spares = back ∷ [] }
+
+-- Behind the tenth of them edge holds it the second time, at the end it is on the link to hub the second time.
+abbrev pub circling_events : Class → List SiteEvent
+circling_events class =
+    SiteEvent.TakeNew edge_input 0 (example_message class)
+    ∷ SiteEvent.Inside 0 (Event.Enter 0 0)
+    ∷ SiteEvent.Inside 0 (Event.Grab 1)
+    ∷ SiteEvent.Inside 0 (Event.Done 1)
+    ∷ SiteEvent.TakeFrom hub_input 0 up 0
+    ∷ SiteEvent.Inside 1 (Event.Enter 0 0)
+    ∷ SiteEvent.Inside 1 (Event.Grab 0)
+    ∷ SiteEvent.Inside 1 (Event.Done 0)
+    ∷ SiteEvent.Inside 1 (Event.Done 0)
+    ∷ SiteEvent.TakeFrom edge_input 0 back 0
+    ∷ SiteEvent.Inside 0 (Event.Enter 0 0)
+    ∷ SiteEvent.Inside 0 (Event.Grab 1)
+    ∷ SiteEvent.Inside 0 (Event.Done 1)
+    ∷ []
+
 -- ---- copies that aren't confined
 
 -- edge forwards to a relay that isn't there
@@ -172,7 +228,7 @@ aimless_plan = record edge_plan {
 }
 
 abbrev pub aimless_site : Site
-aimless_site = record example_site { relays = relay_of (codes "edge") aimless_plan ∷ relay_of (codes "hub") hub_plan ∷ [] }
+aimless_site = site_of_two aimless_plan hub_plan
 
 -- The link takes the message.
 abbrev pub aimless_events : Class → List SiteEvent
@@ -183,53 +239,40 @@ aimless_events class =
     ∷ SiteEvent.Inside 0 (Event.Done 1)
     ∷ []
 
--- edge posts what comes in to another list, which forwards it to hub: a way that reaches no input
-abbrev pub posting_plan : Plan
-posting_plan = record narrow_plan {
-  actions = record { name = codes "up"; destination = destination.Forward (codes "hub") 6515; retry = None; resume_interval = 30 } ∷ [];
-}
-
-abbrev pub posting_site : Site
-posting_site = record example_site { relays = relay_of (codes "edge") posting_plan ∷ relay_of (codes "hub") hub_plan ∷ [] }
-
--- Behind the sixth of them the link to hub has the message, at the end a hand of hub.
-abbrev pub posting_events : Class → List SiteEvent
-posting_events class =
-    SiteEvent.TakeNew edge_input 0 (example_message class)
-    ∷ SiteEvent.Inside 0 (Event.Enter 0 0)
-    ∷ SiteEvent.Inside 0 (Event.Grab 0)
-    ∷ SiteEvent.Inside 0 (Event.Post 0)
-    ∷ SiteEvent.Inside 0 (Event.Grab 1)
-    ∷ SiteEvent.Inside 0 (Event.Done 1)
-    ∷ SiteEvent.TakeFrom hub_input 0 up 0
-    ∷ []
-
 -- edge posts what comes in to the list that it follows already, whose queue isn't the input's
 abbrev pub moving_plan : Plan
 moving_plan = record narrow_plan {
   inputs = record { port = 6514; flow = control.Full; list = 1; queue = 0 } ∷ [];
   lists = record { body = Body.End; queue = None } ∷ record { body = Body.Post 1 Body.End; queue = Some 1 } ∷ [];
+  rulesets = 1;
 }
 
 abbrev pub moving_site : Site
-moving_site = record example_site { relays = relay_of (codes "edge") moving_plan ∷ relay_of (codes "hub") hub_plan ∷ [] }
+moving_site = site_of_two moving_plan hub_plan
 
 -- Behind the fourth of them the list's queue has the message, at the end that queue's worker.
 abbrev pub moving_events : Class → List SiteEvent
-moving_events class = take 5 (posting_events class)
+moving_events class =
+    SiteEvent.TakeNew edge_input 0 (example_message class)
+    ∷ SiteEvent.Inside 0 (Event.Enter 0 0)
+    ∷ SiteEvent.Inside 0 (Event.Grab 0)
+    ∷ SiteEvent.Inside 0 (Event.Post 0)
+    ∷ SiteEvent.Inside 0 (Event.Grab 1)
+    ∷ []
 
 -- edge posts what comes in to another list, of the same queue
 abbrev pub changing_plan : Plan
 changing_plan = record narrow_plan {
   lists = record { body = Body.Post 1 Body.End; queue = None } ∷ record { body = Body.Run 0 Body.End; queue = None } ∷ [];
+  rulesets = 1;
 }
 
 abbrev pub changing_site : Site
-changing_site = record example_site { relays = relay_of (codes "edge") changing_plan ∷ relay_of (codes "hub") hub_plan ∷ [] }
+changing_site = site_of_two changing_plan hub_plan
 
 -- The input's queue has the message again, and it follows the other list.
 abbrev pub changing_events : Class → List SiteEvent
-changing_events class = take 4 (posting_events class)
+changing_events class = take 4 (moving_events class)
 
 -- ---- a forward that leads nowhere, beside an archive that has all
 
@@ -243,7 +286,9 @@ stray_plan = record edge_plan {
 
 abbrev pub stray_site : Site
 stray_site = record {
+  policy = 1;
   relays = relay_of (codes "edge") stray_plan ∷ [];
   entries = edge_input ∷ [];
   protections = [];
+  spares = [];
 }

@@ -1,4 +1,4 @@
--- Two small sites with runs, so that it is seen that the definitions are not empty (this profile's own).
+-- Small sites with runs, so that it is seen that the definitions are not empty (this profile's own).
 use Rattle.std.specs.Prelude.{ℕ, true, false, List, [], ◌∷◌, Some, None, codes}
 use Rattle.sy_wire.specs.declared.class.Class.{Class}
 use Rattle.sy_wire.specs.Messages.{Said}
@@ -8,7 +8,7 @@ use Rattle.sy_rules.specs.declared.parameters.settings.QueueParameters.{QueuePar
 use Rattle.sy_rules.specs.lists.Body.{Body}
 use Rattle.sy_rules.specs.PlanValue.{Plan}
 use Rattle.sy_board.specs.relay.Steps.{Event}
-use Rattle.sy_site.specs.Sites.{Site, SiteInput, SiteAction}
+use Rattle.sy_site.specs.Sites.{Relay, Site, SiteInput, SiteAction}
 use Rattle.sy_site.specs.machine.Steps.{SiteEvent}
 
 -- a message of a class
@@ -46,6 +46,7 @@ edge_plan = record {
   workers = 0 ∷ 1 ∷ [];
   actions = record { name = codes "up"; destination = destination.Forward (codes "hub") 6515; retry = None; resume_interval = 30 } ∷ [];
   lists = record { body = Body.End; queue = None } ∷ record { body = Body.Run 0 Body.End; queue = Some 1 } ∷ [];
+  rulesets = 1;
   names = codes "RSYSLOG_DefaultRuleset" ∷ codes "out" ∷ [];
 }
 
@@ -57,6 +58,32 @@ hub_plan = record {
   workers = 0 ∷ [];
   actions = record { name = codes "audit"; destination = destination.Archive (codes "audit.log"); retry = None; resume_interval = 30 } ∷ [];
   lists = record { body = Body.Run 0 Body.End; queue = None } ∷ [];
+  rulesets = 0;
+  names = codes "RSYSLOG_DefaultRuleset" ∷ [];
+}
+
+-- hub forwards it to mirror too, through that action's own queue, without a second try
+abbrev pub copying_plan : Plan
+copying_plan = record {
+  inputs = record { port = 6515; flow = control.Full; list = 0; queue = 0 } ∷ [];
+  queues = example_queue 50000 48500 ∷ example_queue 1000 970 ∷ [];
+  workers = 0 ∷ 1 ∷ [];
+  actions = record { name = codes "audit"; destination = destination.Archive (codes "audit.log"); retry = None; resume_interval = 30 }
+      ∷ record { name = codes "copy"; destination = destination.Forward (codes "mirror") 6520; retry = Some 0; resume_interval = 30 } ∷ [];
+  lists = record { body = Body.Run 0 (Body.Post 1 Body.End); queue = None } ∷ record { body = Body.Run 1 Body.End; queue = Some 1 } ∷ [];
+  rulesets = 0;
+  names = codes "RSYSLOG_DefaultRuleset" ∷ codes "copy" ∷ [];
+}
+
+-- mirror writes it, without a second try either
+abbrev pub mirror_plan : Plan
+mirror_plan = record {
+  inputs = record { port = 6520; flow = control.On; list = 0; queue = 0 } ∷ [];
+  queues = example_queue 50000 0 ∷ [];
+  workers = 0 ∷ [];
+  actions = record { name = codes "log"; destination = destination.Archive (codes "mirror.log"); retry = Some 0; resume_interval = 30 } ∷ [];
+  lists = record { body = Body.Run 0 Body.End; queue = None } ∷ [];
+  rulesets = 0;
   names = codes "RSYSLOG_DefaultRuleset" ∷ [];
 }
 
@@ -66,26 +93,46 @@ edge_input = record { relay = 0; input = 0 }
 abbrev pub hub_input : SiteInput
 hub_input = record { relay = 1; input = 0 }
 
+abbrev pub mirror_input : SiteInput
+mirror_input = record { relay = 2; input = 0 }
+
 abbrev pub up : SiteAction
 up = record { relay = 0; action = 0 }
 
 abbrev pub audit : SiteAction
 audit = record { relay = 1; action = 0 }
 
--- messages of facility auth enter at edge and are to come to the archive of hub
-abbrev pub example_site : Site
-example_site = record {
-  relays = record { name = codes "edge"; address = 127 ∷ 0 ∷ 0 ∷ 1 ∷ []; plan = edge_plan }
-      ∷ record { name = codes "hub"; address = 127 ∷ 0 ∷ 0 ∷ 1 ∷ []; plan = hub_plan } ∷ [];
+abbrev pub copying : SiteAction
+copying = record { relay = 1; action = 1 }
+
+-- a relay that listens at 127.0.0.1
+abbrev pub relay_of : List ℕ → Plan → Relay
+relay_of name plan = record { name = name; address = 127 ∷ 0 ∷ 0 ∷ 1 ∷ []; plan = plan }
+
+-- edge and hub with these plans: messages of facility auth enter at edge and are to come to the archive of hub
+abbrev pub site_of_two : Plan → Plan → Site
+site_of_two edge hub = record {
+  policy = 1;
+  relays = relay_of (codes "edge") edge ∷ relay_of (codes "hub") hub ∷ [];
   entries = edge_input ∷ [];
   protections = record {
     selector = 0 ∷ 0 ∷ 0 ∷ 0 ∷ 255 ∷ 0 ∷ 0 ∷ 0 ∷ 0 ∷ 0 ∷ 0 ∷ 0 ∷ 0 ∷ 0 ∷ 0 ∷ 0 ∷ 0 ∷ 0 ∷ 0 ∷ 0 ∷ 0 ∷ 0 ∷ 0 ∷ 0 ∷ [];
     archive = audit;
   } ∷ [];
+  spares = [];
+}
+
+-- mirror is the third relay, and hub's forward to it is spare
+abbrev pub example_site : Site
+example_site = record (site_of_two edge_plan copying_plan) {
+  policy = 2;
+  relays = relay_of (codes "edge") edge_plan ∷ relay_of (codes "hub") copying_plan ∷ relay_of (codes "mirror") mirror_plan ∷ [];
+  spares = copying ∷ [];
 }
 
 -- It comes to a hand of edge, into the queue, to the worker; the link fails, but took it all the same, and takes it once more; hub takes it from the
--- second place of the link, and writes it.
+-- second place of the link, writes it, and puts it into the spare action's queue, from which it is forwarded to mirror; mirror takes it, and gives it
+-- up.
 abbrev pub example_events : Class → List SiteEvent
 example_events class =
     SiteEvent.TakeNew edge_input 0 (example_message class)
@@ -97,6 +144,13 @@ example_events class =
     ∷ SiteEvent.Inside 1 (Event.Enter 0 0)
     ∷ SiteEvent.Inside 1 (Event.Grab 0)
     ∷ SiteEvent.Inside 1 (Event.Done 0)
+    ∷ SiteEvent.Inside 1 (Event.Post 0)
+    ∷ SiteEvent.Inside 1 (Event.Grab 1)
+    ∷ SiteEvent.Inside 1 (Event.Done 1)
+    ∷ SiteEvent.TakeFrom mirror_input 0 copying 0
+    ∷ SiteEvent.Inside 2 (Event.Enter 0 0)
+    ∷ SiteEvent.Inside 2 (Event.Grab 0)
+    ∷ SiteEvent.Inside 2 (Event.GiveUp 0 false)
     ∷ []
 
 -- ---- a relay that loses messages
@@ -109,14 +163,17 @@ narrow_plan = record {
   workers = 0 ∷ 1 ∷ [];
   actions = record { name = codes "log"; destination = destination.Archive (codes "a.log"); retry = Some 1; resume_interval = 30 } ∷ [];
   lists = record { body = Body.Post 1 Body.End; queue = None } ∷ record { body = Body.Run 0 Body.End; queue = Some 1 } ∷ [];
+  rulesets = 0;
   names = codes "RSYSLOG_DefaultRuleset" ∷ codes "log" ∷ [];
 }
 
 abbrev pub narrow_site : Site
 narrow_site = record {
-  relays = record { name = codes "edge"; address = 127 ∷ 0 ∷ 0 ∷ 1 ∷ []; plan = narrow_plan } ∷ [];
+  policy = 1;
+  relays = relay_of (codes "edge") narrow_plan ∷ [];
   entries = edge_input ∷ [];
   protections = [];
+  spares = [];
 }
 
 -- The second message finds the first queue full, the third the second one; the first one is given up after two failures.

@@ -1,4 +1,4 @@
--- What the checker may find in a site: nine kinds, by number, each a condition on plans alone (this profile's own).
+-- What the checker may find in a site: nine kinds, by number, each a condition on plans and spare actions alone (this profile's own).
 use Rattle.std.specs.Prelude.{◌≡◌, ℕ, true, List, [], ◌∷◌, Option, Some, None, map, slice_get}
 use Rattle.std.specs.List.{Contains}
 use Rattle.sy_wire.specs.declared.class.Class.{Class}
@@ -8,8 +8,9 @@ use Rattle.sy_rules.specs.declared.parameters.settings.QueueParameters.{QueuePar
 use Rattle.sy_rules.specs.declared.parts.Action.{Action}
 use Rattle.sy_board.specs.relay.Feeders as feeders
 use Rattle.sy_board.specs.relay.Kinds as kinds
-use Rattle.sy_site.specs.Sites.{Site, SiteInput, SiteAction, archives, is_protected, plan_at, target}
-use Rattle.sy_site.specs.machine.Reach.{Forwards, LeadsTo, MayAt, Reach, action_of}
+use Rattle.sy_board.specs.relay.Spares.{Scope}
+use Rattle.sy_site.specs.Sites.{Site, SiteInput, SiteAction, archives, is_protected, plan_at, spares_at, target}
+use Rattle.sy_site.specs.machine.Reach.{LeadsTo, Reach, Reaches, list_of}
 
 pub data Kind : Type 0 where
   NotFull MarkOff MarkAboveSize Discards InnerQueue GivesUp NoTarget Loop : Kind
@@ -37,13 +38,13 @@ queue_of site input = kinds.queue_of (plan_at site input.relay) input.input
 abbrev pub IsFedFreely : Site → ℕ → ℕ → Type 0
 IsFedFreely site relay queue = feeders.IsFedFreely (plan_at site relay) queue
 
--- the condition of a kind that is one of the relay's plan alone
+-- the condition of a kind that is one of the relay's plan and spare actions alone
 abbrev pub HoldsInPlan : Site → Class → SiteInput → kinds.Kind → Type 0
-HoldsInPlan site class input kind = kinds.HoldsAt (plan_at site input.relay) class input.input kind
+HoldsInPlan site class input kind = kinds.HoldsAt (plan_at site input.relay) (spares_at site input.relay) class input.input kind
 
--- an action that a message of the class may execute, with its number
+-- an action that a message of the class may execute, with its number; it isn't spare
 abbrev pub MayRun : Site → Class → SiteInput → ℕ → Type 0
-MayRun site class input action = kinds.MayRun (plan_at site input.relay) class input.input action
+MayRun site class input action = kinds.MayRun (plan_at site input.relay) (spares_at site input.relay) class input.input action
 
 abbrev pub IsForward : Option Action → Type 0
 IsForward None = ⊥
@@ -52,7 +53,7 @@ IsForward (Some action) = sends action.destination where
   sends (destination.Archive file) = ⊥
   sends (destination.Forward name port) = Unit {0}
 
--- The kind's condition on an input, for a class: the first six are of its relay's plan alone. Of kinds 8 and 9 see below.
+-- The kind's condition on an input, for a class: the first six are of its relay alone. Of kinds 8 and 9 see below.
 abbrev pub HoldsAt : Site → Class → SiteInput → Kind → Type 0
 HoldsAt site class input Kind.NotFull = HoldsInPlan site class input kinds.Kind.NotFull
 HoldsAt site class input Kind.MarkOff = HoldsInPlan site class input kinds.Kind.MarkOff
@@ -62,7 +63,7 @@ HoldsAt site class input Kind.InnerQueue = HoldsInPlan site class input kinds.Ki
 HoldsAt site class input Kind.GivesUp = HoldsInPlan site class input kinds.Kind.GivesUp
 HoldsAt site class input Kind.NoTarget =
     (action : ℕ) × MayRun site class input action × IsForward (slice_get (plan_at site input.relay).actions action)
-    × (target site (action_of input action) ≡ None)
+    × (target site (record { relay = input.relay; action = action }) ≡ None)
 HoldsAt site class input _ = ⊥
 
 -- ---- ways
@@ -72,11 +73,12 @@ pub record WayRow : Type 0 where
   pub input : SiteInput
   pub number : ℕ
 
--- From an input each row's occurrence is a forward that may be executed, to the next row's input, and the last row's to the end.
+-- From an input each row's occurrence reaches the next row's input, and the last row's the end, by no spare occurrence.
 abbrev pub IsWayFrom : Site → Class → SiteInput → List WayRow → SiteInput → Type 0
 IsWayFrom site class from [] end = from ≡ end
 IsWayFrom site class from (row ∷ way) end =
-    (row.input ≡ from) × MayAt site class from row.number × (to : SiteInput) × Forwards site from row.number to × IsWayFrom site class to way end
+    (row.input ≡ from)
+    × (to : SiteInput) × Reaches site class Scope.Firm from.relay (list_of site from) row.number to × IsWayFrom site class to way end
 
 -- A way from some entry; without rows the input itself is an entry.
 pub record IsWay (site : Site) (class : Class) (way : List WayRow) (end : SiteInput) : Type 0 where
@@ -84,14 +86,17 @@ pub record IsWay (site : Site) (class : Class) (way : List WayRow) (end : SiteIn
   pub is_entry : Contains site.entries entry
   pub follows : IsWayFrom site class entry way end
 
--- From relay to relay: each row's input is reached, and its occurrence is a forward that may be executed, to the next row's relay; the last
--- row's leads to the end.
+-- the row's input is reached, and its occurrence reaches the other input, by spare ones too
+abbrev pub IsHop : Site → Class → WayRow → SiteInput → Type 0
+IsHop site class row to =
+    Reach site class Scope.Every row.input × Reaches site class Scope.Every row.input.relay (list_of site row.input) row.number to
+
+-- From relay to relay: each row's input is reached, and its occurrence reaches the next row's relay; the last row's reaches the end.
 abbrev pub IsChain : Site → Class → List WayRow → SiteInput → Type 0
 IsChain site class [] end = ⊥
-IsChain site class (row ∷ []) end = Reach site class row.input × MayAt site class row.input row.number × Forwards site row.input row.number end
+IsChain site class (row ∷ []) end = IsHop site class row end
 IsChain site class (row ∷ next ∷ way) end =
-    Reach site class row.input × MayAt site class row.input row.number
-    × (to : SiteInput) × Forwards site row.input row.number to × (to.relay ≡ next.input.relay) × IsChain site class (next ∷ way) end
+    (to : SiteInput) × IsHop site class row to × (to.relay ≡ next.input.relay) × IsChain site class (next ∷ way) end
 
 abbrev pub first_is_entry : Site → List WayRow → Type 0
 first_is_entry site [] = ⊥

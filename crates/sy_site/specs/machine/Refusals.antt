@@ -7,7 +7,7 @@ use Rattle.sy_board.specs.relay.Steps.{Event}
 use Rattle.sy_site.specs.Sites.{Site}
 use Rattle.sy_site.specs.machine.States.{SiteState}
 use Rattle.sy_site.specs.machine.Steps.{Runs, SiteEvent, SiteStep}
-use Rattle.sy_site.specs.machine.Examples.{edge_input, example_message, example_queue, narrow_events, narrow_plan, narrow_site}
+use Rattle.sy_site.specs.machine.Examples.{edge_input, example_message, example_queue, narrow_events, narrow_plan, narrow_site, relay_of}
 
 -- behind a run of these events this one is no step
 abbrev pub IsRefusedAfter : Site → List SiteEvent → SiteEvent → Type 0
@@ -26,7 +26,7 @@ marked_plan size = record narrow_plan {
 }
 
 abbrev pub marked_site : ℕ → Site
-marked_site size = record narrow_site { relays = record { name = codes "edge"; address = 127 ∷ 0 ∷ 0 ∷ 1 ∷ []; plan = marked_plan size } ∷ [] }
+marked_site size = record narrow_site { relays = relay_of (codes "edge") (marked_plan size) ∷ [] }
 
 abbrev pub marked_events : Class → List SiteEvent
 marked_events class = take 3 (narrow_events class)

@@ -10,7 +10,7 @@ use Rattle.sy_rules.specs.PlanValue.{IsPlan}
 use Rattle.sy_wire.specs.declared.class.Class.{Class}
 use Rattle.sy_site.specs.Sites.{Site, Relay, SiteInput, SiteAction, Protection, input_at_port, is_protected, plan_at, relay_named}
 use Rattle.sy_site.specs.texts.Lines.{is_skipped, word_lines}
-use Rattle.sy_site.specs.texts.Shapes.{Line, RelayLine, EntryLine, ProtectLine, IsLine}
+use Rattle.sy_site.specs.texts.Shapes.{Line, RelayLine, EntryLine, ProtectLine, SpareLine, IsLine, policy_line}
 use Rattle.sy_site.specs.texts.Files.{BYTES, RELAYS}
 
 -- the most entry lines
@@ -20,6 +20,10 @@ ENTRIES = 256
 -- the most protect lines
 abbrev pub PROTECTIONS : ℕ
 PROTECTIONS = 256
+
+-- the most spare lines
+abbrev pub SPARES : ℕ
+SPARES = 256
 
 -- ---- the lines of a text
 
@@ -47,11 +51,32 @@ protect_lines [] = []
 protect_lines (Line.Protect it ∷ later) = it ∷ protect_lines later
 protect_lines (_ ∷ later) = protect_lines later
 
--- One line gives again what another gave: a relay's name, or an entry or protect line word for word.
+abbrev pub spare_lines : List Line → List SpareLine
+spare_lines [] = []
+spare_lines (Line.Spare it ∷ later) = it ∷ spare_lines later
+spare_lines (_ ∷ later) = spare_lines later
+
+-- the policy that these lines set: 2 where the first one is `policy 2`, else 1
+abbrev pub policy_of : List Line → ℕ
+policy_of (Line.Policy ∷ later) = 2
+policy_of _ = 1
+
+-- the first of these lines that isn't skipped
+abbrev pub first_line : List (List (List ℕ)) → Option (List (List ℕ))
+first_line [] = None
+first_line (line ∷ later) = if is_skipped line then first_line later else Some line
+
+-- Behind these lines one of these words has no place: a policy line behind another line, or a spare line where the first line isn't `policy 2`.
+pub data IsMisplaced (before : List (List (List ℕ))) : List (List ℕ) → Type 0 where
+  policy_behind : (first : List (List ℕ)) (words : List (List ℕ)) → first_line before ≡ Some first → IsMisplaced before (codes "policy" ∷ words)
+  spare_without : (words : List (List ℕ)) → (first_line before ≡ Some policy_line → ⊥) → IsMisplaced before (codes "spare" ∷ words)
+
+-- One line gives again what another gave: a relay's name, or an entry, protect or spare line word for word.
 pub data Repeats : List (List ℕ) → List (List ℕ) → Type 0 where
   same_name : (name : List ℕ) (first second : List (List ℕ)) → Repeats (codes "relay" ∷ name ∷ first) (codes "relay" ∷ name ∷ second)
   same_entry : (words : List (List ℕ)) → Repeats (codes "entry" ∷ words) (codes "entry" ∷ words)
   same_protection : (words : List (List ℕ)) → Repeats (codes "protect" ∷ words) (codes "protect" ∷ words)
+  same_spare : (words : List (List ℕ)) → Repeats (codes "spare" ∷ words) (codes "spare" ∷ words)
 
 -- a line behind these lines gives again what one of them gave
 abbrev pub IsDuplicate : List (List (List ℕ)) → List (List ℕ) → Type 0
@@ -78,7 +103,7 @@ pub record IsRelay (files : List File) (line : RelayLine) (relay : Relay) : Type
   pub name : relay.name ≡ line.name
   pub address : relay.address ≡ line.address
 
--- ---- entries and archives
+-- ---- entries, archives and spare actions
 
 -- the input of an entry line
 abbrev pub entry_of : Site → EntryLine → Option SiteInput
@@ -102,12 +127,32 @@ archive_named site relay action = option_and_then (archive_at site action) (rela
 abbrev pub archive_of : Site → ProtectLine → Option SiteAction
 archive_of site line = archive_named site line.relay line.action
 
+-- the action of this name
+abbrev pub action_at : Site → List ℕ → ℕ → Option SiteAction
+action_at site name relay =
+    option_map (λ a. record { relay = relay; action = a }) (position (λ a. bytes_eq a.name name) (plan_at site relay).actions)
+
+-- the action of these names
+abbrev pub action_named : Site → List ℕ → List ℕ → Option SiteAction
+action_named site relay action = option_and_then (action_at site action) (relay_named site.relays relay)
+
+-- the action of a spare line
+abbrev pub action_of : Site → SpareLine → Option SiteAction
+action_of site line = action_named site line.relay line.action
+
 abbrev pub IsEntry : Site → EntryLine → SiteInput → Type 0
 IsEntry site line entry = entry_of site line ≡ Some entry
 
 pub record IsProtection (site : Site) (line : ProtectLine) (protection : Protection) : Type 0 where
   pub selector : protection.selector ≡ line.selector
   pub archive : archive_of site line ≡ Some protection.archive
+
+abbrev pub IsSpare : Site → SpareLine → SiteAction → Type 0
+IsSpare site line action = action_of site line ≡ Some action
+
+-- a protect line and a spare line name one action
+abbrev pub NameOne : ProtectLine → SpareLine → Type 0
+NameOne protect spare = (protect.relay ≡ spare.relay) × (protect.action ≡ spare.action)
 
 -- ---- the site
 
@@ -122,12 +167,19 @@ pub record Describes (text : List ℕ) (files : List File) (site : Site) : Type 
   pub lines : List Line
   pub are_lines : AreLines (word_lines text) lines
   pub once : (before later : List (List (List ℕ))) (line : List (List ℕ)) → word_lines text ≡ before ++ line ∷ later → IsDuplicate before line → ⊥
+  pub placed : (before later : List (List (List ℕ))) (line : List (List ℕ)) → word_lines text ≡ before ++ line ∷ later → IsMisplaced before line → ⊥
   pub few_relays : length (relay_lines lines) ≤ RELAYS
   pub few_entries : length (entry_lines lines) ≤ ENTRIES
   pub few_protections : length (protect_lines lines) ≤ PROTECTIONS
+  pub few_spares : length (spare_lines lines) ≤ SPARES
+  pub policy : site.policy ≡ policy_of lines
   pub relays : AllPaired (IsRelay files) (relay_lines lines) site.relays
   pub entries : AllPaired (IsEntry site) (entry_lines lines) site.entries
   pub protections : AllPaired (IsProtection site) (protect_lines lines) site.protections
+  pub spares : AllPaired (IsSpare site) (spare_lines lines) site.spares
+  -- no archive that is named is spare
+  pub apart : (protect : ProtectLine) (spare : SpareLine) → Contains (protect_lines lines) protect → Contains (spare_lines lines) spare
+      → NameOne protect spare → ⊥
   -- there is an entry, and a class that is protected
   pub entered : 0 < length site.entries
   pub class : Class

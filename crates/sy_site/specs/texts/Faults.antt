@@ -12,6 +12,8 @@ number (fault.NoSuchArchive n) = 55
 number fault.NothingProtected = 56
 number (fault.Relay n name why) = 57
 number fault.NoMemory = 58
+number (fault.NoSuchAction n) = 59
+number (fault.SpareArchive n) = 60
 
 -- the number and the name
 abbrev pub words : SiteFault → List ℕ
@@ -23,3 +25,5 @@ words (fault.NoSuchArchive n) = codes "55 NoSuchArchive"
 words fault.NothingProtected = codes "56 NothingProtected"
 words (fault.Relay n name why) = codes "57 Relay"
 words fault.NoMemory = codes "58 NoMemory"
+words (fault.NoSuchAction n) = codes "59 NoSuchAction"
+words (fault.SpareArchive n) = codes "60 SpareArchive"

@@ -15,9 +15,9 @@ use Rattle.sy_site.specs.declared.fault.RelayFault.TheVariants as why
 use Rattle.sy_site.specs.declared.fault.SiteFault.{SiteFault}
 use Rattle.sy_site.specs.declared.fault.SiteFault.TheVariants as fault
 use Rattle.sy_site.specs.texts.Lines.{is_kind, is_skipped, word_lines}
-use Rattle.sy_site.specs.texts.Shapes.{Line, RelayLine, EntryLine, ProtectLine, IsLine, IsEntryLine, IsProtectLine, IsRelayLine}
+use Rattle.sy_site.specs.texts.Shapes.{Line, RelayLine, EntryLine, ProtectLine, SpareLine, IsLine, IsEntryLine, IsProtectLine, IsRelayLine, IsSpareLine}
 use Rattle.sy_site.specs.texts.Files.{BYTES, RELAYS}
-use Rattle.sy_site.specs.texts.Describes.{ENTRIES, PROTECTIONS, File, IsDuplicate, file_named, is_archive}
+use Rattle.sy_site.specs.texts.Describes.{ENTRIES, PROTECTIONS, SPARES, File, IsDuplicate, IsMisplaced, NameOne, file_named, is_archive}
 
 -- these lines stand before this one
 abbrev pub Stands : List ℕ → List (List (List ℕ)) → List (List ℕ) → Type 0
@@ -31,6 +31,7 @@ pub data IsLimit : List ℕ → ℕ → Type 0 where
   relays : IsLimit (codes "relay") RELAYS
   entries : IsLimit (codes "entry") ENTRIES
   protections : IsLimit (codes "protect") PROTECTIONS
+  spares : IsLimit (codes "spare") SPARES
 
 -- a relay line of the text has this name
 pub record Names (text name : List ℕ) (it : RelayLine) : Type 0 where
@@ -49,10 +50,11 @@ pub record HasPlan (text : List ℕ) (files : List File) (name : List ℕ) (it :
   pub is_script : IsScript bytes script
   pub is_plan : IsPlan script it
 
--- the relay that an entry or a protect line names
+-- the relay that an entry, protect or spare line names
 pub data IsOf : List (List ℕ) → List ℕ → Type 0 where
   entry : {words : List (List ℕ)} (it : EntryLine) → IsEntryLine words it → IsOf words it.relay
   protect : {words : List (List ℕ)} (it : ProtectLine) → IsProtectLine words it → IsOf words it.relay
+  spare : {words : List (List ℕ)} (it : SpareLine) → IsSpareLine words it → IsOf words it.relay
 
 -- no class is in a set
 abbrev pub IsEmpty : List ℕ → Type 0
@@ -66,7 +68,7 @@ IsFileFault bytes (why.Plan f) = (s : Script) × IsScript bytes s × plan.HasFau
 pub data HasFault (text : List ℕ) (files : List File) : SiteFault → Type 0 where
   -- 51: the text is too long
   too_long : BYTES < length text → HasFault text files (fault.Line 1)
-  -- a line has none of the three shapes
+  -- a line has none of the five shapes
   no_shape : (before : List (List (List ℕ))) (line : List (List ℕ)) → Stands text before line → is_skipped line ≡ false → ((it : Line)
       → IsLine line it → ⊥)
       → HasFault text files (fault.Line (number before))
@@ -74,7 +76,10 @@ pub data HasFault (text : List ℕ) (files : List File) : SiteFault → Type 0 w
   too_many : (before : List (List (List ℕ))) (line : List (List ℕ)) (kind : List ℕ) (most : ℕ) → Stands text before line → IsLimit kind most
       → is_kind kind line ≡ true
       → most ≤ length (filter (is_kind kind) before) → HasFault text files (fault.Line (number before))
-  -- an entry or a protect line names a relay that is not there
+  -- a policy line stands behind another line, or a spare line in a text that doesn't begin with `policy 2`
+  misplaced : (before : List (List (List ℕ))) (line : List (List ℕ)) → Stands text before line → IsMisplaced before line
+      → HasFault text files (fault.Line (number before))
+  -- an entry, protect or spare line names a relay that is not there
   unknown : (before : List (List (List ℕ))) (line : List (List ℕ)) (name : List ℕ) → Stands text before line → IsOf line name
       → ((it : RelayLine) → Names text name it → ⊥)
       → HasFault text files (fault.Line (number before))
@@ -102,3 +107,11 @@ pub data HasFault (text : List ℕ) (files : List File) : SiteFault → Type 0 w
   no_plan : (before : List (List (List ℕ))) (line : List (List ℕ)) (it : RelayLine) (bytes : List ℕ) (f : RelayFault) → Stands text before line
       → IsRelayLine line it → file_named files it.file ≡ Some bytes → IsFileFault bytes f
       → HasFault text files (fault.Relay (number before) it.name f)
+  -- 59
+  no_action : (before : List (List (List ℕ))) (line : List (List ℕ)) (it : SpareLine) (p : Plan) → Stands text before line → IsSpareLine line it
+      → HasPlan text files it.relay p → position (λ a. bytes_eq a.name it.action) p.actions ≡ None
+      → HasFault text files (fault.NoSuchAction (number before))
+  -- 60: a protect line names the action
+  spare_archive : (before : List (List (List ℕ))) (line : List (List ℕ)) (it : SpareLine) → Stands text before line → IsSpareLine line it
+      → (other : List (List ℕ)) (naming : ProtectLine) → Contains (word_lines text) other → IsProtectLine other naming → NameOne naming it
+      → HasFault text files (fault.SpareArchive (number before))

@@ -1,7 +1,9 @@
--- The three shapes of a line (this profile's own).
+-- The five shapes of a line (this profile's own).
+--   policy 2
 --   relay NAME FILE [ADDRESS]
 --   entry RELAY PORT
 --   protect SELECTOR RELAY ACTION
+--   spare RELAY ACTION
 use Rattle.std.specs.Prelude.{◌≡◌, ℕ, Bool, true, not, ◌||◌, ◌&&◌, if◌then◌else◌, nat_le, ◌==◌, List, [], ◌∷◌, length, Option, Some, None, codes}
 use Rattle.std.specs.Char.{is_ascii_alphanumeric}
 use Rattle.std.specs.List.{list_all, slice_index}
@@ -53,6 +55,14 @@ pub record ProtectLine : Type 0 where
   pub relay : List ℕ
   pub action : List ℕ
 
+pub record SpareLine : Type 0 where
+  pub relay : List ℕ
+  pub action : List ℕ
+
+-- policy 2
+abbrev pub policy_line : List (List ℕ)
+policy_line = codes "policy" ∷ codes "2" ∷ []
+
 -- relay NAME FILE [ADDRESS]
 pub record IsRelayLine (line : List (List ℕ)) (it : RelayLine) : Type 0 where
   pub behind : List (List ℕ)
@@ -73,12 +83,20 @@ pub record IsProtectLine (line : List (List ℕ)) (it : ProtectLine) : Type 0 wh
   pub whole : line ≡ codes "protect" ∷ selector_word ∷ it.relay ∷ it.action ∷ []
   pub selector : IsSetOf selector_word it.selector
 
+-- spare RELAY ACTION
+abbrev pub IsSpareLine : List (List ℕ) → SpareLine → Type 0
+IsSpareLine line it = line ≡ codes "spare" ∷ it.relay ∷ it.action ∷ []
+
 pub data Line : Type 0 where
+  Policy : Line
   Relay : RelayLine → Line
   Entry : EntryLine → Line
   Protect : ProtectLine → Line
+  Spare : SpareLine → Line
 
 abbrev pub IsLine : List (List ℕ) → Line → Type 0
+IsLine line Policy = line ≡ policy_line
 IsLine line (Relay it) = IsRelayLine line it
 IsLine line (Entry it) = IsEntryLine line it
 IsLine line (Protect it) = IsProtectLine line it
+IsLine line (Spare it) = IsSpareLine line it

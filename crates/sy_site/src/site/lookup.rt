@@ -1,4 +1,4 @@
-//! Relays by name, and inputs and archives of a relay.
+//! Relays by name, and inputs, archives and actions of a relay.
 
 ghost use Rattle.std.specs.Prelude.{◌≡◌, ◌<◌, ◌≤◌, ◌&&◌, ◌==◌, length, map, IfOk, IfErr, IfSome, Some};
 ghost use Rattle.std.specs.List.{position};
@@ -56,6 +56,14 @@ fn place_of_archive(actions: &[Action], name: &[u8]) -> Option<usize>
     actions.iter().position(|a| is_archive(a, name))
 }
 
+// The place of the first action of a name.
+fn place_of_action(actions: &[Action], name: &[u8]) -> Option<usize>
+    ensures place { result ≡ position (λ a. bytes_eq a.name name.now) actions.now }
+    ensures within { IfSome result (λ n. n < length actions.now) }
+{
+    actions.iter().position(|a| a.name.as_slice() == name)
+}
+
 /// The relay of a name.
 pub fn relay_named(relays: &[Relay], name: &[u8]) -> Option<u32>
     requires few { length relays.now ≤ RELAYS }
@@ -97,6 +105,21 @@ pub fn archive_at(relays: &[Relay], relay: u32, name: &[u8]) -> Option<SiteActio
     }
 }
 
+/// The action of a relay that has a name.
+pub fn action_at(relays: &[Relay], relay: u32, name: &[u8]) -> Option<SiteAction>
+    ensures { result ≡ texts.action_at (site_with relays.now) name.now relay }
+{
+    let plan = &relays.get(relay as usize)?.plan;
+    plans_are_whole(plan);
+    match place_of_action(plan.actions(), name) {
+        Some(action) => Some(SiteAction {
+            relay,
+            action: action as u32,
+        }),
+        None => None,
+    }
+}
+
 /// The input of an entry line.
 pub fn entry(relays: &[Relay], line: &EntryLine<'_>) -> Result<SiteInput, Missing>
     requires few { length relays.now ≤ RELAYS }
@@ -123,6 +146,22 @@ pub fn archive(relays: &[Relay], relay: &[u8], action: &[u8]) -> Result<SiteActi
     match relay_named(relays, relay) {
         Some(relay) => match archive_at(relays, relay, action) {
             Some(archive) => Ok(archive),
+            None => Err(Missing::Part),
+        },
+        None => Err(Missing::Relay),
+    }
+}
+
+/// The action of a spare line, of a relay and an action by their names.
+pub fn action(relays: &[Relay], relay: &[u8], action: &[u8]) -> Result<SiteAction, Missing>
+    requires few { length relays.now ≤ RELAYS }
+    ensures action { IfOk result (λ a. texts.action_named (site_with relays.now) relay.now action.now ≡ Some a) }
+    ensures missing { IfErr result (λ missing. IsMissing (site_with relays.now) relay.now
+        (λ plan. position (λ a. bytes_eq a.name action.now) plan.actions) missing) }
+{
+    match relay_named(relays, relay) {
+        Some(relay) => match action_at(relays, relay, action) {
+            Some(action) => Ok(action),
             None => Err(Missing::Part),
         },
         None => Err(Missing::Relay),

@@ -5,8 +5,8 @@ ghost use Rattle.std.specs.Prelude.{IfOk, IfErr, IfSome, IfNone, OnOk};
 ghost use Rattle.sy_site.specs.internal.Lines.{line_of};
 ghost use Rattle.sy_site.specs.internal.Reading as spec;
 ghost use Rattle.sy_site.specs.internal.Reading.{line_given, words_given};
-ghost use Rattle.sy_site.specs.texts.Describes.{AreLines, ENTRIES, File, IsDuplicate, PROTECTIONS, Repeats};
-ghost use Rattle.sy_site.specs.texts.Describes.{entry_lines, protect_lines, relay_lines};
+ghost use Rattle.sy_site.specs.texts.Describes.{AreLines, ENTRIES, File, IsDuplicate, IsMisplaced, PROTECTIONS, Repeats};
+ghost use Rattle.sy_site.specs.texts.Describes.{SPARES, entry_lines, policy_of, protect_lines, relay_lines, spare_lines};
 ghost use Rattle.sy_site.specs.texts.Files.{BYTES, RELAYS};
 ghost use Rattle.sy_site.specs.texts.HasFault.{HasFault};
 ghost use Rattle.sy_site.specs.texts.Lines.{is_kind, is_skipped as skips, word_lines, words};
@@ -24,7 +24,10 @@ const MOST_ENTRIES: usize = 256;
 /// The most protect lines.
 const MOST_PROTECTIONS: usize = 256;
 
-/// A line of one of the three shapes, its number in the text, counted from 1, and the text behind its first word.
+/// The most spare lines.
+const MOST_SPARES: usize = 256;
+
+/// A line of one of the five shapes, its number in the text, counted from 1, and the text behind its first word.
 #[derive(Drop)]
 pub struct Given<'t> {
     pub number: usize,
@@ -44,9 +47,11 @@ fn kind(line: &Line<'_>) -> &'static [u8]
     ensures { result.now ≡ spec.kind (line_of line.now) }
 {
     match line {
+        Line::Policy => b"policy",
         Line::Relay(_) => b"relay",
         Line::Entry(_) => b"entry",
         Line::Protect(_) => b"protect",
+        Line::Spare(_) => b"spare",
     }
 }
 
@@ -55,9 +60,11 @@ fn most(line: &Line<'_>) -> usize
     ensures { result ≡ spec.most (line_of line.now) }
 {
     match line {
+        Line::Policy => 1,
         Line::Relay(_) => MOST_RELAYS,
         Line::Entry(_) => MOST_ENTRIES,
         Line::Protect(_) => MOST_PROTECTIONS,
+        Line::Spare(_) => MOST_SPARES,
     }
 }
 
@@ -101,6 +108,7 @@ fn gives_again(earlier: &Given<'_>, line: &Given<'_>) -> bool
         return false;
     }
     match &line.line {
+        Line::Policy => false,
         Line::Relay(_) => same_first_word(earlier.behind, line.behind),
         _ => same_words(earlier.behind, line.behind),
     }
@@ -116,6 +124,32 @@ fn is_duplicate(found: &[Given<'_>], line: &Given<'_>) -> bool
         }
     }
     false
+}
+
+/// The policy that the lines of a text set: 2 where the first one is a policy line, else 1.
+pub fn policy(found: &[Given<'_>]) -> u32
+    ensures { result ≡ policy_of (map line_given found.now) }
+{
+    match found {
+        [first, ..] => match &first.line {
+            Line::Policy => 2,
+            _ => 1,
+        },
+        [] => 1,
+    }
+}
+
+// Whether a line has a place behind those that were found: a policy line is the first one, and a spare line stands
+// behind one of policy 2.
+fn has_place(found: &[Given<'_>], line: &Line<'_>) -> bool
+    ensures yes { result ≡ true → spec.HasNoPlace (map line_given found.now) (line_of line.now) → ⊥ }
+    ensures no { result ≡ false → spec.HasNoPlace (map line_given found.now) (line_of line.now) }
+{
+    match line {
+        Line::Policy => found.is_empty(),
+        Line::Spare(_) => policy(found) == 2,
+        _ => true,
+    }
 }
 
 // How many lines begin with this word.
@@ -150,11 +184,15 @@ fn read_given(alloc: Global, number: usize, line: &[u8]) -> Option<Given<'_>>
 // Puts a line behind those that were found.
 fn put<'t>(found: &mut Vec<Given<'t>>, line: Given<'t>) -> Result<(), Halt>
     ensures found { OnOk result (found.new.items ≡ found.old.items ++ line.entry ∷ []) }
+    ensures placed { OnOk result (spec.HasNoPlace (map line_given found.old.items) (line_given line.entry) → ⊥) }
     ensures few { OnOk result (spec.HasRoom (map words_given found.old.items) (line_given line.entry)) }
     ensures new { OnOk result (IsDuplicate (map words_given found.old.items) (words_given line.entry) → ⊥) }
     ensures err { IfErr result (λ halt. IsLine (words_given line.entry) (line_given line.entry)
-        → spec.IsStopped (map words_given found.old.items) (words_given line.entry) halt) }
+        → spec.IsStopped found.old.items (words_given line.entry) halt) }
 {
+    if !has_place(found.as_slice(), &line.line) {
+        return Err(Halt::Line);
+    }
     if how_many(found.as_slice(), kind(&line.line)) >= most(&line.line) {
         return Err(Halt::Line);
     }
@@ -177,7 +215,7 @@ fn note<'t>(
     ensures skipped { OnOk result (skips (words line.now) ≡ true → found.new.items ≡ found.old.items) }
     ensures given { OnOk result (skips (words line.now) ≡ false
         → spec.IsAdded found.old.items found.new.items number (words line.now)) }
-    ensures err { IfErr result (λ halt. spec.IsStopped (map words_given found.old.items) (words line.now) halt) }
+    ensures err { IfErr result (λ halt. spec.IsStopped found.old.items (words line.now) halt) }
 {
     if is_skipped(line) {
         return Ok(());
@@ -189,19 +227,22 @@ fn note<'t>(
 }
 
 /// The lines of a text that are not skipped, in their order. Refuses a text that is too long, and a line that has none
-/// of the three shapes, or else is one more than the most of its kind (51), or else gives again what an earlier one
-/// gave (52); the first such line is answered. It takes time linear in the text, and for each line a look at the lines
-/// before it, of which there are 576 at most.
+/// of the five shapes, or else has no place or is one more than the most of its kind (51), or else gives again what an
+/// earlier one gave (52); the first such line is answered. It takes time linear in the text, and for each line a look
+/// at the lines before it, of which there are 833 at most.
 pub fn read_lines(alloc: Global, text: &[u8]) -> Result<Vec<Given<'_>>, SiteFault>
     ensures small { OnOk result (length text.now ≤ BYTES) }
     ensures lines { IfOk result (λ found. AreLines (word_lines text.now) (map line_given found.items)) }
     ensures placed { IfOk result (λ found. All (spec.IsPlaced text.now) found.items) }
     ensures once { OnOk result ((before later : List (List (List ℕ))) (line : List (List ℕ))
         → word_lines text.now ≡ before ++ line ∷ later → IsDuplicate before line → ⊥) }
+    ensures in_place { OnOk result ((before later : List (List (List ℕ))) (line : List (List ℕ))
+        → word_lines text.now ≡ before ++ line ∷ later → IsMisplaced before line → ⊥) }
     ensures few_relays { IfOk result (λ found. length (relay_lines (map line_given found.items)) ≤ RELAYS) }
     ensures few_entries { IfOk result (λ found. length (entry_lines (map line_given found.items)) ≤ ENTRIES) }
     ensures few_protections { IfOk result (λ found. length (protect_lines (map line_given found.items))
         ≤ PROTECTIONS) }
+    ensures few_spares { IfOk result (λ found. length (spare_lines (map line_given found.items)) ≤ SPARES) }
     ensures err { IfErr result (λ fault. (fault ≡ SiteFault.NoMemory)
         ⊎ ((files : List File) → HasFault text.now files fault)) }
     ensures first { IfErr result (λ fault. spec.IsFirst text.now fault) }

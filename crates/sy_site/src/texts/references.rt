@@ -1,22 +1,24 @@
-//! The inputs and archives that the lines of a site file name.
+//! The inputs, archives and spare actions that the lines of a site file name.
 
 ghost use Rattle.std.specs.Prelude.{◌≡◌, ◌≤◌, ◌⊎◌, ◌∷◌, [], All, List, ℕ, length, map, IfOk, IfErr, OnOk};
-ghost use Rattle.sy_site.specs.internal.Lines.{protect_line_of};
+ghost use Rattle.sy_site.specs.internal.Lines.{protect_line_of, spare_line_of};
 ghost use Rattle.sy_site.specs.internal.Reading.{IsFound, IsLineAt, line_given};
+ghost use Rattle.sy_site.specs.internal.Relays as spec;
 ghost use Rattle.sy_site.specs.internal.Relays.{AreRelays, HasMore};
 ghost use Rattle.sy_site.specs.internal.SiteInside.{site_with};
-ghost use Rattle.sy_site.specs.texts.Describes.{File, IsEntry, IsProtection, entry_lines, protect_lines};
+ghost use Rattle.sy_site.specs.texts.Describes.{File, IsEntry, IsProtection, IsSpare};
+ghost use Rattle.sy_site.specs.texts.Describes.{entry_lines, protect_lines, spare_lines};
 ghost use Rattle.sy_site.specs.texts.Files.{RELAYS};
 ghost use Rattle.sy_site.specs.texts.HasFault.{HasFault};
 ghost use Rattle.sy_site.specs.texts.Shapes as shapes;
 
 use crate::fault::SiteFault;
-use crate::site::lookup::{Missing, archive, entry};
+use crate::site::lookup::{Missing, action, archive, entry};
 use crate::site::relay::Relay;
-use crate::site::{Protection, SiteInput};
+use crate::site::{Protection, SiteAction, SiteInput};
 use crate::texts::reading::Given;
 use crate::texts::relays::put;
-use crate::texts::shapes::{Line, ProtectLine};
+use crate::texts::shapes::{Line, ProtectLine, SpareLine};
 use std::alloc::Global;
 
 // Puts the input of a line behind the others, where it is an entry line.
@@ -124,4 +126,71 @@ pub fn protections(
         put_protection(&mut protections, given, relays)?;
     }
     Ok(protections)
+}
+
+// Whether a line is a protect line that names the action of a spare line.
+fn names_action(given: &Given<'_>, spare: &SpareLine<'_>) -> bool
+    ensures { result ≡ spec.names_action (line_given given.now) (spare_line_of spare.now) }
+{
+    match &given.line {
+        Line::Protect(line) => line.relay == spare.relay && line.action == spare.action,
+        _ => false,
+    }
+}
+
+// Whether a protect line names the action of a spare line.
+fn is_protected(found: &[Given<'_>], spare: &SpareLine<'_>) -> bool
+    ensures { result ≡ spec.is_protected found.now (spare_line_of spare.now) }
+{
+    found.iter().any(|given| names_action(given, spare))
+}
+
+// Puts the action of a line behind the others, where it is a spare line.
+fn put_spare(
+    spares: &mut Vec<SiteAction>,
+    given: &Given<'_>,
+    relays: &[Relay],
+    found: &[Given<'_>],
+) -> Result<(), SiteFault>
+    requires few { length relays.now ≤ RELAYS }
+    ensures spares { OnOk result (HasMore (IsSpare (site_with relays.now)) (spare_lines (line_given given.now ∷ []))
+        spares.old.items spares.new.items) }
+    ensures apart { OnOk result (spec.NoneProtected found.now (spare_lines (line_given given.now ∷ []))) }
+    ensures err { IfErr result (λ fault. (text : List ℕ) (files : List File) → IsFound text given.now
+        → All (IsFound text) found.now → AreRelays text files relays.now
+        → (fault ≡ SiteFault.NoMemory) ⊎ HasFault text files fault) }
+{
+    let Line::Spare(line) = &given.line else {
+        return Ok(());
+    };
+    match action(relays, line.relay, line.action) {
+        Ok(action) => {
+            if is_protected(found, line) {
+                return Err(SiteFault::SpareArchive(given.number));
+            }
+            put(spares, action)
+        }
+        Err(Missing::Relay) => Err(SiteFault::Line(given.number)),
+        Err(Missing::Part) => Err(SiteFault::NoSuchAction(given.number)),
+    }
+}
+
+/// The actions of the spare lines of a text, none of which a protect line names.
+pub fn spares(
+    alloc: Global,
+    found: &[Given<'_>],
+    relays: &[Relay],
+) -> Result<Vec<SiteAction>, SiteFault>
+    requires few { length relays.now ≤ RELAYS }
+    ensures spares { IfOk result (λ spares. HasMore (IsSpare (site_with relays.now))
+        (spare_lines (map line_given found.now)) [] spares.items) }
+    ensures apart { OnOk result (spec.NoneProtected found.now (spare_lines (map line_given found.now))) }
+    ensures err { IfErr result (λ fault. (text : List ℕ) (files : List File) → All (IsFound text) found.now
+        → AreRelays text files relays.now → (fault ≡ SiteFault.NoMemory) ⊎ HasFault text files fault) }
+{
+    let mut spares = Vec::new(alloc);
+    for given in found {
+        put_spare(&mut spares, given, relays, found)?;
+    }
+    Ok(spares)
 }

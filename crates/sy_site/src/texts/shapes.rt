@@ -7,7 +7,7 @@ ghost use Rattle.sy_select.specs.Selectors.{IsSetOf};
 ghost use Rattle.sy_site.specs.texts.Lines as lines;
 ghost use Rattle.sy_site.specs.texts.Lines.{words};
 ghost use Rattle.sy_site.specs.texts.Shapes as spec;
-ghost use Rattle.sy_site.specs.internal.Lines.{entry_line_of, line_of, protect_line_of, relay_line_of};
+ghost use Rattle.sy_site.specs.internal.Lines.{entry_line_of, line_of, protect_line_of, relay_line_of, spare_line_of};
 
 use crate::texts::lines::{behind_word, next_word};
 use std::alloc::Global;
@@ -44,12 +44,21 @@ pub struct ProtectLine<'t> {
     pub action: &'t [u8],
 }
 
-/// A line of one of the three shapes.
+/// What a spare line says.
+#[derive(Clone, Copy)]
+pub struct SpareLine<'t> {
+    pub relay: &'t [u8],
+    pub action: &'t [u8],
+}
+
+/// A line of one of the five shapes. A policy line says that the policy is 2.
 #[derive(Drop)]
 pub enum Line<'t> {
+    Policy,
     Relay(RelayLine<'t>),
     Entry(EntryLine<'t>),
     Protect(ProtectLine<'t>),
+    Spare(SpareLine<'t>),
 }
 
 fn is_name_byte(byte: u8) -> bool
@@ -181,6 +190,28 @@ pub fn protect_line(alloc: Global, behind: &[u8]) -> Option<ProtectLine<'_>>
     }
 }
 
+/// What a spare line says, of the text behind its first word.
+pub fn spare_line(behind: &[u8]) -> Option<SpareLine<'_>>
+    ensures some { IfSome result (λ it. spec.IsSpareLine (codes "spare" ∷ words behind.now) (spare_line_of it)) }
+    ensures none { IfNone result ((it : spec.SpareLine) → spec.IsSpareLine (codes "spare" ∷ words behind.now) it
+        → ⊥) }
+{
+    let (relay, action) = two_words(behind)?;
+    Some(SpareLine { relay, action })
+}
+
+// The line that begins with `policy`: its other word is the one policy that a line can set.
+fn policy(behind: &[u8]) -> Option<Line<'_>>
+    ensures some { IfSome result (λ it. spec.IsLine (codes "policy" ∷ words behind.now) (line_of it)) }
+    ensures none { IfNone result ((it : spec.Line) → spec.IsLine (codes "policy" ∷ words behind.now) it → ⊥) }
+{
+    let rest = behind_word(behind, b"2")?;
+    match next_word(rest) {
+        Some(_) => None,
+        None => Some(Line::Policy),
+    }
+}
+
 // The line that begins with `relay`.
 fn relay(behind: &[u8]) -> Option<Line<'_>>
     ensures some { IfSome result (λ it. spec.IsLine (codes "relay" ∷ words behind.now) (line_of it)) }
@@ -214,6 +245,17 @@ fn protect(alloc: Global, behind: &[u8]) -> Option<Line<'_>>
     }
 }
 
+// The line that begins with `spare`.
+fn spare(behind: &[u8]) -> Option<Line<'_>>
+    ensures some { IfSome result (λ it. spec.IsLine (codes "spare" ∷ words behind.now) (line_of it)) }
+    ensures none { IfNone result ((it : spec.Line) → spec.IsLine (codes "spare" ∷ words behind.now) it → ⊥) }
+{
+    match spare_line(behind) {
+        Some(it) => Some(Line::Spare(it)),
+        None => None,
+    }
+}
+
 /// Whether a line is skipped: it has no words, or is a comment.
 pub fn is_skipped(line: &[u8]) -> bool
     ensures { result ≡ lines.is_skipped (words line.now) }
@@ -224,7 +266,7 @@ pub fn is_skipped(line: &[u8]) -> bool
     }
 }
 
-/// The line of one of the three shapes that a text is.
+/// The line of one of the five shapes that a text is.
 pub fn read_line(alloc: Global, line: &[u8]) -> Option<Line<'_>>
     ensures some { IfSome result (λ it. spec.IsLine (words line.now) (line_of it)) }
     ensures none { IfNone result ((it : spec.Line) → spec.IsLine (words line.now) it → ⊥) }
@@ -238,5 +280,11 @@ pub fn read_line(alloc: Global, line: &[u8]) -> Option<Line<'_>>
     if let Some(behind) = behind_word(line, b"protect") {
         return protect(alloc, behind);
     }
-    None
+    if let Some(behind) = behind_word(line, b"spare") {
+        return spare(behind);
+    }
+    match behind_word(line, b"policy") {
+        Some(behind) => policy(behind),
+        None => None,
+    }
 }

@@ -9,4 +9,5 @@ use Rattle.sy_site.proofs.counterexamples.a_forward_to_nowhere_isnt_sound.Goals 
 pub returns : goal.returns
 returns c class sound =
     let may = work_may (Body.Run 0 (Body.Run 1 Body.End)) (example_message class) class 1 refl refl in
-    sound.clean edge_input (entry (0, omega arith, refl)) Kind.NoTarget (1, record { number = 1; may = may; runs = refl }, tt, refl)
+    sound.clean edge_input (entry (0, omega arith, refl)) Kind.NoTarget
+    (1, record { number = 1; does = record { may = may; found = refl; in_scope = refl } }, tt, refl)

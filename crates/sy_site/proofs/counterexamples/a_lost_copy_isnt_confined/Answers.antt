@@ -7,6 +7,6 @@ pub returns : goal.returns
 returns c class = (
   s4 class,
   hasty_run class,
-  λ confined. confined.not_lost _ (0, omega arith, refl) (copy class) (record { is = refl; class_is = refl; entered = (0, omega arith, refl) }),
+  λ confined. confined.not_lost _ (0, omega arith, refl) (copy class) (record { is = refl; class_is = refl; entered = (0, omega arith, refl) }) refl,
   hasty_others class,
 )

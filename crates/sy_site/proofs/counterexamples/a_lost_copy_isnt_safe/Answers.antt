@@ -8,6 +8,6 @@ returns c class facility severity = (
   s4 class,
   hasty_run class,
   λ safe. (safe 0 _ refl (auth_is_protected class facility severity) (0, omega arith, refl)).not_lost
-      _ (0, omega arith, refl) (record { copy = copy class; is = refl; numbered = refl }),
+      _ (0, omega arith, refl) (record { copy = copy class; is = refl; numbered = refl }) refl,
   others class,
 )

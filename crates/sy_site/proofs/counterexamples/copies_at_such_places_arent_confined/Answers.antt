@@ -9,8 +9,8 @@ returns-clause-in_a_queue c class = (
   s4 class,
   queue_run class,
   λ confined.
-      (let is : 0 ≡ 1 = confined.placed 0 (Cell.Queue 1) (node class 1) (0, omega arith, refl) (copy class)
-      (record { is = refl; class_is = refl; entered = (0, omega arith, refl) }) in
+      (let is : 0 ≡ 1 = (confined.placed 0 (Cell.Queue 1) (node class 1) (0, omega arith, refl) (copy class)
+      (record { is = refl; class_is = refl; entered = (0, omega arith, refl) }) refl).place in
       omega (arith, is)),
   queue_others class,
 )
@@ -20,8 +20,8 @@ returns-clause-with_a_worker c class = (
   s5 class,
   worker_run class,
   λ confined.
-      (let is : 0 ≡ 1 = confined.placed 0 (Cell.Worker 1) (node class 1) (0, omega arith, refl) (copy class)
-      (record { is = refl; class_is = refl; entered = (0, omega arith, refl) }) in
+      (let is : 0 ≡ 1 = (confined.placed 0 (Cell.Worker 1) (node class 1) (0, omega arith, refl) (copy class)
+      (record { is = refl; class_is = refl; entered = (0, omega arith, refl) }) refl).place in
       omega (arith, is)),
   worker_others class,
 )

@@ -1,11 +1,12 @@
 use Rattle.std.proofs.Common.{sym, subst, ◌∙◌}
 use Rattle.sy_wire.specs.declared.class.Class.{Class}
+use Rattle.sy_board.specs.relay.Spares.{Scope, own}
 use Rattle.sy_site.specs.Sites.{Site}
-use Rattle.sy_site.specs.machine.Reach.{Reach}
+use Rattle.sy_site.specs.machine.Reach.{Follows, Reach}
 use Rattle.sy_site.specs.machine.States.{SiteState}
 use Rattle.sy_site.specs.machine.Confinement.{AreConfined}
 use Rattle.sy_site.specs.machine.Safety.{AreSafe}
-use Rattle.sy_site.specs.machine.Counterexamples.{Bound, Bounds, Holds, Part}
+use Rattle.sy_site.specs.machine.Counterexamples.{Bound, Bounds, Holds, Part, input_of}
 use Rattle.sy_site.proofs.machine.Spread.{some_same}
 use Rattle.sy_site.proofs.counterexamples.parts_are_the_whole.Goals as goal
 
@@ -26,28 +27,31 @@ module _ (site : Site) (state : SiteState) where
 
   module _ (class : Class) where
     bound_of : AreConfined site class state → (part : Bound) → Bounds site class state part
-    bound_of confined Bound.InReach = λ relay cell entry there copy followed. (confined.held relay cell entry there copy followed).reached
-    bound_of confined Bound.OnList = λ relay cell entry there copy followed. (confined.held relay cell entry there copy followed).follows
-    bound_of confined Bound.MayRun = λ relay cell entry there copy followed. (confined.held relay cell entry there copy followed).due
-    bound_of confined Bound.AtPlace = confined.placed
-    bound_of confined Bound.LinkLeads = λ link tag there copy followed forward.
-        (let within = confined.on_links link tag there copy followed forward in (within.to, within.leads))
-    bound_of confined Bound.LinkInReach = λ link tag there copy followed forward to leads.
-        (let within = confined.on_links link tag there copy followed forward in
-        subst (Reach site class) (some_same (sym within.leads ∙ leads)) within.reached)
+    bound_of confined Bound.InReach = λ relay cell entry there copy followed plain. (confined.held relay cell entry there copy followed plain).reached
+    bound_of confined Bound.OnList = λ relay cell entry there copy followed plain. (confined.placed relay cell entry there copy followed plain).list
+    bound_of confined Bound.MayRun = λ relay cell entry there copy followed plain. (confined.held relay cell entry there copy followed plain).due
+    bound_of confined Bound.AtPlace = λ relay cell entry there copy followed plain. (confined.placed relay cell entry there copy followed plain).place
+    bound_of confined Bound.LinkLeads = λ link tag there copy followed plain forward.
+        (let within = confined.on_links link tag there copy followed plain forward in (within.to, within.leads))
+    bound_of confined Bound.LinkInReach = λ link tag there copy followed plain forward to leads.
+        (let within = confined.on_links link tag there copy followed plain forward in
+        subst (Reach site class Scope.Firm) (some_same (sym within.leads ∙ leads)) within.reached)
     bound_of confined Bound.NoneLost = confined.not_lost
 
     bounds : ((part : Bound) → Bounds site class state part) → AreConfined site class state
     bounds parts = record {
-      held = λ relay cell entry there copy followed. record {
-        reached = parts Bound.InReach relay cell entry there copy followed;
-        follows = parts Bound.OnList relay cell entry there copy followed;
-        due = parts Bound.MayRun relay cell entry there copy followed;
+      held = λ relay cell entry there copy followed plain. record {
+        reached = parts Bound.InReach relay cell entry there copy followed plain;
+        follows = subst (Follows site class Scope.Firm (input_of relay entry)) (sym (parts Bound.OnList relay cell entry there copy followed plain)) own;
+        due = parts Bound.MayRun relay cell entry there copy followed plain;
       };
-      placed = parts Bound.AtPlace;
-      on_links = λ link tag there copy followed forward.
-          (let leads = parts Bound.LinkLeads link tag there copy followed forward in
-          record { to = leads.0; leads = leads.1; reached = parts Bound.LinkInReach link tag there copy followed forward leads.0 leads.1 });
+      placed = λ relay cell entry there copy followed plain. record {
+        place = parts Bound.AtPlace relay cell entry there copy followed plain;
+        list = parts Bound.OnList relay cell entry there copy followed plain;
+      };
+      on_links = λ link tag there copy followed plain forward.
+          (let leads = parts Bound.LinkLeads link tag there copy followed plain forward in
+          record { to = leads.0; leads = leads.1; reached = parts Bound.LinkInReach link tag there copy followed plain forward leads.0 leads.1 });
       not_lost = parts Bound.NoneLost;
     }
 

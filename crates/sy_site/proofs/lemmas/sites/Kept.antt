@@ -1,6 +1,6 @@
 -- What the type of a site keeps.
 use Rattle.std.proofs.Common.{◌≡◌, ℕ, ◌≤◌, Bool, true, ◌==◌, ◌&&◌, List, [], ◌∷◌, length, map, get_or, Option, Some, None, refl, ap, subst, ◌∙◌}
-use Rattle.std.specs.Prelude.{option_and_then, option_map, slice_get}
+use Rattle.std.specs.Prelude.{Contains, option_and_then, option_map, slice_get}
 use Rattle.std.specs.List.{position}
 use Rattle.std.specs.Str.{bytes_eq}
 use Rattle.std.proofs.lemmas.List.Quantifiers.{position-Some}
@@ -13,14 +13,16 @@ use Rattle.sy_rules.specs.declared.parts.Input.{Input}
 use Rattle.sy_rules.specs.Whole.{IsWhole}
 use Rattle.sy_site.specs.declared.site.relay.Relay.{Relay as Kept}
 use Rattle.sy_site.specs.Sites.{Site, SiteAction, SiteInput, Protection, input_at_port, plan_at, relay_named}
-use Rattle.sy_site.specs.machine.Lawful.{IsArchive, IsInput, IsLawful}
+use Rattle.sy_site.specs.machine.Lawful.{IsAction, IsArchive, IsInput, IsLawful}
 use Rattle.sy_site.specs.texts.Files.{RELAYS}
-use Rattle.sy_site.specs.texts.Shapes.{EntryLine, ProtectLine, RelayLine}
-use Rattle.sy_site.specs.texts.Describes.{AllPaired, File, IsEntry, IsProtection, archive_at, is_archive}
+use Rattle.sy_site.specs.texts.Shapes.{Line, EntryLine, ProtectLine, RelayLine, SpareLine}
+use Rattle.sy_site.specs.texts.Describes.{AllPaired, File, IsEntry, IsProtection, IsSpare, NameOne, archive_at, entry_lines, is_archive, policy_of, protect_lines, relay_lines, spare_lines}
 use Rattle.sy_site.specs.internal.Relays.{HasMore, IsWholeRelay}
 use Rattle.sy_site.specs.internal.SiteInside.{relay_of}
 use Rattle.sy_site.proofs.lemmas.sites.More.{all_paired, all_right, paired_as, paired_lengths, paired_map}
+use Rattle.sy_site.proofs.lemmas.sites.Spares.{none_spare, nothing, spare_there}
 use Rattle.sy_site.proofs.lemmas.texts.OneSite.{same_archives}
+use Rattle.sy_site.proofs.lemmas.texts.Policies.{ByPolicy, site_policy}
 
 no_value : {A : Type 0} {x : A} → None ≡ Some x → ⊥
 no_value e = cc
@@ -99,15 +101,33 @@ length_same : {A B : Type 0} (f : A → B) (xs : List A) → length (map f xs) �
 length_same f [] = refl
 length_same f (x ∷ xs) = ap ℕ.suc (length_same f xs)
 
-pub lawful : (files : List File) (lines : List RelayLine) (entry_lines : List EntryLine) (protect_lines : List ProtectLine) (relays : List Kept) (site : Site)
-    → site.relays ≡ map relay_of relays → HasMore (IsWholeRelay files) lines [] relays → length lines ≤ RELAYS
-    → AllPaired (IsEntry site) entry_lines site.entries → AllPaired (IsProtection site) protect_lines site.protections → IsLawful site
-lawful files lines entry_lines protect_lines relays site same h few entries protections = record {
-  few = rw (same, length_same relay_of relays) (few_relays files lines relays h few);
+-- What is read of the lines of a text: the relays, and what the other lines name.
+pub record IsRead (files : List File) (lines : List Line) (kept : List Kept) (site : Site) : Type 0 where
+  pub relays_are : site.relays ≡ map relay_of kept
+  pub relays : HasMore (IsWholeRelay files) (relay_lines lines) [] kept
+  pub few : length (relay_lines lines) ≤ RELAYS
+  pub by_policy : ByPolicy lines
+  pub policy : site.policy ≡ policy_of lines
+  pub entries : AllPaired (IsEntry site) (entry_lines lines) site.entries
+  pub protections : AllPaired (IsProtection site) (protect_lines lines) site.protections
+  pub spares : AllPaired (IsSpare site) (spare_lines lines) site.spares
+  pub apart : (protect : ProtectLine) (spare : SpareLine) → Contains (protect_lines lines) protect → Contains (spare_lines lines) spare
+      → NameOne protect spare → ⊥
+
+action_there : (site : Site) (line : SpareLine) (a : SiteAction) → IsSpare site line a → IsAction site a
+action_there site line a is = record { parts = get_or (plan_at site a.relay).actions a.action nothing; found = spare_there site line a is }
+
+pub lawful : (files : List File) (lines : List Line) (relays : List Kept) (site : Site) → IsRead files lines relays site → IsLawful site
+lawful files lines relays site h = record {
+  policy = site_policy site lines h.by_policy h.policy h.spares;
+  few = rw (h.relays_are, length_same relay_of relays) (few_relays files (relay_lines lines) relays h.relays h.few);
   plans =
-      rw same
+      rw h.relays_are
       (all_right (λ line relay. IsWhole relay.plan) (λ relay. IsWhole relay.plan) (λ line relay w. w)
-      (paired_map (IsWholeRelay files) relay_of (λ line relay. IsWhole relay.plan) (λ line relay w. w.whole) (all_paired (IsWholeRelay files) lines relays h)));
-  entries = all_right (IsEntry site) (IsInput site) (entry_there site) entries;
-  archives = all_right (IsProtection site) (λ p. IsArchive site p.archive) (archive_there site) protections;
+      (paired_map (IsWholeRelay files) relay_of (λ line relay. IsWhole relay.plan) (λ line relay w. w.whole)
+      (all_paired (IsWholeRelay files) (relay_lines lines) relays h.relays)));
+  entries = all_right (IsEntry site) (IsInput site) (entry_there site) h.entries;
+  archives = all_right (IsProtection site) (λ p. IsArchive site p.archive) (archive_there site) h.protections;
+  spares = all_right (IsSpare site) (IsAction site) (action_there site) h.spares;
+  spare_archives = none_spare site (protect_lines lines) (spare_lines lines) h.protections h.spares h.apart;
 }

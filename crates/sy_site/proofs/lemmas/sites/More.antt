@@ -2,13 +2,14 @@
 use Rattle.std.proofs.Common.{◌≡◌, ℕ, suc, ◌<◌, List, [], ◌∷◌, ◌++◌, length, map, get_or, drop, ◌+◌, ◌≤◌, Result, Ok, Err, refl, sym, ap, subst, ◌∙◌, arith, append_assoc, append-nil}
 use Rattle.std.specs.Prelude.{All, Contains, OnOk}
 use Rattle.std.proofs.lemmas.List.{drop_all, drop_more}
-use Rattle.std.proofs.lemmas.List.Elements.{All-cons}
-use Rattle.sy_site.specs.texts.Describes.{AllPaired, entry_lines, protect_lines, relay_lines}
+use Rattle.std.proofs.lemmas.List.Elements.{All-append, All-cons}
+use Rattle.sy_site.specs.texts.Describes.{AllPaired, entry_lines, protect_lines, relay_lines, spare_lines}
 use Rattle.sy_site.specs.texts.Shapes.{Line}
 use Rattle.sy_site.specs.declared.texts.reading.Given.{Given}
 use Rattle.sy_site.specs.declared.texts.shapes.RelayLine.{RelayLine as ReadRelay}
 use Rattle.sy_site.specs.declared.texts.shapes.EntryLine.{EntryLine as ReadEntry}
 use Rattle.sy_site.specs.declared.texts.shapes.ProtectLine.{ProtectLine as ReadProtect}
+use Rattle.sy_site.specs.declared.texts.shapes.SpareLine.{SpareLine as ReadSpare}
 use Rattle.sy_site.specs.declared.texts.shapes.Line.{Line as Read}
 use Rattle.sy_site.specs.declared.texts.shapes.Line.TheVariants as read
 use Rattle.sy_site.specs.internal.Lines.{line_of}
@@ -72,19 +73,32 @@ paired_as P Q each (AllPaired.more p ps) = AllPaired.more (each _ _ p) (paired_a
 -- ---- lines of a kind
 
 pub relay_first : (line : Line) (lines : List Line) → relay_lines (line ∷ lines) ≡ relay_lines (line ∷ []) ++ relay_lines lines
+relay_first Line.Policy lines = refl
 relay_first (Line.Relay it) lines = refl
 relay_first (Line.Entry it) lines = refl
 relay_first (Line.Protect it) lines = refl
+relay_first (Line.Spare it) lines = refl
 
 pub entry_first : (line : Line) (lines : List Line) → entry_lines (line ∷ lines) ≡ entry_lines (line ∷ []) ++ entry_lines lines
+entry_first Line.Policy lines = refl
 entry_first (Line.Relay it) lines = refl
 entry_first (Line.Entry it) lines = refl
 entry_first (Line.Protect it) lines = refl
+entry_first (Line.Spare it) lines = refl
 
 pub protect_first : (line : Line) (lines : List Line) → protect_lines (line ∷ lines) ≡ protect_lines (line ∷ []) ++ protect_lines lines
+protect_first Line.Policy lines = refl
 protect_first (Line.Relay it) lines = refl
 protect_first (Line.Entry it) lines = refl
 protect_first (Line.Protect it) lines = refl
+protect_first (Line.Spare it) lines = refl
+
+pub spare_first : (line : Line) (lines : List Line) → spare_lines (line ∷ lines) ≡ spare_lines (line ∷ []) ++ spare_lines lines
+spare_first Line.Policy lines = refl
+spare_first (Line.Relay it) lines = refl
+spare_first (Line.Entry it) lines = refl
+spare_first (Line.Protect it) lines = refl
+spare_first (Line.Spare it) lines = refl
 
 -- ---- lines that were read, one after the other
 
@@ -105,20 +119,46 @@ module _ {X B : Type 0} (P : X → B → Type 0) (kind : List Line → List X)
       cut : drop i found ≡ next ∷ drop (i + 1) found
       cut = drop_more found i next within ∙ ap (λ g. g ∷ drop (i + 1) found) (sym is)
 
+-- what holds of all that the lines from a place on give
+pub all_at : {X : Type 0} (Q : X → Type 0) (kind : List Line → List X)
+    → ((line : Line) (lines : List Line) → kind (line ∷ lines) ≡ kind (line ∷ []) ++ kind lines)
+    → (found : List Given) (i : ℕ) (next : Given) → i < length found → next ≡ get_or found i next → All Q (kind (line_given next ∷ []))
+    → All Q (kind (map line_given (drop (i + 1) found))) → All Q (kind (map line_given (drop i found)))
+all_at Q kind first found i next within is one others =
+    subst (λ l. All Q (kind (map line_given l))) (sym cut)
+    (subst (All Q) (sym (first (line_given next) (map line_given (drop (i + 1) found))))
+    (All-append Q (kind (line_given next ∷ [])) (kind (map line_given (drop (i + 1) found))) one others))
+  where
+    cut : drop i found ≡ next ∷ drop (i + 1) found
+    cut = drop_more found i next within ∙ ap (λ g. g ∷ drop (i + 1) found) (sym is)
+
 pub not_relay : (line : Read) → ((it : ReadRelay) → line ≡ read.Relay it → ⊥) → relay_lines (line_of line ∷ []) ≡ []
+not_relay read.Policy never = refl
 not_relay (read.Relay it) never = absurd (never it refl)
 not_relay (read.Entry it) never = refl
 not_relay (read.Protect it) never = refl
+not_relay (read.Spare it) never = refl
 
 pub not_entry : (line : Read) → ((it : ReadEntry) → line ≡ read.Entry it → ⊥) → entry_lines (line_of line ∷ []) ≡ []
+not_entry read.Policy never = refl
 not_entry (read.Relay it) never = refl
 not_entry (read.Entry it) never = absurd (never it refl)
 not_entry (read.Protect it) never = refl
+not_entry (read.Spare it) never = refl
 
 pub not_protect : (line : Read) → ((it : ReadProtect) → line ≡ read.Protect it → ⊥) → protect_lines (line_of line ∷ []) ≡ []
+not_protect read.Policy never = refl
 not_protect (read.Relay it) never = refl
 not_protect (read.Entry it) never = refl
 not_protect (read.Protect it) never = absurd (never it refl)
+not_protect (read.Spare it) never = refl
+
+pub not_spare : (line : Read) → ((it : ReadSpare) → line ≡ read.Spare it → ⊥) → spare_lines (line_of line ∷ []) ≡ []
+not_spare read.Policy never = refl
+not_spare (read.Relay it) never = refl
+not_spare (read.Entry it) never = refl
+not_spare (read.Protect it) never = refl
+not_spare (read.Spare it) never = absurd (never it refl)
 
 pub none_of : {X B : Type 0} (P : X → B → Type 0) (lines : List X) (old : List B) → lines ≡ [] → HasMore P lines old old
 none_of P lines old none = subst (λ l. HasMore P l old old) (sym none) (more_none P old)

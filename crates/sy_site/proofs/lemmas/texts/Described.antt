@@ -10,14 +10,14 @@ use Rattle.std.proofs.lemmas.Slice.Eq.{bytes_eq-Decides}
 use Rattle.sy_site.specs.declared.site.relay.Relay.{Relay as Kept}
 use Rattle.sy_site.specs.Sites.{Relay, Site, plan_at, plan_in, relay_named}
 use Rattle.sy_site.specs.texts.Lines.{is_kind, is_skipped, word_lines}
-use Rattle.sy_site.specs.texts.Shapes.{Line, RelayLine, EntryLine, ProtectLine, IsLine, IsProtectLine}
-use Rattle.sy_site.specs.texts.Describes.{AllPaired, AreLines, File, IsProtection, IsRelay, entry_lines, protect_lines, relay_lines}
+use Rattle.sy_site.specs.texts.Shapes.{Line, RelayLine, EntryLine, ProtectLine, SpareLine, IsLine, IsProtectLine}
+use Rattle.sy_site.specs.texts.Describes.{AllPaired, AreLines, File, IsProtection, IsRelay, entry_lines, protect_lines, relay_lines, spare_lines}
 use Rattle.sy_site.specs.texts.HasFault.{HasPlan, IsEmpty, Names}
 use Rattle.sy_site.specs.internal.Relays.{AreRelays, HasMore, IsWholeRelay}
 use Rattle.sy_site.specs.internal.SiteInside.{relay_of, site_with}
 use Rattle.sy_site.proofs.lemmas.sites.More.{all_paired, paired_map, partner, partner_back}
 use Rattle.sy_site.proofs.lemmas.sites.Places.{place_none}
-use Rattle.sy_site.proofs.lemmas.texts.OneSite.{one_line}
+use Rattle.sy_site.proofs.lemmas.texts.OneLine.{one_line}
 
 -- ---- found and there
 
@@ -26,9 +26,11 @@ Words = List (List ℕ)
 
 -- what is skipped has no shape
 no_skip : (line : Words) (it : Line) → is_skipped line ≡ true → IsLine line it → ⊥
+no_skip line Line.Policy skipped shape = false≢true (sym (ap is_skipped shape) ∙ skipped)
 no_skip line (Line.Relay it) skipped shape = false≢true (sym (ap is_skipped shape.whole) ∙ skipped)
 no_skip line (Line.Entry it) skipped shape = false≢true (sym (ap is_skipped shape.whole) ∙ skipped)
 no_skip line (Line.Protect it) skipped shape = false≢true (sym (ap is_skipped shape.whole) ∙ skipped)
+no_skip line (Line.Spare it) skipped shape = false≢true (sym (ap is_skipped shape) ∙ skipped)
 
 there_later : {A : Type 0} (y x : A) (xs : List A) → Contains xs x → Contains (y ∷ xs) x
 there_later y x xs (k, l, is) = (suc k, omega (arith, l), is)
@@ -60,6 +62,8 @@ relay_there (line ∷ lines) it (ℕ.zero, l, is) = subst (λ z. Contains (relay
 relay_there (Line.Relay other ∷ lines) it (ℕ.suc k, l, is) = there_later _ _ _ (relay_there lines it (k, omega (arith, l), is))
 relay_there (Line.Entry other ∷ lines) it (ℕ.suc k, l, is) = relay_there lines it (k, omega (arith, l), is)
 relay_there (Line.Protect other ∷ lines) it (ℕ.suc k, l, is) = relay_there lines it (k, omega (arith, l), is)
+relay_there (Line.Policy ∷ lines) it (ℕ.suc k, l, is) = relay_there lines it (k, omega (arith, l), is)
+relay_there (Line.Spare other ∷ lines) it (ℕ.suc k, l, is) = relay_there lines it (k, omega (arith, l), is)
 
 pub there_relay : (lines : List Line) (it : RelayLine) → Contains (relay_lines lines) it → Contains lines (Line.Relay it)
 there_relay [] it (k, l, is) = absurd (omega (arith, l))
@@ -67,6 +71,8 @@ there_relay (Line.Relay other ∷ lines) it (ℕ.zero, l, is) = there_first _ _ 
 there_relay (Line.Relay other ∷ lines) it (ℕ.suc k, l, is) = there_later _ _ _ (there_relay lines it (k, omega (arith, l), is))
 there_relay (Line.Entry other ∷ lines) it there = there_later _ _ _ (there_relay lines it there)
 there_relay (Line.Protect other ∷ lines) it there = there_later _ _ _ (there_relay lines it there)
+there_relay (Line.Policy ∷ lines) it there = there_later _ _ _ (there_relay lines it there)
+there_relay (Line.Spare other ∷ lines) it there = there_later _ _ _ (there_relay lines it there)
 
 pub protect_there : (lines : List Line) (it : ProtectLine) → Contains lines (Line.Protect it) → Contains (protect_lines lines) it
 protect_there [] it (k, l, is) = absurd (omega (arith, l))
@@ -74,6 +80,8 @@ protect_there (line ∷ lines) it (ℕ.zero, l, is) = subst (λ z. Contains (pro
 protect_there (Line.Protect other ∷ lines) it (ℕ.suc k, l, is) = there_later _ _ _ (protect_there lines it (k, omega (arith, l), is))
 protect_there (Line.Entry other ∷ lines) it (ℕ.suc k, l, is) = protect_there lines it (k, omega (arith, l), is)
 protect_there (Line.Relay other ∷ lines) it (ℕ.suc k, l, is) = protect_there lines it (k, omega (arith, l), is)
+protect_there (Line.Policy ∷ lines) it (ℕ.suc k, l, is) = protect_there lines it (k, omega (arith, l), is)
+protect_there (Line.Spare other ∷ lines) it (ℕ.suc k, l, is) = protect_there lines it (k, omega (arith, l), is)
 
 pub entry_there : (lines : List Line) (it : EntryLine) → Contains lines (Line.Entry it) → Contains (entry_lines lines) it
 entry_there [] it (k, l, is) = absurd (omega (arith, l))
@@ -81,6 +89,17 @@ entry_there (line ∷ lines) it (ℕ.zero, l, is) = subst (λ z. Contains (entry
 entry_there (Line.Entry other ∷ lines) it (ℕ.suc k, l, is) = there_later _ _ _ (entry_there lines it (k, omega (arith, l), is))
 entry_there (Line.Protect other ∷ lines) it (ℕ.suc k, l, is) = entry_there lines it (k, omega (arith, l), is)
 entry_there (Line.Relay other ∷ lines) it (ℕ.suc k, l, is) = entry_there lines it (k, omega (arith, l), is)
+entry_there (Line.Policy ∷ lines) it (ℕ.suc k, l, is) = entry_there lines it (k, omega (arith, l), is)
+entry_there (Line.Spare other ∷ lines) it (ℕ.suc k, l, is) = entry_there lines it (k, omega (arith, l), is)
+
+pub spare_there : (lines : List Line) (it : SpareLine) → Contains lines (Line.Spare it) → Contains (spare_lines lines) it
+spare_there [] it (k, l, is) = absurd (omega (arith, l))
+spare_there (line ∷ lines) it (ℕ.zero, l, is) = subst (λ z. Contains (spare_lines (z ∷ lines)) it) (sym is) (there_first _ _ _ refl)
+spare_there (Line.Spare other ∷ lines) it (ℕ.suc k, l, is) = there_later _ _ _ (spare_there lines it (k, omega (arith, l), is))
+spare_there (Line.Policy ∷ lines) it (ℕ.suc k, l, is) = spare_there lines it (k, omega (arith, l), is)
+spare_there (Line.Relay other ∷ lines) it (ℕ.suc k, l, is) = spare_there lines it (k, omega (arith, l), is)
+spare_there (Line.Entry other ∷ lines) it (ℕ.suc k, l, is) = spare_there lines it (k, omega (arith, l), is)
+spare_there (Line.Protect other ∷ lines) it (ℕ.suc k, l, is) = spare_there lines it (k, omega (arith, l), is)
 
 -- ---- relays by name
 
@@ -152,7 +171,11 @@ no_entry_line (AreLines.skip e h) none line (ℕ.zero, l, is) = skipped_no_entry
 no_entry_line (AreLines.skip e h) none line (ℕ.suc k, l, is) = no_entry_line h none line (k, omega (arith, l), is)
 no_entry_line (AreLines.shaped {it = Line.Relay it} e shape h) none line (ℕ.zero, l, is) = ap (is_kind (codes "entry")) (sym is ∙ shape.whole)
 no_entry_line (AreLines.shaped {it = Line.Protect it} e shape h) none line (ℕ.zero, l, is) = ap (is_kind (codes "entry")) (sym is ∙ shape.whole)
+no_entry_line (AreLines.shaped {it = Line.Policy} e shape h) none line (ℕ.zero, l, is) = ap (is_kind (codes "entry")) (sym is ∙ shape)
+no_entry_line (AreLines.shaped {it = Line.Spare it} e shape h) none line (ℕ.zero, l, is) = ap (is_kind (codes "entry")) (sym is ∙ shape)
 no_entry_line (AreLines.shaped {it = Line.Entry it} e shape h) none line there = absurd (some_first none)
+no_entry_line (AreLines.shaped {it = Line.Policy} e shape h) none line (ℕ.suc k, l, is) = no_entry_line h none line (k, omega (arith, l), is)
+no_entry_line (AreLines.shaped {it = Line.Spare it} e shape h) none line (ℕ.suc k, l, is) = no_entry_line h none line (k, omega (arith, l), is)
 no_entry_line (AreLines.shaped {it = Line.Relay it} e shape h) none line (ℕ.suc k, l, is) = no_entry_line h none line (k, omega (arith, l), is)
 no_entry_line (AreLines.shaped {it = Line.Protect it} e shape h) none line (ℕ.suc k, l, is) = no_entry_line h none line (k, omega (arith, l), is)
 

@@ -1,5 +1,5 @@
 -- A text that describes a site has no fault.
-use Rattle.std.proofs.Common.{◌≡◌, ℕ, true, false, ◌<◌, ◌≤◌, ◌==◌, ◌&&◌, zero, suc, List, [], ◌∷◌, ◌++◌, length, get_or, Option, Some, None, refl, sym, ap, subst, ◌∙◌, arith, inl, inr, filter}
+use Rattle.std.proofs.Common.{◌≡◌, ℕ, true, false, ◌<◌, ◌≤◌, ◌==◌, ◌&&◌, zero, suc, List, [], ◌∷◌, length, get_or, Option, Some, None, refl, sym, ap, subst, ◌∙◌, arith, inl, inr, filter}
 use Rattle.std.proofs.lemmas.Bool.{false≢true}
 use Rattle.std.proofs.lemmas.List.Folds.{Any-from_list_any}
 use Rattle.std.proofs.lemmas.List.Quantifiers.{position-Some}
@@ -20,19 +20,24 @@ use Rattle.sy_site.specs.declared.fault.SiteFault.{SiteFault}
 use Rattle.sy_site.specs.internal.Reading.{kind}
 use Rattle.sy_site.specs.Sites.{Site, Relay, SiteInput, SiteAction, Protection, asks_for, input_at_port, no_plan, plan_at, plan_in, relay_named}
 use Rattle.sy_site.specs.texts.Lines.{is_kind, is_skipped, word_lines}
-use Rattle.sy_site.specs.texts.Shapes.{Line, RelayLine, EntryLine, ProtectLine, IsLine, IsRelayLine, IsEntryLine, IsProtectLine}
-use Rattle.sy_site.specs.texts.Describes.{AllPaired, AreLines, Describes, File, IsProtection, IsRelay, Repeats, archive_at, archive_of, entry_lines, entry_of, file_named, is_archive, protect_lines, relay_lines}
+use Rattle.sy_site.specs.texts.Shapes.{Line, RelayLine, EntryLine, ProtectLine, SpareLine, IsLine, IsRelayLine, IsEntryLine, IsProtectLine, IsSpareLine}
+use Rattle.sy_site.specs.texts.Describes.{AllPaired, AreLines, Describes, File, IsProtection, IsRelay, Repeats, action_at, action_of, archive_at, archive_of, entry_lines, entry_of, file_named, is_archive, protect_lines, relay_lines, spare_lines}
 use Rattle.sy_site.specs.texts.HasFault.{HasFault, HasPlan, IsEmpty, IsFileFault, IsLimit, IsOf, Names}
-use Rattle.sy_site.proofs.lemmas.texts.Found.{Single, again_first, again_later, among_cases, among_first, among_later, begins, count_no, count_yes, counted_in, line_there, none_in, of_kind, skipped_kind, stands_among}
+use Rattle.sy_site.proofs.lemmas.texts.Again.{again_first, again_later, among_cases, among_first, among_later, none_in, split_at}
+use Rattle.sy_site.proofs.lemmas.texts.Kinds.{begins, no_entry, no_protect, no_relay, no_spare, of_kind, skipped_kind}
+use Rattle.sy_site.proofs.lemmas.texts.Found.{Single, count_no, count_yes, counted_in, line_there, stands_among}
 use Rattle.sy_site.proofs.lemmas.texts.Noted.{Words}
-use Rattle.sy_site.proofs.lemmas.texts.OneSite.{one_line, one_relay, one_relay_line, one_value}
+use Rattle.sy_site.proofs.lemmas.texts.OneLine.{one_line, one_relay_line, one_value}
+use Rattle.sy_site.proofs.lemmas.texts.OneSite.{one_relay}
 
 -- ---- a line and its words
 
 kind_kept : (it : Line) (behind : Words) → is_skipped (kind it ∷ behind) ≡ false
+kind_kept Line.Policy behind = refl
 kind_kept (Line.Relay it) behind = refl
 kind_kept (Line.Entry it) behind = refl
 kind_kept (Line.Protect it) behind = refl
+kind_kept (Line.Spare it) behind = refl
 
 shaped_kept : (line : Words) (it : Line) → IsLine line it → is_skipped line ≡ false
 shaped_kept line it h = let k = of_kind line it h in ap is_skipped k.1 ∙ kind_kept it k.0
@@ -63,6 +68,9 @@ line_value e = cc
 entry_value : {it other : EntryLine} → Line.Entry it ≡ Line.Entry other → it ≡ other
 entry_value e = cc
 
+spare_value : {it other : SpareLine} → Line.Spare it ≡ Line.Spare other → it ≡ other
+spare_value e = cc
+
 protect_value : {it other : ProtectLine} → Line.Protect it ≡ Line.Protect other → it ≡ other
 protect_value e = cc
 
@@ -80,6 +88,16 @@ to_relays (Line.Entry x ∷ found) it c =
     ]
 to_relays (Line.Protect x ∷ found) it c =
     elim (among_cases (Line.Protect x) found (Line.Relay it) c) [
+      | inl same ↦ cc
+      | inr behind ↦ to_relays found it behind
+    ]
+to_relays (Line.Policy ∷ found) it c =
+    elim (among_cases Line.Policy found (Line.Relay it) c) [
+      | inl same ↦ cc
+      | inr behind ↦ to_relays found it behind
+    ]
+to_relays (Line.Spare x ∷ found) it c =
+    elim (among_cases (Line.Spare x) found (Line.Relay it) c) [
       | inl same ↦ cc
       | inr behind ↦ to_relays found it behind
     ]
@@ -101,6 +119,16 @@ to_entries (Line.Protect x ∷ found) it c =
       | inl same ↦ cc
       | inr behind ↦ to_entries found it behind
     ]
+to_entries (Line.Policy ∷ found) it c =
+    elim (among_cases Line.Policy found (Line.Entry it) c) [
+      | inl same ↦ cc
+      | inr behind ↦ to_entries found it behind
+    ]
+to_entries (Line.Spare x ∷ found) it c =
+    elim (among_cases (Line.Spare x) found (Line.Entry it) c) [
+      | inl same ↦ cc
+      | inr behind ↦ to_entries found it behind
+    ]
 
 to_protections : (found : List Line) (it : ProtectLine) → Contains found (Line.Protect it) → Contains (protect_lines found) it
 to_protections [] it c = absurd (none_in (Line.Protect it) c)
@@ -119,6 +147,44 @@ to_protections (Line.Entry x ∷ found) it c =
       | inl same ↦ cc
       | inr behind ↦ to_protections found it behind
     ]
+to_protections (Line.Policy ∷ found) it c =
+    elim (among_cases Line.Policy found (Line.Protect it) c) [
+      | inl same ↦ cc
+      | inr behind ↦ to_protections found it behind
+    ]
+to_protections (Line.Spare x ∷ found) it c =
+    elim (among_cases (Line.Spare x) found (Line.Protect it) c) [
+      | inl same ↦ cc
+      | inr behind ↦ to_protections found it behind
+    ]
+
+to_spares : (found : List Line) (it : SpareLine) → Contains found (Line.Spare it) → Contains (spare_lines found) it
+to_spares [] it c = absurd (none_in (Line.Spare it) c)
+to_spares (Line.Spare x ∷ found) it c =
+    elim (among_cases (Line.Spare x) found (Line.Spare it) c) [
+      | inl same ↦ subst (λ y. Contains (x ∷ spare_lines found) y) (spare_value same) (among_first x (spare_lines found))
+      | inr behind ↦ among_later x (spare_lines found) it (to_spares found it behind)
+    ]
+to_spares (Line.Policy ∷ found) it c =
+    elim (among_cases Line.Policy found (Line.Spare it) c) [
+      | inl same ↦ cc
+      | inr behind ↦ to_spares found it behind
+    ]
+to_spares (Line.Relay x ∷ found) it c =
+    elim (among_cases (Line.Relay x) found (Line.Spare it) c) [
+      | inl same ↦ cc
+      | inr behind ↦ to_spares found it behind
+    ]
+to_spares (Line.Entry x ∷ found) it c =
+    elim (among_cases (Line.Entry x) found (Line.Spare it) c) [
+      | inl same ↦ cc
+      | inr behind ↦ to_spares found it behind
+    ]
+to_spares (Line.Protect x ∷ found) it c =
+    elim (among_cases (Line.Protect x) found (Line.Spare it) c) [
+      | inl same ↦ cc
+      | inr behind ↦ to_spares found it behind
+    ]
 
 of_relays : (found : List Line) (it : RelayLine) → Contains (relay_lines found) it → Contains found (Line.Relay it)
 of_relays [] it c = absurd (none_in it c)
@@ -129,6 +195,8 @@ of_relays (Line.Relay x ∷ found) it c =
     ]
 of_relays (Line.Entry x ∷ found) it c = among_later (Line.Entry x) found (Line.Relay it) (of_relays found it c)
 of_relays (Line.Protect x ∷ found) it c = among_later (Line.Protect x) found (Line.Relay it) (of_relays found it c)
+of_relays (Line.Policy ∷ found) it c = among_later Line.Policy found (Line.Relay it) (of_relays found it c)
+of_relays (Line.Spare x ∷ found) it c = among_later (Line.Spare x) found (Line.Relay it) (of_relays found it c)
 
 of_entries : (found : List Line) (it : EntryLine) → Contains (entry_lines found) it → Contains found (Line.Entry it)
 of_entries [] it c = absurd (none_in it c)
@@ -139,6 +207,8 @@ of_entries (Line.Entry x ∷ found) it c =
     ]
 of_entries (Line.Relay x ∷ found) it c = among_later (Line.Relay x) found (Line.Entry it) (of_entries found it c)
 of_entries (Line.Protect x ∷ found) it c = among_later (Line.Protect x) found (Line.Entry it) (of_entries found it c)
+of_entries (Line.Policy ∷ found) it c = among_later Line.Policy found (Line.Entry it) (of_entries found it c)
+of_entries (Line.Spare x ∷ found) it c = among_later (Line.Spare x) found (Line.Entry it) (of_entries found it c)
 
 of_protections : (found : List Line) (it : ProtectLine) → Contains (protect_lines found) it → Contains found (Line.Protect it)
 of_protections [] it c = absurd (none_in it c)
@@ -149,15 +219,8 @@ of_protections (Line.Protect x ∷ found) it c =
     ]
 of_protections (Line.Relay x ∷ found) it c = among_later (Line.Relay x) found (Line.Protect it) (of_protections found it c)
 of_protections (Line.Entry x ∷ found) it c = among_later (Line.Entry x) found (Line.Protect it) (of_protections found it c)
-
-no_relay : RelayLine
-no_relay = record { name = []; file = []; address = [] }
-
-no_entry : EntryLine
-no_entry = record { relay = []; port = 0 }
-
-no_protect : ProtectLine
-no_protect = record { selector = []; relay = []; action = [] }
+of_protections (Line.Policy ∷ found) it c = among_later Line.Policy found (Line.Protect it) (of_protections found it c)
+of_protections (Line.Spare x ∷ found) it c = among_later (Line.Spare x) found (Line.Protect it) (of_protections found it c)
 
 count_relays : {all : List Words} {found : List Line} → AreLines all found → length (filter (is_kind (codes "relay")) all) ≡ length (relay_lines found)
 count_relays AreLines.none = refl
@@ -169,6 +232,10 @@ count_relays (AreLines.shaped {words = w} {later = ws} {it = Line.Entry x} e is 
     count_no (is_kind (codes "relay")) w ws (begins (codes "relay") w (Line.Entry x) is) ∙ count_relays h
 count_relays (AreLines.shaped {words = w} {later = ws} {it = Line.Protect x} e is h) =
     count_no (is_kind (codes "relay")) w ws (begins (codes "relay") w (Line.Protect x) is) ∙ count_relays h
+count_relays (AreLines.shaped {words = w} {later = ws} {it = Line.Policy} e is h) =
+    count_no (is_kind (codes "relay")) w ws (begins (codes "relay") w Line.Policy is) ∙ count_relays h
+count_relays (AreLines.shaped {words = w} {later = ws} {it = Line.Spare x} e is h) =
+    count_no (is_kind (codes "relay")) w ws (begins (codes "relay") w (Line.Spare x) is) ∙ count_relays h
 
 count_entries : {all : List Words} {found : List Line} → AreLines all found → length (filter (is_kind (codes "entry")) all) ≡ length (entry_lines found)
 count_entries AreLines.none = refl
@@ -180,6 +247,10 @@ count_entries (AreLines.shaped {words = w} {later = ws} {it = Line.Relay x} e is
     count_no (is_kind (codes "entry")) w ws (begins (codes "entry") w (Line.Relay x) is) ∙ count_entries h
 count_entries (AreLines.shaped {words = w} {later = ws} {it = Line.Protect x} e is h) =
     count_no (is_kind (codes "entry")) w ws (begins (codes "entry") w (Line.Protect x) is) ∙ count_entries h
+count_entries (AreLines.shaped {words = w} {later = ws} {it = Line.Policy} e is h) =
+    count_no (is_kind (codes "entry")) w ws (begins (codes "entry") w Line.Policy is) ∙ count_entries h
+count_entries (AreLines.shaped {words = w} {later = ws} {it = Line.Spare x} e is h) =
+    count_no (is_kind (codes "entry")) w ws (begins (codes "entry") w (Line.Spare x) is) ∙ count_entries h
 
 count_protections : {all : List Words} {found : List Line} → AreLines all found
     → length (filter (is_kind (codes "protect")) all) ≡ length (protect_lines found)
@@ -192,6 +263,25 @@ count_protections (AreLines.shaped {words = w} {later = ws} {it = Line.Relay x} 
     count_no (is_kind (codes "protect")) w ws (begins (codes "protect") w (Line.Relay x) is) ∙ count_protections h
 count_protections (AreLines.shaped {words = w} {later = ws} {it = Line.Entry x} e is h) =
     count_no (is_kind (codes "protect")) w ws (begins (codes "protect") w (Line.Entry x) is) ∙ count_protections h
+count_protections (AreLines.shaped {words = w} {later = ws} {it = Line.Policy} e is h) =
+    count_no (is_kind (codes "protect")) w ws (begins (codes "protect") w Line.Policy is) ∙ count_protections h
+count_protections (AreLines.shaped {words = w} {later = ws} {it = Line.Spare x} e is h) =
+    count_no (is_kind (codes "protect")) w ws (begins (codes "protect") w (Line.Spare x) is) ∙ count_protections h
+
+count_spares : {all : List Words} {found : List Line} → AreLines all found → length (filter (is_kind (codes "spare")) all) ≡ length (spare_lines found)
+count_spares AreLines.none = refl
+count_spares (AreLines.skip {words = w} {later = ws} e h) =
+    count_no (is_kind (codes "spare")) w ws (skipped_kind (Line.Spare no_spare) w e) ∙ count_spares h
+count_spares (AreLines.shaped {words = w} {later = ws} {it = Line.Spare x} e is h) =
+    let one = count_yes (is_kind (codes "spare")) w ws (begins (codes "spare") w (Line.Spare x) is) in omega (arith, one, count_spares h)
+count_spares (AreLines.shaped {words = w} {later = ws} {it = Line.Policy} e is h) =
+    count_no (is_kind (codes "spare")) w ws (begins (codes "spare") w Line.Policy is) ∙ count_spares h
+count_spares (AreLines.shaped {words = w} {later = ws} {it = Line.Relay x} e is h) =
+    count_no (is_kind (codes "spare")) w ws (begins (codes "spare") w (Line.Relay x) is) ∙ count_spares h
+count_spares (AreLines.shaped {words = w} {later = ws} {it = Line.Entry x} e is h) =
+    count_no (is_kind (codes "spare")) w ws (begins (codes "spare") w (Line.Entry x) is) ∙ count_spares h
+count_spares (AreLines.shaped {words = w} {later = ws} {it = Line.Protect x} e is h) =
+    count_no (is_kind (codes "spare")) w ws (begins (codes "spare") w (Line.Protect x) is) ∙ count_spares h
 
 -- ---- lists side by side
 
@@ -217,14 +307,6 @@ paired_right {P = P} (AllPaired.more {x = a} {y = b} {xs = xs} {ys = ys} p ps) y
 
 single_behind : (x : Words) (xs : List Words) → Single (x ∷ xs) → Single xs
 single_behind x xs single before later line e d = single (x ∷ before) later line (ap (λ ws. x ∷ ws) e) (again_later x before line d)
-
-split_at : {A : Type 0} (xs : List A) (x : A) → Contains xs x → (front : List A) × (back : List A) × (xs ≡ front ++ x ∷ back)
-split_at [] x c = absurd (none_in x c)
-split_at (y ∷ xs) x c =
-    elim (among_cases y xs x c) [
-      | inl same ↦ ([], xs, ap (λ z. z ∷ xs) same)
-      | inr behind ↦ let r = split_at xs x behind in (y ∷ r.0, r.1, ap (λ zs. y ∷ zs) r.2)
-    ]
 
 first_again : (x : Words) (xs : List Words) (line : Words) → Single (x ∷ xs) → Contains xs line → Repeats x line → ⊥
 first_again x xs line single c r =
@@ -346,6 +428,10 @@ module _ {text : List ℕ} {files : List File} {site : Site} (d : Describes text
   protection_there line it c is =
       let r = paired_left d.protections it (to_protections d.lines it (line_among d.are_lines line (Line.Protect it) c is)) in (r.0, r.2)
 
+  spare_there : (line : Words) (it : SpareLine) → Contains (word_lines text) line → IsSpareLine line it → (a : SiteAction) × (action_of site it ≡ Some a)
+  spare_there line it c is =
+      let r = paired_left d.spares it (to_spares d.lines it (line_among d.are_lines line (Line.Spare it) c is)) in (r.0, r.2)
+
   relay_there : (line : Words) (it : RelayLine) → Contains (word_lines text) line → IsRelayLine line it → (r : Relay) × IsRelay files it r
   relay_there line it c is =
       let r = paired_left d.relays it (to_relays d.lines it (line_among d.are_lines line (Line.Relay it) c is)) in (r.0, r.2)
@@ -360,6 +446,11 @@ module _ {text : List ℕ} {files : List File} {site : Site} (d : Describes text
   protection_relay it a is =
       option_and_then_some (archive_at site it.action) (relay_named site.relays it.relay) a is (λ place x y. (place, x, y))
 
+  spare_relay : (it : SpareLine) (a : SiteAction) → action_of site it ≡ Some a
+      → (place : ℕ) × (relay_named site.relays it.relay ≡ Some place) × (action_at site it.action place ≡ Some a)
+  spare_relay it a is =
+      option_and_then_some (action_at site it.action) (relay_named site.relays it.relay) a is (λ place x y. (place, x, y))
+
   -- ---- no fault
 
   known : (line : Words) (name : List ℕ) → Contains (word_lines text) line → IsOf line name → ((it : RelayLine) → Names text name it → ⊥) → ⊥
@@ -373,11 +464,17 @@ module _ {text : List ℕ} {files : List File} {site : Site} (d : Describes text
       let at = protection_relay it p.0.archive p.1.archive in
       let r = named_relay it.relay at.0 at.1 in
       never r.it (record { words = r.line; there = r.there; line = r.shaped; name_is = r.name_is })
+  known line name c (IsOf.spare it is) never =
+      let a = spare_there line it c is in
+      let at = spare_relay it a.0 a.1 in
+      let r = named_relay it.relay at.0 at.1 in
+      never r.it (record { words = r.line; there = r.there; line = r.shaped; name_is = r.name_is })
 
   few : (word : List ℕ) (limit : ℕ) → IsLimit word limit → length (filter (is_kind word) (word_lines text)) ≤ limit
   few word limit IsLimit.relays = omega (arith, count_relays d.are_lines, d.few_relays)
   few word limit IsLimit.entries = omega (arith, count_entries d.are_lines, d.few_entries)
   few word limit IsLimit.protections = omega (arith, count_protections d.are_lines, d.few_protections)
+  few word limit IsLimit.spares = omega (arith, count_spares d.are_lines, d.few_spares)
 
   input_there : (line : Words) (it : EntryLine) (p : Plan) → Contains (word_lines text) line → IsEntryLine line it → HasPlan text files it.relay p
       → position (λ i. i.port == it.port) p.inputs ≡ None → ⊥
@@ -397,6 +494,16 @@ module _ {text : List ℕ} {files : List File} {site : Site} (d : Describes text
       let nothing = ap (λ x. position (λ a. is_archive a.destination && bytes_eq a.name it.action) x.actions) same ∙ gone in
       none_mapped (λ a. record { relay = at.0; action = a })
       (position (λ a. is_archive a.destination && bytes_eq a.name it.action) (plan_at site at.0).actions) q.0.archive nothing at.2
+
+  action_there : (line : Words) (it : SpareLine) (p : Plan) → Contains (word_lines text) line → IsSpareLine line it
+      → HasPlan text files it.relay p → position (λ a. bytes_eq a.name it.action) p.actions ≡ None → ⊥
+  action_there line it p c is h gone =
+      let q = spare_there line it c is in
+      let at = spare_relay it q.0 q.1 in
+      let same = one_named it.relay at.0 p at.1 h in
+      let nothing = ap (λ x. position (λ a. bytes_eq a.name it.action) x.actions) same ∙ gone in
+      none_mapped (λ a. record { relay = at.0; action = a })
+      (position (λ a. bytes_eq a.name it.action) (plan_at site at.0).actions) q.0 nothing at.2
 
   entered : ((line : Words) → Contains (word_lines text) line → is_kind (codes "entry") line ≡ false) → ⊥
   entered never =
@@ -435,6 +542,7 @@ no_fault text files site fault d (HasFault.too_many before line word most (later
 no_fault text files site fault d (HasFault.unknown before line name (later, e) of never) =
     known d line name (stands_among (word_lines text) before later line e) of never
 no_fault text files site fault d (HasFault.duplicate before line (later, e) again) = d.once before later line e again
+no_fault text files site fault d (HasFault.misplaced before line (later, e) misplaced) = d.placed before later line e misplaced
 no_fault text files site fault d (HasFault.no_file before line it (later, e) is gone) =
     let r = relay_there d line it (stands_among (word_lines text) before later line e) is in none_given (sym gone ∙ r.1.given)
 no_fault text files site fault d (HasFault.no_entry before line it p (later, e) is h gone) =
@@ -445,3 +553,8 @@ no_fault text files site fault d (HasFault.not_entered never) = entered d never
 no_fault text files site fault d (HasFault.not_protected never) = selected d never
 no_fault text files site fault d (HasFault.no_plan before line it bytes f (later, e) is given h) =
     file_fault d line it bytes f (stands_among (word_lines text) before later line e) is given h
+no_fault text files site fault d (HasFault.no_action before line it p (later, e) is h gone) =
+    action_there d line it p (stands_among (word_lines text) before later line e) is h gone
+no_fault text files site fault d (HasFault.spare_archive before line it (later, e) is other protect there shaped same) =
+    d.apart protect it (to_protections d.lines protect (line_among d.are_lines other (Line.Protect protect) there shaped))
+    (to_spares d.lines it (line_among d.are_lines line (Line.Spare it) (stands_among (word_lines text) before later line e) is)) same

@@ -1,8 +1,8 @@
-use Rattle.std.proofs.Common.{sym, subst}
+use Rattle.std.proofs.Common.{refl, sym, subst}
 use Rattle.sy_site.specs.internal.Lines.{line_of}
 use Rattle.sy_site.specs.internal.Reading.{kind}
 use Rattle.sy_site.specs.texts.Lines.{words}
-use Rattle.sy_site.proofs.lemmas.texts.Found.{SaysAgain, other_same, other_says, same_kind, says_again, says_apart}
+use Rattle.sy_site.proofs.lemmas.texts.Again.{SaysAgain, again_kind, other_kind, other_same, other_says, same_kind, says_again, says_apart}
 use Rattle.sy_site.proofs.texts.reading.gives_again.Goals as goal
 
 pub returns-in-Relay-clause-again : goal.returns-in-Relay-clause-again
@@ -28,11 +28,25 @@ returns-in_default-clause-again c = λ e.
     let line = c.args.line.now in
     says_again (line_of line.line) (kind (line_of earlier.line)) (words earlier.behind.now) (words line.behind.now)
     (same_kind c.kind.result.now c.kind-2.result.now (kind (line_of earlier.line)) (kind (line_of line.line)) c.kind.ensures c.kind-2.ensures c.if-ne.ensures)
-    (other_says line.line c.in_default.not-Relay (words earlier.behind.now) (words line.behind.now) (c.same_words.ensures.same e))
+    (other_says line.line c.in_default.not-Policy c.in_default.not-Relay (words earlier.behind.now) (words line.behind.now) (c.same_words.ensures.same e))
 
 pub returns-in_default-clause-apart : goal.returns-in_default-clause-apart
 returns-in_default-clause-apart c = λ e.
     let earlier = c.args.earlier.now in
     let line = c.args.line.now in
     says_apart (line_of line.line) (kind (line_of earlier.line)) (words earlier.behind.now) (words line.behind.now)
-    (λ h. c.same_words.ensures.apart e (other_same line.line c.in_default.not-Relay (words earlier.behind.now) (words line.behind.now) h))
+    (λ h. c.same_words.ensures.apart e (other_same line.line c.in_default.not-Policy c.in_default.not-Relay (words earlier.behind.now) (words line.behind.now) h))
+
+pub returns-in-Policy-clause-apart : goal.returns-in-Policy-clause-apart
+returns-in-Policy-clause-apart c = λ e.
+    let earlier = c.args.earlier.now in
+    let line = c.args.line.now in
+    says_apart (line_of line.line) (kind (line_of earlier.line)) (words earlier.behind.now) (words line.behind.now)
+    (λ h. subst (λ it. SaysAgain (line_of it) (words earlier.behind.now) (words line.behind.now)) c.in-Policy.is h)
+
+pub returns-then-ne-clause-apart : goal.returns-then-ne-clause-apart
+returns-then-ne-clause-apart c = λ e again.
+    let earlier = c.args.earlier.now in
+    let line = c.args.line.now in
+    other_kind c.kind.result.now c.kind-2.result.now (kind (line_of earlier.line)) (kind (line_of line.line)) c.kind.ensures c.kind-2.ensures c.if-ne.ensures
+    (again_kind _ _ again (kind (line_of earlier.line)) (kind (line_of line.line)) (words earlier.behind.now) (words line.behind.now) refl refl)

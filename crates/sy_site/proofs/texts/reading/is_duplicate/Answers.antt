@@ -1,6 +1,6 @@
 use Rattle.std.proofs.Common.{arith}
 use Rattle.sy_site.specs.internal.Reading.{words_given}
-use Rattle.sy_site.proofs.lemmas.texts.Found.{again_end, again_here, again_next, again_on}
+use Rattle.sy_site.proofs.lemmas.texts.Again.{again_end, again_here, again_next, again_on}
 use Rattle.sy_site.proofs.texts.reading.is_duplicate.Goals as goal
 
 pub returns-then-gives_again-clause-again : goal.returns-then-gives_again-clause-again

@@ -1,5 +1,5 @@
 use Rattle.sy_site.specs.internal.Reading.{words_given}
-use Rattle.sy_site.proofs.lemmas.texts.Found.{AgainFrom}
+use Rattle.sy_site.proofs.lemmas.texts.Again.{AgainFrom}
 use Rattle.sy_site.proofs.texts.reading.is_duplicate.Given as goal
 
 abbrev pub invariant-loop-earlier : goal.invariant-loop-earlier

@@ -1,5 +1,5 @@
 use Rattle.sy_site.specs.texts.Lines.{words}
-use Rattle.sy_site.proofs.lemmas.texts.Found.{begin_alike}
+use Rattle.sy_site.proofs.lemmas.texts.Again.{begin_alike}
 use Rattle.sy_site.proofs.texts.reading.same_first_word.Goals as goal
 
 pub returns-in-Some-behind_word-clause-same : goal.returns-in-Some-behind_word-clause-same

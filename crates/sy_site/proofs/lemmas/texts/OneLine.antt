@@ -1,0 +1,161 @@
+-- A line of a text says one thing at most.
+use Rattle.std.proofs.Common.{◌≡◌, ℕ, List, [], ◌∷◌, Some, Option, refl, sym, ap, ◌∙◌, arith}
+use Rattle.std.specs.Prelude.{codes}
+use Rattle.std.specs.Net.Grammar.{IsDotted}
+use Rattle.std.proofs.NetLemmas.Ipv4.{read_ipv4_complete}
+use Rattle.std.proofs.lemmas.Bool.{false≢true}
+use Rattle.sy_select.proofs.OneExpr.{one_set}
+use Rattle.sy_site.proofs.lemmas.texts.Shaped.{behind_first, first_same}
+use Rattle.sy_site.specs.texts.Shapes.{Line, RelayLine, EntryLine, ProtectLine, SpareLine, IsLine, IsAddress, IsRelayLine, IsEntryLine, IsProtectLine, IsSpareLine}
+use Rattle.sy_site.specs.texts.Describes.{AreLines}
+
+-- what is one value is no other
+pub one_value : {A : Type 0} {o : Option A} {a b : A} → o ≡ Some a → o ≡ Some b → a ≡ b
+one_value first second = cc
+
+only : {A B : Type 0} {o : Option (A × B)} {a b : A} {r : B} → o ≡ Some (a, r) → o ≡ Some (b, r) → a ≡ b
+only first second = ap (λ p. p.0) (one_value first second)
+
+one_dotted : (text a b : List ℕ) → IsDotted text a → IsDotted text b → a ≡ b
+one_dotted text a b is_a is_b = only (read_ipv4_complete text a [] is_a (omega arith)) (read_ipv4_complete text b [] is_b (omega arith))
+
+one_address : (behind : List (List ℕ)) (a b : List ℕ) → IsAddress behind a → IsAddress behind b → a ≡ b
+one_address [] a b is_a is_b = is_a ∙ sym is_b
+one_address (word ∷ []) a b is_a is_b = one_dotted word a b is_a is_b
+one_address (word ∷ next ∷ later) a b is_a is_b = absurd is_a
+
+pub one_relay_line : (words : List (List ℕ)) (a b : RelayLine) → IsRelayLine words a → IsRelayLine words b → a ≡ b
+one_relay_line words a b is_a is_b = same a b parts.0 parts.1 (one_address is_a.behind a.address b.address is_a.address (rw parts.2 is_b.address))
+  where
+    both : codes "relay" ∷ a.name ∷ a.file ∷ is_a.behind ≡ codes "relay" ∷ b.name ∷ b.file ∷ is_b.behind
+    both = sym is_a.whole ∙ is_b.whole
+
+    parts : (a.name ≡ b.name) × (a.file ≡ b.file) × (is_a.behind ≡ is_b.behind)
+    parts = (first_same (behind_first both), first_same (behind_first (behind_first both)), behind_first (behind_first (behind_first both)))
+
+    same : (p q : RelayLine) → p.name ≡ q.name → p.file ≡ q.file → p.address ≡ q.address → p ≡ q
+    same p q n f d = λ i. record { name = n i; file = f i; address = d i }
+
+one_entry_line : (words : List (List ℕ)) (a b : EntryLine) → IsEntryLine words a → IsEntryLine words b → a ≡ b
+one_entry_line words a b is_a is_b = λ i. record { relay = relay i; port = port i }
+  where
+    both : codes "entry" ∷ a.relay ∷ is_a.port_word ∷ [] ≡ codes "entry" ∷ b.relay ∷ is_b.port_word ∷ []
+    both = sym is_a.whole ∙ is_b.whole
+
+    relay : a.relay ≡ b.relay
+    relay = first_same (behind_first both)
+
+    word : is_a.port_word ≡ is_b.port_word
+    word = first_same (behind_first (behind_first both))
+
+    port : a.port ≡ b.port
+    port = one_value is_a.port (rw word is_b.port)
+
+one_protect_line : (words : List (List ℕ)) (a b : ProtectLine) → IsProtectLine words a → IsProtectLine words b → a ≡ b
+one_protect_line words a b is_a is_b = λ i. record { selector = selector i; relay = relay i; action = action i }
+  where
+    both : codes "protect" ∷ is_a.selector_word ∷ a.relay ∷ a.action ∷ [] ≡ codes "protect" ∷ is_b.selector_word ∷ b.relay ∷ b.action ∷ []
+    both = sym is_a.whole ∙ is_b.whole
+
+    word : is_a.selector_word ≡ is_b.selector_word
+    word = first_same (behind_first both)
+
+    relay : a.relay ≡ b.relay
+    relay = first_same (behind_first (behind_first both))
+
+    action : a.action ≡ b.action
+    action = first_same (behind_first (behind_first (behind_first both)))
+
+    selector : a.selector ≡ b.selector
+    selector = one_set is_a.selector_word a.selector b.selector is_a.selector (rw word is_b.selector)
+
+one_spare_line : (words : List (List ℕ)) (a b : SpareLine) → IsSpareLine words a → IsSpareLine words b → a ≡ b
+one_spare_line words a b is_a is_b = λ i. record { relay = relay i; action = action i }
+  where
+    both : codes "spare" ∷ a.relay ∷ a.action ∷ [] ≡ codes "spare" ∷ b.relay ∷ b.action ∷ []
+    both = sym is_a ∙ is_b
+
+    relay : a.relay ≡ b.relay
+    relay = first_same (behind_first both)
+
+    action : a.action ≡ b.action
+    action = first_same (behind_first (behind_first both))
+
+-- The first words of lines of two kinds have two second letters.
+abbrev letter : Line → ℕ
+letter Line.Policy = 111
+letter (Line.Relay it) = 101
+letter (Line.Entry it) = 110
+letter (Line.Protect it) = 114
+letter (Line.Spare it) = 112
+
+abbrev second_letter : List (List ℕ) → ℕ
+second_letter ((b ∷ c ∷ cs) ∷ words) = c
+second_letter _ = 0
+
+letter_second : (words : List (List ℕ)) (a : Line) → IsLine words a → second_letter words ≡ letter a
+letter_second words Line.Policy h = ap second_letter h
+letter_second words (Line.Relay it) h = ap second_letter h.whole
+letter_second words (Line.Entry it) h = ap second_letter h.whole
+letter_second words (Line.Protect it) h = ap second_letter h.whole
+letter_second words (Line.Spare it) h = ap second_letter h
+
+same_letter : (words : List (List ℕ)) (a b : Line) → IsLine words a → IsLine words b → letter a ≡ letter b
+same_letter words a b is_a is_b = sym (letter_second words a is_a) ∙ letter_second words b is_b
+
+pub one_line : (words : List (List ℕ)) (a b : Line) → IsLine words a → IsLine words b → a ≡ b
+one_line words Line.Policy Line.Policy is_a is_b = refl
+one_line words (Line.Relay a) (Line.Relay b) is_a is_b = ap Line.Relay (one_relay_line words a b is_a is_b)
+one_line words (Line.Entry a) (Line.Entry b) is_a is_b = ap Line.Entry (one_entry_line words a b is_a is_b)
+one_line words (Line.Protect a) (Line.Protect b) is_a is_b = ap Line.Protect (one_protect_line words a b is_a is_b)
+one_line words (Line.Spare a) (Line.Spare b) is_a is_b = ap Line.Spare (one_spare_line words a b is_a is_b)
+one_line words Line.Policy (Line.Relay b) is_a is_b =
+    let e : 111 ≡ 101 = same_letter words Line.Policy (Line.Relay b) is_a is_b in absurd (omega (arith, e))
+one_line words Line.Policy (Line.Entry b) is_a is_b =
+    let e : 111 ≡ 110 = same_letter words Line.Policy (Line.Entry b) is_a is_b in absurd (omega (arith, e))
+one_line words Line.Policy (Line.Protect b) is_a is_b =
+    let e : 111 ≡ 114 = same_letter words Line.Policy (Line.Protect b) is_a is_b in absurd (omega (arith, e))
+one_line words Line.Policy (Line.Spare b) is_a is_b =
+    let e : 111 ≡ 112 = same_letter words Line.Policy (Line.Spare b) is_a is_b in absurd (omega (arith, e))
+one_line words (Line.Relay a) Line.Policy is_a is_b =
+    let e : 101 ≡ 111 = same_letter words (Line.Relay a) Line.Policy is_a is_b in absurd (omega (arith, e))
+one_line words (Line.Relay a) (Line.Entry b) is_a is_b =
+    let e : 101 ≡ 110 = same_letter words (Line.Relay a) (Line.Entry b) is_a is_b in absurd (omega (arith, e))
+one_line words (Line.Relay a) (Line.Protect b) is_a is_b =
+    let e : 101 ≡ 114 = same_letter words (Line.Relay a) (Line.Protect b) is_a is_b in absurd (omega (arith, e))
+one_line words (Line.Relay a) (Line.Spare b) is_a is_b =
+    let e : 101 ≡ 112 = same_letter words (Line.Relay a) (Line.Spare b) is_a is_b in absurd (omega (arith, e))
+one_line words (Line.Entry a) Line.Policy is_a is_b =
+    let e : 110 ≡ 111 = same_letter words (Line.Entry a) Line.Policy is_a is_b in absurd (omega (arith, e))
+one_line words (Line.Entry a) (Line.Relay b) is_a is_b =
+    let e : 110 ≡ 101 = same_letter words (Line.Entry a) (Line.Relay b) is_a is_b in absurd (omega (arith, e))
+one_line words (Line.Entry a) (Line.Protect b) is_a is_b =
+    let e : 110 ≡ 114 = same_letter words (Line.Entry a) (Line.Protect b) is_a is_b in absurd (omega (arith, e))
+one_line words (Line.Entry a) (Line.Spare b) is_a is_b =
+    let e : 110 ≡ 112 = same_letter words (Line.Entry a) (Line.Spare b) is_a is_b in absurd (omega (arith, e))
+one_line words (Line.Protect a) Line.Policy is_a is_b =
+    let e : 114 ≡ 111 = same_letter words (Line.Protect a) Line.Policy is_a is_b in absurd (omega (arith, e))
+one_line words (Line.Protect a) (Line.Relay b) is_a is_b =
+    let e : 114 ≡ 101 = same_letter words (Line.Protect a) (Line.Relay b) is_a is_b in absurd (omega (arith, e))
+one_line words (Line.Protect a) (Line.Entry b) is_a is_b =
+    let e : 114 ≡ 110 = same_letter words (Line.Protect a) (Line.Entry b) is_a is_b in absurd (omega (arith, e))
+one_line words (Line.Protect a) (Line.Spare b) is_a is_b =
+    let e : 114 ≡ 112 = same_letter words (Line.Protect a) (Line.Spare b) is_a is_b in absurd (omega (arith, e))
+one_line words (Line.Spare a) Line.Policy is_a is_b =
+    let e : 112 ≡ 111 = same_letter words (Line.Spare a) Line.Policy is_a is_b in absurd (omega (arith, e))
+one_line words (Line.Spare a) (Line.Relay b) is_a is_b =
+    let e : 112 ≡ 101 = same_letter words (Line.Spare a) (Line.Relay b) is_a is_b in absurd (omega (arith, e))
+one_line words (Line.Spare a) (Line.Entry b) is_a is_b =
+    let e : 112 ≡ 110 = same_letter words (Line.Spare a) (Line.Entry b) is_a is_b in absurd (omega (arith, e))
+one_line words (Line.Spare a) (Line.Protect b) is_a is_b =
+    let e : 112 ≡ 114 = same_letter words (Line.Spare a) (Line.Protect b) is_a is_b in absurd (omega (arith, e))
+
+pub one_lines : {all : List (List (List ℕ))} {a b : List Line} → AreLines all a → AreLines all b → a ≡ b
+one_lines AreLines.none AreLines.none = refl
+one_lines (AreLines.skip e h) (AreLines.skip f g) = one_lines h g
+one_lines (AreLines.skip e h) (AreLines.shaped f is g) = absurd (false≢true (sym f ∙ e))
+one_lines (AreLines.shaped e is h) (AreLines.skip f g) = absurd (false≢true (sym e ∙ f))
+one_lines (AreLines.shaped e is h) (AreLines.shaped f js g) = same (one_line _ _ _ is js) (one_lines h g)
+  where
+    same : {x y : Line} {xs ys : List Line} → x ≡ y → xs ≡ ys → x ∷ xs ≡ y ∷ ys
+    same x xs = λ i. x i ∷ xs i
