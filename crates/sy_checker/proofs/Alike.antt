@@ -1,28 +1,35 @@
--- Classes whose flows are the same at each input have the same course.
-use Rattle.std.proofs.Common.{◌≡◌, ℕ, ◌<◌, List, [], ◌∷◌, ◌++◌, length, get_or, Option, Some, None, refl, sym, ap, subst, ◌∙◌, arith, inl, inr}
+-- Classes that execute the same of each list have the same course.
+use Rattle.std.proofs.Common.{◌≡◌, ℕ, true, ◌<◌, List, [], ◌∷◌, ◌++◌, length, get_or, Option, Some, None, refl, sym, ap, subst, ◌∙◌, arith, inl, inr}
 use Rattle.std.specs.Prelude.{Contains, slice_get, unwrap_or}
 use Rattle.std.proofs.lemmas.List.{ext_get_or}
 use Rattle.std.proofs.lemmas.Option.{slice_get_read, slice_get_within, unwrap_or-slice_get}
 use Rattle.sy_wire.specs.declared.class.Class.{Class}
-use Rattle.sy_classes.specs.declared.Flows.{Flows}
+use Rattle.sy_rules.specs.declared.lists.occurrence.Occurrence.{Occurrence}
+use Rattle.sy_rules.specs.declared.lists.occurrence.Occurrence.TheVariants as occurrence
+use Rattle.sy_board.specs.relay.Spares.{Scope}
 use Rattle.sy_site.specs.declared.site.SiteInput.{SiteInput}
 use Rattle.sy_site.specs.Sites.{Site, plan_at}
 use Rattle.sy_site.specs.machine.Lawful.{IsInput, IsLawful}
-use Rattle.sy_site.specs.machine.Reach.{Reach, entry, onward}
+use Rattle.sy_site.specs.machine.Reach.{MayDo, Reach, Reaches, entry, forwards, list_of, occurrence_at, onward, posts}
 use Rattle.sy_site.specs.machine.Soundness.{AreRanks}
 use Rattle.sy_checker.specs.declared.course.Course.{Course}
 use Rattle.sy_checker.specs.declared.executed.Executed.{Executed}
 use Rattle.sy_checker.specs.declared.executed.Executed.TheVariants as executed
-use Rattle.sy_checker.specs.declared.flows.ClassFlows.{ClassFlows}
+use Rattle.sy_checker.specs.declared.flows.Hop.{Hop}
+use Rattle.sy_checker.specs.declared.flows.ListFlows.{ListFlows}
 use Rattle.sy_checker.specs.declared.flows.RelayFlows.{RelayFlows}
+use Rattle.sy_checker.specs.declared.flows.SiteFlows.{SiteFlows}
+use Rattle.sy_checker.specs.declared.flows.SiteHops.{SiteHops}
 use Rattle.sy_checker.specs.declared.reach.Origin.{Origin}
 use Rattle.sy_checker.specs.Course.{AreAlike, AreCourses, AreSame, IsCourse, IsCourseAt, IsSameAt}
-use Rattle.sy_checker.specs.Flows.{AreEach, AreFlows, IsInputFlow}
+use Rattle.sy_checker.specs.Flows.{AreEach, AreSiteFlows, Does, IsFlow, is_used}
+use Rattle.sy_checker.specs.Hops.{AreHops, AreSiteHops, Leads, LeadsBy}
 use Rattle.sy_checker.specs.Loops.{rank_at}
-use Rattle.sy_checker.specs.Search.{ExecutedAt, IsOrigin, IsSpread}
+use Rattle.sy_checker.specs.Search.{IsOrigin, IsSpread}
 use Rattle.sy_checker.proofs.Gone.{stands_in}
 use Rattle.sy_checker.proofs.Rooted.{last_place, stood}
-use Rattle.sy_checker.proofs.There.{place_there, reach_there, relay_there}
+use Rattle.sy_checker.proofs.There.{reach_there}
+use Rattle.sy_checker.proofs.Used.{input_list, input_used, list_of_found, posted_used, relay_of}
 
 -- ---- lists
 
@@ -34,95 +41,153 @@ there [] k low = absurd (omega (arith, low))
 there (x ∷ xs) ℕ.zero low = (x, refl)
 there (x ∷ xs) (ℕ.suc k) low = there xs k (omega (arith, low))
 
-no_flow : Flows
-no_flow = record { may = 0; must = 0 }
+no_flow : ListFlows
+no_flow = record { every = 0; firm = 0; must = 0 }
 
-pub same_list : (xs ys : List Flows) → length xs ≡ length ys → ((k : ℕ) → k < length xs → slice_get xs k ≡ slice_get ys k) → xs ≡ ys
+pub same_list : (xs ys : List ListFlows) → length xs ≡ length ys → ((k : ℕ) → k < length xs → slice_get xs k ≡ slice_get ys k) → xs ≡ ys
 same_list xs ys many each =
     ext_get_or no_flow xs ys many (λ k low. sym (unwrap_or-slice_get xs k no_flow) ∙ ap (λ o. unwrap_or o no_flow) (each k low)
     ∙ unwrap_or-slice_get ys k no_flow)
 
 -- ---- flows
 
--- what is kept of an input
-record HasFlow (flows : ClassFlows) (input : SiteInput) : Type 0 where
-  relay : RelayFlows
-  flow : Flows
-  at_relay : slice_get flows.relays.items input.relay ≡ Some relay
-  at_input : slice_get relay.inputs.items input.input ≡ Some flow
+-- what is kept of a list
+record HasFlow (flows : SiteFlows) (relay list : ℕ) : Type 0 where
+  lists : RelayFlows
+  flow : ListFlows
+  at_relay : slice_get flows.relays.items relay ≡ Some lists
+  at_list : slice_get lists.lists.items list ≡ Some flow
 
-kept : (site : Site) (class : Class) (flows : ClassFlows) → AreFlows site class flows → (input : SiteInput) → IsInput site input → HasFlow flows input
-kept site class flows are input is =
-    let low = relay_there site input is in
+kept : (site : Site) (class : Class) (flows : SiteFlows) → AreSiteFlows site class flows → (relay list number : ℕ) (is : Occurrence)
+    → occurrence_at site relay list number ≡ Some is → HasFlow flows relay list
+kept site class flows are relay list number is here =
+    let low = relay_of site relay list number is here in
     let many = are.length_is in
-    let relay = there flows.relays.items input.relay (omega (arith, low, many)) in
-    let of_relay = are.each input.relay relay.0 relay.1 in
-    let within = place_there site input is in
+    let lists = there flows.relays.items relay (omega (arith, low, many)) in
+    let of_relay = are.each relay lists.0 lists.1 in
+    let within = list_of_found site relay list number is here in
     let count = of_relay.length_is in
-    let flow = there relay.0.inputs.items input.input (omega (arith, within, count)) in
-    record { relay = relay.0; flow = flow.0; at_relay = relay.1; at_input = flow.1 }
+    let flow = there lists.0.lists.items list (omega (arith, within, count)) in
+    record { lists = lists.0; flow = flow.0; at_relay = lists.1; at_list = flow.1 }
 
-is_flow : (site : Site) (class : Class) (flows : ClassFlows) → AreFlows site class flows → (input : SiteInput) → (has : HasFlow flows input)
-    → IsInputFlow (plan_at site input.relay) class input.input has.flow
-is_flow site class flows are input has = (are.each input.relay has.relay has.at_relay).each input.input has.flow has.at_input
+is_flow : (site : Site) (class : Class) (flows : SiteFlows) → AreSiteFlows site class flows → (relay list : ℕ) (has : HasFlow flows relay list)
+    → is_used (plan_at site relay) list ≡ true → IsFlow site class relay list has.flow
+is_flow site class flows are relay list has used = (are.each relay has.lists has.at_relay).each list has.flow has.at_list used
 
-pub alike : (site : Site) (one other : Class) (flows : ClassFlows) → AreFlows site one flows → AreFlows site other flows → AreAlike site one other
-alike site one other flows a b = record {
-  may = λ input number is.
-      let has = kept site one flows a input is in
-      let f = (is_flow site one flows a input has).may number in
-      let g = (is_flow site other flows b input has).may number in
-      (λ x. g.0 (f.1 x), λ x. f.0 (g.1 x));
-  must = λ input number is.
-      let has = kept site one flows a input is in
-      let f = (is_flow site one flows a input has).must number in
-      let g = (is_flow site other flows b input has).must number in
-      (λ x. g.0 (f.1 x), λ x. f.0 (g.1 x));
-}
+pub found_of : (site : Site) (class : Class) (which : Executed) (relay list number : ℕ) (is : Occurrence) → Does site class which relay list number is
+    → occurrence_at site relay list number ≡ Some is
+found_of site class executed.Every relay list number is does = does.found
+found_of site class executed.Firm relay list number is does = does.found
+found_of site class executed.Must relay list number is does = does.found
 
-pub flows_as : (site : Site) (class : Class) (one other : ClassFlows) → AreSame one other → AreFlows site class other → AreFlows site class one
+pub alike : (site : Site) (one other : Class) (flows : SiteFlows) → AreSiteFlows site one flows → AreSiteFlows site other flows → AreAlike site one other
+alike site one other flows a b which relay list number is used = (
+  λ does.
+      (let here = found_of site one which relay list number is does in
+      let has = kept site one flows a relay list number is here in
+      (is_flow site other flows b relay list has used which).sound number is
+      ((is_flow site one flows a relay list has used which).whole number is does) here),
+  λ does.
+      (let here = found_of site other which relay list number is does in
+      let has = kept site other flows b relay list number is here in
+      (is_flow site one flows a relay list has used which).sound number is
+      ((is_flow site other flows b relay list has used which).whole number is does) here),
+)
+
+pub flows_as : (site : Site) (class : Class) (one other : SiteFlows) → AreSame one other → AreSiteFlows site class other → AreSiteFlows site class one
 flows_as site class one other same are = record {
   length_is = same.many ∙ are.length_is;
   each = λ relay lists is.
       let low = slice_get_within one.relays.items relay lists is in
       let many = same.many in
       let it = there other.relays.items relay (omega (arith, low, many)) in
-      subst (λ l. AreEach (IsInputFlow (plan_at site relay) class) (length (plan_at site relay).inputs) l) (sym (same.each relay lists it.0 is it.1))
-      (are.each relay it.0 it.1);
+      subst (AreEach (λ list (flow : ListFlows). is_used (plan_at site relay) list ≡ true → IsFlow site class relay list flow) (length (plan_at site relay).lists))
+      (sym (same.each relay lists it.0 is it.1)) (are.each relay it.0 it.1);
 }
 
 -- ---- what follows from them
 
-module _ (site : Site) (one other : Class) (same : AreAlike site one other) where
-  executed_to : (which : Executed) (input : SiteInput) (number : ℕ) → IsInput site input → ExecutedAt site one which input number
-      → ExecutedAt site other which input number
-  executed_to executed.May input number is = (same.may input number is).0
-  executed_to executed.Must input number is = (same.must input number is).0
+module _ (site : Site) (law : IsLawful site) (one other : Class) (same : AreAlike site one other) where
+  reaches_to : (which : Executed) (scope : Scope) → ((relay list number : ℕ) (is : Occurrence) → MayDo site one scope relay list number is
+      → Does site one which relay list number is) → ((relay list number : ℕ) (is : Occurrence) → Does site other which relay list number is
+      → MayDo site other scope relay list number is) → (relay list number : ℕ) (to : SiteInput) → is_used (plan_at site relay) list ≡ true
+      → Reaches site one scope relay list number to → Reaches site other scope relay list number to
+  reaches_to which scope as_does as_may relay list number to used (forwards at action does leads) =
+      forwards at action
+      (as_may relay list at (occurrence.Run action) ((same which relay list at (occurrence.Run action) used).0 (as_does relay list at (occurrence.Run action) does)))
+      leads
+  reaches_to which scope as_does as_may relay list number to used (posts at inner k does later) =
+      posts at inner k
+      (as_may relay list at (occurrence.Post inner) ((same which relay list at (occurrence.Post inner) used).0 (as_does relay list at (occurrence.Post inner) does)))
+      (reaches_to which scope as_does as_may relay inner k to (posted_used site law relay list at inner does.found) later)
 
-  executed_back : (which : Executed) (input : SiteInput) (number : ℕ) → IsInput site input → ExecutedAt site other which input number
-      → ExecutedAt site one which input number
-  executed_back executed.May input number is = (same.may input number is).1
-  executed_back executed.Must input number is = (same.must input number is).1
+  pub leads_to : (which : Executed) (relay list number : ℕ) (to : SiteInput) → is_used (plan_at site relay) list ≡ true
+      → Leads site one which relay list number to → Leads site other which relay list number to
+  leads_to executed.Every relay list number to used leads =
+      reaches_to executed.Every Scope.Every (λ r l n is does. does) (λ r l n is does. does) relay list number to used leads
+  leads_to executed.Firm relay list number to used leads =
+      reaches_to executed.Firm Scope.Firm (λ r l n is does. does) (λ r l n is does. does) relay list number to used leads
+  leads_to executed.Must relay list number to used leads = record {
+    action = leads.action;
+    does = (same executed.Must relay list number (occurrence.Run leads.action) used).0 leads.does;
+    leads = leads.leads;
+  }
 
-  reach_to : IsLawful site → (x : SiteInput) → Reach site one x → Reach site other x
-  reach_to law x (entry is) = entry is
-  reach_to law x (onward {from} number before may goes) =
-      onward number (reach_to law from before) ((same.may from number (reach_there site law one from before)).0 may) goes
+pub turned : (site : Site) (one other : Class) → AreAlike site one other → AreAlike site other one
+turned site one other same which relay list number is used =
+    let both = same which relay list number is used in (both.1, both.0)
 
-  reach_back : IsLawful site → (x : SiteInput) → Reach site other x → Reach site one x
-  reach_back law x (entry is) = entry is
-  reach_back law x (onward {from} number before may goes) =
-      onward number (reach_back law from before) ((same.may from number (reach_there site law other from before)).1 may) goes
+list_used : (site : Site) (x : SiteInput) → IsInput site x → is_used (plan_at site x.relay) (list_of site x) ≡ true
+list_used site x is = input_used (plan_at site x.relay) (list_of site x) (input_list site x is)
+
+module _ (site : Site) (law : IsLawful site) (one other : Class) (same : AreAlike site one other) where
+  leads_by : (which : Executed) (from : SiteInput) (number : ℕ) (to : SiteInput) → IsInput site from → LeadsBy site one which from number to
+      → LeadsBy site other which from number to
+  leads_by which from number to is leads = leads_to site law one other same which from.relay (list_of site from) number to (list_used site from is) leads
+
+  reach_with : (which : Executed) (scope : Scope) → ((from : SiteInput) (number : ℕ) (to : SiteInput)
+      → Reaches site one scope from.relay (list_of site from) number to → LeadsBy site one which from number to)
+      → ((from : SiteInput) (number : ℕ) (to : SiteInput) → LeadsBy site other which from number to
+      → Reaches site other scope from.relay (list_of site from) number to) → (x : SiteInput) → Reach site one scope x → Reach site other scope x
+  reach_with which scope as_leads as_reaches x (entry is) = entry is
+  reach_with which scope as_leads as_reaches x (onward {from} number before r) =
+      onward number (reach_with which scope as_leads as_reaches from before)
+      (as_reaches from number x (leads_by which from number x (reach_there site law one scope from before) (as_leads from number x r)))
+
+  pub firm_to : (x : SiteInput) → Reach site one Scope.Firm x → Reach site other Scope.Firm x
+  firm_to = reach_with executed.Firm Scope.Firm (λ from number to r. r) (λ from number to r. r)
+
+  pub every_to : (x : SiteInput) → Reach site one Scope.Every x → Reach site other Scope.Every x
+  every_to = reach_with executed.Every Scope.Every (λ from number to r. r) (λ from number to r. r)
 
   origin_to : (which : Executed) (start found : List SiteInput) → ((x : SiteInput) → Contains found x → IsInput site x) → (place : ℕ) (to : SiteInput)
       (origin : Option Origin) → IsOrigin site one which start found place to origin → IsOrigin site other which start found place to origin
   origin_to which start found all place to None is = is
-  origin_to which start found all place to (Some o) is = (
-    is.0,
-    is.1,
-    (is.2.0, executed_to which o.row.input o.row.number (all o.row.input (stands_in found o.place o.row.input is.1)) is.2.1, is.2.2),
-  )
+  origin_to which start found all place to (Some o) is =
+      (is.0, is.1, (is.2.0, leads_by which o.row.input o.row.number to (all o.row.input (stands_in found o.place o.row.input is.1)) is.2.1))
 
+  hops_to : (which : Executed) (relay list : ℕ) (hops : List Hop) → is_used (plan_at site relay) list ≡ true → AreAlike site other one
+      → AreHops site one which relay list hops → AreHops site other which relay list hops
+  hops_to which relay list hops used back are = record {
+    sound = λ hop is.
+        (let sound = are.sound hop is in (sound.0, leads_to site law one other same which relay list hop.number hop.to used sound.1));
+    whole = λ number to leads. are.whole number to (leads_to site law other one back which relay list number to used leads);
+  }
+
+  site_hops_to : (which : Executed) (hops : SiteHops) → AreAlike site other one → AreSiteHops site one which hops → AreSiteHops site other which hops
+  site_hops_to which hops back are = record {
+    length_is = are.length_is;
+    each = λ relay lists at.
+        let own = are.each relay lists at in
+        record {
+          length_is = own.length_is;
+          each = λ list of here is.
+              hops_to which relay list of.hops.items (input_used (plan_at site relay) list is) back (own.each list of here is);
+        };
+  }
+
+-- both ways
+module _ (site : Site) (law : IsLawful site) (one other : Class) (same : AreAlike site one other) where
   spread_to : (which : Executed) (start found : List SiteInput) (origins : List (Option Origin)) → IsSpread site one which start found origins
       → IsSpread site other which start found origins
   spread_to which start found origins spread = record {
@@ -130,39 +195,53 @@ module _ (site : Site) (one other : Class) (same : AreAlike site one other) wher
     starts = spread.starts;
     closed = λ from to has leads.
         spread.closed from to has
-        (record { number = leads.number; done = executed_back which from leads.number (spread.there from has) leads.done; goes = leads.goes });
+        (record {
+          number = leads.number;
+          leads = leads_by site law other one (turned site one other same) which from leads.number to (spread.there from has) leads.leads;
+        });
     rooted = record {
       many = spread.rooted.many;
-      each = λ place to origin here from. origin_to which start found spread.there place to origin (spread.rooted.each place to origin here from);
+      each = λ place to origin here from.
+          origin_to site law one other same which start found spread.there place to origin (spread.rooted.each place to origin here from);
     };
   }
 
-  ranks_to : IsLawful site → (rank : ℕ → ℕ) → AreRanks site one rank → AreRanks site other rank
-  ranks_to law rank ranks = record {
-    falls = λ from to number reach may goes.
-        let before = reach_back law from reach in
-        ranks.falls from to number before ((same.may from number (reach_there site law one from before)).1 may) goes;
+  ranks_to : (rank : ℕ → ℕ) → AreRanks site one rank → AreRanks site other rank
+  ranks_to rank ranks = record {
+    falls = λ from to number reach goes.
+        let before = every_to site law other one (turned site one other same) from reach in
+        ranks.falls from to number before
+        (leads_by site law other one (turned site one other same) executed.Every from number to (reach_there site law one Scope.Every from before) goes);
   }
 
--- A course is that of a class which has its flows.
-pub course_as : (site : Site) → IsLawful site → (one other : Class) (course : Course) (flows : ClassFlows) → IsCourse site one course
-    → AreFlows site other flows → AreSame course.flows flows → IsCourse site other course
+-- A course is that of a class which executes the same.
+pub course_as : (site : Site) → IsLawful site → (one other : Class) (course : Course) (flows : SiteFlows) → IsCourse site one course
+    → AreSiteFlows site other flows → AreSame course.flows.lists flows → IsCourse site other course
 course_as site law one other course flows is are same =
-    let own = flows_as site other course.flows flows same are in
-    let both = alike site one other course.flows is.flows own in
+    let own = flows_as site other course.flows.lists flows same are in
+    let both = alike site one other course.flows.lists is.flows.lists own in
+    let back = turned site one other both in
     record {
-      flows = own;
-      spread = spread_to site one other both executed.May site.entries course.found.inputs.items course.found.origins.items is.spread;
+      flows = record {
+        lists = own;
+        every = site_hops_to site law one other both executed.Every course.flows.every back is.flows.every;
+        firm = site_hops_to site law one other both executed.Firm course.flows.firm back is.flows.firm;
+      };
+      spread = spread_to site law one other both executed.Firm site.entries course.found.inputs.items course.found.origins.items is.spread;
       reached = λ x. (
-        λ has. reach_to site one other both law x ((is.reached x).0 has),
-        λ reach. (is.reached x).1 (reach_back site one other both law x reach),
+        λ has. firm_to site law one other both x ((is.reached x).0 has),
+        λ reach. (is.reached x).1 (firm_to site law other one back x reach),
       );
-      ranks = ranks_to site one other both law (rank_at course.ranks.items) is.ranks;
+      every = λ x. (
+        λ has. every_to site law one other both x ((is.every x).0 has),
+        λ reach. (is.every x).1 (every_to site law other one back x reach),
+      );
+      ranks = ranks_to site law one other both (rank_at course.ranks.items) is.ranks;
       many = is.many;
       leads = record {
         length_is = is.leads.length_is;
         each = λ place found stands entry at.
-            spread_to site one other both executed.Must (entry ∷ []) found.inputs.items found.origins.items (is.leads.each place found stands entry at);
+            spread_to site law one other both executed.Must (entry ∷ []) found.inputs.items found.origins.items (is.leads.each place found stands entry at);
       };
     }
 
@@ -182,8 +261,8 @@ pub last_course : (site : Site) (class : Class) (courses : List Course) (course 
     → IsCourseAt site class (courses ++ course ∷ []) (length courses)
 last_course site class courses course is = record { course = course; stands = last_place courses course; is = is }
 
-pub same_course_at : (site : Site) → IsLawful site → (class : Class) (courses : List Course) (flows : ClassFlows) (place : ℕ) → AreCourses site courses
-    → AreFlows site class flows → IsSameAt courses flows place → IsCourseAt site class courses place
+pub same_course_at : (site : Site) → IsLawful site → (class : Class) (courses : List Course) (flows : SiteFlows) (place : ℕ) → AreCourses site courses
+    → AreSiteFlows site class flows → IsSameAt courses flows place → IsCourseAt site class courses place
 same_course_at site law class courses flows place are own at =
     let before = are place at.course at.stands in
     record {

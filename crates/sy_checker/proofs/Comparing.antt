@@ -1,26 +1,33 @@
 -- Ranks that stand where they are wanted.
-use Rattle.std.proofs.Common.{◌≡◌, ℕ, ◌<◌, ◌≤◌, ◌+◌, Bool, true, false, ◌==◌, if◌then◌else◌, List, [], ◌∷◌, ◌++◌, length, map, Option, Some, None, refl, sym, ap, subst, ◌∙◌, arith, inl, inr, eqb-true, eq-eqb}
-use Rattle.std.specs.Prelude.{Contains, IfSome, flat_map, slice_get}
+use Rattle.std.proofs.Common.{◌≡◌, ℕ, ◌<◌, ◌≤◌, ◌+◌, Bool, true, false, ◌==◌, if◌then◌else◌, List, [], ◌∷◌, ◌++◌, length, map, take, get_or, Option, Some, None, refl, sym, ap, subst, ◌∙◌, arith, inl, inr, eqb-true, eq-eqb}
+use Rattle.std.specs.Prelude.{Contains, ◌⊎◌, IfSome, flat_map, slice_get}
+use Rattle.std.specs.List.{list_any}
 use Rattle.std.specs.Str.{bytes_eq}
 use Rattle.std.proofs.lemmas.Bool.{cases_eq}
-use Rattle.std.proofs.lemmas.List.Elements.{Contains-append_cases, Contains-append_left}
+use Rattle.std.proofs.lemmas.List.{take_all, take_more}
+use Rattle.std.proofs.lemmas.List.Elements.{Contains-append_cases, Contains-append_left, Contains-append_right, Contains-push_cases}
+use Rattle.std.proofs.lemmas.Map.Views.{Contains-from_any}
 use Rattle.std.proofs.lemmas.Option.{slice_get_within}
 use Rattle.std.proofs.lemmas.Slice.Eq.{bytes_eq-Decides}
 use Rattle.sy_wire.specs.declared.class.Class.{Class}
 use Rattle.sy_cert.specs.declared.row.Row.{Row}
 use Rattle.sy_cert.specs.declared.row.Row.TheVariants as row
-use Rattle.sy_rules.specs.lists.Sets.{Bits}
+use Rattle.sy_board.specs.relay.Spares.{Scope}
 use Rattle.sy_site.specs.declared.site.SiteInput.{SiteInput}
 use Rattle.sy_site.specs.Sites.{Site, archives}
 use Rattle.sy_site.specs.machine.Lawful.{IsLawful}
-use Rattle.sy_site.specs.machine.Reach.{MayAt, Reach}
-use Rattle.sy_checker.specs.Fit.{AreWanted, HasRank, IsAbove, name_of, paths}
-use Rattle.sy_checker.specs.Internal.{HasNoneFrom, IsNextIn}
-use Rattle.sy_checker.specs.Ranked.{FallsAt, FallsFrom, IsBelow, IsBelowAt, IsInputThere, LeadsBelow, rank_at}
+use Rattle.sy_site.specs.machine.Reach.{Reach, list_of}
+use Rattle.sy_site.proofs.machine.Spares.{reach_every}
+use Rattle.sy_checker.specs.Fit.{AreWanted, HasRank, IsAbove, IsBranch, IsReached, name_of, paths}
+use Rattle.sy_checker.specs.Hops.{AreHops}
+use Rattle.sy_checker.specs.Internal.{same_input}
+use Rattle.sy_checker.specs.Ranked.{FallsAt, FallsFrom, IsBelow, IsBelowAt, IsInputThere, input_in, rank_at}
+use Rattle.sy_checker.specs.declared.executed.Executed.TheVariants as executed
+use Rattle.sy_checker.specs.declared.flows.Hop.{Hop}
 use Rattle.sy_checker.specs.declared.wanted.Wanted.{Wanted}
-use Rattle.sy_checker.proofs.Members.{all_members, more_members}
 use Rattle.sy_checker.specs.declared.wanted.Wanted.TheVariants as wanted
 use Rattle.sy_checker.proofs.FitIsSound.{at_place, in_map, one_behind}
+use Rattle.sy_checker.proofs.Found.{not_among, same_is}
 use Rattle.sy_checker.proofs.There.{reach_there}
 
 pub no_value : {A : Type 0} {x : A} → None ≡ Some x → ⊥
@@ -28,9 +35,6 @@ no_value e = cc
 
 pub one_value : {A : Type 0} {x y : A} → Some x ≡ Some y → x ≡ y
 one_value e = cc
-
-pub one_reach : (a b : SiteInput) → wanted.Reach a ≡ wanted.Reach b → a ≡ b
-one_reach a b e = cc
 
 if_true : {A : Type 0} (b : Bool) (x y : A) → b ≡ true → (if b then x else y) ≡ x
 if_true true x y e = refl
@@ -70,10 +74,12 @@ module _ (site : Site) (part : List Wanted) (rows : List Row) (relay : ℕ) wher
       by_tests place of below rank name is there (of == relay) (bytes_eq name (name_of site relay)) refl refl e
   stands_by place below (Some (wanted.Rank of)) (Some (row.Class c)) is there e = absurd (none_by (of == relay) below e)
   stands_by place below (Some (wanted.Rank of)) (Some (row.Reach name port)) is there e = absurd (none_by (of == relay) below e)
+  stands_by place below (Some (wanted.Rank of)) (Some (row.Branch name port)) is there e = absurd (none_by (of == relay) below e)
   stands_by place below (Some (wanted.Rank of)) (Some (row.Path name port archive_relay action occurrences)) is there e =
       absurd (none_by (of == relay) below e)
   stands_by place below (Some (wanted.Class c)) (Some r) is there e = absurd (no_value e)
   stands_by place below (Some (wanted.Reach input)) (Some r) is there e = absurd (no_value e)
+  stands_by place below (Some (wanted.Branch input)) (Some r) is there e = absurd (no_value e)
   stands_by place below (Some (wanted.Path entry archive)) (Some r) is there e = absurd (no_value e)
 
   pub below_there : (rank place : ℕ) → IsBelow site part rows relay rank → IsBelowAt site part rows relay rank place
@@ -94,18 +100,35 @@ more_below P n here before k low =
       | inr apart ↦ before k (omega (arith, low, apart))
     ]
 
--- up to the next member, and with it
-pub more_fall : (site : Site) (part : List Wanted) (rows : List Row) (rank : ℕ) (from : SiteInput) (may behind number : ℕ) → IsNextIn may behind number
-    → ((k : ℕ) → k < behind → LeadsBelow site part rows from rank may k) → LeadsBelow site part rows from rank may number
-    → (k : ℕ) → k < number + 1 → LeadsBelow site part rows from rank may k
-more_fall site part rows rank from may behind number next before here =
-    more_members (LeadsBelow site part rows from rank may) may behind number next (λ k no to member goes. absurd (no member)) before here
+-- all relays that these hops lead to are of ranks below
+abbrev pub AreBelow : Site → List Wanted → List Row → ℕ → List Hop → Type 0
+AreBelow site part rows rank hops = (hop : Hop) → Contains hops hop → IsBelow site part rows hop.to.relay rank
 
-pub falls_all : (site : Site) (class : Class) (part : List Wanted) (rows : List Row) (rank : ℕ) (from : SiteInput) (may behind : ℕ)
-    → Bits (MayAt site class from) may → HasNoneFrom may behind
-    → ((number : ℕ) → number < behind → LeadsBelow site part rows from rank may number) → FallsFrom site class part rows rank from
-falls_all site class part rows rank from may behind bits none each to number is goes =
-    all_members (LeadsBelow site part rows from rank may) may behind none (λ k no x member by. absurd (no member)) each number to ((bits number).1 is) goes
+module _ (site : Site) (part : List Wanted) (rows : List Row) (rank : ℕ) (hops : List Hop) where
+  pub none_below : AreBelow site part rows rank (take 0 hops)
+  none_below hop (k, low, is) = absurd (omega (arith, low))
+
+  pub hop_below : (k : ℕ) (hop : Hop) → k < length hops → hop ≡ get_or hops k hop → AreBelow site part rows rank (take k hops)
+      → IsBelow site part rows hop.to.relay rank → AreBelow site part rows rank (take (k + 1) hops)
+  hop_below k hop low is before here x there =
+      elim (Contains-push_cases (take k hops) (get_or hops k hop) x (subst (λ l. Contains l x) (take_more hops k hop low) there)) [
+        | inl earlier ↦ before x earlier
+        | inr last ↦ subst (λ (h : Hop). IsBelow site part rows h.to.relay rank) (is ∙ last) here
+      ]
+
+  pub hops_below : (k : ℕ) → length hops ≤ k → AreBelow site part rows rank (take k hops) → AreBelow site part rows rank hops
+  hops_below k all below hop there = below hop (subst (λ l. Contains l hop) (sym (take_all k hops all)) there)
+
+  -- where an input's hops lead, and where its occurrences do
+  pub falls_by_hops : (class : Class) (from : SiteInput) → AreHops site class executed.Every from.relay (list_of site from) hops
+      → AreBelow site part rows rank hops → FallsFrom site class part rows rank from
+  falls_by_hops class from are below to number goes =
+      let hop = are.whole number to goes in
+      subst (λ (x : SiteInput). IsBelow site part rows x.relay rank) hop.2 (below hop.0 hop.1)
+
+  pub hops_by_falls : (class : Class) (from : SiteInput) → AreHops site class executed.Every from.relay (list_of site from) hops
+      → FallsFrom site class part rows rank from → AreBelow site part rows rank hops
+  hops_by_falls class from are falls hop there = falls hop.to hop.number (are.sound hop there).1
 
 -- the relay that is known
 pub known_below : (site : Site) (part : List Wanted) (rows : List Row) (rank : ℕ) (known : Option ℕ) (relay : ℕ)
@@ -132,10 +155,18 @@ from_flat f (x ∷ xs) y there =
           (found.0, one_behind x xs found.0 found.1, found.2)
     ]
 
+-- the input that a row of an input is about
+pub is_about : (is : Wanted) (from : SiteInput) → (is ≡ wanted.Reach from) ⊎ (is ≡ wanted.Branch from) → input_in is ≡ Some from
+is_about is from either = elim either [
+  | inl reach ↦ ap input_in reach
+  | inr branch ↦ ap input_in branch
+]
+
 abbrev pub IsMeant : Site → Class → Wanted → Type 0
 IsMeant site class (wanted.Class c) = c ≡ class
-IsMeant site class (wanted.Reach input) = Reach site class input
-IsMeant site class (wanted.Rank relay) = (input : ℕ) × Reach site class (record { relay = relay; input = input })
+IsMeant site class (wanted.Reach input) = Reach site class Scope.Firm input
+IsMeant site class (wanted.Branch input) = IsBranch site class input
+IsMeant site class (wanted.Rank relay) = IsReached site class relay
 IsMeant site class (wanted.Path entry archive) = Contains site.entries entry × Contains (archives site class) archive
 
 module _ (site : Site) (class : Class) (part : List Wanted) (are : AreWanted site class part) where
@@ -145,45 +176,104 @@ module _ (site : Site) (class : Class) (part : List Wanted) (are : AreWanted sit
       let it = from_map (λ a. wanted.Path found.0 a) (archives site class) is found.2 in
       subst (IsMeant site class) it.2 (found.1, it.1)
 
-  in_rest : (is : Wanted) → Contains (map wanted.Reach are.inputs ++ (map wanted.Rank are.relays ++ paths site class)) is → IsMeant site class is
+  in_ranks : (is : Wanted) → Contains (map wanted.Rank are.relays ++ paths site class) is → IsMeant site class is
+  in_ranks is there =
+      elim (Contains-append_cases (map wanted.Rank are.relays) (paths site class) is there) [
+        | inl rank ↦
+            let it = from_map wanted.Rank are.relays is rank in
+            subst (IsMeant site class) it.2 ((are.relays_reached.member it.0).0 it.1)
+        | inr path ↦ in_paths is path
+      ]
+
+  in_branches : (is : Wanted) → Contains (map wanted.Branch are.branches ++ (map wanted.Rank are.relays ++ paths site class)) is
+      → IsMeant site class is
+  in_branches is there =
+      elim (Contains-append_cases (map wanted.Branch are.branches) (map wanted.Rank are.relays ++ paths site class) is there) [
+        | inl branch ↦
+            let it = from_map wanted.Branch are.branches is branch in
+            subst (IsMeant site class) it.2 ((are.branches_reached.member it.0).0 it.1)
+        | inr later ↦ in_ranks is later
+      ]
+
+  abbrev behind : List Wanted
+  behind = map wanted.Reach are.inputs ++ (map wanted.Branch are.branches ++ (map wanted.Rank are.relays ++ paths site class))
+
+  in_rest : (is : Wanted) → Contains behind is → IsMeant site class is
   in_rest is there =
-      elim (Contains-append_cases (map wanted.Reach are.inputs) (map wanted.Rank are.relays ++ paths site class) is there) [
+      elim (Contains-append_cases (map wanted.Reach are.inputs) (map wanted.Branch are.branches ++ (map wanted.Rank are.relays ++ paths site class)) is there) [
         | inl reach ↦
             let it = from_map wanted.Reach are.inputs is reach in
             subst (IsMeant site class) it.2 ((are.inputs_reached.member it.0).0 it.1)
-        | inr later ↦ elim (Contains-append_cases (map wanted.Rank are.relays) (paths site class) is later) [
-          | inl rank ↦
-              let it = from_map wanted.Rank are.relays is rank in
-              subst (IsMeant site class) it.2 ((are.relays_reached.member it.0).0 it.1)
-          | inr path ↦ in_paths is path
-        ]
+        | inr later ↦ in_branches is later
       ]
 
-  in_whole : (is : Wanted) → Contains (wanted.Class class ∷ (map wanted.Reach are.inputs ++ (map wanted.Rank are.relays ++ paths site class))) is
-      → IsMeant site class is
+  in_whole : (is : Wanted) → Contains (wanted.Class class ∷ behind) is → IsMeant site class is
   in_whole is (ℕ.zero, low, same) = subst (IsMeant site class) same refl
   in_whole is (ℕ.suc k, low, same) = in_rest is (k, omega (arith, low), same)
 
   pub meant : (is : Wanted) → Contains part is → IsMeant site class is
   meant is there = in_whole is (subst (λ l. Contains l is) are.whole there)
 
+  -- the input of a wanted row is reached
+  meant_every : (is : Wanted) → IsMeant site class is → (from : SiteInput) → input_in is ≡ Some from → Reach site class Scope.Every from
+  meant_every (wanted.Class c) m from same = absurd (no_value same)
+  meant_every (wanted.Reach input) m from same = subst (Reach site class Scope.Every) (one_value same) (reach_every site class input m)
+  meant_every (wanted.Branch input) m from same = subst (Reach site class Scope.Every) (one_value same) m.reached
+  meant_every (wanted.Rank relay) m from same = absurd (no_value same)
+  meant_every (wanted.Path entry archive) m from same = absurd (no_value same)
+
+  pub input_reached : (is : Wanted) → Contains part is → (from : SiteInput) → input_in is ≡ Some from → Reach site class Scope.Every from
+  input_reached is there from same = meant_every is (meant is there) from same
+
   pub input_there : IsLawful site → (is : Wanted) → Contains part is → IsInputThere site is
-  input_there law is there from same = reach_there site law class from (meant (wanted.Reach from) (subst (Contains part) same there))
+  input_there law is there from same = reach_there site law class Scope.Every from (input_reached is there from same)
+
+  -- each reached input has a row
+  pub record HasRow (from : SiteInput) : Type 0 where
+    pub place : ℕ
+    pub is : Wanted
+    pub stands : slice_get part place ≡ Some is
+    pub about : input_in is ≡ Some from
+
+  row_of : (from : SiteInput) (is : Wanted) → Contains behind is → input_in is ≡ Some from → HasRow from
+  row_of from is there about =
+      let at = at_place part is (subst (λ l. Contains l is) (sym are.whole) (one_behind (wanted.Class class) behind is there)) in
+      record { place = at.0; is = is; stands = at.1; about = about }
+
+  reach_row : (from : SiteInput) → Contains are.inputs from → HasRow from
+  reach_row from there =
+      row_of from (wanted.Reach from)
+      (Contains-append_left (map wanted.Reach are.inputs) (map wanted.Branch are.branches ++ (map wanted.Rank are.relays ++ paths site class)) (wanted.Reach from)
+      (in_map wanted.Reach are.inputs from there))
+      refl
+
+  branch_row : (from : SiteInput) → Contains are.branches from → HasRow from
+  branch_row from there =
+      row_of from (wanted.Branch from)
+      (Contains-append_right (map wanted.Reach are.inputs) (map wanted.Branch are.branches ++ (map wanted.Rank are.relays ++ paths site class)) (wanted.Branch from)
+      (Contains-append_left (map wanted.Branch are.branches) (map wanted.Rank are.relays ++ paths site class) (wanted.Branch from)
+      (in_map wanted.Branch are.branches from there)))
+      refl
+
+  has_row : (from : SiteInput) → Reach site class Scope.Every from → HasRow from
+  has_row from reach = by_test (list_any (same_input from) are.inputs) refl
+    where
+      by_test : (b : Bool) → list_any (same_input from) are.inputs ≡ b → HasRow from
+      by_test true among = reach_row from (Contains-from_any same_is from are.inputs among)
+      by_test false none =
+          branch_row from ((are.branches_reached.member from).1
+          (record { reached = reach; rest = λ firm. not_among are.inputs from none ((are.inputs_reached.member from).1 firm) }))
 
   -- where each wanted row's input was looked at, all were
   pub above_all : (rows : List Row) (relay rank most : ℕ) → length part ≤ most
       → ((k : ℕ) (is : Wanted) → k < most → slice_get part k ≡ Some is → FallsAt site class part rows relay rank is)
       → IsAbove site class part rows relay rank
-  above_all rows relay rank most all each from to number below same reach may goes has =
-      let inputs = Contains-append_left (map wanted.Reach are.inputs) (map wanted.Rank are.relays ++ paths site class) (wanted.Reach from)
-      (in_map wanted.Reach are.inputs from ((are.inputs_reached.member from).1 reach)) in
-      let there = subst (λ l. Contains l (wanted.Reach from)) (sym are.whole)
-      (one_behind (wanted.Class class) (map wanted.Reach are.inputs ++ (map wanted.Rank are.relays ++ paths site class)) (wanted.Reach from) inputs) in
-      let at = at_place part (wanted.Reach from) there in
-      let low = slice_get_within part at.0 (wanted.Reach from) at.1 in
-      each at.0 (wanted.Reach from) (omega (arith, low, all)) at.1 from refl same to number may goes below has
+  above_all rows relay rank most all each from to number below same reach goes has =
+      let row = has_row from reach in
+      let low = slice_get_within part row.place row.is row.stands in
+      each row.place row.is (omega (arith, low, all)) row.stands from row.about same to number goes below has
 
   pub above_at : (rows : List Row) (relay rank : ℕ) → IsAbove site class part rows relay rank → (is : Wanted) → Contains part is
       → FallsAt site class part rows relay rank is
-  above_at rows relay rank above is there from same of to number may goes below has =
-      above from to number below of (meant (wanted.Reach from) (subst (Contains part) same there)) may goes has
+  above_at rows relay rank above is there from same of to number goes below has =
+      above from to number below of (input_reached is there from same) goes has

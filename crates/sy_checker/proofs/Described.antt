@@ -162,12 +162,16 @@ names_are (AreLines.skip s later) = names_are later
 names_are (AreLines.shaped {it = Line.Relay it} s is later) = (same_name it.name is.name, names_are later)
 names_are (AreLines.shaped {it = Line.Entry it} s is later) = names_are later
 names_are (AreLines.shaped {it = Line.Protect it} s is later) = names_are later
+names_are (AreLines.shaped {it = Line.Policy} s is later) = names_are later
+names_are (AreLines.shaped {it = Line.Spare it} s is later) = names_are later
 
 actions_are : {texts : List (List (List ℕ))} {lines : List Line} → AreLines texts lines → EachLine texts → EachAction (protect_lines lines)
 actions_are AreLines.none each = tt
 actions_are (AreLines.skip s later) each = actions_are later each.1
 actions_are (AreLines.shaped {it = Line.Relay it} s is later) each = actions_are later each.1
 actions_are (AreLines.shaped {it = Line.Entry it} s is later) each = actions_are later each.1
+actions_are (AreLines.shaped {it = Line.Policy} s is later) each = actions_are later each.1
+actions_are (AreLines.shaped {it = Line.Spare it} s is later) each = actions_are later each.1
 actions_are (AreLines.shaped {it = Line.Protect it} s is later) each = ((subst AreWords is.whole each.0).1.1.1.0, actions_are later each.1)
 
 -- ---- what the site names

@@ -10,7 +10,8 @@ use Rattle.sy_cert.specs.declared.row.Row.TheVariants as row
 use Rattle.sy_site.specs.declared.site.SiteAction.{SiteAction}
 use Rattle.sy_site.specs.declared.site.SiteInput.{SiteInput}
 use Rattle.sy_site.specs.Sites.{Site, archives}
-use Rattle.sy_site.specs.machine.Reach.{Forwards, LeadsTo, MayAt, Reach, leads_on, writes}
+use Rattle.sy_board.specs.relay.Spares.{Scope}
+use Rattle.sy_site.specs.machine.Reach.{LeadsTo, Reach, Reaches, leads_on, list_of, writes}
 use Rattle.sy_site.specs.machine.Soundness.{IsSound, IsSoundFor}
 use Rattle.sy_checker.specs.Fit.{AreFit, AreRight, AreWanted, HasRank, IsAbove, IsClean, IsFit, IsPath, IsRight, paths}
 use Rattle.sy_checker.specs.declared.wanted.Wanted.{Wanted}
@@ -68,6 +69,7 @@ module _ (site : Site) (class : Class) (part : List Wanted) (rows : List Row) wh
   reach_row : (input : SiteInput) (r : Row) → IsRight site class part rows (wanted.Reach input) r → IsClean site class input
   reach_row input (row.Reach relay port) right = right.2
   reach_row input (row.Class given) right = absurd right
+  reach_row input (row.Branch relay port) right = absurd right
   reach_row input (row.Rank relay rank) right = absurd right
   reach_row input (row.Path relay port archive_relay action occurrences) right = absurd right
 
@@ -80,33 +82,47 @@ module _ (site : Site) (class : Class) (part : List Wanted) (rows : List Row) wh
   }
   rank_row relay place is (row.Class given) there right = absurd right
   rank_row relay place is (row.Reach name port) there right = absurd right
+  rank_row relay place is (row.Branch name port) there right = absurd right
   rank_row relay place is (row.Path name port archive_relay action occurrences) there right = absurd right
 
   path_leads : (archive : SiteAction) (input : SiteInput) (occurrences : List ℕ) → IsPath site class archive input occurrences
       → LeadsTo site class archive input
-  path_leads archive input [] last = writes last.number last.action last.must last.runs last.writes
-  path_leads archive input (number ∷ later) (must, to, goes, more) = leads_on number must goes (path_leads archive to later more)
+  path_leads archive input [] last = writes last.number last.action last.does last.writes
+  path_leads archive input (number ∷ later) (to, goes, more) =
+      leads_on number goes.action to goes.does goes.leads (path_leads archive to later more)
 
   path_row : (entry : SiteInput) (archive : SiteAction) (r : Row) → IsRight site class part rows (wanted.Path entry archive) r
       → LeadsTo site class archive entry
   path_row entry archive (row.Path relay port archive_relay action occurrences) right = path_leads archive entry occurrences right.4
   path_row entry archive (row.Class given) right = absurd right
   path_row entry archive (row.Reach relay port) right = absurd right
+  path_row entry archive (row.Branch relay port) right = absurd right
   path_row entry archive (row.Rank relay rank) right = absurd right
 
 -- ---- what a class's rows show
 
 module _ (site : Site) (class : Class) (part : List Wanted) (rows : List Row) (are : AreWanted site class part)
     (right : AreRight site class part rows) where
-  in_part : (is : Wanted) → Contains (map wanted.Reach are.inputs ++ (map wanted.Rank are.relays ++ paths site class)) is → Contains part is
-  in_part is there =
-      subst (λ z. Contains z is) (sym are.whole)
-      (one_behind (wanted.Class class) (map wanted.Reach are.inputs ++ (map wanted.Rank are.relays ++ paths site class)) is there)
+  abbrev ranks_and_paths : List Wanted
+  ranks_and_paths = map wanted.Rank are.relays ++ paths site class
 
-  clean : (input : SiteInput) → Reach site class input → IsClean site class input
+  abbrev behind_reach : List Wanted
+  behind_reach = map wanted.Branch are.branches ++ ranks_and_paths
+
+  in_part : (is : Wanted) → Contains (map wanted.Reach are.inputs ++ behind_reach) is → Contains part is
+  in_part is there =
+      subst (λ z. Contains z is) (sym are.whole) (one_behind (wanted.Class class) (map wanted.Reach are.inputs ++ behind_reach) is there)
+
+  -- behind the inputs
+  in_behind : (is : Wanted) → Contains ranks_and_paths is → Contains part is
+  in_behind is there =
+      in_part is (Contains-append_right (map wanted.Reach are.inputs) behind_reach is
+      (Contains-append_right (map wanted.Branch are.branches) ranks_and_paths is there))
+
+  clean : (input : SiteInput) → Reach site class Scope.Firm input → IsClean site class input
   clean input reach =
       let here = in_part (wanted.Reach input)
-      (Contains-append_left (map wanted.Reach are.inputs) (map wanted.Rank are.relays ++ paths site class) (wanted.Reach input)
+      (Contains-append_left (map wanted.Reach are.inputs) behind_reach (wanted.Reach input)
       (in_map wanted.Reach are.inputs input ((are.inputs_reached.member input).1 reach))) in
       let found = at_place part (wanted.Reach input) here in
       let is = right found.0 (wanted.Reach input) found.1 in
@@ -114,9 +130,8 @@ module _ (site : Site) (class : Class) (part : List Wanted) (rows : List Row) (a
 
   ranked : (relay : ℕ) → Contains are.relays relay → RankRow site class part rows relay
   ranked relay there =
-      let here = in_part (wanted.Rank relay)
-      (Contains-append_right (map wanted.Reach are.inputs) (map wanted.Rank are.relays ++ paths site class) (wanted.Rank relay)
-      (Contains-append_left (map wanted.Rank are.relays) (paths site class) (wanted.Rank relay) (in_map wanted.Rank are.relays relay there))) in
+      let here = in_behind (wanted.Rank relay)
+      (Contains-append_left (map wanted.Rank are.relays) (paths site class) (wanted.Rank relay) (in_map wanted.Rank are.relays relay there)) in
       let found = at_place part (wanted.Rank relay) here in
       let is = right found.0 (wanted.Rank relay) found.1 in
       rank_row site class part rows relay found.0 found.1 is.stands is.there is.right
@@ -124,11 +139,10 @@ module _ (site : Site) (class : Class) (part : List Wanted) (rows : List Row) (a
   leads : (entry : SiteInput) → Contains site.entries entry → (archive : SiteAction) → Contains (archives site class) archive
       → LeadsTo site class archive entry
   leads entry is_entry archive is_archive =
-      let here = in_part (wanted.Path entry archive)
-      (Contains-append_right (map wanted.Reach are.inputs) (map wanted.Rank are.relays ++ paths site class) (wanted.Path entry archive)
+      let here = in_behind (wanted.Path entry archive)
       (Contains-append_right (map wanted.Rank are.relays) (paths site class) (wanted.Path entry archive)
       (in_flat (λ e. map (λ a. wanted.Path e a) (archives site class)) site.entries entry (wanted.Path entry archive) is_entry
-      (in_map (λ a. wanted.Path entry a) (archives site class) archive is_archive)))) in
+      (in_map (λ a. wanted.Path entry a) (archives site class) archive is_archive))) in
       let found = at_place part (wanted.Path entry archive) here in
       let is = right found.0 (wanted.Path entry archive) found.1 in
       path_row site class part rows entry archive is.stands is.right
@@ -153,16 +167,15 @@ module _ (site : Site) (class : Class) (part : List Wanted) (rows : List Row) (a
   rank_at : ℕ → ℕ
   rank_at relay = rank_by relay (has are.relays relay)
 
-  there_is : (input : SiteInput) → Reach site class input → Contains are.relays input.relay
+  there_is : (input : SiteInput) → Reach site class Scope.Every input → Contains are.relays input.relay
   there_is input reach = (are.relays_reached.member input.relay).1 (input.input, reach)
 
-  falls : (from to : SiteInput) (number : ℕ) → Reach site class from → MayAt site class from number → Forwards site from number to
+  falls : (from to : SiteInput) (number : ℕ) → Reach site class Scope.Every from → Reaches site class Scope.Every from.relay (list_of site from) number to
       → rank_at to.relay < rank_at from.relay
   unfolding rank_at
-  falls from to number reach may goes =
-      let reach_to = Reach.onward number reach may goes in
-      rank_above from.relay (has are.relays from.relay) (there_is from reach) from to number (rank_by to.relay (has are.relays to.relay)) refl reach may
-      goes
+  falls from to number reach goes =
+      let reach_to = Reach.onward number reach goes in
+      rank_above from.relay (has are.relays from.relay) (there_is from reach) from to number (rank_by to.relay (has are.relays to.relay)) refl reach goes
       (rank_stands to.relay (has are.relays to.relay) (there_is to reach_to))
 
   pub sound_for : IsSoundFor site class

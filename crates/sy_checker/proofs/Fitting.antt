@@ -8,16 +8,17 @@ use Rattle.std.proofs.lemmas.Map.Views.{Contains-from_any}
 use Rattle.sy_wire.specs.declared.class.Class.{Class}
 use Rattle.sy_cert.specs.declared.row.Row.{Row}
 use Rattle.sy_cert.specs.declared.row.Row.TheVariants as row
+use Rattle.sy_board.specs.relay.Spares.{Scope}
 use Rattle.sy_site.specs.declared.site.SiteAction.{SiteAction}
 use Rattle.sy_site.specs.declared.site.SiteInput.{SiteInput}
 use Rattle.sy_site.specs.Sites.{Site, archives, is_protected, plan_at}
-use Rattle.sy_site.specs.machine.Lawful.{IsLawful}
+use Rattle.sy_site.specs.machine.Lawful.{IsInput, IsLawful}
 use Rattle.sy_site.specs.machine.Reach.{LeadsTo, Reach, leads_on, onward, writes}
 use Rattle.sy_site.specs.machine.Soundness.{AreRanks, IsSound}
 use Rattle.sy_board.proofs.relay.Keeps.{Each, each_append}
 use Rattle.sy_site.proofs.machine.NoFinding.{no_finding}
 use Rattle.sy_checker.specs.Fit.{AreFit, AreRight, AreWanted, IsFit, IsPath, ListsAll, StandsBefore, action_name, name_of, paths, port_of}
-use Rattle.sy_checker.specs.Internal.{AreProtectedBelow, AreRelays, AreSorted, same_input}
+use Rattle.sy_checker.specs.Internal.{AreProtectedBelow, AreRelays, AreRest, AreSorted, IsRest, same_input}
 use Rattle.sy_checker.specs.Made.{IsMade, IsMadeAt}
 use Rattle.sy_checker.specs.declared.wanted.Wanted.{Wanted}
 use Rattle.sy_checker.specs.declared.wanted.Wanted.TheVariants as wanted
@@ -27,7 +28,7 @@ use Rattle.sy_checker.proofs.Joined.{are_wanted}
 use Rattle.sy_checker.proofs.Numbered.{class_put, class_skip, classes_all, classes_first}
 use Rattle.sy_checker.proofs.PartsJoined.{right_append}
 use Rattle.sy_checker.proofs.RowsMade.{are_right}
-use Rattle.sy_checker.proofs.Sorted.{has_input, next_relay, no_input, relay_put, relay_skip, relays_all, relays_first, sorted_all, sorted_first, sorted_put, sorted_skip}
+use Rattle.sy_checker.proofs.Sorted.{has_input, next_relay, no_input, relay_put, relay_skip, relays_all, relays_first, rest_all, rest_first, rest_put, rest_relay, rest_skip, sorted_all, sorted_first, sorted_put, sorted_skip}
 use Rattle.sy_checker.proofs.There.{place_there, reach_there, relay_there}
 
 each_from : {A : Type 0} (P : A → Type 0) (xs : List A) → ((x : A) → Contains xs x → P x) → Each P xs
@@ -104,6 +105,56 @@ module _ (site : Site) (found : List SiteInput) (few : (x : SiteInput) → Conta
   sorted : (inputs : List SiteInput) × ListsAll (Contains found) StandsBefore inputs
   sorted = let s = sorted_to (length site.relays) in (s.0, sorted_all found s.0 (length site.relays) few s.1)
 
+-- those of some that aren't among others, in the same order
+module _ (site : Site) (every firm : List SiteInput) (few : (x : SiteInput) → Contains every x → x.relay < length site.relays)
+    (places : (x : SiteInput) → Contains every x → x.input < length (plan_at site x.relay).inputs) where
+  abbrev place_on : ℕ → ℕ → SiteInput
+  place_on relay input = record { relay = relay; input = input }
+
+  rest_on : (relay : ℕ) (rest : List SiteInput) → AreRest every firm relay 0 rest → (n : ℕ) → (new : List SiteInput) × AreRest every firm relay n new
+  rest_on relay rest are ℕ.zero = (rest, are)
+  rest_on relay rest are (ℕ.suc n) =
+      let before = rest_on relay rest are n in
+      let next : n + 1 ≡ suc n = omega arith in
+      go before.0 before.1 next (list_any (same_input (place_on relay n)) every) refl (list_any (same_input (place_on relay n)) firm) refl
+    where
+      go : (old : List SiteInput) → AreRest every firm relay n old → n + 1 ≡ suc n → (b : Bool) → list_any (same_input (place_on relay n)) every ≡ b
+          → (d : Bool) → list_any (same_input (place_on relay n)) firm ≡ d → (new : List SiteInput) × AreRest every firm relay (suc n) new
+      go old is next false e d f = (
+        old,
+        subst (λ k. AreRest every firm relay k old) next
+            (rest_skip every firm relay n old is (λ it. not_among every (place_on relay n) e it.there)),
+      )
+      go old is next true e true f = (
+        old,
+        subst (λ k. AreRest every firm relay k old) next
+            (rest_skip every firm relay n old is (λ it. it.rest (Contains-from_any same_is (place_on relay n) firm f))),
+      )
+      go old is next true e false f = (
+        old ++ place_on relay n ∷ [],
+        subst (λ k. AreRest every firm relay k (old ++ place_on relay n ∷ [])) next
+            (rest_put every firm relay n old is (record {
+              there = Contains-from_any same_is (place_on relay n) every e;
+              rest = not_among firm (place_on relay n) f;
+            })),
+      )
+
+  rest_to : (m : ℕ) → (rest : List SiteInput) × AreRest every firm m 0 rest
+  rest_to ℕ.zero = ([], rest_first every firm)
+  rest_to (ℕ.suc m) =
+      let before = rest_to m in
+      let most = length (plan_at site m).inputs in
+      let all = rest_on m before.0 before.1 most in
+      let next : m + 1 ≡ suc m = omega arith in (
+        all.0,
+        subst (λ k. AreRest every firm k 0 all.0) next
+            (rest_relay every firm all.0 m most
+            (λ x there same. subst (λ r. x.input < length (plan_at site r).inputs) same (places x there)) all.1),
+      )
+
+  rest : (inputs : List SiteInput) × ListsAll (IsRest every firm) StandsBefore inputs
+  rest = let s = rest_to (length site.relays) in (s.0, rest_all every firm s.0 (length site.relays) few s.1)
+
 relays_to : (inputs : List SiteInput) (m : ℕ) → (relays : List ℕ) × AreRelays inputs m relays
 relays_to inputs ℕ.zero = ([], relays_first inputs)
 relays_to inputs (ℕ.suc m) =
@@ -132,10 +183,11 @@ tabled_at f (ℕ.suc n) (ℕ.suc k) low = tabled_at (λ j. f (suc j)) n k (omega
 
 path_of : (site : Site) (class : Class) (archive : SiteAction) (input : SiteInput) → LeadsTo site class archive input
     → (path : List ℕ) × IsPath site class archive input path
-path_of site class archive input (writes number action must runs is) =
-    ([], record { number = number; must = must; action = action; runs = runs; writes = is })
-path_of site class archive input (leads_on {to = to} number must goes more) =
-    let p = path_of site class archive to more in (number ∷ p.0, (must, to, goes, p.1))
+path_of site class archive input (writes number action does is) =
+    ([], record { number = number; action = action; does = does; writes = is })
+path_of site class archive input (leads_on number action to does goes more) =
+    let p = path_of site class archive to more in
+    (number ∷ p.0, (to, record { action = action; does = does; leads = goes }, p.1))
 
 abbrev Makes : Site → Class → List ℕ → Wanted → Type 0
 Makes site class ranks is = (r : Row) × IsMade site class ranks is r
@@ -180,27 +232,35 @@ part_rows site law all class protected =
     let sound = all class protected in
     let n = length site.relays in
     let l = reached_list site law class (λ way input kind found. no_finding site all class way input kind (record { protected = protected; found = found })) in
-    let found = l.0 in
-    let reach = l.1 in
-    let there : (x : SiteInput) → Contains found x → x.relay < n = λ x is. relay_there site x (reach_there site law class x ((reach x).0 is)) in
-    let places : (x : SiteInput) → Contains found x → x.input < length (plan_at site x.relay).inputs
-    = λ x is. place_there site x (reach_there site law class x ((reach x).0 is)) in
-    let s = sorted site found there places in
-    let r = relays_to s.0 n in
-    let relays = relays_all s.0 r.0 n (λ x is. there x ((s.1.member x).0 is)) r.1 in
-    let part = ((([] ++ wanted.Class class ∷ []) ++ map wanted.Reach s.0) ++ map wanted.Rank r.0) ++ paths site class in
+    let f = l Scope.Firm in
+    let e = l Scope.Every in
+    let places_of : (scope : Scope) (found : List SiteInput) → ((x : SiteInput) → Contains found x → Reach site class scope x)
+        → (x : SiteInput) → Contains found x → IsInput site x
+    = λ scope found reach x is. reach_there site law class scope x (reach x is) in
+    let firm_there = places_of Scope.Firm f.0 (λ x is. (f.1 x).0 is) in
+    let every_there = places_of Scope.Every e.0 (λ x is. (e.1 x).0 is) in
+    let every_few : (x : SiteInput) → Contains e.0 x → x.relay < n = λ x is. relay_there site x (every_there x is) in
+    let s = sorted site f.0 (λ x is. relay_there site x (firm_there x is)) (λ x is. place_there site x (firm_there x is)) in
+    let b = rest site e.0 f.0 every_few (λ x is. place_there site x (every_there x is)) in
+    let r = relays_to e.0 n in
+    let relays = relays_all e.0 r.0 n every_few r.1 in
+    let part = (((([] ++ wanted.Class class ∷ []) ++ map wanted.Reach s.0) ++ map wanted.Branch b.0) ++ map wanted.Rank r.0) ++ paths site class in
     let ranks = tabled sound.rank n in
-    let low : (x : SiteInput) → Reach site class x → x.relay < n = λ x at. relay_there site x (reach_there site law class x at) in
+    let low : (x : SiteInput) → Reach site class Scope.Every x → x.relay < n
+    = λ x at. relay_there site x (reach_there site law class Scope.Every x at) in
     let falls : AreRanks site class (λ relay. get_or ranks relay 0) = record {
-      falls = λ from to number at may goes.
-          let below = sound.ranks.falls from to number at may goes in
+      falls = λ from to number at goes.
+          let below = sound.ranks.falls from to number at goes in
           let a = tabled_at sound.rank n from.relay (low from at) in
-          let b = tabled_at sound.rank n to.relay (low to (onward number at may goes)) in
+          let b = tabled_at sound.rank n to.relay (low to (onward number at goes)) in
           omega (arith, below, a, b);
     } in
     let inputs_made : Each (Makes site class ranks) (map wanted.Reach s.0) = each_map (Makes site class ranks) (λ x. wanted.Reach x) s.0
     (each_from (λ x. Makes site class ranks (wanted.Reach x)) s.0
-    (λ x is. (row.Reach (name_of site x.relay) (port_of site x), (refl, refl, sound.clean x ((reach x).0 ((s.1.member x).0 is)))))) in
+    (λ x is. (row.Reach (name_of site x.relay) (port_of site x), (refl, refl, sound.clean x ((f.1 x).0 ((s.1.member x).0 is)))))) in
+    let branches_made : Each (Makes site class ranks) (map wanted.Branch b.0) = each_map (Makes site class ranks) (λ x. wanted.Branch x) b.0
+    (each_from (λ x. Makes site class ranks (wanted.Branch x)) b.0
+    (λ x is. (row.Branch (name_of site x.relay) (port_of site x), (refl, refl)))) in
     let ranks_made : Each (Makes site class ranks) (map wanted.Rank r.0) = each_map (Makes site class ranks) (λ x. wanted.Rank x) r.0
     (each_from (λ x. Makes site class ranks (wanted.Rank x)) r.0 (λ x is. (row.Rank (name_of site x) (get_or ranks x 0), refl))) in
     let paths_made : Each (Makes site class ranks) (paths site class) =
@@ -210,15 +270,17 @@ part_rows site law all class protected =
     (each_from (λ a. Makes site class ranks (wanted.Path e a)) (archives site class)
     (λ a named. (let p = path_of site class a e (sound.leads e is a named) in
     (row.Path (name_of site e.relay) (port_of site e) (name_of site a.relay) (action_name site a) p.0, (refl, refl, refl, refl, p.1))))))) in
+    let top = [] ++ wanted.Class class ∷ [] in
     let each : Each (Makes site class ranks) part =
-    each_append (Makes site class ranks) ((([] ++ wanted.Class class ∷ []) ++ map wanted.Reach s.0) ++ map wanted.Rank r.0) (paths site class)
-    (each_append (Makes site class ranks) (([] ++ wanted.Class class ∷ []) ++ map wanted.Reach s.0) (map wanted.Rank r.0)
-    (each_append (Makes site class ranks) ([] ++ wanted.Class class ∷ []) (map wanted.Reach s.0) ((row.Class class, refl), tt) inputs_made) ranks_made)
+    each_append (Makes site class ranks) (((top ++ map wanted.Reach s.0) ++ map wanted.Branch b.0) ++ map wanted.Rank r.0) (paths site class)
+    (each_append (Makes site class ranks) ((top ++ map wanted.Reach s.0) ++ map wanted.Branch b.0) (map wanted.Rank r.0)
+    (each_append (Makes site class ranks) (top ++ map wanted.Reach s.0) (map wanted.Branch b.0)
+    (each_append (Makes site class ranks) top (map wanted.Reach s.0) ((row.Class class, refl), tt) inputs_made) branches_made) ranks_made)
     paths_made in
     let rows = rows_of site class ranks part each in
     record {
       part = part;
-      wanted_part = are_wanted site class found s.0 r.0 part reach s.1 relays refl;
+      wanted_part = are_wanted site class f.0 e.0 s.0 b.0 r.0 part f.1 e.1 s.1 b.1 relays refl;
       rows = rows.rows;
       many = rows.many;
       right = are_right site class part ranks rows.rows rows.made falls;

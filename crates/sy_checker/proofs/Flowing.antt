@@ -1,13 +1,7 @@
 -- The flows that are kept of a class.
-use Rattle.std.proofs.Common.{◌≡◌, ℕ, ◌+◌, ◌==◌, List, [], ◌∷◌, ◌++◌, Some, refl, sym, subst, ◌∙◌, arith, inl, inr, eqb-true}
-use Rattle.std.specs.List.{position}
+use Rattle.std.proofs.Common.{◌≡◌, ℕ, ◌+◌, List, [], ◌∷◌, ◌++◌, Some, refl, sym, subst, ◌∙◌, arith, inl, inr}
 use Rattle.std.proofs.lemmas.List.{length-append}
-use Rattle.std.proofs.lemmas.List.Quantifiers.{position-Some}
 use Rattle.std.proofs.lemmas.Option.{slice_get_within}
-use Rattle.sy_rules.specs.PlanValue.{Plan}
-use Rattle.sy_rules.specs.declared.parameters.settings.FlowControl.TheVariants as control
-use Rattle.sy_rules.specs.declared.parts.Input.{Input}
-use Rattle.sy_board.specs.relay.Plans.{input_at}
 use Rattle.sy_checker.specs.Flows.{AreEach}
 use Rattle.sy_checker.proofs.Rooted.{stood}
 
@@ -29,12 +23,3 @@ module _ {A : Type 0} (P : ℕ → A → Type 0) where
           | inr last ↦ subst (λ k. P k y) (sym (last.0 ∙ many)) (subst (P n) (sym last.1) p)
         ];
       }
-
-abbrev no_input : Input
-no_input = record { port = 0; flow = control.Off; list = 0; queue = 0 }
-
--- the list of an input that was found by it
-pub list_at_place : (plan : Plan) (list place : ℕ) → position (λ (i : Input). i.list == list) plan.inputs ≡ Some place → (input_at plan place).list ≡ list
-list_at_place plan list place is =
-    let at = position-Some (λ (i : Input). i.list == list) plan.inputs place no_input is in
-    eqb-true (input_at plan place).list list at.1

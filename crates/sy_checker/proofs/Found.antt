@@ -2,24 +2,24 @@
 use Rattle.std.proofs.Common.{◌≡◌, ℕ, ◌<◌, ◌≤◌, ◌+◌, Bool, true, false, ◌&&◌, ◌==◌, List, [], ◌∷◌, ◌++◌, length, take, get_or, Option, Some, None, refl, sym, ap, subst, ◌∙◌, arith, inl, inr, eqb-true, eq-eqb, append-nil, append_assoc}
 use Rattle.std.specs.Prelude.{Contains, ◌⊎◌, Result, Ok, Err, OnOk}
 use Rattle.std.specs.Cmp.{IsEquivalence}
-use Rattle.std.specs.Int.{bit_at}
 use Rattle.std.specs.List.{list_any}
-use Rattle.std.proofs.lemmas.Bool.{cases_eq, cases_lt, false≢true}
+use Rattle.std.proofs.lemmas.Bool.{false≢true}
 use Rattle.std.proofs.lemmas.Cmp.{nat_eq_equiv}
-use Rattle.std.proofs.lemmas.List.{take_more}
+use Rattle.std.proofs.lemmas.List.{take_all, take_more}
 use Rattle.std.proofs.lemmas.List.Elements.{Contains-append_left, Contains-push, Contains-push_cases}
 use Rattle.std.proofs.lemmas.Map.Keys.{IsDistinct-push}
 use Rattle.std.proofs.lemmas.Map.Views.{Contains-from_any, list_any-from_Contains}
 use Rattle.sy_wire.specs.declared.class.Class.{Class}
 use Rattle.sy_rules.specs.declared.lists.occurrence.Occurrence.{Occurrence}
 use Rattle.sy_rules.specs.declared.lists.occurrence.Occurrence.TheVariants as occurrence
-use Rattle.sy_rules.specs.lists.Sets.{Bits}
 use Rattle.sy_site.specs.declared.site.SiteInput.{SiteInput}
-use Rattle.sy_site.specs.Sites.{Site}
-use Rattle.sy_site.specs.machine.Reach.{Forwards, occurrence_of}
+use Rattle.sy_site.specs.Sites.{Site, target}
+use Rattle.sy_site.specs.machine.Reach.{list_of, occurrence_at}
 use Rattle.sy_checker.specs.declared.executed.Executed.{Executed}
-use Rattle.sy_checker.specs.Internal.{Adds, HasNoneFrom, IsNextIn, LeadsBy, forward_in, forward_of, same_input}
-use Rattle.sy_checker.specs.Search.{ExecutedAt, LeadsOn}
+use Rattle.sy_checker.specs.declared.flows.Hop.{Hop}
+use Rattle.sy_checker.specs.Hops.{AreHops, HasHop, LeadsBy, MustForward}
+use Rattle.sy_checker.specs.Internal.{Adds, forward_in, forward_of, same_input}
+use Rattle.sy_checker.specs.Search.{LeadsOn}
 
 -- ---- inputs are the same by their numbers
 
@@ -141,66 +141,43 @@ one_more xs k d old mid new low first second =
     (λ y there. subst (λ l. Contains l y) (sym split) (Contains-append_left (take k xs) (x ∷ []) y there))
     (λ y e. subst (λ l. Contains l y) (sym split) (subst (Contains (take k xs ++ x ∷ [])) (sym e) (Contains-push (take k xs) x)))
 
--- ---- what the occurrences of a set lead to
+-- ---- what hops lead to
 
--- of those below a number
-pub record LeadsBelow (site : Site) (set : ℕ) (from : SiteInput) (most : ℕ) (to : SiteInput) : Type 0 where
-  pub number : ℕ
-  pub below : number < most
-  pub leads : LeadsBy site set from number to
+pub none_hops : (hops : List Hop) (old : List SiteInput) → Adds (HasHop (take 0 hops)) old old
+none_hops hops old = nothing_added (HasHop (take 0 hops)) old (λ x has. let (k, low, is) = has.there in absurd (omega (arith, low)))
 
-none_below : (site : Site) (set : ℕ) (from to : SiteInput) → LeadsBelow site set from 0 to → ⊥
-none_below site set from to leads = let low = leads.below in omega (arith, low)
-
-pub no_leads : (site : Site) (set : ℕ) (from : SiteInput) (old : List SiteInput) → Adds (LeadsBelow site set from 0) old old
-no_leads site set from old = nothing_added (LeadsBelow site set from 0) old (none_below site set from)
-
-below_or_last : (site : Site) (set : ℕ) (from : SiteInput) (n : ℕ) (x : SiteInput) → LeadsBelow site set from (n + 1) x
-    → LeadsBelow site set from n x ⊎ LeadsBy site set from n x
-below_or_last site set from n x leads =
-    let low = leads.below in
-    elim (cases_eq leads.number n) [
-      | inl same ↦ inr (subst (λ k. LeadsBy site set from k x) same leads.leads)
-      | inr apart ↦ inl (record { number = leads.number; below = omega (arith, low, apart); leads = leads.leads })
-    ]
-
--- up to the next member nothing leads on
-pub up_to_leads : (site : Site) (set : ℕ) (from : SiteInput) (behind n : ℕ) (old new : List SiteInput) → IsNextIn set behind n
-    → Adds (LeadsBelow site set from behind) old new → Adds (LeadsBelow site set from n) old new
-up_to_leads site set from behind n old new next added =
-    let least = next.behind in
-    added_as (LeadsBelow site set from behind) (LeadsBelow site set from n) old new added
-    (λ x leads. record { number = leads.number; below = sooner leads.number leads.below leads.leads.member (cases_lt leads.number behind); leads = leads.leads })
-    (λ x leads. let low = leads.below in record { number = leads.number; below = omega (arith, low, least); leads = leads.leads })
-  where
-    sooner : (k : ℕ) → k < n → bit_at set k ≡ 1 → (k < behind) ⊎ (behind ≤ k) → k < behind
-    sooner k low bit (inl earlier) = earlier
-    sooner k low bit (inr later) = absurd (next.lowest k later low bit)
-
-pub more_leads : (site : Site) (set : ℕ) (from : SiteInput) (behind n : ℕ) (old mid new : List SiteInput) → IsNextIn set behind n
-    → Adds (LeadsBelow site set from behind) old mid → Adds (LeadsBy site set from n) mid new → Adds (LeadsBelow site set from (n + 1)) old new
-more_leads site set from behind n old mid new next before second =
-    let first = up_to_leads site set from behind n old mid next before in
-    both_added (LeadsBelow site set from n) (LeadsBy site set from n) (LeadsBelow site set from (n + 1)) old mid new first second
-    (below_or_last site set from n)
-    (λ x leads. let low = leads.below in record { number = leads.number; below = omega (arith, low); leads = leads.leads })
-    (λ x leads. record { number = n; below = omega arith; leads = leads })
-
--- none that is executed is behind
-pub all_leads : (site : Site) (class : Class) (which : Executed) (set : ℕ) (from : SiteInput) (n : ℕ) (old new : List SiteInput) → HasNoneFrom set n
-    → Bits (ExecutedAt site class which from) set → Adds (LeadsBelow site set from n) old new → Adds (LeadsOn site class which from) old new
-all_leads site class which set from n old new none bits added =
-    added_as (LeadsBelow site set from n) (LeadsOn site class which from) old new added
-    (λ x on. let bit = (bits on.number).1 on.done in record {
-      number = on.number;
-      below = below_all on.number bit (cases_lt on.number n);
-      leads = record { member = bit; goes = on.goes };
+pub more_hops : (hops : List Hop) (k : ℕ) (d : Hop) (old mid new : List SiteInput) → k < length hops
+    → Adds (HasHop (take k hops)) old mid → Adds (λ y. y ≡ (get_or hops k d).to) mid new → Adds (HasHop (take (k + 1) hops)) old new
+more_hops hops k d old mid new low first second =
+    let hop = get_or hops k d in
+    let split = take_more hops k d low in
+    both_added (HasHop (take k hops)) (λ y. y ≡ hop.to) (HasHop (take (k + 1) hops)) old mid new first second
+    (λ y has. elim (Contains-push_cases (take k hops) hop has.hop (subst (λ l. Contains l has.hop) split has.there)) [
+      | inl before ↦ inl (record { hop = has.hop; there = before; leads = has.leads })
+      | inr here ↦ inr (sym has.leads ∙ ap (λ (h : Hop). h.to) (sym here))
+    ])
+    (λ y has. record {
+      hop = has.hop;
+      there = subst (λ l. Contains l has.hop) (sym split) (Contains-append_left (take k hops) (hop ∷ []) has.hop has.there);
+      leads = has.leads;
     })
-    (λ x leads. record { number = leads.number; done = (bits leads.number).0 leads.leads.member; goes = leads.leads.goes })
-  where
-    below_all : (k : ℕ) → bit_at set k ≡ 1 → (k < n) ⊎ (n ≤ k) → k < n
-    below_all k bit (inl low) = low
-    below_all k bit (inr high) = absurd (none k high bit)
+    (λ y e. record {
+      hop = hop;
+      there = subst (λ l. Contains l hop) (sym split) (Contains-push (take k hops) hop);
+      leads = sym e;
+    })
+
+pub all_hops : (site : Site) (class : Class) (which : Executed) (from : SiteInput) (hops : List Hop) (k : ℕ) (old new : List SiteInput)
+    → AreHops site class which from.relay (list_of site from) hops → length hops ≤ k → Adds (HasHop (take k hops)) old new
+    → Adds (LeadsOn site class which from) old new
+all_hops site class which from hops k old new are all added =
+    added_as (HasHop (take k hops)) (LeadsOn site class which from) old new added
+    (λ x on.
+        (let hop = are.whole on.number x on.leads in
+        record { hop = hop.0; there = subst (λ l. Contains l hop.0) (sym (take_all k hops all)) hop.1; leads = hop.2 }))
+    (λ x has.
+        (let sound = are.sound has.hop (subst (λ l. Contains l has.hop) (take_all k hops all) has.there) in
+        record { number = has.hop.number; leads = subst (LeadsBy site class which from has.hop.number) has.leads sound.1 }))
 
 -- ---- forwards
 
@@ -210,32 +187,20 @@ one_value e = cc
 no_value : {A : Type 0} {x : A} → None ≡ Some x → ⊥
 no_value e = cc
 
-goes_by : (site : Site) (from : SiteInput) (number : ℕ) (to : SiteInput) (found : Option Occurrence) → occurrence_of site from number ≡ found
-    → forward_in site from found ≡ Some to → Forwards site from number to
+goes_by : (site : Site) (from : SiteInput) (number : ℕ) (to : SiteInput) (found : Option Occurrence)
+    → occurrence_at site from.relay (list_of site from) number ≡ found → forward_in site from.relay found ≡ Some to
+    → (action : ℕ) × (occurrence_at site from.relay (list_of site from) number ≡ Some (occurrence.Run action))
+    × (target site (record { relay = from.relay; action = action }) ≡ Some to)
 goes_by site from number to None is e = absurd (no_value e)
-goes_by site from number to (Some (occurrence.Run action)) is e = record { action = action; runs = is; leads = e }
+goes_by site from number to (Some (occurrence.Run action)) is e = (action, is, e)
 goes_by site from number to (Some (occurrence.Post list)) is e = absurd (no_value e)
 
-pub goes : (site : Site) (from : SiteInput) (number : ℕ) (to : SiteInput) → forward_of site from number ≡ Some to → Forwards site from number to
-goes site from number to e = goes_by site from number to (occurrence_of site from number) refl e
+-- the action of a forward, and where it leads
+pub goes : (site : Site) (from : SiteInput) (number : ℕ) (to : SiteInput) → forward_of site from number ≡ Some to
+    → (action : ℕ) × (occurrence_at site from.relay (list_of site from) number ≡ Some (occurrence.Run action))
+    × (target site (record { relay = from.relay; action = action }) ≡ Some to)
+goes site from number to e = goes_by site from number to (occurrence_at site from.relay (list_of site from) number) refl e
 
-pub goes_so : (site : Site) (from : SiteInput) (number : ℕ) (to : SiteInput) → Forwards site from number to → forward_of site from number ≡ Some to
-goes_so site from number to g = ap (forward_in site from) g.runs ∙ g.leads
-
--- ---- one occurrence
-
-pub not_in_set : (site : Site) (set : ℕ) (from : SiteInput) (number : ℕ) (old : List SiteInput) → (bit_at set number ≡ 1 → ⊥)
-    → Adds (LeadsBy site set from number) old old
-not_in_set site set from number old none = nothing_added (LeadsBy site set from number) old (λ x leads. none leads.member)
-
-pub no_forward : (site : Site) (set : ℕ) (from : SiteInput) (number : ℕ) (old : List SiteInput) → forward_of site from number ≡ None
-    → Adds (LeadsBy site set from number) old old
-no_forward site set from number old none =
-    nothing_added (LeadsBy site set from number) old (λ x leads. no_value (sym none ∙ goes_so site from number x leads.goes))
-
-pub forward_added : (site : Site) (set : ℕ) (from : SiteInput) (number : ℕ) (to : SiteInput) (old new : List SiteInput) → bit_at set number ≡ 1
-    → forward_of site from number ≡ Some to → Adds (λ x. x ≡ to) old new → Adds (LeadsBy site set from number) old new
-forward_added site set from number to old new member is added =
-    added_as (λ x. x ≡ to) (LeadsBy site set from number) old new added
-    (λ x leads. one_value (sym (goes_so site from number x leads.goes) ∙ is))
-    (λ x e. record { member = member; goes = subst (Forwards site from number) (sym e) (goes site from number to is) })
+pub goes_so : (site : Site) (class : Class) (from : SiteInput) (number : ℕ) (to : SiteInput)
+    → MustForward site class from.relay (list_of site from) number to → forward_of site from number ≡ Some to
+goes_so site class from number to g = ap (forward_in site from.relay) g.does.found ∙ g.leads

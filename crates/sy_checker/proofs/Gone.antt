@@ -12,15 +12,17 @@ use Rattle.sy_rules.specs.Whole.{IsWhole}
 use Rattle.sy_site.specs.declared.site.SiteInput.{SiteInput}
 use Rattle.sy_site.specs.Sites.{Relay, Site, plan_at, plan_in}
 use Rattle.sy_site.specs.machine.Lawful.{IsInput, IsLawful}
-use Rattle.sy_site.specs.machine.Reach.{Reach, entry, onward}
+use Rattle.sy_board.specs.relay.Spares.{Scope}
+use Rattle.sy_site.specs.machine.Reach.{Reach, Reaches, entry, list_of, onward}
 use Rattle.sy_checker.specs.declared.executed.Executed.{Executed}
 use Rattle.sy_checker.specs.declared.executed.Executed.TheVariants as executed
+use Rattle.sy_checker.specs.Hops.{Leads}
 use Rattle.sy_checker.specs.Internal.{Adds, same_input}
 use Rattle.sy_checker.specs.declared.reach.Origin.{Origin}
 use Rattle.sy_checker.specs.Search.{AreRooted, IsOrigin, IsSpread, KeepsRoots, LeadsOn}
 use Rattle.sy_checker.proofs.FitIsSound.{at_place}
 use Rattle.sy_checker.proofs.Rooted.{origin_at, rooted_none, same_place}
-use Rattle.sy_checker.proofs.There.{forward_there, place_there, relay_there}
+use Rattle.sy_checker.proofs.There.{lead_there, place_there, relay_there}
 
 -- ---- whole plans
 
@@ -177,7 +179,7 @@ module _ (site : Site) (class : Class) (which : Executed) (start old new : List 
   gone_more = record {
     there = λ x is. elim (added.only x is) [
       | inl before ↦ gone.there x before
-      | inr leads ↦ forward_there site from leads.number x leads.goes
+      | inr leads ↦ lead_there site class which from.relay (list_of site from) leads.number x leads.leads
     ];
     starts = λ x is. kept x (gone.starts x is);
     closed = now_closed;
@@ -207,25 +209,43 @@ pub if_ok : {A E : Type 0} (P Q : A → Type 0) → ((x : A) → P x → Q x) �
 if_ok P Q f (Ok x) p = f x p
 if_ok P Q f (Err e) p = p
 
-module _ (site : Site) (class : Class) (found : List SiteInput) (origins : List (Option Origin))
-    (spread : IsSpread site class executed.May site.entries found origins) where
-  reach_found : (x : SiteInput) → Reach site class x → Contains found x
+-- how the occurrences of a scope are executed
+abbrev pub executed_in : Scope → Executed
+executed_in Scope.Every = executed.Every
+executed_in Scope.Firm = executed.Firm
+
+leads_in : (site : Site) (class : Class) (scope : Scope) (relay list number : ℕ) (to : SiteInput) → Reaches site class scope relay list number to
+    → Leads site class (executed_in scope) relay list number to
+leads_in site class Scope.Every relay list number to goes = goes
+leads_in site class Scope.Firm relay list number to goes = goes
+
+reaches_in : (site : Site) (class : Class) (scope : Scope) (relay list number : ℕ) (to : SiteInput)
+    → Leads site class (executed_in scope) relay list number to → Reaches site class scope relay list number to
+reaches_in site class Scope.Every relay list number to leads = leads
+reaches_in site class Scope.Firm relay list number to leads = leads
+
+module _ (site : Site) (class : Class) (scope : Scope) (found : List SiteInput) (origins : List (Option Origin))
+    (spread : IsSpread site class (executed_in scope) site.entries found origins) where
+  reach_found : (x : SiteInput) → Reach site class scope x → Contains found x
   reach_found x (entry is) = spread.starts x is
-  reach_found x (onward {from} number before may goes) =
-      spread.closed from x (reach_found from before) (record { number = number; done = may; goes = goes })
+  reach_found x (onward {from} number before goes) =
+      spread.closed from x (reach_found from before)
+      (record { number = number; leads = leads_in site class scope from.relay (list_of site from) number x goes })
 
-  reached_by : (place : ℕ) (x : SiteInput) (origin : Option Origin) → IsOrigin site class executed.May site.entries found place x origin
-      → ((earlier : ℕ) (y : SiteInput) → earlier < place → slice_get found earlier ≡ Some y → Reach site class y) → Reach site class x
+  reached_by : (place : ℕ) (x : SiteInput) (origin : Option Origin) → IsOrigin site class (executed_in scope) site.entries found place x origin
+      → ((earlier : ℕ) (y : SiteInput) → earlier < place → slice_get found earlier ≡ Some y → Reach site class scope y) → Reach site class scope x
   reached_by place x None starts before = entry starts
-  reached_by place x (Some o) from before = onward o.row.number (before o.place o.row.input from.0 from.1) from.2.1 from.2.2
+  reached_by place x (Some o) from before =
+      onward o.row.number (before o.place o.row.input from.0 from.1)
+      (reaches_in site class scope o.row.input.relay (list_of site o.row.input) o.row.number x from.2.1)
 
-  reached_below : (most place : ℕ) → place < most → (x : SiteInput) → slice_get found place ≡ Some x → Reach site class x
+  reached_below : (most place : ℕ) → place < most → (x : SiteInput) → slice_get found place ≡ Some x → Reach site class scope x
   reached_below ℕ.zero place low x is = absurd (omega (arith, low))
   reached_below (ℕ.suc most) place low x is =
-      let origin = origin_at site class executed.May site.entries found origins spread.rooted place x is in
+      let origin = origin_at site class (executed_in scope) site.entries found origins spread.rooted place x is in
       reached_by place x origin.0 origin.1 (λ earlier y less stands. reached_below most earlier (omega (arith, less, low)) y stands)
 
-  pub reach_spread : (x : SiteInput) → Contains found x ↔ Reach site class x
+  pub reach_spread : (x : SiteInput) → Contains found x ↔ Reach site class scope x
   reach_spread x = (
     λ is. (let at = at_place found x is in reached_below (suc at.0) at.0 (omega arith) x at.1),
     reach_found x,

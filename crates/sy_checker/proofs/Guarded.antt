@@ -6,12 +6,14 @@ use Rattle.std.proofs.lemmas.List.Elements.{Contains-append_cases, Contains-appe
 use Rattle.sy_wire.specs.declared.class.Class.{Class}
 use Rattle.sy_rules.specs.PlanValue.{Plan}
 use Rattle.sy_board.specs.relay.Guards.{MayGuard}
-use Rattle.sy_board.specs.relay.Totals.{Pairs}
+use Rattle.sy_board.specs.relay.Spares.{Scope}
+use Rattle.sy_board.specs.relay.Totals.{GuardState, Pairs}
+use Rattle.sy_site.specs.declared.site.SiteAction.{SiteAction}
 use Rattle.sy_site.specs.declared.site.SiteInput.{SiteInput}
-use Rattle.sy_site.specs.Sites.{Relay, Site, plan_at, plan_in}
+use Rattle.sy_site.specs.Sites.{Relay, Site, actions_at, plan_at, plan_in, spares_at}
 use Rattle.sy_site.specs.machine.Reach.{Reach}
 use Rattle.sy_site.specs.machine.Soundness.{IsGuarded}
-use Rattle.sy_checker.specs.Acceptance.{Acceptance, AreGuardable, ArePairsAt, AreReached, IsOf}
+use Rattle.sy_checker.specs.Acceptance.{Acceptance, AreGuardable, ArePairsAt, AreReached, IsGuardAt, IsOf}
 use Rattle.sy_checker.specs.Fit.{AreProtected}
 use Rattle.sy_checker.proofs.Comparing.{from_map}
 use Rattle.sy_checker.proofs.FitIsSound.{in_map}
@@ -29,7 +31,7 @@ pub reached_first : (site : Site) → AreReached site [] []
 reached_first site input class = (λ there. absurd (none_in (input, class) there), λ is. absurd (none_in class is.0))
 
 module _ (site : Site) (class : Class) (before : List Class) (pairs : List (SiteInput × Class)) (inputs : List SiteInput)
-    (reach : (x : SiteInput) → Contains inputs x ↔ Reach site class x) (are : AreReached site before pairs) where
+    (reach : (x : SiteInput) → Contains inputs x ↔ Reach site class Scope.Firm x) (are : AreReached site before pairs) where
   with : SiteInput → SiteInput × Class
   with input = (input, class)
 
@@ -45,7 +47,7 @@ module _ (site : Site) (class : Class) (before : List Class) (pairs : List (Site
           let input : found.0 ≡ x = ap (λ (p : SiteInput × Class). p.0) found.2 in
           let same : class ≡ c = ap (λ (p : SiteInput × Class). p.1) found.2 in (
             subst (Contains (before ++ class ∷ [])) same (Contains-push before class),
-            subst (λ k. Reach site k x) same ((reach x).0 (subst (Contains inputs) input found.1)),
+            subst (λ k. Reach site k Scope.Firm x) same ((reach x).0 (subst (Contains inputs) input found.1)),
           )
     ],
     λ is. elim (Contains-push_cases before class c is.0) [
@@ -53,7 +55,7 @@ module _ (site : Site) (class : Class) (before : List Class) (pairs : List (Site
       | inr same ↦
           subst (λ k. Contains (pairs ++ map with inputs) (x, k)) same
           (Contains-append_right pairs (map with inputs) (x, class)
-          (in_map with inputs x ((reach x).1 (subst (λ k. Reach site k x) (sym same) is.1))))
+          (in_map with inputs x ((reach x).1 (subst (λ k. Reach site k Scope.Firm x) (sym same) is.1))))
     ],
   )
 
@@ -115,30 +117,32 @@ plan_there (r ∷ rs) (ℕ.suc k) plan e = plan_there rs k plan e
 
 -- where those of each relay meet the condition of its guards
 pub guardable : (site : Site) (accepted : Acceptance) → IsOf site accepted
-    → ((relay : ℕ) (pairs : Pairs) → ((input : ℕ) (class : Class) → Contains pairs (input, class) → IsGuarded site relay input class)
-    → MayGuard (plan_at site relay) pairs)
+    → ((relay : ℕ) (guard : GuardState) → guard.spares ≡ spares_at site relay
+    → ((input : ℕ) (class : Class) → Contains guard.pairs (input, class) → IsGuarded site relay input class) → MayGuard (plan_at site relay) guard)
     → AreGuardable accepted
-guardable site accepted of may relay plan is pairs are =
+guardable site accepted of may relay plan is guard are =
     let same : plan_at site relay ≡ plan = plan_there site.relays relay plan (subst (λ ps. Some plan ≡ slice_get ps relay) of.plans is) in
-    subst (λ p. MayGuard p pairs) same
-    (may relay pairs (λ input class there. (of.pairs (record { relay = relay; input = input }) class).0 ((are input class).0 there)))
+    subst (λ p. MayGuard p guard) same
+    (may relay guard (are.spares ∙ ap (λ l. actions_at l relay) of.spares)
+    (λ input class there. (of.pairs (record { relay = relay; input = input }) class).0 ((are.pairs input class).0 there)))
 
 -- ---- what may fail
 
-pub guard_is : {E : Type 0} (pairs : List (SiteInput × Class)) (relay : ℕ) (found : Pairs) (result : Result Pairs E) → ArePairsAt pairs relay found
-    → IfOk result (λ g. g ≡ found) → IfOk result (λ g. ArePairsAt pairs relay g)
-guard_is pairs relay found (Ok g) are same = subst (ArePairsAt pairs relay) (sym same) are
-guard_is pairs relay found (Err e) are same = same
+pub guard_is : {E : Type 0} (accepted : Acceptance) (relay : ℕ) (pairs : Pairs) (spares : List ℕ) (result : Result GuardState E)
+    → ArePairsAt accepted.pairs relay pairs → spares ≡ actions_at accepted.spares relay
+    → IfOk result (λ g. g ≡ record { pairs = pairs; spares = spares }) → IfOk result (λ g. IsGuardAt accepted relay g)
+guard_is accepted relay pairs spares (Ok g) are is same = subst (IsGuardAt accepted relay) (sym same) (record { pairs = are; spares = is })
+guard_is accepted relay pairs spares (Err e) are is same = same
 
 pub all_reached : {A E : Type 0} (site : Site) (class : Class) (old new : List (SiteInput × Class)) (inputs : List SiteInput) (result : Result A E)
-    → ((x : SiteInput) → Contains inputs x ↔ Reach site class x) → new ≡ old ++ map (λ input. (input, class)) inputs
+    → ((x : SiteInput) → Contains inputs x ↔ Reach site class Scope.Firm x) → new ≡ old ++ map (λ input. (input, class)) inputs
     → OnOk result ((before : List Class) → AreReached site before old → AreReached site (before ++ class ∷ []) new)
 all_reached site class old new inputs (Ok x) reach is = λ before are.
     subst (AreReached site (before ++ class ∷ [])) (sym is) (reached_more site class before old inputs reach are)
 all_reached site class old new inputs (Err e) reach is = record {}
 
-pub guard_may : {E : Type 0} (accepted : Acceptance) (relay : ℕ) (result : Result Pairs E) → AreGuardable accepted
-    → IfOk result (λ g. ArePairsAt accepted.pairs relay g)
+pub guard_may : {E : Type 0} (accepted : Acceptance) (relay : ℕ) (result : Result GuardState E) → AreGuardable accepted
+    → IfOk result (λ g. IsGuardAt accepted relay g)
     → IfOk result (λ g. (plan : Plan) → Some plan ≡ slice_get accepted.plans relay → MayGuard plan g)
 guard_may accepted relay (Ok g) may are = λ plan is. may relay plan is g are
 guard_may accepted relay (Err e) may are = are

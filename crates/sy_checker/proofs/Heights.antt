@@ -1,69 +1,69 @@
--- The greatest rank that occurrences ask for, one after another.
-use Rattle.std.proofs.Common.{◌≡◌, ℕ, ◌<◌, ◌≤◌, ◌+◌, List, refl, subst, arith, inl, inr}
-use Rattle.std.specs.Prelude.{◌⊎◌}
-use Rattle.std.proofs.lemmas.Bool.{cases_eq}
+-- The greatest rank that hops ask for, one after another.
+use Rattle.std.proofs.Common.{◌≡◌, ℕ, ◌<◌, ◌≤◌, ◌+◌, List, [], ◌∷◌, ◌++◌, length, take, get_or, refl, sym, subst, ◌∙◌, arith, inl, inr}
+use Rattle.std.specs.Prelude.{Contains, ◌⊎◌}
+use Rattle.std.proofs.lemmas.List.{take_all, take_more}
+use Rattle.std.proofs.lemmas.List.Elements.{Contains-append_left, Contains-push, Contains-push_cases}
 use Rattle.sy_wire.specs.declared.class.Class.{Class}
-use Rattle.sy_rules.specs.lists.Sets.{Bits}
 use Rattle.sy_site.specs.declared.site.SiteInput.{SiteInput}
 use Rattle.sy_site.specs.Sites.{Site}
-use Rattle.sy_site.specs.machine.Reach.{MayAt}
-use Rattle.sy_checker.specs.Internal.{HasNoneFrom, IsNextIn, LeadsBy}
-use Rattle.sy_checker.specs.Loops.{IsHeight, IsHeightBy, rank_at}
-use Rattle.sy_checker.proofs.Members.{all_members, up_to_next}
+use Rattle.sy_site.specs.machine.Reach.{list_of}
+use Rattle.sy_checker.specs.declared.executed.Executed.TheVariants as executed
+use Rattle.sy_checker.specs.declared.flows.Hop.{Hop}
+use Rattle.sy_checker.specs.Hops.{AreHops}
+use Rattle.sy_checker.specs.Loops.{IsHeight, IsHeightOf, rank_at}
 
--- of the occurrences below a number
-pub record IsHeightBelow (site : Site) (ranks : List ℕ) (set : ℕ) (from : SiteInput) (most height : ℕ) : Type 0 where
-  pub above : (to : SiteInput) (number : ℕ) → number < most → LeadsBy site set from number to → rank_at ranks to.relay < height
-  pub least : (height ≡ 0)
-      ⊎ ((to : SiteInput) × (number : ℕ) × LeadsBy site set from number to × (height ≡ rank_at ranks to.relay + 1))
-
-pub none_below : (site : Site) (ranks : List ℕ) (set : ℕ) (from : SiteInput) → IsHeightBelow site ranks set from 0 0
-none_below site ranks set from = record {
-  above = λ to number low leads. absurd (omega (arith, low));
+pub height_none : (ranks : List ℕ) (hops : List Hop) → IsHeightOf ranks (take 0 hops) 0
+height_none ranks hops = record {
+  above = λ hop (k, low, is). absurd (omega (arith, low));
   least = inl refl;
 }
 
--- up to the next member nothing asks for more
-pub up_to_height : (site : Site) (ranks : List ℕ) (set : ℕ) (from : SiteInput) (behind number most : ℕ) → IsNextIn set behind number
-    → IsHeightBelow site ranks set from behind most → IsHeightBelow site ranks set from number most
-up_to_height site ranks set from behind number most next is = record {
-  above = λ to k low leads.
-      up_to_next (λ n. (to : SiteInput) → LeadsBy site set from n to → rank_at ranks to.relay < most) set behind number next
-      (λ n no x by. absurd (no by.member)) (λ n less x by. is.above x n less by) k low to leads;
-  least = is.least;
-}
-
-module _ (site : Site) (ranks : List ℕ) (set : ℕ) (from : SiteInput) (number most next : ℕ)
-    (so_far : IsHeightBelow site ranks set from number most) (one : IsHeightBy site ranks set from number next) where
-  pub keeps : next ≤ most → IsHeightBelow site ranks set from (number + 1) most
+module _ (ranks : List ℕ) (hops : List Hop) (hop : Hop) (most next : ℕ) (so_far : IsHeightOf ranks hops most)
+    (one : next ≡ rank_at ranks hop.to.relay + 1) where
+  keeps : next ≤ most → IsHeightOf ranks (hops ++ hop ∷ []) most
   keeps low = record {
-    above = λ to k below leads. elim (cases_eq k number) [
-      | inl same ↦ let is = one.above to (subst (λ n. LeadsBy site set from n to) same leads) in omega (arith, is, low)
-      | inr apart ↦ so_far.above to k (omega (arith, below, apart)) leads
+    above = λ x there. elim (Contains-push_cases hops hop x there) [
+      | inl before ↦ so_far.above x before
+      | inr here ↦ subst (λ (h : Hop). rank_at ranks h.to.relay < most) here (omega (arith, one, low))
     ];
-    least = so_far.least;
-  }
-
-  pub takes : most < next → IsHeightBelow site ranks set from (number + 1) next
-  takes up = record {
-    above = λ to k below leads. elim (cases_eq k number) [
-      | inl same ↦ let is = one.above to (subst (λ n. LeadsBy site set from n to) same leads) in omega (arith, is)
-      | inr apart ↦ let is = so_far.above to k (omega (arith, below, apart)) leads in omega (arith, is, up)
-    ];
-    least = elim one.least [
+    least = elim so_far.least [
       | inl none ↦ inl none
-      | inr some ↦ inr (some.0, number, some.1, one.above some.0 some.1)
+      | inr some ↦ inr (some.0, Contains-append_left hops (hop ∷ []) some.0 some.1, some.2)
     ];
   }
 
-pub height_all : (site : Site) (class : Class) (ranks : List ℕ) (set : ℕ) (from : SiteInput) (number height : ℕ) → Bits (MayAt site class from) set
-    → HasNoneFrom set number → IsHeightBelow site ranks set from number height → IsHeight site class ranks from height
-height_all site class ranks set from number height may none is = record {
-  above = λ to k can goes.
-      all_members (λ n. (x : SiteInput) → LeadsBy site set from n x → rank_at ranks x.relay < height) set number none (λ n no x by. absurd (no by.member))
-      (λ n low x by. is.above x n low by) k to (record { member = (may k).1 can; goes = goes });
+  takes : most < next → IsHeightOf ranks (hops ++ hop ∷ []) next
+  takes up = record {
+    above = λ x there. elim (Contains-push_cases hops hop x there) [
+      | inl before ↦ (let is = so_far.above x before in omega (arith, is, up))
+      | inr here ↦ subst (λ (h : Hop). rank_at ranks h.to.relay < next) here (omega (arith, one))
+    ];
+    least = inr (hop, Contains-push hops hop, one);
+  }
+
+module _ (ranks : List ℕ) (hops : List Hop) (k : ℕ) (hop : Hop) (low : k < length hops) (is : hop ≡ get_or hops k hop) (most next : ℕ)
+    (so_far : IsHeightOf ranks (take k hops) most) (one : next ≡ rank_at ranks hop.to.relay + 1) where
+  one_more : take (k + 1) hops ≡ take k hops ++ hop ∷ []
+  one_more = subst (λ x. take (k + 1) hops ≡ take k hops ++ x ∷ []) (sym is) (take_more hops k hop low)
+
+  pub still_most : next ≤ most → IsHeightOf ranks (take (k + 1) hops) most
+  still_most low = subst (λ l. IsHeightOf ranks l most) (sym one_more) (keeps ranks (take k hops) hop most next so_far one low)
+
+  pub new_most : most < next → IsHeightOf ranks (take (k + 1) hops) next
+  new_most up = subst (λ l. IsHeightOf ranks l next) (sym one_more) (takes ranks (take k hops) hop most next so_far one up)
+
+pub height_of_all : (ranks : List ℕ) (hops : List Hop) (k most : ℕ) → length hops ≤ k → IsHeightOf ranks (take k hops) most
+    → IsHeightOf ranks hops most
+height_of_all ranks hops k most all is = subst (λ l. IsHeightOf ranks l most) (take_all k hops all) is
+
+pub height_by_hops : (site : Site) (class : Class) (ranks : List ℕ) (from : SiteInput) (hops : List Hop) (height : ℕ)
+    → AreHops site class executed.Every from.relay (list_of site from) hops → IsHeightOf ranks hops height → IsHeight site class ranks from height
+height_by_hops site class ranks from hops height are is = record {
+  above = λ to number goes.
+      (let hop = are.whole number to goes in
+      subst (λ (x : SiteInput). rank_at ranks x.relay < height) hop.2 (is.above hop.0 hop.1));
   least = elim is.least [
     | inl none ↦ inl none
-    | inr some ↦ inr (some.0, some.1, (may some.1).0 some.2.member, some.2.goes, some.3)
+    | inr some ↦ inr (some.0.to, some.0.number, (are.sound some.0 some.1).1, some.2)
   ];
 }

@@ -3,6 +3,10 @@ pub mod Found
 pub mod There
 pub mod Rooted
 pub mod Flowing
+pub mod Firmness
+pub mod Walking
+pub mod Used
+pub mod Unspared
 pub mod Members
 pub mod Gone
 pub mod Sorted
@@ -29,6 +33,8 @@ pub mod Described
 pub mod Shaped
 pub mod Certified
 pub mod Checked
+pub mod Listing
+pub mod Leading
 pub mod Complete
 pub mod Fitting
 pub mod MadeRight

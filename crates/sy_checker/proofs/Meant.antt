@@ -4,17 +4,17 @@ use Rattle.std.specs.Prelude.{Contains, slice_get, true}
 use Rattle.std.proofs.lemmas.Option.{slice_get_within}
 use Rattle.sy_wire.specs.declared.class.Class.{Class}
 use Rattle.sy_rules.specs.declared.parts.Action.{Action}
+use Rattle.sy_board.specs.relay.Spares.{Scope}
 use Rattle.sy_site.specs.declared.site.Protection.{Protection}
 use Rattle.sy_site.specs.declared.site.SiteAction.{SiteAction}
 use Rattle.sy_site.specs.declared.site.SiteInput.{SiteInput}
 use Rattle.sy_site.specs.Sites.{Relay, Site, archives, asks_for, plan_in}
 use Rattle.sy_site.specs.machine.Lawful.{IsArchive, IsInput, IsLawful}
-use Rattle.sy_site.specs.machine.Reach.{entry}
 use Rattle.sy_checker.specs.Fit.{AreWanted}
 use Rattle.sy_checker.specs.declared.wanted.Wanted.{Wanted}
 use Rattle.sy_checker.specs.declared.wanted.Wanted.TheVariants as wanted
 use Rattle.sy_checker.proofs.Comparing.{meant, no_value}
-use Rattle.sy_checker.proofs.There.{reach_there, relay_there}
+use Rattle.sy_checker.proofs.There.{entry_there as is_there, reach_there, relay_there}
 
 action_there : (found : Option Relay) (n : ℕ) (part : Action) → slice_get (plan_in found).actions n ≡ Some part → (relay : Relay) × (found ≡ Some relay)
 action_there None n part is = absurd (no_value is)
@@ -34,11 +34,11 @@ module _ (site : Site) (law : IsLawful site) (class : Class) (part : List Wanted
   pub rank_there : (of : ℕ) → Contains part (wanted.Rank of) → of < length site.relays
   rank_there of there =
       let is = meant site class part are (wanted.Rank of) there in
-      relay_there site (record { relay = of; input = is.0 }) (reach_there site law class (record { relay = of; input = is.0 }) is.1)
+      relay_there site (record { relay = of; input = is.0 }) (reach_there site law class Scope.Every (record { relay = of; input = is.0 }) is.1)
 
   pub entry_there : (from : SiteInput) (archive : SiteAction) → Contains part (wanted.Path from archive) → IsInput site from
   entry_there from archive there =
-      reach_there site law class from (entry (meant site class part are (wanted.Path from archive) there).0)
+      is_there site law from (meant site class part are (wanted.Path from archive) there).0
 
   pub end_there : AreNamed site class → (from : SiteInput) (archive : SiteAction) → Contains part (wanted.Path from archive)
       → archive.relay < length site.relays

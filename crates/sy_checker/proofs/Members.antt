@@ -67,12 +67,3 @@ all_members P set from none others before k =
       | inl earlier ↦ before k earlier
       | inr behind ↦ others k (none k behind)
     ]
-
--- what holds below a number holds below the next member too
-pub up_to_next : (P : ℕ → Type 0) (set from number : ℕ) → IsNextIn set from number → ((k : ℕ) → (bit_at set k ≡ 1 → ⊥) → P k)
-    → ((k : ℕ) → k < from → P k) → (k : ℕ) → k < number → P k
-up_to_next P set from number next others before k low =
-    elim (cases_lt k from) [
-      | inl earlier ↦ before k earlier
-      | inr behind ↦ others k (next.lowest k behind low)
-    ]

@@ -25,14 +25,16 @@ module _ (site : Site) (class : Class) (part : List Wanted) (rows more : List Ro
 
   rank_with : (of : ℕ) (r : Row) → IsRankRow site class part rows of r → IsRankRow site class part (rows ++ more) of r
   rank_with of (row.Rank relay rank) h =
-      (h.0, λ from to number below same reach may goes has. h.1 from to number below same reach may goes (has_rank to.relay below has))
+      (h.0, λ from to number below same reach goes has. h.1 from to number below same reach goes (has_rank to.relay below has))
   rank_with of (row.Class c) h = h
   rank_with of (row.Reach relay port) h = h
+  rank_with of (row.Branch relay port) h = h
   rank_with of (row.Path relay port archive_relay action occurrences) h = h
 
   right_with : (is : Wanted) (r : Row) → IsRight site class part rows is r → IsRight site class part (rows ++ more) is r
   right_with (wanted.Class c) r h = h
   right_with (wanted.Reach input) r h = h
+  right_with (wanted.Branch input) r h = h
   right_with (wanted.Rank of) r h = rank_with of r h
   right_with (wanted.Path entry archive) r h = h
 

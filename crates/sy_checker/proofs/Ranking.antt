@@ -1,31 +1,30 @@
 -- Ranks that grow as inputs are done.
-use Rattle.std.proofs.Common.{◌≡◌, ℕ, ◌<◌, ◌≤◌, ◌+◌, max, Bool, true, false, List, [], ◌∷◌, ◌++◌, length, set, replicate, refl, sym, ap, subst, ◌∙◌, arith, inl, inr, length-set}
+use Rattle.std.proofs.Common.{◌≡◌, ℕ, ◌<◌, ◌≤◌, ◌+◌, max, Bool, true, false, List, [], ◌∷◌, ◌++◌, length, set, take, get_or, replicate, refl, sym, ap, subst, ◌∙◌, arith, inl, inr, length-set}
 use Rattle.std.specs.Prelude.{Contains}
 use Rattle.std.specs.List.{IsDistinct, list_any}
 use Rattle.std.proofs.lemmas.Bool.{cases_eq, cases_lt}
-use Rattle.std.proofs.lemmas.List.{get_or-set_same, get_or-set_other, length_push}
+use Rattle.std.proofs.lemmas.List.{get_or-set_same, get_or-set_other, length_push, take_all, take_more}
 use Rattle.std.proofs.lemmas.List.Elements.{Contains-append_left, Contains-push, Contains-push_cases}
 use Rattle.std.proofs.lemmas.Map.Keys.{IsDistinct-push}
 use Rattle.std.proofs.lemmas.Map.Views.{Contains-from_any}
 use Rattle.sy_wire.specs.declared.class.Class.{Class}
-use Rattle.sy_rules.specs.lists.Sets.{Bits}
+use Rattle.sy_board.specs.relay.Spares.{Scope}
 use Rattle.sy_site.specs.declared.site.SiteInput.{SiteInput}
 use Rattle.sy_site.specs.Sites.{Site}
 use Rattle.sy_site.specs.machine.Findings.{WayRow}
 use Rattle.sy_site.specs.machine.Lawful.{IsLawful}
-use Rattle.sy_site.specs.machine.Reach.{Forwards, MayAt, Reach, entry, onward}
+use Rattle.sy_site.specs.machine.Reach.{Reach, entry, list_of, onward}
 use Rattle.sy_site.specs.machine.Soundness.{AreRanks}
-use Rattle.sy_checker.specs.Internal.{HasNoneFrom, IsNextIn, same_input}
-use Rattle.sy_checker.specs.Loops.{AreRanked, DoesMore, IsDone, IsFollowed, IsHeight, IsLeast, IsMet, IsMost, IsOneMore, Follow, ends, goes_on, rank_at}
+use Rattle.sy_checker.specs.declared.executed.Executed.TheVariants as executed
+use Rattle.sy_checker.specs.declared.flows.Hop.{Hop}
+use Rattle.sy_checker.specs.Hops.{AreHops}
+use Rattle.sy_checker.specs.Internal.{same_input}
+use Rattle.sy_checker.specs.Loops.{AreFollowed, AreRanked, DoesMore, GoesOn, IsDone, IsHeight, IsLeast, IsMet, IsMost, IsOneMore, Follow, ends, goes_on, rank_at}
 use Rattle.sy_checker.proofs.Found.{same_is, same_laws}
 use Rattle.sy_checker.proofs.Gone.{few}
-use Rattle.sy_checker.proofs.Members.{all_members, more_members}
 use Rattle.sy_checker.proofs.There.{reach_there, relay_there}
 
 -- ---- what is done
-
-pub no_more : (P : ℕ → Type 0) (old : List SiteInput) → DoesMore P old old
-no_more P old = record { kept = λ x there. there; only = λ x there. inl there }
 
 pub more_and : (P : ℕ → Type 0) (old mid new : List SiteInput) → DoesMore P old mid → DoesMore P mid new → DoesMore P old new
 more_and P old mid new first second = record {
@@ -68,7 +67,7 @@ absent xs x false is none = is
 pub ranks_small : (site : Site) → IsLawful site → (class : Class) (done : List SiteInput) (settled ranks : List ℕ)
     → AreRanked site class done settled ranks → (relay : ℕ) → rank_at ranks relay < 4294967295
 ranks_small site law class done settled ranks are relay =
-    let most = few site law done are.distinct (λ x there. reach_there site law class x (are.reached x there)) in
+    let most = few site law done are.distinct (λ x there. reach_there site law class Scope.Every x (are.reached x there)) in
     let small = are.small relay in
     omega (arith, most, small)
 
@@ -78,11 +77,11 @@ abbrev pub raised : List ℕ → ℕ → ℕ → List ℕ
 raised ranks relay height = set ranks relay (max (rank_at ranks relay) height)
 
 module _ (site : Site) (law : IsLawful site) (class : Class) (done : List SiteInput) (settled ranks : List ℕ)
-    (are : AreRanked site class done settled ranks) (from : SiteInput) (at : Reach site class from) (height : ℕ)
+    (are : AreRanked site class done settled ranks) (from : SiteInput) (at : Reach site class Scope.Every from) (height : ℕ)
     (is : IsHeight site class ranks from height) (fresh : Contains done from → ⊥)
-    (followed : (to : SiteInput) (number : ℕ) → MayAt site class from number → Forwards site from number to → IsDone site class done to.relay) where
+    (followed : (to : SiteInput) (number : ℕ) → GoesOn site class from number to → IsDone site class done to.relay) where
   there : from.relay < length ranks
-  there = let low = relay_there site from (reach_there site law class from at) in let many = are.many in omega (arith, low, many)
+  there = let low = relay_there site from (reach_there site law class Scope.Every from at) in let many = are.many in omega (arith, low, many)
 
   rank_here : rank_at (raised ranks from.relay height) from.relay ≡ max (rank_at ranks from.relay) height
   rank_here = get_or-set_same ranks from.relay (max (rank_at ranks from.relay) height) 0 there
@@ -111,14 +110,14 @@ module _ (site : Site) (law : IsLawful site) (class : Class) (done : List SiteIn
   height_small : height ≤ length done + 1
   height_small = elim is.least [
     | inl none ↦ omega (arith, none)
-    | inr some ↦ let one = some.4 in let low = are.small some.0.relay in omega (arith, one, low)
+    | inr some ↦ let one = some.3 in let low = are.small some.0.relay in omega (arith, one, low)
   ]
 
   -- what led on before still does
   one_more_still : (relay : ℕ) → rank_at (raised ranks from.relay height) relay ≡ rank_at ranks relay → IsOneMore site class done ranks relay
       → IsOneMore site class (done ++ from ∷ []) (raised ranks from.relay height) relay
   one_more_still relay same one =
-      let to_same = rank_apart one.to.relay (done_apart one.to.relay (are.onward one.from one.to one.number one.is_done one.may one.goes)) in
+      let to_same = rank_apart one.to.relay (done_apart one.to.relay (are.onward one.from one.to one.number one.is_done one.goes)) in
       let more = one.more in
       record {
         from = one.from;
@@ -126,7 +125,6 @@ module _ (site : Site) (law : IsLawful site) (class : Class) (done : List SiteIn
         number = one.number;
         is_done = Contains-append_left done (from ∷ []) one.from one.is_done;
         is_its = one.is_its;
-        may = one.may;
         goes = one.goes;
         more = omega (arith, same, to_same, more);
       }
@@ -147,16 +145,15 @@ module _ (site : Site) (law : IsLawful site) (class : Class) (done : List SiteIn
       elim is.least [
         | inl no_height ↦ absurd (omega (arith, up, no_height))
         | inr some ↦
-            let apart = rank_apart some.0.relay (done_apart some.0.relay (followed some.0 some.1 some.2 some.3)) in
-            let one = some.4 in
+            let apart = rank_apart some.0.relay (done_apart some.0.relay (followed some.0 some.1 some.2)) in
+            let one = some.3 in
             inr (record {
               from = from;
               to = some.0;
               number = some.1;
               is_done = Contains-push done from;
               is_its = sym same;
-              may = some.2;
-              goes = some.3;
+              goes = some.2;
               more = omega (arith, here, new, apart, one, up);
             })
       ]
@@ -176,19 +173,19 @@ module _ (site : Site) (law : IsLawful site) (class : Class) (done : List SiteIn
     | inr apart ↦ least_as relay (rank_apart relay apart)
   ]
 
-  falls_old : (x to : SiteInput) (number : ℕ) → Contains done x → MayAt site class x number → Forwards site x number to
+  falls_old : (x to : SiteInput) (number : ℕ) → Contains done x → GoesOn site class x number to
       → rank_at (raised ranks from.relay height) to.relay < rank_at (raised ranks from.relay height) x.relay
-  falls_old x to number had may goes =
-      let low = are.falls x to number had may goes in
-      let same = rank_apart to.relay (done_apart to.relay (are.onward x to number had may goes)) in
+  falls_old x to number had goes =
+      let low = are.falls x to number had goes in
+      let same = rank_apart to.relay (done_apart to.relay (are.onward x to number had goes)) in
       let up = rank_no_less x.relay in
       omega (arith, low, same, up)
 
-  falls_new : (to : SiteInput) (number : ℕ) → MayAt site class from number → Forwards site from number to
+  falls_new : (to : SiteInput) (number : ℕ) → GoesOn site class from number to
       → rank_at (raised ranks from.relay height) to.relay < rank_at (raised ranks from.relay height) from.relay
-  falls_new to number may goes =
-      let low = is.above to number may goes in
-      let same = rank_apart to.relay (done_apart to.relay (followed to number may goes)) in
+  falls_new to number goes =
+      let low = is.above to number goes in
+      let same = rank_apart to.relay (done_apart to.relay (followed to number goes)) in
       let here = rank_here in
       omega (arith, low, same, here)
 
@@ -211,20 +208,18 @@ module _ (site : Site) (law : IsLawful site) (class : Class) (done : List SiteIn
   ranked_more = record {
     reached = λ x in_new. elim (Contains-push_cases done from x in_new) [
       | inl before ↦ are.reached x before
-      | inr here ↦ subst (Reach site class) here at
+      | inr here ↦ subst (Reach site class Scope.Every) here at
     ];
     distinct = IsDistinct-push same_laws done from are.distinct (absent done from (list_any (same_input from) done) refl fresh);
     all_done = λ relay is_settled. still relay (are.all_done relay is_settled);
-    onward = λ x to number in_new may goes. elim (Contains-push_cases done from x in_new) [
-      | inl before ↦ still to.relay (are.onward x to number before may goes)
-      | inr here ↦ still to.relay (followed to number (subst (λ z. MayAt site class z number) (sym here) may)
-          (subst (λ z. Forwards site z number to) (sym here) goes))
+    onward = λ x to number in_new goes. elim (Contains-push_cases done from x in_new) [
+      | inl before ↦ still to.relay (are.onward x to number before goes)
+      | inr here ↦ still to.relay (followed to number (subst (λ z. GoesOn site class z number to) (sym here) goes))
     ];
-    falls = λ x to number in_new may goes. elim (Contains-push_cases done from x in_new) [
-      | inl before ↦ falls_old x to number before may goes
+    falls = λ x to number in_new goes. elim (Contains-push_cases done from x in_new) [
+      | inl before ↦ falls_old x to number before goes
       | inr here ↦ subst (λ z. rank_at (raised ranks from.relay height) to.relay < rank_at (raised ranks from.relay height) z.relay) here
-          (falls_new to number (subst (λ z. MayAt site class z number) (sym here) may)
-          (subst (λ z. Forwards site z number to) (sym here) goes))
+          (falls_new to number (subst (λ z. GoesOn site class z number to) (sym here) goes))
     ];
     least = least_raised;
     small = small_new;
@@ -266,8 +261,8 @@ ranked_first site class ranks many zeros long = record {
   reached = λ x there. absurd (nothing_in x there);
   distinct = tt;
   all_done = λ relay there. absurd (nothing_in relay there);
-  onward = λ x to number there may goes. absurd (nothing_in x there);
-  falls = λ x to number there may goes. absurd (nothing_in x there);
+  onward = λ x to number there goes. absurd (nothing_in x there);
+  falls = λ x to number there goes. absurd (nothing_in x there);
   least = λ relay. inl (ap (λ l. rank_at l relay) zeros ∙ no_rank many relay);
   small = λ relay. let zero_rank : rank_at ranks relay ≡ 0 = ap (λ l. rank_at l relay) zeros ∙ no_rank many relay in omega (arith, zero_rank);
   many = long;
@@ -275,21 +270,21 @@ ranked_first site class ranks many zeros long = record {
 
 module _ (site : Site) (class : Class) (done : List SiteInput) (settled ranks : List ℕ) (are : AreRanked site class done settled ranks)
     (entries : (input : SiteInput) → Contains site.entries input → Contains done input) where
-  reach_done : (x : SiteInput) → Reach site class x → Contains done x
+  reach_done : (x : SiteInput) → Reach site class Scope.Every x → Contains done x
   reach_done x (entry is) = entries x is
-  reach_done x (onward {from} number before may goes) =
-      are.onward from x number (reach_done from before) may goes x refl (onward number before may goes)
+  reach_done x (onward {from} number before goes) =
+      are.onward from x number (reach_done from before) goes x refl (onward number before goes)
 
   pub ranked_all : AreRanks site class (rank_at ranks)
   ranked_all = record {
-    falls = λ from to number at may goes. are.falls from to number (reach_done from at) may goes;
+    falls = λ from to number at goes. are.falls from to number (reach_done from at) goes;
   }
 
   at_most : (relay n : ℕ) → Follow site class relay n → n ≤ rank_at ranks relay
   at_most relay n ends = omega arith
-  at_most relay n (goes_on {from} {to} number m at may goes later) =
+  at_most relay n (goes_on {from} {to} number m at goes later) =
       let low = at_most to.relay m later in
-      let falls = are.falls from to number (reach_done from at) may goes in
+      let falls = are.falls from to number (reach_done from at) goes in
       omega (arith, low, falls)
 
   -- by the rank of the relay
@@ -300,7 +295,7 @@ module _ (site : Site) (class : Class) (done : List SiteInput) (settled ranks : 
     | inr one ↦
         let more = one.more in
         let next = so_many n one.to.relay (omega (arith, is, more)) in
-        let all = goes_on one.number n (are.reached one.from one.is_done) one.may one.goes next in
+        let all = goes_on one.number n (are.reached one.from one.is_done) one.goes next in
         let long : n + 1 ≡ ℕ.suc n = omega arith in
         subst (λ m. Follow site class relay m) long (subst (λ r. Follow site class r (n + 1)) one.is_its all)
   ]
@@ -308,7 +303,7 @@ module _ (site : Site) (class : Class) (done : List SiteInput) (settled ranks : 
   pub ranked_most : (relay : ℕ) → IsMost site class relay (rank_at ranks relay)
   ranked_most relay = (so_many (rank_at ranks relay) relay refl, λ m follow. at_most relay m follow)
 
--- ---- what an input's forwards lead to
+-- ---- what the hops of an input lead to
 
 pub ranked_as : (site : Site) (class : Class) (done done' : List SiteInput) (settled settled' ranks ranks' : List ℕ) → done' ≡ done
     → settled' ≡ settled → ranks' ≡ ranks → AreRanked site class done settled ranks → AreRanked site class done' settled' ranks'
@@ -323,20 +318,19 @@ fresh_still way from old new more fresh there = elim (more.only from there) [
   | inr apart ↦ apart (inr refl)
 ]
 
-module _ (site : Site) (class : Class) (set : ℕ) (from : SiteInput) where
-  pub follows_none : (done : List SiteInput) (k : ℕ) → k < 0 → IsFollowed site class done set from k
-  follows_none done k low = absurd (omega (arith, low))
+module _ (site : Site) (class : Class) (hops : List Hop) where
+  pub follows_more : (P : ℕ → Type 0) (old new : List SiteInput) (k : ℕ) (hop : Hop) → k < length hops → hop ≡ get_or hops k hop → DoesMore P old new
+      → AreFollowed site class old (take k hops) → IsDone site class new hop.to.relay → AreFollowed site class new (take (k + 1) hops)
+  follows_more P old new k hop low is more before here x there =
+      elim (Contains-push_cases (take k hops) (get_or hops k hop) x (subst (λ l. Contains l x) (take_more hops k hop low) there)) [
+        | inl earlier ↦ done_still site class P old new more x.to.relay (before x earlier)
+        | inr last ↦ subst (λ (h : Hop). IsDone site class new h.to.relay) (is ∙ last) here
+      ]
 
-  pub follows_more : (P : ℕ → Type 0) (old new : List SiteInput) (behind number : ℕ) → IsNextIn set behind number → DoesMore P old new
-      → ((k : ℕ) → k < behind → IsFollowed site class old set from k) → IsFollowed site class new set from number
-      → (k : ℕ) → k < number + 1 → IsFollowed site class new set from k
-  follows_more P old new behind number next more before here =
-      more_members (IsFollowed site class new set from) set behind number next (λ k no to leads. absurd (no leads.member))
-      (λ k low to leads. done_still site class P old new more to.relay (before k low to leads)) here
-
-  pub follows_all : (done : List SiteInput) (behind : ℕ) → Bits (MayAt site class from) set → HasNoneFrom set behind
-      → ((k : ℕ) → k < behind → IsFollowed site class done set from k) → (to : SiteInput) (n : ℕ) → MayAt site class from n
-      → Forwards site from n to → IsDone site class done to.relay
-  follows_all done behind may none followed to n can goes =
-      all_members (IsFollowed site class done set from) set behind none (λ k no x leads. absurd (no leads.member)) followed n to
-      (record { member = (may n).1 can; goes = goes })
+  pub follows_all : (from : SiteInput) (done : List SiteInput) (k : ℕ) → length hops ≤ k
+      → AreHops site class executed.Every from.relay (list_of site from) hops → AreFollowed site class done (take k hops)
+      → (to : SiteInput) (number : ℕ) → GoesOn site class from number to → IsDone site class done to.relay
+  follows_all from done k all are followed to number goes =
+      let hop = are.whole number to goes in
+      subst (λ (x : SiteInput). IsDone site class done x.relay) hop.2
+      (followed hop.0 (subst (λ l. Contains l hop.0) (sym (take_all k hops all)) hop.1))

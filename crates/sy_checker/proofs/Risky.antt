@@ -8,13 +8,15 @@ use Rattle.sy_rules.specs.declared.lists.occurrence.Occurrence.TheVariants as oc
 use Rattle.sy_rules.specs.declared.parameters.objects.Destination.{Destination}
 use Rattle.sy_rules.specs.declared.parameters.objects.Destination.TheVariants as destination
 use Rattle.sy_rules.specs.declared.parts.Action.{Action}
-use Rattle.sy_rules.specs.lists.Sets.{Bits}
 use Rattle.sy_board.specs.relay.Plans.{retry_at}
+use Rattle.sy_board.specs.relay.Spares.{Scope}
 use Rattle.sy_site.specs.declared.site.SiteInput.{SiteInput}
 use Rattle.sy_site.specs.Sites.{Site, plan_at, target}
 use Rattle.sy_site.specs.machine.Findings.{HoldsAt, IsForward, Kind}
-use Rattle.sy_site.specs.machine.Reach.{MayAt, action_of, occurrence_of}
+use Rattle.sy_site.specs.machine.Reach.{MayDo, list_of}
+use Rattle.sy_checker.specs.declared.executed.Executed.TheVariants as executed
 use Rattle.sy_checker.specs.Fit.{IsClean}
+use Rattle.sy_checker.specs.Flows.{IsSet}
 use Rattle.sy_checker.specs.Internal.{HasNoneFrom, IsNextIn}
 use Rattle.sy_checker.specs.Risks.{IsRisky, RisksBy, is_forward, is_risk, kind_of}
 use Rattle.sy_checker.specs.declared.kinds.Risk.{Risk}
@@ -65,67 +67,85 @@ so_forward (Some a) f = so_sends a f
 
 -- ---- kinds 5 to 7
 
+-- the set has the occurrences of an input's list that may be executed and aren't spare
+abbrev pub IsFirmSet : Site → Class → SiteInput → ℕ → Type 0
+IsFirmSet site class input set = IsSet site class executed.Firm input.relay (list_of site input) set
+
 module _ (site : Site) (class : Class) (input : SiteInput) where
-  kind_shown : (number : ℕ) → MayAt site class input number → (risk : Risk) (is : Occurrence) → occurrence_of site input number ≡ Some is
+  kind_shown : (number : ℕ) (risk : Risk) (is : Occurrence) → MayDo site class Scope.Firm input.relay (list_of site input) number is
       → is_risk site input risk is ≡ true → HoldsAt site class input (kind_of risk)
-  kind_shown number may risks.Post (occurrence.Post list) there e = record { number = number; may = may; list = list; posts = there }
-  kind_shown number may risks.Post (occurrence.Run action) there e = absurd (false≢true e)
-  kind_shown number may risks.GivesUp (occurrence.Post list) there e = absurd (false≢true e)
-  kind_shown number may risks.GivesUp (occurrence.Run action) there e =
+  kind_shown number risks.Post (occurrence.Post list) does e = record { number = number; list = list; does = does }
+  kind_shown number risks.Post (occurrence.Run action) does e = absurd (false≢true e)
+  kind_shown number risks.GivesUp (occurrence.Post list) does e = absurd (false≢true e)
+  kind_shown number risks.GivesUp (occurrence.Run action) does e =
       let retry = some_so (retry_at (plan_at site input.relay) action) e in
-      (action, record { number = number; may = may; runs = there }, retry.0, retry.1)
-  kind_shown number may risks.NoTarget (occurrence.Post list) there e = absurd (false≢true e)
-  kind_shown number may risks.NoTarget (occurrence.Run action) there e =
+      (action, record { number = number; does = does }, retry.0, retry.1)
+  kind_shown number risks.NoTarget (occurrence.Post list) does e = absurd (false≢true e)
+  kind_shown number risks.NoTarget (occurrence.Run action) does e =
       let found = slice_get (plan_at site input.relay).actions action in
-      let to = target site (action_of input action) in (
+      let to = target site (record { relay = input.relay; action = action }) in (
         action,
-        record { number = number; may = may; runs = there },
+        record { number = number; does = does },
         forward_so found (first_true (is_forward found) (is_none to) e),
         none_so to (second_true (is_forward found) (is_none to) e),
       )
 
-  pub shown : (may number : ℕ) (risk : Risk) → Bits (MayAt site class input) may → RisksBy site input may number risk
+  pub shown : (set number : ℕ) (risk : Risk) → IsFirmSet site class input set → RisksBy site input set number risk
       → HoldsAt site class input (kind_of risk)
-  shown may number risk bits r = kind_shown number ((bits number).0 r.member) risk r.is r.there r.risky
+  shown set number risk firm r = kind_shown number risk r.is (firm.sound number r.is r.member r.there) r.risky
 
   -- the risk of some occurrence
   abbrev pub Shows : ℕ → Risk → Type 0
-  Shows may risk = (number : ℕ) × RisksBy site input may number risk
+  Shows set risk = (number : ℕ) × RisksBy site input set number risk
 
-  pub shows : (may : ℕ) (risk : Risk) → Bits (MayAt site class input) may → HoldsAt site class input (kind_of risk) → Shows may risk
-  shows may risks.Post bits h =
-      (h.number, record { member = (bits h.number).1 h.may; is = occurrence.Post h.list; there = h.posts; risky = refl })
-  shows may risks.GivesUp bits (action, runs, retry, is) =
-      (runs.number, record { member = (bits runs.number).1 runs.may; is = occurrence.Run action; there = runs.runs; risky = ap is_some is })
-  shows may risks.NoTarget bits (action, runs, forward, none) = (
-    runs.number,
+  pub shows : (set : ℕ) (risk : Risk) → IsFirmSet site class input set → HoldsAt site class input (kind_of risk) → Shows set risk
+  shows set risks.Post firm h = (
+    h.number,
     record {
-      member = (bits runs.number).1 runs.may;
-      is = occurrence.Run action;
-      there = runs.runs;
-      risky = ap (λ b. b && is_none (target site (action_of input action))) (so_forward (slice_get (plan_at site input.relay).actions action) forward)
-          ∙ ap is_none none;
+      member = firm.whole h.number (occurrence.Post h.list) h.does;
+      is = occurrence.Post h.list;
+      there = h.does.found;
+      risky = refl;
     },
   )
+  shows set risks.GivesUp firm (action, runs, retry, is) = (
+    runs.number,
+    record {
+      member = firm.whole runs.number (occurrence.Run action) runs.does;
+      is = occurrence.Run action;
+      there = runs.does.found;
+      risky = ap is_some is;
+    },
+  )
+  shows set risks.NoTarget firm (action, runs, forward, none) =
+      let to = target site (record { relay = input.relay; action = action }) in (
+        runs.number,
+        record {
+          member = firm.whole runs.number (occurrence.Run action) runs.does;
+          is = occurrence.Run action;
+          there = runs.does.found;
+          risky = ap (λ b. b && is_none to) (so_forward (slice_get (plan_at site input.relay).actions action) forward) ∙ ap is_none none;
+        },
+      )
 
 -- ---- one after another
 
 abbrev pub IsSafeBelow : Site → SiteInput → ℕ → Risk → ℕ → Type 0
-IsSafeBelow site input may risk most = (number : ℕ) → number < most → RisksBy site input may number risk → ⊥
+IsSafeBelow site input set risk most = (number : ℕ) → number < most → RisksBy site input set number risk → ⊥
 
-pub safe_first : (site : Site) (input : SiteInput) (may : ℕ) (risk : Risk) → IsSafeBelow site input may risk 0
-safe_first site input may risk number low r = omega (arith, low)
+pub safe_first : (site : Site) (input : SiteInput) (set : ℕ) (risk : Risk) → IsSafeBelow site input set risk 0
+safe_first site input set risk number low r = omega (arith, low)
 
-pub safe_more : (site : Site) (input : SiteInput) (may : ℕ) (risk : Risk) (from n : ℕ) → IsNextIn may from n → (RisksBy site input may n risk → ⊥)
-    → IsSafeBelow site input may risk from → IsSafeBelow site input may risk (n + 1)
-safe_more site input may risk from n next none before =
-    more_members (λ k. RisksBy site input may k risk → ⊥) may from n next (λ k no r. no r.member) before none
+pub safe_more : (site : Site) (input : SiteInput) (set : ℕ) (risk : Risk) (from n : ℕ) → IsNextIn set from n → (RisksBy site input set n risk → ⊥)
+    → IsSafeBelow site input set risk from → IsSafeBelow site input set risk (n + 1)
+safe_more site input set risk from n next none before =
+    more_members (λ k. RisksBy site input set k risk → ⊥) set from n next (λ k no r. no r.member) before none
 
-pub safe_all : (site : Site) (class : Class) (input : SiteInput) (may : ℕ) (risk : Risk) (from : ℕ) → Bits (MayAt site class input) may
-    → HasNoneFrom may from → IsSafeBelow site input may risk from → HoldsAt site class input (kind_of risk) → ⊥
-safe_all site class input may risk from bits none safe h =
-    let shown_by = shows site class input may risk bits h in
-    all_members (λ k. RisksBy site input may k risk → ⊥) may from none (λ k no r. no r.member) safe shown_by.0 shown_by.1
+pub safe_all : (site : Site) (class : Class) (input : SiteInput) (set : ℕ) (risk : Risk) (from : ℕ) → IsFirmSet site class input set
+    → HasNoneFrom set from → IsSafeBelow site input set risk from → HoldsAt site class input (kind_of risk) → ⊥
+safe_all site class input set risk from firm none safe h =
+    let shown_by = shows site class input set risk firm h in
+    all_members (λ k. RisksBy site input set k risk → ⊥) set from none (λ k no r. no r.member) safe shown_by.0 shown_by.1
 
 -- ---- all kinds
 

@@ -1,17 +1,19 @@
 -- Where inputs were found from, kept with them.
 use Rattle.std.proofs.Common.{◌≡◌, ℕ, ◌<◌, List, [], ◌∷◌, ◌++◌, length, get_or, Option, Some, None, refl, sym, ap, subst, ◌∙◌, arith, inl, inr}
-use Rattle.std.specs.Prelude.{◌⊎◌, slice_get}
+use Rattle.std.specs.Prelude.{Contains, ◌⊎◌, slice_get}
 use Rattle.std.proofs.lemmas.Bool.{cases_lt}
 use Rattle.std.proofs.lemmas.List.{length-append}
 use Rattle.std.proofs.lemmas.Option.{slice_get-get_or, slice_get_read, slice_get_within}
 use Rattle.sy_wire.specs.declared.class.Class.{Class}
-use Rattle.sy_rules.specs.lists.Sets.{Bits}
 use Rattle.sy_site.specs.declared.site.SiteInput.{SiteInput}
 use Rattle.sy_site.specs.Sites.{Site}
+use Rattle.sy_site.specs.machine.Reach.{list_of}
 use Rattle.sy_checker.specs.declared.executed.Executed.{Executed}
+use Rattle.sy_checker.specs.declared.flows.Hop.{Hop}
 use Rattle.sy_checker.specs.declared.reach.Origin.{Origin}
-use Rattle.sy_checker.specs.Internal.{Adds, LeadsBy}
-use Rattle.sy_checker.specs.Search.{AreRooted, ExecutedAt, GoBack, IsOrigin}
+use Rattle.sy_checker.specs.Hops.{AreHops}
+use Rattle.sy_checker.specs.Internal.{Adds}
+use Rattle.sy_checker.specs.Search.{AreRooted, GoBack, IsOrigin}
 
 one_value : {A : Type 0} {x y : A} → Some x ≡ Some y → x ≡ y
 one_value e = cc
@@ -121,10 +123,9 @@ module _ (site : Site) (class : Class) (which : Executed) (start : List SiteInpu
         (rooted.each place (get_or found place none) (Some origin) (slice_get-get_or found place none low) is).0);
   }
 
--- ---- what an occurrence leads to
+-- ---- where a hop leads
 
-pub leads_origin : (site : Site) (class : Class) (which : Executed) (start found : List SiteInput) (set : ℕ) (from to : SiteInput) (place number : ℕ)
-    → Bits (ExecutedAt site class which from) set → number < 64 → slice_get found place ≡ Some from → LeadsBy site set from number to
-    → IsOrigin site class which start found (length found) to (Some (record { place = place; row = record { input = from; number = number } }))
-leads_origin site class which start found set from to place number bits low here leads =
-    (slice_get_within found place from here, here, (low, (bits number).0 leads.member, leads.goes))
+pub leads_origin : (site : Site) (class : Class) (which : Executed) (start found : List SiteInput) (from : SiteInput) (place : ℕ) (hops : List Hop) (hop : Hop)
+    → AreHops site class which from.relay (list_of site from) hops → Contains hops hop → slice_get found place ≡ Some from
+    → IsOrigin site class which start found (length found) hop.to (Some (record { place = place; row = record { input = from; number = hop.number } }))
+leads_origin site class which start found from place hops hop are there here = (slice_get_within found place from here, here, are.sound hop there)

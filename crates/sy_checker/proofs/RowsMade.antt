@@ -60,16 +60,17 @@ module _ (site : Site) (class : Class) (part : List Wanted) (ranks : List ℕ) (
     (made : (k : ℕ) (is : Wanted) → slice_get part k ≡ Some is → IsMadeAt site class ranks rows k is)
     (falls : AreRanks site class (λ relay. get_or ranks relay 0)) where
   is_above : (of : ℕ) → IsAbove site class part rows of (get_or ranks of 0)
-  is_above of from to number below same reach may goes has =
+  is_above of from to number below same reach goes has =
       let at = made has.place (wanted.Rank to.relay) has.is_wanted in
       let is : below ≡ get_or ranks to.relay 0 = one_rank (sym has.stands ∙ at.there ∙ ap Some at.made) in
-      let less = falls.falls from to number reach may goes in
+      let less = falls.falls from to number reach goes in
       let relays : get_or ranks from.relay 0 ≡ get_or ranks of 0 = ap (λ r. get_or ranks r 0) same in
       omega (arith, is, less, relays)
 
   right_by : (is : Wanted) (r : Row) → IsMade site class ranks is r → IsRight site class part rows is r
   right_by (wanted.Class c) r m = m
   right_by (wanted.Reach input) r m = m
+  right_by (wanted.Branch input) r m = m
   right_by (wanted.Rank of) r m = subst (IsRankRow site class part rows of) (sym m) (refl, is_above of)
   right_by (wanted.Path entry archive) r m = m
 

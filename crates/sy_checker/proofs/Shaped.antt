@@ -1,5 +1,5 @@
 -- The rows of a fit certificate follow one another as a certificate's do, and have their shapes.
-use Rattle.std.proofs.Common.{◌≡◌, ℕ, suc, ◌<◌, ◌≤◌, Bool, true, false, ◌||◌, List, [], ◌∷◌, ◌++◌, length, map, drop, Some, refl, sym, ap, subst, ◌∙◌, arith, All}
+use Rattle.std.proofs.Common.{◌≡◌, ℕ, suc, ◌<◌, ◌≤◌, Bool, true, false, ◌||◌, List, [], ◌∷◌, ◌++◌, length, map, drop, Some, refl, sym, ap, subst, ◌∙◌, arith, append_assoc, inl, inr, All}
 use Rattle.std.specs.Prelude.{Contains, flat_map, slice_get}
 use Rattle.std.specs.List.{list_any}
 use Rattle.std.proofs.lemmas.Bool.{false≢true}
@@ -9,7 +9,7 @@ use Rattle.sy_cert.specs.declared.kinds.Kind.{Kind}
 use Rattle.sy_cert.specs.declared.kinds.Kind.TheVariants as kinds
 use Rattle.sy_cert.specs.declared.row.Row.{Row}
 use Rattle.sy_cert.specs.declared.row.Row.TheVariants as row
-use Rattle.sy_cert.specs.Rows.{AreOccurrences, IsPort, IsRow, is_action, is_name, kind, last_from, may_follow}
+use Rattle.sy_cert.specs.Rows.{AreOccurrences, IsPort, IsRow, IsVersion, is_action, is_name, kind, last_from, may_follow}
 use Rattle.sy_rules.specs.declared.lists.occurrence.Occurrence.TheVariants as occurrence
 use Rattle.sy_rules.specs.Whole.{IsWhole}
 use Rattle.sy_board.specs.relay.Plans.{occurrences_at}
@@ -19,7 +19,9 @@ use Rattle.sy_site.specs.declared.site.SiteAction.{SiteAction}
 use Rattle.sy_site.specs.declared.site.SiteInput.{SiteInput}
 use Rattle.sy_site.specs.Sites.{Relay, Site, archives, asks_for, is_protected, plan_at, plan_in}
 use Rattle.sy_site.specs.machine.Lawful.{IsInput, IsLawful}
-use Rattle.sy_site.specs.machine.Reach.{Forwards, Reach, list_of}
+use Rattle.sy_board.specs.relay.Spares.{Scope}
+use Rattle.sy_site.specs.machine.Reach.{Reach, list_of}
+use Rattle.sy_checker.specs.declared.executed.Executed.TheVariants as executed
 use Rattle.sy_site.specs.machine.Reach as reach
 use Rattle.sy_checker.specs.Certifying.{AreShaped, IsInRange}
 use Rattle.sy_checker.specs.Fit.{AreFit, AreWanted, IsFit, IsPath, IsRight, action_name, name_of, paths, port_of}
@@ -29,13 +31,15 @@ use Rattle.sy_checker.proofs.Comparing.{meant, no_value, one_value}
 use Rattle.sy_checker.proofs.Described.{IsNamed}
 use Rattle.sy_checker.proofs.FitIsSound.{in_flat, in_map, one_behind}
 use Rattle.sy_checker.proofs.Meant.{end_there, entry_there, rank_there}
-use Rattle.sy_checker.proofs.There.{forward_there, reach_there, relay_there}
+use Rattle.sy_checker.proofs.There.{lead_there, reach_there, relay_there}
+use Rattle.sy_checker.proofs.Unspared.{branch_policy}
 
 -- ---- the order of what is wanted
 
 abbrev pub kind_of : Wanted → Kind
 kind_of (wanted.Class class) = kinds.Class
 kind_of (wanted.Reach input) = kinds.Reach
+kind_of (wanted.Branch input) = kinds.Branch
 kind_of (wanted.Rank relay) = kinds.Rank
 kind_of (wanted.Path entry archive) = kinds.Path
 
@@ -101,11 +105,20 @@ module _ (site : Site) (class : Class) (part : List Wanted) (are : AreWanted sit
       (in_map wanted.Reach are.inputs entry ((are.inputs_reached.member entry).1 (reach.entry is_entry)))
       (all_map wanted.Reach kinds.Reach (λ x. refl) are.inputs)
 
-  ranks_run : RunsTo kinds.Reach kinds.Rank (map wanted.Rank are.relays)
-  ranks_run =
-      runs_from kinds.Reach kinds.Rank refl refl (map wanted.Rank are.relays) (wanted.Rank entry.relay)
+  ranks_run : (before : Kind) → may_follow before kinds.Rank ≡ true → RunsTo before kinds.Rank (map wanted.Rank are.relays)
+  ranks_run before first =
+      runs_from before kinds.Rank first refl (map wanted.Rank are.relays) (wanted.Rank entry.relay)
       (in_map wanted.Rank are.relays entry.relay ((are.relays_reached.member entry.relay).1 (entry.input, reach.entry is_entry)))
       (all_map wanted.Rank kinds.Rank (λ x. refl) are.relays)
+
+  -- behind the reach rows come branch rows, if there are any
+  branches_run : (branches : List SiteInput) → RunsTo kinds.Reach kinds.Rank (map wanted.Branch branches ++ map wanted.Rank are.relays)
+  branches_run [] = ranks_run kinds.Reach refl
+  branches_run (x ∷ branches) =
+      runs_join kinds.Reach kinds.Branch kinds.Rank (map wanted.Branch (x ∷ branches)) (map wanted.Rank are.relays)
+      (runs_from kinds.Reach kinds.Branch refl refl (map wanted.Branch (x ∷ branches)) (wanted.Branch x) (0, omega arith, refl)
+      (all_map wanted.Branch kinds.Branch (λ y. refl) (x ∷ branches)))
+      (ranks_run kinds.Branch refl)
 
   paths_run : RunsTo kinds.Rank kinds.Path (paths site class)
   paths_run =
@@ -117,10 +130,12 @@ module _ (site : Site) (class : Class) (part : List Wanted) (are : AreWanted sit
 
   pub part_runs : (before : Kind) → may_follow before kinds.Class ≡ true → RunsTo before kinds.Path part
   part_runs before first =
-      let ranked = map wanted.Rank are.relays ++ paths site class in
+      let behind = map wanted.Branch are.branches ++ (map wanted.Rank are.relays ++ paths site class) in
       let later =
-      runs_join kinds.Class kinds.Reach kinds.Path (map wanted.Reach are.inputs) ranked inputs_run
-      (runs_join kinds.Reach kinds.Rank kinds.Path (map wanted.Rank are.relays) (paths site class) ranks_run paths_run) in
+      runs_join kinds.Class kinds.Reach kinds.Path (map wanted.Reach are.inputs) behind inputs_run
+      (subst (RunsTo kinds.Reach kinds.Path) (append_assoc (map wanted.Branch are.branches) (map wanted.Rank are.relays) (paths site class))
+      (runs_join kinds.Reach kinds.Rank kinds.Path (map wanted.Branch are.branches ++ map wanted.Rank are.relays) (paths site class)
+      (branches_run are.branches) paths_run)) in
       subst (RunsTo before kinds.Path) (sym are.whole) ((first, later.0), later.1)
 
 -- ---- shapes
@@ -143,11 +158,11 @@ module _ (site : Site) (law : IsLawful site) where
   path_few : (class : Class) (archive : SiteAction) (input : SiteInput) (numbers : List ℕ) → IsInput site input
       → IsPath site class archive input numbers → AreOccurrences numbers
   path_few class archive input [] is path = tt
-  path_few class archive input (number ∷ later) is (must, to, goes, more) =
+  path_few class archive input (number ∷ later) is (to, goes, more) =
       let low =
-      slice_get_within (occurrences_at (plan_at site input.relay) (list_of site input)) number (occurrence.Run goes.action) goes.runs in
+      slice_get_within (occurrences_at (plan_at site input.relay) (list_of site input)) number (occurrence.Run goes.action) goes.does.found in
       let few = occurrences_few (plan_at site input.relay) (list_of site input) (whole_at input is) in
-      (omega (arith, low, few), path_few class archive to later (forward_there site input number to goes) more)
+      (omega (arith, low, few), path_few class archive to later (lead_there site class executed.Must input.relay (list_of site input) number to goes) more)
 
   module _ (named : IsNamed site) (all : (class : Class) (archive : SiteAction) → Contains (archives site class) archive
       → (p : Protection) × Contains site.protections p × (asks_for p class ≡ true) × (p.archive ≡ archive))
@@ -158,11 +173,18 @@ module _ (site : Site) (law : IsLawful site) where
     port_is : (input : SiteInput) (port : ℕ) → IsInput site input → port ≡ port_of site input → port ≤ 65535 → IsPort port
     port_is input port is same most = (let least = port_least input is in (omega (arith, least, same), most))
 
-    shaped : (is : Wanted) → Contains part is → (r : Row) → IsRight site class part rows is r → (IsInRange r → IsRow r) × (kind r ≡ kind_of is)
+    shaped : (is : Wanted) → Contains part is → (r : Row) → IsRight site class part rows is r
+        → (IsInRange r → IsRow site.policy r) × (kind r ≡ kind_of is)
     shaped (wanted.Class c) there (row.Class given) right = (λ range. range, refl)
     shaped (wanted.Reach input) there (row.Reach relay port) right =
-        let it = reach_there site law class input (meant site class part are (wanted.Reach input) there) in
+        let it = reach_there site law class Scope.Firm input (meant site class part are (wanted.Reach input) there) in
         (λ range. (name_is input.relay relay right.0 (relay_there site input it), port_is input port it right.1 range), refl)
+    shaped (wanted.Branch input) there (row.Branch relay port) right =
+        let branch = meant site class part are (wanted.Branch input) there in
+        let it = reach_there site law class Scope.Every input branch.reached in (
+          λ range. (branch_policy site law class input branch, name_is input.relay relay right.0 (relay_there site input it), port_is input port it right.1 range),
+          refl,
+        )
     shaped (wanted.Rank of) there (row.Rank relay rank) right =
         (λ range. (name_is of relay right.0 (rank_there site law class part are of there), range), refl)
     shaped (wanted.Path entry archive) there (row.Path relay port archive_relay action occurrences) right =
@@ -179,16 +201,24 @@ module _ (site : Site) (law : IsLawful site) where
           refl,
         )
     shaped (wanted.Class c) there (row.Reach relay port) right = absurd right
+    shaped (wanted.Class c) there (row.Branch relay port) right = absurd right
     shaped (wanted.Class c) there (row.Rank relay rank) right = absurd right
     shaped (wanted.Class c) there (row.Path relay port archive_relay action occurrences) right = absurd right
     shaped (wanted.Reach input) there (row.Class given) right = absurd right
+    shaped (wanted.Reach input) there (row.Branch relay port) right = absurd right
     shaped (wanted.Reach input) there (row.Rank relay rank) right = absurd right
     shaped (wanted.Reach input) there (row.Path relay port archive_relay action occurrences) right = absurd right
+    shaped (wanted.Branch input) there (row.Class given) right = absurd right
+    shaped (wanted.Branch input) there (row.Reach relay port) right = absurd right
+    shaped (wanted.Branch input) there (row.Rank relay rank) right = absurd right
+    shaped (wanted.Branch input) there (row.Path relay port archive_relay action occurrences) right = absurd right
     shaped (wanted.Rank of) there (row.Class given) right = absurd right
+    shaped (wanted.Rank of) there (row.Branch relay port) right = absurd right
     shaped (wanted.Rank of) there (row.Reach relay port) right = absurd right
     shaped (wanted.Rank of) there (row.Path relay port archive_relay action occurrences) right = absurd right
     shaped (wanted.Path entry archive) there (row.Class given) right = absurd right
     shaped (wanted.Path entry archive) there (row.Reach relay port) right = absurd right
+    shaped (wanted.Path entry archive) there (row.Branch relay port) right = absurd right
     shaped (wanted.Path entry archive) there (row.Rank relay rank) right = absurd right
 
 -- ---- rows
@@ -198,24 +228,24 @@ among [] k x e = absurd (no_value e)
 among (y ∷ ys) ℕ.zero x e = (0, omega arith, one_value e)
 among (y ∷ ys) (ℕ.suc k) x e = one_behind y ys x (among ys k x e)
 
-record IsShapedAt (rows : List Row) (place : ℕ) (is : Wanted) : Type 0 where
+record IsShapedAt (version : ℕ) (rows : List Row) (place : ℕ) (is : Wanted) : Type 0 where
   pub stands : Row
   pub there : slice_get rows place ≡ Some stands
-  pub shape : (IsInRange stands → IsRow stands) × (kind stands ≡ kind_of is)
+  pub shape : (IsInRange stands → IsRow version stands) × (kind stands ≡ kind_of is)
 
-rows_run : (before : Kind) (part : List Wanted) (rows : List Row) → Run before part
-    → ((place : ℕ) (is : Wanted) → slice_get part place ≡ Some is → IsShapedAt rows place is) → AreShaped (last_of before part) (drop (length part) rows)
-    → AreShaped before rows
-rows_run before [] rows run each later = later
-rows_run before (is ∷ part) [] run each later = (let it = each 0 is refl in absurd (no_value it.there))
-rows_run before (is ∷ part) (r ∷ rows) run each later =
+rows_run : (version : ℕ) (before : Kind) (part : List Wanted) (rows : List Row) → Run before part
+    → ((place : ℕ) (is : Wanted) → slice_get part place ≡ Some is → IsShapedAt version rows place is)
+    → AreShaped version (last_of before part) (drop (length part) rows) → AreShaped version before rows
+rows_run version before [] rows run each later = later
+rows_run version before (is ∷ part) [] run each later = (let it = each 0 is refl in absurd (no_value it.there))
+rows_run version before (is ∷ part) (r ∷ rows) run each later =
     let it = each 0 is refl in
     let same : it.stands ≡ r = one_value (sym it.there) in
-    let shape = subst (λ x. (IsInRange x → IsRow x) × (kind x ≡ kind_of is)) same it.shape in (
+    let shape = subst (λ x. (IsInRange x → IsRow version x) × (kind x ≡ kind_of is)) same it.shape in (
       shape.0,
       subst (λ k. may_follow before k ≡ true) (sym shape.1) run.0,
-      subst (λ k. AreShaped k rows) (sym shape.1)
-          (rows_run (kind_of is) part rows run.1
+      subst (λ k. AreShaped version k rows) (sym shape.1)
+          (rows_run version (kind_of is) part rows run.1
           (λ place other there. (let at = each (suc place) other there in record { stands = at.stands; there = at.there; shape = at.shape })) later),
     )
 
@@ -237,13 +267,13 @@ module _ (site : Site) (law : IsLawful site) (named : IsNamed site)
     → (p : Protection) × Contains site.protections p × (asks_for p class ≡ true) × (p.archive ≡ archive))
     (all : (site : Site) (class : Class) (p : Protection) → Contains site.protections p → asks_for p class ≡ true → Contains (archives site class) p.archive) where
   fit_shaped : (classes : List Class) (rows : List Row) (before : Kind) → may_follow before kinds.Class ≡ true
-      → ((class : Class) → Contains classes class → is_protected site class ≡ true) → AreFit site classes rows → AreShaped before rows
-  fit_shaped [] rows before first each fit = subst (AreShaped before) (sym fit) tt
+      → ((class : Class) → Contains classes class → is_protected site class ≡ true) → AreFit site classes rows → AreShaped site.policy before rows
+  fit_shaped [] rows before first each fit = subst (AreShaped site.policy before) (sym fit) tt
   fit_shaped (class ∷ classes) rows before first each (part, are, right, later) =
       let asked = first_asked site.protections class (each class (0, omega arith, refl)) in
       let archive = all site class asked.0 asked.1 asked.2 in
       let run = part_runs site class part are named.entry named.is_entry asked.0.archive archive before first in
-      rows_run before part rows run.0
+      rows_run site.policy before part rows run.0
       (λ place is there.
       let at = right place is there in
       record {
@@ -251,11 +281,17 @@ module _ (site : Site) (law : IsLawful site) (named : IsNamed site)
         there = at.there;
         shape = shaped site law named (those site) class part rows are is (among part place is there) at.stands at.right;
       })
-      (subst (λ k. AreShaped k (drop (length part) rows)) (sym run.1)
+      (subst (λ k. AreShaped site.policy k (drop (length part) rows)) (sym run.1)
       (fit_shaped classes (drop (length part) rows) kinds.Path refl (λ c there. each c (one_behind class classes c there)) later))
 
-  pub rows_shaped : (rows : List Row) → IsFit site rows → AreShaped kinds.Cert rows
+  pub rows_shaped : (rows : List Row) → IsFit site rows → AreShaped site.policy kinds.Cert rows
   rows_shaped rows fit = fit_shaped fit.classes rows kinds.Cert refl (λ class. (fit.protected.member class).0) fit.fit
+
+pub a_version : (site : Site) → IsLawful site → IsVersion site.policy
+a_version site law = elim law.policy [
+  | inl one ↦ inl one.0
+  | inr two ↦ inr two
+]
 
 -- ---- row after row
 

@@ -17,12 +17,17 @@ use Rattle.sy_checker.specs.declared.course.Course.{Course}
 use Rattle.sy_checker.specs.declared.met.Met.{Met}
 use Rattle.sy_checker.specs.Checking.{AreSound}
 use Rattle.sy_checker.specs.Course.{AreAlike, AreClean, AreKept, IsCourseAt}
-use Rattle.sy_checker.specs.Flows.{AreFlows}
+use Rattle.sy_checker.specs.Flows.{AreSiteFlows}
 use Rattle.sy_checker.specs.Loops.{rank_at}
 use Rattle.sy_checker.specs.Met.{AreMet, IsMet, is_met, met_at, same_met}
 use Rattle.sy_checker.proofs.Alike.{alike, one_value}
 use Rattle.sy_checker.proofs.Comparing.{from_map}
-use Rattle.sy_checker.proofs.There.{entry_there, forward_there}
+use Rattle.sy_checker.specs.declared.executed.Executed.TheVariants as executed
+use Rattle.sy_rules.specs.declared.lists.occurrence.Occurrence.TheVariants as occurrence
+use Rattle.sy_site.specs.machine.Reach.{list_of}
+use Rattle.sy_site.specs.Sites.{plan_at}
+use Rattle.sy_checker.proofs.There.{entry_there, lead_there}
+use Rattle.sy_checker.proofs.Used.{input_list, input_used}
 
 -- ---- which are among them
 
@@ -50,15 +55,21 @@ all_at test (y ∷ ys) x all (ℕ.suc k, low, is) =
 
 leads_as : (site : Site) (one other : Class) → AreAlike site one other → (archive : SiteAction) (x : SiteInput) → IsInput site x
     → LeadsTo site one archive x → LeadsTo site other archive x
-leads_as site one other same archive x there (writes number action must runs is) = writes number action ((same.must x number there).0 must) runs is
-leads_as site one other same archive x there (leads_on {from} {to} number must goes later) =
-    leads_on number ((same.must x number there).0 must) goes (leads_as site one other same archive to (forward_there site from number to goes) later)
+leads_as site one other same archive x there (writes number action does is) =
+    writes number action
+    ((same executed.Must x.relay (list_of site x) number (occurrence.Run action)
+    (input_used (plan_at site x.relay) (list_of site x) (input_list site x there))).0 does) is
+leads_as site one other same archive x there (leads_on number action to does leads later) =
+    leads_on number action to
+    ((same executed.Must x.relay (list_of site x) number (occurrence.Run action)
+    (input_used (plan_at site x.relay) (list_of site x) (input_list site x there))).0 does)
+    leads (leads_as site one other same archive to (lead_there site one executed.Must x.relay (list_of site x) number to (record { action = action; does = does; leads = leads })) later)
 
 alike_at : (site : Site) (one other : Class) (courses : List Course) (place : ℕ) → IsCourseAt site one courses place
     → IsCourseAt site other courses place → AreAlike site one other
 alike_at site one other courses place a b =
-    alike site one other a.course.flows a.is.flows
-    (subst (λ (c : Course). AreFlows site other c.flows) (one_value (sym b.stands ∙ a.stands)) b.is.flows)
+    alike site one other a.course.flows.lists a.is.flows.lists
+    (subst (λ (c : Course). AreSiteFlows site other c.flows.lists) (one_value (sym b.stands ∙ a.stands)) b.is.flows.lists)
 
 pub sound_by : (site : Site) → IsLawful site → (class : Class) (courses : List Course) (place : ℕ) (met : List Met) (named : List SiteAction)
     → IsCourseAt site class courses place → AreClean site class → AreMet site courses met → named ≡ archives site class

@@ -5,6 +5,7 @@ use Rattle.std.proofs.lemmas.Bool.{false≢true}
 use Rattle.std.proofs.lemmas.List.{take_all, take_more}
 use Rattle.std.proofs.lemmas.List.Elements.{Contains-push_cases}
 use Rattle.sy_wire.specs.declared.class.Class.{Class}
+use Rattle.sy_board.specs.relay.Spares.{Scope}
 use Rattle.sy_site.specs.declared.site.SiteAction.{SiteAction}
 use Rattle.sy_site.specs.declared.site.SiteInput.{SiteInput}
 use Rattle.sy_site.specs.Sites.{Site, archives, is_protected}
@@ -113,7 +114,7 @@ pub held_among : (site : Site) (class : Class) (input i : SiteInput) (j : Kind) 
     → Among seven (λ k. IsHeld site class input k i j)
 held_among site class input i j (same, holds) = (j, among_seven site class input j holds, (same, refl, holds))
 
-pub is_there : (site : Site) (class : Class) (input : SiteInput) (k : Kind) → is_protected site class ≡ true → Reach site class input
+pub is_there : (site : Site) (class : Class) (input : SiteInput) (k : Kind) → is_protected site class ≡ true → Reach site class Scope.Firm input
     → HoldsAt site class input (kind_of k) → IsThere site class input k
 is_there site class input kind.NotFull asked at holds = let w = way_to site class input at in (w.0, record { protected = asked; found = (w.1, holds) })
 is_there site class input kind.MarkOff asked at holds = let w = way_to site class input at in (w.0, record { protected = asked; found = (w.1, holds) })
@@ -129,8 +130,9 @@ is_there site class input (kind.Unmet archive) asked at holds = absurd holds
 
 led_by : (site : Site) (class : Class) (archive : SiteAction) (input : SiteInput) (path : List ℕ) → IsPath site class archive input path
     → LeadsTo site class archive input
-led_by site class archive input [] last = writes last.number last.action last.must last.runs last.writes
-led_by site class archive input (number ∷ later) (must, to, goes, more) = leads_on number must goes (led_by site class archive to later more)
+led_by site class archive input [] last = writes last.number last.action last.does last.writes
+led_by site class archive input (number ∷ later) (to, goes, more) =
+    leads_on number goes.action to goes.does goes.leads (led_by site class archive to later more)
 
 pub lead_decides : (site : Site) (class : Class) (archive : SiteAction) (entry : SiteInput) (path : Option (List ℕ))
     → IsLead site class archive entry path → Decides (is_some path) (LeadsTo site class archive entry)
@@ -184,7 +186,7 @@ survey_as site Asked groups survey asks = record {
 
 -- all of one class
 pub all_of : (site : Site) (class : Class) (old mid new : List Group)
-    → Tells site class (λ i j. Reach site class i × HoldsAt site class i (kind_of j)) old mid
+    → Tells site class (λ i j. Reach site class Scope.Firm i × HoldsAt site class i (kind_of j)) old mid
     → HasRanks site class ⊎ ((input : SiteInput) × Names mid class input kind.Loop)
     → Tells site class (λ i j. Among site.entries (λ entry. Among (archives site class) (λ archive. IsUnmetBy site class entry archive i j))) mid new
     → IsToldOf site class new
@@ -203,15 +205,15 @@ all_of site class old mid new first ranked second = record {
 below_all : (site : Site) (class : Class) (ranks : HasRanks site class) (way : List WayRow) (end : SiteInput) → IsChain site class way end
     → (relay : ℕ) → Contains (map (λ (row : WayRow). row.input.relay) way) relay → ranks.0 end.relay < ranks.0 relay
 below_all site class ranks [] end is relay there = absurd is
-below_all site class ranks (row ∷ []) end (reach, may, goes) relay (ℕ.zero, low, is) =
-    subst (λ r. ranks.0 end.relay < ranks.0 r) is (ranks.1.falls row.input end row.number reach may goes)
-below_all site class ranks (row ∷ []) end (reach, may, goes) relay (ℕ.suc n, low, is) = absurd (omega (arith, low))
-below_all site class ranks (row ∷ next ∷ way) end (reach, may, to, goes, same, more) relay (ℕ.zero, low, is) =
+below_all site class ranks (row ∷ []) end (reach, goes) relay (ℕ.zero, low, is) =
+    subst (λ r. ranks.0 end.relay < ranks.0 r) is (ranks.1.falls row.input end row.number reach goes)
+below_all site class ranks (row ∷ []) end (reach, goes) relay (ℕ.suc n, low, is) = absurd (omega (arith, low))
+below_all site class ranks (row ∷ next ∷ way) end (to, (reach, goes), same, more) relay (ℕ.zero, low, is) =
     let later = below_all site class ranks (next ∷ way) end more next.input.relay (0, omega arith, refl) in
-    let first = ranks.1.falls row.input to row.number reach may goes in
+    let first = ranks.1.falls row.input to row.number reach goes in
     let rank_same = ap ranks.0 same in
     subst (λ r. ranks.0 end.relay < ranks.0 r) is (omega (arith, later, first, rank_same))
-below_all site class ranks (row ∷ next ∷ way) end (reach, may, to, goes, same, more) relay (ℕ.suc n, low, is) =
+below_all site class ranks (row ∷ next ∷ way) end (to, (reach, goes), same, more) relay (ℕ.suc n, low, is) =
     below_all site class ranks (next ∷ way) end more relay (n, omega (arith, low), is)
 
 no_names : (class : Class) (input : SiteInput) (k : Kind) → Names [] class input k → ⊥

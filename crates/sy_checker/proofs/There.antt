@@ -13,7 +13,11 @@ use Rattle.sy_rules.specs.declared.parts.Input.{Input}
 use Rattle.sy_site.specs.declared.site.SiteInput.{SiteInput}
 use Rattle.sy_site.specs.Sites.{Relay, Site, input_at_port, plan_at, plan_in, relay_named, target_of}
 use Rattle.sy_site.specs.machine.Lawful.{IsInput, IsLawful}
-use Rattle.sy_site.specs.machine.Reach.{Forwards, Reach, entry, onward}
+use Rattle.sy_board.specs.relay.Spares.{Scope}
+use Rattle.sy_site.specs.machine.Reach.{Reach, Reaches, entry, forwards, list_of, onward, posts}
+use Rattle.sy_checker.specs.declared.executed.Executed.{Executed}
+use Rattle.sy_checker.specs.declared.executed.Executed.TheVariants as executed
+use Rattle.sy_checker.specs.Hops.{Leads}
 
 no_value : {A : Type 0} {x : A} → None ≡ Some x → ⊥
 no_value e = cc
@@ -48,17 +52,30 @@ target_there : (site : Site) (action : Option Action) (e : SiteInput) → target
 target_there site None e none = absurd (no_value none)
 target_there site (Some action) e some = leads_there site action.name action.destination action.retry action.resume_interval e some
 
-pub forward_there : (site : Site) (from : SiteInput) (number : ℕ) (to : SiteInput) → Forwards site from number to → IsInput site to
-forward_there site from number to goes = target_there site (slice_get (plan_at site from.relay).actions goes.action) to goes.leads
+-- ---- what occurrences reach
+
+pub reaches_there : (site : Site) (class : Class) (scope : Scope) (relay list number : ℕ) (to : SiteInput)
+    → Reaches site class scope relay list number to → IsInput site to
+reaches_there site class scope relay list number to (forwards at action does leads) =
+    target_there site (slice_get (plan_at site relay).actions action) to leads
+reaches_there site class scope relay list number to (posts at inner next does later) = reaches_there site class scope relay inner next to later
+
+pub lead_there : (site : Site) (class : Class) (which : Executed) (relay list number : ℕ) (to : SiteInput)
+    → Leads site class which relay list number to → IsInput site to
+lead_there site class executed.Every relay list number to leads = reaches_there site class Scope.Every relay list number to leads
+lead_there site class executed.Firm relay list number to leads = reaches_there site class Scope.Firm relay list number to leads
+lead_there site class executed.Must relay list number to must =
+    target_there site (slice_get (plan_at site relay).actions must.action) to must.leads
 
 -- ---- reached inputs
 
 pub entry_there : (site : Site) → IsLawful site → (input : SiteInput) → Contains site.entries input → IsInput site input
 entry_there site law input (k, low, is) = subst (IsInput site) is (law.entries k input low)
 
-pub reach_there : (site : Site) → IsLawful site → (class : Class) (input : SiteInput) → Reach site class input → IsInput site input
-reach_there site law class input (entry is) = entry_there site law input is
-reach_there site law class input (onward {from} number before may goes) = forward_there site from number input goes
+pub reach_there : (site : Site) → IsLawful site → (class : Class) (scope : Scope) (input : SiteInput) → Reach site class scope input → IsInput site input
+reach_there site law class scope input (entry is) = entry_there site law input is
+reach_there site law class scope input (onward {from} number before goes) =
+    reaches_there site class scope from.relay (list_of site from) number input goes
 
 -- ---- the numbers of inputs
 

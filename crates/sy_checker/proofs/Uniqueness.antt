@@ -6,9 +6,11 @@ use Rattle.sy_wire.specs.declared.class.Class.{Class}
 use Rattle.sy_cert.specs.declared.row.Row.{Row}
 use Rattle.sy_site.specs.declared.site.SiteInput.{SiteInput}
 use Rattle.sy_site.specs.Sites.{Site, is_protected}
+use Rattle.sy_board.specs.relay.Spares.{Scope}
 use Rattle.sy_site.specs.machine.Reach.{Reach}
-use Rattle.sy_checker.specs.Fit.{AreFit, AreProtected, AreRight, AreWanted, AreWrong, IsFit, IsReached, IsWrongAt, IsWrongIn, ListsAll, StandsBefore, number_of, paths, wanted_kind}
-use Rattle.sy_checker.specs.Verifying.{IsFirstWrong}
+use Rattle.sy_checker.specs.Fit.{AreFit, AreProtected, AreRight, AreWanted, AreWrong, IsBranch, IsFit, IsFitFor, IsReached, IsWrongAt, IsWrongFor, IsWrongIn, ListsAll, StandsBefore, number_of, paths, wanted_kind}
+use Rattle.sy_cert.specs.CertificateValue.{Certificate}
+use Rattle.sy_checker.specs.Verifying.{AreWrongRows, IsFault, IsFirstWrong}
 use Rattle.sy_checker.specs.declared.verifying.CertFault.{CertFault}
 use Rattle.sy_checker.specs.declared.verifying.CertFault.TheVariants as faults
 use Rattle.sy_checker.specs.declared.wanted.RowKind.{RowKind}
@@ -76,11 +78,16 @@ inputs_apart a b (inr (same, low)) (inr (other, high)) = omega (arith, low, high
 
 pub one_wanted : (site : Site) (class : Class) (a b : List Wanted) → AreWanted site class a → AreWanted site class b → a ≡ b
 one_wanted site class a b first second =
-    let inputs = one_list StandsBefore inputs_apart (Reach site class) first.inputs second.inputs first.inputs_reached second.inputs_reached in
+    let inputs = one_list StandsBefore inputs_apart (Reach site class Scope.Firm) first.inputs second.inputs first.inputs_reached second.inputs_reached in
+    let branches = one_list StandsBefore inputs_apart (IsBranch site class) first.branches second.branches first.branches_reached
+    second.branches_reached in
     let relays = one_list ◌<◌ (λ m n low high. omega (arith, low, high)) (IsReached site class) first.relays second.relays first.relays_reached
     second.relays_reached in
-    first.whole ∙ ap (λ l. wanted.Class class ∷ (map wanted.Reach l ++ (map wanted.Rank first.relays ++ paths site class))) inputs
-    ∙ ap (λ l. wanted.Class class ∷ (map wanted.Reach second.inputs ++ (map wanted.Rank l ++ paths site class))) relays ∙ sym second.whole
+    first.whole
+    ∙ ap (λ l. wanted.Class class ∷ (map wanted.Reach l ++ (map wanted.Branch first.branches ++ (map wanted.Rank first.relays ++ paths site class)))) inputs
+    ∙ ap (λ l. wanted.Class class ∷ (map wanted.Reach second.inputs ++ (map wanted.Branch l ++ (map wanted.Rank first.relays ++ paths site class)))) branches
+    ∙ ap (λ l. wanted.Class class ∷ (map wanted.Reach second.inputs ++ (map wanted.Branch second.branches ++ (map wanted.Rank l ++ paths site class)))) relays
+    ∙ sym second.whole
 
 one_protected : (site : Site) (a b : List Class) → AreProtected site a → AreProtected site b → a ≡ b
 one_protected site a b first second = one_list (λ a b. number_of a < number_of b) (λ a b low high. omega (arith, low, high))
@@ -147,15 +154,40 @@ one_wrong_in site rows first second m n a b =
     (subst (λ l. AreWrong site l rows b.place n) (one_protected site b.classes a.classes b.protected a.protected) b.wrong) in
     (a.line_is ∙ ap (λ k. k + 2) found.0 ∙ sym b.line_is, found.1)
 
+-- the first wrong row of the site's classes
+pub wrong_rows : (site : Site) (protected classes : List Class) (rows others : List Row) (fault : CertFault) → AreProtected site protected
+    → classes ≡ protected → rows ≡ others → IsFirstWrong site classes rows fault → AreWrongRows site others fault
+wrong_rows site protected classes rows others (faults.Wrong line kind) are same all (place, wrong, is) = record {
+  classes = classes;
+  protected = subst (AreProtected site) (sym same) are;
+  place = place;
+  wrong = subst (λ l. AreWrong site classes l place kind) all wrong;
+  line_is = is;
+}
+wrong_rows site protected classes rows others faults.NoMemory are same all wrong = tt
+
+-- ---- certificates
+
+pub no_wrong_for : (site : Site) (certificate : Certificate) (line : ℕ) (kind : RowKind) → IsFitFor site certificate
+    → IsWrongFor site certificate line kind → ⊥
+no_wrong_for site certificate line kind fit (inl first) = first.0 fit.version
+no_wrong_for site certificate line kind fit (inr later) = no_wrong_in site certificate.rows line kind fit.rows later.1
+
+pub one_wrong_for : (site : Site) (certificate : Certificate) (first second : ℕ) (m n : RowKind) → IsWrongFor site certificate first m
+    → IsWrongFor site certificate second n → (first ≡ second) × (m ≡ n)
+one_wrong_for site certificate first second m n (inl a) (inl b) = (a.1 ∙ sym b.1, a.2 ∙ sym b.2)
+one_wrong_for site certificate first second m n (inl a) (inr b) = absurd (a.0 b.0)
+one_wrong_for site certificate first second m n (inr a) (inl b) = absurd (b.0 a.0)
+one_wrong_for site certificate first second m n (inr a) (inr b) = one_wrong_in site certificate.rows first second m n a.1 b.1
+
 -- a fit certificate is refused for want of memory alone
-pub only_memory : (site : Site) (protected classes : List Class) (rows others : List Row) (fault : CertFault) → AreProtected site protected
-    → classes ≡ protected → rows ≡ others → IsFirstWrong site classes rows fault → IsFit site others → fault ≡ faults.NoMemory
-only_memory site protected classes rows others (faults.Wrong line kind) are same all (place, wrong, is) fit =
-    absurd (no_wrong_in site others line kind fit (record {
-      classes = classes;
-      protected = subst (AreProtected site) (sym same) are;
-      place = place;
-      wrong = subst (λ l. AreWrong site classes l place kind) all wrong;
-      line_is = is;
-    }))
-only_memory site protected classes rows others faults.NoMemory are same all wrong fit = refl
+pub only_memory : (site : Site) (certificate : Certificate) (fault : CertFault) → IsFault site certificate fault → IsFitFor site certificate
+    → fault ≡ faults.NoMemory
+only_memory site certificate (faults.Wrong line kind) wrong fit = absurd (no_wrong_for site certificate line kind fit wrong)
+only_memory site certificate faults.NoMemory wrong fit = refl
+
+-- where the version is the site's policy, what is wrong is wrong with the rows
+pub fault_of : (site : Site) (certificate : Certificate) (rows : List Row) (fault : CertFault) → certificate.version ≡ site.policy
+    → rows ≡ certificate.rows → AreWrongRows site rows fault → IsFault site certificate fault
+fault_of site certificate rows (faults.Wrong line kind) same is wrong = inr (same, subst (λ l. IsWrongIn site l line kind) is wrong)
+fault_of site certificate rows faults.NoMemory same is wrong = tt

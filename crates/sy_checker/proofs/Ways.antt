@@ -71,14 +71,12 @@ module _ (site : Site) (class : Class) (which : Executed) (start found : List Si
 
 -- ---- ways as findings have them
 
-way_from : (site : Site) (class : Class) (way : List WayRow) (from end : SiteInput) → IsLedFrom site class executed.May from way end
+way_from : (site : Site) (class : Class) (way : List WayRow) (from end : SiteInput) → IsLedFrom site class executed.Firm from way end
     → IsWayFrom site class from (way_of way) end
 way_from site class [] from end is = is
-way_from site class (row ∷ way) from end led =
-    let goes = led.2 in
-    (led.0, goes.1, led.1, goes.2, way_from site class way led.1 end led.3)
+way_from site class (row ∷ way) from end led = (led.0, led.1, led.2.1, way_from site class way led.1 end led.3)
 
-pub way_is : (site : Site) (class : Class) (way : List WayRow) (end : SiteInput) → IsLed site class executed.May site.entries way end
+pub way_is : (site : Site) (class : Class) (way : List WayRow) (end : SiteInput) → IsLed site class executed.Firm site.entries way end
     → IsWay site class (way_of way) end
 way_is site class way end led = record {
   entry = led.from;
@@ -113,9 +111,7 @@ way_small site class which start way end led = small_from site class which way l
 path_from : (site : Site) (class : Class) (archive : SiteAction) (way : List WayRow) (from end : SiteInput)
     → IsLedFrom site class executed.Must from way end → MustWrite site class archive end → IsPath site class archive from (map (λ row. row.number) way)
 path_from site class archive [] from end is write = subst (MustWrite site class archive) (sym is) write
-path_from site class archive (row ∷ way) from end led write =
-    let goes = led.2 in
-    (goes.1, led.1, goes.2, path_from site class archive way led.1 end led.3 write)
+path_from site class archive (row ∷ way) from end led write = (led.1, led.2.1, path_from site class archive way led.1 end led.3 write)
 
 pub one_start : (entry x : SiteInput) → Contains (entry ∷ []) x → entry ≡ x
 one_start entry x (ℕ.zero, low, is) = is
@@ -138,10 +134,9 @@ path_is site class archive entry way end led write = (
 module _ (site : Site) (class : Class) (archive : SiteAction) (start found : List SiteInput) (origins : List (Option Origin))
     (spread : IsSpread site class executed.Must start found origins) (none : (x : SiteInput) → Contains found x → MustWrite site class archive x → ⊥) where
   pub leads_not : (x : SiteInput) → Contains found x → LeadsTo site class archive x → ⊥
-  leads_not x is (writes number action must runs same) =
-      none x is (record { number = number; must = must; action = action; runs = runs; writes = same })
-  leads_not x is (leads_on {to = to} number must goes later) =
-      leads_not to (spread.closed x to is (record { number = number; done = must; goes = goes })) later
+  leads_not x is (writes number action does same) = none x is (record { number = number; action = action; does = does; writes = same })
+  leads_not x is (leads_on number action to does leads later) =
+      leads_not to (spread.closed x to is (record { number = number; leads = record { action = action; does = does; leads = leads } })) later
 
 -- ---- what is answered
 

@@ -6,6 +6,7 @@ use Rattle.sy_site.specs.declared.site.SiteAction.{SiteAction}
 use Rattle.sy_site.specs.declared.site.SiteInput.{SiteInput}
 use Rattle.sy_site.specs.Sites.{Site}
 use Rattle.sy_site.specs.machine.Findings.{HoldsAt}
+use Rattle.sy_board.specs.relay.Spares.{Scope}
 use Rattle.sy_site.specs.machine.Reach.{LeadsTo, Reach}
 use Rattle.sy_checker.specs.declared.finding.Finding.{Finding}
 use Rattle.sy_checker.specs.declared.finding.Kind.{Kind}
@@ -36,9 +37,9 @@ pub record IsUncleanAt (site : Site) (class : Class) (inputs : List SiteInput) (
   pub stands : slice_get inputs place ≡ Some input
   pub holds : HoldsAt site class input (kind_of kind)
 
--- a true finding; none where each reached input is clean
+-- a true finding; none where each input is clean that is reached without spare occurrences
 abbrev pub IsSearched : Site → Class → Option Finding → Type 0
-IsSearched site class None = (input : SiteInput) → Reach site class input → IsClean site class input
+IsSearched site class None = (input : SiteInput) → Reach site class Scope.Firm input → IsClean site class input
 IsSearched site class (Some found) = IsTrueFinding site found
 
 -- ---- paths

@@ -1,5 +1,5 @@
 -- What the functions say that make a certificate.
-use Rattle.std.specs.Prelude.{◌≡◌, ◌<◌, ◌≤◌, true, List, [], ◌∷◌, ◌++◌, length}
+use Rattle.std.specs.Prelude.{◌≡◌, ℕ, ◌<◌, ◌≤◌, true, List, [], ◌∷◌, ◌++◌, length}
 use Rattle.sy_wire.specs.declared.class.Class.{Class}
 use Rattle.sy_cert.specs.declared.kinds.Kind.{Kind}
 use Rattle.sy_cert.specs.declared.row.Row.{Row}
@@ -28,10 +28,12 @@ pub record AddsRowsOf (site : Site) (class : Class) (old new : List Row) : Type 
 abbrev pub IsInRange : Row → Type 0
 IsInRange (row.Class class) = (class.facility < 24) × (class.severity < 8)
 IsInRange (row.Reach relay port) = port ≤ 65535
+IsInRange (row.Branch relay port) = port ≤ 65535
 IsInRange (row.Rank relay rank) = rank ≤ 4294967295
 IsInRange (row.Path relay port archive_relay action occurrences) = port ≤ 65535
 
--- each has its shape where its numbers are in range, and may follow the one before
-abbrev pub AreShaped : Kind → List Row → Type 0
-AreShaped before [] = Unit {0}
-AreShaped before (r ∷ rows) = (IsInRange r → IsRow r) × (may_follow before (kind r) ≡ true) × AreShaped (kind r) rows
+-- each is a row of the version, with its shape where its numbers are in range, and may follow the one before
+abbrev pub AreShaped : ℕ → Kind → List Row → Type 0
+AreShaped version before [] = Unit {0}
+AreShaped version before (r ∷ rows) =
+    (IsInRange r → IsRow version r) × (may_follow before (kind r) ≡ true) × AreShaped version (kind r) rows

@@ -1,38 +1,42 @@
--- The course of a class through a site: what it executes, which inputs it reaches, how the relays rank by that, and where
--- its entries lead. Classes whose flows are the same have the same one.
-use Rattle.std.specs.Prelude.{◌≡◌, ℕ, ◌↔◌, Contains, List, Some, length, slice_get}
+-- The course of a class through a site: what it executes, which inputs it reaches without spare occurrences and with them, how
+-- the relays rank by that, and where its entries lead. Classes that execute the same have the same one.
+use Rattle.std.specs.Prelude.{◌≡◌, ℕ, ◌↔◌, Contains, List, Some, length, slice_get, true}
 use Rattle.sy_wire.specs.declared.class.Class.{Class}
 use Rattle.sy_site.specs.declared.site.SiteInput.{SiteInput}
-use Rattle.sy_site.specs.Sites.{Site}
-use Rattle.sy_site.specs.machine.Lawful.{IsInput}
-use Rattle.sy_site.specs.machine.Reach.{MayAt, MustAt, Reach}
+use Rattle.sy_rules.specs.declared.lists.occurrence.Occurrence.{Occurrence}
+use Rattle.sy_board.specs.relay.Spares.{Scope}
+use Rattle.sy_site.specs.Sites.{Site, plan_at}
+use Rattle.sy_site.specs.machine.Reach.{Reach}
 use Rattle.sy_site.specs.machine.Soundness.{AreRanks}
 use Rattle.sy_checker.specs.declared.course.Course.{Course}
+use Rattle.sy_checker.specs.declared.executed.Executed.{Executed}
 use Rattle.sy_checker.specs.declared.executed.Executed.TheVariants as executed
-use Rattle.sy_checker.specs.declared.flows.ClassFlows.{ClassFlows}
 use Rattle.sy_checker.specs.declared.flows.RelayFlows.{RelayFlows}
+use Rattle.sy_checker.specs.declared.flows.SiteFlows.{SiteFlows}
 use Rattle.sy_checker.specs.Answer.{AreLeads}
 use Rattle.sy_checker.specs.Fit.{IsClean}
-use Rattle.sy_checker.specs.Flows.{AreFlows}
+use Rattle.sy_checker.specs.Flows.{Does, is_used}
+use Rattle.sy_checker.specs.Hops.{AreFlows}
 use Rattle.sy_checker.specs.Loops.{rank_at}
 use Rattle.sy_checker.specs.Search.{IsSpread}
 
--- the same flows at each input
-pub record AreSame (one other : ClassFlows) : Type 0 where
+-- the same of each list
+pub record AreSame (one other : SiteFlows) : Type 0 where
   pub many : length one.relays.items ≡ length other.relays.items
   pub each : (relay : ℕ) (a b : RelayFlows) → slice_get one.relays.items relay ≡ Some a → slice_get other.relays.items relay ≡ Some b
-      → a.inputs.items ≡ b.inputs.items
+      → a.lists.items ≡ b.lists.items
 
--- Messages of both classes may, and must, execute the same at each input.
-pub record AreAlike (site : Site) (one other : Class) : Type 0 where
-  pub may : (input : SiteInput) (number : ℕ) → IsInput site input → MayAt site one input number ↔ MayAt site other input number
-  pub must : (input : SiteInput) (number : ℕ) → IsInput site input → MustAt site one input number ↔ MustAt site other input number
+-- Messages of both classes execute the same of each list that they may come to.
+abbrev pub AreAlike : Site → Class → Class → Type 0
+AreAlike site one other = (which : Executed) (relay list number : ℕ) (is : Occurrence) → is_used (plan_at site relay) list ≡ true
+    → Does site one which relay list number is ↔ Does site other which relay list number is
 
 -- It is that of the class.
 pub record IsCourse (site : Site) (class : Class) (course : Course) : Type 0 where
   pub flows : AreFlows site class course.flows
-  pub spread : IsSpread site class executed.May site.entries course.found.inputs.items course.found.origins.items
-  pub reached : (x : SiteInput) → Contains course.found.inputs.items x ↔ Reach site class x
+  pub spread : IsSpread site class executed.Firm site.entries course.found.inputs.items course.found.origins.items
+  pub reached : (x : SiteInput) → Contains course.found.inputs.items x ↔ Reach site class Scope.Firm x
+  pub every : (x : SiteInput) → Contains course.every.items x ↔ Reach site class Scope.Every x
   pub ranks : AreRanks site class (rank_at course.ranks.items)
   pub many : length course.ranks.items ≡ length site.relays
   pub leads : AreLeads site class course.leads.items
@@ -42,14 +46,14 @@ abbrev pub AreCourses : Site → List Course → Type 0
 AreCourses site courses = (place : ℕ) (course : Course) → slice_get courses place ≡ Some course → (other : Class) × IsCourse site other course
 
 -- at this place stands one with these flows
-pub record IsSameAt (courses : List Course) (flows : ClassFlows) (place : ℕ) : Type 0 where
+pub record IsSameAt (courses : List Course) (flows : SiteFlows) (place : ℕ) : Type 0 where
   pub course : Course
   pub stands : slice_get courses place ≡ Some course
-  pub same : AreSame course.flows flows
+  pub same : AreSame course.flows.lists flows
 
 -- none has them
-abbrev pub IsNew : List Course → ClassFlows → Type 0
-IsNew courses flows = (place : ℕ) (course : Course) → slice_get courses place ≡ Some course → AreSame course.flows flows → ⊥
+abbrev pub IsNew : List Course → SiteFlows → Type 0
+IsNew courses flows = (place : ℕ) (course : Course) → slice_get courses place ≡ Some course → AreSame course.flows.lists flows → ⊥
 
 -- at this place stands that of the class
 pub record IsCourseAt (site : Site) (class : Class) (courses : List Course) (place : ℕ) : Type 0 where
@@ -63,4 +67,4 @@ AreKept site old new = (class : Class) (place : ℕ) → IsCourseAt site class o
 
 -- none of the kinds 1 to 7 is found of the class
 abbrev pub AreClean : Site → Class → Type 0
-AreClean site class = (x : SiteInput) → Reach site class x → IsClean site class x
+AreClean site class = (x : SiteInput) → Reach site class Scope.Firm x → IsClean site class x

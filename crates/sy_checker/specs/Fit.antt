@@ -1,6 +1,6 @@
 -- When a certificate is fit for a site: its rows are the wanted ones, in their order, and each of them holds. For each protected class, by rising
--- number, these are wanted: the class, each input that it reaches, each relay with such an input, and the way from each entry to each archive that
--- is named for the class. The certificate is this profile's own.
+-- number, these are wanted: the class, each input that it reaches without spare occurrences, each other one that it reaches, each relay with a reached
+-- input, and the way from each entry to each archive that is named for the class. The certificate is this profile's own.
 use Rattle.std.specs.Prelude.{◌≡◌, ℕ, ◌<◌, ◌+◌, ◌*◌, ◌↔◌, ◌⊎◌, AllPairs, Contains, List, [], ◌∷◌, ◌++◌, Option, Some, None, drop, flat_map, length, map, slice_get, true}
 use Rattle.sy_wire.specs.declared.class.Class.{Class}
 use Rattle.sy_cert.specs.declared.row.Row.{Row}
@@ -12,7 +12,10 @@ use Rattle.sy_site.specs.declared.site.SiteAction.{SiteAction}
 use Rattle.sy_site.specs.declared.site.SiteInput.{SiteInput}
 use Rattle.sy_site.specs.Sites.{Relay, Site, archives, is_protected, plan_at}
 use Rattle.sy_site.specs.machine.Findings.{HoldsAt, Kind}
-use Rattle.sy_site.specs.machine.Reach.{Forwards, MayAt, MustAt, Reach, action_of, occurrence_of}
+use Rattle.sy_board.specs.relay.Spares.{Scope}
+use Rattle.sy_site.specs.machine.Reach.{MustDo, Reach, Reaches, list_of}
+use Rattle.sy_cert.specs.CertificateValue.{Certificate}
+use Rattle.sy_checker.specs.Hops.{MustForward}
 use Rattle.sy_checker.specs.declared.wanted.RowKind.{RowKind}
 use Rattle.sy_checker.specs.declared.wanted.RowKind.TheVariants as kinds
 use Rattle.sy_checker.specs.declared.wanted.Wanted.{Wanted}
@@ -29,9 +32,14 @@ pub record ListsAll {A : Type 0} (P : A → Type 0) (IsBefore : A → A → Type
 abbrev pub StandsBefore : SiteInput → SiteInput → Type 0
 StandsBefore a b = (a.relay < b.relay) ⊎ ((a.relay ≡ b.relay) × (a.input < b.input))
 
+-- only spare occurrences lead to the input
+pub record IsBranch (site : Site) (class : Class) (input : SiteInput) : Type 0 where
+  pub reached : Reach site class Scope.Every input
+  pub rest : Reach site class Scope.Firm input → ⊥
+
 -- some input of the relay is reached
 abbrev pub IsReached : Site → Class → ℕ → Type 0
-IsReached site class relay = (input : ℕ) × Reach site class (record { relay = relay; input = input })
+IsReached site class relay = (input : ℕ) × Reach site class Scope.Every (record { relay = relay; input = input })
 
 -- a way from each entry to each archive, both in the order of the file
 abbrev pub paths : Site → Class → List Wanted
@@ -40,10 +48,13 @@ paths site class = flat_map (λ entry. map (λ archive. wanted.Path entry archiv
 -- the wanted rows of a class
 pub record AreWanted (site : Site) (class : Class) (part : List Wanted) : Type 0 where
   pub inputs : List SiteInput
-  pub inputs_reached : ListsAll (Reach site class) StandsBefore inputs
+  pub inputs_reached : ListsAll (Reach site class Scope.Firm) StandsBefore inputs
+  pub branches : List SiteInput
+  pub branches_reached : ListsAll (IsBranch site class) StandsBefore branches
   pub relays : List ℕ
   pub relays_reached : ListsAll (IsReached site class) ◌<◌ relays
-  pub whole : part ≡ wanted.Class class ∷ (map wanted.Reach inputs ++ (map wanted.Rank relays ++ paths site class))
+  pub whole : part
+      ≡ wanted.Class class ∷ (map wanted.Reach inputs ++ (map wanted.Branch branches ++ (map wanted.Rank relays ++ paths site class)))
 
 -- ---- what the rows name
 
@@ -77,25 +88,24 @@ pub record HasRank (site : Site) (part : List Wanted) (rows : List Row) (relay r
   pub is_wanted : slice_get part place ≡ Some (wanted.Rank relay)
   pub stands : slice_get rows place ≡ Some (row.Rank (name_of site relay) rank)
 
--- The rank is above that of each relay that its forwards lead to which may be executed, at reached inputs. A relay whose row doesn't stand where it
--- is wanted isn't compared.
+-- The rank is above that of each relay that occurrences of its reached inputs reach, spare ones too. A relay whose row doesn't stand where it is wanted
+-- isn't compared.
 abbrev pub IsAbove : Site → Class → List Wanted → List Row → ℕ → ℕ → Type 0
-IsAbove site class part rows relay rank = (from to : SiteInput) (number below : ℕ) → from.relay ≡ relay → Reach site class from
-    → MayAt site class from number → Forwards site from number to → HasRank site part rows to.relay below → below < rank
+IsAbove site class part rows relay rank = (from to : SiteInput) (number below : ℕ) → from.relay ≡ relay → Reach site class Scope.Every from
+    → Reaches site class Scope.Every from.relay (list_of site from) number to → HasRank site part rows to.relay below → below < rank
 
--- an occurrence of the archive must be executed at the input
+-- an occurrence of the archive must be executed at the input, and isn't spare
 pub record MustWrite (site : Site) (class : Class) (archive : SiteAction) (input : SiteInput) : Type 0 where
   pub number : ℕ
-  pub must : MustAt site class input number
   pub action : ℕ
-  pub runs : occurrence_of site input number ≡ Some (occurrence.Run action)
-  pub writes : action_of input action ≡ archive
+  pub does : MustDo site class input.relay (list_of site input) number (occurrence.Run action)
+  pub writes : record { relay = input.relay; action = action } ≡ archive
 
--- Each occurrence is a forward that must be executed at its input, to the input of the next; the archive must be written at the last.
+-- Each occurrence is a forward that must be executed at its input and isn't spare, to the input of the next; the archive must be written at the last.
 abbrev pub IsPath : Site → Class → SiteAction → SiteInput → List ℕ → Type 0
 IsPath site class archive input [] = MustWrite site class archive input
 IsPath site class archive input (number ∷ later) =
-    MustAt site class input number × (to : SiteInput) × Forwards site input number to × IsPath site class archive to later
+    (to : SiteInput) × MustForward site class input.relay (list_of site input) number to × IsPath site class archive to later
 
 abbrev pub IsClassRow : Class → Row → Type 0
 IsClassRow class (row.Class given) = given ≡ class
@@ -104,6 +114,11 @@ IsClassRow class _ = ⊥
 abbrev pub IsReachRow : Site → Class → SiteInput → Row → Type 0
 IsReachRow site class input (row.Reach relay port) = (relay ≡ name_of site input.relay) × (port ≡ port_of site input) × IsClean site class input
 IsReachRow site class input _ = ⊥
+
+-- Nothing is asked of an input that only spare occurrences lead to.
+abbrev pub IsBranchRow : Site → SiteInput → Row → Type 0
+IsBranchRow site input (row.Branch relay port) = (relay ≡ name_of site input.relay) × (port ≡ port_of site input)
+IsBranchRow site input _ = ⊥
 
 abbrev pub IsRankRow : Site → Class → List Wanted → List Row → ℕ → Row → Type 0
 IsRankRow site class part rows of (row.Rank relay rank) = (relay ≡ name_of site of) × IsAbove site class part rows of rank
@@ -119,6 +134,7 @@ IsPathRow site class entry archive _ = ⊥
 abbrev pub IsRight : Site → Class → List Wanted → List Row → Wanted → Row → Type 0
 IsRight site class part rows (wanted.Class c) r = IsClassRow c r
 IsRight site class part rows (wanted.Reach input) r = IsReachRow site class input r
+IsRight site class part rows (wanted.Branch input) r = IsBranchRow site input r
 IsRight site class part rows (wanted.Rank of) r = IsRankRow site class part rows of r
 IsRight site class part rows (wanted.Path entry archive) r = IsPathRow site class entry archive r
 
@@ -151,17 +167,24 @@ pub record IsFit (site : Site) (rows : List Row) : Type 0 where
   pub protected : AreProtected site classes
   pub fit : AreFit site classes rows
 
+-- The version is the site's policy, and the rows are fit.
+pub record IsFitFor (site : Site) (certificate : Certificate) : Type 0 where
+  pub version : certificate.version ≡ site.policy
+  pub rows : IsFit site certificate.rows
+
 -- ---- the first row that isn't right
 
 abbrev pub wanted_kind : Wanted → RowKind
 wanted_kind (wanted.Class class) = kinds.Class
 wanted_kind (wanted.Reach input) = kinds.Reach
+wanted_kind (wanted.Branch input) = kinds.Branch
 wanted_kind (wanted.Rank relay) = kinds.Rank
 wanted_kind (wanted.Path entry archive) = kinds.Path
 
 abbrev pub row_kind : Row → RowKind
 row_kind (row.Class class) = kinds.Class
 row_kind (row.Reach relay port) = kinds.Reach
+row_kind (row.Branch relay port) = kinds.Branch
 row_kind (row.Rank relay rank) = kinds.Rank
 row_kind (row.Path relay port archive_relay action occurrences) = kinds.Path
 
@@ -182,10 +205,16 @@ AreWrong site (class ∷ classes) rows place kind = (part : List Wanted) × AreW
     × (IsWrongAt site class part rows place kind
     ⊎ (AreRight site class part rows × (later : ℕ) × (place ≡ length part + later) × AreWrong site classes (drop (length part) rows) later kind))
 
--- The line of the first wrong row, one past the last where rows are missing. The first line is `cert 1`.
+-- The line of the first wrong row, one past the last where rows are missing. The first line has the version.
 pub record IsWrongIn (site : Site) (rows : List Row) (line : ℕ) (kind : RowKind) : Type 0 where
   pub classes : List Class
   pub protected : AreProtected site classes
   pub place : ℕ
   pub wrong : AreWrong site classes rows place kind
   pub line_is : line ≡ place + 2
+
+-- Of a certificate the first line is wrong where its version isn't the site's policy, and else the first wrong row's.
+abbrev pub IsWrongFor : Site → Certificate → ℕ → RowKind → Type 0
+IsWrongFor site certificate line kind =
+    ((certificate.version ≡ site.policy → ⊥) × (line ≡ 1) × (kind ≡ kinds.Cert))
+    ⊎ ((certificate.version ≡ site.policy) × IsWrongIn site certificate.rows line kind)

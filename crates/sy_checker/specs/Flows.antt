@@ -1,34 +1,74 @@
--- What messages of a class may and must execute, kept for each input of each relay.
-use Rattle.std.specs.Prelude.{◌≡◌, ℕ, List, Some, length, slice_get}
+-- What messages of a class execute of the lists of a site, kept as sets of occurrences.
+use Rattle.std.specs.Prelude.{◌≡◌, ℕ, ◌==◌, ◌||◌, Bool, true, false, ◌↔◌, List, Some, is_some, length, slice_get}
+use Rattle.std.specs.Int.{bit_at}
+use Rattle.std.specs.List.{list_any}
 use Rattle.sy_wire.specs.declared.class.Class.{Class}
-use Rattle.sy_classes.specs.declared.Flows.{Flows}
+use Rattle.sy_rules.specs.declared.lists.occurrence.Occurrence.{Occurrence}
 use Rattle.sy_rules.specs.PlanValue.{Plan}
-use Rattle.sy_rules.specs.Whole.{body_at}
-use Rattle.sy_rules.specs.lists.Sets.{Bits}
-use Rattle.sy_rules.specs.lists.Work.{May, Must}
-use Rattle.sy_board.specs.relay.Plans.{input_at}
-use Rattle.sy_site.specs.Sites.{Site, plan_at}
-use Rattle.sy_checker.specs.declared.flows.ClassFlows.{ClassFlows}
+use Rattle.sy_rules.specs.Whole.{queue_at}
+use Rattle.sy_board.specs.relay.Spares.{Scope}
+use Rattle.sy_site.specs.Sites.{Site, does_spare, plan_at}
+use Rattle.sy_site.specs.machine.Reach.{MayDo, MustDo, occurrence_at}
+use Rattle.sy_checker.specs.declared.executed.Executed.{Executed}
+use Rattle.sy_checker.specs.declared.executed.Executed.TheVariants as executed
+use Rattle.sy_checker.specs.declared.firm.RelayFirm.{RelayFirm}
+use Rattle.sy_checker.specs.declared.firm.SiteFirm.{SiteFirm}
+use Rattle.sy_checker.specs.declared.flows.ListFlows.{ListFlows}
 use Rattle.sy_checker.specs.declared.flows.RelayFlows.{RelayFlows}
+use Rattle.sy_checker.specs.declared.flows.SiteFlows.{SiteFlows}
 
 -- so many, each as it is to be at its place
 pub record AreEach {A : Type 0} (P : ℕ → A → Type 0) (many : ℕ) (xs : List A) : Type 0 where
   pub length_is : length xs ≡ many
   pub each : (place : ℕ) (x : A) → slice_get xs place ≡ Some x → P place x
 
--- of a list
-pub record IsFlow (plan : Plan) (class : Class) (list : ℕ) (flow : Flows) : Type 0 where
-  pub may : Bits (May (body_at plan list) class) flow.may
-  pub must : Bits (Must (body_at plan list) class) flow.must
+-- ---- occurrences that aren't spare
 
--- of the list of an input
-abbrev pub IsInputFlow : Plan → Class → ℕ → Flows → Type 0
-IsInputFlow plan class input flow = IsFlow plan class (input_at plan input).list flow
+-- The set has the occurrences of a list that aren't spare.
+abbrev pub IsFirm : Site → ℕ → ℕ → ℕ → Type 0
+IsFirm site relay list set = (number : ℕ) (is : Occurrence) → occurrence_at site relay list number ≡ Some is
+    → (bit_at set number ≡ 1) ↔ (does_spare site relay is ≡ false)
 
--- of each input of a plan
-abbrev pub AreRelayFlows : Plan → Class → RelayFlows → Type 0
-AreRelayFlows plan class flows = AreEach (IsInputFlow plan class) (length plan.inputs) flows.inputs.items
+-- of each list of a relay
+abbrev pub AreRelayFirm : Site → ℕ → RelayFirm → Type 0
+AreRelayFirm site relay sets = AreEach (IsFirm site relay) (length (plan_at site relay).lists) sets.lists.items
 
 -- of each relay
-abbrev pub AreFlows : Site → Class → ClassFlows → Type 0
-AreFlows site class flows = AreEach (λ relay lists. AreRelayFlows (plan_at site relay) class lists) (length site.relays) flows.relays.items
+abbrev pub AreFirm : Site → SiteFirm → Type 0
+AreFirm site sets = AreEach (AreRelayFirm site) (length site.relays) sets.relays.items
+
+-- ---- what is executed
+
+-- An occurrence of a list is executed: it may be, it may be and isn't spare, or it must be and isn't spare.
+abbrev pub Does : Site → Class → Executed → ℕ → ℕ → ℕ → Occurrence → Type 0
+Does site class executed.Every relay list number is = MayDo site class Scope.Every relay list number is
+Does site class executed.Firm relay list number is = MayDo site class Scope.Firm relay list number is
+Does site class executed.Must relay list number is = MustDo site class relay list number is
+
+-- The set has the occurrences of a list that are executed.
+pub record IsSet (site : Site) (class : Class) (which : Executed) (relay list set : ℕ) : Type 0 where
+  pub sound : (number : ℕ) (is : Occurrence) → bit_at set number ≡ 1 → occurrence_at site relay list number ≡ Some is
+      → Does site class which relay list number is
+  pub whole : (number : ℕ) (is : Occurrence) → Does site class which relay list number is → bit_at set number ≡ 1
+
+abbrev pub set_of : ListFlows → Executed → ℕ
+set_of flow executed.Every = flow.every
+set_of flow executed.Firm = flow.firm
+set_of flow executed.Must = flow.must
+
+-- of each way to execute
+abbrev pub IsFlow : Site → Class → ℕ → ℕ → ListFlows → Type 0
+IsFlow site class relay list flow = (which : Executed) → IsSet site class which relay list (set_of flow which)
+
+-- whether messages may come to a list: a queue leads to it, or an input has it
+abbrev pub is_used : Plan → ℕ → Bool
+is_used plan list = is_some (queue_at plan list) || list_any (λ i. i.list == list) plan.inputs
+
+-- of each list of a relay that messages may come to
+abbrev pub AreRelayFlows : Site → Class → ℕ → RelayFlows → Type 0
+AreRelayFlows site class relay flows = AreEach (λ list flow. is_used (plan_at site relay) list ≡ true → IsFlow site class relay list flow)
+    (length (plan_at site relay).lists) flows.lists.items
+
+-- of each relay
+abbrev pub AreSiteFlows : Site → Class → SiteFlows → Type 0
+AreSiteFlows site class flows = AreEach (AreRelayFlows site class) (length site.relays) flows.relays.items

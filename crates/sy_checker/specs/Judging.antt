@@ -10,6 +10,10 @@ use Rattle.sy_checker.specs.Fit.{IsClean, action_name, name_of, port_of}
 abbrev pub IsReach : Site → Class → SiteInput → List ℕ → ℕ → Type 0
 IsReach site class input relay port = (relay ≡ name_of site input.relay) × (port ≡ port_of site input) × IsClean site class input
 
+-- a branch row names the input
+abbrev pub NamesInput : Site → SiteInput → List ℕ → ℕ → Type 0
+NamesInput site input relay port = (relay ≡ name_of site input.relay) × (port ≡ port_of site input)
+
 -- a path row names the entry and the archive
 abbrev pub NamesPath : Site → SiteInput → SiteAction → List ℕ → ℕ → List ℕ → List ℕ → Type 0
 NamesPath site entry archive relay port archive_relay action = (relay ≡ name_of site entry.relay) × (port ≡ port_of site entry)

@@ -1,5 +1,6 @@
 pub mod Fit
 pub mod Flows
+pub mod Hops
 pub mod Internal
 pub mod Risks
 pub mod Ranked

@@ -6,13 +6,17 @@ use Rattle.sy_site.specs.declared.site.SiteInput.{SiteInput}
 use Rattle.sy_site.specs.Sites.{Site}
 use Rattle.sy_site.specs.machine.Findings.{IsChain, IsLoop, first_is_entry}
 use Rattle.sy_site.specs.machine.Findings as findings
-use Rattle.sy_site.specs.machine.Reach.{Forwards, MayAt, Reach}
+use Rattle.sy_board.specs.relay.Spares.{Scope}
+use Rattle.sy_site.specs.machine.Reach.{Reach}
+use Rattle.sy_checker.specs.declared.executed.Executed.TheVariants as executed
+use Rattle.sy_checker.specs.declared.flows.Hop.{Hop}
 use Rattle.sy_checker.specs.declared.finding.WayRow.{WayRow}
 use Rattle.sy_checker.specs.declared.loops.Halt.{Halt}
 use Rattle.sy_checker.specs.declared.loops.Halt.TheVariants as halt
 use Rattle.sy_checker.specs.declared.loops.Unranked.{Unranked}
 use Rattle.sy_checker.specs.declared.loops.Unranked.TheVariants as unranked
-use Rattle.sy_checker.specs.Internal.{LeadsBy, same_input}
+use Rattle.sy_checker.specs.Hops.{LeadsBy}
+use Rattle.sy_checker.specs.Internal.{same_input}
 
 -- ---- ways
 
@@ -20,7 +24,7 @@ use Rattle.sy_checker.specs.Internal.{LeadsBy, same_input}
 abbrev pub way_of : List WayRow → List findings.WayRow
 way_of rows = map (λ row. record { input = row.input; number = row.number }) rows
 
--- the relays that forward on it
+-- the relays that lead on by it
 abbrev pub relays_of : List findings.WayRow → List ℕ
 relays_of way = map (λ row. row.input.relay) way
 
@@ -41,12 +45,16 @@ pub record IsTrail (site : Site) (class : Class) (way : List findings.WayRow) (i
 abbrev pub IsMet : List findings.WayRow → SiteInput → ℕ → Type 0
 IsMet way input relay = Contains (relays_of way) relay ⊎ (relay ≡ input.relay)
 
--- ---- how many forwards follow one another
+-- ---- how many hops follow one another
 
--- So many follow one another from the relay, of those that messages of the class may run at reached inputs.
+-- an occurrence of an input's list reaches the other input, by spare ones too
+abbrev pub GoesOn : Site → Class → SiteInput → ℕ → SiteInput → Type 0
+GoesOn site class from number to = LeadsBy site class executed.Every from number to
+
+-- So many follow one another from the relay, of those of reached inputs.
 pub data Follow (site : Site) (class : Class) : ℕ → ℕ → Type 0 where
   ends : {relay : ℕ} → Follow site class relay 0
-  goes_on : {from to : SiteInput} (number n : ℕ) → Reach site class from → MayAt site class from number → Forwards site from number to
+  goes_on : {from to : SiteInput} (number n : ℕ) → Reach site class Scope.Every from → GoesOn site class from number to
       → Follow site class to.relay n → Follow site class from.relay (n + 1)
 
 -- the greatest number that do
@@ -61,31 +69,29 @@ rank_at ranks relay = get_or ranks relay 0
 
 -- each reached input of the relay is done
 abbrev pub IsDone : Site → Class → List SiteInput → ℕ → Type 0
-IsDone site class done relay = (input : SiteInput) → input.relay ≡ relay → Reach site class input → Contains done input
+IsDone site class done relay = (input : SiteInput) → input.relay ≡ relay → Reach site class Scope.Every input → Contains done input
 
--- The rank of a relay is one more than that of a relay which an input of it forwards to that is done.
+-- The rank of a relay is one more than that of a relay which an input of it reaches that is done.
 pub record IsOneMore (site : Site) (class : Class) (done : List SiteInput) (ranks : List ℕ) (relay : ℕ) : Type 0 where
   pub from : SiteInput
   pub to : SiteInput
   pub number : ℕ
   pub is_done : Contains done from
   pub is_its : from.relay ≡ relay
-  pub may : MayAt site class from number
-  pub goes : Forwards site from number to
+  pub goes : GoesOn site class from number to
   pub more : rank_at ranks relay ≡ rank_at ranks to.relay + 1
 
 -- or it is 0
 abbrev pub IsLeast : Site → Class → List SiteInput → List ℕ → ℕ → Type 0
 IsLeast site class done ranks relay = (rank_at ranks relay ≡ 0) ⊎ IsOneMore site class done ranks relay
 
--- Of each input that is done the forwards that may be executed lead to relays with all inputs done, and of a smaller rank.
+-- What each input that is done reaches is at relays with all inputs done, and of a smaller rank.
 pub record AreRanked (site : Site) (class : Class) (done : List SiteInput) (settled ranks : List ℕ) : Type 0 where
-  pub reached : (input : SiteInput) → Contains done input → Reach site class input
+  pub reached : (input : SiteInput) → Contains done input → Reach site class Scope.Every input
   pub distinct : IsDistinct same_input done
   pub all_done : (relay : ℕ) → Contains settled relay → IsDone site class done relay
-  pub onward : (from to : SiteInput) (number : ℕ) → Contains done from → MayAt site class from number → Forwards site from number to
-      → IsDone site class done to.relay
-  pub falls : (from to : SiteInput) (number : ℕ) → Contains done from → MayAt site class from number → Forwards site from number to
+  pub onward : (from to : SiteInput) (number : ℕ) → Contains done from → GoesOn site class from number to → IsDone site class done to.relay
+  pub falls : (from to : SiteInput) (number : ℕ) → Contains done from → GoesOn site class from number to
       → rank_at ranks to.relay < rank_at ranks from.relay
   pub least : (relay : ℕ) → IsLeast site class done ranks relay
   pub small : (relay : ℕ) → rank_at ranks relay ≤ length done
@@ -96,22 +102,22 @@ pub record DoesMore (AreLeft : ℕ → Type 0) (old new : List SiteInput) : Type
   pub kept : (input : SiteInput) → Contains old input → Contains new input
   pub only : (input : SiteInput) → Contains new input → Contains old input ⊎ (AreLeft input.relay → ⊥)
 
--- where an occurrence of a set leads, all is done
-abbrev pub IsFollowed : Site → Class → List SiteInput → ℕ → SiteInput → ℕ → Type 0
-IsFollowed site class done set from number = (to : SiteInput) → LeadsBy site set from number to → IsDone site class done to.relay
+-- where each of these hops leads, all is done
+abbrev pub AreFollowed : Site → Class → List SiteInput → List Hop → Type 0
+AreFollowed site class done hops = (hop : Hop) → Contains hops hop → IsDone site class done hop.to.relay
 
 -- ---- the rank that an input asks for
 
--- that of one occurrence: one more than where it leads, 0 where it doesn't lead on
-pub record IsHeightBy (site : Site) (ranks : List ℕ) (set : ℕ) (from : SiteInput) (number height : ℕ) : Type 0 where
-  pub above : (to : SiteInput) → LeadsBy site set from number to → height ≡ rank_at ranks to.relay + 1
-  pub least : (height ≡ 0) ⊎ ((to : SiteInput) × LeadsBy site set from number to)
+-- one more than the greatest of where these hops lead, 0 where there are none
+pub record IsHeightOf (ranks : List ℕ) (hops : List Hop) (height : ℕ) : Type 0 where
+  pub above : (hop : Hop) → Contains hops hop → rank_at ranks hop.to.relay < height
+  pub least : (height ≡ 0) ⊎ ((hop : Hop) × Contains hops hop × (height ≡ rank_at ranks hop.to.relay + 1))
 
--- the greatest of all
+-- of where the input's list leads
 pub record IsHeight (site : Site) (class : Class) (ranks : List ℕ) (from : SiteInput) (height : ℕ) : Type 0 where
-  pub above : (to : SiteInput) (number : ℕ) → MayAt site class from number → Forwards site from number to → rank_at ranks to.relay < height
+  pub above : (to : SiteInput) (number : ℕ) → GoesOn site class from number to → rank_at ranks to.relay < height
   pub least : (height ≡ 0)
-      ⊎ ((to : SiteInput) × (number : ℕ) × MayAt site class from number × Forwards site from number to × (height ≡ rank_at ranks to.relay + 1))
+      ⊎ ((to : SiteInput) × (number : ℕ) × GoesOn site class from number to × (height ≡ rank_at ranks to.relay + 1))
 
 -- ---- why the search ends
 

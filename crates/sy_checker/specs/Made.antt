@@ -6,12 +6,13 @@ use Rattle.sy_cert.specs.declared.row.Row.TheVariants as row
 use Rattle.sy_site.specs.Sites.{Site}
 use Rattle.sy_checker.specs.declared.wanted.Wanted.{Wanted}
 use Rattle.sy_checker.specs.declared.wanted.Wanted.TheVariants as wanted
-use Rattle.sy_checker.specs.Fit.{IsClassRow, IsPathRow, IsReachRow, name_of}
+use Rattle.sy_checker.specs.Fit.{IsBranchRow, IsClassRow, IsPathRow, IsReachRow, name_of}
 
 -- The row is the wanted one, and holds where ranks are those of all relays.
 abbrev pub IsMade : Site → Class → List ℕ → Wanted → Row → Type 0
 IsMade site class ranks (wanted.Class c) r = IsClassRow c r
 IsMade site class ranks (wanted.Reach input) r = IsReachRow site class input r
+IsMade site class ranks (wanted.Branch input) r = IsBranchRow site input r
 IsMade site class ranks (wanted.Rank of) r = r ≡ row.Rank (name_of site of) (get_or ranks of 0)
 IsMade site class ranks (wanted.Path entry archive) r = IsPathRow site class entry archive r
 

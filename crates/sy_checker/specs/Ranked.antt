@@ -1,6 +1,5 @@
 -- What the private functions say that compare ranks.
 use Rattle.std.specs.Prelude.{◌≡◌, ℕ, ◌<◌, ◌==◌, Bool, false, if◌then◌else◌, List, Option, Some, None, slice_get}
-use Rattle.std.specs.Int.{bit_at}
 use Rattle.std.specs.Str.{bytes_eq}
 use Rattle.sy_wire.specs.declared.class.Class.{Class}
 use Rattle.sy_cert.specs.declared.row.Row.{Row}
@@ -8,8 +7,8 @@ use Rattle.sy_cert.specs.declared.row.Row.TheVariants as row
 use Rattle.sy_site.specs.declared.site.SiteInput.{SiteInput}
 use Rattle.sy_site.specs.Sites.{Site}
 use Rattle.sy_site.specs.machine.Lawful.{IsInput}
-use Rattle.sy_site.specs.machine.Reach.{Forwards, MayAt}
 use Rattle.sy_checker.specs.Fit.{HasRank, name_of}
+use Rattle.sy_checker.specs.Loops.{GoesOn}
 use Rattle.sy_checker.specs.declared.wanted.Wanted.{Wanted}
 use Rattle.sy_checker.specs.declared.wanted.Wanted.TheVariants as wanted
 
@@ -17,12 +16,14 @@ abbrev pub rank_in : Site → ℕ → Row → Option ℕ
 rank_in site relay (row.Rank name rank) = if bytes_eq name (name_of site relay) then Some rank else None
 rank_in site relay (row.Class class) = None
 rank_in site relay (row.Reach name port) = None
+rank_in site relay (row.Branch name port) = None
 rank_in site relay (row.Path name port archive_relay action occurrences) = None
 
 abbrev pub is_rank_of : ℕ → Wanted → Bool
 is_rank_of relay (wanted.Rank of) = of == relay
 is_rank_of relay (wanted.Class class) = false
 is_rank_of relay (wanted.Reach input) = false
+is_rank_of relay (wanted.Branch input) = false
 is_rank_of relay (wanted.Path entry archive) = false
 
 abbrev pub rank_at : Site → ℕ → Option Wanted → Option Row → Option ℕ
@@ -37,17 +38,22 @@ IsBelowAt site part rows relay rank place = (below : ℕ) → rank_at site relay
 abbrev pub IsBelow : Site → List Wanted → List Row → ℕ → ℕ → Type 0
 IsBelow site part rows relay rank = (below : ℕ) → HasRank site part rows relay below → below < rank
 
-abbrev pub LeadsBelow : Site → List Wanted → List Row → SiteInput → ℕ → ℕ → ℕ → Type 0
-LeadsBelow site part rows from rank set number =
-    (to : SiteInput) → bit_at set number ≡ 1 → Forwards site from number to → IsBelow site part rows to.relay rank
-
 abbrev pub FallsFrom : Site → Class → List Wanted → List Row → ℕ → SiteInput → Type 0
 FallsFrom site class part rows rank from =
-    (to : SiteInput) (number : ℕ) → MayAt site class from number → Forwards site from number to → IsBelow site part rows to.relay rank
+    (to : SiteInput) (number : ℕ) → GoesOn site class from number to → IsBelow site part rows to.relay rank
+
+-- the input that a wanted row is about
+abbrev pub input_in : Wanted → Option SiteInput
+input_in (wanted.Class class) = None
+input_in (wanted.Reach input) = Some input
+input_in (wanted.Branch input) = Some input
+input_in (wanted.Rank of) = None
+input_in (wanted.Path entry archive) = None
 
 -- of the input of a wanted row, where it is one of the relay
 abbrev pub FallsAt : Site → Class → List Wanted → List Row → ℕ → ℕ → Wanted → Type 0
-FallsAt site class part rows relay rank is = (from : SiteInput) → is ≡ wanted.Reach from → from.relay ≡ relay → FallsFrom site class part rows rank from
+FallsAt site class part rows relay rank is =
+    (from : SiteInput) → input_in is ≡ Some from → from.relay ≡ relay → FallsFrom site class part rows rank from
 
 abbrev pub IsInputThere : Site → Wanted → Type 0
-IsInputThere site is = (from : SiteInput) → is ≡ wanted.Reach from → IsInput site from
+IsInputThere site is = (from : SiteInput) → input_in is ≡ Some from → IsInput site from

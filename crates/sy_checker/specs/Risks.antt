@@ -16,7 +16,7 @@ use Rattle.sy_board.specs.relay.Plans.{occurrences_at, retry_at}
 use Rattle.sy_site.specs.declared.site.SiteInput.{SiteInput}
 use Rattle.sy_site.specs.Sites.{Site, plan_at, target}
 use Rattle.sy_site.specs.machine.Findings.{HoldsAt, Kind}
-use Rattle.sy_site.specs.machine.Reach.{action_of, occurrence_of}
+use Rattle.sy_site.specs.machine.Reach.{list_of, occurrence_at}
 use Rattle.sy_checker.specs.declared.kinds.Risk.{Risk}
 use Rattle.sy_checker.specs.declared.kinds.Risk.TheVariants as risks
 
@@ -60,12 +60,12 @@ is_risk site input risks.NoTarget (occurrence.Post list) = false
 is_risk site input risks.Post (occurrence.Run action) = false
 is_risk site input risks.GivesUp (occurrence.Run action) = is_some (retry_at (plan_at site input.relay) action)
 is_risk site input risks.NoTarget (occurrence.Run action) =
-    is_forward (slice_get (plan_at site input.relay).actions action) && is_none (target site (action_of input action))
+    is_forward (slice_get (plan_at site input.relay).actions action) && is_none (target site (record { relay = input.relay; action = action }))
 
 pub record RisksBy (site : Site) (input : SiteInput) (set number : ℕ) (risk : Risk) : Type 0 where
   pub member : bit_at set number ≡ 1
   pub is : Occurrence
-  pub there : occurrence_of site input number ≡ Some is
+  pub there : occurrence_at site input.relay (list_of site input) number ≡ Some is
   pub risky : is_risk site input risk is ≡ true
 
 -- the kind of finding that shows a risk

@@ -1,29 +1,22 @@
--- Inputs that are found by following forwards from some of them, and the ways to these.
+-- Inputs that are found by following occurrences from some of them, and the ways to these.
 use Rattle.std.specs.Prelude.{◌≡◌, ℕ, ◌<◌, Contains, List, [], ◌∷◌, Option, Some, None, length, slice_get}
 use Rattle.sy_wire.specs.declared.class.Class.{Class}
 use Rattle.sy_site.specs.declared.site.SiteInput.{SiteInput}
 use Rattle.sy_site.specs.Sites.{Site}
 use Rattle.sy_site.specs.machine.Lawful.{IsInput}
-use Rattle.sy_site.specs.machine.Reach.{Forwards, MayAt, MustAt}
 use Rattle.sy_checker.specs.declared.executed.Executed.{Executed}
-use Rattle.sy_checker.specs.declared.executed.Executed.TheVariants as executed
 use Rattle.sy_checker.specs.declared.finding.WayRow.{WayRow}
 use Rattle.sy_checker.specs.declared.reach.Origin.{Origin}
-
--- what is executed at an input: what may be, or what must be
-abbrev pub ExecutedAt : Site → Class → Executed → SiteInput → ℕ → Type 0
-ExecutedAt site class executed.May input number = MayAt site class input number
-ExecutedAt site class executed.Must input number = MustAt site class input number
+use Rattle.sy_checker.specs.Hops.{LeadsBy}
 
 -- an occurrence that is executed leads to it
 pub record LeadsOn (site : Site) (class : Class) (which : Executed) (from to : SiteInput) : Type 0 where
   pub number : ℕ
-  pub done : ExecutedAt site class which from number
-  pub goes : Forwards site from number to
+  pub leads : LeadsBy site class which from number to
 
 -- an occurrence that leads there
 abbrev pub IsNumberTo : Site → Class → Executed → SiteInput → SiteInput → ℕ → Type 0
-IsNumberTo site class which from to number = (number < 64) × ExecutedAt site class which from number × Forwards site from number to
+IsNumberTo site class which from to number = (number < 64) × LeadsBy site class which from number to
 
 -- ---- where inputs were found from
 
@@ -49,7 +42,7 @@ pub record GoBack (found : List SiteInput) (origins : List (Option Origin)) : Ty
   pub many : length origins ≡ length found
   pub before : (place : ℕ) (origin : Origin) → slice_get origins place ≡ Some (Some origin) → origin.place < place
 
--- All of those that the search starts from, with all that their forwards lead to, and nothing else.
+-- All of those that the search starts from, with all that their occurrences lead to, and nothing else.
 pub record IsSpread (site : Site) (class : Class) (which : Executed) (start found : List SiteInput) (origins : List (Option Origin)) : Type 0 where
   pub there : (x : SiteInput) → Contains found x → IsInput site x
   pub starts : (x : SiteInput) → Contains start x → Contains found x
@@ -58,7 +51,7 @@ pub record IsSpread (site : Site) (class : Class) (which : Executed) (start foun
 
 -- ---- ways
 
--- From an input each row's occurrence is executed, and is a forward to the next row's input, and the last row's to the end.
+-- From an input each row's occurrence leads to the next row's input, and the last row's to the end.
 abbrev pub IsLedFrom : Site → Class → Executed → SiteInput → List WayRow → SiteInput → Type 0
 IsLedFrom site class which from [] end = from ≡ end
 IsLedFrom site class which from (row ∷ way) end =

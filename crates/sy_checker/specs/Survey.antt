@@ -5,6 +5,7 @@ use Rattle.sy_site.specs.declared.site.SiteAction.{SiteAction}
 use Rattle.sy_site.specs.declared.site.SiteInput.{SiteInput}
 use Rattle.sy_site.specs.Sites.{Site, archives, is_protected}
 use Rattle.sy_site.specs.machine.Findings.{HoldsAt, IsFinding, WayRow}
+use Rattle.sy_board.specs.relay.Spares.{Scope}
 use Rattle.sy_site.specs.machine.Reach.{LeadsTo, Reach}
 use Rattle.sy_site.specs.machine.Soundness.{AreRanks}
 use Rattle.sy_checker.specs.declared.finding.Kind.{Kind}
@@ -39,10 +40,10 @@ IsThere site class input k = (way : List WayRow) × IsFinding site class way inp
 abbrev pub HasRanks : Site → Class → Type 0
 HasRanks site class = (rank : ℕ → ℕ) × AreRanks site class rank
 
--- Nothing of the class is left out: each of the kinds 1 to 7 that holds at an input that it reaches, each entry with each named archive that it
--- doesn't lead to; and a loop, or there are ranks, so that there is none.
+-- Nothing of the class is left out: each of the kinds 1 to 7 that holds at an input that it reaches without spare occurrences, each entry with each named
+-- archive that it doesn't lead to; and a loop, or there are ranks, so that there is none.
 pub record IsToldOf (site : Site) (class : Class) (groups : List Group) : Type 0 where
-  pub kinds : (input : SiteInput) → Reach site class input → (k : Kind) → HoldsAt site class input (kind_of k) → Names groups class input k
+  pub kinds : (input : SiteInput) → Reach site class Scope.Firm input → (k : Kind) → HoldsAt site class input (kind_of k) → Names groups class input k
   pub unmet : (entry : SiteInput) → Contains site.entries entry → (archive : SiteAction) → Contains (archives site class) archive
       → (LeadsTo site class archive entry → ⊥) → Names groups class entry (kind.Unmet archive)
   pub ranked : HasRanks site class ⊎ ((input : SiteInput) × Names groups class input kind.Loop)

@@ -3,7 +3,8 @@ use Rattle.std.specs.Prelude.{◌≡◌, ℕ, ◌≤◌, ◌+◌, List, codes, d
 use Rattle.sy_wire.specs.declared.class.Class.{Class}
 use Rattle.sy_cert.specs.declared.row.Row.{Row}
 use Rattle.sy_site.specs.Sites.{Site}
-use Rattle.sy_checker.specs.Fit.{AreFit, AreRight, AreWanted, AreWrong, IsWrongAt, IsWrongIn}
+use Rattle.sy_cert.specs.CertificateValue.{Certificate}
+use Rattle.sy_checker.specs.Fit.{AreFit, AreRight, AreWanted, AreWrong, IsWrongAt, IsWrongFor, IsWrongIn}
 use Rattle.sy_checker.specs.declared.verifying.CertFault.{CertFault}
 use Rattle.sy_checker.specs.declared.verifying.CertFault.TheVariants as faults
 use Rattle.sy_checker.specs.declared.verifying.Judged.{Judged}
@@ -14,17 +15,24 @@ use Rattle.sy_checker.specs.declared.wanted.Wanted.{Wanted}
 
 -- ---- faults
 
--- The first wrong row stands in this line and is of this kind. Memory may always run out.
-abbrev pub IsFault : Site → List Row → CertFault → Type 0
-IsFault site rows (faults.Wrong line kind) = IsWrongIn site rows line kind
-IsFault site rows faults.NoMemory = Unit {0}
+-- This is wrong with the certificate: its first line, or the first wrong row. Memory may always run out.
+abbrev pub IsFault : Site → Certificate → CertFault → Type 0
+IsFault site certificate (faults.Wrong line kind) = IsWrongFor site certificate line kind
+IsFault site certificate faults.NoMemory = Unit {0}
+
+-- of rows alone
+abbrev pub AreWrongRows : Site → List Row → CertFault → Type 0
+AreWrongRows site rows (faults.Wrong line kind) = IsWrongIn site rows line kind
+AreWrongRows site rows faults.NoMemory = Unit {0}
 
 -- the word that the rows of a kind begin with
 abbrev pub kind_words : RowKind → List ℕ
 kind_words kinds.Class = codes "class"
 kind_words kinds.Reach = codes "reach"
+kind_words kinds.Branch = codes "branch"
 kind_words kinds.Rank = codes "rank"
 kind_words kinds.Path = codes "path"
+kind_words kinds.Cert = codes "cert"
 
 -- ---- the rows of one class
 

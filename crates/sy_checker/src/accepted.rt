@@ -14,19 +14,21 @@ ghost use Rattle.sy_checker.specs.Fit.{AreProtected};
 use std::alloc::{AllocError, Global};
 use std::marker::Model;
 use std::sync::Arc;
+use crate::firm::actions_at;
 use sy_board::Guard;
 use sy_rules::Plan;
 use sy_site::machine::sound_sites_have_guards;
-use sy_site::{Site, SiteInput};
+use sy_site::{Site, SiteAction, SiteInput};
 use sy_wire::Class;
 
-/// What is kept of a site that was accepted: the plans of its relays, its protected classes, and each input with each of
-/// them that reaches it.
+/// What is kept of a site that was accepted: the plans of its relays, its protected classes, each input with each of them
+/// that reaches it without spare occurrences, and its spare actions.
 #[derive(Drop)]
 pub struct Accepted {
     plans: Vec<Arc<Plan>>,
     classes: Vec<Class>,
     pairs: Vec<(SiteInput, Class)>,
+    spares: Vec<SiteAction>,
 }
 
 impl Model for Accepted {
@@ -40,9 +42,9 @@ impl Model for Accepted {
 
     ghost coded = { Prim.hlevel (codes, plan_code) };
 
-    ghost view = { λ a. record { plans = map arc_value a.plans.items; classes = a.classes.items; pairs = a.pairs.items } };
+    ghost view = { λ a. record { plans = map arc_value a.plans.items; classes = a.classes.items; pairs = a.pairs.items; spares = a.spares.items } };
 
-    ghost invariant = { λ a. spec.AreGuardable (record { plans = map arc_value a.plans.items; classes = a.classes.items; pairs = a.pairs.items }) };
+    ghost invariant = { λ a. spec.AreGuardable (record { plans = map arc_value a.plans.items; classes = a.classes.items; pairs = a.pairs.items; spares = a.spares.items }) };
 }
 
 // The plans of a site's relays.
@@ -102,8 +104,19 @@ fn pairs_at(
     Ok(found)
 }
 
+fn spares_of(alloc: Global, spares: &[SiteAction]) -> Result<Vec<SiteAction>, AllocError>
+    ensures { IfOk result (λ copied. copied.items ≡ spares.now) }
+{
+    let mut copied = Vec::with_capacity(alloc, spares.len())?;
+    for spare in spares {
+        copied.push(*spare)?;
+    }
+    Ok(copied)
+}
+
 impl Accepted {
-    // What is kept of a sound site with these protected classes, and with each input that one of them reaches.
+    // What is kept of a sound site with these protected classes, and with each input that one of them reaches without spare
+    // occurrences.
     pub(crate) fn new(
         alloc: Global,
         site: &Site,
@@ -117,10 +130,12 @@ impl Accepted {
     {
         sound_sites_have_guards();
         let plans = plans_of(alloc, site)?;
+        let spares = spares_of(alloc, site.spares())?;
         Ok(Accepted {
             plans,
             classes,
             pairs,
+            spares,
         })
     }
 
@@ -139,12 +154,14 @@ impl Accepted {
         &self.plans[relay as usize]
     }
 
-    /// The guard of a relay: of each input and each class that are guarded there, and of no other. The relay's plan meets its condition.
+    /// The guard of a relay: of each input and each class that are guarded there, and of no other, and of the relay's spare
+    /// actions, and no other. The relay's plan meets its condition.
     pub fn guard(&self, alloc: Global, relay: u32) -> Result<Guard, AllocError>
-        ensures pairs { IfOk result (λ guard. spec.ArePairsAt self.now.pairs relay guard) }
+        ensures guard { IfOk result (λ guard. spec.IsGuardAt self.now relay guard) }
         ensures may { IfOk result (λ guard. (plan : AnyPlan) → Some plan ≡ slice_get self.now.plans relay → MayGuard plan guard) }
     {
         let pairs = pairs_at(alloc, self.pairs.as_slice(), relay)?;
-        Guard::new(alloc, pairs.as_slice())
+        let spares = actions_at(alloc, self.spares.as_slice(), relay)?;
+        Guard::new(alloc, pairs.as_slice(), spares.as_slice())
     }
 }

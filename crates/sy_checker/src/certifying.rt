@@ -3,18 +3,20 @@
 ghost use Rattle.std.specs.Prelude.{◌≡◌, ◌<◌, ◌≤◌, ◌++◌, ◌∷◌, [], Contains, IfErr, IfOk, OnOk, true};
 ghost use Rattle.sy_wire.specs.declared.class.Class.{Class as AnyClass};
 ghost use Rattle.sy_cert.specs.declared.kinds.Kind.TheVariants as kinds;
-ghost use Rattle.sy_cert.specs.Rows.{IsRow, kind, last_kind, may_follow};
+ghost use Rattle.sy_cert.specs.Rows.{IsRow, IsVersion, kind, last_kind, may_follow};
 ghost use Rattle.sy_site.specs.Sites as sites;
 ghost use Rattle.sy_site.specs.machine.Soundness.{IsSound};
 ghost use Rattle.sy_checker.specs.Certifying as spec;
 ghost use Rattle.sy_checker.specs.Finding.{IsTrueRefusal};
 ghost use Rattle.sy_checker.specs.declared.finding.Refusal.TheVariants as refusal;
-ghost use Rattle.sy_checker.specs.Fit.{AreFit, IsFit};
+ghost use Rattle.sy_checker.specs.Fit.{AreFit, IsFit, IsFitFor};
+ghost use Rattle.sy_checker.specs.Flows.{AreFirm};
 ghost use Rattle.sy_checker.specs.Course.{AreClean, AreCourses, IsCourse};
 
 use crate::classes::protected_classes;
 use crate::course::{Course, course_for};
 use crate::finding::Refusal;
+use crate::firm::{SiteFirm, firm_of};
 use crate::laws::fit_is_sound;
 use crate::making::{parts_join, rows_for};
 use crate::wanted::wanted_rows;
@@ -38,7 +40,8 @@ pub(crate) fn rows_of_class(
     ensures ok { IfOk result (λ rows. spec.AreRowsOf site.now class rows.items) }
     ensures err { IfErr result (λ why. IsTrueRefusal site.now why) }
 {
-    let part = wanted_rows(alloc, site, class, course.found.inputs.as_slice())?;
+    let (firm, every) = (course.found.inputs.as_slice(), course.every.as_slice());
+    let part = wanted_rows(alloc, site, class, firm, every)?;
     let rows = rows_for(
         alloc,
         site,
@@ -63,16 +66,18 @@ fn put_class(
     alloc: Global,
     site: &Site,
     class: Class,
+    firm: &SiteFirm,
     courses: &mut Vec<Course>,
     rows: &mut Vec<Row>,
 ) -> Result<(), Refusal>
     requires protected { sites.is_protected site.now class ≡ true }
+    requires firm { AreFirm site.now firm.now }
     requires courses { AreCourses site.now courses.old.items }
     ensures courses { OnOk result (AreCourses site.now courses.new.items) }
     ensures rows { OnOk result (spec.AddsRowsOf site.now class rows.old.items rows.new.items) }
     ensures err { IfErr result (λ why. IsTrueRefusal site.now why) }
 {
-    let place = course_for(alloc, site, class, courses)?;
+    let place = course_for(alloc, site, class, firm, courses)?;
     let more = rows_of_class(alloc, site, class, &courses[place])?;
     put_all(rows, more)?;
     Ok(())
@@ -86,10 +91,11 @@ fn rows_of_classes(alloc: Global, site: &Site, classes: &[Class]) -> Result<Vec<
     ensures err { IfErr result (λ why. IsTrueRefusal site.now why) }
 {
     parts_join();
+    let firm = firm_of(alloc, site)?;
     let mut rows = Vec::new(alloc);
     let mut courses = Vec::new(alloc);
     for class in classes {
-        put_class(alloc, site, *class, &mut courses, &mut rows)?;
+        put_class(alloc, site, *class, &firm, &mut courses, &mut rows)?;
     }
     Ok(rows)
 }
@@ -130,7 +136,7 @@ fn in_range(row: &Row)
 {
     match row {
         Row::Class(class) => class_in_range(*class),
-        Row::Reach { port, .. } => port_in_range(*port),
+        Row::Reach { port, .. } | Row::Branch { port, .. } => port_in_range(*port),
         Row::Rank { rank, .. } => rank_in_range(*rank),
         Row::Path { port, .. } => port_in_range(*port),
     }
@@ -138,20 +144,23 @@ fn in_range(row: &Row)
 
 // Puts a row behind the others, which has its shape as its numbers are in range.
 fn put_row(certificate: &mut Certificate, row: Row) -> Result<(), AllocError>
-    requires shape { spec.IsInRange row → IsRow row }
+    requires shape { spec.IsInRange row → IsRow certificate.old.version row }
     requires place { may_follow (last_kind certificate.old.rows) (kind row) ≡ true }
-    ensures { OnOk result (certificate.new.rows ≡ certificate.old.rows ++ row ∷ []) }
+    ensures version { OnOk result (certificate.new.version ≡ certificate.old.version) }
+    ensures rows { OnOk result (certificate.new.rows ≡ certificate.old.rows ++ row ∷ []) }
 {
     in_range(&row);
     certificate.push(row)
 }
 
-// The certificate with these rows.
-fn certificate_of(alloc: Global, rows: Vec<Row>) -> Result<Certificate, AllocError>
-    requires shaped { spec.AreShaped kinds.Cert rows.items }
-    ensures { IfOk result (λ certificate. certificate.rows ≡ rows.items) }
+// The certificate of a version with these rows.
+fn certificate_of(alloc: Global, version: u32, rows: Vec<Row>) -> Result<Certificate, AllocError>
+    requires version { IsVersion version }
+    requires shaped { spec.AreShaped version kinds.Cert rows.items }
+    ensures version { IfOk result (λ certificate. certificate.version ≡ version) }
+    ensures rows { IfOk result (λ certificate. certificate.rows ≡ rows.items) }
 {
-    let mut certificate = Certificate::new(alloc, 1);
+    let mut certificate = Certificate::new(alloc, version);
     for row in rows {
         put_row(&mut certificate, row)?;
     }
@@ -160,22 +169,22 @@ fn certificate_of(alloc: Global, rows: Vec<Row>) -> Result<Certificate, AllocErr
 
 // The certificate of a site. Some texts describe it, so its names are those of a certificate.
 fn fit_certificate(alloc: Global, site: &Site) -> Result<Certificate, Refusal>
-    ensures ok { IfOk result (λ certificate. IsFit site.now certificate.rows) }
+    ensures ok { IfOk result (λ certificate. IsFitFor site.now certificate) }
     ensures err { IfErr result (λ why. IsTrueRefusal site.now why) }
 {
     site.is_lawful();
     site.is_described();
     archives_are_those_named();
     let rows = fit_rows(alloc, site)?;
-    let certificate = certificate_of(alloc, rows)?;
+    let certificate = certificate_of(alloc, site.policy(), rows)?;
     Ok(certificate)
 }
 
 /// A certificate that is fit for a site; or what is found of the first protected class of which something is: first at
-/// the inputs that it reaches, then a loop, then an archive that an entry doesn't lead to. A sound site is refused for
+/// the inputs that it reaches without spare occurrences, then a loop, then an archive that an entry doesn't lead to. A sound site is refused for
 /// want of memory alone.
 pub fn certify(alloc: Global, site: &Site) -> Result<Certificate, Refusal>
-    ensures fit { IfOk result (λ certificate. IsFit site.now certificate.rows) }
+    ensures fit { IfOk result (λ certificate. IsFitFor site.now certificate) }
     ensures found { IfErr result (λ why. IsTrueRefusal site.now why) }
     ensures only { IfErr result (λ why. IsSound site.now → why ≡ refusal.NoMemory) }
     ensures sound { OnOk result (IsSound site.now) }

@@ -16,6 +16,7 @@ ghost use Rattle.sy_checker.specs.Checking as spec;
 ghost use Rattle.sy_checker.specs.Finding.{IsTrueRefusal};
 ghost use Rattle.sy_checker.specs.Course.{AreClean, AreCourses, IsCourse, IsCourseAt};
 ghost use Rattle.sy_checker.specs.Met.{AreMet};
+ghost use Rattle.sy_checker.specs.Flows.{AreFirm};
 ghost use Rattle.sy_checker.specs.declared.finding.Refusal.TheVariants as refusal;
 
 use crate::accepted::{Accepted, put_pairs};
@@ -23,6 +24,7 @@ use crate::certifying::rows_of_class;
 use crate::classes::protected_classes;
 use crate::course::{Course, course_for};
 use crate::finding::Refusal;
+use crate::firm::{SiteFirm, firm_of};
 use crate::laws::claims_of_sound_sites;
 use crate::met::{Met, are_met, put_met};
 use crate::verifying::{Judged, judge};
@@ -55,8 +57,8 @@ fn judge_made(
     requires rows { AreRowsOf site.now class rows.now }
     ensures { OnOk result (IsSoundFor site.now class) }
 {
-    let reached = course.found.inputs.as_slice();
-    match judge(alloc, site, class, &course.flows, reached, rows)? {
+    let (firm, every) = (course.found.inputs.as_slice(), course.every.as_slice());
+    match judge(alloc, site, class, &course.flows, firm, every, rows)? {
         Judged::Right(_) => Ok(()),
         Judged::Wrong(_, _) => unreachable!(),
     }
@@ -103,7 +105,8 @@ fn check_archives(
     Ok(())
 }
 
-// Puts each input that a class with this course reaches with it behind the pairs of the classes before.
+// Puts each input that a class with this course reaches without spare occurrences with it behind the pairs of the classes
+// before.
 fn put_reached(
     pairs: &mut Vec<(SiteInput, Class)>,
     site: &Site,
@@ -126,11 +129,13 @@ fn check_class(
     alloc: Global,
     site: &Site,
     class: Class,
+    firm: &SiteFirm,
     courses: &mut Vec<Course>,
     met: &mut Vec<Met>,
     pairs: &mut Vec<(SiteInput, Class)>,
 ) -> Result<(), Refusal>
     requires protected { sites.is_protected site.now class ≡ true }
+    requires firm { AreFirm site.now firm.now }
     requires courses { AreCourses site.now courses.old.items }
     requires met { AreMet site.now courses.old.items met.old.items }
     ensures courses { OnOk result (AreCourses site.now courses.new.items) }
@@ -140,7 +145,7 @@ fn check_class(
         → AreReached site.now (before ++ class ∷ []) pairs.new.items) }
     ensures err { IfErr result (λ why. IsTrueRefusal site.now why) }
 {
-    let place = course_for(alloc, site, class, courses)?;
+    let place = course_for(alloc, site, class, firm, courses)?;
     check_archives(alloc, site, class, courses.as_slice(), place, met)?;
     put_reached(pairs, site, class, &courses[place])?;
     Ok(())
@@ -159,11 +164,12 @@ fn check_classes(
     ensures pairs { IfOk result (λ pairs. AreReached site.now classes.now pairs.items) }
     ensures err { IfErr result (λ why. IsTrueRefusal site.now why) }
 {
+    let firm = firm_of(alloc, site)?;
     let mut pairs = Vec::new(alloc);
     let mut courses = Vec::new(alloc);
     let mut met = Vec::new(alloc);
     for class in classes {
-        check_class(alloc, site, *class, &mut courses, &mut met, &mut pairs)?;
+        check_class(alloc, site, *class, &firm, &mut courses, &mut met, &mut pairs)?;
     }
     Ok(pairs)
 }
@@ -182,7 +188,8 @@ fn accepted(alloc: Global, site: &Site) -> Result<Accepted, Refusal>
 
 /// What is kept of a site whose certificate's rows are made and then judged, class by class, but for classes of which
 /// they would say the same again; or what is found in it, as making the certificate finds it. Where it is accepted, no
-/// message of a protected class is lost in any run of the site; a sound site is refused for want of memory alone.
+/// message of a protected class is lost in any run of the site, but at or after a spare action; a sound site is refused
+/// for want of memory alone.
 pub fn check_site(alloc: Global, site: &Site) -> Result<Accepted, Refusal>
     ensures kept { IfOk result (λ accepted. IsOf site.now accepted) }
     ensures sound { OnOk result (IsSound site.now) }
@@ -205,7 +212,8 @@ pub fn check_site(alloc: Global, site: &Site) -> Result<Accepted, Refusal>
 }
 
 /// Accepts the texts of a site, its file and those of its relays, where it is sound; of two files of one name the
-/// first counts. Where they are accepted, no message of a protected class is lost in any run of the site.
+/// first counts. Where they are accepted, no message of a protected class is lost in any run of the site, but at or after
+/// a spare action.
 ///
 /// Refuses texts with a fault, as reading them does, and else a site for what is found in it, as `check_site` does.
 /// Texts of a sound site are refused for want of memory alone.

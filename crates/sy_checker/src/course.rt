@@ -1,24 +1,27 @@
-//! The course of a class through a site, which classes share whose flows are the same at each input.
+//! The course of a class through a site, which classes share that execute the same of each list.
 
 ghost use Rattle.std.specs.Prelude.{◌≡◌, ◌↔◌, ◌++◌, ◌∷◌, [], Contains, Decides, IfErr, IfNone, IfOk, IfSome, OnOk, length, true};
 ghost use Rattle.sy_site.specs.Sites as sites;
 ghost use Rattle.sy_site.specs.declared.site.SiteInput.{SiteInput as AnyInput};
+ghost use Rattle.sy_board.specs.relay.Spares.{Scope};
 ghost use Rattle.sy_site.specs.machine.Reach.{Reach};
 ghost use Rattle.sy_site.specs.machine.Soundness.{AreRanks};
 ghost use Rattle.sy_checker.specs.Course as spec;
 ghost use Rattle.sy_checker.specs.Finding.{IsTrueRefusal};
-ghost use Rattle.sy_checker.specs.Flows.{AreFlows};
+ghost use Rattle.sy_checker.specs.Flows.{AreFirm, AreSiteFlows};
+ghost use Rattle.sy_checker.specs.Hops.{AreFlows};
 ghost use Rattle.sy_checker.specs.Loops.{HasNoRanks, rank_at};
 
 use crate::finding::Refusal;
-use crate::flows::{ClassFlows, flows_of};
+use crate::firm::SiteFirm;
+use crate::flows::{ClassFlows, ListFlows, SiteFlows, flows_of};
+use crate::hops::class_flows;
 use crate::lead::leads_of;
 use crate::looped::looped;
 use crate::loops::{Unranked, ranks_of};
-use crate::reach::{Found, reached};
+use crate::reach::{Found, reached, reached_by_every};
 use crate::search::searched;
 use std::alloc::{AllocError, Global};
-use sy_classes::Flows;
 use sy_site::{Site, SiteInput};
 use sy_wire::Class;
 
@@ -26,22 +29,24 @@ use sy_wire::Class;
 #[derive(Drop)]
 pub struct Course {
     pub flows: ClassFlows,
-    /// the inputs that its messages reach
+    /// the inputs that its messages reach without spare occurrences
     pub found: Found,
+    /// those that they reach by spare occurrences too
+    pub every: Vec<SiteInput>,
     /// a rank for each relay
     pub ranks: Vec<u32>,
-    /// what forwards lead to that its messages must run, from each entry
+    /// what forwards lead to that its messages must run and that aren't spare, from each entry
     pub leads: Vec<Found>,
 }
 
-fn is_same(one: Flows, other: Flows) -> bool
+fn is_same(one: ListFlows, other: ListFlows) -> bool
     ensures { Decides result (one ≡ other) }
 {
-    one.may == other.may && one.must == other.must
+    one.every == other.every && (one.firm == other.firm && one.must == other.must)
 }
 
-// Whether the flows at each input of a relay are the same.
-fn same_inputs(one: &[Flows], other: &[Flows]) -> bool
+// Whether the flows of each list of a relay are the same.
+fn same_lists(one: &[ListFlows], other: &[ListFlows]) -> bool
     ensures { Decides result (one.now ≡ other.now) }
 {
     if one.len() != other.len() {
@@ -56,15 +61,15 @@ fn same_inputs(one: &[Flows], other: &[Flows]) -> bool
 }
 
 // Whether they are at each relay.
-fn same_flows(one: &ClassFlows, other: &ClassFlows) -> bool
+fn same_flows(one: &SiteFlows, other: &SiteFlows) -> bool
     ensures { Decides result (spec.AreSame one.now other.now) }
 {
     if one.relays.len() != other.relays.len() {
         return false;
     }
     for relay in 0..one.relays.len() {
-        let (here, there) = (&one.relays[relay].inputs, &other.relays[relay].inputs);
-        if !same_inputs(here.as_slice(), there.as_slice()) {
+        let (here, there) = (&one.relays[relay].lists, &other.relays[relay].lists);
+        if !same_lists(here.as_slice(), there.as_slice()) {
             return false;
         }
     }
@@ -96,7 +101,7 @@ fn ranks_for(
 ) -> Result<Vec<u32>, Refusal>
     requires protected { sites.is_protected site.now class ≡ true }
     requires flows { AreFlows site.now class flows.now }
-    requires reached { (x : AnyInput) → Contains reached.now x ↔ Reach site.now class x }
+    requires reached { (x : AnyInput) → Contains reached.now x ↔ Reach site.now class Scope.Every x }
     ensures ranks { IfOk result (λ ranks. AreRanks site.now class (rank_at ranks.items)) }
     ensures many { IfOk result (λ ranks. length ranks.items ≡ length site.now.relays) }
     ensures err { IfErr result (λ why. IsTrueRefusal site.now why) }
@@ -112,33 +117,36 @@ fn new_course(
     alloc: Global,
     site: &Site,
     class: Class,
-    flows: ClassFlows,
+    lists: SiteFlows,
 ) -> Result<Course, Refusal>
     requires protected { sites.is_protected site.now class ≡ true }
-    requires flows { AreFlows site.now class flows }
+    requires lists { AreSiteFlows site.now class lists }
     ensures ok { IfOk result (λ course. spec.IsCourse site.now class course) }
     ensures clean { OnOk result (spec.AreClean site.now class) }
     ensures err { IfErr result (λ why. IsTrueRefusal site.now why) }
 {
+    let flows = class_flows(alloc, site, class, lists)?;
     let found = reached(alloc, site, class, &flows)?;
     searched(alloc, site, class, &flows, &found)?;
-    let ranks = ranks_for(alloc, site, class, &flows, found.inputs.as_slice())?;
+    let every = reached_by_every(alloc, site, class, &flows, found.inputs.as_slice())?;
+    let ranks = ranks_for(alloc, site, class, &flows, every.as_slice())?;
     let leads = leads_of(alloc, site, class, &flows)?;
     Ok(Course {
         flows,
         found,
+        every,
         ranks,
         leads,
     })
 }
 
 // The first of these courses that has these flows, by its place.
-fn same_at(courses: &[Course], flows: &ClassFlows) -> Option<usize>
+fn same_at(courses: &[Course], flows: &SiteFlows) -> Option<usize>
     ensures some { IfSome result (λ place. spec.IsSameAt courses.now flows.now place) }
     ensures none { IfNone result (spec.IsNew courses.now flows.now) }
 {
     for place in 0..courses.len() {
-        if same_flows(&courses[place].flows, flows) {
+        if same_flows(&courses[place].flows.lists, flows) {
             return Some(place);
         }
     }
@@ -179,11 +187,11 @@ fn more_course(
     alloc: Global,
     site: &Site,
     class: Class,
-    flows: ClassFlows,
+    lists: SiteFlows,
     courses: &mut Vec<Course>,
 ) -> Result<usize, Refusal>
     requires protected { sites.is_protected site.now class ≡ true }
-    requires flows { AreFlows site.now class flows }
+    requires lists { AreSiteFlows site.now class lists }
     requires courses { spec.AreCourses site.now courses.old.items }
     ensures courses { OnOk result (spec.AreCourses site.now courses.new.items) }
     ensures kept { OnOk result (spec.AreKept site.now courses.old.items courses.new.items) }
@@ -191,7 +199,7 @@ fn more_course(
     ensures clean { OnOk result (spec.AreClean site.now class) }
     ensures err { IfErr result (λ why. IsTrueRefusal site.now why) }
 {
-    let course = new_course(alloc, site, class, flows)?;
+    let course = new_course(alloc, site, class, lists)?;
     let place = put_course(courses, course)?;
     Ok(place)
 }
@@ -202,9 +210,11 @@ pub fn course_for(
     alloc: Global,
     site: &Site,
     class: Class,
+    firm: &SiteFirm,
     courses: &mut Vec<Course>,
 ) -> Result<usize, Refusal>
     requires protected { sites.is_protected site.now class ≡ true }
+    requires firm { AreFirm site.now firm.now }
     requires courses { spec.AreCourses site.now courses.old.items }
     ensures courses { OnOk result (spec.AreCourses site.now courses.new.items) }
     ensures kept { OnOk result (spec.AreKept site.now courses.old.items courses.new.items) }
@@ -213,9 +223,9 @@ pub fn course_for(
     ensures err { IfErr result (λ why. IsTrueRefusal site.now why) }
 {
     site.is_lawful();
-    let flows = flows_of(alloc, site, class)?;
-    match same_at(courses.as_slice(), &flows) {
+    let lists = flows_of(alloc, site, class, firm)?;
+    match same_at(courses.as_slice(), &lists) {
         Some(place) => same_course(alloc, site, class, courses.as_slice(), place),
-        None => more_course(alloc, site, class, flows, courses),
+        None => more_course(alloc, site, class, lists, courses),
     }
 }

@@ -1,85 +1,193 @@
-//! What messages of a class may and must execute at each input of a site, worked out once for each class.
+//! What messages of a class execute of each list of a site, worked out once for each class.
 
-ghost use Rattle.std.specs.Prelude.{◌≡◌, ◌<◌, ◌==◌, ℕ, IfOk, Some, length, slice_get};
-ghost use Rattle.std.specs.List.{position};
-ghost use Rattle.sy_board.specs.relay.Plans.{input_at};
-ghost use Rattle.sy_classes.specs.declared.Flows.{Flows as AnyFlows};
+ghost use Rattle.std.specs.Prelude.{◌≡◌, ◌<◌, ◌==◌, true, IfOk, length};
+ghost use Rattle.std.specs.List.{list_any};
+ghost use Rattle.sy_site.specs.Sites.{plan_at};
 ghost use Rattle.sy_checker.specs.Flows as spec;
 
+use crate::executed::Executed;
+use crate::firm::SiteFirm;
 use std::alloc::{AllocError, Global};
-use sy_classes::{Flows, flow_of};
+use sy_classes::flow_of;
 use sy_rules::laws::plans_are_whole;
 use sy_rules::{Input, Plan};
-use sy_site::Site;
+use sy_site::{Site, SiteInput};
 use sy_wire::Class;
 
-/// Of each input of a relay what messages of a class may and must execute of its list.
+/// Sets of occurrences of a list.
+#[derive(Clone, Copy)]
+pub struct ListFlows {
+    /// those that messages of a class may execute
+    pub every: u64,
+    /// those of them that aren't spare
+    pub firm: u64,
+    /// those that they must execute, and that aren't spare
+    pub must: u64,
+}
+
+/// The sets of each list of a relay.
 #[derive(Drop)]
 pub struct RelayFlows {
-    pub inputs: Vec<Flows>,
+    pub lists: Vec<ListFlows>,
 }
 
 /// The same of each relay of a site.
 #[derive(Drop)]
-pub struct ClassFlows {
+pub struct SiteFlows {
     pub relays: Vec<RelayFlows>,
 }
 
-// The first of inputs with a list, by its place.
-fn first_with(inputs: &[Input], list: u32) -> Option<usize>
-    ensures { result ≡ position (λ i. i.list == list) inputs.now }
-{
-    inputs.iter().position(|i| i.list == list)
+/// An occurrence of a list, and an input that it leads messages to.
+#[derive(Clone, Copy)]
+pub struct Hop {
+    pub number: u32,
+    pub to: SiteInput,
 }
 
-// What is executed of the list of an input: what was found of the first input with that list, where it is among those
-// that are done.
-fn flow_for(plan: &Plan, class: Class, done: &[Flows], list: u32) -> Flows
+/// Where the occurrences of a list lead, by rising occurrences; of those that lead to one input the first alone.
+#[derive(Drop)]
+pub struct ListHops {
+    pub hops: Vec<Hop>,
+}
+
+/// The same of each list of a relay that an input has.
+#[derive(Drop)]
+pub struct RelayHops {
+    pub lists: Vec<ListHops>,
+}
+
+/// The same of each relay of a site.
+#[derive(Drop)]
+pub struct SiteHops {
+    pub relays: Vec<RelayHops>,
+}
+
+/// What a class executes of each list, and where that leads: by every occurrence, and by those that aren't spare.
+#[derive(Drop)]
+pub struct ClassFlows {
+    pub lists: SiteFlows,
+    pub every: SiteHops,
+    pub firm: SiteHops,
+}
+
+/// Whether an input has a list.
+pub fn is_input_list(inputs: &[Input], list: u32) -> bool
+    ensures { result ≡ list_any (λ i. i.list == list) inputs.now }
+{
+    inputs.iter().any(|i| i.list == list)
+}
+
+// Whether messages may come to a list: a queue leads to it, or an input has it.
+fn is_used(plan: &Plan, list: u32) -> bool
     requires there { list < length plan.now.lists }
-    requires done { (place : ℕ) (flow : AnyFlows) → slice_get done.now place ≡ Some flow
-        → spec.IsFlow plan.now class (input_at plan.now place).list flow }
-    ensures { spec.IsFlow plan.now class list result }
+    ensures { result ≡ spec.is_used plan.now list }
 {
-    match first_with(plan.inputs(), list) {
-        Some(place) => match done.get(place) {
-            Some(flow) => *flow,
-            None => flow_of(plan, list, class),
-        },
-        None => flow_of(plan, list, class),
+    if plan.list_queue(list).is_some() {
+        return true;
+    }
+    is_input_list(plan.inputs(), list)
+}
+
+// What a class executes of a list, of which these occurrences aren't spare.
+fn list_flows(site: &Site, class: Class, relay: u32, firm: u64, list: u32) -> ListFlows
+    requires relay { relay < length site.now.relays }
+    requires there { list < length (plan_at site.now relay).lists }
+    requires firm { spec.IsFirm site.now relay list firm }
+    ensures { spec.IsFlow site.now class relay list result }
+{
+    let flow = flow_of(site.plan(relay), list, class);
+    ListFlows {
+        every: flow.may,
+        firm: flow.may & firm,
+        must: flow.must & firm,
     }
 }
 
-// The list of an input, by the input's place.
-fn list_at(plan: &Plan, place: usize) -> u32
-    requires there { place < length plan.now.inputs }
-    ensures list { result ≡ (input_at plan.now place).list }
-    ensures there { result < length plan.now.lists }
+// The same where messages may come to the list.
+fn used_flows(site: &Site, class: Class, relay: u32, firm: u64, list: u32) -> ListFlows
+    requires relay { relay < length site.now.relays }
+    requires there { list < length (plan_at site.now relay).lists }
+    requires firm { spec.IsFirm site.now relay list firm }
+    ensures { spec.is_used (plan_at site.now relay) list ≡ true → spec.IsFlow site.now class relay list result }
 {
-    plans_are_whole(plan);
-    plan.inputs()[place].list
-}
-
-fn relay_flows(alloc: Global, plan: &Plan, class: Class) -> Result<RelayFlows, AllocError>
-    ensures { IfOk result (λ flows. spec.AreRelayFlows plan.now class flows) }
-{
-    let many = plan.inputs().len();
-    let mut inputs = Vec::with_capacity(alloc, many)?;
-    for place in 0..many {
-        let list = list_at(plan, place);
-        let flow = flow_for(plan, class, inputs.as_slice(), list);
-        inputs.push(flow)?;
+    if !is_used(site.plan(relay), list) {
+        return ListFlows {
+            every: 0,
+            firm: 0,
+            must: 0,
+        };
     }
-    Ok(RelayFlows { inputs })
+    list_flows(site, class, relay, firm, list)
 }
 
-/// What messages of a class may and must execute.
-pub fn flows_of(alloc: Global, site: &Site, class: Class) -> Result<ClassFlows, AllocError>
-    ensures { IfOk result (λ flows. spec.AreFlows site.now class flows) }
+fn relay_flows(
+    alloc: Global,
+    site: &Site,
+    class: Class,
+    relay: u32,
+    firm: &[u64],
+) -> Result<RelayFlows, AllocError>
+    requires relay { relay < length site.now.relays }
+    requires firm { spec.AreEach (spec.IsFirm site.now relay) (length (plan_at site.now relay).lists) firm.now }
+    ensures { IfOk result (λ flows. spec.AreRelayFlows site.now class relay flows) }
+{
+    plans_are_whole(site.plan(relay));
+    let many = site.plan(relay).list_names().len() as u32;
+    let mut lists = Vec::with_capacity(alloc, many as usize)?;
+    for list in 0..many {
+        let flows = used_flows(site, class, relay, firm[list as usize], list);
+        lists.push(flows)?;
+    }
+    Ok(RelayFlows { lists })
+}
+
+/// What messages of a class execute, of whose occurrences these aren't spare.
+pub fn flows_of(
+    alloc: Global,
+    site: &Site,
+    class: Class,
+    firm: &SiteFirm,
+) -> Result<SiteFlows, AllocError>
+    requires firm { spec.AreFirm site.now firm.now }
+    ensures { IfOk result (λ flows. spec.AreSiteFlows site.now class flows) }
 {
     let mut relays = Vec::with_capacity(alloc, site.relays() as usize)?;
     for relay in 0..site.relays() {
-        let flows = relay_flows(alloc, site.plan(relay), class)?;
+        let sets = firm.relays[relay as usize].lists.as_slice();
+        let flows = relay_flows(alloc, site, class, relay, sets)?;
         relays.push(flows)?;
     }
-    Ok(ClassFlows { relays })
+    Ok(SiteFlows { relays })
+}
+
+/// The set of occurrences that are executed so.
+pub fn set_of(flows: ListFlows, which: Executed) -> u64
+    ensures { result ≡ spec.set_of flows which }
+{
+    match which {
+        Executed::Every => flows.every,
+        Executed::Firm => flows.firm,
+        Executed::Must => flows.must,
+    }
+}
+
+/// What is executed of a list that messages may come to.
+pub fn set_at(
+    site: &Site,
+    class: Class,
+    flows: &SiteFlows,
+    which: Executed,
+    relay: u32,
+    list: u32,
+) -> u64
+    requires relay { relay < length site.now.relays }
+    requires there { list < length (plan_at site.now relay).lists }
+    requires used { spec.is_used (plan_at site.now relay) list ≡ true }
+    requires flows { spec.AreSiteFlows site.now class flows.now }
+    ensures { spec.IsSet site.now class which relay list result }
+{
+    let _ = site;
+    let _ = class;
+    let relay = &flows.relays[relay as usize];
+    set_of(relay.lists[list as usize], which)
 }

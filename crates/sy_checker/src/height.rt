@@ -1,12 +1,13 @@
-//! The rank that an input asks for: one more than the greatest of the relays that it forwards messages of a class to.
+//! The rank that an input asks for: one more than the greatest of the relays that messages of a class reach from there.
 
 ghost use Rattle.std.specs.Prelude.{◌≡◌, ◌<◌, ℕ, set, max, length};
 ghost use Rattle.sy_site.specs.machine.Lawful.{IsInput};
 ghost use Rattle.sy_checker.specs.Loops as spec;
-ghost use Rattle.sy_checker.specs.Flows.{AreFlows};
+ghost use Rattle.sy_checker.specs.Hops.{AreFlows};
 
-use crate::flows::ClassFlows;
-use crate::inputs::{forward_at, has, may_at, next_in};
+use crate::executed::Executed;
+use crate::flows::{ClassFlows, Hop};
+use crate::hops::hops_at;
 use sy_site::{Site, SiteInput};
 use sy_wire::Class;
 
@@ -20,20 +21,19 @@ fn rank_of(ranks: &[u32], relay: u32) -> u32
     }
 }
 
-// What an occurrence of a set asks for.
-fn height_by(site: &Site, ranks: &[u32], from: SiteInput, set: u64, number: u32) -> u32
-    requires there { IsInput site.now from }
-    requires member { number < 64 }
+// What hops ask for.
+fn height_of(ranks: &[u32], hops: &[Hop]) -> u32
     requires small { (relay : ℕ) → spec.rank_at ranks.now relay < 4294967295 }
-    ensures { spec.IsHeightBy site.now ranks.now set from number result }
+    ensures { spec.IsHeightOf ranks.now hops.now result }
 {
-    if !has(set, number) {
-        return 0;
+    let mut most = 0;
+    for hop in hops {
+        let next = rank_of(ranks, hop.to.relay) + 1;
+        if most < next {
+            most = next;
+        }
     }
-    match forward_at(site, from, number) {
-        Some(to) => rank_of(ranks, to.relay) + 1,
-        None => 0,
-    }
+    most
 }
 
 /// The rank that an input asks for.
@@ -43,17 +43,10 @@ pub fn height(site: &Site, class: Class, flows: &ClassFlows, ranks: &[u32], from
     requires flows { AreFlows site.now class flows.now }
     ensures { spec.IsHeight site.now class ranks.now from result }
 {
-    let may = may_at(site, class, flows, from);
-    let mut most = 0;
-    let mut behind = 0;
-    while let Some(number) = next_in(may, behind) {
-        let next = height_by(site, ranks, from, may, number);
-        if most < next {
-            most = next;
-        }
-        behind = number + 1;
-    }
-    most
+    height_of(
+        ranks,
+        hops_at(site, class, &flows.every, Executed::Every, from),
+    )
 }
 
 /// Raises the rank of a relay to a height, where it is lower.

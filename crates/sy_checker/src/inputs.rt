@@ -1,17 +1,17 @@
-//! What an input of a site has: its part of the plan, the occurrences of its list, and where these lead.
+//! What an input of a site has: its part of the plan, the occurrences of its list, and which of these are executed.
 
 ghost use Rattle.std.specs.Prelude.{◌≡◌, ◌<◌, length, Decides, IfNone, IfSome};
 ghost use Rattle.std.specs.Int.{bit_at};
 ghost use Rattle.sy_board.specs.relay.Plans as plans;
-ghost use Rattle.sy_rules.specs.lists.Sets.{Bits};
 ghost use Rattle.sy_site.specs.Sites.{plan_at};
 ghost use Rattle.sy_site.specs.machine.Lawful.{IsInput};
-ghost use Rattle.sy_site.specs.machine.Reach.{MayAt, MustAt, list_of};
+ghost use Rattle.sy_site.specs.machine.Reach.{list_of};
+ghost use Rattle.sy_checker.specs.Flows.{IsSet};
+ghost use Rattle.sy_checker.specs.Hops.{AreFlows};
 ghost use Rattle.sy_checker.specs.Internal as spec;
-ghost use Rattle.sy_checker.specs.Flows.{AreFlows};
 
-use crate::flows::ClassFlows;
-use sy_classes::Flows;
+use crate::executed::Executed;
+use crate::flows::{ClassFlows, set_at};
 use sy_rules::laws::plans_are_whole;
 use sy_rules::{Input, Occurrence};
 use sy_site::{Site, SiteInput};
@@ -58,33 +58,20 @@ pub fn list_at(site: &Site, input: SiteInput) -> u32
     input_at(site, input).list
 }
 
-// What is kept of an input.
-fn flow_at(site: &Site, class: Class, flows: &ClassFlows, input: SiteInput) -> Flows
+/// What messages of a class execute of its list.
+pub fn executed_at(
+    site: &Site,
+    class: Class,
+    flows: &ClassFlows,
+    which: Executed,
+    input: SiteInput,
+) -> u64
     requires there { IsInput site.now input }
     requires flows { AreFlows site.now class flows.now }
-    ensures may { Bits (MayAt site.now class input) result.may }
-    ensures must { Bits (MustAt site.now class input) result.must }
+    ensures { IsSet site.now class which input.relay (list_of site.now input) result }
 {
-    let relay = &flows.relays[input.relay as usize];
-    relay.inputs[input.input as usize]
-}
-
-/// What messages of a class may execute at an input.
-pub fn may_at(site: &Site, class: Class, flows: &ClassFlows, input: SiteInput) -> u64
-    requires there { IsInput site.now input }
-    requires flows { AreFlows site.now class flows.now }
-    ensures { Bits (MayAt site.now class input) result }
-{
-    flow_at(site, class, flows, input).may
-}
-
-/// What they must execute.
-pub fn must_at(site: &Site, class: Class, flows: &ClassFlows, input: SiteInput) -> u64
-    requires there { IsInput site.now input }
-    requires flows { AreFlows site.now class flows.now }
-    ensures { Bits (MustAt site.now class input) result }
-{
-    flow_at(site, class, flows, input).must
+    let list = list_at(site, input);
+    set_at(site, class, &flows.lists, which, input.relay, list)
 }
 
 /// The occurrences of its list.
@@ -95,7 +82,7 @@ pub fn occurrences_at(site: &Site, input: SiteInput) -> &[Occurrence]
     site.plan(input.relay).occurrences(list_at(site, input))
 }
 
-/// The input that an occurrence of its list leads to; none where that isn't a forward, or leads nowhere.
+/// The input that an occurrence leads to; none where that isn't a forward, or leads nowhere.
 pub fn forward_at(site: &Site, input: SiteInput, number: u32) -> Option<SiteInput>
     requires there { IsInput site.now input }
     ensures { result ≡ spec.forward_of site.now input number }

@@ -8,10 +8,11 @@ ghost use Rattle.sy_site.specs.machine.Findings.{HoldsAt, IsFedFreely, Kind, que
 ghost use Rattle.sy_site.specs.machine.Lawful.{IsInput};
 ghost use Rattle.sy_checker.specs.Fit.{IsClean};
 ghost use Rattle.sy_checker.specs.Risks as spec;
-ghost use Rattle.sy_checker.specs.Flows.{AreFlows};
+ghost use Rattle.sy_checker.specs.Hops.{AreFlows};
 
+use crate::executed::Executed;
 use crate::flows::ClassFlows;
-use crate::inputs::{has, input_at, may_at, next_in, occurrences_at};
+use crate::inputs::{executed_at, has, input_at, next_in, occurrences_at};
 use sy_rules::laws::plans_are_whole;
 use sy_rules::{Destination, FlowControl, Input, Occurrence, Plan, QueueParameters};
 use sy_site::{Site, SiteInput};
@@ -204,13 +205,13 @@ fn has_risk(site: &Site, input: SiteInput, set: u64, number: u32, risk: Risk) ->
     }
 }
 
-/// 5 InnerQueue, 6 GivesUp, 7 NoTarget: some occurrence that may be executed has the risk.
+/// 5 InnerQueue, 6 GivesUp, 7 NoTarget: some occurrence that may be executed, and isn't spare, has the risk.
 pub fn may_risk(site: &Site, class: Class, flows: &ClassFlows, input: SiteInput, risk: Risk) -> bool
     requires there { IsInput site.now input }
     requires flows { AreFlows site.now class flows.now }
     ensures { Decides result (HoldsAt site.now class input (spec.kind_of risk)) }
 {
-    let may = may_at(site, class, flows, input);
+    let may = executed_at(site, class, flows, Executed::Firm, input);
     let mut from = 0;
     while let Some(number) = next_in(may, from) {
         if has_risk(site, input, may, number, risk) {

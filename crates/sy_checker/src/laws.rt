@@ -12,7 +12,8 @@ ghost use Rattle.sy_site.specs.machine.States.{SiteState};
 ghost use Rattle.sy_site.specs.machine.Steps.{Runs, SiteEvent};
 ghost use Rattle.sy_wire.specs.declared.class.Class.{Class};
 ghost use Rattle.sy_checker.specs.Claims.{RanksStayFalling, StayConfined, StayWrittenOrHead};
-ghost use Rattle.sy_checker.specs.Fit.{AreWanted, IsFit, IsWrongIn};
+ghost use Rattle.sy_cert.specs.CertificateValue.{Certificate};
+ghost use Rattle.sy_checker.specs.Fit.{AreWanted, IsFit, IsFitFor, IsWrongFor, IsWrongIn};
 ghost use Rattle.sy_checker.specs.declared.wanted.RowKind.{RowKind};
 ghost use Rattle.sy_checker.specs.declared.wanted.Wanted.{Wanted};
 
@@ -57,10 +58,13 @@ pub fn sites_without_a_finding_are_sound()
         → IsFinding site class way input kind → ⊥) → IsSound site }
 {}
 
-/// Each lawful sound site has the rows of a fit certificate: so a lawful site is sound exactly where it has one
-/// (`fit_is_sound`). Nothing is said of the size of its ranks, which a text of a certificate bounds.
+/// Each lawful sound site has the rows of a fit certificate, and with its policy for the version one that is fit: so a
+/// lawful site is sound exactly where it has one (`fit_is_sound`). Nothing is said of the size of its ranks, which a text
+/// of a certificate bounds.
 pub fn sound_sites_have_fit_certificates()
-    ensures { (site : Site) → IsLawful site → IsSound site → (rows : List Row) × IsFit site rows }
+    ensures rows { (site : Site) → IsLawful site → IsSound site → (rows : List Row) × IsFit site rows }
+    ensures certificate { (site : Site) → IsLawful site → IsSound site
+        → (certificate : Certificate) × IsFitFor site certificate }
 {}
 
 /// One list of rows is wanted for a class of a site.
@@ -69,14 +73,20 @@ pub fn one_wanted()
         → AreWanted site class second → first ≡ second }
 {}
 
-/// No row of a fit certificate is wrong: so a certificate is fit, or its first wrong row is in some line, and never both.
+/// No row of a fit certificate is wrong, and not its first line: so a certificate is fit, or wrong in some line, and never
+/// both.
 pub fn fit_is_not_wrong()
-    ensures { (site : Site) (rows : List Row) (line : ℕ) (kind : RowKind) → IsFit site rows
+    ensures rows { (site : Site) (rows : List Row) (line : ℕ) (kind : RowKind) → IsFit site rows
         → IsWrongIn site rows line kind → ⊥ }
+    ensures certificate { (site : Site) (certificate : Certificate) (line : ℕ) (kind : RowKind)
+        → IsFitFor site certificate → IsWrongFor site certificate line kind → ⊥ }
 {}
 
-/// The first wrong row stands in one line at most, and is of one kind.
+/// The first wrong row stands in one line at most, and is of one kind; and so of a certificate, with its first line.
 pub fn one_wrong_row()
-    ensures { (site : Site) (rows : List Row) (line other : ℕ) (kind another : RowKind) → IsWrongIn site rows line kind
-        → IsWrongIn site rows other another → (line ≡ other) × (kind ≡ another) }
+    ensures rows { (site : Site) (rows : List Row) (line other : ℕ) (kind another : RowKind)
+        → IsWrongIn site rows line kind → IsWrongIn site rows other another → (line ≡ other) × (kind ≡ another) }
+    ensures certificate { (site : Site) (certificate : Certificate) (line other : ℕ) (kind another : RowKind)
+        → IsWrongFor site certificate line kind → IsWrongFor site certificate other another
+        → (line ≡ other) × (kind ≡ another) }
 {}

@@ -1,4 +1,4 @@
-//! Paths that are looked for: from an entry to an archive, by forwards that must be executed.
+//! Paths that are looked for: from an entry to an archive, by forwards that must be executed and aren't spare.
 
 ghost use Rattle.std.specs.List.{position};
 ghost use Rattle.std.specs.Prelude.{◌≡◌, ◌∷◌, [], Contains, IfOk, map};
@@ -8,11 +8,12 @@ ghost use Rattle.sy_checker.specs.declared.executed.Executed.TheVariants as exec
 ghost use Rattle.sy_checker.specs.Search.{IsSpread};
 ghost use Rattle.sy_checker.specs.Answer as spec;
 ghost use Rattle.sy_checker.specs.Internal.{same_input};
-ghost use Rattle.sy_checker.specs.Flows.{AreFlows};
+ghost use Rattle.sy_checker.specs.Hops.{AreFlows};
 
 use crate::executed::Executed;
 use crate::finding::WayRow;
 use crate::flows::ClassFlows;
+use crate::hops::site_hops;
 use crate::path::must_write;
 use crate::reach::{Found, spread};
 use crate::way::way_to;
@@ -79,7 +80,7 @@ fn lead_among(
     }
 }
 
-/// What forwards lead to that must be executed, from each entry.
+/// What forwards lead to that must be executed and aren't spare, from each entry.
 pub fn leads_of(
     alloc: Global,
     site: &Site,
@@ -90,10 +91,11 @@ pub fn leads_of(
     ensures { IfOk result (λ leads. spec.AreLeads site.now class leads.items) }
 {
     site.is_lawful();
+    let hops = site_hops(alloc, site, class, &flows.lists, Executed::Must)?;
     let mut leads = Vec::new(alloc);
     for entry in site.entries() {
         let start = [*entry];
-        let found = spread(alloc, site, class, flows, Executed::Must, &start)?;
+        let found = spread(alloc, site, class, &hops, Executed::Must, &start)?;
         leads.push(found)?;
     }
     Ok(leads)

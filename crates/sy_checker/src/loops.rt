@@ -1,20 +1,21 @@
-//! Ranks of the relays for a class, or a loop: a way on which a relay is met twice.
+//! Ranks of the relays for a class, or a loop: a way on which a relay is met twice, by spare occurrences too.
 
 ghost use Rattle.std.specs.Prelude.{◌≡◌, ◌<◌, ◌↔◌, ◌++◌, ◌∷◌, ◌==◌, [], ℕ, Contains, Decides, IfErr, IfOk, List, OnOk, length, max, set};
 ghost use Rattle.std.specs.List.{list_any};
-ghost use Rattle.sy_rules.specs.lists.Sets.{Bits};
 ghost use Rattle.sy_wire.specs.declared.class.Class.{Class as AnyClass};
 ghost use Rattle.sy_site.specs.declared.site.SiteInput.{SiteInput as AnyInput};
-ghost use Rattle.sy_site.specs.machine.Reach.{Forwards, MayAt, Reach};
+ghost use Rattle.sy_board.specs.relay.Spares.{Scope};
+ghost use Rattle.sy_site.specs.machine.Reach.{Reach};
 ghost use Rattle.sy_site.specs.machine.Soundness.{AreRanks};
 ghost use Rattle.sy_checker.specs.Loops as spec;
 ghost use Rattle.sy_checker.specs.declared.finding.WayRow.{WayRow as AnyRow};
-ghost use Rattle.sy_checker.specs.Flows.{AreFlows};
+ghost use Rattle.sy_checker.specs.Hops.{AreFlows};
 
+use crate::executed::Executed;
 use crate::finding::WayRow;
 use crate::flows::ClassFlows;
 use crate::height::{height, raise};
-use crate::inputs::{forward_at, has, may_at, next_in};
+use crate::hops::hops_at;
 use crate::reach::is_among;
 use std::alloc::{AllocError, Global};
 use sy_site::{Site, SiteInput};
@@ -52,7 +53,7 @@ impl From<AllocError> for Halt {
 struct Seen {
     // the way from an entry to where the search is
     way: Vec<WayRow>,
-    // inputs whose forwards were all followed
+    // inputs whose occurrences were all followed
     done: Vec<SiteInput>,
     // relays with each reached input done
     settled: Vec<u32>,
@@ -60,7 +61,7 @@ struct Seen {
     ranks: Vec<u32>,
 }
 
-// Whether a relay forwards on a way.
+// Whether a relay is on a way.
 fn is_on(way: &[WayRow], relay: u32) -> bool
     ensures { result ≡ list_any (λ row. relay == row.input.relay) way.now }
 {
@@ -112,8 +113,8 @@ fn is_settled(settled: &[u32], relay: u32) -> bool
     settled.contains(&relay)
 }
 
-// Follows the forwards of an input that may be executed, and then those of each input that they lead to, until a relay is
-// met that is on the way.
+// Follows the occurrences of an input, and then those of each input that they reach, until a relay is met that is on the
+// way.
 #[cycle(visit)]
 fn visit(
     site: &Site,
@@ -123,10 +124,10 @@ fn visit(
     seen: &mut Seen,
     from: SiteInput,
 ) -> Result<(), Halt>
-    requires reached { (x : AnyInput) → Contains reached.now x ↔ Reach site.now class x }
+    requires reached { (x : AnyInput) → Contains reached.now x ↔ Reach site.now class Scope.Every x }
     requires ranked { spec.AreRanked site.now class seen.old.done.items seen.old.settled.items seen.old.ranks.items }
     requires trail { spec.IsTrail site.now class (spec.way_of seen.old.way.items) from }
-    requires there { Reach site.now class from }
+    requires there { Reach site.now class Scope.Every from }
     requires flows { AreFlows site.now class flows.now }
     ensures way { OnOk result (seen.new.way.items ≡ seen.old.way.items) }
     ensures ranked { OnOk result
@@ -140,63 +141,21 @@ fn visit(
     if is_among(seen.done.as_slice(), from) {
         return Ok(());
     }
-    let may = may_at(site, class, flows, from);
-    let mut next = 0;
-    while let Some(number) = next_in(may, next) {
-        follow(site, class, flows, reached, seen, from, may, number)?;
-        next = number + 1;
+    for hop in hops_at(site, class, &flows.every, Executed::Every, from) {
+        let row = WayRow {
+            input: from,
+            number: hop.number,
+        };
+        go(site, class, flows, reached, seen, row, hop.to)?;
     }
     let height = height(site, class, flows, seen.ranks.as_slice(), from);
     settle(seen, from, height)?;
     Ok(())
 }
 
-// Follows an occurrence of what may be executed at an input.
+// Goes on by an occurrence of an input to another one that it reaches.
 #[cycle(visit)]
-fn follow(
-    site: &Site,
-    class: Class,
-    flows: &ClassFlows,
-    reached: &[SiteInput],
-    seen: &mut Seen,
-    from: SiteInput,
-    may: u64,
-    number: u32,
-) -> Result<(), Halt>
-    requires reached { (x : AnyInput) → Contains reached.now x ↔ Reach site.now class x }
-    requires ranked { spec.AreRanked site.now class seen.old.done.items seen.old.settled.items seen.old.ranks.items }
-    requires trail { spec.IsTrail site.now class (spec.way_of seen.old.way.items) from }
-    requires there { Reach site.now class from }
-    requires may { Bits (MayAt site.now class from) may }
-    requires small { number < 64 }
-    requires flows { AreFlows site.now class flows.now }
-    ensures way { OnOk result (seen.new.way.items ≡ seen.old.way.items) }
-    ensures ranked { OnOk result
-        (spec.AreRanked site.now class seen.new.done.items seen.new.settled.items seen.new.ranks.items) }
-    ensures more { OnOk result (spec.DoesMore (spec.IsMet (spec.way_of seen.old.way.items) from)
-        seen.old.done.items seen.new.done.items) }
-    ensures followed { OnOk result (spec.IsFollowed site.now class seen.new.done.items may from number) }
-    ensures halted { IfErr result (spec.IsHalted site.now class (spec.way_of seen.new.way.items)) }
-{
-    site.is_lawful();
-    if !has(may, number) {
-        return Ok(());
-    }
-    match forward_at(site, from, number) {
-        Some(to) => {
-            let row = WayRow {
-                input: from,
-                number,
-            };
-            forward(site, class, flows, reached, seen, row, to)
-        }
-        None => Ok(()),
-    }
-}
-
-// Goes on by a forward that may be executed.
-#[cycle(visit)]
-fn forward(
+fn go(
     site: &Site,
     class: Class,
     flows: &ClassFlows,
@@ -205,12 +164,11 @@ fn forward(
     row: WayRow,
     to: SiteInput,
 ) -> Result<(), Halt>
-    requires reached { (x : AnyInput) → Contains reached.now x ↔ Reach site.now class x }
+    requires reached { (x : AnyInput) → Contains reached.now x ↔ Reach site.now class Scope.Every x }
     requires ranked { spec.AreRanked site.now class seen.old.done.items seen.old.settled.items seen.old.ranks.items }
     requires trail { spec.IsTrail site.now class (spec.way_of seen.old.way.items) row.input }
-    requires there { Reach site.now class row.input }
-    requires may { MayAt site.now class row.input row.number }
-    requires goes { Forwards site.now row.input row.number to }
+    requires there { Reach site.now class Scope.Every row.input }
+    requires goes { spec.GoesOn site.now class row.input row.number to }
     requires flows { AreFlows site.now class flows.now }
     ensures way { OnOk result (seen.new.way.items ≡ seen.old.way.items) }
     ensures ranked { OnOk result
@@ -240,11 +198,11 @@ fn visit_relay(
     seen: &mut Seen,
     first: SiteInput,
 ) -> Result<(), Halt>
-    requires reached { (x : AnyInput) → Contains reached.now x ↔ Reach site.now class x }
+    requires reached { (x : AnyInput) → Contains reached.now x ↔ Reach site.now class Scope.Every x }
     requires ranked { spec.AreRanked site.now class seen.old.done.items seen.old.settled.items seen.old.ranks.items }
     requires trail { (x : AnyInput) → x.relay ≡ first.relay
         → spec.IsTrail site.now class (spec.way_of seen.old.way.items) x }
-    requires there { Reach site.now class first }
+    requires there { Reach site.now class Scope.Every first }
     requires flows { AreFlows site.now class flows.now }
     ensures way { OnOk result (seen.new.way.items ≡ seen.old.way.items) }
     ensures ranked { OnOk result
@@ -275,7 +233,7 @@ fn visit_entries(
     reached: &[SiteInput],
     seen: &mut Seen,
 ) -> Result<(), Halt>
-    requires reached { (x : AnyInput) → Contains reached.now x ↔ Reach site.now class x }
+    requires reached { (x : AnyInput) → Contains reached.now x ↔ Reach site.now class Scope.Every x }
     requires ranked { spec.AreRanked site.now class seen.old.done.items seen.old.settled.items seen.old.ranks.items }
     requires way { seen.old.way.items ≡ [] }
     requires flows { AreFlows site.now class flows.now }
@@ -304,10 +262,10 @@ fn nothing_seen(alloc: Global, site: &Site) -> Result<Seen, AllocError>
     })
 }
 
-/// A rank for each relay: the greatest number of forwards that follow one another from it, of those that messages of the
-/// class may run at reached inputs. Where such a way meets a relay twice, the first that does: entries in the order of the
+/// A rank for each relay: the greatest number of hops that follow one another from it, from a reached input to one that
+/// an occurrence of it reaches. Where such a way meets a relay twice, the first that does: entries in the order of the
 /// file, depth first, occurrences by rising number. A way may go on from each reached input of a relay that it comes to: the
-/// one that is forwarded to first, and then the others in the order in which they are given.
+/// one that is reached by it first, and then the others in the order in which they are given.
 pub fn ranks_of(
     alloc: Global,
     site: &Site,
@@ -315,7 +273,7 @@ pub fn ranks_of(
     flows: &ClassFlows,
     reached: &[SiteInput],
 ) -> Result<Vec<u32>, Unranked>
-    requires reached { (x : AnyInput) → Contains reached.now x ↔ Reach site.now class x }
+    requires reached { (x : AnyInput) → Contains reached.now x ↔ Reach site.now class Scope.Every x }
     requires flows { AreFlows site.now class flows.now }
     ensures ranks { IfOk result (λ ranks. AreRanks site.now class (spec.rank_at ranks.items)) }
     ensures most { IfOk result (λ ranks. (relay : ℕ) → spec.IsMost site.now class relay

@@ -7,6 +7,7 @@ ghost use Rattle.sy_cert.specs.declared.row.Row.TheVariants as row;
 ghost use Rattle.sy_site.specs.Sites as sites;
 ghost use Rattle.sy_site.specs.declared.site.SiteInput.{SiteInput as AnyInput};
 ghost use Rattle.sy_site.specs.machine.Lawful.{IsInput};
+ghost use Rattle.sy_board.specs.relay.Spares.{Scope};
 ghost use Rattle.sy_site.specs.machine.Reach.{Reach};
 ghost use Rattle.sy_site.specs.machine.Soundness.{AreRanks};
 ghost use Rattle.sy_checker.specs.declared.wanted.Wanted.{Wanted as AnyWanted};
@@ -14,7 +15,7 @@ ghost use Rattle.sy_checker.specs.Finding.{IsTrueRefusal};
 ghost use Rattle.sy_checker.specs.Fit as fit;
 ghost use Rattle.sy_checker.specs.Made as spec;
 ghost use Rattle.sy_checker.specs.Answer.{AreLeads};
-ghost use Rattle.sy_checker.specs.Flows.{AreFlows};
+ghost use Rattle.sy_checker.specs.Hops.{AreFlows};
 
 use crate::finding::Refusal;
 use crate::flows::ClassFlows;
@@ -50,7 +51,7 @@ fn action_name(alloc: Global, site: &Site, archive: SiteAction) -> Result<Items<
     }
 }
 
-// The row of an input that is reached, and is clean.
+// The row of an input that is reached without spare occurrences, and is clean.
 fn reach_row(alloc: Global, site: &Site, class: Class, input: SiteInput) -> Result<Row, AllocError>
     requires there { IsInput site.now input }
     requires relay { input.relay < length site.now.relays }
@@ -60,6 +61,17 @@ fn reach_row(alloc: Global, site: &Site, class: Class, input: SiteInput) -> Resu
     let relay = name_of(alloc, site, input.relay)?;
     let port = input_at(site, input).port;
     Ok(Row::Reach { relay, port })
+}
+
+// The row of another input that is reached.
+fn branch_row(alloc: Global, site: &Site, input: SiteInput) -> Result<Row, AllocError>
+    requires there { IsInput site.now input }
+    requires relay { input.relay < length site.now.relays }
+    ensures { IfOk result (λ r. fit.IsBranchRow site.now input r) }
+{
+    let relay = name_of(alloc, site, input.relay)?;
+    let port = input_at(site, input).port;
+    Ok(Row::Branch { relay, port })
 }
 
 fn rank_row(alloc: Global, site: &Site, of: u32, ranks: &[u32]) -> Result<Row, AllocError>
@@ -126,7 +138,7 @@ fn path_row(
     Ok(row)
 }
 
-// The row that is wanted. Each reached input is clean.
+// The row that is wanted. Each input that is reached without spare occurrences is clean.
 fn row_for(
     alloc: Global,
     site: &Site,
@@ -138,7 +150,7 @@ fn row_for(
     is: Wanted,
 ) -> Result<Row, Refusal>
     requires protected { sites.is_protected site.now class ≡ true }
-    requires clean { (x : AnyInput) → Reach site.now class x → fit.IsClean site.now class x }
+    requires clean { (x : AnyInput) → Reach site.now class Scope.Firm x → fit.IsClean site.now class x }
     requires wanted { fit.AreWanted site.now class part.now }
     requires member { Contains part.now is }
     requires many { length ranks.now ≡ length site.now.relays }
@@ -153,6 +165,7 @@ fn row_for(
     match is {
         Wanted::Class(of) => Ok(Row::Class(of)),
         Wanted::Reach(input) => Ok(reach_row(alloc, site, class, input)?),
+        Wanted::Branch(input) => Ok(branch_row(alloc, site, input)?),
         Wanted::Rank(of) => Ok(rank_row(alloc, site, of, ranks)?),
         Wanted::Path(entry, archive) => path_row(alloc, site, class, flows, leads, entry, archive),
     }
@@ -165,7 +178,7 @@ fn put(rows: &mut Vec<Row>, row: Row) -> Result<(), AllocError>
     Ok(())
 }
 
-/// The rows of a class whose reached inputs are clean, with ranks of its relays; the finding where an entry doesn't
+/// The rows of a class whose inputs that are reached without spare occurrences are clean, with ranks of its relays; the finding where an entry doesn't
 /// lead to an archive.
 pub fn rows_for(
     alloc: Global,
@@ -177,7 +190,7 @@ pub fn rows_for(
     ranks: &[u32],
 ) -> Result<Vec<Row>, Refusal>
     requires protected { sites.is_protected site.now class ≡ true }
-    requires clean { (x : AnyInput) → Reach site.now class x → fit.IsClean site.now class x }
+    requires clean { (x : AnyInput) → Reach site.now class Scope.Firm x → fit.IsClean site.now class x }
     requires wanted { fit.AreWanted site.now class part.now }
     requires ranks { AreRanks site.now class (λ relay. get_or ranks.now relay 0) }
     requires many { length ranks.now ≡ length site.now.relays }

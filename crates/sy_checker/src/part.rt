@@ -2,7 +2,7 @@
 
 ghost use Rattle.std.specs.Prelude.{◌≡◌, Contains, Decides, IfNone, IfSome};
 ghost use Rattle.sy_checker.specs.Fit as fit;
-ghost use Rattle.sy_checker.specs.Flows.{AreFlows};
+ghost use Rattle.sy_checker.specs.Hops.{AreFlows};
 
 use crate::flows::ClassFlows;
 use crate::rows::is_right;
@@ -18,6 +18,7 @@ pub fn wanted_kind(is: Wanted) -> RowKind
     match is {
         Wanted::Class(_) => RowKind::Class,
         Wanted::Reach(_) => RowKind::Reach,
+        Wanted::Branch(_) => RowKind::Branch,
         Wanted::Rank(_) => RowKind::Rank,
         Wanted::Path(_, _) => RowKind::Path,
     }
@@ -30,6 +31,7 @@ pub fn row_kind(row: &Row) -> RowKind
     match row {
         Row::Class(_) => RowKind::Class,
         Row::Reach { .. } => RowKind::Reach,
+        Row::Branch { .. } => RowKind::Branch,
         Row::Rank { .. } => RowKind::Rank,
         Row::Path { .. } => RowKind::Path,
     }

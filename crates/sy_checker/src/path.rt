@@ -1,4 +1,4 @@
-//! Paths: occurrences that must be executed, from an entry to an archive.
+//! Paths: occurrences that must be executed and aren't spare, from an entry to an archive.
 
 ghost use Rattle.std.specs.Prelude.{◌≡◌, ◌<◌, Decides};
 ghost use Rattle.sy_board.specs.relay.Plans.{occurrences_at};
@@ -7,10 +7,11 @@ ghost use Rattle.sy_site.specs.machine.Reach.{list_of};
 ghost use Rattle.sy_site.specs.machine.Lawful.{IsInput};
 ghost use Rattle.sy_checker.specs.Fit.{IsPath, MustWrite};
 ghost use Rattle.sy_checker.specs.Internal as spec;
-ghost use Rattle.sy_checker.specs.Flows.{AreFlows};
+ghost use Rattle.sy_checker.specs.Hops.{AreFlows};
 
+use crate::executed::Executed;
 use crate::flows::ClassFlows;
-use crate::inputs::{forward_at, has, must_at, next_in, occurrences_at};
+use crate::inputs::{executed_at, forward_at, has, next_in, occurrences_at};
 use sy_rules::Occurrence;
 use sy_site::{Site, SiteAction, SiteInput};
 use sy_wire::Class;
@@ -51,7 +52,7 @@ fn writes(
     has(set, number) && runs(site, input, occurrences, number, archive)
 }
 
-/// Whether an occurrence of the archive must be executed at the input.
+/// Whether an occurrence of the archive must be executed at the input, and isn't spare.
 pub fn must_write(
     site: &Site,
     class: Class,
@@ -66,7 +67,7 @@ pub fn must_write(
     if input.relay != archive.relay {
         return false;
     }
-    let must = must_at(site, class, flows, input);
+    let must = executed_at(site, class, flows, Executed::Must, input);
     let occurrences = occurrences_at(site, input);
     let mut from = 0;
     while let Some(number) = next_in(must, from) {
@@ -78,7 +79,7 @@ pub fn must_write(
     false
 }
 
-// The input that an occurrence leads to, where it is a forward that must be executed.
+// The input that an occurrence leads to, where it is a forward that must be executed and isn't spare.
 fn must_forward(
     site: &Site,
     class: Class,
@@ -90,7 +91,7 @@ fn must_forward(
     requires flows { AreFlows site.now class flows.now }
     ensures { spec.IsMustForward site.now class input number result }
 {
-    let must = must_at(site, class, flows, input);
+    let must = executed_at(site, class, flows, Executed::Must, input);
     if number >= 64 {
         return None;
     }
@@ -100,8 +101,8 @@ fn must_forward(
     forward_at(site, input, number)
 }
 
-/// Whether occurrences are a path from an input to an archive: each is a forward that must be executed, and the archive
-/// must be written at the last input.
+/// Whether occurrences are a path from an input to an archive: each is a forward that must be executed and isn't spare, and
+/// the archive must be written at the last input.
 pub fn is_path(
     site: &Site,
     class: Class,

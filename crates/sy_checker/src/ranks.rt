@@ -1,14 +1,16 @@
-//! Ranks: whether that of a relay is above those of the relays that it forwards messages of a class to.
+//! Ranks: whether that of a relay is above those of the relays that messages of a class reach from there.
 
-ghost use Rattle.std.specs.Prelude.{◌≡◌, ◌<◌, Decides, IfSome, Some, length, slice_get, true};
+ghost use Rattle.std.specs.Prelude.{◌≡◌, ◌<◌, Contains, Decides, IfSome, Some, length, slice_get, true};
 ghost use Rattle.std.specs.Str.{bytes_eq};
 ghost use Rattle.sy_site.specs.machine.Lawful.{IsInput};
 ghost use Rattle.sy_checker.specs.Fit.{AreWanted, IsAbove, name_of};
 ghost use Rattle.sy_checker.specs.Ranked as spec;
-ghost use Rattle.sy_checker.specs.Flows.{AreFlows};
+ghost use Rattle.sy_checker.specs.Hops.{AreFlows};
+ghost use Rattle.sy_checker.specs.declared.flows.Hop.{Hop as AnyHop};
 
-use crate::flows::ClassFlows;
-use crate::inputs::{forward_at, has, may_at, next_in};
+use crate::executed::Executed;
+use crate::flows::{ClassFlows, Hop};
+use crate::hops::hops_at;
 use crate::wanted::Wanted;
 use sy_cert::Row;
 use sy_site::{Site, SiteInput};
@@ -35,7 +37,7 @@ fn rank_in(site: &Site, row: &Row, relay: u32) -> Option<u32>
                 None
             }
         }
-        Row::Class(_) | Row::Reach { .. } | Row::Path { .. } => None,
+        Row::Class(_) | Row::Reach { .. } | Row::Branch { .. } | Row::Path { .. } => None,
     }
 }
 
@@ -44,7 +46,7 @@ fn is_rank_of(is: Wanted, relay: u32) -> bool
 {
     match is {
         Wanted::Rank(of) => of == relay,
-        Wanted::Class(_) | Wanted::Reach(_) | Wanted::Path(_, _) => false,
+        Wanted::Class(_) | Wanted::Reach(_) | Wanted::Branch(_) | Wanted::Path(_, _) => false,
     }
 }
 
@@ -104,40 +106,44 @@ fn is_known(known: Option<u32>, relay: u32) -> bool
     known == Some(relay)
 }
 
-// Whether what an occurrence of a set leads to has a rank below. The relay that was found to have one last is known, and
-// most often the next forward goes there too.
-fn leads_below(
+// Whether the rank of a relay is below. The relay that was found to have one last is known, and most often the next one is
+// the same.
+fn is_below_known(
     site: &Site,
-    from: SiteInput,
-    set: u64,
-    number: u32,
     part: &[Wanted],
     rows: &[Row],
+    relay: u32,
     rank: u32,
     known: &mut Option<u32>,
 ) -> bool
-    requires there { IsInput site.now from }
-    requires small { number < 64 }
+    requires there { relay < length site.now.relays }
     requires known { IfSome known.old (λ relay. spec.IsBelow site.now part.now rows.now relay rank) }
-    ensures below { Decides result (spec.LeadsBelow site.now part.now rows.now from rank set number) }
+    ensures below { Decides result (spec.IsBelow site.now part.now rows.now relay rank) }
     ensures known { result ≡ true → IfSome known.new (λ relay. spec.IsBelow site.now part.now rows.now relay rank) }
 {
-    if !has(set, number) {
+    if is_known(*known, relay) {
         return true;
     }
-    match forward_at(site, from, number) {
-        Some(to) => {
-            if is_known(*known, to.relay) {
-                return true;
-            }
-            *known = Some(to.relay);
-            is_below(site, part, rows, to.relay, rank)
-        }
-        None => true,
-    }
+    *known = Some(relay);
+    is_below(site, part, rows, relay, rank)
 }
 
-// Whether all that is forwarded from an input goes to relays of ranks below.
+// Whether all of some hops go to relays of ranks below.
+fn falls_by(site: &Site, hops: &[Hop], part: &[Wanted], rows: &[Row], rank: u32) -> bool
+    requires there { (hop : AnyHop) → Contains hops.now hop → hop.to.relay < length site.now.relays }
+    ensures { Decides result ((hop : AnyHop) → Contains hops.now hop
+        → spec.IsBelow site.now part.now rows.now hop.to.relay rank) }
+{
+    let mut known = None;
+    for hop in hops {
+        if !is_below_known(site, part, rows, hop.to.relay, rank, &mut known) {
+            return false;
+        }
+    }
+    true
+}
+
+// Whether all that is reached from an input is at relays of ranks below.
 fn falls_from(
     site: &Site,
     class: Class,
@@ -151,16 +157,9 @@ fn falls_from(
     requires flows { AreFlows site.now class flows.now }
     ensures { Decides result (spec.FallsFrom site.now class part.now rows.now rank from) }
 {
-    let may = may_at(site, class, flows, from);
-    let mut next = 0;
-    let mut known = None;
-    while let Some(number) = next_in(may, next) {
-        if !leads_below(site, from, may, number, part, rows, rank, &mut known) {
-            return false;
-        }
-        next = number + 1;
-    }
-    true
+    site.is_lawful();
+    let hops = hops_at(site, class, &flows.every, Executed::Every, from);
+    falls_by(site, hops, part, rows, rank)
 }
 
 // The same of the input of a wanted row, where it is one of this relay.
@@ -179,7 +178,7 @@ fn falls_at(
     ensures { Decides result (spec.FallsAt site.now class part.now rows.now relay rank is) }
 {
     match is {
-        Wanted::Reach(from) => {
+        Wanted::Reach(from) | Wanted::Branch(from) => {
             if from.relay != relay {
                 return true;
             }
@@ -189,8 +188,8 @@ fn falls_at(
     }
 }
 
-/// Whether a rank of a relay is above that of each relay which the forwards of its reached inputs lead to that may be
-/// executed. A relay whose rank row doesn't stand where it is wanted isn't compared.
+/// Whether a rank of a relay is above that of each relay that occurrences of its reached inputs reach, spare ones too. A
+/// relay whose rank row doesn't stand where it is wanted isn't compared.
 pub fn is_above(
     site: &Site,
     class: Class,

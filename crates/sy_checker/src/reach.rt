@@ -2,22 +2,22 @@
 
 ghost use Rattle.std.specs.Prelude.{◌≡◌, ◌<◌, ◌↔◌, [], Contains, IfOk, List, OnOk, Some, length, slice_get};
 ghost use Rattle.std.specs.List.{list_any};
-ghost use Rattle.sy_rules.specs.lists.Sets.{Bits};
 ghost use Rattle.sy_wire.specs.declared.class.Class.{Class as AnyClass};
 ghost use Rattle.sy_site.specs.Sites.{Site as AnySite};
 ghost use Rattle.sy_site.specs.declared.site.SiteInput.{SiteInput as AnyInput};
 ghost use Rattle.sy_site.specs.machine.Lawful.{IsInput};
+ghost use Rattle.sy_board.specs.relay.Spares.{Scope};
 ghost use Rattle.sy_site.specs.machine.Reach.{Reach};
 ghost use Rattle.sy_checker.specs.declared.executed.Executed.{Executed as AnyExecuted};
 ghost use Rattle.sy_checker.specs.declared.executed.Executed.TheVariants as executed;
-ghost use Rattle.sy_checker.specs.Internal.{Adds, LeadsBy, same_input};
-ghost use Rattle.sy_checker.specs.Search.{ExecutedAt, IsOrigin, IsSpread, KeepsRoots, LeadsOn};
-ghost use Rattle.sy_checker.specs.Flows.{AreFlows};
+ghost use Rattle.sy_checker.specs.Hops.{AreFlows, AreSiteHops};
+ghost use Rattle.sy_checker.specs.Internal.{Adds, same_input};
+ghost use Rattle.sy_checker.specs.Search.{IsOrigin, IsSpread, KeepsRoots, LeadsOn};
 
-use crate::executed::{Executed, executed_at};
+use crate::executed::Executed;
 use crate::finding::WayRow;
-use crate::flows::ClassFlows;
-use crate::inputs::{forward_at, has, next_in};
+use crate::flows::{ClassFlows, SiteHops};
+use crate::hops::hops_at;
 use std::alloc::{AllocError, Global};
 use sy_site::{Site, SiteInput};
 use sy_wire::Class;
@@ -73,62 +73,31 @@ fn add_all(start: &[SiteInput], found: &mut Found) -> Result<(), AllocError>
     Ok(())
 }
 
-// Puts what an occurrence of a set leads to, from the input at a place.
-fn add_target(
-    site: &Site,
-    from: SiteInput,
-    place: usize,
-    set: u64,
-    number: u32,
-    found: &mut Found,
-) -> Result<(), AllocError>
-    requires there { IsInput site.now from }
-    requires small { number < 64 }
-    ensures inputs { OnOk result
-        (Adds (LeadsBy site.now set from number) found.old.inputs.items found.new.inputs.items) }
-    ensures roots { (class : AnyClass) (which : AnyExecuted) (start : List AnyInput)
-        → Bits (ExecutedAt site.now class which from) set → slice_get found.old.inputs.items place ≡ Some from
-        → OnOk result (KeepsRoots site.now class which start found.old.inputs.items found.old.origins.items
-        found.new.inputs.items found.new.origins.items) }
-{
-    if !has(set, number) {
-        return Ok(());
-    }
-    match forward_at(site, from, number) {
-        Some(to) => {
-            let row = WayRow {
-                input: from,
-                number,
-            };
-            add(found, to, Some(Origin { place, row }))
-        }
-        None => Ok(()),
-    }
-}
-
-// Puts what the forwards lead to that are followed from the input at a place.
+// Puts what the occurrences lead to that are followed from the input at a place.
 fn add_targets(
     site: &Site,
     class: Class,
-    flows: &ClassFlows,
+    hops: &SiteHops,
     which: Executed,
     from: SiteInput,
     place: usize,
     found: &mut Found,
 ) -> Result<(), AllocError>
     requires there { IsInput site.now from }
-    requires flows { AreFlows site.now class flows.now }
+    requires hops { AreSiteHops site.now class which hops.now }
     ensures inputs { OnOk result
         (Adds (LeadsOn site.now class which from) found.old.inputs.items found.new.inputs.items) }
     ensures roots { (start : List AnyInput) → slice_get found.old.inputs.items place ≡ Some from
         → OnOk result (KeepsRoots site.now class which start found.old.inputs.items found.old.origins.items
         found.new.inputs.items found.new.origins.items) }
 {
-    let set = executed_at(site, class, flows, which, from);
-    let mut next = 0;
-    while let Some(number) = next_in(set, next) {
-        add_target(site, from, place, set, number, found)?;
-        next = number + 1;
+    let own = hops_at(site, class, hops, which, from);
+    for hop in own {
+        let row = WayRow {
+            input: from,
+            number: hop.number,
+        };
+        add(found, hop.to, Some(Origin { place, row }))?;
     }
     Ok(())
 }
@@ -143,18 +112,18 @@ fn nothing_found(alloc: Global) -> Found
     }
 }
 
-/// The inputs that are found from some by following forwards, in the order in which they are found: what was found
+/// The inputs that are found from some by following occurrences, in the order in which they are found: what was found
 /// earlier is followed earlier, and by rising occurrences.
 pub fn spread(
     alloc: Global,
     site: &Site,
     class: Class,
-    flows: &ClassFlows,
+    hops: &SiteHops,
     which: Executed,
     start: &[SiteInput],
 ) -> Result<Found, AllocError>
     requires there { (x : AnyInput) → Contains start.now x → IsInput site.now x }
-    requires flows { AreFlows site.now class flows.now }
+    requires hops { AreSiteHops site.now class which hops.now }
     ensures { IfOk result
         (λ found. IsSpread site.now class which start.now found.inputs.items found.origins.items) }
 {
@@ -164,13 +133,13 @@ pub fn spread(
     let mut done = 0;
     while done < found.inputs.len() {
         let from = found.inputs[done];
-        add_targets(site, class, flows, which, from, done, &mut found)?;
+        add_targets(site, class, hops, which, from, done, &mut found)?;
         done += 1;
     }
     Ok(found)
 }
 
-/// The inputs that messages of a class reach, in the order in which they are found.
+/// The inputs that messages of a class reach without spare occurrences, in the order in which they are found.
 pub fn reached(
     alloc: Global,
     site: &Site,
@@ -178,12 +147,56 @@ pub fn reached(
     flows: &ClassFlows,
 ) -> Result<Found, AllocError>
     requires flows { AreFlows site.now class flows.now }
-    ensures spread { IfOk result (λ found. IsSpread site.now class executed.May site.now.entries
+    ensures spread { IfOk result (λ found. IsSpread site.now class executed.Firm site.now.entries
         found.inputs.items found.origins.items) }
     ensures reached { IfOk result
-        (λ found. (x : AnyInput) → Contains found.inputs.items x ↔ Reach site.now class x) }
+        (λ found. (x : AnyInput) → Contains found.inputs.items x ↔ Reach site.now class Scope.Firm x) }
 {
     site.is_lawful();
-    let found = spread(alloc, site, class, flows, Executed::May, site.entries())?;
+    let found = spread(alloc, site, class, &flows.firm, Executed::Firm, site.entries())?;
     Ok(found)
+}
+
+// The same by spare occurrences too.
+fn spread_every(
+    alloc: Global,
+    site: &Site,
+    class: Class,
+    flows: &ClassFlows,
+) -> Result<Vec<SiteInput>, AllocError>
+    requires flows { AreFlows site.now class flows.now }
+    ensures { IfOk result (λ found. (x : AnyInput) → Contains found.items x ↔ Reach site.now class Scope.Every x) }
+{
+    site.is_lawful();
+    let found = spread(alloc, site, class, &flows.every, Executed::Every, site.entries())?;
+    Ok(found.inputs)
+}
+
+fn copy(alloc: Global, inputs: &[SiteInput]) -> Result<Vec<SiteInput>, AllocError>
+    ensures { IfOk result (λ copied. copied.items ≡ inputs.now) }
+{
+    let mut copied = Vec::with_capacity(alloc, inputs.len())?;
+    for input in inputs {
+        copied.push(*input)?;
+    }
+    Ok(copied)
+}
+
+/// The inputs that they reach by spare occurrences too, in the order in which they are found. Where nothing is spare they
+/// are those that are reached without.
+pub fn reached_by_every(
+    alloc: Global,
+    site: &Site,
+    class: Class,
+    flows: &ClassFlows,
+    firm: &[SiteInput],
+) -> Result<Vec<SiteInput>, AllocError>
+    requires flows { AreFlows site.now class flows.now }
+    requires firm { (x : AnyInput) → Contains firm.now x ↔ Reach site.now class Scope.Firm x }
+    ensures { IfOk result (λ found. (x : AnyInput) → Contains found.items x ↔ Reach site.now class Scope.Every x) }
+{
+    if site.spares().is_empty() {
+        return copy(alloc, firm);
+    }
+    spread_every(alloc, site, class, flows)
 }

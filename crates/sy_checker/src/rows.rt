@@ -5,7 +5,7 @@ ghost use Rattle.std.specs.Str.{bytes_eq};
 ghost use Rattle.sy_site.specs.machine.Lawful.{IsInput};
 ghost use Rattle.sy_checker.specs.Fit as fit;
 ghost use Rattle.sy_checker.specs.Judging as spec;
-ghost use Rattle.sy_checker.specs.Flows.{AreFlows};
+ghost use Rattle.sy_checker.specs.Hops.{AreFlows};
 
 use crate::flows::ClassFlows;
 use crate::inputs::input_at;
@@ -45,6 +45,21 @@ fn is_reach(
         return false;
     }
     is_clean(site, class, flows, input)
+}
+
+// Whether a branch row names an input.
+fn is_branch(site: &Site, input: SiteInput, relay: &[u8], port: u16) -> bool
+    requires there { IsInput site.now input }
+    requires relay { input.relay < length site.now.relays }
+    ensures { Decides result (spec.NamesInput site.now input relay.now port) }
+{
+    if !is_name(site, input.relay, relay) {
+        return false;
+    }
+    if input_at(site, input).port != port {
+        return false;
+    }
+    true
 }
 
 fn is_action_name(site: &Site, archive: SiteAction, name: &[u8]) -> bool
@@ -93,7 +108,7 @@ fn is_class_row(class: Class, row: &Row) -> bool
 {
     match row {
         Row::Class(given) => is_class(class, *given),
-        Row::Reach { .. } | Row::Rank { .. } | Row::Path { .. } => false,
+        Row::Reach { .. } | Row::Branch { .. } | Row::Rank { .. } | Row::Path { .. } => false,
     }
 }
 
@@ -105,7 +120,18 @@ fn is_reach_row(site: &Site, class: Class, flows: &ClassFlows, input: SiteInput,
 {
     match row {
         Row::Reach { relay, port } => is_reach(site, class, flows, input, relay.as_slice(), *port),
-        Row::Class(_) | Row::Rank { .. } | Row::Path { .. } => false,
+        Row::Class(_) | Row::Branch { .. } | Row::Rank { .. } | Row::Path { .. } => false,
+    }
+}
+
+fn is_branch_row(site: &Site, input: SiteInput, row: &Row) -> bool
+    requires there { IsInput site.now input }
+    requires relay { input.relay < length site.now.relays }
+    ensures { Decides result (fit.IsBranchRow site.now input row.now) }
+{
+    match row {
+        Row::Branch { relay, port } => is_branch(site, input, relay.as_slice(), *port),
+        Row::Class(_) | Row::Reach { .. } | Row::Rank { .. } | Row::Path { .. } => false,
     }
 }
 
@@ -130,7 +156,7 @@ fn is_rank_row(
             }
             is_above(site, class, flows, part, rows, of, *rank)
         }
-        Row::Class(_) | Row::Reach { .. } | Row::Path { .. } => false,
+        Row::Class(_) | Row::Reach { .. } | Row::Branch { .. } | Row::Path { .. } => false,
     }
 }
 
@@ -163,7 +189,7 @@ fn is_path_row(
             }
             is_path(site, class, flows, archive, entry, occurrences)
         }
-        Row::Class(_) | Row::Reach { .. } | Row::Rank { .. } => false,
+        Row::Class(_) | Row::Reach { .. } | Row::Branch { .. } | Row::Rank { .. } => false,
     }
 }
 
@@ -187,6 +213,7 @@ pub fn is_right(
     match is {
         Wanted::Class(of) => is_class_row(of, row),
         Wanted::Reach(input) => is_reach_row(site, class, flows, input, row),
+        Wanted::Branch(input) => is_branch_row(site, input, row),
         Wanted::Rank(of) => is_rank_row(site, class, flows, part, rows, of, row),
         Wanted::Path(entry, archive) => is_path_row(site, class, flows, entry, archive, row),
     }

@@ -1,16 +1,17 @@
-//! The findings of the kinds 1 to 7, at the inputs that a class reaches.
+//! The findings of the kinds 1 to 7, at the inputs that a class reaches without spare occurrences.
 
 ghost use Rattle.std.specs.Prelude.{◌≡◌, Contains, IfErr, IfNone, IfOk, IfSome, OnOk, true};
 ghost use Rattle.sy_site.specs.Sites as sites;
 ghost use Rattle.sy_site.specs.declared.site.SiteInput.{SiteInput as AnyInput};
 ghost use Rattle.sy_site.specs.machine.Lawful.{IsInput};
+ghost use Rattle.sy_board.specs.relay.Spares.{Scope};
 ghost use Rattle.sy_site.specs.machine.Reach.{Reach};
 ghost use Rattle.sy_checker.specs.declared.executed.Executed.TheVariants as executed;
 ghost use Rattle.sy_checker.specs.Finding.{IsTrueFinding, IsTrueRefusal};
 ghost use Rattle.sy_checker.specs.Fit.{IsClean};
 ghost use Rattle.sy_checker.specs.Search.{IsSpread};
 ghost use Rattle.sy_checker.specs.Answer as spec;
-ghost use Rattle.sy_checker.specs.Flows.{AreFlows};
+ghost use Rattle.sy_checker.specs.Hops.{AreFlows};
 
 use crate::finding::{Finding, Kind, Refusal};
 use crate::flows::ClassFlows;
@@ -91,7 +92,7 @@ fn finding_at(
     kind: Kind,
 ) -> Result<Finding, AllocError>
     requires protected { sites.is_protected site.now class ≡ true }
-    requires spread { IsSpread site.now class executed.May site.now.entries
+    requires spread { IsSpread site.now class executed.Firm site.now.entries
         found.now.inputs.items found.now.origins.items }
     requires unclean { spec.IsUncleanAt site.now class found.now.inputs.items place kind }
     ensures { IfOk result (λ f. IsTrueFinding site.now f) }
@@ -118,7 +119,7 @@ pub fn first_finding(
 ) -> Result<Option<Finding>, AllocError>
     requires protected { sites.is_protected site.now class ≡ true }
     requires flows { AreFlows site.now class flows.now }
-    requires spread { IsSpread site.now class executed.May site.now.entries
+    requires spread { IsSpread site.now class executed.Firm site.now.entries
         found.now.inputs.items found.now.origins.items }
     ensures { IfOk result (λ answer. spec.IsSearched site.now class answer) }
 {
@@ -141,9 +142,9 @@ pub fn searched(
 ) -> Result<(), Refusal>
     requires protected { sites.is_protected site.now class ≡ true }
     requires flows { AreFlows site.now class flows.now }
-    requires spread { IsSpread site.now class executed.May site.now.entries
+    requires spread { IsSpread site.now class executed.Firm site.now.entries
         found.now.inputs.items found.now.origins.items }
-    ensures ok { OnOk result ((x : AnyInput) → Reach site.now class x → IsClean site.now class x) }
+    ensures ok { OnOk result ((x : AnyInput) → Reach site.now class Scope.Firm x → IsClean site.now class x) }
     ensures err { IfErr result (λ why. IsTrueRefusal site.now why) }
 {
     match first_finding(alloc, site, class, flows, found)? {

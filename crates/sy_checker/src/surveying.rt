@@ -7,27 +7,31 @@ ghost use Rattle.sy_site.specs.declared.site.SiteInput.{SiteInput as AnyInput};
 ghost use Rattle.sy_site.specs.declared.site.SiteAction.{SiteAction as AnyAction};
 ghost use Rattle.sy_site.specs.machine.Findings.{HoldsAt};
 ghost use Rattle.sy_site.specs.machine.Lawful.{IsInput};
+ghost use Rattle.sy_board.specs.relay.Spares.{Scope};
 ghost use Rattle.sy_site.specs.machine.Reach.{LeadsTo, Reach};
 ghost use Rattle.sy_site.specs.machine.Soundness.{IsSound};
 ghost use Rattle.sy_wire.specs.declared.class.Class.{Class as AnyClass};
 ghost use Rattle.sy_checker.specs.Answer.{AreLeads};
 ghost use Rattle.sy_checker.specs.Finding.{kind_of};
 ghost use Rattle.sy_checker.specs.Fit.{AreProtected};
-ghost use Rattle.sy_checker.specs.Flows.{AreFlows};
+ghost use Rattle.sy_checker.specs.Flows.{AreFirm};
+ghost use Rattle.sy_checker.specs.Hops.{AreFlows};
 ghost use Rattle.sy_checker.specs.Loops.{HasNoRanks};
 ghost use Rattle.sy_checker.specs.Survey as spec;
 ghost use Rattle.sy_checker.specs.declared.finding.Kind.TheVariants as kinds;
 
 use crate::classes::protected_classes;
 use crate::finding::Kind;
+use crate::firm::{SiteFirm, firm_of};
 use crate::flows::{ClassFlows, flows_of};
 use crate::groups::{Gathered, Group, nothing_gathered, put};
+use crate::hops::class_flows;
 use crate::kinds::{Risk, is_mark_above_size, is_mark_off, is_not_full, may_discard, may_risk};
 use crate::laws::sites_without_a_finding_are_sound;
 use crate::lead::{lead, leads_of};
 use crate::loops::{Unranked, ranks_of};
 use crate::order::sorted;
-use crate::reach::{Found, reached};
+use crate::reach::{Found, reached, reached_by_every};
 use crate::wanted::archives;
 use std::alloc::{AllocError, Global};
 use sy_site::machine::sound_sites_have_no_finding;
@@ -65,7 +69,7 @@ fn put_kind(
     requires protected { sites.is_protected site.now class ≡ true }
     requires flows { AreFlows site.now class flows.now }
     requires there { IsInput site.now input }
-    requires reached { Reach site.now class input }
+    requires reached { Reach site.now class Scope.Firm input }
     ensures { OnOk result (spec.Tells site.now class (spec.IsHeld site.now class input kind)
         found.old.groups.items found.new.groups.items) }
 {
@@ -89,7 +93,7 @@ fn put_kinds(
     requires protected { sites.is_protected site.now class ≡ true }
     requires flows { AreFlows site.now class flows.now }
     requires there { IsInput site.now input }
-    requires reached { Reach site.now class input }
+    requires reached { Reach site.now class Scope.Firm input }
     ensures { OnOk result (spec.Tells site.now class
         (λ i j. spec.Among kinds.now (λ kind. spec.IsHeld site.now class input kind i j))
         found.old.groups.items found.new.groups.items) }
@@ -112,7 +116,7 @@ fn put_input(
     requires protected { sites.is_protected site.now class ≡ true }
     requires flows { AreFlows site.now class flows.now }
     requires there { IsInput site.now input }
-    requires reached { Reach site.now class input }
+    requires reached { Reach site.now class Scope.Firm input }
     ensures { OnOk result (spec.Tells site.now class (spec.AreHeld site.now class input)
         found.old.groups.items found.new.groups.items) }
 {
@@ -141,7 +145,7 @@ fn put_inputs(
     requires protected { sites.is_protected site.now class ≡ true }
     requires flows { AreFlows site.now class flows.now }
     requires there { (x : AnyInput) → Contains inputs.now x → IsInput site.now x }
-    requires reached { (x : AnyInput) → Contains inputs.now x → Reach site.now class x }
+    requires reached { (x : AnyInput) → Contains inputs.now x → Reach site.now class Scope.Firm x }
     ensures { OnOk result (spec.Tells site.now class
         (λ i j. spec.Among inputs.now (λ input. spec.AreHeld site.now class input i j))
         found.old.groups.items found.new.groups.items) }
@@ -185,7 +189,7 @@ fn put_loop(
 ) -> Result<(), AllocError>
     requires protected { sites.is_protected site.now class ≡ true }
     requires flows { AreFlows site.now class flows.now }
-    requires reached { (x : AnyInput) → Contains reached.now x ↔ Reach site.now class x }
+    requires reached { (x : AnyInput) → Contains reached.now x ↔ Reach site.now class Scope.Every x }
     ensures tells { OnOk result (spec.Tells site.now class spec.IsNothing
         found.old.groups.items found.new.groups.items) }
     ensures ranked { OnOk result (spec.HasRanks site.now class
@@ -323,7 +327,7 @@ fn put_all_unmet(
     Ok(())
 }
 
-// Puts each of the kinds 1 to 7 at each input that the class reaches, and a loop.
+// Puts each of the kinds 1 to 7 at each input that the class reaches without spare occurrences, and a loop.
 fn put_reached(
     alloc: Global,
     site: &Site,
@@ -334,7 +338,7 @@ fn put_reached(
     requires protected { sites.is_protected site.now class ≡ true }
     requires flows { AreFlows site.now class flows.now }
     ensures tells { OnOk result (spec.Tells site.now class
-        (λ i j. Reach site.now class i × HoldsAt site.now class i (kind_of j))
+        (λ i j. Reach site.now class Scope.Firm i × HoldsAt site.now class i (kind_of j))
         found.old.groups.items found.new.groups.items) }
     ensures ranked { OnOk result (spec.HasRanks site.now class
         ⊎ ((input : AnyInput) × spec.Names found.new.groups.items class input kinds.Loop)) }
@@ -343,18 +347,27 @@ fn put_reached(
     let reached = reached(alloc, site, class, flows)?;
     let inputs = sorted(alloc, site, reached.inputs.as_slice())?;
     put_inputs(alloc, site, class, flows, inputs.as_slice(), found)?;
-    put_loop(alloc, site, class, flows, reached.inputs.as_slice(), found)?;
+    let every = reached_by_every(alloc, site, class, flows, reached.inputs.as_slice())?;
+    put_loop(alloc, site, class, flows, every.as_slice(), found)?;
     Ok(())
 }
 
 // Puts all that is found of a class.
-fn put_all(alloc: Global, site: &Site, class: Class, found: &mut Gathered) -> Result<(), AllocError>
+fn put_all(
+    alloc: Global,
+    site: &Site,
+    class: Class,
+    firm: &SiteFirm,
+    found: &mut Gathered,
+) -> Result<(), AllocError>
     requires protected { sites.is_protected site.now class ≡ true }
+    requires firm { AreFirm site.now firm.now }
     ensures tells { OnOk result (spec.Tells site.now class spec.IsNothing
         found.old.groups.items found.new.groups.items) }
     ensures told { OnOk result (spec.IsToldOf site.now class found.new.groups.items) }
 {
-    let flows = flows_of(alloc, site, class)?;
+    let lists = flows_of(alloc, site, class, firm)?;
+    let flows = class_flows(alloc, site, class, lists)?;
     put_reached(alloc, site, class, &flows, found)?;
     put_all_unmet(alloc, site, class, &flows, found)?;
     Ok(())
@@ -366,9 +379,10 @@ fn survey_of(alloc: Global, site: &Site, classes: &[Class]) -> Result<Vec<Group>
         → sites.is_protected site.now class ≡ true }
     ensures { IfOk result (λ groups. spec.IsSurveyOf site.now (Contains classes.now) groups.items) }
 {
+    let firm = firm_of(alloc, site)?;
     let mut found = nothing_gathered(alloc);
     for class in classes {
-        put_all(alloc, site, *class, &mut found)?;
+        put_all(alloc, site, *class, &firm, &mut found)?;
     }
     Ok(found.groups)
 }
@@ -383,7 +397,7 @@ fn survey_all(alloc: Global, site: &Site) -> Result<Vec<Group>, AllocError>
 }
 
 /// All that is found in a site, in groups: of each protected class each of the kinds 1 to 7 that holds at an input that
-/// it reaches, each entry with each named archive that it doesn't lead to, and a loop where there are no ranks. Nothing
+/// it reaches without spare occurrences, each entry with each named archive that it doesn't lead to, and a loop where there are no ranks. Nothing
 /// is found exactly in a sound site. Want of memory is the only refusal.
 ///
 /// The groups stand in the order in which they are met: classes by rising number, of each its inputs in the order of the

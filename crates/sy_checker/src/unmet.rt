@@ -7,7 +7,7 @@ ghost use Rattle.sy_site.specs.machine.Reach.{LeadsTo};
 ghost use Rattle.sy_checker.specs.Finding.{IsTrueFinding, IsTrueRefusal};
 ghost use Rattle.sy_checker.specs.Fit.{IsPath};
 ghost use Rattle.sy_checker.specs.Answer.{AreLeads};
-ghost use Rattle.sy_checker.specs.Flows.{AreFlows};
+ghost use Rattle.sy_checker.specs.Hops.{AreFlows};
 
 use crate::finding::{Finding, Kind, Refusal};
 use crate::flows::ClassFlows;

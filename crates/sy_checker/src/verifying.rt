@@ -3,6 +3,7 @@
 ghost use Rattle.std.specs.Prelude.{◌≡◌, ◌++◌, ◌∷◌, ◌↔◌, [], Contains, List, IfErr, IfOk, OnOk};
 ghost use Rattle.sy_wire.specs.declared.class.Class.{Class as AnyClass};
 ghost use Rattle.sy_site.specs.declared.site.SiteInput.{SiteInput as AnyInput};
+ghost use Rattle.sy_board.specs.relay.Spares.{Scope};
 ghost use Rattle.sy_site.specs.machine.Reach.{Reach};
 ghost use Rattle.sy_site.specs.machine.Safety.{AreSafe};
 ghost use Rattle.sy_site.specs.machine.Soundness.{IsSound};
@@ -10,17 +11,20 @@ ghost use Rattle.sy_site.specs.machine.States.{SiteState};
 ghost use Rattle.sy_site.specs.machine.Steps.{Runs, SiteEvent};
 ghost use Rattle.sy_checker.specs.Acceptance.{AreReached, IsOf};
 ghost use Rattle.sy_checker.specs.Claims.{RanksStayFalling, StayConfined, StayWrittenOrHead};
-ghost use Rattle.sy_checker.specs.Fit.{AreFit, IsFit};
-ghost use Rattle.sy_checker.specs.Flows.{AreFlows};
+ghost use Rattle.sy_checker.specs.Fit.{AreFit, IsFit, IsFitFor, IsWrongIn};
+ghost use Rattle.sy_checker.specs.Flows.{AreFirm};
+ghost use Rattle.sy_checker.specs.Hops.{AreFlows};
 ghost use Rattle.sy_checker.specs.Verifying as spec;
 ghost use Rattle.sy_checker.specs.declared.verifying.CertFault.TheVariants as faults;
 
 use crate::accepted::{Accepted, put_pairs};
 use crate::classes::protected_classes;
+use crate::firm::{SiteFirm, firm_of};
 use crate::flows::{ClassFlows, flows_of};
+use crate::hops::class_flows;
 use crate::laws::{claims_of_sound_sites, fit_is_safe, fit_is_sound};
 use crate::part::{first_wrong, row_kind};
-use crate::reach::reached;
+use crate::reach::{reached, reached_by_every};
 use crate::wanted::{RowKind, wanted_rows};
 use std::alloc::{AllocError, Global};
 use sy_cert::{Certificate, Row};
@@ -30,8 +34,9 @@ use sy_wire::Class;
 /// Why a certificate isn't accepted.
 #[derive(Clone, Copy, Debug, PartialEq, Eq)]
 pub enum CertFault {
-    /// The first row that isn't the wanted one, or doesn't hold: its line in the text, counted from 1, one past the last
-    /// where rows are missing, and the kind wanted there, or the row's own kind where none is wanted.
+    /// The first line, `Cert`, where its version isn't the site's policy. Else the first row that isn't the wanted one, or
+    /// doesn't hold: its line in the text, counted from 1, one past the last where rows are missing, and the kind wanted
+    /// there, or the row's own kind where none is wanted.
     Wrong { line: usize, row: RowKind },
     /// Memory ran out.
     NoMemory,
@@ -44,45 +49,49 @@ pub(crate) enum Judged {
     Wrong(usize, RowKind),
 }
 
-// Judges the rows of a class that reaches these inputs: those which these rows begin with.
+// Judges the rows of a class that reaches the first of these inputs without spare occurrences, and with them the second:
+// those which these rows begin with.
 pub(crate) fn judge(
     alloc: Global,
     site: &Site,
     class: Class,
     flows: &ClassFlows,
-    reached: &[SiteInput],
+    firm: &[SiteInput],
+    every: &[SiteInput],
     rows: &[Row],
 ) -> Result<Judged, AllocError>
     requires flows { AreFlows site.now class flows.now }
-    requires reached { (x : AnyInput) → Contains reached.now x ↔ Reach site.now class x }
+    requires firm { (x : AnyInput) → Contains firm.now x ↔ Reach site.now class Scope.Firm x }
+    requires every { (x : AnyInput) → Contains every.now x ↔ Reach site.now class Scope.Every x }
     ensures { IfOk result (λ judged. spec.IsJudged site.now class rows.now judged) }
 {
-    let part = wanted_rows(alloc, site, class, reached)?;
+    let part = wanted_rows(alloc, site, class, firm, every)?;
     match first_wrong(site, class, flows, part.as_slice(), rows) {
         Some((place, kind)) => Ok(Judged::Wrong(place, kind)),
         None => Ok(Judged::Right(part.len())),
     }
 }
 
-// Judges the rows of a class, and puts each input that it reaches, which are these, with it behind the pairs of the
-// classes before.
+// Judges the rows of a class, and puts each of the first of these inputs with it behind the pairs of the classes before.
 fn judge_class(
     alloc: Global,
     site: &Site,
     class: Class,
     flows: &ClassFlows,
-    reached: &[SiteInput],
+    firm: &[SiteInput],
+    every: &[SiteInput],
     rows: &[Row],
     pairs: &mut Vec<(SiteInput, Class)>,
 ) -> Result<Judged, AllocError>
     requires flows { AreFlows site.now class flows.now }
-    requires reached { (x : AnyInput) → Contains reached.now x ↔ Reach site.now class x }
+    requires firm { (x : AnyInput) → Contains firm.now x ↔ Reach site.now class Scope.Firm x }
+    requires every { (x : AnyInput) → Contains every.now x ↔ Reach site.now class Scope.Every x }
     ensures judged { IfOk result (λ judged. spec.IsJudged site.now class rows.now judged) }
     ensures pairs { OnOk result ((before : List AnyClass) → AreReached site.now before pairs.old.items
         → AreReached site.now (before ++ class ∷ []) pairs.new.items) }
 {
-    put_pairs(pairs, reached, class)?;
-    judge(alloc, site, class, flows, reached, rows)
+    put_pairs(pairs, firm, class)?;
+    judge(alloc, site, class, flows, firm, every, rows)
 }
 
 // The same, with what the class executes and reaches worked out for it.
@@ -90,21 +99,27 @@ fn judge_next(
     alloc: Global,
     site: &Site,
     class: Class,
+    firm: &SiteFirm,
     rows: &[Row],
     pairs: &mut Vec<(SiteInput, Class)>,
 ) -> Result<Judged, AllocError>
+    requires firm { AreFirm site.now firm.now }
     ensures judged { IfOk result (λ judged. spec.IsJudged site.now class rows.now judged) }
     ensures pairs { OnOk result ((before : List AnyClass) → AreReached site.now before pairs.old.items
         → AreReached site.now (before ++ class ∷ []) pairs.new.items) }
 {
-    let flows = flows_of(alloc, site, class)?;
+    let lists = flows_of(alloc, site, class, firm)?;
+    let flows = class_flows(alloc, site, class, lists)?;
     let found = reached(alloc, site, class, &flows)?;
+    let inputs = found.inputs.as_slice();
+    let every = reached_by_every(alloc, site, class, &flows, inputs)?;
     judge_class(
         alloc,
         site,
         class,
         &flows,
-        found.inputs.as_slice(),
+        inputs,
+        every.as_slice(),
         rows,
         pairs,
     )
@@ -114,10 +129,12 @@ fn judge_next(
 fn check_rows(
     alloc: Global,
     site: &Site,
+    firm: &SiteFirm,
     classes: &[Class],
     rows: &[Row],
     pairs: &mut Vec<(SiteInput, Class)>,
 ) -> Result<(), CertFault>
+    requires firm { AreFirm site.now firm.now }
     requires none { pairs.old.items ≡ [] }
     ensures ok { OnOk result (AreFit site.now classes.now rows.now) }
     ensures pairs { OnOk result (AreReached site.now classes.now pairs.new.items) }
@@ -125,7 +142,7 @@ fn check_rows(
 {
     let mut done = 0;
     for class in classes {
-        let Ok(judged) = judge_next(alloc, site, *class, &rows[done..], pairs) else {
+        let Ok(judged) = judge_next(alloc, site, *class, firm, &rows[done..], pairs) else {
             return Err(CertFault::NoMemory);
         };
         match judged {
@@ -145,12 +162,37 @@ fn check_rows(
     }
 }
 
+// Accepts rows that are fit for a site, and no others.
+fn verify_rows(alloc: Global, site: &Site, rows: &[Row]) -> Result<Accepted, CertFault>
+    ensures fit { OnOk result (IsFit site.now rows.now) }
+    ensures wrong { IfErr result (λ fault. spec.AreWrongRows site.now rows.now fault) }
+    ensures accepted { IfOk result (λ accepted. IsOf site.now accepted) }
+{
+    site.is_lawful();
+    fit_is_sound();
+    let Ok(classes) = protected_classes(alloc, site) else {
+        return Err(CertFault::NoMemory);
+    };
+    let Ok(firm) = firm_of(alloc, site) else {
+        return Err(CertFault::NoMemory);
+    };
+    let mut pairs = Vec::new(alloc);
+    if let Err(fault) = check_rows(alloc, site, &firm, classes.as_slice(), rows, &mut pairs) {
+        return Err(fault);
+    }
+    let Ok(accepted) = Accepted::new(alloc, site, classes, pairs) else {
+        return Err(CertFault::NoMemory);
+    };
+    Ok(accepted)
+}
+
 /// Accepts a certificate that is fit for a site, and no other; one that is fit is refused for want of memory alone. Where
-/// it accepts, the site is sound, and no message of a protected class is lost in any run of it.
+/// it accepts, the site is sound, and no message of a protected class is lost in any run of it, but at or after a spare
+/// action.
 pub fn verify(alloc: Global, site: &Site, certificate: &Certificate) -> Result<Accepted, CertFault>
-    ensures fit { OnOk result (IsFit site.now certificate.now.rows) }
-    ensures wrong { IfErr result (λ fault. spec.IsFault site.now certificate.now.rows fault) }
-    ensures only { IfErr result (λ fault. IsFit site.now certificate.now.rows → fault ≡ faults.NoMemory) }
+    ensures fit { OnOk result (IsFitFor site.now certificate.now) }
+    ensures wrong { IfErr result (λ fault. spec.IsFault site.now certificate.now fault) }
+    ensures only { IfErr result (λ fault. IsFitFor site.now certificate.now → fault ≡ faults.NoMemory) }
     ensures accepted { IfOk result (λ accepted. IsOf site.now accepted) }
     ensures sound { OnOk result (IsSound site.now) }
     ensures confined { OnOk result (StayConfined site.now) }
@@ -163,21 +205,12 @@ pub fn verify(alloc: Global, site: &Site, certificate: &Certificate) -> Result<A
     fit_is_sound();
     claims_of_sound_sites();
     fit_is_safe();
-    let Ok(classes) = protected_classes(alloc, site) else {
-        return Err(CertFault::NoMemory);
-    };
-    let mut pairs = Vec::new(alloc);
-    if let Err(fault) = check_rows(
-        alloc,
-        site,
-        classes.as_slice(),
-        certificate.rows(),
-        &mut pairs,
-    ) {
-        return Err(fault);
+    if certificate.version() != site.policy() {
+        let (line, row) = (1, RowKind::Cert);
+        return Err(CertFault::Wrong { line, row });
     }
-    let Ok(accepted) = Accepted::new(alloc, site, classes, pairs) else {
-        return Err(CertFault::NoMemory);
-    };
-    Ok(accepted)
+    match verify_rows(alloc, site, certificate.rows()) {
+        Ok(accepted) => Ok(accepted),
+        Err(fault) => Err(fault),
+    }
 }

@@ -4,13 +4,14 @@ ghost use Rattle.std.specs.Prelude.{◌≡◌, ◌++◌, ◌∷◌, ◌↔◌, C
 ghost use Rattle.std.specs.List.{list_any};
 ghost use Rattle.sy_site.specs.Sites as sites;
 ghost use Rattle.sy_site.specs.declared.site.SiteInput.{SiteInput as AnyInput};
+ghost use Rattle.sy_board.specs.relay.Spares.{Scope};
 ghost use Rattle.sy_site.specs.machine.Reach.{Reach};
 ghost use Rattle.sy_checker.specs.Fit.{AreWanted};
 ghost use Rattle.sy_checker.specs.Internal.{AddsArchive};
 ghost use Rattle.sy_checker.specs.Verifying.{kind_words};
 ghost use Rattle.sy_checker.specs.declared.wanted.Wanted.TheVariants as spec;
 
-use crate::order::{relays_of, sorted};
+use crate::order::{relays_of, rest, sorted};
 use std::alloc::{AllocError, Global};
 use sy_site::{Protection, Site, SiteAction, SiteInput};
 use sy_wire::Class;
@@ -20,21 +21,25 @@ use sy_wire::Class;
 pub enum Wanted {
     /// the class itself
     Class(Class),
-    /// an input that the class reaches
+    /// an input that the class reaches without spare occurrences
     Reach(SiteInput),
-    /// a relay with such an input
+    /// another input that it reaches
+    Branch(SiteInput),
+    /// a relay with a reached input
     Rank(u32),
     /// the way from an entry to an archive that is named for the class
     Path(SiteInput, SiteAction),
 }
 
-/// The kinds of a certificate's rows.
+/// The kinds of a certificate's rows, and of its first line.
 #[derive(Clone, Copy, Debug, PartialEq, Eq)]
 pub enum RowKind {
     Class,
     Reach,
+    Branch,
     Rank,
     Path,
+    Cert,
 }
 
 impl RowKind {
@@ -45,8 +50,10 @@ impl RowKind {
         match self {
             RowKind::Class => "class",
             RowKind::Reach => "reach",
+            RowKind::Branch => "branch",
             RowKind::Rank => "rank",
             RowKind::Path => "path",
+            RowKind::Cert => "cert",
         }
     }
 }
@@ -97,6 +104,15 @@ fn put_inputs(part: &mut Vec<Wanted>, inputs: &[SiteInput]) -> Result<(), AllocE
     Ok(())
 }
 
+fn put_branches(part: &mut Vec<Wanted>, inputs: &[SiteInput]) -> Result<(), AllocError>
+    ensures { OnOk result (part.new.items ≡ part.old.items ++ map spec.Branch inputs.now) }
+{
+    for input in inputs {
+        part.push(Wanted::Branch(*input))?;
+    }
+    Ok(())
+}
+
 fn put_relays(part: &mut Vec<Wanted>, relays: &[u32]) -> Result<(), AllocError>
     ensures { OnOk result (part.new.items ≡ part.old.items ++ map spec.Rank relays.now) }
 {
@@ -134,23 +150,28 @@ fn put_all_paths(
     Ok(())
 }
 
-/// The rows that are wanted for a class, which reaches these inputs.
+/// The rows that are wanted for a class, which reaches the first of these inputs without spare occurrences, and with them
+/// the second.
 pub fn wanted_rows(
     alloc: Global,
     site: &Site,
     class: Class,
-    reached: &[SiteInput],
+    firm: &[SiteInput],
+    every: &[SiteInput],
 ) -> Result<Vec<Wanted>, AllocError>
-    requires reached { (x : AnyInput) → Contains reached.now x ↔ Reach site.now class x }
+    requires firm { (x : AnyInput) → Contains firm.now x ↔ Reach site.now class Scope.Firm x }
+    requires every { (x : AnyInput) → Contains every.now x ↔ Reach site.now class Scope.Every x }
     ensures { IfOk result (λ part. AreWanted site.now class part.items) }
 {
     site.is_lawful();
-    let inputs = sorted(alloc, site, reached)?;
-    let relays = relays_of(alloc, site, inputs.as_slice())?;
+    let inputs = sorted(alloc, site, firm)?;
+    let branches = rest(alloc, site, every, firm)?;
+    let relays = relays_of(alloc, site, every)?;
     let archives = archives(alloc, site, class)?;
     let mut part = Vec::new(alloc);
     part.push(Wanted::Class(class))?;
     put_inputs(&mut part, inputs.as_slice())?;
+    put_branches(&mut part, branches.as_slice())?;
     put_relays(&mut part, relays.as_slice())?;
     put_all_paths(&mut part, site.entries(), archives.as_slice())?;
     Ok(part)

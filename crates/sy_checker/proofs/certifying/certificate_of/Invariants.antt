@@ -5,6 +5,7 @@ use Rattle.sy_checker.proofs.certifying.certificate_of.Given as goal
 
 abbrev pub invariant-loop-row : goal.invariant-loop-row
 invariant-loop-row l = record {
+  version : l.certificate.version ≡ l.version;
   whole : l.certificate.rows ++ l.row-iterator.rest.items ≡ l.initial.row-iterator.rest.items;
-  shaped : AreShaped (last_kind l.certificate.rows) l.row-iterator.rest.items;
+  shaped : AreShaped l.version (last_kind l.certificate.rows) l.row-iterator.rest.items;
 }

@@ -24,6 +24,7 @@ check_class-requires c = record {
   protected = c.requires.protected c.class-item.result
       (subst (Contains c.args.classes.now) (sym c.class-item.is)
       (Contains-get_or c.args.classes.now c.loop-class.class-index c.class-item.result c.loop-class-test.true));
+  firm = c.in_ok-firm.ensures;
   courses = c.loop-class.invariant.2;
   met = c.loop-class.invariant.3;
 }

@@ -8,8 +8,8 @@ use Rattle.sy_checker.proofs.course.course_for.Goals as goal
 pub same_course-requires-clause-course : goal.same_course-requires-clause-course
 same_course-requires-clause-course c =
     subst (λ l. IsCourseAt c.args.site.now c.args.class l c.in-Some.place) (sym c.as_slice-in-Some.ensures.value)
-    (same_course_at c.args.site.now c.is_lawful.ensures c.args.class c.args.courses.now.items c.in_ok-flows.flows c.in-Some.place c.requires.courses
-    c.in_ok-flows.ensures (subst (λ l. IsSameAt l c.in_ok-flows.flows c.in-Some.place) c.as_slice.ensures.value c.in-Some.ensures.some))
+    (same_course_at c.args.site.now c.is_lawful.ensures c.args.class c.args.courses.now.items c.in_ok-lists.lists c.in-Some.place c.requires.courses
+    c.in_ok-lists.ensures (subst (λ l. IsSameAt l c.in_ok-lists.lists c.in-Some.place) c.as_slice.ensures.value c.in-Some.ensures.some))
 
 pub returns-in-Some-clause-at : goal.returns-in-Some-clause-at
 returns-in-Some-clause-at c =

@@ -15,7 +15,7 @@ returns-then-same_flows-clause-some c =
       course = c.index-courses-place.result;
       stands = slice_get_read c.args.courses.now (length c.args.courses.now) c.loop-place.place c.index-courses-place.result refl low
           c.index-courses-place.is;
-      same = subst (λ (y : Course). AreSame y.flows c.args.flows.now) (sym c.index-courses-place.is) (c.same_flows.ensures.0 c.if-same_flows.true);
+      same = subst (λ (y : Course). AreSame y.flows.lists c.args.flows.now) (sym c.index-courses-place.is) (c.same_flows.ensures.0 c.if-same_flows.true);
     }
 
 pub loop-place-preserved : goal.loop-place-preserved
@@ -24,9 +24,9 @@ loop-place-preserved c =
     let low : c.loop-place.place < length courses = omega (arith, c.loop-place-test.true, c.loop-place.auto.place-end) in
     let here = slice_get_read courses (length courses) c.loop-place.place c.index-courses-place.result refl low c.index-courses-place.is in
     λ k course below.
-    more_below (λ n. (x : Course) → slice_get courses n ≡ Some x → AreSame x.flows c.args.flows.now → ⊥) c.loop-place.place
+    more_below (λ n. (x : Course) → slice_get courses n ≡ Some x → AreSame x.flows.lists c.args.flows.now → ⊥) c.loop-place.place
     (λ x stands same. false≢true (sym c.if-same_flows.false
-    ∙ c.same_flows.ensures.1 (subst (λ (y : Course). AreSame y.flows c.args.flows.now) (one_value (sym stands ∙ here) ∙ c.index-courses-place.is) same)))
+    ∙ c.same_flows.ensures.1 (subst (λ (y : Course). AreSame y.flows.lists c.args.flows.now) (one_value (sym stands ∙ here) ∙ c.index-courses-place.is) same)))
     (λ n less x. c.loop-place.invariant n x less) k below course
 
 pub returns-clause-none : goal.returns-clause-none

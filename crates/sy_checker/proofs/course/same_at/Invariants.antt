@@ -5,4 +5,4 @@ use Rattle.sy_checker.specs.Course.{AreSame}
 use Rattle.sy_checker.proofs.course.same_at.Given as goal
 
 abbrev pub invariant-loop-place : goal.invariant-loop-place
-invariant-loop-place l = (k : ℕ) (course : Course) → k < l.place → slice_get l.courses k ≡ Some course → AreSame course.flows l.flows → ⊥
+invariant-loop-place l = (k : ℕ) (course : Course) → k < l.place → slice_get l.courses k ≡ Some course → AreSame course.flows.lists l.flows → ⊥

@@ -1,16 +1,22 @@
-use Rattle.std.proofs.Common.{◌+◌, arith, subst, sym}
-use Rattle.sy_checker.specs.Flows.{AreEach, IsFlow, IsInputFlow}
+use Rattle.std.proofs.Common.{◌≡◌, ◌+◌, true, arith, subst, sym}
+use Rattle.sy_site.specs.Sites.{plan_at}
+use Rattle.sy_checker.specs.declared.flows.ListFlows.{ListFlows}
+use Rattle.sy_checker.specs.Flows.{AreEach, IsFlow, is_used}
 use Rattle.sy_checker.proofs.Flowing.{each_more}
 use Rattle.sy_checker.proofs.flows.relay_flows.Goals as goal
 
-pub loop-place-preserved : goal.loop-place-preserved
-loop-place-preserved c =
-    let below = c.loop-place-test.true in
+pub loop-list-preserved : goal.loop-list-preserved
+loop-list-preserved c =
+    let below = c.loop-list-test.true in
     record {
-      each = subst (AreEach (IsInputFlow c.args.plan.now c.args.class) (c.loop-place.place + 1)) (sym c.in_ok-push.ensures.items)
-          (each_more (IsInputFlow c.args.plan.now c.args.class) c.loop-place.place c.loop-place.inputs.items c.flow_for-flow.result
-          c.loop-place.invariant.each
-          (subst (λ list. IsFlow c.args.plan.now c.args.class list c.flow_for-flow.result) c.list_at-list.ensures.list c.flow_for-flow.ensures));
-      all = c.loop-place.invariant.all;
+      each = subst
+          (AreEach (λ list (flow : ListFlows). is_used (plan_at c.args.site.now c.args.relay) list ≡ true
+          → IsFlow c.args.site.now c.args.class c.args.relay list flow) (c.loop-list.list + 1))
+          (sym c.in_ok-push.ensures.items)
+          (each_more
+          (λ list (flow : ListFlows). is_used (plan_at c.args.site.now c.args.relay) list ≡ true
+          → IsFlow c.args.site.now c.args.class c.args.relay list flow)
+          c.loop-list.list c.loop-list.lists.items c.used_flows-flows.result c.loop-list.invariant.each c.used_flows-flows.ensures);
+      all = c.loop-list.invariant.all;
       within = omega (arith, below);
     }

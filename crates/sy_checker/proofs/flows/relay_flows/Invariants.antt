@@ -1,10 +1,11 @@
-use Rattle.std.proofs.Common.{◌≡◌, ◌≤◌, length}
-use Rattle.sy_checker.specs.Flows.{AreEach, IsInputFlow}
+use Rattle.std.proofs.Common.{◌≡◌, ◌≤◌, true, length}
+use Rattle.sy_site.specs.Sites.{plan_at}
+use Rattle.sy_checker.specs.Flows.{AreEach, IsFlow, is_used}
 use Rattle.sy_checker.proofs.flows.relay_flows.Given as goal
 
-abbrev pub invariant-loop-place : goal.invariant-loop-place
-invariant-loop-place l = record {
-  each : AreEach (IsInputFlow l.plan l.class) l.place l.inputs.items;
-  all : l.many ≡ length l.plan.inputs;
-  within : l.place ≤ l.many;
+abbrev pub invariant-loop-list : goal.invariant-loop-list
+invariant-loop-list l = record {
+  each : AreEach (λ list flow. is_used (plan_at l.fn.site l.fn.relay) list ≡ true → IsFlow l.fn.site l.fn.class l.fn.relay list flow) l.list l.lists.items;
+  all : l.many ≡ length (plan_at l.fn.site l.fn.relay).lists;
+  within : l.list ≤ l.many;
 }

@@ -4,16 +4,16 @@ use Rattle.sy_checker.proofs.Risky.{safe_all, safe_first, safe_more, shown}
 use Rattle.sy_checker.proofs.kinds.may_risk.Goals as goal
 
 pub loop-number-init : goal.loop-number-init
-loop-number-init c = safe_first c.args.site.now c.args.input c.may_at-may.result c.args.risk
+loop-number-init c = safe_first c.args.site.now c.args.input c.executed_at-may.result c.args.risk
 
 pub loop-number-preserved : goal.loop-number-preserved
 loop-number-preserved c =
-    safe_more c.args.site.now c.args.input c.may_at-may.result c.args.risk c.loop-number.from c.in-Some.number c.in-Some.ensures.some
+    safe_more c.args.site.now c.args.input c.executed_at-may.result c.args.risk c.loop-number.from c.in-Some.number c.in-Some.ensures.some
     (λ r. false≢true (sym c.if-has_risk.false ∙ c.has_risk.ensures.1 r)) c.loop-number.invariant
 
 pub returns-then-has_risk : goal.returns-then-has_risk
 returns-then-has_risk c = (
-  λ yes. shown c.args.site.now c.args.class c.args.input c.may_at-may.result c.in-Some.number c.args.risk c.may_at-may.ensures
+  λ yes. shown c.args.site.now c.args.class c.args.input c.executed_at-may.result c.in-Some.number c.args.risk c.executed_at-may.ensures
       (c.has_risk.ensures.0 c.if-has_risk.true),
   λ h. refl,
 )
@@ -21,6 +21,6 @@ returns-then-has_risk c = (
 pub returns : goal.returns
 returns c = (
   λ no. absurd (false≢true no),
-  λ h. absurd (safe_all c.args.site.now c.args.class c.args.input c.may_at-may.result c.args.risk c.loop-number.from c.may_at-may.ensures
+  λ h. absurd (safe_all c.args.site.now c.args.class c.args.input c.executed_at-may.result c.args.risk c.loop-number.from c.executed_at-may.ensures
       c.in_default.ensures.none c.loop-number.invariant h),
 )

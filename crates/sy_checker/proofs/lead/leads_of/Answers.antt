@@ -25,7 +25,7 @@ spread-requires c =
     let entries = c.entries-entry-items.result.now in
     let item = get_or entries c.loop-entry.entry-index no_input in
     record {
-      flows = c.requires.flows;
+      hops = c.in_ok-hops.ensures;
       there = λ x is. subst (IsInput c.args.site.now) (one_start item x is)
           (entry_there c.args.site.now c.is_lawful.ensures item
           (subst (λ l. Contains l item) c.entries-entry-items.ensures

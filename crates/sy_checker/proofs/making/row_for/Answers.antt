@@ -1,6 +1,7 @@
-use Rattle.std.proofs.Common.{subst}
+use Rattle.std.proofs.Common.{ap, subst}
 use Rattle.std.specs.Prelude.{Contains}
 use Rattle.sy_checker.specs.declared.wanted.Wanted.TheVariants as wanted
+use Rattle.sy_checker.specs.Ranked.{input_in}
 use Rattle.sy_checker.proofs.Comparing.{input_there, meant}
 use Rattle.sy_checker.proofs.Meant.{end_there, entry_there, rank_there}
 use Rattle.sy_checker.proofs.There.{relay_there}
@@ -9,7 +10,7 @@ use Rattle.sy_checker.proofs.making.row_for.Goals as goal
 pub reach_row-requires : goal.reach_row-requires
 reach_row-requires c =
     let it = input_there c.args.site.now c.args.class c.args.part.now c.requires.wanted c.is_lawful.ensures c.args.is c.requires.member c.in-Reach.input
-    c.in-Reach.is in
+    (ap input_in c.in-Reach.is) in
     record {
       there = it;
       relay = relay_there c.args.site.now c.in-Reach.input it;
@@ -17,6 +18,12 @@ reach_row-requires c =
           (meant c.args.site.now c.args.class c.args.part.now c.requires.wanted (wanted.Reach c.in-Reach.input)
           (subst (Contains c.args.part.now) c.in-Reach.is c.requires.member));
     }
+
+pub branch_row-requires : goal.branch_row-requires
+branch_row-requires c =
+    let it = input_there c.args.site.now c.args.class c.args.part.now c.requires.wanted c.is_lawful.ensures c.args.is c.requires.member c.in-Branch.input
+    (ap input_in c.in-Branch.is) in
+    record { there = it; relay = relay_there c.args.site.now c.in-Branch.input it }
 
 pub rank_row-requires : goal.rank_row-requires
 rank_row-requires c = record {

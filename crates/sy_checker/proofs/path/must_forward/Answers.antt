@@ -1,7 +1,19 @@
-use Rattle.sy_checker.proofs.Paths.{beyond}
+use Rattle.std.proofs.Common.{◌∙◌, sym}
+use Rattle.std.proofs.lemmas.Bool.{false≢true}
+use Rattle.sy_checker.proofs.Paths.{beyond, must_go, must_not}
 use Rattle.sy_checker.proofs.path.must_forward.Goals as goal
 
 pub returns-then-number-ge64 : goal.returns-then-number-ge64
-returns-then-number-ge64 c = λ to must goes.
-    beyond c.args.site.now c.args.class c.args.input c.must_at-must.result c.args.number c.must_at-must.ensures c.must_at-must.type_inv
-    c.if-number-ge64.true must
+returns-then-number-ge64 c = λ to must.
+    beyond c.args.site.now c.args.class c.args.input c.executed_at-must.result c.args.number c.executed_at-must.ensures c.executed_at-must.type_inv
+    c.if-number-ge64.true to must
+
+pub returns-then-not-has : goal.returns-then-not-has
+returns-then-not-has c =
+    must_not c.args.site.now c.args.class c.args.input c.executed_at-must.result c.args.number c.executed_at-must.ensures
+    (λ bit. false≢true (sym c.if-not-has.true ∙ c.has.ensures.1 bit))
+
+pub returns : goal.returns
+returns c =
+    must_go c.args.site.now c.args.class c.args.input c.executed_at-must.result c.args.number c.executed_at-must.ensures
+    (c.has.ensures.0 c.if-not-has.false) c.forward_at.result (sym c.forward_at.ensures)

@@ -14,21 +14,21 @@ loop-number-init c = none_written c.args.site.now c.args.class c.args.archive c.
 
 pub loop-number-preserved : goal.loop-number-preserved
 loop-number-preserved c =
-    not_written c.args.site.now c.args.class c.args.archive c.args.input c.must_at-must.result c.in-Some.number c.must_at-must.ensures
+    not_written c.args.site.now c.args.class c.args.archive c.args.input c.executed_at-must.result c.in-Some.number c.executed_at-must.ensures
     c.loop-number.from c.in-Some.ensures.some (λ member writes. false≢true (sym c.if-writes.false ∙ c.writes.ensures.1 (member, writes)))
     c.loop-number.invariant
 
 pub returns-then-writes : goal.returns-then-writes
 returns-then-writes c =
     let it = c.writes.ensures.0 c.if-writes.true in (
-      λ yes. written c.args.site.now c.args.class c.args.archive c.args.input c.must_at-must.result c.in-Some.number
-          c.must_at-must.ensures it.0 it.1,
+      λ yes. written c.args.site.now c.args.class c.args.archive c.args.input c.executed_at-must.result c.in-Some.number
+          c.executed_at-must.ensures it.0 it.1,
       λ w. refl,
     )
 
 pub returns : goal.returns
 returns c = (
   λ no. absurd (false≢true no),
-  λ w. absurd (never_written c.args.site.now c.args.class c.args.archive c.args.input c.must_at-must.result c.loop-number.from
-      c.must_at-must.ensures c.in_default.ensures.none c.loop-number.invariant w),
+  λ w. absurd (never_written c.args.site.now c.args.class c.args.archive c.args.input c.executed_at-must.result c.loop-number.from
+      c.executed_at-must.ensures c.in_default.ensures.none c.loop-number.invariant w),
 )

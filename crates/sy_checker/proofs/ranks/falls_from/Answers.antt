@@ -1,31 +1,21 @@
-use Rattle.std.proofs.Common.{◌∙◌, arith, refl, sym}
-use Rattle.std.proofs.lemmas.Bool.{false≢true}
-use Rattle.sy_checker.proofs.Comparing.{falls_all, more_fall}
+use Rattle.sy_board.specs.relay.Spares.{Scope}
+use Rattle.sy_site.specs.machine.Reach.{list_of}
+use Rattle.sy_checker.proofs.Comparing.{falls_by_hops, hops_by_falls}
+use Rattle.sy_checker.proofs.There.{reaches_there, relay_there}
 use Rattle.sy_checker.proofs.ranks.falls_from.Goals as goal
 
-pub loop-number-init : goal.loop-number-init
-loop-number-init c = (λ k low. absurd (omega (arith, low)), record {})
-
-pub loop-number-preserved : goal.loop-number-preserved
-loop-number-preserved c = (
-  more_fall c.args.site.now c.args.part.now c.args.rows.now c.args.rank c.args.from c.may_at-may.result c.loop-number.next c.in-Some.number
-      c.in-Some.ensures.some c.loop-number.invariant.0 (c.leads_below.ensures.below.0 c.if-not-leads_below.false),
-  c.leads_below.ensures.known c.if-not-leads_below.false,
-)
-
-pub leads_below-requires : goal.leads_below-requires
-leads_below-requires c = record { there = c.requires.there; small = c.in-Some.ensures.some.small; known = c.loop-number.invariant.1 }
-
-pub returns-then-not-leads_below : goal.returns-then-not-leads_below
-returns-then-not-leads_below c = (
-  λ no. absurd (false≢true no),
-  λ falls. absurd (false≢true (sym c.if-not-leads_below.true
-      ∙ c.leads_below.ensures.below.1 (λ to bit goes. falls to c.in-Some.number ((c.may_at-may.ensures c.in-Some.number).0 bit) goes))),
-)
+pub falls_by-requires : goal.falls_by-requires
+falls_by-requires c = record {
+  there = λ hop there.
+      relay_there c.args.site.now hop.to
+      (reaches_there c.args.site.now c.args.class Scope.Every c.args.from.relay (list_of c.args.site.now c.args.from) hop.number hop.to
+      (c.hops_at-hops.ensures.sound hop there).1);
+}
 
 pub returns : goal.returns
 returns c = (
-  λ yes. falls_all c.args.site.now c.args.class c.args.part.now c.args.rows.now c.args.rank c.args.from c.may_at-may.result c.loop-number.next
-      c.may_at-may.ensures c.in_default.ensures.none c.loop-number.invariant.0,
-  λ falls. refl,
+  λ yes. falls_by_hops c.args.site.now c.args.part.now c.args.rows.now c.args.rank c.hops_at-hops.result.now c.args.class c.args.from
+      c.hops_at-hops.ensures (c.falls_by.ensures.0 yes),
+  λ falls. c.falls_by.ensures.1 (hops_by_falls c.args.site.now c.args.part.now c.args.rows.now c.args.rank c.hops_at-hops.result.now c.args.class
+      c.args.from c.hops_at-hops.ensures falls),
 )

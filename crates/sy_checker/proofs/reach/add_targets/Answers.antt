@@ -1,18 +1,26 @@
-use Rattle.sy_checker.proofs.Found.{LeadsBelow, all_leads, more_leads}
-use Rattle.sy_checker.proofs.Rooted.{stands_still}
+use Rattle.std.proofs.Common.{get_or, take}
+use Rattle.std.proofs.lemmas.List.Elements.{Contains-get_or}
+use Rattle.sy_checker.specs.Hops.{HasHop}
+use Rattle.sy_checker.proofs.Found.{all_hops, more_hops, none_hops}
+use Rattle.sy_checker.proofs.Rooted.{leads_origin, stands_still}
 use Rattle.sy_checker.proofs.reach.add_targets.Goals as goal
 
-pub loop-number-preserved : goal.loop-number-preserved
-loop-number-preserved c = (
-  more_leads c.args.site.now c.executed_at-set.result c.args.from c.loop-number.next c.in-Some.number c.args.found.now.inputs.items
-      c.loop-number.found.inputs.items c.add_target.new.found.inputs.items c.in-Some.ensures.some c.loop-number.invariant.0
-      c.in_ok-add_target.ensures.inputs,
-  λ start here rooted. c.in_ok-add_target.ensures.roots c.args.class c.args.which start c.executed_at-set.ensures
-      (stands_still (LeadsBelow c.args.site.now c.executed_at-set.result c.args.from c.loop-number.next) c.args.found.now.inputs.items
-      c.loop-number.found.inputs.items c.loop-number.invariant.0 c.args.place c.args.from here) (c.loop-number.invariant.1 start here rooted),
-)
+pub loop-hop-preserved : goal.loop-hop-preserved
+loop-hop-preserved c =
+    let own = c.hops_at-own.result.now in
+    let k = c.loop-hop.hop-index in
+    (
+      more_hops own k (record { number = 0; to = record { relay = 0; input = 0 } }) c.args.found.now.inputs.items c.loop-hop.found.inputs.items
+          c.add.new.found.inputs.items c.loop-hop-test.true c.loop-hop.invariant.0 c.in_ok-add.ensures.inputs,
+      λ start here rooted. c.in_ok-add.ensures.roots c.args.site.now c.args.class c.args.which start
+          (leads_origin c.args.site.now c.args.class c.args.which start c.loop-hop.found.inputs.items c.args.from c.args.place own
+          (get_or own k (record { number = 0; to = record { relay = 0; input = 0 } })) c.hops_at-own.ensures
+          (Contains-get_or own k (record { number = 0; to = record { relay = 0; input = 0 } }) c.loop-hop-test.true)
+          (stands_still (HasHop (take k own)) c.args.found.now.inputs.items c.loop-hop.found.inputs.items c.loop-hop.invariant.0 c.args.place c.args.from here))
+          (c.loop-hop.invariant.1 start here rooted),
+    )
 
 pub returns-clause-inputs : goal.returns-clause-inputs
 returns-clause-inputs c =
-    all_leads c.args.site.now c.args.class c.args.which c.executed_at-set.result c.args.from c.loop-number.next c.args.found.now.inputs.items
-    c.loop-number.found.inputs.items c.in_default.ensures.none c.executed_at-set.ensures c.loop-number.invariant.0
+    all_hops c.args.site.now c.args.class c.args.which c.args.from c.hops_at-own.result.now c.loop-hop.hop-index c.args.found.now.inputs.items
+    c.loop-hop.found.inputs.items c.hops_at-own.ensures c.loop-hop-test.false c.loop-hop.invariant.0

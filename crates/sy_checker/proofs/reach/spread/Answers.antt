@@ -32,7 +32,7 @@ pub add_targets-requires : goal.add_targets-requires
 add_targets-requires c =
     let low : c.loop-done.done < length c.loop-done.found.inputs.items = omega (arith, c.loop-done-test.true, c.len.ensures) in
     record {
-      flows = c.requires.flows;
+      hops = c.requires.hops;
       there = c.loop-done.invariant.there c.index-from.result.now (c.loop-done.done, low, sym c.index-from.ensures);
     }
 

@@ -1,5 +1,6 @@
-use Rattle.std.proofs.Common.{subst}
+use Rattle.std.proofs.Common.{ap, subst}
 use Rattle.std.specs.Prelude.{Contains}
+use Rattle.sy_checker.specs.Ranked.{input_in}
 use Rattle.sy_checker.proofs.Comparing.{input_there}
 use Rattle.sy_checker.proofs.Meant.{end_there, entry_there, rank_there}
 use Rattle.sy_checker.proofs.There.{relay_there}
@@ -8,8 +9,14 @@ use Rattle.sy_checker.proofs.rows.is_right.Goals as goal
 pub is_reach_row-requires : goal.is_reach_row-requires
 is_reach_row-requires c =
     let it = input_there c.args.site.now c.args.class c.args.part.now c.requires.wanted c.is_lawful.ensures c.args.is c.requires.member c.in-Reach.input
-    c.in-Reach.is in
+    (ap input_in c.in-Reach.is) in
     record { flows = c.requires.flows; there = it; relay = relay_there c.args.site.now c.in-Reach.input it }
+
+pub is_branch_row-requires : goal.is_branch_row-requires
+is_branch_row-requires c =
+    let it = input_there c.args.site.now c.args.class c.args.part.now c.requires.wanted c.is_lawful.ensures c.args.is c.requires.member c.in-Branch.input
+    (ap input_in c.in-Branch.is) in
+    record { there = it; relay = relay_there c.args.site.now c.in-Branch.input it }
 
 pub is_rank_row-requires : goal.is_rank_row-requires
 is_rank_row-requires c = record {

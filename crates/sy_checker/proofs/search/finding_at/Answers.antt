@@ -11,7 +11,7 @@ pub way_to-requires : goal.way_to-requires
 way_to-requires c =
     let it = c.requires.unclean in
     record {
-      ordered = go_back c.args.site.now c.args.class executed.May c.args.site.now.entries c.args.found.now.inputs.items
+      ordered = go_back c.args.site.now c.args.class executed.Firm c.args.site.now.entries c.args.found.now.inputs.items
           c.args.found.now.origins.items c.requires.spread.rooted;
       within = slice_get_within c.args.found.now.inputs.items c.args.place it.input it.stands;
     }
@@ -24,5 +24,5 @@ returns c =
     (sym (c.index-input.ensures ∙ it_stands c.args.found.now.inputs.items c.args.place c.index-input.result.now it.input it.stands))
     (is_finding site c.args.class c.in_ok-way.way it.input c.args.kind c.requires.protected
     (way_is site c.args.class c.in_ok-way.way it.input
-    (c.in_ok-way.ensures site c.args.class executed.May site.entries c.requires.spread.rooted it.input it.stands))
+    (c.in_ok-way.ensures site c.args.class executed.Firm site.entries c.requires.spread.rooted it.input it.stands))
     it.holds)

@@ -1,3 +1,4 @@
+use Rattle.sy_board.specs.relay.Spares.{Scope}
 use Rattle.sy_site.specs.machine.Findings.{HoldsAt}
 use Rattle.sy_site.specs.machine.Reach.{Reach}
 use Rattle.sy_site.specs.Sites.{archives}
@@ -9,7 +10,7 @@ use Rattle.sy_checker.proofs.surveying.put_all.Goals as goal
 pub returns-clause-tells : goal.returns-clause-tells
 returns-clause-tells c =
     let site = c.args.site.now in
-    both_told site c.args.class (λ i j. Reach site c.args.class i × HoldsAt site c.args.class i (kind_of j))
+    both_told site c.args.class (λ i j. Reach site c.args.class Scope.Firm i × HoldsAt site c.args.class i (kind_of j))
     (λ i j. Among site.entries (λ entry. Among (archives site c.args.class) (λ archive. IsUnmetBy site c.args.class entry archive i j))) IsNothing
     c.args.found.now.groups.items c.put_reached.new.found.groups.items c.put_all_unmet.new.found.groups.items c.in_ok-put_reached.ensures.tells
     c.in_ok-put_all_unmet.ensures (λ i j p. absurd p)

@@ -9,6 +9,7 @@ use Rattle.sy_checker.proofs.surveying.survey_of.Goals as goal
 
 pub put_all-requires : goal.put_all-requires
 put_all-requires c = record {
+  firm = c.in_ok-firm.ensures;
   protected = c.requires.protected c.class-item.result
       (subst (Contains c.args.classes.now) (sym c.class-item.is)
       (Contains-get_or c.args.classes.now c.loop-class.class-index c.class-item.result c.loop-class-test.true));

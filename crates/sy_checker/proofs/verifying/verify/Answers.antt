@@ -1,51 +1,49 @@
-use Rattle.std.proofs.Common.{subst}
-use Rattle.sy_checker.specs.Acceptance.{AreReached}
-use Rattle.sy_checker.proofs.Uniqueness.{only_memory}
-use Rattle.sy_checker.proofs.Verified.{fit_by}
+use Rattle.std.proofs.Common.{◌∙◌, inl, refl, subst, sym}
+use Rattle.sy_checker.specs.Fit.{IsFit}
+use Rattle.sy_checker.proofs.Uniqueness.{fault_of, only_memory}
 use Rattle.sy_checker.proofs.verifying.verify.Goals as goal
 
-pub returns-clause-sound : goal.returns-clause-sound
-returns-clause-sound c =
-    c.fit_is_sound.ensures c.args.site.now c.args.certificate.now.rows
-    (fit_by c.args.site.now c.in-Ok.classes.items c.as_slice.result.now c.rows.result.now c.args.certificate.now.rows c.in-Ok.ensures
-    c.as_slice.ensures.value c.rows.ensures c.in_default-check_rows.ensures.ok)
+pub returns-then-version-policy-clause-wrong : goal.returns-then-version-policy-clause-wrong
+returns-then-version-policy-clause-wrong c =
+    inl (λ same. c.if-version-policy.true (c.version.ensures ∙ same ∙ sym c.policy.ensures), refl, refl)
 
-pub returns-clause-confined : goal.returns-clause-confined
-returns-clause-confined c =
-    c.claims_of_sound_sites.ensures.confined c.args.site.now (c.fit_is_sound.ensures c.args.site.now c.args.certificate.now.rows
-    (fit_by c.args.site.now c.in-Ok.classes.items c.as_slice.result.now c.rows.result.now c.args.certificate.now.rows c.in-Ok.ensures
-    c.as_slice.ensures.value c.rows.ensures c.in_default-check_rows.ensures.ok))
+pub returns-then-version-policy-clause-only : goal.returns-then-version-policy-clause-only
+returns-then-version-policy-clause-only c = λ fit.
+    absurd (c.if-version-policy.true (c.version.ensures ∙ fit.version ∙ sym c.policy.ensures))
 
-pub returns-clause-falling : goal.returns-clause-falling
-returns-clause-falling c =
-    c.claims_of_sound_sites.ensures.falling c.args.site.now (c.fit_is_sound.ensures c.args.site.now c.args.certificate.now.rows
-    (fit_by c.args.site.now c.in-Ok.classes.items c.as_slice.result.now c.rows.result.now c.args.certificate.now.rows c.in-Ok.ensures
-    c.as_slice.ensures.value c.rows.ensures c.in_default-check_rows.ensures.ok))
+pub returns-in-Ok-clause-fit : goal.returns-in-Ok-clause-fit
+returns-in-Ok-clause-fit c = record {
+  version = sym c.version.ensures ∙ c.if-version-policy.false ∙ c.policy.ensures;
+  rows = subst (IsFit c.args.site.now) c.rows.ensures c.in-Ok.ensures.fit;
+}
 
-pub returns-clause-written : goal.returns-clause-written
-returns-clause-written c =
-    c.claims_of_sound_sites.ensures.written c.args.site.now c.is_lawful.ensures (c.fit_is_sound.ensures c.args.site.now c.args.certificate.now.rows
-    (fit_by c.args.site.now c.in-Ok.classes.items c.as_slice.result.now c.rows.result.now c.args.certificate.now.rows c.in-Ok.ensures
-    c.as_slice.ensures.value c.rows.ensures c.in_default-check_rows.ensures.ok))
+pub returns-in-Ok-clause-sound : goal.returns-in-Ok-clause-sound
+returns-in-Ok-clause-sound c = c.fit_is_sound.ensures c.args.site.now c.rows.result.now c.in-Ok.ensures.fit
 
-pub returns-clause-safe : goal.returns-clause-safe
-returns-clause-safe c = λ events state runs.
-    c.fit_is_safe.ensures c.args.site.now c.args.certificate.now.rows c.is_lawful.ensures
-    (fit_by c.args.site.now c.in-Ok.classes.items c.as_slice.result.now c.rows.result.now c.args.certificate.now.rows c.in-Ok.ensures
-    c.as_slice.ensures.value c.rows.ensures c.in_default-check_rows.ensures.ok)
-    events state runs
+pub returns-in-Ok-clause-confined : goal.returns-in-Ok-clause-confined
+returns-in-Ok-clause-confined c =
+    c.claims_of_sound_sites.ensures.confined c.args.site.now (c.fit_is_sound.ensures c.args.site.now c.rows.result.now c.in-Ok.ensures.fit)
+
+pub returns-in-Ok-clause-falling : goal.returns-in-Ok-clause-falling
+returns-in-Ok-clause-falling c =
+    c.claims_of_sound_sites.ensures.falling c.args.site.now (c.fit_is_sound.ensures c.args.site.now c.rows.result.now c.in-Ok.ensures.fit)
+
+pub returns-in-Ok-clause-written : goal.returns-in-Ok-clause-written
+returns-in-Ok-clause-written c =
+    c.claims_of_sound_sites.ensures.written c.args.site.now c.is_lawful.ensures
+    (c.fit_is_sound.ensures c.args.site.now c.rows.result.now c.in-Ok.ensures.fit)
+
+pub returns-in-Ok-clause-safe : goal.returns-in-Ok-clause-safe
+returns-in-Ok-clause-safe c = λ events state runs.
+    c.fit_is_safe.ensures c.args.site.now c.rows.result.now c.is_lawful.ensures c.in-Ok.ensures.fit events state runs
+
+pub returns-in-Err-clause-wrong : goal.returns-in-Err-clause-wrong
+returns-in-Err-clause-wrong c =
+    fault_of c.args.site.now c.args.certificate.now c.rows.result.now c.in-Err.fault
+    (sym c.version.ensures ∙ c.if-version-policy.false ∙ c.policy.ensures) c.rows.ensures c.in-Err.ensures.wrong
 
 pub returns-in-Err-clause-only : goal.returns-in-Err-clause-only
 returns-in-Err-clause-only c =
-    only_memory c.args.site.now c.in-Ok.classes.items c.as_slice.result.now c.rows.result.now c.args.certificate.now.rows c.in-Err.fault
-    c.in-Ok.ensures c.as_slice.ensures.value c.rows.ensures c.in-Err.ensures.err
-
-pub new-requires-clause-pairs : goal.new-requires-clause-pairs
-new-requires-clause-pairs c =
-    subst (λ l. AreReached c.args.site.now l c.check_rows.new.pairs.items) c.as_slice.ensures.value c.in_default-check_rows.ensures.pairs
-
-pub new-requires-clause-sound : goal.new-requires-clause-sound
-new-requires-clause-sound c =
-    c.fit_is_sound.ensures c.args.site.now c.args.certificate.now.rows
-    (fit_by c.args.site.now c.in-Ok.classes.items c.as_slice.result.now c.rows.result.now c.args.certificate.now.rows c.in-Ok.ensures
-    c.as_slice.ensures.value c.rows.ensures c.in_default-check_rows.ensures.ok)
+    only_memory c.args.site.now c.args.certificate.now c.in-Err.fault
+    (fault_of c.args.site.now c.args.certificate.now c.rows.result.now c.in-Err.fault
+    (sym c.version.ensures ∙ c.if-version-policy.false ∙ c.policy.ensures) c.rows.ensures c.in-Err.ensures.wrong)
