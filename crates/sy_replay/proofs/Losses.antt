@@ -33,7 +33,7 @@ put_there n s r (Out.Passed x e ∷ outs) there all =
     let d : SiteAction = record { relay = r; action = x } in
     put_there n (record s { passed = with_passed s.passed d (s.passed d ++ e.tag ∷ []) }) r outs there all
 put_there n s r (Out.Lost cause e ∷ outs) there all =
-    put_there n (record s { losses = s.losses ++ record { copy = e.tag; relay = r; cause = cause } ∷ [] }) r outs there
+    put_there n (record s { losses = s.losses ++ record { copy = e.tag; relay = r; list = e.list; cause = cause } ∷ [] }) r outs there
     (each_append (λ (l : states.Loss). l.relay < n) s.losses _ all (there, tt))
 
 relay_there : (site : Site) (s : SiteState) (r : ℕ) (e : Event) (new : SiteState) → AreThere (length site.relays) s.losses → RelaySteps site s r e new

@@ -29,13 +29,16 @@ use Rattle.sy_replay.specs.Jobs.{Answer, Answers, Comes, IsPostJob, IsRunJob, ev
 use Rattle.sy_replay.specs.Parts.{Makes, MakesInside, items_of, lost_by, part, passed_by, tags_at}
 use Rattle.sy_replay.proofs.Refused.{nothing_grabbed, one_list}
 
+abbrev the_loss : ℕ → ℕ → ℕ → Cause → states.Loss
+the_loss copy relay list cause = record { copy = copy; relay = relay; list = list; cause = cause }
+
 -- one more loss
 pub one_more : (xs ys : List Loss) (l : Loss) → ys ≡ xs ++ l ∷ [] → losses_of ys ≡ losses_of xs ++ loss_of l ∷ []
 one_more xs ys l is = ap losses_of is ∙ map-append loss_of xs (l ∷ [])
 
 -- a step that lets out one loss, and one that lets out nothing
 pub losing : (relay : ℕ) (old new : BoardState) (event : Event) (cause : Cause) (e : Entry) (xs ys : List Loss) (l : Loss)
-    → Goes old event new (Out.Lost cause e ∷ []) → ys ≡ xs ++ l ∷ [] → loss_of l ≡ record { copy = e.tag; relay = relay; cause = cause }
+    → Goes old event new (Out.Lost cause e ∷ []) → ys ≡ xs ++ l ∷ [] → loss_of l ≡ record { copy = e.tag; relay = relay; list = e.list; cause = cause }
     → MakesInside relay old (losses_of xs) event new (losses_of ys)
 losing relay old new event cause e xs ys l goes is loss = λ passed. record {
   outs = Out.Lost cause e ∷ [];
@@ -112,7 +115,7 @@ grab_some old new w count lost (inr (grabs, counted, is)) some = (grabs, is)
 
 -- the entries that a grab lost, one after the other
 pub one_noted : (relay : ℕ) (node : Entry) (rest lost : List Entry) (xs ys : List Loss) (l : Loss) (all : List states.Loss) → ys ≡ xs ++ l ∷ []
-    → loss_of l ≡ record { copy = node.tag; relay = relay; cause = Cause.Grab } → lost ≡ node ∷ rest
+    → loss_of l ≡ record { copy = node.tag; relay = relay; list = node.list; cause = Cause.Grab } → lost ≡ node ∷ rest
     → losses_of xs ++ lost_by relay (map (Out.Lost Cause.Grab) lost) ≡ all → losses_of ys ++ lost_by relay (map (Out.Lost Cause.Grab) rest) ≡ all
 one_noted relay node rest lost xs ys l all are loss is so_far =
     ap (λ z. z ++ lost_by relay (map (Out.Lost Cause.Grab) rest)) (one_more xs ys l are)
@@ -127,36 +130,39 @@ all_noted relay lost xs all is so_far =
 
 -- ---- runs
 
-pub settled : (old new : BoardState) (w action tag : ℕ) (message : Said) → IsRunJob old w action message tag
-    → SettleIs old w (record { device = action; message = message }) new → Answers Answer.Done old w action tag new
-settled old new w action tag message job (of, settles, is) = (
+pub settled : (old new : BoardState) (w action list tag : ℕ) (message : Said) → IsRunJob old w action list message tag
+    → SettleIs old w (record { device = action; message = message }) new → Answers Answer.Done old w action list tag new
+settled old new w action list tag message job (of, settles, is) = (
   of.run.entry,
   ap (λ (e : Entry). e.tag) (jobs_same old.plan old.state w (occurrence.Run action) (occurrence.Run action) of.run job.job).1 ∙ job.its_tag,
+  ap (λ (e : Entry). e.list) (jobs_same old.plan old.state w (occurrence.Run action) (occurrence.Run action) of.run job.job).1 ∙ job.its_list,
   λ took. ((action, of.run.entry, settles, refl), is),
 )
 
 pub as_told : (failure : Refused) (action : ℕ) → failure.device ≡ action → failure ≡ record failure { device = action }
 as_told failure action d = ap (λ x. record failure { device = x }) d
 
-pub tried : (old new : BoardState) (w action tag : ℕ) (message : Said) (failure : Refused) → IsRunJob old w action message tag → failure.device ≡ action
-    → FailIs retry.Again old w failure new → Answers Answer.Fail old w action tag new
-tried old new w action tag message failure job d is = go (subst (λ x. FailIs retry.Again old w x new) (as_told failure action d) is)
+pub tried : (old new : BoardState) (w action list tag : ℕ) (message : Said) (failure : Refused) → IsRunJob old w action list message tag → failure.device ≡ action
+    → FailIs retry.Again old w failure new → Answers Answer.Fail old w action list tag new
+tried old new w action list tag message failure job d is = go (subst (λ x. FailIs retry.Again old w x new) (as_told failure action d) is)
   where
-    go : FailIs retry.Again old w (record failure { device = action }) new → Answers Answer.Fail old w action tag new
+    go : FailIs retry.Again old w (record failure { device = action }) new → Answers Answer.Fail old w action list tag new
     go (of, fails, same) = (
       of.of.run.entry,
       ap (λ (e : Entry). e.tag) (jobs_same old.plan old.state w (occurrence.Run action) (occurrence.Run action) of.of.run job.job).1 ∙ job.its_tag,
+      ap (λ (e : Entry). e.list) (jobs_same old.plan old.state w (occurrence.Run action) (occurrence.Run action) of.of.run job.job).1 ∙ job.its_list,
       λ took. ((action, of.of.run.entry, fails, refl), same took),
     )
 
-pub given_up : (old new : BoardState) (w action tag : ℕ) (message : Said) (failure : Refused) → IsRunJob old w action message tag → failure.device ≡ action
-    → FailIs retry.GaveUp old w failure new → Answers Answer.GiveUp old w action tag new
-given_up old new w action tag message failure job d is = go (subst (λ x. FailIs retry.GaveUp old w x new) (as_told failure action d) is)
+pub given_up : (old new : BoardState) (w action list tag : ℕ) (message : Said) (failure : Refused) → IsRunJob old w action list message tag → failure.device ≡ action
+    → FailIs retry.GaveUp old w failure new → Answers Answer.GiveUp old w action list tag new
+given_up old new w action list tag message failure job d is = go (subst (λ x. FailIs retry.GaveUp old w x new) (as_told failure action d) is)
   where
-    go : FailIs retry.GaveUp old w (record failure { device = action }) new → Answers Answer.GiveUp old w action tag new
+    go : FailIs retry.GaveUp old w (record failure { device = action }) new → Answers Answer.GiveUp old w action list tag new
     go (of, gives, same) = (
       of.of.run.entry,
       ap (λ (e : Entry). e.tag) (jobs_same old.plan old.state w (occurrence.Run action) (occurrence.Run action) of.of.run job.job).1 ∙ job.its_tag,
+      ap (λ (e : Entry). e.list) (jobs_same old.plan old.state w (occurrence.Run action) (occurrence.Run action) of.of.run job.job).1 ∙ job.its_list,
       λ took. ((action, of.of.run.entry, gives, refl), same took),
     )
 
@@ -165,31 +171,38 @@ given_up old new w action tag message failure job d is = go (subst (λ x. FailIs
 pub posted_on : (old new : BoardState) (w : ℕ) (node : Entry) → PostIs posted.Done old w node new → Goes old (Event.Post w) new []
 posted_on old new w node (list, posts, is) = ((list, node, false, posts, refl), is)
 
-pub post_discarded : (relay : ℕ) (old new : BoardState) (w list input tag : ℕ) (message : Said) (node lost : Entry) (xs ys : List Loss) → IsPostJob old w list input message tag
-    → PostIs (posted.Discarded lost) old w node new → ys ≡ xs ++ record { copy = tag; relay = relay; cause = lost_by_cause.Post list } ∷ []
+-- the loss of a post
+loss_is : {copy tag list followed l to : ℕ} (relay : ℕ) (by : ℕ → Cause) → copy ≡ tag → list ≡ followed → l ≡ to
+    → record { copy = copy; relay = relay; list = list; cause = by l } ≡ the_loss tag relay followed (by to)
+loss_is relay by tag followed to = λ i. record { copy = tag i; relay = relay; list = followed i; cause = by (to i) }
+
+pub post_discarded : (relay : ℕ) (old new : BoardState) (w list followed input tag : ℕ) (message : Said) (node lost : Entry) (xs ys : List Loss) → IsPostJob old w list followed input message tag
+    → PostIs (posted.Discarded lost) old w node new → ys ≡ xs ++ record { copy = tag; relay = relay; list = followed; cause = lost_by_cause.Post list } ∷ []
     → MakesInside relay old (losses_of xs) (Event.Post w) new (losses_of ys)
-post_discarded relay old new w list input tag message node lost xs ys job (same, l, posts, is) are =
+post_discarded relay old new w list followed input tag message node lost xs ys job (same, l, posts, is) are =
     let entry = (jobs_same old.plan old.state w (occurrence.Post l) (occurrence.Post list) posts.job job.job).1 in
     let tag_is : posts.job.entry.tag ≡ tag = ap (λ (e : Entry). e.tag) entry ∙ job.its_tag in
+    let followed_is : posts.job.entry.list ≡ followed = ap (λ (e : Entry). e.list) entry ∙ job.its_list in
     let list_is : l ≡ list = one_list old.plan old.state w l list posts.job job.job in
     losing relay old new (Event.Post w) (Cause.Post l) posts.job.entry xs ys _ ((l, node, true, posts, refl), is) are
-    (sym (ap (λ t. record { copy = t; relay = relay; cause = Cause.Post l }) tag_is ∙ ap (λ k. record { copy = tag; relay = relay; cause = Cause.Post k }) list_is))
+    (sym (loss_is relay Cause.Post tag_is followed_is list_is))
 
-pub post_gone : (relay : ℕ) (old new : BoardState) (w list input tag : ℕ) (message : Said) (why : PostCause) (xs ys : List Loss) → IsPostJob old w list input message tag
-    → PostLostIs why old w new → ys ≡ xs ++ record { copy = tag; relay = relay; cause = lost_by_cause.PostLost list } ∷ []
+pub post_gone : (relay : ℕ) (old new : BoardState) (w list followed input tag : ℕ) (message : Said) (why : PostCause) (xs ys : List Loss) → IsPostJob old w list followed input message tag
+    → PostLostIs why old w new → ys ≡ xs ++ record { copy = tag; relay = relay; list = followed; cause = lost_by_cause.PostLost list } ∷ []
     → MakesInside relay old (losses_of xs) (Event.PostLost w (is_no_memory why)) new (losses_of ys)
-post_gone relay old new w list input tag message why xs ys job (l, e, loses, is) are =
+post_gone relay old new w list followed input tag message why xs ys job (l, e, loses, is) are =
     let entry = (jobs_same old.plan old.state w (occurrence.Post l) (occurrence.Post list) loses.job job.job).1 in
     let tag_is : e.tag ≡ tag = ap (λ (x : Entry). x.tag) (sym loses.its ∙ entry) ∙ job.its_tag in
+    let followed_is : e.list ≡ followed = ap (λ (x : Entry). x.list) (sym loses.its ∙ entry) ∙ job.its_list in
     let list_is : l ≡ list = one_list old.plan old.state w l list loses.job job.job in
     losing relay old new (Event.PostLost w (is_no_memory why)) (Cause.PostLost l) e xs ys _ ((l, e, loses, refl), is) are
-    (sym (ap (λ t. record { copy = t; relay = relay; cause = Cause.PostLost l }) tag_is ∙ ap (λ k. record { copy = tag; relay = relay; cause = Cause.PostLost k }) list_is))
+    (sym (loss_is relay Cause.PostLost tag_is followed_is list_is))
 
 -- ---- what a device took
 
-pub answered_into : (answer : Answer) (took : Bool) (old new : BoardState) (w action tag : ℕ) (tags after : List ℕ) → Answers answer old w action tag new
-    → after ≡ with_tag (is_taken answer took) tags tag → Comes answer took old tags w action tag new after
-answered_into answer took old new w action tag tags after (e, its_tag, goes) are = (e, its_tag, goes took, are)
+pub answered_into : (answer : Answer) (took : Bool) (old new : BoardState) (w action list tag : ℕ) (tags after : List ℕ) → Answers answer old w action list tag new
+    → after ≡ with_tag (is_taken answer took) tags tag → Comes answer took old tags w action list tag new after
+answered_into answer took old new w action list tag tags after (e, its_tag, its_list, goes) are = (e, its_tag, its_list, goes took, are)
 
 pub with_it : (took : Bool) (tags : List ℕ) (tag : ℕ) → took ≡ true → tags ++ tag ∷ [] ≡ with_tag took tags tag
 with_it took tags tag is = ap (λ b. with_tag b tags tag) (sym is)
@@ -206,22 +219,23 @@ passed_one Answer.Fail false passed action e = set-get_or passed action []
 passed_one Answer.GiveUp true passed action e = refl
 passed_one Answer.GiveUp false passed action e = set-get_or passed action []
 
-lost_one : (answer : Answer) (relay action : ℕ) (took : Bool) (e : Entry) → lost_by relay (outs_of answer action took e) ≡ losses_by answer relay action e.tag
+lost_one : (answer : Answer) (relay action : ℕ) (took : Bool) (e : Entry) → lost_by relay (outs_of answer action took e) ≡ losses_by answer relay action e.list e.tag
 lost_one Answer.Done relay action took e = refl
 lost_one Answer.Fail relay action true e = refl
 lost_one Answer.Fail relay action false e = refl
 lost_one Answer.GiveUp relay action true e = refl
 lost_one Answer.GiveUp relay action false e = refl
 
-pub comes_made : (answer : Answer) (relay : ℕ) (took : Bool) (old new : BoardState) (w action tag : ℕ) (passed passed_after : List (List ℕ)) (after : List ℕ)
-    (before now : List states.Loss) → Comes answer took old (tags_at passed action) w action tag new after
-    → passed_after ≡ slice_set passed action after → now ≡ before ++ losses_by answer relay action tag
+pub comes_made : (answer : Answer) (relay : ℕ) (took : Bool) (old new : BoardState) (w action list tag : ℕ) (passed passed_after : List (List ℕ)) (after : List ℕ)
+    (before now : List states.Loss) → Comes answer took old (tags_at passed action) w action list tag new after
+    → passed_after ≡ slice_set passed action after → now ≡ before ++ losses_by answer relay action list tag
     → Makes relay (part old passed) before (event_of answer w took) (part new passed_after) now
-comes_made answer relay took old new w action tag passed passed_after after before now (e, its_tag, goes, are) is lost = record {
+comes_made answer relay took old new w action list tag passed passed_after after before now (e, its_tag, its_list, goes, are) is lost = record {
   outs = outs_of answer action took e;
   goes = goes;
   passed = is ∙ ap (slice_set passed action) (are ∙ ap (with_tag (is_taken answer took) (tags_at passed action)) (sym its_tag)) ∙ passed_one answer took passed action e;
-  losses = lost ∙ ap (λ t. before ++ losses_by answer relay action t) (sym its_tag) ∙ ap (λ z. before ++ z) (sym (lost_one answer relay action took e));
+  losses = lost ∙ ap (λ t. before ++ losses_by answer relay action list t) (sym its_tag)
+      ∙ ap (λ l. before ++ losses_by answer relay action l e.tag) (sym its_list) ∙ ap (λ z. before ++ z) (sym (lost_one answer relay action took e));
 }
 
 -- ---- an action's list among those of a relay
@@ -236,9 +250,9 @@ pub items_stay : (xs : List (Vec ℕ)) (k : ℕ) (x v : Vec ℕ) → k < length 
 items_stay xs k x v l e same =
     items_set xs k v ∙ ap (slice_set (items_of xs) k) (same ∙ sym (item_at xs k x l e)) ∙ set-get_or (items_of xs) k []
 
-pub read_comes : (answer : Answer) (took : Bool) (old new : BoardState) (w action tag : ℕ) (xs : List (Vec ℕ)) (x : Vec ℕ) (after : List ℕ) → action < length xs
-    → x ≡ get_or xs action x → Comes answer took old x.items w action tag new after → Comes answer took old (tags_at (items_of xs) action) w action tag new after
-read_comes answer took old new w action tag xs x after l e comes = subst (λ z. Comes answer took old z w action tag new after) (sym (item_at xs action x l e)) comes
+pub read_comes : (answer : Answer) (took : Bool) (old new : BoardState) (w action list tag : ℕ) (xs : List (Vec ℕ)) (x : Vec ℕ) (after : List ℕ) → action < length xs
+    → x ≡ get_or xs action x → Comes answer took old x.items w action list tag new after → Comes answer took old (tags_at (items_of xs) action) w action list tag new after
+read_comes answer took old new w action list tag xs x after l e comes = subst (λ z. Comes answer took old z w action list tag new after) (sym (item_at xs action x l e)) comes
 
 pub on_ok : {T E A B : Type 0} (r : Result T E) → (A → B) → OnOk r A → OnOk r B
 on_ok (Ok x) f a = f a
@@ -252,10 +266,10 @@ pub if_err : {T E : Type 0} (P Q : E → Type 0) (r : Result T E) → ((e : E) �
 if_err P Q (Ok x) f a = tt
 if_err P Q (Err e) f a = f e a
 
-pub given_up_made : (relay : ℕ) (took : Bool) (old new : BoardState) (w action tag : ℕ) (xs : List (Vec ℕ)) (x v : Vec ℕ) (losses now : List Loss) → action < length xs
-    → x ≡ get_or xs action x → Comes Answer.GiveUp took old x.items w action tag new v.items
-    → now ≡ losses ++ record { copy = tag; relay = relay; cause = lost_by_cause.GiveUp action } ∷ []
+pub given_up_made : (relay : ℕ) (took : Bool) (old new : BoardState) (w action list tag : ℕ) (xs : List (Vec ℕ)) (x v : Vec ℕ) (losses now : List Loss) → action < length xs
+    → x ≡ get_or xs action x → Comes Answer.GiveUp took old x.items w action list tag new v.items
+    → now ≡ losses ++ record { copy = tag; relay = relay; list = list; cause = lost_by_cause.GiveUp action } ∷ []
     → Makes relay (part old (items_of xs)) (losses_of losses) (Event.GiveUp w took) (part new (items_of (slice_set xs action v))) (losses_of now)
-given_up_made relay took old new w action tag xs x v losses now l e comes are =
-    comes_made Answer.GiveUp relay took old new w action tag _ _ v.items (losses_of losses) (losses_of now)
-    (read_comes Answer.GiveUp took old new w action tag xs x v.items l e comes) (items_set xs action v) (one_more losses now _ are)
+given_up_made relay took old new w action list tag xs x v losses now l e comes are =
+    comes_made Answer.GiveUp relay took old new w action list tag _ _ v.items (losses_of losses) (losses_of now)
+    (read_comes Answer.GiveUp took old new w action list tag xs x v.items l e comes) (items_set xs action v) (one_more losses now _ are)

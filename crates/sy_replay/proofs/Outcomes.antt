@@ -7,7 +7,7 @@ use Rattle.sy_board.proofs.relay.Outcomes.{one_step, one_taken}
 use Rattle.sy_chain.specs.Entries.{Entry}
 use Rattle.sy_site.specs.declared.site.SiteInput.{SiteInput}
 use Rattle.sy_site.specs.Sites.{Site, plan_at}
-use Rattle.sy_site.specs.machine.States.{Copy, SiteState, copy_of_new, put_outs, taken_by, with_passed, with_relay}
+use Rattle.sy_site.specs.machine.States.{Copy, SiteState, copy_of_new, off_link, put_outs, taken_by, with_passed, with_relay}
 use Rattle.sy_site.specs.machine.Steps.{RelaySteps, SiteEvent, SiteStep, TakesCopy}
 
 one_relay : (site : Site) (old : SiteState) (r : ℕ) (e : Event) (a b : SiteState) → RelaySteps site old r e a → RelaySteps site old r e b → a ≡ b
@@ -49,7 +49,7 @@ one_outcome site old (SiteEvent.TakeNew to hand message) one other s t = one_tak
 one_outcome site old (SiteEvent.TakeFrom to hand link place) one other s t =
     let cut = one_cut s.before t.before s.tag t.tag s.behind t.behind (s.stands ∙ sym t.stands) (sym s.on_link ∙ t.on_link) in
     let copy : s.copy ≡ t.copy = some_one (sym s.is ∙ ap (slice_get old.copies) cut.0 ∙ t.is) in
-    one_take site (record old { passed = with_passed old.passed link (t.before ++ t.behind) }) to hand t.copy one other
-    (subst (λ (c : Copy). TakesCopy site (record old { passed = with_passed old.passed link (t.before ++ t.behind) }) to hand c one) copy
-    (subst (λ (tags : List ℕ). TakesCopy site (record old { passed = with_passed old.passed link tags }) to hand s.copy one) cut.1 s.takes)) t.takes
+    one_take site (record old { passed = with_passed old.passed link (t.before ++ t.behind) }) to hand (off_link site link t.copy) one other
+    (subst (λ (c : Copy). TakesCopy site (record old { passed = with_passed old.passed link (t.before ++ t.behind) }) to hand (off_link site link c) one) copy
+    (subst (λ (tags : List ℕ). TakesCopy site (record old { passed = with_passed old.passed link tags }) to hand (off_link site link s.copy) one) cut.1 s.takes)) t.takes
 one_outcome site old (SiteEvent.Inside r event) one other s t = one_relay site old r event one other s.1 t.1

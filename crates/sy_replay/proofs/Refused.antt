@@ -6,6 +6,7 @@ use Rattle.sy_wire.specs.Messages.{Said}
 use Rattle.sy_chain.specs.Entries.{Entry}
 use Rattle.sy_actions.specs.Devices.{Refused}
 use Rattle.sy_actions.specs.declared.device.DeviceFault.TheVariants as device_fault
+use Rattle.sy_rules.specs.declared.lists.occurrence.Occurrence.{Occurrence}
 use Rattle.sy_rules.specs.declared.lists.occurrence.Occurrence.TheVariants as occurrence
 use Rattle.sy_rules.specs.PlanValue.{Listed, Plan}
 use Rattle.sy_rules.specs.lists.Body.{occurrences}
@@ -18,7 +19,7 @@ use Rattle.sy_board.specs.declared.fault.BoardFault.TheVariants as fault
 use Rattle.sy_board.specs.declared.relay.answers.Posted.TheVariants as posted
 use Rattle.sy_board.specs.declared.relay.answers.PostCause.{PostCause}
 use Rattle.sy_board.specs.relay.Boards.{BoardState, EnterFails, ExpireFails, FailFails, GrabFails, HasNoJob, HasNoPost, HasNoRun, IsFailureOf, IsForPost, IsHeldBy, IsOf, IsTooFull, NothingWaits, PostFails, PostIs, PostLostFails, SettleFails, TakeFails, is_no_memory, stepped}
-use Rattle.sy_board.specs.relay.Cells.{RelayState, failures_at, waiting}
+use Rattle.sy_board.specs.relay.Cells.{RelayState, failures_at, first_list, followed_at, waiting}
 use Rattle.sy_board.specs.relay.Plans.{IsDue, input_at, marks_at, parameters_at, retry_at}
 use Rattle.sy_board.specs.relay.Steps.{Cause, Event, IsHand, IsOfInput, Job, MayTry, Out, Step, if_so}
 use Rattle.sy_board.proofs.relay.Excluded.{held_enters, held_expires}
@@ -82,41 +83,50 @@ grab_refused fault.NotExpired old w e = absurd e
 
 -- ---- a worker's job
 
+-- the list that the entry of a worker's job follows
+pub followed_is : (board : BoardState) (w followed : ℕ) {is : Occurrence} → (job : Job board.plan board.state w is) → followed_at board.state w ≡ Some followed
+    → job.entry.list ≡ followed
+followed_is board w followed job e = let same : Some job.entry.list ≡ Some followed = sym (ap first_list job.held) ∙ e in cc
+
+-- without an entry there is no job
+pub nothing_followed : (board : BoardState) (w : ℕ) (is : Occurrence) → Job board.plan board.state w is → followed_at board.state w ≡ None → ⊥
+nothing_followed board w is job e = let none : Some job.entry.list ≡ None = sym (ap first_list job.held) ∙ e in cc
+
 pub again : (retry : Option ℕ) (failures : ℕ) → MayTry retry failures → retry ≡ Some failures → ⊥
 again None failures may last = cc
 again (Some retry) failures may last = let e : retry ≡ failures = cc in omega (arith, may, e)
 
-pub settle_refused : (f : BoardFault) (old : BoardState) (w action tag : ℕ) (message : Said) → IsRunJob old w action message tag
+pub settle_refused : (f : BoardFault) (old : BoardState) (w action list tag : ℕ) (message : Said) → IsRunJob old w action list message tag
     → SettleFails f old w (record { device = action; message = message }) → IsNoAnswer (illegal_of f) Answer.Done old w
-settle_refused fault.HandTaken old w action tag message job e = absurd e
-settle_refused fault.HandEmpty old w action tag message job e = absurd e
-settle_refused fault.SlotBusy old w action tag message job e = absurd e
-settle_refused fault.NoJob old w action tag message job e = absurd (e action job.job)
-settle_refused fault.WrongReceipt old w action tag message job e = absurd (e.1 (record { run = job.job; its = job.its_message }))
-settle_refused fault.TotalsFull old w action tag message job (of, new, settles, full) =
+settle_refused fault.HandTaken old w action list tag message job e = absurd e
+settle_refused fault.HandEmpty old w action list tag message job e = absurd e
+settle_refused fault.SlotBusy old w action list tag message job e = absurd e
+settle_refused fault.NoJob old w action list tag message job e = absurd (e action job.job)
+settle_refused fault.WrongReceipt old w action list tag message job e = absurd (e.1 (record { run = job.job; its = job.its_message }))
+settle_refused fault.TotalsFull old w action list tag message job (of, new, settles, full) =
     λ took. (new, Out.Passed action of.run.entry ∷ [], (action, of.run.entry, settles, refl), full)
-settle_refused fault.NotExpired old w action tag message job e = absurd e
+settle_refused fault.NotExpired old w action list tag message job e = absurd e
 
 -- a failure of the job's action and message is of the job
-is_of : (old : BoardState) (w action tag : ℕ) (message : Said) (failure : Refused) → IsRunJob old w action message tag
+is_of : (old : BoardState) (w action list tag : ℕ) (message : Said) (failure : Refused) → IsRunJob old w action list message tag
     → failure.device ≡ action → failure.message ≡ message → failure.fault ≢ device_fault.CountFull → IsFailureOf old w failure
-is_of old w action tag message failure job d m o = record {
+is_of old w action list tag message failure job d m o = record {
   of = subst (λ x. IsOf old w x failure.message) (sym d) (subst (λ x. IsOf old w action x) (sym m) (record { run = job.job; its = job.its_message }));
   offered = o;
 }
 
-pub fail_refused : (f : BoardFault) (old : BoardState) (w action tag : ℕ) (message : Said) (failure : Refused) → IsRunJob old w action message tag
+pub fail_refused : (f : BoardFault) (old : BoardState) (w action list tag : ℕ) (message : Said) (failure : Refused) → IsRunJob old w action list message tag
     → failure.device ≡ action → failure.message ≡ message → failure.fault ≢ device_fault.CountFull
     → MayTry (retry_at old.plan action) (failures_at old.state w)
     → FailFails f old w failure → IsNoAnswer (illegal_of f) Answer.Fail old w
-fail_refused fault.HandTaken old w action tag message failure job d m o may e = absurd e
-fail_refused fault.HandEmpty old w action tag message failure job d m o may e = absurd e
-fail_refused fault.SlotBusy old w action tag message failure job d m o may e = absurd e
-fail_refused fault.NoJob old w action tag message failure job d m o may e = absurd (e action job.job)
-fail_refused fault.WrongReceipt old w action tag message failure job d m o may e = absurd (e.1 (is_of old w action tag message failure job d m o))
-fail_refused fault.TotalsFull old w action tag message failure job d m o may (is, new, gives, full) =
+fail_refused fault.HandTaken old w action list tag message failure job d m o may e = absurd e
+fail_refused fault.HandEmpty old w action list tag message failure job d m o may e = absurd e
+fail_refused fault.SlotBusy old w action list tag message failure job d m o may e = absurd e
+fail_refused fault.NoJob old w action list tag message failure job d m o may e = absurd (e action job.job)
+fail_refused fault.WrongReceipt old w action list tag message failure job d m o may e = absurd (e.1 (is_of old w action list tag message failure job d m o))
+fail_refused fault.TotalsFull old w action list tag message failure job d m o may (is, new, gives, full) =
     absurd (again (retry_at old.plan action) (failures_at old.state w) may (subst (λ a. retry_at old.plan a ≡ Some (failures_at old.state w)) d gives.last))
-fail_refused fault.NotExpired old w action tag message failure job d m o may e = absurd e
+fail_refused fault.NotExpired old w action list tag message failure job d m o may e = absurd e
 
 -- whether the device took the message, isn't counted
 still_full : (old : BoardState) (w : ℕ) (new : RelayState) (action : ℕ) (e : Entry) (took : Bool)
@@ -125,22 +135,22 @@ still_full : (old : BoardState) (w : ℕ) (new : RelayState) (action : ℕ) (e :
 still_full old w new action e true full = full
 still_full old w new action e false full = full
 
-pub give_up_refused : (f : BoardFault) (old : BoardState) (w action tag : ℕ) (message : Said) (failure : Refused) → IsRunJob old w action message tag
+pub give_up_refused : (f : BoardFault) (old : BoardState) (w action list tag : ℕ) (message : Said) (failure : Refused) → IsRunJob old w action list message tag
     → failure.device ≡ action → failure.message ≡ message → failure.fault ≢ device_fault.CountFull
     → FailFails f old w failure → IsNoAnswer (illegal_of f) Answer.GiveUp old w
-give_up_refused fault.HandTaken old w action tag message failure job d m o e = absurd e
-give_up_refused fault.HandEmpty old w action tag message failure job d m o e = absurd e
-give_up_refused fault.SlotBusy old w action tag message failure job d m o e = absurd e
-give_up_refused fault.NoJob old w action tag message failure job d m o e = absurd (e action job.job)
-give_up_refused fault.WrongReceipt old w action tag message failure job d m o e = absurd (e.1 (is_of old w action tag message failure job d m o))
-give_up_refused fault.TotalsFull old w action tag message failure job d m o (is, new, gives, full) =
+give_up_refused fault.HandTaken old w action list tag message failure job d m o e = absurd e
+give_up_refused fault.HandEmpty old w action list tag message failure job d m o e = absurd e
+give_up_refused fault.SlotBusy old w action list tag message failure job d m o e = absurd e
+give_up_refused fault.NoJob old w action list tag message failure job d m o e = absurd (e action job.job)
+give_up_refused fault.WrongReceipt old w action list tag message failure job d m o e = absurd (e.1 (is_of old w action list tag message failure job d m o))
+give_up_refused fault.TotalsFull old w action list tag message failure job d m o (is, new, gives, full) =
     λ took. (
       new,
       Out.Lost (Cause.GiveUp failure.device) is.of.run.entry ∷ if_so took (Out.Passed failure.device is.of.run.entry),
       (failure.device, is.of.run.entry, gives, refl),
       still_full old w new failure.device is.of.run.entry took full,
     )
-give_up_refused fault.NotExpired old w action tag message failure job d m o e = absurd e
+give_up_refused fault.NotExpired old w action list tag message failure job d m o e = absurd e
 
 run_or_post : (a l : ℕ) → occurrence.Run a ≡ occurrence.Post l → ⊥
 run_or_post a l h = cc
@@ -228,9 +238,9 @@ post_lost_refused fault.NotExpired why old w (full, list, job, room) = λ new ou
     (subst (λ q. waiting old.state (queue_for old.plan q) < (parameters_at old.plan (queue_for old.plan q)).size) (sym other) room) loses.cause
 
 -- the entry that is made of a post is the job's
-pub posts_made : (old : BoardState) (w list input tag : ℕ) (message : Said) → IsPostJob old w list input message tag → (due : ℕ) (node : Entry)
+pub posts_made : (old : BoardState) (w list followed input tag : ℕ) (message : Said) → IsPostJob old w list followed input message tag → (due : ℕ) (node : Entry)
     → IsDue old.plan list message due → node ≡ record { message = message; list = list; input = input; due = due; tag = tag } → IsForPost old w node
-posts_made old w list input tag message job due node is are = subst (IsForPost old w) (sym are) (λ l other.
+posts_made old w list followed input tag message job due node is are = subst (IsForPost old w) (sym are) (λ l other.
     let same = (jobs_same old.plan old.state w (occurrence.Post list) (occurrence.Post l) job.job other).1 in
     let list_is : list ≡ l = one_list old.plan old.state w list l job.job other in
     record {
@@ -279,4 +289,7 @@ input_made plan i list due tag message node l d is =
     subst (IsOfInput plan i) (sym is) (record { input_is = refl; list = l; due = subst (λ k. IsDue plan k message due) l d })
 
 pub list_there : (plan : Plan) (i list : ℕ) → IsWhole plan → i < length plan.inputs → list ≡ (input_at plan i).list → list < length plan.lists
-list_there plan i list whole there is = subst (λ l. l < length plan.lists) (sym is) (whole.input_lists i _ there)
+list_there plan i list whole there is =
+    let low = whole.input_lists i (input_at plan i) there in
+    let more = whole.rulesets_before in
+    omega (arith, is, low, more)

@@ -95,9 +95,9 @@ put_all k relays copies passed others losses arrivals (Out.Passed action e ∷ o
     ∙ put_all k relays copies (slice_set passed action tags) others losses arrivals outs
     (subst (λ n. AreThere n outs) (sym (length-set passed action tags)) there.1)
 put_all k relays copies passed others losses arrivals (Out.Lost cause e ∷ outs) there =
-    put_all k relays copies passed others (losses ++ record { copy = e.tag; relay = k; cause = cause } ∷ []) arrivals outs there
+    put_all k relays copies passed others (losses ++ record { copy = e.tag; relay = k; list = e.list; cause = cause } ∷ []) arrivals outs there
     ∙ ap (λ l. state_with relays copies (spread k (passed_by outs passed) others) l arrivals)
-    (append_assoc losses (record { copy = e.tag; relay = k; cause = cause } ∷ []) (lost_by k outs))
+    (append_assoc losses (record { copy = e.tag; relay = k; list = e.list; cause = cause } ∷ []) (lost_by k outs))
 
 -- ---- the relays of a site
 

@@ -14,7 +14,7 @@ use Rattle.sy_board.specs.relay.Steps.{Event, Out, Step}
 use Rattle.sy_site.specs.declared.site.SiteAction.{SiteAction}
 use Rattle.sy_site.specs.declared.site.SiteInput.{SiteInput}
 use Rattle.sy_site.specs.Sites.{Site, plan_at}
-use Rattle.sy_site.specs.machine.States.{Arrival, Copy, Loss, SiteState, put_outs, taken_by, with_passed, with_relay}
+use Rattle.sy_site.specs.machine.States.{Arrival, Copy, Loss, SiteState, off_link, put_outs, taken_by, with_passed, with_relay}
 use Rattle.sy_site.specs.machine.Steps.{SiteEvent, TakesCopy, TakesFrom}
 use Rattle.sy_replay.specs.declared.event.Illegal.{Illegal}
 use Rattle.sy_replay.specs.declared.event.Illegal.TheVariants as illegal
@@ -199,7 +199,7 @@ abbrev pub arrival : SiteInput → Said → Arrival
 arrival to message = record { message = message; origin = to }
 
 abbrev pub first : SiteInput → Said → ℕ → Copy
-first to message number = taken_by to.relay (record { number = number; message = message; origin = to; trail = [] })
+first to message number = taken_by to.relay (record { number = number; message = message; origin = to; trail = []; flag = false })
 
 pub new_comes : (site : Site) (parts : List PartState) (copies : List Copy) (before after : List Loss) (arrivals : List Arrival) (to : SiteInput) (hand : ℕ)
     (message : Said) (new : List PartState) → AreOf site parts → TakesEntry parts before to hand message (length copies) new after
@@ -262,11 +262,11 @@ pub none_comes : (why : Illegal) (site : Site) (parts : List PartState) (copies 
     → IsIllegalAt why site (holding parts copies losses arrivals) (SiteEvent.TakeNew to hand message)
 none_comes illegal.NotAStep site parts copies losses arrivals to hand message of none =
     copy_refused illegal.NotAStep site parts copies (passed_of parts) losses (arrivals ++ arrival to message ∷ []) to hand
-    (record { number = length arrivals; message = message; origin = to; trail = [] }) of none
+    (record { number = length arrivals; message = message; origin = to; trail = []; flag = false }) of none
 none_comes illegal.NoMemory site parts copies losses arrivals to hand message of none = tt
 none_comes illegal.TotalsFull site parts copies losses arrivals to hand message of none =
     copy_refused illegal.TotalsFull site parts copies (passed_of parts) losses (arrivals ++ arrival to message ∷ []) to hand
-    (record { number = length arrivals; message = message; origin = to; trail = [] }) of none
+    (record { number = length arrivals; message = message; origin = to; trail = []; flag = false }) of none
 
 -- ---- from a link
 
@@ -320,7 +320,7 @@ pub from_link : (site : Site) (contents : Contents) (to : SiteInput) (hand : ℕ
     (after : List Loss) → AreOf site contents.parts → IsOnLink site contents to link place copy
     → TakesEntry contents.parts contents.losses to hand copy.message (length contents.copies) new after → Leaves new link place last
     → Applies site contents (SiteEvent.TakeFrom to hand link place)
-    (holding last (contents.copies ++ taken_by to.relay copy ∷ []) after contents.arrivals)
+    (holding last (contents.copies ++ taken_by to.relay (off_link site link copy) ∷ []) after contents.arrivals)
 from_link site contents to hand link place copy new last after of on t gone = (
   record {
     leads = on.leads;
@@ -346,7 +346,7 @@ from_link site contents to hand link place copy new last after of on t gone = (
   gone.boards ∙ t.boards,
 ) where
   copied : List Copy
-  copied = contents.copies ++ taken_by to.relay copy ∷ []
+  copied = contents.copies ++ taken_by to.relay (off_link site link copy) ∷ []
 
   links : SiteAction → List ℕ
   links = with_passed (passed_of contents.parts) link (without (passed_of contents.parts link) place)
@@ -362,12 +362,12 @@ pub not_from_link : (why : Illegal) (site : Site) (contents : Contents) (to : Si
     → IsIllegalAt why site contents (SiteEvent.TakeFrom to hand link place)
 not_from_link illegal.NotAStep site contents to hand link place copy of on none = λ new from.
     let one = one_copy site contents to link place copy from.copy on (on_link site contents to hand link place new from) in
-    copy_refused illegal.NotAStep site contents.parts contents.copies (with_passed (passed_of contents.parts) link (from.before ++ from.behind)) contents.losses contents.arrivals to hand from.copy of
+    copy_refused illegal.NotAStep site contents.parts contents.copies (with_passed (passed_of contents.parts) link (from.before ++ from.behind)) contents.losses contents.arrivals to hand (off_link site link from.copy) of
     (subst (λ (c : Copy). IsNoEntry illegal.NotAStep contents.parts to hand c.message (length contents.copies)) one none) new from.takes
 not_from_link illegal.NoMemory site contents to hand link place copy of on none = tt
 not_from_link illegal.TotalsFull site contents to hand link place copy of on none =
     let links : SiteAction → List ℕ = with_passed (passed_of contents.parts) link (without (passed_of contents.parts link) place) in
-    let taken = copy_refused illegal.TotalsFull site contents.parts contents.copies links contents.losses contents.arrivals to hand copy of none in (
+    let taken = copy_refused illegal.TotalsFull site contents.parts contents.copies links contents.losses contents.arrivals to hand (off_link site link copy) of none in (
       taken.0,
       record {
         leads = on.leads;

@@ -46,7 +46,7 @@ cause_of (cause.Post list) = steps.Cause.Post list
 cause_of (cause.PostLost list) = steps.Cause.PostLost list
 
 abbrev pub loss_of : Loss → states.Loss
-loss_of l = record { copy = l.copy; relay = l.relay; cause = cause_of l.cause }
+loss_of l = record { copy = l.copy; relay = l.relay; list = l.list; cause = cause_of l.cause }
 
 abbrev pub losses_of : List Loss → List states.Loss
 losses_of losses = map loss_of losses

@@ -14,15 +14,17 @@ use Rattle.sy_replay.specs.declared.event.Illegal.TheVariants as illegal
 pub data Answer : Type 0 where
   Done Fail GiveUp : Answer
 
--- the job runs this action, on an entry of this message and with this tag
-pub record IsRunJob (board : BoardState) (worker action : ℕ) (message : Said) (tag : ℕ) : Type 0 where
+-- the job runs this action, on an entry that follows this list, of this message and with this tag
+pub record IsRunJob (board : BoardState) (worker action list : ℕ) (message : Said) (tag : ℕ) : Type 0 where
   pub job : Job board.plan board.state worker (occurrence.Run action)
+  pub its_list : job.entry.list ≡ list
   pub its_message : job.entry.message ≡ message
   pub its_tag : job.entry.tag ≡ tag
 
--- the job posts to this list an entry of this message, of this input and with this tag
-pub record IsPostJob (board : BoardState) (worker list input : ℕ) (message : Said) (tag : ℕ) : Type 0 where
+-- the job posts to this list an entry of this message, of this input and with this tag; its own entry follows another one
+pub record IsPostJob (board : BoardState) (worker list followed input : ℕ) (message : Said) (tag : ℕ) : Type 0 where
   pub job : Job board.plan board.state worker (occurrence.Post list)
+  pub its_list : job.entry.list ≡ followed
   pub its_input : job.entry.input ≡ input
   pub its_message : job.entry.message ≡ message
   pub its_tag : job.entry.tag ≡ tag
@@ -52,10 +54,10 @@ is_taken Answer.Fail took = took
 is_taken Answer.GiveUp took = took
 
 -- what is lost
-abbrev pub losses_by : Answer → ℕ → ℕ → ℕ → List Loss
-losses_by Answer.Done relay action tag = []
-losses_by Answer.Fail relay action tag = []
-losses_by Answer.GiveUp relay action tag = record { copy = tag; relay = relay; cause = Cause.GiveUp action } ∷ []
+abbrev pub losses_by : Answer → (relay action list tag : ℕ) → List Loss
+losses_by Answer.Done relay action list tag = []
+losses_by Answer.Fail relay action list tag = []
+losses_by Answer.GiveUp relay action list tag = record { copy = tag; relay = relay; list = list; cause = Cause.GiveUp action } ∷ []
 
 -- what each of the three steps lets out
 abbrev pub outs_of : Answer → ℕ → Bool → Entry → List Out
@@ -68,17 +70,17 @@ event_of Answer.Done worker took = Event.Done worker
 event_of Answer.Fail worker took = Event.Fail worker took
 event_of Answer.GiveUp worker took = Event.GiveUp worker took
 
--- The step of the worker's job of this action and tag is made; whether the device took the message, the board doesn't
--- say.
-abbrev pub Answers : Answer → BoardState → ℕ → ℕ → ℕ → BoardState → Type 0
-Answers answer old worker action tag new =
-    (e : Entry) × (e.tag ≡ tag) × ((took : Bool) → Goes old (event_of answer worker took) new (outs_of answer action took e))
+-- The step of the worker's job of this action, list and tag is made; whether the device took the message, the board
+-- doesn't say.
+abbrev pub Answers : Answer → BoardState → (worker action list tag : ℕ) → BoardState → Type 0
+Answers answer old worker action list tag new =
+    (e : Entry) × (e.tag ≡ tag) × (e.list ≡ list) × ((took : Bool) → Goes old (event_of answer worker took) new (outs_of answer action took e))
 
 abbrev pub IsNoAnswer : Illegal → Answer → BoardState → ℕ → Type 0
 IsNoAnswer why answer old worker = (took : Bool) → IsIllegal why old (event_of answer worker took)
 
 -- The same, and a copy comes to the end of what the device took where it took the message.
-abbrev pub Comes : Answer → Bool → BoardState → List ℕ → ℕ → ℕ → ℕ → BoardState → List ℕ → Type 0
-Comes answer took old tags worker action tag new after =
-    (e : Entry) × (e.tag ≡ tag) × Goes old (event_of answer worker took) new (outs_of answer action took e)
+abbrev pub Comes : Answer → Bool → BoardState → List ℕ → (worker action list tag : ℕ) → BoardState → List ℕ → Type 0
+Comes answer took old tags worker action list tag new after =
+    (e : Entry) × (e.tag ≡ tag) × (e.list ≡ list) × Goes old (event_of answer worker took) new (outs_of answer action took e)
     × (after ≡ with_tag (is_taken answer took) tags tag)

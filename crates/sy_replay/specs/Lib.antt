@@ -1,4 +1,5 @@
 pub mod Events
+pub mod Flags
 pub mod Parts
 pub mod Jobs
 pub mod States

@@ -24,7 +24,7 @@ passed_by (Out.Lost cause e ∷ outs) passed = passed_by outs passed
 abbrev pub lost_by : ℕ → List Out → List Loss
 lost_by relay [] = []
 lost_by relay (Out.Passed action e ∷ outs) = lost_by relay outs
-lost_by relay (Out.Lost cause e ∷ outs) = record { copy = e.tag; relay = relay; cause = cause } ∷ lost_by relay outs
+lost_by relay (Out.Lost cause e ∷ outs) = record { copy = e.tag; relay = relay; list = e.list; cause = cause } ∷ lost_by relay outs
 
 abbrev pub items_of : List (Vec ℕ) → List (List ℕ)
 items_of vecs = map (λ (v : Vec ℕ). v.items) vecs

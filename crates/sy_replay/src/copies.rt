@@ -1,7 +1,8 @@
 //! Messages that came from outside, and the copies that relays took.
-ghost use Rattle.std.specs.Prelude.{◌≡◌, [], IfOk};
+ghost use Rattle.std.specs.Prelude.{◌≡◌, [], false, IfOk};
 ghost use Rattle.std.specs.Arc.{arc_value};
 ghost use Rattle.sy_site.specs.machine.States.{taken_by};
+ghost use Rattle.sy_replay.specs.Flags.{behind};
 
 use std::alloc::{AllocError, Global};
 use std::marker::Model;
@@ -25,13 +26,15 @@ impl Model for Arrived {
     ghost view = { λ a. record { message = arc_value a.message; origin = a.origin } };
 }
 
-/// A copy: the message's number, the message, the input that it came by from outside, and the relays that took it.
+/// A copy: the message's number, the message, the input that it came by from outside, the relays that took it, and
+/// whether a spare action stood on its way.
 #[derive(Drop)]
 pub(crate) struct Copied {
     number: u64,
     message: Arc<Message>,
     origin: SiteInput,
     trail: Vec<u32>,
+    flag: bool,
 }
 
 impl Model for Copied {
@@ -40,7 +43,7 @@ impl Model for Copied {
 
     ghost Value = { Copy };
 
-    ghost view = { λ c. record { number = c.number; message = arc_value c.message; origin = c.origin; trail = c.trail.items } };
+    ghost view = { λ c. record { number = c.number; message = arc_value c.message; origin = c.origin; trail = c.trail.items; flag = c.flag } };
 }
 
 impl Copied {
@@ -51,7 +54,7 @@ impl Copied {
         message: &Arc<Message>,
         origin: SiteInput,
     ) -> Result<Copied, AllocError>
-        ensures { IfOk result (λ copy. copy ≡ taken_by origin.relay (record { number = number; message = arc_value message.now; origin = origin; trail = [] })) }
+        ensures { IfOk result (λ copy. copy ≡ taken_by origin.relay (record { number = number; message = arc_value message.now; origin = origin; trail = []; flag = false })) }
     {
         let message = Arc::try_clone(message)?;
         let mut trail = Vec::new(alloc);
@@ -61,12 +64,18 @@ impl Copied {
             message,
             origin,
             trail,
+            flag: false,
         })
     }
 
-    // The copy, taken by one more relay.
-    pub(crate) fn taken_by(&self, alloc: Global, relay: u32) -> Result<Copied, AllocError>
-        ensures { IfOk result (λ copy. copy ≡ taken_by relay self.now) }
+    // The copy, taken by one more relay, off the link of an action; where that is spare it is flagged from then on.
+    pub(crate) fn taken_by(
+        &self,
+        alloc: Global,
+        relay: u32,
+        spare: bool,
+    ) -> Result<Copied, AllocError>
+        ensures { IfOk result (λ copy. copy ≡ taken_by relay (behind spare self.now)) }
     {
         let message = Arc::try_clone(&self.message)?;
         let mut trail = Vec::with_capacity(alloc, self.trail.len())?;
@@ -77,6 +86,7 @@ impl Copied {
             message,
             origin: self.origin,
             trail,
+            flag: self.flag || spare,
         })
     }
 
@@ -84,6 +94,13 @@ impl Copied {
         ensures { result ≡ self.now.number }
     {
         self.number
+    }
+
+    // Whether it was flagged when it was taken.
+    pub(crate) fn flag(&self) -> bool
+        ensures { result ≡ self.now.flag }
+    {
+        self.flag
     }
 
     pub(crate) fn message(&self) -> &Arc<Message>

@@ -76,10 +76,11 @@ pub enum Cause {
     PostLost(u32),
 }
 
-/// A loss: of which copy, in which relay, by which step.
+/// A loss: of which copy, in which relay, which list the copy followed there, and by which step it was lost.
 #[derive(Clone, Copy, Debug, PartialEq, Eq)]
 pub struct Loss {
     pub copy: u64,
     pub relay: u32,
+    pub list: u32,
     pub cause: Cause,
 }

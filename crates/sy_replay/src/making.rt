@@ -13,18 +13,20 @@ use sy_actions::{Failure, Hatch, MemoryDevice, Receipt};
 use sy_board::{Board, BoardFault, Job};
 use sy_wire::Message;
 
-// A worker's job that runs an action.
+// A worker's job that runs an action, of an entry that follows a list.
 #[derive(Drop)]
 pub(crate) struct Run {
     pub(crate) action: u32,
+    pub(crate) followed: u32,
     pub(crate) message: Arc<Message>,
     pub(crate) tag: u64,
 }
 
-// A worker's job that posts to a list.
+// A worker's job that posts to a list, of an entry that follows another one.
 #[derive(Drop)]
 pub(crate) struct Post {
     pub(crate) list: u32,
+    pub(crate) followed: u32,
     pub(crate) input: u32,
     pub(crate) message: Arc<Message>,
     pub(crate) tag: u64,
@@ -75,9 +77,13 @@ pub(crate) fn illegal_of(fault: BoardFault) -> Illegal
 // A worker's job, where it runs an action.
 pub(crate) fn run_of(board: &Board, worker: u32) -> Result<Run, Illegal>
     requires { worker < length board.now.plan.workers }
-    ensures ok { IfOk result (λ run. IsRunJob board.now worker run.action (arc_value run.message) run.tag) }
+    ensures ok { IfOk result (λ run. IsRunJob board.now worker run.action run.followed
+        (arc_value run.message) run.tag) }
     ensures err { IfErr result (λ why. NoRunJob why board.now worker) }
 {
+    let Some(followed) = board.followed(worker) else {
+        return Err(Illegal::NotAStep);
+    };
     match board.job(worker) {
         Some(
             Job::Run {
@@ -88,6 +94,7 @@ pub(crate) fn run_of(board: &Board, worker: u32) -> Result<Run, Illegal>
         ) => match Arc::try_clone(message) {
             Ok(message) => Ok(Run {
                 action,
+                followed,
                 message,
                 tag,
             }),
@@ -101,10 +108,13 @@ pub(crate) fn run_of(board: &Board, worker: u32) -> Result<Run, Illegal>
 // A worker's job, where it is a post.
 pub(crate) fn post_of(board: &Board, worker: u32) -> Result<Post, Illegal>
     requires { worker < length board.now.plan.workers }
-    ensures ok { IfOk result (λ post. IsPostJob board.now worker post.list post.input (arc_value post.message)
-        post.tag) }
+    ensures ok { IfOk result (λ post. IsPostJob board.now worker post.list post.followed post.input
+        (arc_value post.message) post.tag) }
     ensures err { IfErr result (λ why. NoPostJob why board.now worker) }
 {
+    let Some(followed) = board.followed(worker) else {
+        return Err(Illegal::NotAStep);
+    };
     match board.job(worker) {
         Some(
             Job::Post {
@@ -116,6 +126,7 @@ pub(crate) fn post_of(board: &Board, worker: u32) -> Result<Post, Illegal>
         ) => match Arc::try_clone(message) {
             Ok(message) => Ok(Post {
                 list,
+                followed,
                 input,
                 message,
                 tag,

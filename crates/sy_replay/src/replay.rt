@@ -5,10 +5,11 @@ ghost use Rattle.sy_site.specs.machine.Lengths.{IsWithinMarks};
 ghost use Rattle.sy_site.specs.machine.Naming.{IsTag};
 ghost use Rattle.sy_site.specs.machine.States.{opening};
 ghost use Rattle.sy_site.specs.machine.Steps.{SiteEvent};
-ghost use Rattle.sy_replay.specs.Events.{site_event, losses_of};
+ghost use Rattle.sy_replay.specs.Events.{loss_of, losses_of, site_event};
 ghost use Rattle.sy_replay.specs.States.{Applies, AreOf, HaveSamePlans, IsIllegalAt, IsReached, state_at};
 ghost use Rattle.sy_replay.specs.Held.{IsNoStep, Steps, contents_of};
 ghost use Rattle.sy_replay.specs.Held as spec;
+ghost use Rattle.sy_replay.specs.Flags.{is_flagged_of};
 ghost use Rattle.sy_replay.specs.Takes.{IsOnLink, IsOnNoLink};
 
 use crate::copies::{Arrived, Copied};
@@ -151,7 +152,7 @@ fn take_from(
     let Ok(message) = Arc::try_clone(copy.message()) else {
         return Err(Illegal::NoMemory);
     };
-    let Ok(copy) = copy.taken_by(alloc, to.relay) else {
+    let Ok(copy) = copy.taken_by(alloc, to.relay, site.is_spare(link)) else {
         return Err(Illegal::NoMemory);
     };
     let Ok(()) = held.copies.reserve(1) else {
@@ -283,6 +284,21 @@ impl<'a> Replay<'a> {
     {
         let copy = self.held.copies.get(copy as usize)?;
         Some(copy.message().class())
+    }
+
+    /// Whether a loss is of a flagged copy, on whose way a spare action stood, or of a spare occurrence. That of a copy
+    /// that wasn't made isn't.
+    pub fn is_flagged(&self, loss: Loss) -> bool
+        ensures { result ≡ is_flagged_of self.now.site (loss_of loss) (slice_get (state_at self.now).copies loss.copy) }
+    {
+        match self.held.copies.get(loss.copy as usize) {
+            Some(copy) => {
+                copy.flag()
+                    || self.site.is_spare_list(loss.relay, loss.list)
+                    || self.site.loses_spare(loss.relay, loss.cause)
+            }
+            None => false,
+        }
     }
 
     /// The state of a replay is one that a run of its site ends in, so that all laws of runs hold of it: no queue whose

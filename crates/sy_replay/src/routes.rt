@@ -1,8 +1,11 @@
 //! A site with a table of where its actions lead to, so that no name is looked up while it runs.
 ghost use Rattle.std.specs.Prelude.{◌≡◌, ◌<◌, IfOk, length};
 ghost use Rattle.sy_site.specs.Sites as sites;
+ghost use Rattle.sy_site.specs.machine.States as states;
+ghost use Rattle.sy_replay.specs.Events.{cause_of};
 ghost use Rattle.sy_replay.specs.Routes as spec;
 
+use crate::event::Cause;
 use std::alloc::{AllocError, Global};
 use std::marker::Model;
 use sy_rules::laws::plans_are_whole;
@@ -92,5 +95,36 @@ impl<'a> Routes<'a> {
         ensures { result ≡ sites.target self.now link }
     {
         entry_in(self.targets.as_slice(), link)
+    }
+
+    /// Whether an action is spare.
+    pub(crate) fn is_spare(&self, action: SiteAction) -> bool
+        ensures { result ≡ sites.is_spare self.now action }
+    {
+        self.site.is_spare(action.relay, action.action)
+    }
+
+    /// Whether a list of a relay is a spare action's own.
+    pub(crate) fn is_spare_list(&self, relay: u32, list: u32) -> bool
+        ensures { result ≡ sites.is_spare_list self.now relay list }
+    {
+        if relay >= self.site.relays() {
+            return false;
+        }
+        match self.site.plan(relay).own_action(list) {
+            Some(action) => self.site.is_spare(relay, action),
+            None => false,
+        }
+    }
+
+    /// Whether what was lost in a relay by this step is a spare occurrence.
+    pub(crate) fn loses_spare(&self, relay: u32, cause: Cause) -> bool
+        ensures { result ≡ states.loses_spare self.now relay (cause_of cause) }
+    {
+        match cause {
+            Cause::GiveUp(action) => self.site.is_spare(relay, action),
+            Cause::Post(list) | Cause::PostLost(list) => self.is_spare_list(relay, list),
+            Cause::Take | Cause::Expire | Cause::Grab => false,
+        }
     }
 }

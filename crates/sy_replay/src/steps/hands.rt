@@ -35,7 +35,7 @@ pub(crate) fn take(
     ensures err { IfErr result (λ why. IsIllegal why board.old (Event.Take input hand node)) }
     ensures unchanged { OnErr result ((board.new ≡ board.old) × (losses.new.items ≡ losses.old.items)) }
 {
-    let copy = node.tag();
+    let (copy, list) = (node.tag(), node.list());
     let Ok(()) = losses.reserve(1) else {
         return Err(Illegal::NoMemory);
     };
@@ -45,6 +45,7 @@ pub(crate) fn take(
             losses.push_reserved(Loss {
                 copy,
                 relay,
+                list,
                 cause: Cause::Take,
             });
             Ok(())
@@ -149,6 +150,7 @@ pub(crate) fn expire(
             losses.push_reserved(Loss {
                 copy: node.tag(),
                 relay,
+                list: node.list(),
                 cause: Cause::Expire,
             });
             Ok(())
@@ -168,6 +170,7 @@ fn note_grabbed(losses: &mut Vec<Loss>, relay: u32, lost: Chain)
         losses.push_reserved(Loss {
             copy: node.tag(),
             relay,
+            list: node.list(),
             cause: Cause::Grab,
         });
     }

@@ -34,8 +34,8 @@ fn tries_again(board: &Board, worker: u32, action: u32) -> bool
 // The device took the message of the worker's job.
 fn settle(board: &mut Board, worker: u32, run: Run) -> Result<(), Illegal>
     requires there { worker < length board.old.plan.workers }
-    requires job { IsRunJob board.old worker run.action (arc_value run.message) run.tag }
-    ensures ok { OnOk result (Answers Answer.Done board.old worker run.action run.tag board.new) }
+    requires job { IsRunJob board.old worker run.action run.followed (arc_value run.message) run.tag }
+    ensures ok { OnOk result (Answers Answer.Done board.old worker run.action run.followed run.tag board.new) }
     ensures err { IfErr result (λ why. IsNoAnswer why Answer.Done board.old worker) }
     ensures unchanged { OnErr result (board.new ≡ board.old) }
 {
@@ -51,9 +51,9 @@ fn settle(board: &mut Board, worker: u32, run: Run) -> Result<(), Illegal>
 // It failed, and may be tried again.
 fn fail_again(board: &mut Board, worker: u32, run: Run) -> Result<(), Illegal>
     requires there { worker < length board.old.plan.workers }
-    requires job { IsRunJob board.old worker run.action (arc_value run.message) run.tag }
+    requires job { IsRunJob board.old worker run.action run.followed (arc_value run.message) run.tag }
     requires again { MayTry (retry_at board.old.plan run.action) (failures_at board.old.state worker) }
-    ensures ok { OnOk result (Answers Answer.Fail board.old worker run.action run.tag board.new) }
+    ensures ok { OnOk result (Answers Answer.Fail board.old worker run.action run.followed run.tag board.new) }
     ensures err { IfErr result (λ why. IsNoAnswer why Answer.Fail board.old worker) }
     ensures unchanged { OnErr result (board.new ≡ board.old) }
 {
@@ -70,9 +70,9 @@ fn fail_again(board: &mut Board, worker: u32, run: Run) -> Result<(), Illegal>
 // It failed for the last time.
 fn fail_last(board: &mut Board, worker: u32, run: Run) -> Result<(), Illegal>
     requires there { worker < length board.old.plan.workers }
-    requires job { IsRunJob board.old worker run.action (arc_value run.message) run.tag }
+    requires job { IsRunJob board.old worker run.action run.followed (arc_value run.message) run.tag }
     requires last { MayTry (retry_at board.old.plan run.action) (failures_at board.old.state worker) → ⊥ }
-    ensures ok { OnOk result (Answers Answer.GiveUp board.old worker run.action run.tag board.new) }
+    ensures ok { OnOk result (Answers Answer.GiveUp board.old worker run.action run.followed run.tag board.new) }
     ensures err { IfErr result (λ why. IsNoAnswer why Answer.GiveUp board.old worker) }
     ensures unchanged { OnErr result (board.new ≡ board.old) }
 {
@@ -89,8 +89,8 @@ fn fail_last(board: &mut Board, worker: u32, run: Run) -> Result<(), Illegal>
 // Done, whose copy comes to the end of what the device took.
 fn settle_into(board: &mut Board, tags: &mut Vec<u64>, worker: u32, run: Run) -> Result<(), Illegal>
     requires there { worker < length board.old.plan.workers }
-    requires job { IsRunJob board.old worker run.action (arc_value run.message) run.tag }
-    ensures ok { OnOk result (Comes Answer.Done true board.old tags.old.items worker run.action run.tag
+    requires job { IsRunJob board.old worker run.action run.followed (arc_value run.message) run.tag }
+    ensures ok { OnOk result (Comes Answer.Done true board.old tags.old.items worker run.action run.followed run.tag
         board.new tags.new.items) }
     ensures err { IfErr result (λ why. IsNoAnswer why Answer.Done board.old worker) }
     ensures unchanged { OnErr result ((board.new ≡ board.old) × (tags.new.items ≡ tags.old.items)) }
@@ -115,9 +115,9 @@ fn fail_into(
     took: bool,
 ) -> Result<(), Illegal>
     requires there { worker < length board.old.plan.workers }
-    requires job { IsRunJob board.old worker run.action (arc_value run.message) run.tag }
+    requires job { IsRunJob board.old worker run.action run.followed (arc_value run.message) run.tag }
     requires again { MayTry (retry_at board.old.plan run.action) (failures_at board.old.state worker) }
-    ensures ok { OnOk result (Comes Answer.Fail took board.old tags.old.items worker run.action run.tag
+    ensures ok { OnOk result (Comes Answer.Fail took board.old tags.old.items worker run.action run.followed run.tag
         board.new tags.new.items) }
     ensures err { IfErr result (λ why. IsNoAnswer why Answer.Fail board.old worker) }
     ensures unchanged { OnErr result ((board.new ≡ board.old) × (tags.new.items ≡ tags.old.items)) }
@@ -144,9 +144,9 @@ fn give_up_into(
     took: bool,
 ) -> Result<(), Illegal>
     requires there { worker < length board.old.plan.workers }
-    requires job { IsRunJob board.old worker run.action (arc_value run.message) run.tag }
+    requires job { IsRunJob board.old worker run.action run.followed (arc_value run.message) run.tag }
     requires last { MayTry (retry_at board.old.plan run.action) (failures_at board.old.state worker) → ⊥ }
-    ensures ok { OnOk result (Comes Answer.GiveUp took board.old tags.old.items worker run.action run.tag
+    ensures ok { OnOk result (Comes Answer.GiveUp took board.old tags.old.items worker run.action run.followed run.tag
         board.new tags.new.items) }
     ensures err { IfErr result (λ why. IsNoAnswer why Answer.GiveUp board.old worker) }
     ensures unchanged { OnErr result ((board.new ≡ board.old) × (tags.new.items ≡ tags.old.items)) }
@@ -251,7 +251,7 @@ pub(crate) fn give_up(
         return Err(Illegal::NoMemory);
     };
     plans_are_whole(board.plan());
-    let (action, copy) = (run.action, run.tag);
+    let (action, list, copy) = (run.action, run.followed, run.tag);
     let tags = &mut passed[action as usize];
     if let Err(why) = give_up_into(board, tags, worker, run, took) {
         return Err(why);
@@ -259,6 +259,7 @@ pub(crate) fn give_up(
     losses.push_reserved(Loss {
         copy,
         relay,
+        list,
         cause: Cause::GiveUp(action),
     });
     Ok(())

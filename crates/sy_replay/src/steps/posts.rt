@@ -17,7 +17,7 @@ use sy_rules::laws::plans_are_whole;
 
 // The entry that a post makes.
 fn node_of(alloc: Global, board: &Board, worker: u32, post: Post) -> Result<Node, AllocError>
-    requires { IsPostJob board.now worker post.list post.input (arc_value post.message) post.tag }
+    requires { IsPostJob board.now worker post.list post.followed post.input (arc_value post.message) post.tag }
     ensures ok { IfOk result (λ node. IsForPost board.now worker node) }
 {
     plans_are_whole(board.plan());
@@ -48,7 +48,7 @@ pub(crate) fn post(
         Ok(post) => post,
         Err(why) => return Err(why),
     };
-    let (list, copy) = (post.list, post.tag);
+    let (to, list, copy) = (post.list, post.followed, post.tag);
     let Ok(node) = node_of(alloc, board, worker, post) else {
         return Err(Illegal::NoMemory);
     };
@@ -61,7 +61,8 @@ pub(crate) fn post(
             losses.push_reserved(Loss {
                 copy,
                 relay,
-                cause: Cause::Post(list),
+                list,
+                cause: Cause::Post(to),
             });
             Ok(())
         }
@@ -98,6 +99,7 @@ pub(crate) fn post_lost(
             losses.push_reserved(Loss {
                 copy: post.tag,
                 relay,
+                list: post.followed,
                 cause: Cause::PostLost(post.list),
             });
             Ok(())

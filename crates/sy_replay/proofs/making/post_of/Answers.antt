@@ -1,12 +1,12 @@
 use Rattle.std.proofs.Common.{subst, sym, ◌∙◌}
 use Rattle.sy_board.specs.relay.Boards.{JobIs}
-use Rattle.sy_replay.proofs.Refused.{no_post, no_post_at_all}
+use Rattle.sy_replay.proofs.Refused.{followed_is, no_post, no_post_at_all}
 use Rattle.sy_replay.proofs.making.post_of.Goals as goal
 
 pub returns-in-Ok-clause-ok : goal.returns-in-Ok-clause-ok
 returns-in-Ok-clause-ok c =
     let is = subst (λ x. JobIs x c.args.board.now c.args.worker) c.in-Some-Post.field-0-is c.in-Some-Post.ensures.some in
-    record { job = is.0; its_input = sym is.1; its_message = sym is.2 ∙ sym c.in-Ok.ensures; its_tag = sym is.3 }
+    record { job = is.0; its_list = followed_is c.args.board.now c.args.worker c.in-Some.followed is.0 (sym c.followed.ensures ∙ c.in-Some.is); its_input = sym is.1; its_message = sym is.2 ∙ sym c.in-Ok.ensures; its_tag = sym is.3 }
 
 pub returns-in-Some-Run-clause-err : goal.returns-in-Some-Run-clause-err
 returns-in-Some-Run-clause-err c =

@@ -1,7 +1,9 @@
 use Rattle.std.proofs.Common.{◌≡◌, ◌∙◌, ◌∷◌, ◌++◌, [], ap, arith, length, subst, sym}
 use Rattle.std.specs.Arc.{arc_value}
 use Rattle.sy_site.specs.machine.Steps.{SiteEvent}
+use Rattle.sy_site.specs.machine.States.{taken_by}
 use Rattle.sy_replay.specs.Events.{losses_of}
+use Rattle.sy_replay.specs.Flags.{behind}
 use Rattle.sy_replay.specs.Held.{contents_of}
 use Rattle.sy_replay.specs.States.{Applies, holding}
 use Rattle.sy_replay.specs.Takes.{IsNoEntry, TakesEntry}
@@ -37,6 +39,7 @@ returns-clause-ok c =
     let step = from_link c.args.site.now (contents_of held) c.args.to c.args.hand c.args.link c.args.place copy c.take_entry.new.parts.items c.unlink.new.parts.items after
     c.requires c.in-Some.ensures.some entry c.unlink.ensures.gone in
     let copies = c.push_reserved.ensures.items ∙ ap (λ xs. xs ++ c.in-Ok-taken_by.copy ∷ []) c.reserve.ensures.items
-    ∙ ap (λ x. held.copies.items ++ x ∷ []) c.in-Ok-taken_by.ensures in
+    ∙ ap (λ x. held.copies.items ++ x ∷ [])
+    (c.in-Ok-taken_by.ensures ∙ ap (λ s. taken_by c.args.to.relay (behind s copy)) c.is_spare.ensures) in
     subst (λ cs. Applies c.args.site.now (contents_of held) (SiteEvent.TakeFrom c.args.to c.args.hand c.args.link c.args.place)
     (holding c.unlink.new.parts.items cs after held.arrivals.items)) (sym copies) step

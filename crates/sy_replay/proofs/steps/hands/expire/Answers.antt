@@ -1,4 +1,4 @@
-use Rattle.std.proofs.Common.{sym, subst, ap}
+use Rattle.std.proofs.Common.{sym, subst}
 use Rattle.sy_board.specs.relay.Steps.{Cause, Event}
 use Rattle.sy_replay.specs.Events.{IsIllegal}
 use Rattle.sy_replay.specs.declared.event.Cause.TheVariants as cause
@@ -11,10 +11,10 @@ returns-in-Ok-expire-clause-ok c =
     let i = c.args.input in
     let h = c.args.hand in
     losing c.args.relay c.args.board.now c.expire.new.self (Event.Expire i h) Cause.Expire c.in-Ok-expire.node c.args.losses.now.items c.push_reserved.new.self.items
-    (record { copy = c.tag.result; relay = c.args.relay; cause = cause.Expire })
+    (record { copy = c.tag.result; relay = c.args.relay; list = c.list.result; cause = cause.Expire })
     (expired c.args.board.now c.expire.new.self i h c.in-Ok-expire.node c.in-Ok-expire.ensures.ok)
     (rw c.reserve.ensures.items at c.push_reserved.ensures.items)
-    (ap (λ t. record { copy = t; relay = c.args.relay; cause = Cause.Expire }) c.tag.ensures)
+    (λ i. record { copy = c.tag.ensures i; relay = c.args.relay; list = c.list.ensures i; cause = Cause.Expire })
 
 pub returns-in-Err-clause-err : goal.returns-in-Err-clause-err
 returns-in-Err-clause-err c =

@@ -1,4 +1,4 @@
-use Rattle.std.proofs.Common.{sym, subst, ap}
+use Rattle.std.proofs.Common.{sym, subst}
 use Rattle.sy_board.specs.relay.Boards.{TakeIs}
 use Rattle.sy_board.specs.relay.Steps.{Cause, Event}
 use Rattle.sy_replay.specs.Events.{IsIllegal}
@@ -13,10 +13,10 @@ returns-in-Ok-Discarded-clause-ok c =
     let h = c.args.hand in
     let is = subst (λ x. TakeIs x c.args.board.now i h c.args.node c.take.new.self) c.in-Ok-Discarded.field-0-is c.in-Ok-Discarded.ensures.ok in
     losing c.args.relay c.args.board.now c.take.new.self (Event.Take i h c.args.node) Cause.Take c.args.node c.args.losses.now.items c.push_reserved.new.self.items
-    (record { copy = c.tag-copy.result; relay = c.args.relay; cause = cause.Take })
+    (record { copy = c.tag-copy.result; relay = c.args.relay; list = c.list-list.result; cause = cause.Take })
     (taken_lost c.args.board.now c.take.new.self i h c.args.node c.in-Ok-Discarded.field-0-0 is)
     (rw c.reserve.ensures.items at c.push_reserved.ensures.items)
-    (ap (λ t. record { copy = t; relay = c.args.relay; cause = Cause.Take }) c.tag-copy.ensures)
+    (λ i. record { copy = c.tag-copy.ensures i; relay = c.args.relay; list = c.list-list.ensures i; cause = Cause.Take })
 
 pub returns-clause-err : goal.returns-clause-err
 returns-clause-err c =

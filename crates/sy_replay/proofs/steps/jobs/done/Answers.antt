@@ -27,8 +27,8 @@ returns-clause-ok c =
     let x = c.index_mut.result.now in
     let l : action < length xs = let n = c.requires in omega (arith, there, n) in
     on_ok c.settle_into.result (λ comes losses.
-    comes_made Answer.Done c.args.relay true c.args.board.now c.settle_into.new.board c.args.worker action c.in-Ok.run'.tag _ _ c.settle_into.new.tags.items losses losses
-    (read_comes Answer.Done true c.args.board.now c.settle_into.new.board c.args.worker action c.in-Ok.run'.tag xs x c.settle_into.new.tags.items l c.index_mut.ensures.value comes)
+    comes_made Answer.Done c.args.relay true c.args.board.now c.settle_into.new.board c.args.worker action c.in-Ok.run'.followed c.in-Ok.run'.tag _ _ c.settle_into.new.tags.items losses losses
+    (read_comes Answer.Done true c.args.board.now c.settle_into.new.board c.args.worker action c.in-Ok.run'.followed c.in-Ok.run'.tag xs x c.settle_into.new.tags.items l c.index_mut.ensures.value comes)
     (items_set xs action c.settle_into.new.tags) (sym (append-nil losses))) c.settle_into.ensures.ok
 
 pub returns-clause-err : goal.returns-clause-err

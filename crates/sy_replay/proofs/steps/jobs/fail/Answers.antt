@@ -25,8 +25,8 @@ returns-clause-ok c =
     let x = c.index_mut.result.now in
     let l : action < length xs = let n = c.requires in omega (arith, there, n) in
     on_ok c.fail_into.result (λ comes losses.
-    comes_made Answer.Fail c.args.relay c.args.took c.args.board.now c.fail_into.new.board c.args.worker action c.in-Ok.run'.tag _ _ c.fail_into.new.tags.items losses losses
-    (read_comes Answer.Fail c.args.took c.args.board.now c.fail_into.new.board c.args.worker action c.in-Ok.run'.tag xs x c.fail_into.new.tags.items l c.index_mut.ensures.value comes)
+    comes_made Answer.Fail c.args.relay c.args.took c.args.board.now c.fail_into.new.board c.args.worker action c.in-Ok.run'.followed c.in-Ok.run'.tag _ _ c.fail_into.new.tags.items losses losses
+    (read_comes Answer.Fail c.args.took c.args.board.now c.fail_into.new.board c.args.worker action c.in-Ok.run'.followed c.in-Ok.run'.tag xs x c.fail_into.new.tags.items l c.index_mut.ensures.value comes)
     (items_set xs action c.fail_into.new.tags) (sym (append-nil losses))) c.fail_into.ensures.ok
 
 pub returns-clause-unchanged : goal.returns-clause-unchanged

@@ -9,12 +9,12 @@ use Rattle.sy_replay.proofs.steps.jobs.fail_last.Goals as goal
 pub returns-in-Ok-GaveUp-clause-ok : goal.returns-in-Ok-GaveUp-clause-ok
 returns-in-Ok-GaveUp-clause-ok c =
     let r = c.args.run in
-    given_up c.args.board.now c.failed.new.self c.args.worker r.action r.tag (arc_value r.message) c.failure_of.result c.requires.job c.failure_of.ensures.device
+    given_up c.args.board.now c.failed.new.self c.args.worker r.action r.followed r.tag (arc_value r.message) c.failure_of.result c.requires.job c.failure_of.ensures.device
     (subst (λ x. FailIs x c.args.board.now c.args.worker c.failure_of.result c.failed.new.self) c.in-Ok-GaveUp.field-0-is c.in-Ok-GaveUp.ensures.ok)
 
 pub returns-in-Err-clause-err : goal.returns-in-Err-clause-err
 returns-in-Err-clause-err c =
     let r = c.args.run in
     subst (λ why. IsNoAnswer why Answer.GiveUp c.args.board.now c.args.worker) (sym c.illegal_of.ensures)
-    (give_up_refused c.in-Err.fault c.args.board.now c.args.worker r.action r.tag (arc_value r.message) c.failure_of.result c.requires.job
+    (give_up_refused c.in-Err.fault c.args.board.now c.args.worker r.action r.followed r.tag (arc_value r.message) c.failure_of.result c.requires.job
     c.failure_of.ensures.device c.failure_of.ensures.message c.failure_of.ensures.offered c.in-Err.ensures.err)

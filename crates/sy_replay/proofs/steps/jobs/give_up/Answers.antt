@@ -35,5 +35,5 @@ returns-clause-ok c =
     let xs = c.args.passed.now.items in
     let x = c.index_mut-tags.result.now in
     let l : action < length xs = let n = c.requires in omega (arith, there, n) in
-    given_up_made c.args.relay c.args.took c.args.board.now c.give_up_into.new.board c.args.worker action c.in-Ok.run'.tag xs x c.give_up_into.new.tags c.args.losses.now.items
+    given_up_made c.args.relay c.args.took c.args.board.now c.give_up_into.new.board c.args.worker action c.in-Ok.run'.followed c.in-Ok.run'.tag xs x c.give_up_into.new.tags c.args.losses.now.items
     c.push_reserved.new.self.items l c.index_mut-tags.ensures.value c.in_default-give_up_into.ensures.ok (rw c.reserve.ensures.items at c.push_reserved.ensures.items)

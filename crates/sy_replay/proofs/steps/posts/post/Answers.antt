@@ -23,7 +23,7 @@ pub returns-in-Ok-Discarded-clause-ok : goal.returns-in-Ok-Discarded-clause-ok
 returns-in-Ok-Discarded-clause-ok c =
     let w = c.args.worker in
     let p = c.in-Ok.post in
-    post_discarded c.args.relay c.args.board.now c.post.new.self w p.list p.input p.tag (arc_value p.message) c.in-Ok-node_of.node c.in-Ok-Discarded.field-0-0
+    post_discarded c.args.relay c.args.board.now c.post.new.self w p.list p.followed p.input p.tag (arc_value p.message) c.in-Ok-node_of.node c.in-Ok-Discarded.field-0-0
     c.args.losses.now.items c.push_reserved.new.self.items c.in-Ok.ensures.ok
     (subst (λ x. PostIs x c.args.board.now w c.in-Ok-node_of.node c.post.new.self) c.in-Ok-Discarded.field-0-is c.in-Ok-Discarded.ensures.ok)
     (rw c.reserve.ensures.items at c.push_reserved.ensures.items)

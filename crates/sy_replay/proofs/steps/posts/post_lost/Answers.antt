@@ -13,7 +13,7 @@ returns-in-Err-clause-err c = no_lost_posts c.in-Err.why c.args.board.now c.args
 pub returns-in-Ok-post_lost-clause-ok : goal.returns-in-Ok-post_lost-clause-ok
 returns-in-Ok-post_lost-clause-ok c =
     let p = c.in-Ok.post in
-    post_gone c.args.relay c.args.board.now c.post_lost.new.self c.args.worker p.list p.input p.tag (arc_value p.message) c.args.cause
+    post_gone c.args.relay c.args.board.now c.post_lost.new.self c.args.worker p.list p.followed p.input p.tag (arc_value p.message) c.args.cause
     c.args.losses.now.items c.push_reserved.new.self.items c.in-Ok.ensures.ok c.in-Ok-post_lost.ensures.ok
     (rw c.reserve.ensures.items at c.push_reserved.ensures.items)
 
