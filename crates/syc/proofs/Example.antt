@@ -39,9 +39,10 @@ pub names_are : file_names SITE.now ≡ codes "edge.conf" ∷ codes "hub.conf" �
 unfolding word_lines words
 names_are = refl
 
-abbrev first_letter : List (List ℕ) → ℕ
-first_letter ((c ∷ cs) ∷ words) = c
-first_letter _ = 0
+-- (of the words that a line may begin with, only protect has this one in the second place)
+abbrev second_letter : List (List ℕ) → ℕ
+second_letter ((c ∷ d ∷ cs) ∷ words) = d
+second_letter _ = 0
 
 -- a line that isn't skipped has a shape
 record Taken (words : List (List ℕ)) (later : List (List (List ℕ))) (lines : List Line) : Type 0 where
@@ -56,17 +57,21 @@ taken : {words : List (List ℕ)} {later : List (List (List ℕ))} {lines : List
 taken (AreLines.skip skipped are) other = absurd (false≢true (sym other ∙ skipped))
 taken (AreLines.shaped unskipped is are) other = record { it = _; rest = _; whole = refl; is_line = is; are_lines = are }
 
-no_protection : (words : List (List ℕ)) (it : Line) (lines : List Line) → IsLine words it → first_letter words ≢ 112
+no_protection : (words : List (List ℕ)) (it : Line) (lines : List Line) → IsLine words it → second_letter words ≢ 114
     → protect_lines (it ∷ lines) ≡ protect_lines lines
+no_protection words Line.Policy lines is other = refl
 no_protection words (Line.Relay r) lines is other = refl
 no_protection words (Line.Entry e) lines is other = refl
-no_protection words (Line.Protect p) lines is other = absurd (other (ap first_letter is.whole))
+no_protection words (Line.Protect p) lines is other = absurd (other (ap second_letter is.whole))
+no_protection words (Line.Spare s) lines is other = refl
 
-a_protection : (words : List (List ℕ)) (it : Line) (lines : List Line) → IsLine words it → first_letter words ≡ 112
+a_protection : (words : List (List ℕ)) (it : Line) (lines : List Line) → IsLine words it → second_letter words ≡ 114
     → (p : ProtectLine) × IsProtectLine words p × (protect_lines (it ∷ lines) ≡ p ∷ protect_lines lines)
-a_protection words (Line.Relay r) lines is letter = let e : 112 ≡ 114 = sym letter ∙ ap first_letter is.whole in absurd (omega (arith, e))
-a_protection words (Line.Entry e) lines is letter = let e : 112 ≡ 101 = sym letter ∙ ap first_letter is.whole in absurd (omega (arith, e))
+a_protection words Line.Policy lines is letter = let e : 114 ≡ 111 = sym letter ∙ ap second_letter is in absurd (omega (arith, e))
+a_protection words (Line.Relay r) lines is letter = let e : 114 ≡ 101 = sym letter ∙ ap second_letter is.whole in absurd (omega (arith, e))
+a_protection words (Line.Entry e) lines is letter = let e : 114 ≡ 110 = sym letter ∙ ap second_letter is.whole in absurd (omega (arith, e))
 a_protection words (Line.Protect p) lines is letter = (p, is, refl)
+a_protection words (Line.Spare s) lines is letter = let e : 114 ≡ 112 = sym letter ∙ ap second_letter is in absurd (omega (arith, e))
 
 no_lines : {lines : List Line} → AreLines [] lines → lines ≡ []
 no_lines AreLines.none = refl

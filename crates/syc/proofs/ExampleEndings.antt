@@ -106,9 +106,9 @@ module _ (one : (text : List ℕ) (files : List File) (a b : Site) → Describes
   certified fit_is_sound status old new (inl (site, is, text, is_accepted, inl fit, printed)) ends = record {
     site = site;
     is = the_site site is;
-    rows = fit.rows;
+    certificate = fit.certificate;
     fit = fit.fit;
-    sound = fit_is_sound site fit.rows fit.fit;
+    sound = fit_is_sound site fit.certificate.rows fit.fit.rows;
     text = text;
     is_text = fit.is_text;
     printed = printed_whole text status old new (subst (λ b. Prints text b status old new) fit.accepted printed) ends;
@@ -123,7 +123,7 @@ module _ (one : (text : List ℕ) (files : List File) (a b : Site) → Describes
       elim of_files.says [
         | inl fit ↦ (
           accepts of_files.site fit.count status text is_accepted old new of_files.is_site fit.keeps fit.text_is fit.accepted printed ends,
-          record { site = of_files.site; is = the_site of_files.site of_files.is_site; rows = of_files.rows; are_of = of_files.are_of; fit = fit.fit },
+          record { site = of_files.site; is = the_site of_files.site of_files.is_site; certificate = of_files.certificate; is_text = of_files.is_text; fit = fit.fit },
         )
         | inr wrong ↦ absurd (not_refused text is_accepted status old new wrong.refused printed ends)
       ]

@@ -1,7 +1,7 @@
 -- Where the bytes of all its files are known, a site file describes one site; and what an accepted certificate shows of it.
 use Rattle.std.proofs.Common.{◌≡◌, ℕ, Bool, List, [], ◌∷◌, inl, inr, map, refl, sym, subst, ap, ◌∙◌, arith}
 use Rattle.std.specs.Prelude.{IfErr, IfOk, IfSome, Option, Some, Result, Ok, Err, true, false, ◌≢◌, ◌⊎◌}
-use Rattle.sy_cert.specs.declared.row.Row.{Row}
+use Rattle.sy_cert.specs.CertificateValue.{Certificate}
 use Rattle.sy_site.specs.Sites.{Site}
 use Rattle.sy_site.specs.texts.Describes.{Describes, File}
 use Rattle.sy_site.specs.texts.Files.{file_names}
@@ -61,17 +61,17 @@ module _ (bytes_of : List ℕ → Option (List ℕ)) where
 true_or_false : {b : Bool} → b ≡ true → b ≡ false → ⊥
 true_or_false is other = cc
 
-kept_count : (site : Site) (rows : List Row) (printed : List ℕ) (is_accepted : Bool) → SaysOf site rows printed is_accepted
+kept_count : (site : Site) (certificate : Certificate) (printed : List ℕ) (is_accepted : Bool) → SaysOf site certificate printed is_accepted
     → is_accepted ≡ true → (count : ℕ) × KeepsAll site count
-kept_count site rows printed is_accepted (inl says) accepts = (says.count, says.keeps)
-kept_count site rows printed is_accepted (inr says) accepts = absurd (true_or_false accepts says.refused)
+kept_count site certificate printed is_accepted (inl says) accepts = (says.count, says.keeps)
+kept_count site certificate printed is_accepted (inr says) accepts = absurd (true_or_false accepts says.refused)
 
 -- the site of an acceptance is kept
 pub kept_site : ((text : List ℕ) (files : List File) (a b : Site) → Describes text files a → Describes text files b → a ≡ b)
-    → (bytes_of : List ℕ → Option (List ℕ)) (text : List ℕ) (site : Site) (rows : List Row) (printed : List ℕ) (is_accepted : Bool)
-    → IsSiteOf bytes_of text site → SaysOf site rows printed is_accepted → is_accepted ≡ true → DescribesKept bytes_of text
-kept_site one bytes_of text site rows printed is_accepted is says accepts =
-    let kept = kept_count site rows printed is_accepted says accepts in
+    → (bytes_of : List ℕ → Option (List ℕ)) (text : List ℕ) (site : Site) (certificate : Certificate) (printed : List ℕ) (is_accepted : Bool)
+    → IsSiteOf bytes_of text site → SaysOf site certificate printed is_accepted → is_accepted ≡ true → DescribesKept bytes_of text
+kept_site one bytes_of text site certificate printed is_accepted is says accepts =
+    let kept = kept_count site certificate printed is_accepted says accepts in
     record { site = site; is_site = is; count = kept.0; keeps = kept.1; alone = one_of_files bytes_of one text site is }
 
 -- What is printed with status 0 is an acceptance.

@@ -7,12 +7,11 @@ use Rattle.sy_site.specs.machine.Safety.{AreSafe}
 use Rattle.sy_site.specs.machine.Soundness.{IsSound}
 use Rattle.sy_site.specs.machine.States.{SiteState}
 use Rattle.sy_site.specs.machine.Steps.{Runs, SiteEvent}
-use Rattle.sy_cert.specs.Rows as certificate
-use Rattle.sy_cert.specs.declared.kinds.Kind.TheVariants as kinds
-use Rattle.sy_cert.specs.declared.row.Row.{Row}
+use Rattle.sy_cert.specs.CertificateValue.{Certificate}
+use Rattle.sy_cert.specs.Rows.{IsCertificate, text}
 use Rattle.sy_checker.specs.Claims.{RanksStayFalling, StayConfined, StayWrittenOrHead}
 use Rattle.sy_checker.specs.Finding.{IsTrueFinding, words}
-use Rattle.sy_checker.specs.Fit.{AreProtected, IsFit, action_name, name_of}
+use Rattle.sy_checker.specs.Fit.{AreProtected, IsFitFor, action_name, name_of}
 use Rattle.sy_checker.specs.declared.finding.Finding.{Finding}
 use Rattle.sy_checker.specs.declared.finding.Kind.{Kind}
 use Rattle.sy_checker.specs.declared.finding.Kind.TheVariants as kind
@@ -118,16 +117,16 @@ pub record SaysKept (site : Site) (text : List ℕ) (is_accepted : Bool) : Type 
   pub text_is : text ≡ accepted_line count
   pub accepted : is_accepted ≡ true
 
--- the text is that of a certificate with these rows
-pub record IsCertificate (bytes : List ℕ) (rows : List Row) : Type 0 where
-  pub are_rows : certificate.AreRows kinds.Cert rows
-  pub whole : bytes ≡ certificate.text 1 rows
+-- the text is that of this certificate
+pub record IsTextOf (bytes : List ℕ) (certificate : Certificate) : Type 0 where
+  pub lawful : IsCertificate certificate.version certificate.rows
+  pub whole : bytes ≡ text certificate.version certificate.rows
 
 -- a certificate that is fit for it
 pub record SaysFit (site : Site) (text : List ℕ) (is_accepted : Bool) : Type 0 where
-  pub rows : List Row
-  pub fit : IsFit site rows
-  pub is_text : IsCertificate text rows
+  pub certificate : Certificate
+  pub fit : IsFitFor site certificate
+  pub is_text : IsTextOf text certificate
   pub accepted : is_accepted ≡ true
 
 -- what a check says of a site

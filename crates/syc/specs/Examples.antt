@@ -1,13 +1,13 @@
 -- The example site with its files in memory, and what its commands show where they end with 0 (this profile's own).
 use Rattle.std.specs.Prelude.{◌≡◌, ℕ, true, List, [], ◌∷◌, ◌++◌, Option, codes}
 use Rattle.std.specs.Io.KnownBytes.{Appends}
-use Rattle.sy_cert.specs.declared.row.Row.{Row}
-use Rattle.sy_checker.specs.Fit.{IsFit}
+use Rattle.sy_cert.specs.CertificateValue.{Certificate}
+use Rattle.sy_checker.specs.Fit.{IsFitFor}
 use Rattle.sy_site.specs.Sites.{Site}
 use Rattle.sy_site.specs.internal.Given.{file}
 use Rattle.sy_site.specs.machine.Soundness.{IsSound}
 use Rattle.sy_site.specs.texts.Describes.{Describes, File, file_named}
-use Rattle.syc.specs.Checks.{IsCertificate, KeepsAll, accepted_line}
+use Rattle.syc.specs.Checks.{IsTextOf, KeepsAll, accepted_line}
 use Rattle.syc.specs.Replays.{Ending, Replays, lines_of, opened}
 use Rattle.syc.specs.Reports.{Streams}
 use Rattle.syc.specs.declared.examples.TheConstants.{CERTIFICATE, EDGE, EVENTS, HUB, SITE}
@@ -48,20 +48,20 @@ pub record IsAccepted (old new : Streams) : Type 0 where
 pub record IsCertified (old new : Streams) : Type 0 where
   pub site : Site
   pub is : IsTheSite site
-  pub rows : List Row
-  pub fit : IsFit site rows
+  pub certificate : Certificate
+  pub fit : IsFitFor site certificate
   pub sound : IsSound site
   pub text : List ℕ
-  pub is_text : IsCertificate text rows
+  pub is_text : IsTextOf text certificate
   pub printed : Printed text old new
 
--- The certificate's rows are fit for the one site that the texts describe.
+-- The certificate is fit for the one site that the texts describe.
 pub record IsVerified : Type 0 where
   pub site : Site
   pub is : IsTheSite site
-  pub rows : List Row
-  pub are_of : IsCertificate CERTIFICATE.now rows
-  pub fit : IsFit site rows
+  pub certificate : Certificate
+  pub is_text : IsTextOf CERTIFICATE.now certificate
+  pub fit : IsFitFor site certificate
 
 -- Each line of the events was skipped or is a step of the one site that the texts describe, and what that prints was printed and handed on.
 pub record IsReplayed (old new : Streams) : Type 0 where

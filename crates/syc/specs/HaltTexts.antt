@@ -1,5 +1,5 @@
 -- What is printed where a command over a site stops early (this profile's own).
-use Rattle.std.specs.Prelude.{ℕ, List, [], ◌∷◌, codes}
+use Rattle.std.specs.Prelude.{ℕ, ◌==◌, ◌||◌, Bool, nat_lt, List, [], ◌∷◌, Option, Some, None, codes, position, take}
 use Rattle.std.specs.Fmt.{decimal}
 use Rattle.sy_script.specs.Faults as script
 use Rattle.sy_rules.specs.Faults as plan
@@ -22,9 +22,20 @@ abbrev pub at_place : List ℕ → List ℕ → List ℕ → List ℕ → List �
 at_place words line column relay =
     joined (codes "syc: " ∷ words ∷ codes " at " ∷ line ∷ codes ":" ∷ column ∷ codes " of " ∷ relay ∷ (line_feed ∷ []) ∷ [])
 
+-- a control character (%d0-31, %d127)
+abbrev pub is_control : ℕ → Bool
+is_control byte = nat_lt byte 32 || byte == 127
+
+-- a word up to its first control character: what is printed is one line, whatever a string of the script has in it
+abbrev pub first_line : List ℕ → List ℕ
+first_line word = up_to (position is_control word) where
+  up_to : Option ℕ → List ℕ
+  up_to None = word
+  up_to (Some size) = take size word
+
 -- a fault of a relay's plan, with its word
 abbrev pub with_word : List ℕ → List ℕ → List ℕ → List ℕ
-with_word words relay word = joined (codes "syc: " ∷ words ∷ codes " of " ∷ relay ∷ codes ": " ∷ word ∷ (line_feed ∷ []) ∷ [])
+with_word words relay word = joined (codes "syc: " ∷ words ∷ codes " of " ∷ relay ∷ codes ": " ∷ first_line word ∷ (line_feed ∷ []) ∷ [])
 
 abbrev pub relay_report : List ℕ → RelayFault → List ℕ
 relay_report relay (why.Script f) = at_place (script.words f.code) (decimal f.line) (decimal f.column) relay
@@ -39,6 +50,8 @@ site_report (site_fault.NoSuchArchive n) = in_line (site.words (site_fault.NoSuc
 site_report site_fault.NothingProtected = in_line (site.words site_fault.NothingProtected) 1
 site_report (site_fault.Relay n name why) = relay_report name why
 site_report site_fault.NoMemory = said (codes "no memory")
+site_report (site_fault.NoSuchAction n) = in_line (site.words (site_fault.NoSuchAction n)) n
+site_report (site_fault.SpareArchive n) = in_line (site.words (site_fault.SpareArchive n)) n
 
 abbrev pub halt_report : Halt → List ℕ
 halt_report (halt.Site fault) = site_report fault

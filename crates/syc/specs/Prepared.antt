@@ -2,27 +2,28 @@
 use Rattle.std.specs.Prelude.{◌≡◌, ℕ, Bool, true, false, ◌↔◌, Contains, List, Option, Some, None}
 use Rattle.sy_wire.specs.declared.class.Class.{Class}
 use Rattle.sy_board.specs.relay.Guards.{MayGuard}
-use Rattle.sy_board.specs.relay.Totals.{Pairs}
-use Rattle.sy_site.specs.Sites.{Site, plan_at, relay_named}
+use Rattle.sy_board.specs.relay.Totals.{GuardState}
+use Rattle.sy_site.specs.Sites.{Site, plan_at, relay_named, spares_at}
 use Rattle.sy_site.specs.machine.Soundness.{IsGuarded, IsSound}
 use Rattle.syc.specs.SiteFiles.{IsSiteOf}
 use Rattle.syc.specs.Words.{AreRunOf}
 use Rattle.syc.specs.internal.Commands.{options_of}
 use Rattle.syc.specs.declared.run_words.RunWords.{RunWords}
 
--- The site is sound, and these are exactly the guarded pairs of the relay, whose plan meets their condition.
-pub record HasGuard (site : Site) (relay : ℕ) (pairs : Pairs) : Type 0 where
+-- The site is sound, and the guard has exactly the guarded pairs of the relay, and exactly its spare actions; the relay's plan meets its condition.
+pub record HasGuard (site : Site) (relay : ℕ) (guard : GuardState) : Type 0 where
   pub sound : IsSound site
-  pub exact : (input : ℕ) (class : Class) → Contains pairs (input, class) ↔ IsGuarded site relay input class
-  pub may : MayGuard (plan_at site relay) pairs
+  pub pairs : (input : ℕ) (class : Class) → Contains guard.pairs (input, class) ↔ IsGuarded site relay input class
+  pub spares : guard.spares ≡ spares_at site relay
+  pub may : MayGuard (plan_at site relay) guard
 
 -- there is no guard where the site isn't checked, and else that one
-abbrev pub IsGuardOf : Bool → Site → ℕ → Option Pairs → Type 0
+abbrev pub IsGuardOf : Bool → Site → ℕ → Option GuardState → Type 0
 IsGuardOf true site relay guard = guard ≡ None
-IsGuardOf false site relay guard = (pairs : Pairs) × (guard ≡ Some pairs) × HasGuard site relay pairs
+IsGuardOf false site relay guard = (held : GuardState) × (guard ≡ Some held) × HasGuard site relay held
 
 -- the site that the words name, the number of its relay, and the guard
-pub record IsPrepared (bytes_of : List ℕ → Option (List ℕ)) (words : List (List ℕ)) (site : Site) (relay : ℕ) (guard : Option Pairs) (found : RunWords) :
+pub record IsPrepared (bytes_of : List ℕ → Option (List ℕ)) (words : List (List ℕ)) (site : Site) (relay : ℕ) (guard : Option GuardState) (found : RunWords) :
     Type 0 where
   pub words_are : AreRunOf (options_of found) words found.site.now found.relay.now
   pub site_is : (text : List ℕ) → bytes_of found.site.now ≡ Some text → IsSiteOf bytes_of text site

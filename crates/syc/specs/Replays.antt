@@ -1,5 +1,5 @@
 -- What a replay of an events file prints, and how it ends (this profile's own).
-use Rattle.std.specs.Prelude.{◌≡◌, ◌≤◌, ℕ, true, false, List, [], ◌∷◌, ◌++◌, ◌==◌, ◌⊎◌, Option, Some, None, codes, drop, flat_map, length, slice_get}
+use Rattle.std.specs.Prelude.{◌≡◌, ◌≤◌, ℕ, Bool, true, false, List, [], ◌∷◌, ◌++◌, ◌==◌, ◌⊎◌, Option, Some, None, codes, drop, flat_map, length, slice_get}
 use Rattle.std.specs.Fmt.{decimal}
 use Rattle.std.specs.Io.KnownBytes.{Appends, Keeps}
 use Rattle.std.specs.List.{slice_split}
@@ -10,6 +10,7 @@ use Rattle.sy_site.specs.Sites.{Site}
 use Rattle.sy_site.specs.machine.States.{Copy, Loss, SiteState}
 use Rattle.sy_site.specs.machine.Steps.{SiteEvent}
 use Rattle.sy_replay.specs.Lines.{IsNoEvent, StandsFor, is_skipped}
+use Rattle.sy_replay.specs.Flags.{is_flagged_of}
 use Rattle.sy_replay.specs.Held.{opened_parts}
 use Rattle.sy_replay.specs.States.{Applies, Contents, IsIllegalAt, holding, state_in}
 use Rattle.sy_replay.specs.declared.event.Illegal.TheVariants as illegal
@@ -43,6 +44,11 @@ abbrev pub loss_number : SiteState → ℕ → Loss → List ℕ
 loss_number state line loss =
     codes "loss line " ++ decimal line ++ codes " message " ++ decimal (number_of (slice_get state.copies loss.copy))
 
+-- behind the loss of a flagged copy: spare
+abbrev pub spare_word : Bool → List ℕ
+spare_word true = codes " spare"
+spare_word false = []
+
 --  at RELAY CLASS CAUSE
 abbrev pub loss_place : Site → SiteState → Loss → List ℕ
 loss_place site state loss =
@@ -50,7 +56,8 @@ loss_place site state loss =
 
 -- a loss, of the event in this line
 abbrev pub loss_line : Site → SiteState → ℕ → Loss → List ℕ
-loss_line site state line loss = loss_number state line loss ++ loss_place site state loss ++ line_feed ∷ []
+loss_line site state line loss =
+    loss_number state line loss ++ loss_place site state loss ++ spare_word (is_flagged_of site loss (slice_get state.copies loss.copy)) ++ line_feed ∷ []
 
 -- the losses that a step made, which was that of this line
 abbrev pub loss_lines : Site → ℕ → SiteState → SiteState → List ℕ

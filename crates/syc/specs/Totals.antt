@@ -5,7 +5,7 @@ use Rattle.std.specs.Io.KnownBytes.{Appends}
 use Rattle.sy_chain.specs.Entries.{Entry}
 use Rattle.sy_rules.specs.declared.parts.Action.{Action}
 use Rattle.sy_board.specs.relay.Boards.{Account}
-use Rattle.sy_board.specs.relay.Totals.{Counts, Pairs, Totals}
+use Rattle.sy_board.specs.relay.Totals.{Counts, GuardState, Totals}
 use Rattle.sy_runtime.specs.Connections as connections
 use Rattle.sy_runtime.specs.Stopping.{Stops}
 use Rattle.syc.specs.Reports.{line_feed}
@@ -53,7 +53,7 @@ pub record WroteTotals (actions : List Action) (totals : Totals) (left : List En
 
 -- What was written is the totals of a relay that was started with this guard, or with none, and has stopped: they meet the laws, and agree with what
 -- its connections and the hatches of its actions counted.
-pub record EndsWithTotals (actions : List Action) (guard : Option Pairs) (old new : Option (List ℕ)) : Type 0 where
+pub record EndsWithTotals (actions : List Action) (guard : Option GuardState) (old new : Option (List ℕ)) : Type 0 where
   pub ends : List connections.Counts
   pub account : Account
   pub left : List Entry

@@ -3,13 +3,13 @@ use Rattle.std.specs.Prelude.{◌≡◌, ℕ, Bool, true, false, List, ◌∷◌
 use Rattle.std.specs.Fmt.{decimal}
 use Rattle.sy_site.specs.Sites.{Site}
 use Rattle.sy_site.specs.texts.Files.{file_names}
+use Rattle.sy_cert.specs.CertificateValue.{Certificate}
 use Rattle.sy_cert.specs.Faults.{HasFault}
 use Rattle.sy_cert.specs.declared.fault.TextFault.{TextFault}
-use Rattle.sy_cert.specs.declared.row.Row.{Row}
-use Rattle.sy_checker.specs.Fit.{IsFit, IsWrongIn}
+use Rattle.sy_checker.specs.Fit.{IsFitFor, IsWrongFor}
 use Rattle.sy_checker.specs.Verifying.{kind_words}
 use Rattle.sy_checker.specs.declared.wanted.RowKind.{RowKind}
-use Rattle.syc.specs.Checks.{IsCertificate, KeepsAll, accepted_line}
+use Rattle.syc.specs.Checks.{IsTextOf, KeepsAll, accepted_line}
 use Rattle.syc.specs.HaltTexts.{halt_report}
 use Rattle.syc.specs.Outcomes.{Prints}
 use Rattle.syc.specs.Reports.{Streams, Tells, line_feed}
@@ -22,35 +22,35 @@ use Rattle.syc.specs.declared.halt.Halt.TheVariants as halt
 abbrev pub wrong_line : ℕ → RowKind → List ℕ
 wrong_line line row = codes "refused: certificate line " ++ decimal line ++ codes ": " ++ kind_words row ++ line_feed ∷ []
 
--- These rows are fit for the site, which keeps all messages of so many classes.
-pub record SaysFitFor (site : Site) (rows : List Row) (printed : List ℕ) (is_accepted : Bool) : Type 0 where
+-- The certificate is fit for the site, which keeps all messages of so many classes.
+pub record SaysFitFor (site : Site) (certificate : Certificate) (printed : List ℕ) (is_accepted : Bool) : Type 0 where
   pub count : ℕ
-  pub fit : IsFit site rows
+  pub fit : IsFitFor site certificate
   pub keeps : KeepsAll site count
   pub text_is : printed ≡ accepted_line count
   pub accepted : is_accepted ≡ true
 
--- These rows aren't fit for the site, and the first wrong one stands in this line and is of this kind.
-pub record SaysWrongIn (site : Site) (rows : List Row) (printed : List ℕ) (is_accepted : Bool) : Type 0 where
+-- It isn't: the first line has another version than the site's policy, or the first wrong row stands in this line and is of this kind.
+pub record SaysWrongIn (site : Site) (certificate : Certificate) (printed : List ℕ) (is_accepted : Bool) : Type 0 where
   pub line : ℕ
   pub row : RowKind
-  pub wrong : IsWrongIn site rows line row
-  pub unfit : IsFit site rows → ⊥
+  pub wrong : IsWrongFor site certificate line row
+  pub unfit : IsFitFor site certificate → ⊥
   pub text_is : printed ≡ wrong_line line row
   pub refused : is_accepted ≡ false
 
-abbrev pub SaysOf : Site → List Row → List ℕ → Bool → Type 0
-SaysOf site rows printed is_accepted = SaysFitFor site rows printed is_accepted ⊎ SaysWrongIn site rows printed is_accepted
+abbrev pub SaysOf : Site → Certificate → List ℕ → Bool → Type 0
+SaysOf site certificate printed is_accepted = SaysFitFor site certificate printed is_accepted ⊎ SaysWrongIn site certificate printed is_accepted
 
 -- ---- the files
 
 -- what is said of a certificate's text, for the site that a site file describes with the files of its relays
-pub record SaysOfFiles (bytes_of : List ℕ → Option (List ℕ)) (site_text certificate printed : List ℕ) (is_accepted : Bool) : Type 0 where
+pub record SaysOfFiles (bytes_of : List ℕ → Option (List ℕ)) (site_text text printed : List ℕ) (is_accepted : Bool) : Type 0 where
   pub site : Site
   pub is_site : IsSiteOf bytes_of site_text site
-  pub rows : List Row
-  pub are_of : IsCertificate certificate rows
-  pub says : SaysOf site rows printed is_accepted
+  pub certificate : Certificate
+  pub is_text : IsTextOf text certificate
+  pub says : SaysOf site certificate printed is_accepted
 
 -- The site file describes a site, and the other text has a fault of a certificate's text.
 pub record IsFaultyCertificate (bytes_of : List ℕ → Option (List ℕ)) (site_text certificate : List ℕ) (fault : TextFault) : Type 0 where

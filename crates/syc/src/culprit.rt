@@ -1,9 +1,11 @@
 //! What of a relay a finding is about: its input, the input's queue and what feeds it, an occurrence, an action.
 
-use crate::places::{Places, Thing};
+use crate::places::Thing;
+use std::alloc::{AllocError, Global};
 use sy_checker::finding::{Finding, Kind, WayRow};
 use sy_rules::{Destination, FlowControl, Input, Occurrence, Plan, QueueParameters};
 use sy_site::{Site, SiteInput};
+use sy_wire::Class;
 
 /// An input of a relay, with the relay's plan.
 #[derive(Clone, Copy)]
@@ -64,30 +66,15 @@ fn queue_for(plan: &Plan, list: u32) -> u32 {
 
 // ---- what a queue belongs to
 
-// The action of this name.
-fn action_named(plan: &Plan, name: &[u8]) -> Option<u32> {
-    let mut number: u32 = 0;
-    for action in plan.actions() {
-        if action.name.as_slice() == name {
-            return Some(number);
-        }
-        number = number.saturating_add(1);
-    }
-    None
-}
-
 /// What has the queue of a list: the ruleset, or the action, that the list is of, or the whole relay. Lists are
 /// numbered from the default ruleset's, those of rulesets next, and then those of actions with a queue.
-pub fn owner_of(places: &Places, plan: &Plan, list: u32) -> Thing {
+pub fn owner_of(plan: &Plan, list: u32) -> Thing {
     if queue_for(plan, list) == 0 || list == 0 {
         return Thing::MainQueue;
     }
-    if (list as usize) <= places.rulesets() {
-        return Thing::Ruleset(list - 1);
-    }
-    match action_named(plan, name_of_list(plan, list)) {
+    match plan.own_action(list) {
         Some(action) => Thing::Action(action),
-        None => Thing::MainQueue,
+        None => Thing::Ruleset(list - 1),
     }
 }
 
@@ -160,8 +147,22 @@ fn leads_nowhere(site: &Site, relay: u32, plan: &Plan, action: u32) -> bool {
     }
 }
 
-// Whether a finding of this kind is about an occurrence.
+// Whether an occurrence is spare: it runs a spare action, or posts to that action's own list.
+fn is_spare(site: &Site, relay: u32, plan: &Plan, occurrence: Occurrence) -> bool {
+    match occurrence {
+        Occurrence::Run(action) => site.is_spare(relay, action),
+        Occurrence::Post(list) => match plan.own_action(list) {
+            Some(action) => site.is_spare(relay, action),
+            None => false,
+        },
+    }
+}
+
+// Whether a finding of this kind is about an occurrence. None is about a spare one.
 fn is_about(site: &Site, relay: u32, plan: &Plan, kind: Kind, occurrence: Occurrence) -> bool {
+    if is_spare(site, relay, plan, occurrence) {
+        return false;
+    }
     match occurrence {
         Occurrence::Post(_) => matches!(kind, Kind::InnerQueue),
         Occurrence::Run(action) => match kind {
@@ -172,18 +173,18 @@ fn is_about(site: &Site, relay: u32, plan: &Plan, kind: Kind, occurrence: Occurr
     }
 }
 
-// What messages of the class may execute of the input's list, as bits.
-fn may_of(spot: Spot<'_>, finding: &Finding) -> u64 {
-    if (spot.input.list as usize) >= spot.plan.list_names().len() {
+// What messages of the class may execute of a list, as bits.
+fn may_of(plan: &Plan, list: u32, class: Class) -> u64 {
+    if (list as usize) >= plan.list_names().len() {
         return 0;
     }
-    let (may, _) = spot.plan.flows(spot.input.list, finding.class);
+    let (may, _) = plan.flows(list, class);
     may
 }
 
 /// The first occurrence that a finding is about, of those that messages of its class may execute at its input.
 pub fn occurrence_meant(site: &Site, spot: Spot<'_>, finding: &Finding) -> Option<Occurrence> {
-    let mut left = may_of(spot, finding);
+    let mut left = may_of(spot.plan, spot.input.list, finding.class);
     for occurrence in occurrences_of(spot.plan, spot.input.list) {
         if left % 2 == 1
             && is_about(
@@ -201,11 +202,92 @@ pub fn occurrence_meant(site: &Site, spot: Spot<'_>, finding: &Finding) -> Optio
     None
 }
 
-/// The action of a part of a way.
-pub fn action_by(site: &Site, row: WayRow) -> Option<u32> {
-    let spot = spot_at(site, row.input)?;
+// ---- behind posts
+
+/// The most lists of a relay: the default ruleset's, those of 256 rulesets and those of 256 actions.
+const LISTS: usize = 513;
+
+// The first action of a list that leads to an input, of those that messages of the class may run.
+fn leading(
+    site: &Site,
+    relay: u32,
+    plan: &Plan,
+    list: u32,
+    class: Class,
+    to: SiteInput,
+) -> Option<u32> {
+    let mut left = may_of(plan, list, class);
+    for occurrence in occurrences_of(plan, list) {
+        if let Occurrence::Run(action) = occurrence {
+            if left % 2 == 1 && site.target(relay, *action) == Some(to) {
+                return Some(*action);
+            }
+        }
+        left /= 2;
+    }
+    None
+}
+
+// Puts the lists that a list posts to behind the others, those left out that are there.
+fn put_posted(
+    lists: &mut Vec<u32>,
+    plan: &Plan,
+    list: u32,
+    class: Class,
+) -> Result<(), AllocError> {
+    let mut left = may_of(plan, list, class);
+    for occurrence in occurrences_of(plan, list) {
+        if let Occurrence::Post(inner) = occurrence {
+            if left % 2 == 1 && !lists.contains(inner) {
+                lists.push(*inner)?;
+            }
+        }
+        left /= 2;
+    }
+    Ok(())
+}
+
+// The same of this list and of those that messages are posted to from there on, the nearest first.
+fn leading_behind(
+    alloc: Global,
+    site: &Site,
+    relay: u32,
+    plan: &Plan,
+    list: u32,
+    class: Class,
+    to: SiteInput,
+) -> Result<Option<u32>, AllocError> {
+    let mut lists = Vec::new(alloc);
+    lists.push(list)?;
+    for next in 0..LISTS {
+        let Some(list) = lists.get(next).copied() else {
+            return Ok(None);
+        };
+        if let Some(action) = leading(site, relay, plan, list, class, to) {
+            return Ok(Some(action));
+        }
+        put_posted(&mut lists, plan, list, class)?;
+    }
+    Ok(None)
+}
+
+/// The action of a part of a way by which messages of the class come to an input: the one that its occurrence runs, or
+/// one behind the posts that its occurrence begins.
+pub fn action_by(
+    alloc: Global,
+    site: &Site,
+    class: Class,
+    row: WayRow,
+    to: SiteInput,
+) -> Result<Option<u32>, AllocError> {
+    let Some(spot) = spot_at(site, row.input) else {
+        return Ok(None);
+    };
     match occurrences_of(spot.plan, spot.input.list).get(row.number as usize) {
-        Some(Occurrence::Run(action)) => Some(*action),
-        Some(Occurrence::Post(_)) | None => None,
+        Some(Occurrence::Run(action)) => Ok(Some(*action)),
+        Some(Occurrence::Post(list)) => {
+            leading_behind(alloc, site, row.input.relay, spot.plan, *list, class, to)
+        }
+        None => Ok(None),
     }
 }

@@ -25,14 +25,20 @@ struct Subject<'a> {
 }
 
 fn subject_of<'a>(
+    alloc: Global,
     site: &'a Site,
-    places: &Option<Places>,
     finding: &Finding,
-) -> Option<Subject<'a>> {
-    let spot = spot_at(site, finding.input)?;
-    let queue = queue_at(spot)?;
-    let thing = thing_meant(site, spot, places, finding)?;
-    Some(Subject { spot, queue, thing })
+) -> Result<Option<Subject<'a>>, AllocError> {
+    let Some(spot) = spot_at(site, finding.input) else {
+        return Ok(None);
+    };
+    let Some(queue) = queue_at(spot) else {
+        return Ok(None);
+    };
+    let Some(thing) = thing_meant(alloc, site, spot, finding)? else {
+        return Ok(None);
+    };
+    Ok(Some(Subject { spot, queue, thing }))
 }
 
 // What feeds a queue that discards, and doesn't wait before.
@@ -86,8 +92,14 @@ fn put_why(words: &mut Words, site: &Site, subject: Subject<'_>, finding: &Findi
         Kind::MarkOff => put_mark_off(words, subject.queue),
         Kind::MarkAboveSize => put_mark_above_size(words, subject.queue),
         Kind::Discards => put_discarding(words, subject.spot, subject.queue),
-        Kind::InnerQueue => put_post(words),
-        Kind::GivesUp => put_gives_up(words, subject.spot.plan, subject.thing),
+        Kind::InnerQueue => put_post(words, site, finding.input.relay, subject.thing),
+        Kind::GivesUp => put_gives_up(
+            words,
+            site,
+            finding.input.relay,
+            subject.spot.plan,
+            subject.thing,
+        ),
         Kind::NoTarget => put_no_target(
             words,
             site,
@@ -96,7 +108,7 @@ fn put_why(words: &mut Words, site: &Site, subject: Subject<'_>, finding: &Findi
             subject.thing,
         ),
         Kind::Loop => put_loop(words, site, finding),
-        Kind::Unmet(_) => put_unmet(words),
+        Kind::Unmet(_) => put_unmet(words, site),
     }
 }
 
@@ -105,14 +117,13 @@ fn put_explanation(
     site: &Site,
     places: &Option<Places>,
     others: &Option<Places>,
+    subject: Subject<'_>,
     finding: &Finding,
 ) {
-    if let Some(subject) = subject_of(site, places, finding) {
-        words.say("where: ");
-        put_where(words, site, relay_meant(finding), places, subject.thing);
-        put_also(words, site, subject, places, others, finding);
-        put_why(words, site, subject, finding);
-    }
+    words.say("where: ");
+    put_where(words, site, relay_meant(finding), places, subject.thing);
+    put_also(words, site, subject, places, others, finding);
+    put_why(words, site, subject, finding);
 }
 
 // Where the objects stand of the relay of an archive that isn't led to.
@@ -139,7 +150,10 @@ pub fn explanation<F: Files>(
 ) -> Result<Vec<u8>, AllocError> {
     let places = places_of(alloc, files, site_name, relay_meant(finding))?;
     let others = archive_places(alloc, files, site_name, finding.kind)?;
+    let subject = subject_of(alloc, site, finding)?;
     let mut words = Words::new(alloc);
-    put_explanation(&mut words, site, &places, &others, finding);
+    if let Some(subject) = subject {
+        put_explanation(&mut words, site, &places, &others, subject, finding);
+    }
     words.finish()
 }

@@ -1,6 +1,6 @@
 //! Why a command over a site stops early, and what it prints then.
-ghost use Rattle.std.specs.Prelude.{◌≡◌};
-ghost use Rattle.syc.specs.HaltTexts.{at_place, halt_report, in_line, relay_report, site_report, with_word};
+ghost use Rattle.std.specs.Prelude.{◌≡◌, ◌<◌, length, position, IfSome};
+ghost use Rattle.syc.specs.HaltTexts.{at_place, first_line, halt_report, in_line, is_control, relay_report, site_report, with_word};
 ghost use Rattle.syc.specs.Reports.{Reported, seen};
 ghost use Rattle.syc.specs.internal.Halts as spec;
 
@@ -79,6 +79,30 @@ fn tell_script_fault<E: Sink>(errors: &mut E, relay: &[u8], fault: &ScriptFault)
     );
 }
 
+fn is_control(byte: u8) -> bool
+    ensures { result ≡ is_control byte }
+{
+    byte < b' ' || byte == 0x7f
+}
+
+// Where the first control character of a word stands.
+fn first_control(word: &[u8]) -> Option<usize>
+    ensures place { result ≡ position is_control word.now }
+    ensures within { IfSome result (λ place. place < length word.now) }
+{
+    word.iter().position(|byte| is_control(*byte))
+}
+
+// A word up to its first control character: a string of a script may have line feeds, and a fault is one line.
+fn first_line(word: &[u8]) -> &[u8]
+    ensures { result.now ≡ first_line word.now }
+{
+    match first_control(word) {
+        Some(size) => &word[..size],
+        None => word,
+    }
+}
+
 // A fault of a relay's plan, its number and name, and its word.
 fn tell_with_word<'a, E: Sink>(errors: &mut E, words: &'a [u8], relay: &'a [u8], word: &'a [u8])
     ensures { Reported
@@ -87,7 +111,15 @@ fn tell_with_word<'a, E: Sink>(errors: &mut E, words: &'a [u8], relay: &'a [u8],
 {
     tell_texts(
         errors,
-        &[b"syc: ", words, b" of ", relay, b": ", word, b"\n"],
+        &[
+            b"syc: ",
+            words,
+            b" of ",
+            relay,
+            b": ",
+            first_line(word),
+            b"\n",
+        ],
     );
 }
 
@@ -115,7 +147,9 @@ fn tell_site_fault<E: Sink>(errors: &mut E, fault: &SiteFault)
         | SiteFault::Duplicate(line)
         | SiteFault::NoFile(line)
         | SiteFault::NoSuchEntry(line)
-        | SiteFault::NoSuchArchive(line) => tell_in_line(errors, fault.words(), *line as u64),
+        | SiteFault::NoSuchArchive(line)
+        | SiteFault::NoSuchAction(line)
+        | SiteFault::SpareArchive(line) => tell_in_line(errors, fault.words(), *line as u64),
         SiteFault::NothingProtected => tell_in_line(errors, fault.words(), 1),
         SiteFault::Relay(_, name, why) => tell_relay_fault(errors, name.as_slice(), why),
         SiteFault::NoMemory => tell_text(errors, "no memory"),

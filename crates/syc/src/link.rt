@@ -1,7 +1,7 @@
 //! The link of a forward.
 ghost use Rattle.std.specs.Prelude.{◌≡◌, ◌≢◌, ◌<◌, length, IfErr, IfNone, IfSome, OnSome};
 
-use crate::link_writer::{LinkWriter, is_open};
+use crate::link_writer::{LinkWriter, end, is_open};
 use crate::log::ActionLog;
 use crate::reason::Reason;
 use std::alloc::{AllocError, Global};
@@ -20,10 +20,18 @@ const CONNECT_WAIT: u64 = 2000;
 const WRITE_WAIT: u64 = 1000;
 
 // A link that is there.
-#[derive(Drop)]
 struct Connected {
     stream: Arc<TcpStream>,
     sink: FrameSink<LinkWriter>,
+}
+
+impl Drop for Connected {
+    fn drop(self) {
+        end(&self.stream);
+        let Connected { stream, sink } = self;
+        drop(sink);
+        drop(stream);
+    }
 }
 
 /// The link of a forward: frames are written to it, and it is connected when it is offered a message and isn't yet.

@@ -3,14 +3,17 @@ ghost use Rattle.std.specs.Prelude.{None, ◌<◌, ◌≤◌, length, IfOk};
 
 use crate::log::ActionLog;
 use crate::reason::Reason;
-use std::io::{ErrorKind, Read, Write};
-use std::net::TcpStream;
+use std::io::{Error, ErrorKind, Read, Write};
+use std::net::{Shutdown, TcpStream};
 use std::sync::Arc;
 use std::sync::atomic::{AtomicBool, Ordering};
 use sy_wire::{Sink, WriteFault};
 
-/// How many reads drop what a receiver sent, at most, each time that is looked at.
-const READS: u32 = 16;
+/// How many bytes a read drops, at most, of what a receiver sent.
+const ROOM: usize = 16_384;
+
+/// How many reads drop it, at most, each time that is looked at: together more than a host keeps for a link.
+const READS: u32 = 4096;
 
 /// What writes to a link. Its stream's writes have a time limit: a write that took nothing goes on, until the receiver has
 /// closed the link or the relay waits for its links no more.
@@ -23,17 +26,30 @@ pub struct LinkWriter {
     is_flushed: bool,
 }
 
+// Whether a call that failed so is to be made again: a signal came, as where the relay was halted and goes on.
+fn is_interrupted(error: &Error) -> bool {
+    error.kind() == ErrorKind::Interrupted
+}
+
 // Reads and drops what a receiver sent, as far as it is there, and answers whether the link is still open.
 fn drop_received(mut stream: &TcpStream) -> bool {
-    let mut room = [0u8; 1024];
+    let mut room = [0u8; ROOM];
     for _ in 0..READS {
         match stream.read(&mut room) {
             Ok(0) => return false,
             Ok(_) => {}
+            Err(error) if is_interrupted(&error) => {}
             Err(error) => return error.kind() == ErrorKind::WouldBlock,
         }
     }
     true
+}
+
+/// Ends this side of a link. What the receiver sent is dropped first: were it left unread, the host would reset the link,
+/// and the receiver lose what it hasn't read yet.
+pub fn end(stream: &TcpStream) {
+    let _ = stream.shutdown(Shutdown::Write);
+    let _ = is_open(stream);
 }
 
 /// Whether the receiver of a link hasn't closed it, as far as that is known. What it sent is dropped.
@@ -57,7 +73,7 @@ fn write_some(mut stream: &TcpStream, is_ending: &AtomicBool, bytes: &[u8]) -> R
         match stream.write(bytes) {
             Ok(0) => return Err(Reason::Write),
             Ok(count) => return Ok(count),
-            Err(error) if error.kind() == ErrorKind::WouldBlock => {}
+            Err(error) if error.kind() == ErrorKind::WouldBlock || is_interrupted(&error) => {}
             Err(error) => return Err(Reason::of(&error)),
         }
         if !is_open(stream) {

@@ -23,6 +23,12 @@ fn cause_word(cause: Cause) -> &'static [u8]
     }
 }
 
+fn spare_word(is_flagged: bool) -> &'static [u8]
+    ensures { result.now ≡ spec.spare_word is_flagged }
+{
+    if is_flagged { b" spare" } else { b"" }
+}
+
 fn message_number(replay: &Replay<'_>, copy: u64) -> u64
     ensures { result ≡ spec.number_of (slice_get (state_at replay.now).copies copy) }
 {
@@ -49,6 +55,7 @@ fn put_loss(
     line: u64,
     loss: Loss,
 ) -> Result<(), AllocError>
+    requires of { replay.now.site ≡ site.now }
     ensures { OnOk result (text.new.items
         ≡ text.old.items ++ spec.loss_line site.now (state_at replay.now) line (loss_of loss)) }
 {
@@ -63,6 +70,7 @@ fn put_loss(
         class_part(replay, loss.copy),
         Part::Text(b" "),
         Part::Text(cause_word(loss.cause)),
+        Part::Text(spare_word(replay.is_flagged(loss))),
         Part::Text(b"\n"),
     ];
     put_parts(text, &parts)
@@ -76,6 +84,7 @@ pub fn put_losses(
     line: u64,
     losses: &[Loss],
 ) -> Result<(), AllocError>
+    requires of { replay.now.site ≡ site.now }
     ensures { OnOk result (text.new.items
         ≡ text.old.items ++ flat_map (spec.loss_line site.now (state_at replay.now) line) (losses_of losses.now)) }
 {

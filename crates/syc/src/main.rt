@@ -56,6 +56,7 @@ mod run_words;
 mod serve;
 mod serving;
 mod site;
+mod spares;
 mod spell;
 mod status;
 mod stop;

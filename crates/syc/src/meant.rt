@@ -1,7 +1,8 @@
 //! Which object of which relay a finding is about.
 
 use crate::culprit::{Spot, action_by, occurrence_meant, owner_of};
-use crate::places::{Places, Thing};
+use crate::places::Thing;
+use std::alloc::{AllocError, Global};
 use sy_checker::finding::{Finding, Kind, WayRow};
 use sy_rules::{Occurrence, Plan};
 use sy_site::Site;
@@ -24,49 +25,46 @@ pub fn relay_meant(finding: &Finding) -> u32 {
     }
 }
 
-// What has the queue of a list.
-fn owner(places: &Option<Places>, plan: &Plan, list: u32) -> Thing {
-    match places {
-        Some(places) => owner_of(places, plan, list),
-        None => Thing::List(list),
-    }
-}
-
 // What is executed: an action, or what a message is posted to.
-fn thing_executed(
-    places: &Option<Places>,
-    plan: &Plan,
-    occurrence: Option<Occurrence>,
-) -> Option<Thing> {
+fn thing_executed(plan: &Plan, occurrence: Option<Occurrence>) -> Option<Thing> {
     match occurrence {
         Some(Occurrence::Run(action)) => Some(Thing::Action(action)),
-        Some(Occurrence::Post(list)) => Some(owner(places, plan, list)),
+        Some(Occurrence::Post(list)) => Some(owner_of(plan, list)),
         None => None,
     }
 }
 
 // The last forward of a way.
-fn thing_forwarding(site: &Site, way: &[WayRow]) -> Option<Thing> {
-    let action = action_by(site, last_of(way)?)?;
-    Some(Thing::Action(action))
+fn thing_forwarding(
+    alloc: Global,
+    site: &Site,
+    finding: &Finding,
+) -> Result<Option<Thing>, AllocError> {
+    let Some(row) = last_of(finding.way.as_slice()) else {
+        return Ok(None);
+    };
+    match action_by(alloc, site, finding.class, row, finding.input)? {
+        Some(action) => Ok(Some(Thing::Action(action))),
+        None => Ok(None),
+    }
 }
 
 /// The object.
 pub fn thing_meant(
+    alloc: Global,
     site: &Site,
     spot: Spot<'_>,
-    places: &Option<Places>,
     finding: &Finding,
-) -> Option<Thing> {
+) -> Result<Option<Thing>, AllocError> {
     match finding.kind {
-        Kind::NotFull | Kind::Unmet(_) => Some(Thing::Input(finding.input.input)),
+        Kind::NotFull | Kind::Unmet(_) => Ok(Some(Thing::Input(finding.input.input))),
         Kind::MarkOff | Kind::MarkAboveSize | Kind::Discards => {
-            Some(owner(places, spot.plan, spot.input.list))
+            Ok(Some(owner_of(spot.plan, spot.input.list)))
         }
         Kind::InnerQueue | Kind::GivesUp | Kind::NoTarget => {
             let occurrence = occurrence_meant(site, spot, finding);
-            thing_executed(places, spot.plan, occurrence)
+            Ok(thing_executed(spot.plan, occurrence))
         }
-        Kind::Loop => thing_forwarding(site, finding.way.as_slice()),
+        Kind::Loop => thing_forwarding(alloc, site, finding),
     }
 }

@@ -21,8 +21,6 @@ pub enum Thing {
     Ruleset(u32),
     Input(u32),
     Action(u32),
-    /// A list, where it isn't known what it is of.
-    List(u32),
 }
 
 fn number_at(places: &[usize], number: u32) -> Option<usize> {
@@ -50,7 +48,6 @@ impl Places {
             Thing::Ruleset(number) => number_at(self.outline.rulesets.as_slice(), number),
             Thing::Input(number) => number_at(self.outline.inputs.as_slice(), number),
             Thing::Action(number) => number_at(self.outline.actions.as_slice(), number),
-            Thing::List(_) => None,
         }
     }
 
@@ -60,11 +57,6 @@ impl Places {
             Some(place) => Some(line_at(self.text.as_slice(), place)),
             None => None,
         }
-    }
-
-    /// How many rulesets there are.
-    pub fn rulesets(&self) -> usize {
-        self.outline.rulesets.len()
     }
 }
 

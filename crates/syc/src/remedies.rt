@@ -2,11 +2,12 @@
 
 use crate::culprit::{Spot, free_feeder};
 use crate::places::Thing;
-use crate::texts::{Part, relay_name};
+use crate::spares::may_be_spare;
+use crate::texts::{Part, action_name, relay_name};
 use crate::words::Words;
 use sy_checker::finding::{Finding, WayRow};
 use sy_rules::{Action, Destination, FlowControl, Plan, QueueParameters};
-use sy_site::Site;
+use sy_site::{Site, SiteAction};
 
 // ---- full queues
 
@@ -131,14 +132,37 @@ pub fn put_discarding(words: &mut Words, spot: Spot<'_>, queue: QueueParameters)
 
 // ---- actions
 
+// What else takes the finding away: that the action is spare, where nothing that is asked for hangs on it.
+fn put_spare(words: &mut Words, site: &Site, relay: u32, thing: Thing) {
+    let Thing::Action(action) = thing else {
+        return;
+    };
+    let action = SiteAction { relay, action };
+    if !may_be_spare(site, action) {
+        return;
+    }
+    words.put(&[
+        Part::Text(b"  or, where what is lost there or behind it needn't be kept: spare "),
+        Part::Text(relay_name(site, relay)),
+        Part::Text(b" "),
+        Part::Text(action_name(site, action)),
+        Part::Text(b" in the site file"),
+    ]);
+    if site.policy() == 1 {
+        words.say(", with policy 2 as its first line");
+    }
+    words.say("\n");
+}
+
 /// Why posts do.
-pub fn put_post(words: &mut Words) {
+pub fn put_post(words: &mut Words, site: &Site, relay: u32, thing: Thing) {
     words.put(&[
         Part::Text(
             b"why: messages are posted to its queue, and one that is posted while that is full is lost\n",
         ),
         Part::Text(b"change: without queue.type there, so that it has no queue of its own\n"),
     ]);
+    put_spare(words, site, relay, thing);
 }
 
 fn retries(action: &Action) -> u64 {
@@ -149,7 +173,7 @@ fn retries(action: &Action) -> u64 {
 }
 
 /// Why an action that is given up does.
-pub fn put_gives_up(words: &mut Words, plan: &Plan, thing: Thing) {
+pub fn put_gives_up(words: &mut Words, site: &Site, relay: u32, plan: &Plan, thing: Thing) {
     if let Some(action) = action_of(plan, thing) {
         words.put(&[
             Part::Text(b"why: its action.resumeRetryCount is "),
@@ -161,6 +185,7 @@ pub fn put_gives_up(words: &mut Words, plan: &Plan, thing: Thing) {
                 b"change: action.resumeRetryCount=\"-1\" there, by which it is tried without end\n",
             ),
         ]);
+        put_spare(words, site, relay, thing);
     }
 }
 
@@ -246,11 +271,13 @@ pub fn put_loop(words: &mut Words, site: &Site, finding: &Finding) {
 }
 
 /// Why an archive that isn't led to does.
-pub fn put_unmet(words: &mut Words) {
+pub fn put_unmet(words: &mut Words, site: &Site) {
+    words.say("why: no occurrences that every message of the class executes");
+    if !site.spares().is_empty() {
+        words.say(", and that aren't spare,");
+    }
+    words.say(" lead from that input to that archive\n");
     words.put(&[
-        Part::Text(
-            b"why: no occurrences that every message of the class executes lead from that input to that archive\n",
-        ),
         Part::Text(
             b"change: each forward of the way and the archive where every message of the class comes to it:\n",
         ),

@@ -46,6 +46,7 @@ fn print_losses<W: Sink>(
     first: usize,
     writer: &mut W,
 ) -> Result<(), Halt>
+    requires of { course.now.replay.site ≡ site.now }
     ensures ok { OnOk result (Appends (W.contents writer.old) (W.contents writer.new)
         (internal.later_losses site.now course.now.replay.contents course.now.line first)) }
     ensures same { OnOk result (W.faults writer.new ≡ W.faults writer.old) }

@@ -2,7 +2,7 @@
 ghost use Rattle.std.specs.Prelude.{◌≡◌, ◌≢◌, ◌<◌, ◌≤◌, Option, IfOk, IfSome, length};
 ghost use Rattle.std.specs.Arc.{arc_value};
 ghost use Rattle.sy_board.specs.relay.Guards.{MayGuard};
-ghost use Rattle.sy_board.specs.relay.Totals.{Pairs};
+ghost use Rattle.sy_board.specs.relay.Totals.{GuardState};
 ghost use Rattle.sy_site.specs.Sites.{plan_at};
 ghost use Rattle.syc.specs.Totals.{EndsWithTotals, WroteTotals};
 ghost use Rattle.syc.specs.internal.Served.{IsLeft};
@@ -231,7 +231,7 @@ fn finish<R: Wait, T: Store, W: Sink, E: Sink + Drop>(
     answer: Result<Stopped, Mismatch>,
 ) -> u8
     ensures status { result ≤ 4 }
-    ensures done { result ≡ 0 → (guard : Option Pairs) → IfOk answer (λ stopped. IsLeft guard stopped.accounts stopped.left)
+    ensures done { result ≡ 0 → (guard : Option GuardState) → IfOk answer (λ stopped. IsLeft guard stopped.accounts stopped.left)
         → EndsWithTotals actions.now guard (W.contents writer.old) (W.contents writer.new) }
 {
     match answer {

@@ -31,7 +31,6 @@ fn parts_of(plan: &Plan, thing: Thing) -> [Part<'_>; 2] {
         ],
         Thing::Input(number) => [Part::Text(b"the input at port "), port_part(plan, number)],
         Thing::Action(number) => [Part::Text(b"action "), action_part(plan, number)],
-        Thing::List(list) => [Part::Text(b""), Part::Text(name_of_list(plan, list))],
     }
 }
 

@@ -1,6 +1,6 @@
 //! The verdict on a certificate, and its line.
 ghost use Rattle.std.specs.Prelude.{◌≡◌, IfErr, IfOk, OnOk, false};
-ghost use Rattle.sy_checker.specs.Fit.{IsFit};
+ghost use Rattle.sy_checker.specs.Fit.{IsFitFor};
 ghost use Rattle.sy_checker.specs.Verifying.{IsFault};
 ghost use Rattle.syc.specs.Checks.{KeepsAll};
 ghost use Rattle.syc.specs.Verdicts as spec;
@@ -14,7 +14,7 @@ use sy_cert::Certificate;
 use sy_checker::{CertFault, RowKind, verify};
 use sy_site::Site;
 
-// That a certificate's first wrong row stands in this line, and is of this kind.
+// That the first line of a certificate that is wrong is this one, and what is wanted there.
 fn refused(alloc: Global, line: usize, row: RowKind) -> Result<Answer, AllocError>
     ensures text { IfOk result (λ a. a.text.items ≡ spec.wrong_line line row) }
     ensures refused { IfOk result (λ a. a.is_accepted ≡ false) }
@@ -36,10 +36,10 @@ fn refused(alloc: Global, line: usize, row: RowKind) -> Result<Answer, AllocErro
 
 // How many classes a site keeps by a certificate that is fit for it, or what is wrong with that.
 fn count_kept(alloc: Global, site: &Site, certificate: &Certificate) -> Result<usize, CertFault>
-    ensures fit { OnOk result (IsFit site.now certificate.now.rows) }
+    ensures fit { OnOk result (IsFitFor site.now certificate.now) }
     ensures keeps { IfOk result (KeepsAll site.now) }
-    ensures wrong { IfErr result (IsFault site.now certificate.now.rows) }
-    ensures only { IfErr result (λ fault. IsFit site.now certificate.now.rows → fault ≡ CertFault.NoMemory) }
+    ensures wrong { IfErr result (IsFault site.now certificate.now) }
+    ensures only { IfErr result (λ fault. IsFitFor site.now certificate.now → fault ≡ CertFault.NoMemory) }
 {
     match verify(alloc, site, certificate) {
         Ok(kept) => Ok(kept.classes().len()),
@@ -49,7 +49,7 @@ fn count_kept(alloc: Global, site: &Site, certificate: &Certificate) -> Result<u
 
 // What is said of a certificate for a site, or nothing where memory runs out.
 fn say(alloc: Global, site: &Site, certificate: &Certificate) -> Result<Answer, AllocError>
-    ensures { IfOk result (λ a. spec.SaysOf site.now certificate.now.rows a.text.items a.is_accepted) }
+    ensures { IfOk result (λ a. spec.SaysOf site.now certificate.now a.text.items a.is_accepted) }
 {
     match count_kept(alloc, site, certificate) {
         Ok(count) => accepted(alloc, count),
@@ -60,7 +60,7 @@ fn say(alloc: Global, site: &Site, certificate: &Certificate) -> Result<Answer, 
 
 /// The verdict on a certificate for a site.
 pub fn verdict(alloc: Global, site: &Site, certificate: &Certificate) -> Result<Answer, Halt>
-    ensures ok { IfOk result (λ a. spec.SaysOf site.now certificate.now.rows a.text.items a.is_accepted) }
+    ensures ok { IfOk result (λ a. spec.SaysOf site.now certificate.now a.text.items a.is_accepted) }
     ensures err { IfErr result (λ why. why ≡ Halt.NoMemory) }
 {
     match say(alloc, site, certificate) {

@@ -3,7 +3,7 @@ ghost use Rattle.std.specs.Prelude.{◌≡◌, ◌≢◌, ◌≤◌, ◌∷◌, 
 ghost use Rattle.std.specs.Io.KnownBytes.{Keeps};
 ghost use Rattle.std.specs.List.{Any};
 ghost use Rattle.sy_site.specs.texts.Files.{file_names};
-ghost use Rattle.syc.specs.Checks.{IsCertificate};
+ghost use Rattle.syc.specs.Checks.{IsTextOf};
 ghost use Rattle.syc.specs.Outcomes.{FailsBy};
 ghost use Rattle.syc.specs.Verdicts as spec;
 ghost use Rattle.syc.specs.internal.Halts.{IsUnread};
@@ -22,7 +22,7 @@ use sy_wire::Sink;
 
 // The certificate of a text.
 fn certificate_of(alloc: Global, bytes: &[u8]) -> Result<Certificate, Halt>
-    ensures ok { IfOk result (λ c. IsCertificate bytes.now c.rows) }
+    ensures ok { IfOk result (λ c. IsTextOf bytes.now c) }
     ensures err { IfErr result (internal.IsNoCertificate bytes.now) }
     ensures unread { IfErr result (IsUnread (λ _. ⊥) []) }
 {
@@ -40,7 +40,7 @@ fn certificate_of(alloc: Global, bytes: &[u8]) -> Result<Certificate, Halt>
 
 // The certificate in the file of this name.
 fn read_certificate<F: Files>(alloc: Global, files: &F, name: &str) -> Result<Certificate, Halt>
-    ensures ok { IfOk result (λ c. IfSome (F.bytes_of files.now name.now) (λ bytes. IsCertificate bytes c.rows)) }
+    ensures ok { IfOk result (λ c. IfSome (F.bytes_of files.now name.now) (λ bytes. IsTextOf bytes c)) }
     ensures err { IfErr result (λ why. IfSome (F.bytes_of files.now name.now) (λ bytes.
         internal.IsNoCertificate bytes why)) }
     ensures unread { IfErr result (IsUnread (F.may_fail files.now) (name.now ∷ [])) }

@@ -14,12 +14,15 @@ returns-in-NoMemory g c = rw c.in-NoMemory.is c.tell_text.ensures
 -- a fault of a line
 of_a_line : (f : SiteFault) (n : ℕ)
     → (f ≡ site_fault.Line n) ⊎ (f ≡ site_fault.Duplicate n) ⊎ (f ≡ site_fault.NoFile n) ⊎ (f ≡ site_fault.NoSuchEntry n) ⊎ (f ≡ site_fault.NoSuchArchive n)
+    ⊎ (f ≡ site_fault.NoSuchAction n) ⊎ (f ≡ site_fault.SpareArchive n)
     → in_line (words f) n ≡ site_report f
 of_a_line f n (inl is) = rw is refl
 of_a_line f n (inr (inl is)) = rw is refl
 of_a_line f n (inr (inr (inl is))) = rw is refl
 of_a_line f n (inr (inr (inr (inl is)))) = rw is refl
-of_a_line f n (inr (inr (inr (inr is)))) = rw is refl
+of_a_line f n (inr (inr (inr (inr (inl is))))) = rw is refl
+of_a_line f n (inr (inr (inr (inr (inr (inl is)))))) = rw is refl
+of_a_line f n (inr (inr (inr (inr (inr (inr is)))))) = rw is refl
 
 pub returns-in-Line : goal.returns-in-Line
 returns-in-Line g c = rw (← of_a_line c.args.fault.now c.in-Line.line c.in-Line.is) (rw c.words-in-Line.ensures at c.tell_in_line-in-Line.ensures)

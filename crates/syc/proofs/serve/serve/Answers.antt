@@ -2,7 +2,7 @@ use Rattle.std.proofs.Common.{rules, ◌≡◌, ℕ, List, Option, Result, Ok, E
 use Rattle.std.specs.Prelude.{IfOk}
 use Rattle.sy_chain.specs.Entries.{Entry}
 use Rattle.sy_board.specs.relay.Boards.{Account}
-use Rattle.sy_board.specs.relay.Totals.{Pairs}
+use Rattle.sy_board.specs.relay.Totals.{GuardState}
 use Rattle.sy_runtime.specs.Connections.{Counts}
 use Rattle.sy_runtime.specs.Stopping.{Stops}
 use Rattle.syc.specs.Totals.{EndsWithTotals}
@@ -16,7 +16,7 @@ left_of (Err mismatch) f stops = stops
 
 -- what a relay leaves that has this guard
 left_with :
-    (old new : Option Pairs) (ends : List Counts) (account : Account) (left : List Entry) (made : List ℕ) → old ≡ new
+    (old new : Option GuardState) (ends : List Counts) (account : Account) (left : List Entry) (made : List ℕ) → old ≡ new
     → Stops old ends account left made → IsLeft new account left
 left_with old new ends account left made same stops =
     record { ends = ends; made = made; stops = subst (λ guard. Stops guard ends account left made) same stops }

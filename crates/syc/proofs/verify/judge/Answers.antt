@@ -10,14 +10,14 @@ pub returns-clause-ok : goal.returns-clause-ok
 returns-clause-ok g c = λ site text is_site is_text. record {
   site = c.in_ok-site.site;
   is_site = c.in_ok-site.ensures.ok site is_site;
-  rows = c.in_ok-certificate.certificate.rows;
-  are_of = rw is_text at c.in_ok-certificate.ensures.ok;
+  certificate = c.in_ok-certificate.certificate;
+  is_text = rw is_text at c.in_ok-certificate.ensures.ok;
   says = c.in_ok-answer.ensures.ok;
 }
 
 pub returns-clause-kept : goal.returns-clause-kept
 returns-clause-kept g c = λ text is_site accepts.
-    kept_site c.one_site.ensures (g.F.Files.bytes_of c.args.files.now) text c.in_ok-site.site c.in_ok-certificate.certificate.rows
+    kept_site c.one_site.ensures (g.F.Files.bytes_of c.args.files.now) text c.in_ok-site.site c.in_ok-certificate.certificate
     c.in_ok-answer.answer.text.items c.in_ok-answer.answer.is_accepted (c.in_ok-site.ensures.ok text is_site) c.in_ok-answer.ensures.ok accepts
 
 pub returns-in_err-site-clause-err : goal.returns-in_err-site-clause-err
