@@ -11,8 +11,8 @@ MEMORY = 64 * 1024  # KiB that are resident
 FAULT = rb"\d+ [A-Z][A-Za-z0-9]*"
 SAID = {
     "pass": rb"syc: (%s in frame \d+|%s at \d+ in frame \d+)\n" % (FAULT, FAULT),
-    # (the word of a plan's fault stands as the script writes it, line feeds in a string too)
-    "site": rb"syc: (%s in line \d+|%s at \d+:\d+ of [^ \n]+|%s of [^ \n]+: .*|read failed|illegal event in line \d+|86 TotalsFull in line \d+)\n"
+    # (the word of a plan's fault ends before its first control character)
+    "site": rb"syc: (%s in line \d+|%s at \d+:\d+ of [^ \n]+|%s of [^ \n]+: [^\x00-\x1f\x7f]*|read failed|illegal event in line \d+|86 TotalsFull in line \d+)\n"
     % (FAULT, FAULT, FAULT),
 }
 

@@ -265,6 +265,39 @@ def receiver_that_talks_back(room):
 
 
 @test
+def receiver_that_talks_back_and_closes_while_idle(room):
+    relay, port, inner = edge(room, -1, after=False)
+    first, sender = Receiver(inner), Sender(port)
+    sender.send(*messages(5))
+    first.has(messages(5))
+    # (all of it is read before the close behind it is seen)
+    first.connections[0][0].sendall(b"220 welcome\r\n" * 4000)
+    relay.rests(port)
+    first.close()
+    second = Receiver(inner)
+    sender.send(*messages(5, 5))
+    second.has(messages(5, 5))
+    sender.end()
+    relay.stops_with(totals(10, 0, 0, ("up", 10, 10, 0, 0)))
+
+
+@test
+def receiver_that_talks_back_at_a_stop(room):
+    relay, port, inner = edge(room, -1, after=False)
+    receiver = Receiver(inner, reads=False)
+    wanted = messages(2000, text="a" * 1000)
+    send_all(port, wanted)
+    receiver.is_connected()
+    relay.rests(port)
+    receiver.connections[0][0].sendall(b"220 welcome\r\n")
+    relay.stops_with(totals(2000, 0, 0, ("up", 2000, 2000, 0, 0)))
+    # (what stands in the buffers then is received: a close with unread bytes would have reset the link)
+    receiver.begins_to_read()
+    receiver.has(wanted)
+    same("links that ended in a torn frame", [rest for _, rest in receiver.ended()], [b""])
+
+
+@test
 def receiver_that_ends_its_side_while_the_link_is_full(room):
     relay, port, receiver, pump = full(room)
     for links in 2, 3:
@@ -300,8 +333,8 @@ def relay_halted_by_signals_while_the_link_is_full(room):
         until("it is halted", lambda: {it[0] for it in relay.threads().values()} == {"T"})
         os.kill(relay.pid, signal.SIGCONT)
         relay.rests()
-    # (each may interrupt a write that waits, which is a failure like any other: the next link begins with its frame)
-    all_received(relay, port, receiver, pump, None)
+    # (each may interrupt a write that waits, which goes on over the same link)
+    all_received(relay, port, receiver, pump, 1)
 
 
 @test

@@ -19,7 +19,7 @@ from statuses import hub_files
 COUNT, MANY = 4, 3000
 OF_FILES = ["EINTR", "EAGAIN", "ENOSPC", "EIO", "EPIPE"]
 # (a write to a link that would block has waited for its time: it goes on, and doesn't fail)
-OF_LINKS = ["EINTR", "ENOBUFS", "EIO", "EPIPE", "ECONNRESET", "ETIMEDOUT"]
+OF_LINKS = ["ENOBUFS", "EIO", "EPIPE", "ECONNRESET", "ETIMEDOUT"]
 TO_FILES, TO_LINKS = "write,writev,pwrite64", "sendto,sendmsg,writev"
 
 
@@ -186,16 +186,17 @@ def link_whose_writes_fail_without_retries(room):
 
 
 @test
-def link_whose_writes_would_block(room):
+def link_whose_writes_would_block_or_are_interrupted(room):
     needs_strace(room)
-    for when, failures in *((it, 1) for it in range(1, COUNT + 1)), ("1+2", COUNT):
-        link_by(room, 0, "EAGAIN", when, failures, messages(COUNT))
+    for error in "EAGAIN", "EINTR":
+        for when, failures in *((it, 1) for it in range(1, COUNT + 1)), ("1+2", COUNT):
+            link_by(room, 0, error, when, failures, messages(COUNT))
 
 
 @test
 def link_that_fails_each_third_time_under_load(room):
     needs_strace(room)
-    for error in "EINTR", "ECONNRESET":
+    for error in "EPIPE", "ECONNRESET":
         relay, port, receiver = link(room, -1, error, "1+3", after="")
         send_all(port, messages(MANY))
         receiver.has(messages(MANY))

@@ -61,6 +61,9 @@ ok | class 32%0areach %[64]n%20%36%35%35%33%35%0arank Az09-_. 4294967295%0apath 
 61 Line in line 2 | class  1%0a
 61 Line in line 2 | Class 1%0a
 61 Line in line 2 | cert 1%0a
+61 Line in line 2 | branch a 1%0a
+61 Line in line 2 | branch a 65536%0a
+61 Line in line 4 | class 1%0areach a 1%0abranch a 1%0a
 61 Line in line 2 | %0a
 61 Line in line 2 | class 1
 61 Line in line 2 | class 1%0d%0a
@@ -94,10 +97,32 @@ ok | class 32%0areach %[64]n%20%36%35%35%33%35%0arank Az09-_. 4294967295%0apath 
 const HEADS: &str = r#"
 61 Line in line 1 |
 61 Line in line 1 | cert 1
-61 Line in line 1 | cert 2%0a
+61 Line in line 1 | cert 2
+61 Line in line 1 | cert 3%0a
+61 Line in line 1 | cert 12%0a
+ok | cert 2%0a
 61 Line in line 1 | cert 01%0a
 61 Line in line 1 | CERT 1%0a
 61 Line in line 1 | %0acert 1%0a
+"#;
+
+// After the first line of version 2.
+const BRANCHES: &str = r#"
+ok |
+ok | class 0%0areach a 1%0abranch a 2%0a
+ok | class 32%0areach edge 6514%0abranch mirror 6520%0abranch mirror 65535%0arank edge 1%0arank mirror 0%0apath edge 6514 edge audit%0aclass 33%0a
+ok | class 32%0areach edge 6514%0arank edge 0%0apath edge 6514 edge audit%0a
+61 Line in line 4 | class 1%0areach a 1%0abranch a%0a
+61 Line in line 4 | class 1%0areach a 1%0abranch a 1 2%0a
+61 Line in line 4 | class 1%0areach a 1%0aBranch a 1%0a
+63 Number in line 4 | class 1%0areach a 1%0abranch a 0%0a
+63 Number in line 4 | class 1%0areach a 1%0abranch a 065%0a
+63 Number in line 2 | branch a 65536%0a
+62 Order in line 2 | branch a 1%0a
+62 Order in line 3 | class 1%0abranch a 1%0a
+62 Order in line 5 | class 1%0areach a 1%0abranch b 1%0areach c 1%0a
+62 Order in line 5 | class 1%0areach a 1%0abranch b 1%0apath a 1 b c%0a
+62 Order in line 5 | class 1%0areach a 1%0arank a 0%0abranch b 1%0a
 "#;
 
 const FEW: &str = r#"
@@ -110,6 +135,7 @@ fn texts_of_certificates(rt: HostRuntime) -> Result<(), Fail> {
     let judge = Certificates { memory: false };
     each_is_right(&rt, rt.alloc(), ("", "cert 1%0a~"), ROWS, &judge)?;
     each_is_right(&rt, rt.alloc(), ("", "~"), HEADS, &judge)?;
+    each_is_right(&rt, rt.alloc(), ("", "cert 2%0a~"), BRANCHES, &judge)?;
     Ok(())
 }
 

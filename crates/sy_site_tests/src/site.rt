@@ -19,7 +19,9 @@ fn place(fault: &SiteFault) -> (usize, &str) {
         | SiteFault::Duplicate(line)
         | SiteFault::NoFile(line)
         | SiteFault::NoSuchEntry(line)
-        | SiteFault::NoSuchArchive(line) => (*line, ""),
+        | SiteFault::NoSuchArchive(line)
+        | SiteFault::NoSuchAction(line)
+        | SiteFault::SpareArchive(line) => (*line, ""),
         SiteFault::Relay(line, _, RelayFault::Script(_)) => (*line, " script"),
         SiteFault::Relay(line, _, RelayFault::Plan(_)) => (*line, " plan"),
         SiteFault::NothingProtected | SiteFault::NoMemory => (0, ""),
@@ -71,6 +73,7 @@ edge.conf,hub.conf, | relay edge edge.conf%0arelay hub hub.conf%0aentry edge 651
 b,a, | relay x b%0arelay y a%0arelay z b
 b, | relay x b%0arelay x b
  | entry x%0aprotect%0afoo bar%0arelayed x a%0aRelay x a
+b, | spare a c%0apolicy 2%0arelay a b%0apolicy 2%0aspare
  |
 // Blanks, comments and the ends of lines.
 a,b, | %20%09relay%09x   a %0d%0a  # relay y%0a#relay y%0a%20%09%0a%0arelay z b%20
@@ -166,8 +169,8 @@ input(type="imtcp" port="6515" flowControl="full")
 action(name="audit" type="omfile" file="audit.log" action.resumeRetryCount="-1")
 "#;
 
-// A site is wanted as its relays, each with what its actions lead to, its entries, and its archives; or a fault by its
-// name and its line.
+// A site is wanted as its relays, each with what its actions lead to, its entries, its archives, and where its policy
+// is 2 its spare actions and how many actions are spare; or a fault by its name and its line.
 #[derive(Drop)]
 struct Sites {
     memory: bool,
@@ -214,6 +217,38 @@ fn put_policy(alloc: Global, text: &mut Vec<u8>, site: &Site) -> Result<(), Allo
     Ok(())
 }
 
+fn spare_at(site: &Site, relay: u32) -> u32 {
+    if relay >= site.relays() {
+        return 0;
+    }
+    let mut count: u32 = 0;
+    let mut number = 0;
+    for _ in site.plan(relay).actions() {
+        if site.is_spare(relay, number) {
+            count = count.wrapping_add(1);
+        }
+        number = number.wrapping_add(1);
+    }
+    count
+}
+
+fn put_spares(alloc: Global, text: &mut Vec<u8>, site: &Site) -> Result<(), AllocError> {
+    if site.policy() != 2 {
+        return Ok(());
+    }
+    text.extend_from_slice(b" spare")?;
+    for spare in site.spares() {
+        let shown = format!(in alloc; " {}.{}", spare.relay, spare.action)?;
+        text.extend_from_slice(shown.as_bytes())?;
+    }
+    let mut count: u32 = 0;
+    for relay in 0..site.relays() {
+        count = count.wrapping_add(spare_at(site, relay));
+    }
+    let shown = format!(in alloc; " of {count}")?;
+    text.extend_from_slice(shown.as_bytes())
+}
+
 impl Judge for Sites {
     fn is_right(
         &self,
@@ -227,6 +262,7 @@ impl Judge for Sites {
             Ok(site) => {
                 put_relays(alloc, &mut found, &site)?;
                 put_policy(alloc, &mut found, &site)?;
+                put_spares(alloc, &mut found, &site)?;
             }
             Err(SiteFault::NoMemory) => return Ok(self.memory),
             Err(fault) => put_fault(alloc, &mut found, &fault)?,
@@ -283,6 +319,70 @@ fn sites_of_texts(rt: HostRuntime) -> Result<(), Fail> {
     Ok(())
 }
 
+// The frame is that of policy 2, which is line 1, with the four lines of the other one.
+const P: &str =
+    "policy 2%0arelay edge edge.conf%0arelay hub hub.conf%0aentry edge 6514%0aprotect auth.* hub audit%0a~";
+
+const SPARES: &str = r#"
+edge 1.0; hub -; in 0.0 to 1.0 spare of 0 |
+edge 1.0; hub -; in 0.0 to 1.0 spare 0.0 of 1 | spare%09edge%20%20up%0d%0a
+edge 1.0; hub -; third 1.0; in 0.0 to 1.0 spare 2.0 0.0 of 2 | relay third edge.conf%0aspare third up%0aspare edge up
+edge 1.0; hub -; third -; in 0.0 to 1.0 spare 2.0 of 1 | spare third audit%0arelay third hub.conf
+// 51, 52, 59 and 60.
+51 Line 6 | spare
+51 Line 6 | spare edge
+51 Line 6 | spare edge up up
+51 Line 6 | spares edge up
+51 Line 6 | spare other up
+51 Line 6 | policy 2
+51 Line 6 | policy 1
+51 Line 6 | policy
+52 Duplicate 7 | spare edge up%0aspare%09edge up
+59 NoSuchAction 6 | spare edge audit
+59 NoSuchAction 6 | spare hub up
+60 SpareArchive 6 | spare hub audit
+60 SpareArchive 7 | spare edge up%0aspare hub audit
+60 SpareArchive 8 | relay third hub.conf%0aprotect mail.none third audit%0aspare third audit
+59 NoSuchAction 6 | %[256]spare edge a@`
+51 Line 262 | %[257]spare edge a@`
+// The entry and the protect lines are judged before the spare lines, these before what is protected.
+54 NoSuchEntry 7 | spare edge no%0aentry edge 1
+55 NoSuchArchive 7 | spare edge no%0aprotect auth.* edge up
+"#;
+
+#[test]
+fn sites_with_spare_actions(rt: HostRuntime) -> Result<(), Fail> {
+    each_is_right(&rt, rt.alloc(), ("", P), SPARES, &Sites { memory: false })?;
+    Ok(())
+}
+
+const POLICIES: &str = r#"
+hub -; in 0.0 to 0.0 spare of 0 | #%0a%0a%20policy%092%0d%0arelay hub hub.conf%0aentry hub 6515%0aprotect auth.* hub audit
+edge -; t -; in 0.0 to 1.0 spare 0.0 of 1 | policy 2%0aspare edge up%0arelay edge edge.conf%0arelay t hub.conf%0aentry edge 6514%0aprotect auth.* t audit
+51 Line 1 | policy 1%0arelay edge edge.conf
+51 Line 1 | policy%0arelay edge edge.conf
+51 Line 1 | policy 02
+51 Line 1 | policy 2 2
+51 Line 1 | Policy 2
+51 Line 2 | policy 2%0apolicy 2
+51 Line 2 | relay edge edge.conf%0apolicy 2
+51 Line 1 | spare edge up%0apolicy 2
+51 Line 5 | relay edge edge.conf%0arelay hub hub.conf%0aentry edge 6514%0aprotect auth.* hub audit%0aspare edge up
+59 NoSuchAction 2 | policy 2%0aspare edge no%0arelay edge edge.conf
+"#;
+
+#[test]
+fn policies(rt: HostRuntime) -> Result<(), Fail> {
+    each_is_right(
+        &rt,
+        rt.alloc(),
+        ("", "~"),
+        POLICIES,
+        &Sites { memory: false },
+    )?;
+    Ok(())
+}
+
 const NOTHING_PROTECTED: &str = r#"
 56 NothingProtected |
 56 NothingProtected | relay edge edge.conf%0aentry edge 6514
@@ -307,10 +407,22 @@ edge 1.0; hub -; in 0.0 to 1.0 |
 57 Relay 5 plan | relay third plan.conf
 "#;
 
+const FEW_SPARES: &str = r#"
+edge 1.0; hub -; in 0.0 to 1.0 spare 0.0 of 1 | spare edge up
+60 SpareArchive 6 | spare hub audit
+"#;
+
 // Under each allocation that fails in turn, the site is that one, or the refusal is for memory.
 #[test]
 fn site_runs_out(rt: HostRuntime) -> Result<(), Fail> {
     each_is_right(&rt, rt.alloc(), ("", S), FEW_SITES, &Sites { memory: true })?;
+    each_is_right(
+        &rt,
+        rt.alloc(),
+        ("", P),
+        FEW_SPARES,
+        &Sites { memory: true },
+    )?;
     Ok(())
 }
 

@@ -16,20 +16,23 @@ fn class(priority: u32) -> Option<Class> {
     }
 }
 
-// Each pair is an input, a `/` and a priority.
-fn pairs(alloc: Global, text: &str) -> Result<Vec<(u32, Class)>, AllocError> {
+// Each pair is an input, a `/` and a priority; a number alone is a spare action.
+fn guard(alloc: Global, text: &str) -> Result<Guard, AllocError> {
     let mut pairs = Vec::new(alloc);
+    let mut spares = Vec::new(alloc);
     for word in text.split_whitespace() {
         let (input, priority) = cut(word, '/');
-        if let Some(class) = class(number(Some(priority))) {
+        if priority.is_empty() {
+            spares.push(number(Some(word)))?;
+        } else if let Some(class) = class(number(Some(priority))) {
             pairs.push((number(Some(input)), class))?;
         }
     }
-    Ok(pairs)
+    Guard::new(alloc, pairs.as_slice(), spares.as_slice())
 }
 
-// Two lists of pairs, with a `;` between them. Of the guard of the first, copied, it is wanted whether it is the same as
-// that of the second.
+// Two lists of pairs and spare actions, with a `;` between them. Of the guard of the first, copied, it is wanted whether it is
+// the same as that of the second.
 #[derive(Drop)]
 struct Compared;
 
@@ -42,8 +45,8 @@ impl Judge for Compared {
         wanted: &str,
     ) -> Result<bool, AllocError> {
         let (one, other) = cut(str::from_utf8(text).unwrap_or(""), ';');
-        let one = Guard::new(alloc, &pairs(alloc, one)?)?.copy(alloc)?;
-        let other = Guard::new(alloc, &pairs(alloc, other)?)?;
+        let one = guard(alloc, one)?.copy(alloc)?;
+        let other = guard(alloc, other)?;
         Ok(one.same(&other) == (wanted == "same"))
     }
 }
@@ -58,6 +61,12 @@ other | 0/34 1/34 ; 0/34
 other | 0/34 1/34 ; 0/34 1/35
 other | 0/34 1/34 ; 0/34 2/34
 other | 0/34 1/34 ; 1/34 0/34
+same | 0/34 3 4 ; 0/34 3 4
+same | 3 ; 3
+other | 0/34 3 ; 0/34
+other | 0/34 ; 0/34 3
+other | 0/34 3 ; 0/34 4
+other | 0/34 3 4 ; 0/34 4 3
 ";
 
 #[test]
