@@ -13,10 +13,11 @@ class Message:
 
 
 class Entry:
-    """A message and what is left to do with it, in order: ("run", action) or ("post", ruleset or action with a queue)."""
+    """A message and what is left to do with it, in order: ("run", action) or ("post", ruleset or action with a queue); and
+    whether a spare action made this copy."""
 
-    def __init__(self, message, work):
-        self.message, self.work = message, work
+    def __init__(self, message, work, is_spared):
+        self.message, self.work, self.is_spared = message, work, is_spared
 
 
 class Worker:
@@ -56,7 +57,8 @@ class Machine:
     lines, and what it loses in losses, as the program prints it."""
 
     def __init__(self, site):
-        self.lines, self.losses, self.lost = [], [], []
+        self.lines, self.losses, self.lost, self.spared = [], [], [], []
+        self.spares = {action for _, action in site.spares}
         self.messages = 0
         self.entries, self.protected = set(site.entries), site.protected
         self.hands, self.queues, self.workers, self.links, self.numbers = {}, {}, [], {}, {}
@@ -71,18 +73,18 @@ class Machine:
                 if action.target:
                     self.links[action] = []
 
-    def lose(self, relay, message, cause):
-        self.lost.append(message)
+    def lose(self, relay, message, cause, is_spared):
+        (self.spared if is_spared else self.lost).append(message)
         self.losses.append(f"loss line {len(self.lines)} message {message.number} at {relay.name} "
-                           f"{class_name(message.kind)} {cause}\n")
+                           f"{class_name(message.kind)} {cause}{' spare' * is_spared}\n")
 
-    def arrive(self, place, hand, message):
+    def arrive(self, place, hand, message, is_spared):
         """Into the hand, where it isn't discarded at the present length of the input's queue."""
         queue = place.queue()
         if is_discarded(queue, len(self.queues[queue]), message):
-            self.lose(place.relay, message, "take")
+            self.lose(place.relay, message, "take", is_spared)
         else:
-            self.hands[place, hand] = Entry(message, work_of(place.ruleset, message))
+            self.hands[place, hand] = Entry(message, work_of(place.ruleset, message), is_spared)
         return True
 
     def take_new(self, place, hand, kind, text):
@@ -93,7 +95,7 @@ class Machine:
         if message.is_protected:
             self.taken[message.number] = message
         self.lines.append(f"take {place.relay.name} {place.port} {hand} new <{kind[0] * 8 + kind[1]}>1 - - - - - - {text}\n")
-        return self.arrive(place, hand, message)
+        return self.arrive(place, hand, message, False)
 
     def take_link(self, hand, action, at):
         """From any place of a forward's link that leads to an input."""
@@ -102,7 +104,7 @@ class Machine:
             return False
         relay, number = self.numbers[action]
         self.lines.append(f"take {place.relay.name} {place.port} {hand} link {relay.name} {number} {at}\n")
-        return self.arrive(place, hand, self.links[action].pop(at))
+        return self.arrive(place, hand, *self.links[action].pop(at))
 
     def enter(self, place, hand):
         """A full-delay input whose queue has a full-delay mark needs a length below it; each input one below the size."""
@@ -123,7 +125,8 @@ class Machine:
         if (place, hand) not in self.hands or is_held or length < queue.size:
             return False
         self.lines.append(f"expire {place.relay.name} {place.port} {hand}\n")
-        self.lose(place.relay, self.hands.pop((place, hand)).message, "expire")
+        entry = self.hands.pop((place, hand))
+        self.lose(place.relay, entry.message, "expire", entry.is_spared)
         return True
 
     def grab(self, worker):
@@ -136,7 +139,7 @@ class Machine:
         for _ in range(min(queue.batch, len(waiting))):
             entry = waiting.pop(0)
             if is_discarded(queue, len(waiting), entry.message):
-                self.lose(worker.relay, entry.message, "grab")
+                self.lose(worker.relay, entry.message, "grab", entry.is_spared)
             elif entry.work:
                 worker.entries.append(entry)
         return True
@@ -153,11 +156,16 @@ class Machine:
         if not worker.entries[0].work:
             worker.entries.pop(0)
 
-    def hand_over(self, action, message):
+    def is_spared(self, worker, doing):
+        """Whether what this copy comes to by a run or a post, or the loss of that, is a spare action's."""
+        return worker.entries[0].is_spared or doing in self.spares
+
+    def hand_over(self, action, worker):
         """The file or the link takes the message."""
+        message, is_spared = worker.entries[0].message, self.is_spared(worker, action)
         if action.target:
-            self.links[action].append(message)
-        if message.is_protected:
+            self.links[action].append((message, is_spared))
+        if message.is_protected and not is_spared:
             (self.forwarded if action.target else self.written).add((message.number, action))
 
     def done(self, worker):
@@ -165,7 +173,7 @@ class Machine:
         if not action:
             return False
         self.lines.append(f"done {worker.relay.name} {worker.number}\n")
-        self.hand_over(action, worker.entries[0].message)
+        self.hand_over(action, worker)
         self.end_first(worker)
         return True
 
@@ -177,7 +185,7 @@ class Machine:
         self.lines.append(f"fail {worker.relay.name} {worker.number} {'yes' if was_taken else 'no'}\n")
         worker.failures += action.retries >= 0
         if was_taken:
-            self.hand_over(action, worker.entries[0].message)
+            self.hand_over(action, worker)
         return True
 
     def giveup(self, worker, was_taken):
@@ -187,8 +195,8 @@ class Machine:
             return False
         self.lines.append(f"giveup {worker.relay.name} {worker.number} {'yes' if was_taken else 'no'}\n")
         if was_taken:
-            self.hand_over(action, worker.entries[0].message)
-        self.lose(worker.relay, worker.entries[0].message, "giveup")
+            self.hand_over(action, worker)
+        self.lose(worker.relay, worker.entries[0].message, "giveup", self.is_spared(worker, action))
         self.end_first(worker)
         return True
 
@@ -202,10 +210,10 @@ class Machine:
             return False
         self.lines.append(f"post {worker.relay.name} {worker.number}\n")
         if is_lost:
-            self.lose(worker.relay, message, "post")
+            self.lose(worker.relay, message, "post", self.is_spared(worker, target))
         else:
             work = [("run", target)] if isinstance(target, Action) else work_of(target, message)
-            waiting.append(Entry(message, work))
+            waiting.append(Entry(message, work, self.is_spared(worker, target)))
         self.end_first(worker)
         return True
 
@@ -215,20 +223,22 @@ class Machine:
         if not target or cause == "full" and len(self.queues[target.queue]) < target.queue.size:
             return False
         self.lines.append(f"postlost {worker.relay.name} {worker.number} {cause}\n")
-        self.lose(worker.relay, worker.entries[0].message, "postlost")
+        self.lose(worker.relay, worker.entries[0].message, "postlost", self.is_spared(worker, target))
         self.end_first(worker)
         return True
 
     def held(self):
-        """All pairs of a message's number and an archive that the work which is held for it leads to."""
+        """All pairs of a message's number and an archive that the work which is held for it leads to, without spare actions."""
         pairs, works = set(), []
         for entries in [self.hands.values(), *self.queues.values(), *(it.entries for it in self.workers)]:
-            works += [(it.message, it.work) for it in entries]
+            works += [(it.message, it.work) for it in entries if not it.is_spared]
         for action, link in self.links.items():
-            works += [(it, [("arrive", action.target[2])]) for it in link]
+            works += [(it, [("arrive", action.target[2])]) for it, is_spared in link if not is_spared]
         while works:
             message, work = works.pop()
             for form, it in work:
+                if it in self.spares:
+                    continue
                 if form == "arrive":
                     works.append((message, work_of(it.ruleset, message) if it else []))
                 elif form == "post":

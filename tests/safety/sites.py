@@ -103,7 +103,7 @@ class Spot:
 
 class Site:
     def __init__(self):
-        self.relays, self.entries, self.protects, self.spots = [], [], [], []
+        self.relays, self.entries, self.protects, self.spots, self.spares = [], [], [], [], []
         self.protected, self.selectors = set(), []
 
     def archives(self, kind):
@@ -111,9 +111,11 @@ class Site:
         return {action for selector, _, action in self.protects if kind in dict(self.selectors)[selector]}
 
     def text(self):
-        lines = [f"relay {it.name} {it.name}.conf\n" for it in self.relays]
+        lines = ["policy 2\n"] if self.spares else []
+        lines += [f"relay {it.name} {it.name}.conf\n" for it in self.relays]
         lines += [f"entry {it.relay.name} {it.port}\n" for it in self.entries]
         lines += [f"protect {selector} {relay.name} {action.name}\n" for selector, relay, action in self.protects]
+        lines += [f"spare {relay.name} {action.name}\n" for relay, action in self.spares]
         return "".join(lines)
 
 
@@ -308,6 +310,24 @@ class Maker:
             if self.chance(0.2):
                 self.site.entries.append(self.input(self.site.relays[number], "full", spot.ruleset))
         return self.site
+
+
+# ---- Spare actions
+
+def add_spares(site, chosen):
+    """Puts spare actions into lists that protected messages come to: archives, forwards to nowhere and to any input of a relay
+    behind, some with queues of their own that may lose."""
+    for number, spot in enumerate(site.spots):
+        relay = spot.inputs[0].relay
+        behind = [(it.name, place.port, place) for it in site.relays[number + 1:] for place in it.inputs]
+        for _ in range(chosen.randint(number == 0, 2)):
+            queue = None
+            if chosen.random() < 0.5:
+                queue = Queue(chosen.randint(1, 4), chosen.randint(1, 3), chosen.randint(0, 4), chosen.randint(0, 4), chosen.randint(0, 8))
+            target = chosen.choice([None, (relay.name, 1, None), *behind])
+            action = Action(f"p{len(site.spares)}", chosen.randint(-1, 2), target, queue)
+            spot.ruleset.body.insert(chosen.randint(0, len(spot.ruleset.body)), ("do", action))
+            site.spares.append((relay, action))
 
 
 # ---- Changes that bring in one kind of finding
