@@ -353,3 +353,34 @@ def receiver_that_takes_no_connection_for_a_while(room):
     receiver = Receiver(inner)
     receiver.has(messages(10))
     relay.stops_with(totals(10, 0, 0, ("up", 10, 10, 0, 0)))
+
+
+def spared(room, more=""):
+    """A hub that writes each message, and then forwards it by a spare action to a relay that is down; its site is accepted."""
+    port, mirror = room.port(), room.port()
+    room.site({"hub": module() + imtcp(port) + omfile("audit", "audit.log") + omfwd("copy", "mirror", mirror, 0, 30, more),
+               "mirror": module() + imtcp(mirror, "on") + omfile("log", "log.log", 0)},
+              f"entry hub {port}", "protect auth.* hub audit", "spare hub copy")
+    room.write("site", "policy 2\n" + room.read("site").decode())
+    return room.start("hub", port), port
+
+
+@test
+def spare_action_whose_receiver_is_down(room):
+    relay, port = spared(room)
+    send_all(port, messages(20))
+    room.holds("audit.log", messages(20))
+    relay.rests(port)
+    relay.stops_with(totals(20, 0, 0, ("audit", 20, 20, 0, 0), ("copy", 20, 0, 20, 0)))
+
+
+@test
+def spare_action_with_a_queue_of_its_own(room):
+    relay, port = spared(room, ' queue.type="LinkedList" queue.size="3" queue.dequeueBatchSize="1" queue.timeoutEnqueue="0"')
+    send_all(port, messages(300))
+    room.holds("audit.log", messages(300))
+    relay.rests(port)
+    # what finds that queue full is lost at once
+    said = relay.stop().splitlines()
+    if not re.fullmatch("taken 300 lost [0-9]+ held 0", said[0]) or said[1] != "audit due 300 done 300 given-up 0 left 0":
+        raise Failure(f"the totals are {said}")
