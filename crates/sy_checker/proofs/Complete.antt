@@ -160,8 +160,7 @@ module _ (site : Site) (law : IsLawful site) (class : Class) (none : (way : List
       → (x : SiteInput) × Reach site class Scope.Every x × (x.relay ≡ relay) × (goes_on n x ≡ true)
   goes_from n relay is =
       let f = some_is (λ (x : SiteInput). (x.relay == relay) && goes_on n x) (all Scope.Every) is in
-      let x = f.0 in
-      (
+      let x = f.0 in (
         x,
         reached Scope.Every (length site.relays) x f.1,
         eqb-true x.relay relay (and_first (x.relay == relay) (goes_on n x) f.2),

@@ -235,7 +235,7 @@ part_rows site law all class protected =
     let f = l Scope.Firm in
     let e = l Scope.Every in
     let places_of : (scope : Scope) (found : List SiteInput) → ((x : SiteInput) → Contains found x → Reach site class scope x)
-        → (x : SiteInput) → Contains found x → IsInput site x
+    → (x : SiteInput) → Contains found x → IsInput site x
     = λ scope found reach x is. reach_there site law class scope x (reach x is) in
     let firm_there = places_of Scope.Firm f.0 (λ x is. (f.1 x).0 is) in
     let every_there = places_of Scope.Every e.0 (λ x is. (e.1 x).0 is) in

@@ -173,11 +173,11 @@ pub all_hops : (site : Site) (class : Class) (which : Executed) (from : SiteInpu
 all_hops site class which from hops k old new are all added =
     added_as (HasHop (take k hops)) (LeadsOn site class which from) old new added
     (λ x on.
-        (let hop = are.whole on.number x on.leads in
-        record { hop = hop.0; there = subst (λ l. Contains l hop.0) (sym (take_all k hops all)) hop.1; leads = hop.2 }))
+    (let hop = are.whole on.number x on.leads in
+    record { hop = hop.0; there = subst (λ l. Contains l hop.0) (sym (take_all k hops all)) hop.1; leads = hop.2 }))
     (λ x has.
-        (let sound = are.sound has.hop (subst (λ l. Contains l has.hop) (take_all k hops all) has.there) in
-        record { number = has.hop.number; leads = subst (LeadsBy site class which from has.hop.number) has.leads sound.1 }))
+    (let sound = are.sound has.hop (subst (λ l. Contains l has.hop) (take_all k hops all) has.there) in
+    record { number = has.hop.number; leads = subst (LeadsBy site class which from has.hop.number) has.leads sound.1 }))
 
 -- ---- forwards
 

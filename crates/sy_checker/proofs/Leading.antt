@@ -101,8 +101,7 @@ module _ (site : Site) (class : Class) (relay : ℕ) where
       let g = gather_is (must list) (occurrence_at site relay list) (count (text list)) is i in
       let k = g.0 in
       let executed = is_in k (must_flow (verdict (known class)) (text list) 0).executed in
-      let asked = is_asked Scope.Firm (occurrence_at site relay list k) in
-      (
+      let asked = is_asked Scope.Firm (occurrence_at site relay list k) in (
         k,
         record {
           must = (must_is class (verdict (known class)) (verdict_is (known class)) (text list) k).0 (and_first executed asked g.1);
@@ -295,13 +294,13 @@ module _ (site : Site) (class : Class) (relay : ℕ) where
   pub next_of : IsLawful site → (scope : Scope) (list : ℕ) → Next scope list
   next_of law scope list = elim (cases_lt list (length (plan_at site relay).lists)) [
     | inl low ↦ record {
-        found = flat (leads law scope list low) (all law scope list low).lists;
-        has = λ k to r. leads_has law scope list low list k to r (all law scope list low).has;
-        is = leads_is law scope list low;
-      }
+      found = flat (leads law scope list low) (all law scope list low).lists;
+      has = λ k to r. leads_has law scope list low list k to r (all law scope list low).has;
+      is = leads_is law scope list low;
+    }
     | inr high ↦ record {
-        found = [];
-        has = λ k to r. (let low = reaching_there scope list k to r in absurd (omega (arith, low, high)));
-        is = λ to i. absurd i;
-      }
+      found = [];
+      has = λ k to r. (let low = reaching_there scope list k to r in absurd (omega (arith, low, high)));
+      is = λ to i. absurd i;
+    }
   ]

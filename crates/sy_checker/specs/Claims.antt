@@ -8,8 +8,8 @@ use Rattle.sy_site.specs.machine.Soundness.{AreRanks}
 use Rattle.sy_site.specs.machine.States.{SiteState}
 use Rattle.sy_site.specs.machine.Steps.{Runs, SiteEvent}
 
--- Confinement: the copies of each protected class that came in at entries are held at inputs that the class reaches, are on no link but to such an
--- input, and none is lost.
+-- Confinement: the copies of each protected class that came in at entries, but for those that spare actions made, are held at inputs that the class
+-- reaches without spare occurrences, are on no link but to such an input, and none is lost but by a spare occurrence.
 abbrev pub StayConfined : Site → Type 0
 StayConfined site = (class : Class) → is_protected site class ≡ true → (events : List SiteEvent) (state : SiteState)
     → Runs site events state → AreConfined site class state

@@ -11,10 +11,10 @@ ghost use Rattle.sy_wire.specs.declared.class.Class.{Class as AnyClass};
 ghost use Rattle.sy_checker.specs.Acceptance as spec;
 ghost use Rattle.sy_checker.specs.Fit.{AreProtected};
 
+use crate::firm::actions_at;
 use std::alloc::{AllocError, Global};
 use std::marker::Model;
 use std::sync::Arc;
-use crate::firm::actions_at;
 use sy_board::Guard;
 use sy_rules::Plan;
 use sy_site::machine::sound_sites_have_guards;

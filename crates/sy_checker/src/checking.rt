@@ -169,7 +169,15 @@ fn check_classes(
     let mut courses = Vec::new(alloc);
     let mut met = Vec::new(alloc);
     for class in classes {
-        check_class(alloc, site, *class, &firm, &mut courses, &mut met, &mut pairs)?;
+        check_class(
+            alloc,
+            site,
+            *class,
+            &firm,
+            &mut courses,
+            &mut met,
+            &mut pairs,
+        )?;
     }
     Ok(pairs)
 }

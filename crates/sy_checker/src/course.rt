@@ -113,12 +113,7 @@ fn ranks_for(
 }
 
 // The course of a class with these flows, or what is found of it: first at the inputs that it reaches, then a loop.
-fn new_course(
-    alloc: Global,
-    site: &Site,
-    class: Class,
-    lists: SiteFlows,
-) -> Result<Course, Refusal>
+fn new_course(alloc: Global, site: &Site, class: Class, lists: SiteFlows) -> Result<Course, Refusal>
     requires protected { sites.is_protected site.now class ≡ true }
     requires lists { AreSiteFlows site.now class lists }
     ensures ok { IfOk result (λ course. spec.IsCourse site.now class course) }

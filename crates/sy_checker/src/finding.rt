@@ -19,11 +19,11 @@ pub enum Kind {
     MarkAboveSize,
     /// The queue may discard messages of the class.
     Discards,
-    /// They may be put into another queue of the relay.
+    /// They may be put into another queue of the relay, by a post that isn't spare.
     InnerQueue,
-    /// An action that they may run is given up at some time.
+    /// An action that they may run, and that isn't spare, is given up at some time.
     GivesUp,
-    /// A forward that they may run leads to no input of the site.
+    /// A forward that they may run, and that isn't spare, leads to no input of the site.
     NoTarget,
     /// Going from relay to relay, one is met twice.
     Loop,
@@ -79,8 +79,9 @@ pub struct WayRow {
 pub struct Finding {
     pub class: Class,
     pub input: SiteInput,
-    /// The forwards by which messages of the class come there from an entry; none where it is one. For a loop, they go
-    /// on from any reached input of the relay that the one before leads to, and for an archive there are none.
+    /// The occurrences by which messages of the class come there from an entry, each a forward, or a post with a forward
+    /// behind it; none where it is one. None of them is spare, but for a loop; that of a loop goes on from any reached
+    /// input of the relay that the one before leads to, and for an archive there are none.
     pub way: Items<WayRow>,
     pub kind: Kind,
 }

@@ -35,11 +35,7 @@ fn put_action(found: &mut Vec<u32>, relay: u32, action: SiteAction) -> Result<()
 }
 
 /// The numbers of those of some actions that are a relay's.
-pub fn actions_at(
-    alloc: Global,
-    actions: &[SiteAction],
-    relay: u32,
-) -> Result<Vec<u32>, AllocError>
+pub fn actions_at(alloc: Global, actions: &[SiteAction], relay: u32) -> Result<Vec<u32>, AllocError>
     ensures { IfOk result (λ found. found.items ≡ sites.actions_at actions.now relay) }
 {
     let mut found = Vec::new(alloc);
@@ -113,7 +109,12 @@ fn firm_set(site: &Site, relay: u32, spares: &[u32], list: u32) -> u64
 }
 
 // Those of each list of a relay with these spare actions.
-fn relay_firm(alloc: Global, site: &Site, relay: u32, spares: &[u32]) -> Result<RelayFirm, AllocError>
+fn relay_firm(
+    alloc: Global,
+    site: &Site,
+    relay: u32,
+    spares: &[u32],
+) -> Result<RelayFirm, AllocError>
     requires relay { relay < length site.now.relays }
     requires spares { spares.now ≡ sites.spares_at site.now relay }
     ensures { IfOk result (λ sets. spec.AreRelayFirm site.now relay sets) }

@@ -158,7 +158,9 @@ fn follow(
     ensures longer { OnOk result (length found.old.lists.items ≤ length found.new.lists.items) }
 {
     match occurrence_at(site, relay, list, at) {
-        Some(it) => follow_one(site, class, flows, which, relay, list, at, it, number, found),
+        Some(it) => follow_one(
+            site, class, flows, which, relay, list, at, it, number, found,
+        ),
         None => Ok(()),
     }
 }

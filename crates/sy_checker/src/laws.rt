@@ -29,7 +29,7 @@ pub fn fit_is_sound()
 
 /// No loss: after every run of a site with a fit certificate each message of a protected class that came from outside
 /// at an entry is, for each archive that is named for its class, written there, or held where it heads there; no copy
-/// of it was lost, and none came to a relay twice.
+/// of it was lost but at or after a spare action, and none came to a relay twice.
 pub fn fit_is_safe()
     ensures { (site : Site) (rows : List Row) → IsLawful site → IsFit site rows → (events : List SiteEvent)
         (state : SiteState) → Runs site events state → AreSafe site state }

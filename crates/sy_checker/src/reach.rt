@@ -153,7 +153,14 @@ pub fn reached(
         (λ found. (x : AnyInput) → Contains found.inputs.items x ↔ Reach site.now class Scope.Firm x) }
 {
     site.is_lawful();
-    let found = spread(alloc, site, class, &flows.firm, Executed::Firm, site.entries())?;
+    let found = spread(
+        alloc,
+        site,
+        class,
+        &flows.firm,
+        Executed::Firm,
+        site.entries(),
+    )?;
     Ok(found)
 }
 
@@ -168,7 +175,14 @@ fn spread_every(
     ensures { IfOk result (λ found. (x : AnyInput) → Contains found.items x ↔ Reach site.now class Scope.Every x) }
 {
     site.is_lawful();
-    let found = spread(alloc, site, class, &flows.every, Executed::Every, site.entries())?;
+    let found = spread(
+        alloc,
+        site,
+        class,
+        &flows.every,
+        Executed::Every,
+        site.entries(),
+    )?;
     Ok(found.inputs)
 }
 

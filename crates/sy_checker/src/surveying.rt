@@ -1,5 +1,5 @@
-//! All that is found in a site: of each protected class each kind at each input that it reaches, a loop, and each archive
-//! that an entry doesn't lead to.
+//! All that is found in a site: of each protected class each kind at each input that it reaches without spare occurrences,
+//! a loop, and each archive that an entry doesn't lead to.
 
 ghost use Rattle.std.specs.Prelude.{◌≡◌, ◌↔◌, ◌⊎◌, [], Contains, Decides, IfOk, OnOk, true};
 ghost use Rattle.sy_site.specs.Sites as sites;

@@ -125,7 +125,8 @@ fn judge_next(
     )
 }
 
-// Whether the rows are those that are wanted for these classes. Each input that one of them reaches is put with it.
+// Whether the rows are those that are wanted for these classes. Each input that one of them reaches without spare
+// occurrences is put with it.
 fn check_rows(
     alloc: Global,
     site: &Site,

@@ -68,7 +68,7 @@ finding_text site found = finding_line site found ++ flat_map (way_line site) fo
 
 -- ---- what is said of a site
 
--- So many classes are protected, the site is sound, and no run of it loses a message of one of them: their copies are confined, ranks fall along
+-- So many classes are protected, the site is sound, and no run of it loses a message of one of them but at or after a spare action: their copies are confined, ranks fall along
 -- their trails, each message is written or heads there, and is safe.
 pub record KeepsAll (site : Site) (count : ℕ) : Type 0 where
   pub classes : List Class

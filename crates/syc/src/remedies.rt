@@ -281,6 +281,10 @@ pub fn put_unmet(words: &mut Words, site: &Site) {
         Part::Text(
             b"change: each forward of the way and the archive where every message of the class comes to it:\n",
         ),
-        Part::Text(b"  outside tests that the class alone doesn't decide, and before each stop\n"),
+        Part::Text(b"  outside tests that the class alone doesn't decide, and before each stop"),
     ]);
+    if !site.spares().is_empty() {
+        words.say("; and each without a spare line in the site file");
+    }
+    words.say("\n");
 }

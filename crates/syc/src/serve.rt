@@ -38,7 +38,7 @@ use sy_wire::{Sink, Source};
 pub struct Served<'a> {
     pub site: &'a Site,
     pub relay: u32,
-    /// What is known to lose nothing, where that was checked.
+    /// What is known to lose nothing but at or after spare actions, where that was checked.
     pub guard: Option<Guard>,
     /// The devices of its actions, in their order.
     pub devices: Vec<HostDevice>,

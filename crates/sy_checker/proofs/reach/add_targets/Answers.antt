@@ -8,8 +8,7 @@ use Rattle.sy_checker.proofs.reach.add_targets.Goals as goal
 pub loop-hop-preserved : goal.loop-hop-preserved
 loop-hop-preserved c =
     let own = c.hops_at-own.result.now in
-    let k = c.loop-hop.hop-index in
-    (
+    let k = c.loop-hop.hop-index in (
       more_hops own k (record { number = 0; to = record { relay = 0; input = 0 } }) c.args.found.now.inputs.items c.loop-hop.found.inputs.items
           c.add.new.found.inputs.items c.loop-hop-test.true c.loop-hop.invariant.0 c.in_ok-add.ensures.inputs,
       λ start here rooted. c.in_ok-add.ensures.roots c.args.site.now c.args.class c.args.which start
