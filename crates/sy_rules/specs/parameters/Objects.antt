@@ -79,6 +79,7 @@ queue_parameters k ps = record {
   discard_severity = number_of k ps (size_of k ps) (codes "queue.discardSeverity");
   timeout_enqueue = number_of k ps (size_of k ps) (codes "queue.timeoutEnqueue");
   workers = number_of k ps (size_of k ps) (codes "queue.workerThreads");
+  waits = is_word (codes "full") (word_of k ps (codes "queue.workerFlow"));
 }
 
 -- what every queue's parameters keep

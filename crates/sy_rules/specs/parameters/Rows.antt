@@ -47,6 +47,10 @@ flows = codes "on" ∷ codes "off" ∷ codes "full" ∷ []
 abbrev pub on_off : List (List ℕ)
 on_off = codes "on" ∷ codes "off" ∷ []
 
+-- how posts into a queue wait; rsyslog doesn't have it
+abbrev pub worker_flows : List (List ℕ)
+worker_flows = codes "off" ∷ codes "full" ∷ []
+
 abbrev pub action_types : List (List ℕ)
 action_types = codes "omfile" ∷ codes "omfwd" ∷ []
 
@@ -100,12 +104,16 @@ omfwd_rows =
     ∷ row (codes "TCP_Framing") (Shape.OneOf (codes "octet-counted" ∷ [])) Absent.Required
     ∷ []
 
--- type, size and batch of a queue: of an action's, of a ruleset's, of the main queue
+-- type, size and batch of a queue: of an action's, of a ruleset's, of the main queue; of the first two, how posts wait
+abbrev pub worker_flow_row : Row
+worker_flow_row = row (codes "queue.workerFlow") (Shape.OneOf worker_flows) (Absent.Word (codes "off"))
+
 abbrev pub action_queue_rows : List Row
 action_queue_rows =
     row (codes "queue.type") (Shape.OneOf (codes "Direct" ∷ queue_types)) (Absent.Word (codes "Direct"))
     ∷ row (codes "queue.size") (Shape.Number 1 1000000) (Absent.Amount 1000)
     ∷ row (codes "queue.dequeueBatchSize") (Shape.Number 1 65536) (Absent.Amount 128)
+    ∷ worker_flow_row
     ∷ []
 
 abbrev pub size_rows : List Row
@@ -115,7 +123,7 @@ size_rows =
     ∷ []
 
 abbrev pub ruleset_queue_rows : List Row
-ruleset_queue_rows = row (codes "queue.type") (Shape.OneOf queue_types) Absent.Nothing ∷ size_rows
+ruleset_queue_rows = row (codes "queue.type") (Shape.OneOf queue_types) Absent.Nothing ∷ (size_rows ++ worker_flow_row ∷ [])
 
 abbrev pub main_queue_rows : List Row
 main_queue_rows = row (codes "queue.type") (Shape.OneOf queue_types) (Absent.Word (codes "LinkedList")) ∷ size_rows
@@ -162,7 +170,7 @@ destination_rows kind.Forward = omfwd_rows
 destination_rows kind.Action = map if_given (omfile_rows ++ omfwd_rows)
 destination_rows _ = []
 
--- those of its queue: the first three, and the rest
+-- those of its queue: the first, and the rest
 unfoldable pub queue_head_rows : Kind → List Row
 queue_head_rows kind.MainQueue = main_queue_rows
 queue_head_rows kind.Ruleset = ruleset_queue_rows

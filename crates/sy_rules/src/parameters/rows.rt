@@ -172,7 +172,14 @@ static EITHER: [Row; 5] = [
     },
 ];
 
-static ACTION_QUEUE: [Row; 3] = [
+/// How posts into the queue of a ruleset or an action wait. (This profile's own.)
+const WORKER_FLOW: Row = Row {
+    name: b"queue.workerFlow",
+    shape: Shape::OneOf(&[b"off", b"full"]),
+    absent: Absent::Word(b"off"),
+};
+
+static ACTION_QUEUE: [Row; 4] = [
     Row {
         name: b"queue.type",
         shape: Shape::OneOf(&[b"Direct", b"FixedArray", b"LinkedList"]),
@@ -188,9 +195,10 @@ static ACTION_QUEUE: [Row; 3] = [
         shape: Shape::Number(1, 65_536),
         absent: Absent::Amount(128),
     },
+    WORKER_FLOW,
 ];
 
-static RULESET_QUEUE: [Row; 3] = [
+static RULESET_QUEUE: [Row; 4] = [
     Row {
         name: b"queue.type",
         shape: Shape::OneOf(&[b"FixedArray", b"LinkedList"]),
@@ -206,6 +214,7 @@ static RULESET_QUEUE: [Row; 3] = [
         shape: Shape::Number(1, 65_536),
         absent: Absent::Amount(1_024),
     },
+    WORKER_FLOW,
 ];
 
 static MAIN_QUEUE: [Row; 3] = [
@@ -323,7 +332,7 @@ pub fn destination_rows(kind: Kind) -> &'static [Row]
     }
 }
 
-/// The type, the size and the batch of its queue.
+/// The type, the size and the batch of its queue, and how posts into it wait.
 #[tactic(auto, unfolding(crate::specs::parameters::Rows::queue_head_rows))]
 pub fn queue_head_rows(kind: Kind) -> &'static [Row]
     ensures { map view.row_of result.now ≡ spec.queue_head_rows kind }
@@ -385,7 +394,7 @@ fn find_in_destination(kind: Kind, name: &[u8]) -> Option<&'static Row>
     }
 }
 
-/// The row of a name. It goes over at most 25 rows.
+/// The row of a name. It goes over at most 26 rows.
 pub fn find(kind: Kind, name: &[u8]) -> Option<&'static Row>
     ensures { view.found result ≡ spec.lookup (spec.rows kind) name.now }
 {

@@ -41,6 +41,9 @@ pub struct QueueParameters {
     pub timeout_enqueue: u32,
     /// How many workers take from it (`queue.workerThreads`), 1 to 64.
     pub workers: u32,
+    /// Whether a post into it waits at the full-delay mark until there is room (`queue.workerFlow` is `full`), as the messages of an input
+    /// with [`FlowControl::Full`] do. (This profile's own.)
+    pub waits: bool,
 }
 
 fn absent_number(size: u32, absent: Absent) -> u64
@@ -133,6 +136,7 @@ pub fn queue_parameters(kind: Kind, params: &[Param]) -> QueueParameters
     let discard_severity = number_of(kind, params, size, b"queue.discardSeverity") as u8;
     let timeout_enqueue = number_of(kind, params, size, b"queue.timeoutEnqueue") as u32;
     let workers = number_of(kind, params, size, b"queue.workerThreads") as u32;
+    let waits = is_word(b"full", word_of(kind, params, b"queue.workerFlow"));
     QueueParameters {
         size,
         batch,
@@ -142,5 +146,6 @@ pub fn queue_parameters(kind: Kind, params: &[Param]) -> QueueParameters
         discard_severity,
         timeout_enqueue,
         workers,
+        waits,
     }
 }

@@ -60,7 +60,7 @@ overflow_cast-workers c =
 pub returns-clause-value : goal.returns-clause-value
 unfolding queue_parameters
 returns-clause-value c =
-    rw (c.number_of-batch.ensures, c.number_of-full_delay_mark.ensures, c.number_of-light_delay_mark.ensures, c.number_of-discard_mark.ensures, c.number_of-discard_severity.ensures, c.number_of-timeout_enqueue.ensures, c.number_of-workers.ensures, c.number_of-size.ensures) refl
+    rw (c.number_of-batch.ensures, c.number_of-full_delay_mark.ensures, c.number_of-light_delay_mark.ensures, c.number_of-discard_mark.ensures, c.number_of-discard_severity.ensures, c.number_of-timeout_enqueue.ensures, c.number_of-workers.ensures, c.is_word-waits.ensures, c.word_of.ensures, c.number_of-size.ensures) refl
 
 pub returns-clause-in_range : goal.returns-clause-in_range
 returns-clause-in_range c = rw (returns-clause-value c) (queue_in_range c.args.kind c.args.params.now c.requires.takes c.requires.clean)
