@@ -22,7 +22,8 @@ pub enum BoardFault {
     WrongReceipt,
     /// A total would pass its limit.
     TotalsFull,
-    /// The hand's message hasn't expired: the full-delay mark holds it, or its queue isn't full. Or the queue of a post isn't full.
+    /// The hand's message hasn't expired: the full-delay mark holds it, or its queue isn't full. Or a post may not be lost: the full-delay mark
+    /// holds it, or its queue isn't full, where that is the cause; or there was no memory, and posts wait there.
     NotExpired,
 }
 

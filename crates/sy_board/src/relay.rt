@@ -1,6 +1,6 @@
 //! The nine steps of a whole relay: laws that every step keeps. The steps are definitions (`specs/relay`), which a set of relays is made of too.
 //! Each function does nothing; its contract is the law.
-ghost use Rattle.std.specs.Prelude.{◌≡◌, ◌≢◌, ◌⊎◌, ℕ, ◌+◌, ◌-◌, ◌<◌, ◌∷◌, Bool, List, [], Some, false, length};
+ghost use Rattle.std.specs.Prelude.{◌≡◌, ◌≢◌, ◌⊎◌, ℕ, ◌+◌, ◌-◌, ◌<◌, ◌∷◌, Bool, List, [], Some, false, true, length};
 ghost use Rattle.sy_chain.specs.Entries.{Entry};
 ghost use Rattle.sy_actions.specs.Devices.{Delivered, Refused};
 ghost use Rattle.sy_rules.specs.PlanValue.{Plan};
@@ -9,7 +9,7 @@ ghost use Rattle.sy_board.specs.relay.Cells.{Cell, IsShaped, RelayState, at, ope
 ghost use Rattle.sy_board.specs.relay.Runs.{AreRuns};
 ghost use Rattle.sy_wire.specs.Messages.{Said};
 ghost use Rattle.sy_rules.specs.declared.lists.occurrence.Occurrence.TheVariants as occurrence;
-ghost use Rattle.sy_board.specs.relay.Steps.{Enters, Event, Expires, Fails, GivesUp, Grabs, IsOfInput, IsPosted, Job, LosesPost, Out, Posts, Settles, Step};
+ghost use Rattle.sy_board.specs.relay.Steps.{Enters, Event, Expires, Fails, GivesUp, Grabs, IsOfInput, IsPosted, Job, LosesPost, Out, Posts, Settles, Step, is_post_held};
 ghost use Rattle.sy_board.specs.relay.Plans.{queue_of_worker};
 ghost use Rattle.sy_board.specs.relay.Boards.{BoardState, EnterIs, ExpireIs, FailIs, GrabIs, IsHeldBy, Made, PostIs, PostLostIs, SettleIs, TakeIs, is_no_memory};
 ghost use Rattle.sy_marks.specs.declared.marks.Hold.TheVariants as Hold;
@@ -91,6 +91,11 @@ pub fn steps_exclude()
         → IsHeldBy Hold.FullDelay plan old input → Enters plan old input number node new → ⊥ }
     ensures held_expires { (plan : Plan) → (old : RelayState) → (input number : ℕ) → (node : Entry) → (new : RelayState)
         → IsHeldBy Hold.FullDelay plan old input → Expires plan old input number node new → ⊥ }
+    // It holds a post: that is neither put nor lost.
+    ensures held_posts { (plan : Plan) → (old : RelayState) → (worker list : ℕ) → (node : Entry) → (new : RelayState)
+        → is_post_held plan old list ≡ true → Posts plan old worker list node false new → ⊥ }
+    ensures held_loses { (plan : Plan) → (old : RelayState) → (worker list : ℕ) → (no_memory : Bool) → (entry : Entry) → (new : RelayState)
+        → is_post_held plan old list ≡ true → LosesPost plan old worker list no_memory entry new → ⊥ }
     // A grab takes something.
     ensures grab { (plan : Plan) → (old : RelayState) → (worker : ℕ) → (lost : List Entry) → (new : RelayState)
         → Grabs plan old worker lost new → 0 < waiting old (queue_of_worker plan worker) }
@@ -141,7 +146,7 @@ pub fn one_outcome()
 {}
 
 /// Where a plan meets the condition of a guard, no step loses anything of its pairs but at or after spare actions, and the queue of each pair's
-/// input, where all its feeders are full-delay inputs, stays within its full-delay mark: before the first message each queue and each entry is as
+/// input, where all its feeders are full-delay feeders, stays within its full-delay mark: before the first message each queue and each entry is as
 /// that asks, and each step keeps it. A guard without pairs asks nothing.
 pub fn nothing_guarded_is_lost()
     ensures opening { (plan : Plan) → (guard : GuardState) → IsGuarding plan guard (opening plan) }

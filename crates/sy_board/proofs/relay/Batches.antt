@@ -49,7 +49,7 @@ front_short test (ℕ.suc n) (e ∷ behind) = go (test e (length behind)) (front
     go false l = omega (arith, l)
 
 abbrev off : QueueParameters
-off = record { size = 0; batch = 0; full_delay_mark = 0; light_delay_mark = 0; discard_mark = 0; discard_severity = 0; timeout_enqueue = 0; workers = 0 }
+off = record { size = 0; batch = 0; full_delay_mark = 0; light_delay_mark = 0; discard_mark = 0; discard_severity = 0; timeout_enqueue = 0; workers = 0; waits = false }
 
 small : (qs : List QueueParameters) (k : ℕ) → All AreInRange qs → (get_or qs k off).batch ≤ LARGEST_BATCH
 small [] k all = omega arith

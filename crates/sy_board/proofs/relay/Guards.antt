@@ -10,21 +10,21 @@ use Rattle.sy_chain.specs.Entries.{Entry}
 use Rattle.sy_marks.specs.declared.marks.Flow.{Flow}
 use Rattle.sy_marks.specs.declared.marks.Flow.TheVariants as flow
 use Rattle.sy_marks.specs.declared.marks.Marks.{Marks}
-use Rattle.sy_marks.specs.Marks.{discards}
+use Rattle.sy_marks.specs.Marks.{discards, is_delayed}
 use Rattle.sy_rules.specs.declared.lists.occurrence.Occurrence.{Occurrence}
 use Rattle.sy_rules.specs.declared.lists.occurrence.Occurrence.TheVariants as occurrence
 use Rattle.sy_rules.specs.lists.Sets.{IsLowest}
 use Rattle.sy_rules.specs.lists.Work.{Due}
 use Rattle.sy_rules.specs.PlanValue.{Plan}
-use Rattle.sy_rules.specs.Whole.{body_at}
+use Rattle.sy_rules.specs.Whole.{body_at, queue_for}
 use Rattle.sy_rules.proofs.lemmas.lists.WorkLaws.{work_may}
 use Rattle.sy_board.specs.relay.Cells.{Cell, RelayState, at, hand, opening, waiting}
-use Rattle.sy_board.specs.relay.Feeders.{Feeder, IsFedFreely, IsWithinMarks, OnlyFullDelay}
+use Rattle.sy_board.specs.relay.Feeders.{IsFedFreely, IsWithinMarks, OnlyFullDelay, feeder_flow}
 use Rattle.sy_board.specs.relay.Guards.{IsGuarding, IsOnItsWay, IsWithinGuard, MayGuard}
-use Rattle.sy_board.specs.relay.Kinds.{HoldsAt, Kind, MayRun, queue_of}
-use Rattle.sy_board.specs.relay.Plans.{flow_at, input_at, marks_at, queue_of_input}
-use Rattle.sy_board.specs.relay.Spares.{MayDo, Scope, is_spare_occurrence, is_spare_own, loses_spare}
-use Rattle.sy_board.specs.relay.Steps.{Cause, Event, IsHand, IsPosted, Out, Step}
+use Rattle.sy_board.specs.relay.Kinds.{HoldsAt, Kind, MayLose, MayRun, queue_of}
+use Rattle.sy_board.specs.relay.Plans.{flow_at, input_at, marks_at, parameters_at, post_flow, queue_of_input}
+use Rattle.sy_board.specs.relay.Spares.{Follows, MayDo, Scope, is_spare_occurrence, is_spare_own, loses_spare, own, posted}
+use Rattle.sy_board.specs.relay.Steps.{Cause, Event, IsHand, IsPosted, MayBeLost, Out, Step}
 use Rattle.sy_board.specs.relay.Totals.{GuardState, Pairs, guarded_losses, guards, is_guarded, is_guarded_loss}
 use Rattle.sy_board.proofs.relay.GuardTables.{is_pair}
 use Rattle.sy_board.proofs.relay.SamePairs.{same_class}
@@ -92,29 +92,68 @@ pub same_input : (plan : Plan) (i h j g : ℕ) → IsHand plan i h → g < 64 �
 same_input plan i h j g there l b = let m : h < 64 = there.1 in omega (arith, m, l, b)
 
 pub only_full : (plan : Plan) (queue : ℕ) → (IsFedFreely plan queue → ⊥) → OnlyFullDelay plan queue
-only_full plan queue none (Feeder.Input number) feeds =
-    full_of (flow_at plan number) (λ free. none (record { feeder = Feeder.Input number; feeds = feeds; is_free = free }))
-only_full plan queue none (Feeder.Post list number) feeds =
-    none (record { feeder = Feeder.Post list number; feeds = feeds; is_free = λ h. h })
+only_full plan queue none feeder feeds =
+    full_of (feeder_flow plan queue feeder) (λ free. none (record { feeder = feeder; feeds = feeds; is_free = free }))
+
+-- ---- a feeder that loses no message of the class
+
+module _ (plan : Plan) (class : Class) (queue : ℕ) (waits : Flow) (clean : MayLose plan class queue waits → ⊥) where
+  pub clean_waits : waits ≡ flow.Full
+  clean_waits = full_of waits (λ free. clean (inl free))
+
+  pub clean_mark : 1 ≤ (parameters_at plan queue).full_delay_mark
+  clean_mark =
+      let off : (parameters_at plan queue).full_delay_mark ≡ 0 → ⊥ = λ none. clean (inr (inl none)) in
+      omega (arith, off)
+
+  -- where its mark doesn't hold it, the queue isn't full
+  pub clean_room : (n : ℕ) → is_delayed waits (marks_at plan queue) n ≡ false → (parameters_at plan queue).size ≤ n → ⊥
+  clean_room n free full =
+      let below = not_delayed waits (marks_at plan queue) n clean_waits clean_mark free in
+      clean (inr (inr (inl (omega (arith, below, full)))))
+
+  -- the queue never discards it, where it is within its mark
+  pub clean_discards : (n : ℕ) → (OnlyFullDelay plan queue → n ≤ (parameters_at plan queue).full_delay_mark)
+      → discards (marks_at plan queue) class.severity n ≡ true → ⊥
+  clean_discards n within t =
+      let all = discards_says (marks_at plan queue) class.severity n t in
+      let w = within (only_full plan queue (λ free. clean (inr (inr (inr (record { severe = all.1; on = all.0.0; reached = inl free })))))) in
+      let below : (parameters_at plan queue).discard_mark ≤ (parameters_at plan queue).full_delay_mark = (let a = all.0.1 in omega (arith, a, w)) in
+      clean (inr (inr (inr (record { severe = all.1; on = all.0.0; reached = inr below }))))
+
+-- such a post isn't lost
+pub clean_post : (plan : Plan) (class : Class) (old : RelayState) (l : ℕ) (no_memory : Bool)
+    → (MayLose plan class (queue_for plan l) (post_flow plan (queue_for plan l)) → ⊥) → MayBeLost plan old l no_memory → ⊥
+clean_post plan class old l true clean cause = clean (inl cause)
+clean_post plan class old l false clean cause =
+    let q = queue_for plan l in clean_room plan class q (post_flow plan q) clean (waiting old q) cause.not_held cause.full
 
 -- ---- what the condition says of an input
 
 module _ (plan : Plan) (spares : List ℕ) (class : Class) (input : ℕ) (clean : (kind : Kind) → HoldsAt plan spares class input kind → ⊥) where
+  -- it is such a feeder
+  pub clean_input : MayLose plan class (queue_of_input plan input) (flow_at plan input) → ⊥
+  clean_input (inl free) = clean Kind.NotFull free
+  clean_input (inr (inl off)) = clean Kind.MarkOff off
+  clean_input (inr (inr (inl above))) = clean Kind.MarkAboveSize above
+  clean_input (inr (inr (inr discards))) = clean Kind.Discards discards
+
   pub is_full : flow_at plan input ≡ flow.Full
-  is_full = full_of (flow_at plan input) (clean Kind.NotFull)
+  is_full = clean_waits plan class (queue_of_input plan input) (flow_at plan input) clean_input
 
   pub has_mark : 1 ≤ (queue_of plan input).full_delay_mark
-  has_mark = let off = clean Kind.MarkOff in omega (arith, off)
+  has_mark = clean_mark plan class (queue_of_input plan input) (flow_at plan input) clean_input
 
   -- its queue never discards a message of the class, where it is within its mark
   pub never_discards : (n : ℕ) → (OnlyFullDelay plan (queue_of_input plan input) → n ≤ (queue_of plan input).full_delay_mark)
       → discards (marks_at plan (queue_of_input plan input)) class.severity n ≡ true → ⊥
-  never_discards n within t =
-      let all = discards_says (marks_at plan (queue_of_input plan input)) class.severity n t in
-      let none = clean Kind.Discards in
-      let w = within (only_full plan (queue_of_input plan input) (λ free. none (record { severe = all.1; on = all.0.0; reached = inl free }))) in
-      let below : (queue_of plan input).discard_mark ≤ (queue_of plan input).full_delay_mark = (let a = all.0.1 in omega (arith, a, w)) in
-      none (record { severe = all.1; on = all.0.0; reached = inr below })
+  never_discards = clean_discards plan class (queue_of_input plan input) (flow_at plan input) clean_input
+
+  -- and so is each post that its messages may come to and that isn't spare
+  pub clean_posts : (list number to : ℕ) → Follows plan spares class Scope.Firm input list → MayDo plan spares class Scope.Firm list number (occurrence.Post to)
+      → MayLose plan class (queue_for plan to) (post_flow plan (queue_for plan to)) → ⊥
+  clean_posts list number to follows does loses =
+      clean Kind.InnerQueue (record { list = list; follows = follows; number = number; to = to; does = does; loses = loses })
 
 -- ---- entries of pairs
 
@@ -126,7 +165,7 @@ module _ (plan : Plan) (guard : GuardState) (may : MayGuard plan guard) where
   IsGuarded e = is_guarded plan guard e ≡ true
 
   abbrev P : Cell → Entry → Type 0
-  P p e = IsGuarded e → IsOnItsWay plan p e
+  P p e = IsGuarded e → IsOnItsWay plan spares p e
 
   abbrev O : Out → Type 0
   O (Out.Passed a e) = Unit {0}
@@ -138,18 +177,32 @@ module _ (plan : Plan) (guard : GuardState) (may : MayGuard plan guard) where
       let parts = and_parts (guards guard.pairs e.input e.message.class) _ is in
       (guards_one guard.pairs e.input e.message.class parts.0, not_true (is_spare_own plan spares e.list) parts.1)
 
-  clean_at : (p : Cell) (e : Entry) → IsGuarded e → IsOnItsWay plan p e → (kind : Kind) → HoldsAt plan spares e.message.class e.input kind → ⊥
+  clean_at : (p : Cell) (e : Entry) → IsGuarded e → IsOnItsWay plan spares p e → (kind : Kind) → HoldsAt plan spares e.message.class e.input kind → ⊥
   clean_at p e is good = may e.input e.message.class (record { there = good.there; pair = (parts_of e is).0 })
 
-  owes_may : (p : Cell) (e : Entry) (o : Occurrence) → IsOnItsWay plan p e → (w : Owes plan e o) → is_spare_occurrence plan spares o ≡ false
-      → MayDo plan spares e.message.class Scope.Firm (input_at plan e.input).list w.number o
-  owes_may p e o good w firm = subst (λ l. MayDo plan spares e.message.class Scope.Firm l w.number o) good.follows
-      (record { may = good.due w.number w.member; found = w.is; in_scope = firm })
+  owes_may : (p : Cell) (e : Entry) (o : Occurrence) → IsOnItsWay plan spares p e → (w : Owes plan e o) → is_spare_occurrence plan spares o ≡ false
+      → MayDo plan spares e.message.class Scope.Firm e.list w.number o
+  owes_may p e o good w firm = record { may = good.due w.number w.member; found = w.is; in_scope = firm }
 
-  no_post : (p : Cell) (e : Entry) (l : ℕ) → IsGuarded e → IsOnItsWay plan p e → Owes plan e (occurrence.Post l)
-      → is_spare_own plan spares l ≡ false → ⊥
-  no_post p e l is good w firm = clean_at p e is good Kind.InnerQueue
-      (record { number = w.number; list = l; does = owes_may p e (occurrence.Post l) good w firm })
+  -- a post that such an entry owes, and that isn't spare, loses nothing
+  post_clean : (p : Cell) (e : Entry) (l : ℕ) → IsGuarded e → IsOnItsWay plan spares p e → Owes plan e (occurrence.Post l)
+      → is_spare_own plan spares l ≡ false → MayLose plan e.message.class (queue_for plan l) (post_flow plan (queue_for plan l)) → ⊥
+  post_clean p e l is good w firm = clean_posts plan spares e.message.class e.input (clean_at p e is good) e.list w.number l good.follows
+      (owes_may p e (occurrence.Post l) good w firm)
+
+  -- the queue that such an entry lies in is fed by a feeder that loses nothing of its class
+  abbrev IsSafe : Entry → ℕ → Type 0
+  IsSafe e q = (waits : Flow) × (MayLose plan e.message.class q waits → ⊥)
+
+  queue_safe : (q : ℕ) (e : Entry) → IsGuarded e → IsOnItsWay plan spares (Cell.Queue q) e → IsSafe e q
+  queue_safe q e is good = elim good.place [
+    | inl its ↦ subst (IsSafe e) its
+        (flow_at plan e.input, clean_input plan spares e.message.class e.input (clean_at (Cell.Queue q) e is good))
+    | inr put ↦ subst (IsSafe e) put.into (
+      post_flow plan (queue_for plan e.list),
+      clean_posts plan spares e.message.class e.input (clean_at (Cell.Queue q) e is good) put.from put.number e.list put.follows put.does,
+    )
+  ]
 
   -- an occurrence whose loss is guarded isn't spare, and its entry is guarded
   lost_parts : (cause : Cause) (e : Entry) → is_guarded_loss plan guard cause e ≡ true → (loses_spare plan spares cause ≡ false) × IsGuarded e
@@ -171,21 +224,41 @@ module _ (plan : Plan) (guard : GuardState) (may : MayGuard plan guard) where
       )
 
   -- an entry in a hand is of the hand's input
-  its_hand : (i h : ℕ) (e : Entry) → IsHand plan i h → IsOnItsWay plan (hand i h) e → e.input ≡ i
+  its_hand : (i h : ℕ) (e : Entry) → IsHand plan i h → IsOnItsWay plan spares (hand i h) e → e.input ≡ i
   its_hand i h e there good = same_input plan i h e.input good.place.0 there good.place.1 good.place.2
+
+  -- what such a post puts into a queue is on its way too
+  posted_on_its_way : (w : ℕ) (e : Entry) (l : ℕ) (node : Entry) → Owes plan e (occurrence.Post l) → IsPosted plan e l node
+      → IsOnItsWay plan spares (Cell.Worker w) e → is_spare_own plan spares l ≡ false → IsOnItsWay plan spares (Cell.Queue (queue_for plan l)) node
+  posted_on_its_way w e l node o m good firm =
+      let does = owes_may (Cell.Worker w) e (occurrence.Post l) good o firm in
+      let class : e.message.class ≡ node.message.class = ap (λ (said : Said). said.class) (sym m.message) in
+      let from : Follows plan spares node.message.class Scope.Firm node.input e.list =
+      subst (λ c. Follows plan spares c Scope.Firm node.input e.list) class
+      (subst (λ i. Follows plan spares e.message.class Scope.Firm i e.list) (sym m.input) good.follows) in
+      let post : MayDo plan spares node.message.class Scope.Firm e.list o.number (occurrence.Post node.list) =
+      subst (λ c. MayDo plan spares c Scope.Firm e.list o.number (occurrence.Post node.list)) class
+      (subst (λ z. MayDo plan spares e.message.class Scope.Firm e.list o.number (occurrence.Post z)) (sym m.list_is) does) in
+      record {
+        there = subst (λ i. i < length plan.inputs) (sym m.input) good.there;
+        place = inr (record { from = e.list; follows = from; number = o.number; does = post; into = ap (queue_for plan) m.list_is });
+        follows = posted o.number from post;
+        due = λ k b. work_may (body_at plan node.list) node.message node.message.class k refl
+            (subst (λ z. Due (body_at plan z) node.message k) (sym m.list_is)
+            (subst (λ (said : Said). Due (body_at plan l) said k) (sym m.message) ((m.due k).0 b)));
+      }
 
   guarded_kept : Kept plan P O (InMarks plan)
   guarded_kept = record {
     enters = λ i h e there p pair.
         let good = p pair in
-        record { there = good.there; place = ap (queue_of_input plan) (its_hand i h e there good); follows = good.follows; due = good.due };
+        record { there = good.there; place = inl (ap (queue_of_input plan) (its_hand i h e there good)); follows = good.follows; due = good.due };
     grabs = λ w e p pair. let good = p pair in record { there = good.there; place = tt; follows = good.follows; due = good.due };
     advances = λ w e number left p l pair.
         let good = p pair in
         record { there = good.there; place = tt; follows = good.follows; due = λ k b. good.due k (left_in e.due number left k l b) };
     runs = λ w e a p o. tt;
-    posts = λ w e l node p o m is.
-        let from = posted_from w e l node o m is in absurd (no_post (Cell.Worker w) e l from.0 (p from.0) o from.1);
+    posts = λ w e l node p o m is. posted_on_its_way w e l node o m (p (posted_from w e l node o m is).0) (posted_from w e l node o m is).1;
     lost_take = λ old i h e g p there t pair.
         let good = p pair in
         let same : i ≡ e.input = sym (its_hand i h e there good) in
@@ -200,28 +273,32 @@ module _ (plan : Plan) (guard : GuardState) (may : MayGuard plan guard) where
         let clean : (kind : Kind) → HoldsAt plan spares e.message.class i kind → ⊥ =
         subst (λ z. (kind : Kind) → HoldsAt plan spares e.message.class z kind → ⊥) same (clean_at (hand i h) e pair good) in
         let q = queue_of_input plan i in
-        let below = not_delayed (flow_at plan i) (marks_at plan q) (waiting old q) (is_full plan spares e.message.class i clean)
-        (has_mark plan spares e.message.class i clean) leaves.not_held in
-        clean Kind.MarkAboveSize (omega (arith, below, full));
+        clean_room plan e.message.class q (flow_at plan i) (clean_input plan spares e.message.class i clean) (waiting old q) leaves.not_held full;
     lost_grab = λ old q n e g p l t pair.
-        let good = p pair in
-        let is : queue_of_input plan e.input ≡ q = good.place in
-        let clean = clean_at (Cell.Queue q) e pair good in
-        never_discards plan spares e.message.class e.input clean n
+        let safe = queue_safe q e pair (p pair) in
+        clean_discards plan e.message.class q safe.0 safe.1 n
         (λ only.
-        let m = g (Cell.Queue (queue_of_input plan e.input)) only (has_mark plan spares e.message.class e.input clean) in
-        let less : n < waiting old (queue_of_input plan e.input) = subst (λ z. n < waiting old z) (sym is) l in omega (arith, m, less))
-        (subst (λ z. discards (marks_at plan z) e.message.class.severity n ≡ true) (sym is) t);
+        let m = g (Cell.Queue q) only (clean_mark plan e.message.class q safe.0 safe.1) in omega (arith, m, l))
+        t;
     lost_run = λ w n e a p o t is.
         let lost = lost_parts (Cause.GiveUp a) e is in
         let good = p lost.1 in
         let runs : MayRun plan spares e.message.class e.input a = record {
+          list = e.list;
+          follows = good.follows;
           number = o.number;
           does = owes_may (Cell.Worker w) e (occurrence.Run a) good o lost.0;
         } in
         clean_at (Cell.Worker w) e lost.1 good Kind.GivesUp (a, runs, n, t);
-    lost_post = λ w e l p o is. let lost = lost_parts (Cause.PostLost l) e is in no_post (Cell.Worker w) e l lost.1 (p lost.1) o lost.0;
-    lost_node = λ w e l p o is. let lost = lost_parts (Cause.Post l) e is in no_post (Cell.Worker w) e l lost.1 (p lost.1) o lost.0;
+    lost_post = λ old w e l no_memory p o cause is.
+        let lost = lost_parts (Cause.PostLost l) e is in
+        clean_post plan e.message.class old l no_memory (post_clean (Cell.Worker w) e l lost.1 (p lost.1) o lost.0) cause;
+    lost_node = λ old w e l g p o t is.
+        let lost = lost_parts (Cause.Post l) e is in
+        let q = queue_for plan l in
+        let clean = post_clean (Cell.Worker w) e l lost.1 (p lost.1) o lost.0 in
+        clean_discards plan e.message.class q (post_flow plan q) clean (waiting old q)
+        (λ only. g (Cell.Queue q) only (clean_mark plan e.message.class q (post_flow plan q) clean)) t;
   }
 
   -- an entry that comes by a take
@@ -230,7 +307,8 @@ module _ (plan : Plan) (guard : GuardState) (may : MayGuard plan guard) where
   comes old (Event.Take i h node) new outs (lost, takes, is) = λ pair. record {
     there = subst (λ j. j < length plan.inputs) (sym takes.made.input_is) takes.there.0;
     place = (h, takes.there.1, ap (λ j. 64 * j + h) (sym takes.made.input_is));
-    follows = takes.made.list ∙ ap (λ j. (input_at plan j).list) (sym takes.made.input_is);
+    follows = subst (Follows plan spares node.message.class Scope.Firm node.input)
+        (sym (takes.made.list ∙ ap (λ j. (input_at plan j).list) (sym takes.made.input_is))) own;
     due = λ k b. work_may (body_at plan node.list) node.message node.message.class k refl
         (subst (λ l. Due (body_at plan l) node.message k) (sym takes.made.list) ((takes.made.due k).0 b));
   }
@@ -280,7 +358,7 @@ module _ (plan : Plan) (guard : GuardState) (may : MayGuard plan guard) where
 pub guarding_start : (plan : Plan) (guard : GuardState) → IsGuarding plan guard (opening plan)
 guarding_start plan guard = record {
   marks = λ q. marks_start plan (Cell.Queue q);
-  entries = λ c. subst (All (λ (e : Entry). is_guarded plan guard e ≡ true → IsOnItsWay plan c e)) (sym (empty_everywhere plan c))
+  entries = λ c. subst (All (λ (e : Entry). is_guarded plan guard e ≡ true → IsOnItsWay plan guard.spares c e)) (sym (empty_everywhere plan c))
       (λ k d l. absurd (omega (arith, l)));
 }
 

@@ -1,5 +1,5 @@
--- A queue that only full-delay inputs feed stays within its mark.
-use Rattle.std.proofs.Common.{◌≡◌, ℕ, ◌*◌, ◌<◌, ◌≤◌, List, [], ◌∷◌, ◌++◌, length, drop, refl, sym, subst, arith, false, get_or, length-append, length-drop, replicate}
+-- A queue that only full-delay feeders feed stays within its mark.
+use Rattle.std.proofs.Common.{◌≡◌, ℕ, ◌*◌, ◌<◌, ◌≤◌, ◌⊎◌, inl, inr, Bool, List, [], ◌∷◌, ◌++◌, length, drop, refl, sym, subst, arith, true, false, get_or, length-append, length-drop, replicate}
 use Rattle.std.proofs.lemmas.Bool.Decides.{nat_tests}
 use Rattle.sy_chain.specs.Entries.{Entry}
 use Rattle.sy_marks.specs.declared.marks.Flow.{Flow}
@@ -13,16 +13,21 @@ use Rattle.sy_rules.specs.Whole.{queue_for}
 use Rattle.sy_board.specs.relay.Cells as cells
 use Rattle.sy_board.specs.relay.Cells.{Cell, RelayState, at, put, hand, waiting}
 use Rattle.sy_board.specs.relay.Feeders.{Feeder, OnlyFullDelay}
-use Rattle.sy_board.specs.relay.Plans.{flow_at, marks_at, parameters_at, queue_of_input, queue_of_worker}
-use Rattle.sy_board.specs.relay.Steps.{Event, Job, Out, Step, advanced, still}
+use Rattle.sy_board.specs.relay.Plans.{flow_at, marks_at, parameters_at, post_flow, queue_of_input, queue_of_worker}
+use Rattle.sy_board.specs.relay.Steps.{Event, HasRoom, Job, Out, Step, advanced, still}
 use Rattle.sy_board.proofs.relay.Put.{put_elim, if_elim}
 
--- a hand that its mark doesn't hold
+-- what the mark doesn't hold
 pub not_delayed : (f : Flow) (marks : Marks) (n : ℕ) → f ≡ flow.Full → 1 ≤ marks.full_delay_mark → is_delayed f marks n ≡ false
     → n < marks.full_delay_mark
 not_delayed flow.Full marks n f m e = grind (arith, nat_tests)
 not_delayed flow.Light marks n f m e = cc
 not_delayed flow.NoWait marks n f m e = cc
+
+-- a post that isn't lost has room
+pub has_room : (plan : Plan) (old : RelayState) (list : ℕ) (lost : Bool) → (lost ≡ true) ⊎ HasRoom plan old list → lost ≡ false → HasRoom plan old list
+has_room plan old list lost (inl e) is = absurd (cc)
+has_room plan old list lost (inr room) is = room
 
 module _ (plan : Plan) where
   abbrev pub mark_of : ℕ → ℕ
@@ -68,7 +73,12 @@ module _ (plan : Plan) where
       subst InMarks (sym posts.after)
       (if_elim InMarks lost (advanced plan old w (occurrence.Post l) posts.job) _ (λ t. b)
       (λ t. put_elim MarkAt (advanced plan old w (occurrence.Post l) posts.job) (Cell.Queue (queue_for plan l)) _
-      (λ only mark. absurd (only (Feeder.Post posts.job.entry.list posts.job.number) (l, posts.job.found, refl))) b))
+      (λ only mark.
+      let q = queue_for plan l in
+      let room = has_room plan old l lost posts.room t in
+      let below = not_delayed (post_flow plan q) (marks_at plan q) (waiting old q)
+      (only (Feeder.Post posts.job.entry.list posts.job.number) (l, posts.job.found, refl)) mark room.not_held in
+      omega (arith, below, length-append (at old (Cell.Queue q)) (node ∷ []))) b))
   marks_step old (Event.PostLost w no_memory) new outs a (l, e, loses, is) = subst InMarks (sym loses.after) (advanced_marks old w _ a loses.job)
 
   get_replicate : {A : Type 0} (n k : ℕ) (x : A) → get_or (replicate n x) k x ≡ x

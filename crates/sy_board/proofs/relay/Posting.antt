@@ -1,16 +1,19 @@
 -- A worker's post as a method finds it, and the steps that it makes of it.
-use denote.Enum.Bare.{sameb}
-use Rattle.std.proofs.Common.{◌≡◌, ℕ, ◌+◌, ◌<◌, ◌≤◌, ◌^◌, ◌⊎◌, Bool, true, false, inl, inr, List, [], ◌∷◌, ◌++◌, length, map, refl, sym, subst, ap, ◌∙◌, arith, get_or, set, nat_le}
+use Rattle.std.proofs.Common.{◌≡◌, ℕ, ◌+◌, ◌<◌, ◌≤◌, ◌^◌, ◌⊎◌, Bool, true, false, inl, inr, List, [], ◌∷◌, ◌++◌, length, map, refl, sym, subst, ap, ◌∙◌, arith, get_or, set}
+use Rattle.std.specs.Prelude.{◌≢◌}
 use Rattle.std.specs.Arc.{arc_value}
 use Rattle.std.specs.Vec.{with_item}
-use Rattle.std.proofs.lemmas.Bool.Decides.{nat_tests}
 use Rattle.std.proofs.lemmas.List.{length-map, map-set, set-get_or}
 use Rattle.sy_chain.specs.Entries.{Entry}
-use Rattle.sy_marks.specs.Marks.{QueueState, discards}
+use Rattle.sy_marks.specs.declared.marks.Flow.{Flow}
+use Rattle.sy_marks.specs.declared.marks.Flow.TheVariants as flow
+use Rattle.sy_marks.specs.declared.marks.Hold.{Hold}
+use Rattle.sy_marks.specs.declared.marks.Hold.TheVariants as hold
+use Rattle.sy_marks.specs.declared.marks.Marks.{Marks}
+use Rattle.sy_marks.specs.Marks.{HoldIs, QueueState, discards, is_delayed}
 use Rattle.sy_rules.specs.declared.lists.occurrence.Occurrence.TheVariants as occurrence
 use Rattle.sy_rules.specs.PlanValue.{Plan}
 use Rattle.sy_rules.specs.Whole.{queue_for}
-use Rattle.sy_board.specs.contracts.relay.answers.PostCause.{the_type}
 use Rattle.sy_board.specs.declared.fault.BoardFault.TheVariants as fault
 use Rattle.sy_board.specs.declared.relay.answers.PostCause.{PostCause}
 use Rattle.sy_board.specs.declared.relay.answers.PostCause.TheVariants as cause
@@ -18,12 +21,12 @@ use Rattle.sy_board.specs.declared.relay.answers.Posted.TheVariants as posted
 use Rattle.sy_board.specs.declared.relay.board.Board.TheInside.{Inside}
 use Rattle.sy_board.specs.declared.relay.board.Worker.{Worker}
 use Rattle.sy_board.specs.relay.Boards.{Account, BoardState, Fits, HasNoPost, IsForPost, PostFails, PostIs, PostLostFails, PostLostIs, account_of, guard_of, is_no_memory, stepped}
-use Rattle.sy_board.specs.relay.Cells.{Cell, RelayState, at, put}
-use Rattle.sy_board.specs.relay.Plans.{marks_at}
-use Rattle.sy_board.specs.relay.Steps.{Cause, Event, Job, LosesPost, Out, Posts, advanced}
+use Rattle.sy_board.specs.relay.Cells.{Cell, RelayState, at, put, waiting}
+use Rattle.sy_board.specs.relay.Plans.{marks_at, post_flow}
+use Rattle.sy_board.specs.relay.Steps.{Cause, Event, HasRoom, Job, LosesPost, MayBeLost, Out, Posts, advanced}
 use Rattle.sy_board.specs.relay.Totals.{Totals, is_guarded_loss}
 use Rattle.sy_board.specs.internal.Counting.{HasPostLeft, after_lost_post, after_post}
-use Rattle.sy_board.specs.internal.Jobs.{IsNext}
+use Rattle.sy_board.specs.internal.Jobs.{IsNext, is_expiring, is_holding, may_lose}
 use Rattle.sy_board.specs.internal.Kept.{IsKept, IsOrderly, board_inside, state_inside}
 use Rattle.sy_board.proofs.relay.JobAccounts.{board_after, kept_after}
 use Rattle.sy_board.proofs.relay.JobSteps.{IsAdvanced, IsTurn}
@@ -61,12 +64,36 @@ list_queue b list q queue kept number read =
     subst (λ k. IsQueue plan (state_inside b) k queue) number (queue_seen plan (state_inside b) b.queues.items q queue kept.marks refl (queue_there b list q kept number) read) in
     record { number = number; read = read; marks = seen.marks; entries = seen.entries }
 
--- what a queue says of its size, as an order
-pub full_by : (size length : ℕ) (full : Bool) → full ≡ nat_le size length → full ≡ true → size ≤ length
-full_by size length full is so = let e : nat_le size length ≡ true = sym is ∙ so in grind (arith, nat_tests)
+-- What holds a post in a queue, as the queue says it.
+pub free_by : (f : Flow) (marks : Marks) (n : ℕ) (h : Hold) → HoldIs h f marks n → is_holding h ≡ false → (n < marks.size) × (is_delayed f marks n ≡ false)
+free_by f marks n hold.FullDelay is free = cc
+free_by f marks n hold.Full is free = cc
+free_by f marks n hold.LightDelay is free = (is.1, is.0)
+free_by f marks n hold.Clear is free = (is.1, is.0)
 
-pub room_by : (size length : ℕ) (full : Bool) → full ≡ nat_le size length → full ≡ false → length < size
-room_by size length full is so = let e : nat_le size length ≡ false = sym is ∙ so in grind (arith, nat_tests)
+pub held_by : (f : Flow) (marks : Marks) (n : ℕ) (h : Hold) → HoldIs h f marks n → is_holding h ≡ true → (is_delayed f marks n ≡ true) ⊎ (marks.size ≤ n)
+held_by f marks n hold.FullDelay is held = inl is
+held_by f marks n hold.Full is held = inr is.1
+held_by f marks n hold.LightDelay is held = cc
+held_by f marks n hold.Clear is held = cc
+
+-- what isn't lost to a full queue isn't in one, or the mark holds it
+not_lost_by : (f : Flow) (marks : Marks) (n : ℕ) (h : Hold) → HoldIs h f marks n → is_expiring h ≡ false → marks.size ≤ n → is_delayed f marks n ≡ false → ⊥
+not_lost_by f marks n hold.FullDelay is stays full free = cc
+not_lost_by f marks n hold.Full is stays full free = cc
+not_lost_by f marks n hold.LightDelay is stays full free = let room = is.1 in omega (arith, room, full)
+not_lost_by f marks n hold.Clear is stays full free = let room = is.1 in omega (arith, room, full)
+
+-- for want of memory all is lost but what waits
+never_waits : (f : Flow) (h : Hold) → may_lose cause.NoMemory f h ≡ true → f ≢ flow.Full
+never_waits flow.Full h may is = cc
+never_waits flow.Light h may is = cc
+never_waits flow.NoWait h may is = cc
+
+waits_by : (f : Flow) (h : Hold) → may_lose cause.NoMemory f h ≡ false → f ≡ flow.Full
+waits_by flow.Full h stays = refl
+waits_by flow.Light h stays = cc
+waits_by flow.NoWait h stays = cc
 
 -- ---- what is written back as it was read
 
@@ -115,6 +142,10 @@ module _ {b : Inside} {w list left : ℕ} {slot : Worker} (turn : IsTurn b w slo
   abbrev entry : Entry
   entry = turn.next.entry
 
+  -- how posts into the list's queue wait
+  abbrev waits : Flow
+  waits = post_flow plan (queue_for plan list)
+
   -- its loss is guarded
   abbrev is_lost_guarded : Bool
   is_lost_guarded = is_guarded_loss plan (guard_of board) (Cause.Post list) entry
@@ -139,30 +170,43 @@ module _ {b : Inside} {w list left : ℕ} {slot : Worker} (turn : IsTurn b w slo
     board_back : board_inside (with_worker (with_queue b q queue) w slot b.accounts) ≡ board
     board_back = queue_back_board (with_worker b w slot b.accounts) q queue is.read ∙ worker_back_board b w slot turn.is.read
 
+    -- ---- what holds the post
+
+    -- nothing does
+    abbrev IsFree : Type 0
+    IsFree = (length queue.entries < queue.marks.size) × (is_delayed waits queue.marks (length queue.entries) ≡ false)
+
+    -- the mark does, or the queue is full
+    abbrev IsHeld : Type 0
+    IsHeld = (is_delayed waits queue.marks (length queue.entries) ≡ true) ⊎ (queue.marks.size ≤ length queue.entries)
+
+    has_room : IsFree → HasRoom plan old list
+    has_room free = record { not_full = rw (is.marks, is.entries) at free.0; not_held = rw (is.marks, is.entries) at free.1 }
+
     -- ---- the entry is put to the end of the queue, or it is discarded
 
     module _ {node : Entry} (made : IsForPost board w node) where
       abbrev grown : RelayState
       grown = put moved (Cell.Queue (queue_for plan list)) (at old (Cell.Queue (queue_for plan list)) ++ node ∷ [])
 
-      posts : discards queue.marks node.message.class.severity (length queue.entries) ≡ false → length queue.entries < queue.marks.size → Posts plan old w list node false grown
+      posts : discards queue.marks node.message.class.severity (length queue.entries) ≡ false → IsFree → Posts plan old w list node false grown
       posts stays room = record {
         job = job;
         made = made list job;
         discarded = rw (is.marks, is.entries) at stays;
-        room = inr (rw (is.marks, is.entries) at room);
+        room = inr (has_room room);
         after = refl;
       }
 
       posts_lost : discards queue.marks node.message.class.severity (length queue.entries) ≡ true → Posts plan old w list node true moved
       posts_lost lost = record { job = job; made = made list job; discarded = rw (is.marks, is.entries) at lost; room = inl refl; after = refl }
 
-      -- the entry isn't discarded, and the queue is full
-      pub post_held : discards queue.marks node.message.class.severity (length queue.entries) ≡ false → queue.marks.size ≤ length queue.entries
+      -- the entry isn't discarded, and the mark holds the post, or the queue is full
+      pub post_held : discards queue.marks node.message.class.severity (length queue.entries) ≡ false → IsHeld
           → PostIs (posted.Held node) board w node (board_inside (with_worker (with_queue b q queue) w slot b.accounts))
-      post_held stays full = (refl, board_back, list, job, rw (is.marks, is.entries) at stays, rw (is.marks, is.entries) at full)
+      post_held stays held = (refl, board_back, list, job, rw (is.marks, is.entries) at stays, rw (is.marks, is.entries) at held)
 
-      pub post_full : discards queue.marks node.message.class.severity (length queue.entries) ≡ false → length queue.entries < queue.marks.size
+      pub post_full : discards queue.marks node.message.class.severity (length queue.entries) ≡ false → IsFree
           → ((b.accounts.totals.posted + 1 < 2 ^ 64) × (b.accounts.held_in_queues + 1 < 2 ^ 64) → ⊥) → PostFails fault.TotalsFull board w node
       post_full stays room full =
           let o = turn.kept.orderly in
@@ -171,7 +215,7 @@ module _ {b : Inside} {w list left : ℕ} {slot : Worker} (turn : IsTurn b w slo
 
       module _ {worker : Worker} (on : IsAdvanced slot worker left) where
         module _ {new : QueueState} (longer : new ≡ record queue { entries = queue.entries ++ node ∷ [] }) {account : Account} (counted : account ≡ after_post b.accounts)
-            (stays : discards queue.marks node.message.class.severity (length queue.entries) ≡ false) (room : length queue.entries < queue.marks.size) where
+            (stays : discards queue.marks node.message.class.severity (length queue.entries) ≡ false) (room : IsFree) where
           abbrev after : Inside
           after = with_worker (with_queue b q new) w worker account
 
@@ -238,15 +282,28 @@ module _ {b : Inside} {w list left : ℕ} {slot : Worker} (turn : IsTurn b w slo
 
     -- ---- the post is lost
 
-    pub post_not_lost : (why : PostCause) → is_no_memory why ≡ false → length queue.entries < queue.marks.size → PostLostFails fault.NotExpired why board w
-    post_not_lost why only room = (only, list, job, rw (is.marks, is.entries) at room)
+    -- why it is, where this holds it
+    cause_of : (why : PostCause) (h : Hold) → HoldIs h waits queue.marks (length queue.entries) → may_lose why waits h ≡ true → MayBeLost plan old list (is_no_memory why)
+    cause_of cause.Full hold.FullDelay holds may = cc
+    cause_of cause.Full hold.Full holds may = record { full = rw (is.marks, is.entries) at holds.1; not_held = rw (is.marks, is.entries) at holds.0 }
+    cause_of cause.Full hold.LightDelay holds may = cc
+    cause_of cause.Full hold.Clear holds may = cc
+    cause_of cause.NoMemory h holds may = never_waits waits h may
 
-    module _ (why : PostCause) (reason : (is_no_memory why ≡ true) ⊎ (queue.marks.size ≤ length queue.entries)) {guarded : Bool} (marked : guarded ≡ is_lost_guarded) where
+    no_cause_of : (why : PostCause) (h : Hold) → HoldIs h waits queue.marks (length queue.entries) → may_lose why waits h ≡ false → MayBeLost plan old list (is_no_memory why) → ⊥
+    no_cause_of cause.Full h holds may lost =
+        not_lost_by waits (marks_at plan (queue_for plan list)) (waiting old (queue_for plan list)) h (rw (is.marks, is.entries) at holds) may lost.full lost.not_held
+    no_cause_of cause.NoMemory h holds may lost = lost (waits_by waits h may)
+
+    pub post_not_lost : (why : PostCause) (h : Hold) → HoldIs h waits queue.marks (length queue.entries) → may_lose why waits h ≡ false → PostLostFails fault.NotExpired why board w
+    post_not_lost why h holds may = (list, job, no_cause_of why h holds may)
+
+    module _ (why : PostCause) (h : Hold) (holds : HoldIs h waits queue.marks (length queue.entries)) (may : may_lose why waits h ≡ true) {guarded : Bool} (marked : guarded ≡ is_lost_guarded) where
       loses : LosesPost plan old w list (is_no_memory why) entry moved
       loses = record {
         job = job;
         its = refl;
-        cause = rw (is.marks, is.entries) at reason;
+        cause = cause_of why h holds may;
         after = refl;
       }
 
@@ -271,15 +328,3 @@ module _ {b : Inside} {w list left : ℕ} {slot : Worker} (turn : IsTurn b w slo
         pub post_lost_kept : IsKept (with_worker b w worker account)
         post_lost_kept =
             kept_after b w worker account (Event.PostLost w (is_no_memory why)) (Out.Lost (Cause.PostLost list) entry ∷ []) turn.kept (list, entry, loses_now, refl) account_lost
-
--- ---- why a post is lost
-
-pub why_lost : (why : PostCause) (full : Bool) (size length : ℕ) → full ≡ nat_le size length → (sameb the_type why cause.Full ≡ false) ⊎ (full ≡ true)
-    → (is_no_memory why ≡ true) ⊎ (size ≤ length)
-why_lost cause.Full full size length is (inl other) = absurd (cc other)
-why_lost cause.NoMemory full size length is (inl other) = inl refl
-why_lost why full size length is (inr so) = inr (full_by size length full is so)
-
-pub only_full : (why : PostCause) → sameb the_type why cause.Full ≡ true → is_no_memory why ≡ false
-only_full cause.Full e = refl
-only_full cause.NoMemory e = absurd (cc e)

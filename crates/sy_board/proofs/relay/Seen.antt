@@ -45,7 +45,7 @@ pub record IsQueue (plan : Plan) (state : RelayState) (k : ℕ) (q : QueueState)
   pub entries : q.entries ≡ at state (Cell.Queue k)
 
 abbrev off : QueueParameters
-off = record { size = 0; batch = 0; full_delay_mark = 0; light_delay_mark = 0; discard_mark = 0; discard_severity = 0; timeout_enqueue = 0; workers = 0 }
+off = record { size = 0; batch = 0; full_delay_mark = 0; light_delay_mark = 0; discard_mark = 0; discard_severity = 0; timeout_enqueue = 0; workers = 0; waits = false }
 
 pub queue_seen : (plan : Plan) (state : RelayState) (qs : List QueueState) (k : ℕ) (q : QueueState) → map (λ (x : QueueState). x.marks) qs ≡ map marks_of plan.queues
     → state.queues ≡ map (λ (x : QueueState). x.entries) qs → k < length qs → q ≡ get_or qs k q → IsQueue plan state k q

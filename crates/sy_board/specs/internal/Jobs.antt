@@ -2,6 +2,8 @@
 use Rattle.std.specs.Prelude.{◌≡◌, ℕ, Bool, true, false, List, [], ◌∷◌, Some, slice_get}
 use Rattle.sy_wire.specs.Messages.{Said}
 use Rattle.sy_chain.specs.Entries.{Entry}
+use Rattle.sy_marks.specs.declared.marks.Flow.{Flow}
+use Rattle.sy_marks.specs.declared.marks.Flow.TheVariants as flow
 use Rattle.sy_marks.specs.declared.marks.Hold.{Hold}
 use Rattle.sy_marks.specs.declared.marks.Hold.TheVariants as hold
 use Rattle.sy_rules.specs.declared.lists.occurrence.Occurrence.{Occurrence}
@@ -10,6 +12,8 @@ use Rattle.sy_rules.specs.lists.Sets.{IsLowest}
 use Rattle.sy_rules.specs.PlanValue.{Plan}
 use Rattle.sy_board.specs.declared.fault.BoardFault.{BoardFault}
 use Rattle.sy_board.specs.declared.fault.BoardFault.TheVariants as fault
+use Rattle.sy_board.specs.declared.relay.answers.PostCause.{PostCause}
+use Rattle.sy_board.specs.declared.relay.answers.PostCause.TheVariants as cause
 use Rattle.sy_board.specs.relay.Plans.{occurrences_at}
 use Rattle.sy_board.specs.relay.Steps.{still}
 
@@ -50,16 +54,23 @@ abbrev pub advanced_entries : List Entry → ℕ → List Entry
 advanced_entries [] left = []
 advanced_entries (e ∷ others) left = still e left others
 
--- a message stays in its hand
+-- a message stays in its hand, or its post is still to be done
 abbrev pub is_holding : Hold → Bool
 is_holding hold.FullDelay = true
 is_holding hold.Full = true
 is_holding hold.LightDelay = false
 is_holding hold.Clear = false
 
--- and may be lost there
+-- and may be lost for that
 abbrev pub is_expiring : Hold → Bool
 is_expiring hold.FullDelay = false
 is_expiring hold.Full = true
 is_expiring hold.LightDelay = false
 is_expiring hold.Clear = false
+
+-- whether a post with this flow may be lost for a cause, where this holds it
+abbrev pub may_lose : PostCause → Flow → Hold → Bool
+may_lose cause.Full f hold = is_expiring hold
+may_lose cause.NoMemory flow.Full hold = false
+may_lose cause.NoMemory flow.Light hold = true
+may_lose cause.NoMemory flow.NoWait hold = true

@@ -31,7 +31,7 @@ use Rattle.sy_board.specs.declared.relay.answers.PostCause.TheVariants as cause
 use Rattle.sy_board.specs.relay.Cells.{Cell, RelayState, at, hand, opening, waiting}
 use Rattle.sy_board.specs.relay.Plans.{flow_at, marks_at, parameters_at, queue_of_input, queue_of_worker}
 use Rattle.sy_board.specs.relay.Runs.{AreRuns}
-use Rattle.sy_board.specs.relay.Steps.{Cause, Enters, Event, Expires, Fails, GivesUp, Grabs, IsPosted, Job, LosesPost, Out, Posts, Settles, Step, Takes, if_so}
+use Rattle.sy_board.specs.relay.Steps.{Cause, Enters, Event, Expires, Fails, GivesUp, Grabs, IsPosted, Job, LosesPost, MayBeLost, Out, Posts, Settles, Step, Takes, if_so, is_post_held}
 use Rattle.sy_board.specs.relay.Totals.{Counts, GuardState, Totals, counted, in_hands, in_queues, no_guard, nothing_counted}
 
 -- The board of a relay: its plan, its guard where it has one, what the relay holds, and what its steps counted.
@@ -276,11 +276,12 @@ IsForPost board worker node =
 abbrev pub PostIs : Posted → BoardState → ℕ → Entry → BoardState → Type 0
 PostIs posted.Done old worker node new =
     (list : ℕ) × Posts old.plan old.state worker list node false new.state × (new ≡ stepped old (Event.Post worker) new.state [])
--- the list's queue is full, and the entry isn't discarded there
+-- the full-delay mark of the list's queue holds the post, or the queue is full; and the entry isn't discarded there
 PostIs (posted.Held back) old worker node new =
     (back ≡ node) × (new ≡ old) × (list : ℕ) × Job old.plan old.state worker (occurrence.Post list)
     × (discards (marks_at old.plan (queue_for old.plan list)) node.message.class.severity (waiting old.state (queue_for old.plan list)) ≡ false)
-    × ((parameters_at old.plan (queue_for old.plan list)).size ≤ waiting old.state (queue_for old.plan list))
+    × ((is_post_held old.plan old.state list ≡ true)
+    ⊎ ((parameters_at old.plan (queue_for old.plan list)).size ≤ waiting old.state (queue_for old.plan list)))
 PostIs (posted.Discarded lost) old worker node new =
     (lost ≡ node) × (list : ℕ) × (posts : Posts old.plan old.state worker list node true new.state)
     × (new ≡ stepped old (Event.Post worker) new.state (Out.Lost (Cause.Post list) posts.job.entry ∷ []))
@@ -302,12 +303,12 @@ PostLostIs why old worker new =
     (list : ℕ) × (node : Entry) × LosesPost old.plan old.state worker list (is_no_memory why) node new.state
     × (new ≡ stepped old (Event.PostLost worker (is_no_memory why)) new.state (Out.Lost (Cause.PostLost list) node ∷ []))
 
--- why `post_lost` refuses: the worker's job isn't a post; the list's queue isn't full, where that is the cause; or a total is full
+-- why `post_lost` refuses: the worker's job isn't a post; it may not be lost for that cause, which is no memory where posts wait, and a full queue where
+-- the full-delay mark holds the post, or the queue isn't full; or a total is full
 abbrev pub PostLostFails : BoardFault → PostCause → BoardState → ℕ → Type 0
 PostLostFails fault.NoJob why old worker = HasNoPost old worker
 PostLostFails fault.NotExpired why old worker =
-    (is_no_memory why ≡ false) × (list : ℕ) × Job old.plan old.state worker (occurrence.Post list)
-    × (waiting old.state (queue_for old.plan list) < (parameters_at old.plan (queue_for old.plan list)).size)
+    (list : ℕ) × Job old.plan old.state worker (occurrence.Post list) × (MayBeLost old.plan old.state list (is_no_memory why) → ⊥)
 PostLostFails fault.TotalsFull why old worker =
     (list : ℕ) × (node : Entry) × (new : RelayState) × LosesPost old.plan old.state worker list (is_no_memory why) node new
     × IsTooFull (stepped old (Event.PostLost worker (is_no_memory why)) new (Out.Lost (Cause.PostLost list) node ∷ []))

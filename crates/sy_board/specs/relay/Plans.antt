@@ -1,6 +1,6 @@
 -- What the steps of a relay ask of its plan. Of a number that the plan doesn't have, the answers here mean nothing. Parameters are named as in
 -- the rsyslog manual ("General Queue Parameters", "Actions", imtcp); what they do is this profile's own.
-use Rattle.std.specs.Prelude.{ℕ, List, Option, Some, None, slice_get, slice_index_or}
+use Rattle.std.specs.Prelude.{ℕ, false, if◌then◌else◌, List, Option, Some, None, slice_get, slice_index_or}
 use Rattle.sy_wire.specs.Messages.{Said}
 use Rattle.sy_rules.specs.declared.lists.occurrence.Occurrence.{Occurrence}
 use Rattle.sy_rules.specs.declared.parameters.settings.FlowControl.{FlowControl}
@@ -39,6 +39,7 @@ parameters_at plan queue = slice_index_or plan.queues queue (record {
   discard_severity = 0;
   timeout_enqueue = 0;
   workers = 0;
+  waits = false;
 })
 
 -- what a list executes, by number
@@ -83,3 +84,7 @@ flow_of control.Off = flow.NoWait
 
 abbrev pub flow_at : Plan → ℕ → Flow
 flow_at plan input = flow_of (input_at plan input).flow
+
+-- how posts into a queue wait (queue.workerFlow): at its full-delay mark, as the messages of a "full" input do, or at a full queue alone
+abbrev pub post_flow : Plan → ℕ → Flow
+post_flow plan queue = if (parameters_at plan queue).waits then flow.Full else flow.NoWait

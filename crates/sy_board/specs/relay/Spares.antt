@@ -57,3 +57,9 @@ pub data Follows (plan : Plan) (spares : List ℕ) (class : Class) (scope : Scop
   own : Follows plan spares class scope input (input_at plan input).list
   posted : {list inner : ℕ} (number : ℕ) → Follows plan spares class scope input list
       → MayDo plan spares class scope list number (occurrence.Post inner) → Follows plan spares class scope input inner
+
+-- One post after another, at least one, leads from a list to a list.
+pub data PostsOn (plan : Plan) (spares : List ℕ) (class : Class) (scope : Scope) : (from to : ℕ) → Type 0 where
+  once : {from to : ℕ} (number : ℕ) → MayDo plan spares class scope from number (occurrence.Post to) → PostsOn plan spares class scope from to
+  more : {from mid to : ℕ} (number : ℕ) → MayDo plan spares class scope from number (occurrence.Post mid)
+      → PostsOn plan spares class scope mid to → PostsOn plan spares class scope from to

@@ -1,16 +1,17 @@
 -- The nine steps of a relay. Each is a relation of what the relay held before, the step's arguments and what it holds after; nothing else changes.
 -- The steps Take to Grab are about an entry on its way to a worker, the others about a worker's job: the lowest occurrence due of its first
 -- entry. How long anything waits stands in no step: a wait may end at any moment.
-use Rattle.std.specs.Prelude.{◌≡◌, ℕ, ◌+◌, ◌<◌, ◌≤◌, ◌==◌, ◌⊎◌, Bool, true, false, if◌then◌else◌, List, [], ◌∷◌, ◌++◌, length, map, drop, Option, Some, None, slice_get}
+use Rattle.std.specs.Prelude.{◌≡◌, ◌≢◌, ℕ, ◌+◌, ◌<◌, ◌≤◌, ◌==◌, ◌⊎◌, Bool, true, false, if◌then◌else◌, List, [], ◌∷◌, ◌++◌, length, map, drop, Option, Some, None, slice_get}
 use Rattle.sy_chain.specs.Entries.{Entry}
 use Rattle.sy_rules.specs.declared.lists.occurrence.Occurrence.{Occurrence}
 use Rattle.sy_rules.specs.declared.lists.occurrence.Occurrence.TheVariants as occurrence
+use Rattle.sy_marks.specs.declared.marks.Flow.TheVariants as flow
 use Rattle.sy_marks.specs.Marks.{discards, is_delayed, kept_of, lost_of}
 use Rattle.sy_rules.specs.lists.Sets.{IsLowest}
 use Rattle.sy_rules.specs.Whole.{queue_for}
 use Rattle.sy_rules.specs.PlanValue.{Plan}
 use Rattle.sy_board.specs.relay.Cells.{Cell, RelayState, at, put, failures_at, put_failures, hand, waiting}
-use Rattle.sy_board.specs.relay.Plans.{IsDue, flow_at, input_at, marks_at, occurrences_at, parameters_at, queue_of_input, queue_of_worker, retry_at}
+use Rattle.sy_board.specs.relay.Plans.{IsDue, flow_at, input_at, marks_at, occurrences_at, parameters_at, post_flow, queue_of_input, queue_of_worker, retry_at}
 
 -- ---- a message comes in
 
@@ -129,22 +130,43 @@ pub record IsPosted (plan : Plan) (entry : Entry) (list : ℕ) (node : Entry) : 
   pub tag : node.tag ≡ entry.tag
   pub due : IsDue plan list entry.message node.due
 
--- Post: the job puts a new entry to the end of the list's queue, which isn't full; where that entry is discarded, it is lost.
+-- whether the full-delay mark of the list's queue holds a post (queue.workerFlow)
+abbrev pub is_post_held : Plan → RelayState → ℕ → Bool
+is_post_held plan old list =
+    is_delayed (post_flow plan (queue_for plan list)) (marks_at plan (queue_for plan list)) (waiting old (queue_for plan list))
+
+-- the list's queue has room for a post, which its mark doesn't hold
+pub record HasRoom (plan : Plan) (old : RelayState) (list : ℕ) : Type 0 where
+  pub not_full : waiting old (queue_for plan list) < (parameters_at plan (queue_for plan list)).size
+  pub not_held : is_post_held plan old list ≡ false
+
+-- Post: the job puts a new entry to the end of the list's queue, which has room for it; where that entry is discarded, it is lost, whether there is
+-- room or not.
 pub record Posts (plan : Plan) (old : RelayState) (worker list : ℕ) (node : Entry) (lost : Bool) (new : RelayState) : Type 0 where
   pub job : Job plan old worker (occurrence.Post list)
   pub made : IsPosted plan job.entry list node
   pub discarded :
       discards (marks_at plan (queue_for plan list)) node.message.class.severity (waiting old (queue_for plan list)) ≡ lost
-  pub room : (lost ≡ true) ⊎ (waiting old (queue_for plan list) < (parameters_at plan (queue_for plan list)).size)
+  pub room : (lost ≡ true) ⊎ HasRoom plan old list
   pub after : new ≡ if lost then advanced plan old worker (occurrence.Post list) job
       else put (advanced plan old worker (occurrence.Post list) job)
       (Cell.Queue (queue_for plan list)) (at old (Cell.Queue (queue_for plan list)) ++ node ∷ [])
 
--- Post lost: the list's queue is full, or there was no memory for a new entry; the occurrence is lost.
+-- the list's queue is full, and its mark doesn't hold the post
+pub record IsFull (plan : Plan) (old : RelayState) (list : ℕ) : Type 0 where
+  pub full : (parameters_at plan (queue_for plan list)).size ≤ waiting old (queue_for plan list)
+  pub not_held : is_post_held plan old list ≡ false
+
+-- Why a post may be lost: there was no memory for a new entry, for which no post that waits at the full-delay mark is lost; or the queue is full.
+abbrev pub MayBeLost : Plan → RelayState → ℕ → (no_memory : Bool) → Type 0
+MayBeLost plan old list true = post_flow plan (queue_for plan list) ≢ flow.Full
+MayBeLost plan old list false = IsFull plan old list
+
+-- Post lost: for one of these causes the occurrence is lost.
 pub record LosesPost (plan : Plan) (old : RelayState) (worker list : ℕ) (no_memory : Bool) (entry : Entry) (new : RelayState) : Type 0 where
   pub job : Job plan old worker (occurrence.Post list)
   pub its : job.entry ≡ entry
-  pub cause : (no_memory ≡ true) ⊎ ((parameters_at plan (queue_for plan list)).size ≤ waiting old (queue_for plan list))
+  pub cause : MayBeLost plan old list no_memory
   pub after : new ≡ advanced plan old worker (occurrence.Post list) job
 
 -- ---- all steps as one relation

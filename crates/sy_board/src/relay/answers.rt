@@ -55,7 +55,8 @@ pub enum Retry {
 pub enum Posted {
     /// The entry is at the end of the list's queue.
     Done,
-    /// The list's queue is full, and the entry isn't discarded there: the post is still to be done.
+    /// The full-delay mark of the list's queue holds the post, where posts wait there, or the queue is full; and the entry isn't discarded there. The
+    /// post is still to be done.
     Held(Node),
     /// The entry was discarded at the length of the list's queue, and the post is lost.
     Discarded(Node),
@@ -64,8 +65,8 @@ pub enum Posted {
 /// Why a post is lost.
 #[derive(Clone, Copy, Debug, PartialEq, Eq)]
 pub enum PostCause {
-    /// The list's queue is full.
+    /// The list's queue is full, and its full-delay mark doesn't hold the post.
     Full,
-    /// There was no memory for a new entry.
+    /// There was no memory for a new entry. No post is lost for that where posts wait.
     NoMemory,
 }

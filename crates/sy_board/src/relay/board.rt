@@ -188,7 +188,7 @@ impl Board {
     }
 
     /// The totals. The laws of accounts hold for them and what the board holds, which has the places of its plan; and no job has failed more often
-    /// than it may be tried again. Nothing guarded was lost, and the queue of each guarded pair's input, where only full-delay inputs feed it, is
+    /// than it may be tried again. Nothing guarded was lost, and the queue of each guarded pair's input, where only full-delay feeders feed it, is
     /// within its full-delay mark.
     pub fn accounts(&self) -> &Accounts
         ensures value { result.now ≡ account_of self.now }

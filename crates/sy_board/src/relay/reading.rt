@@ -39,6 +39,16 @@ pub(crate) fn marks_of(queue: &QueueParameters) -> Marks
     }
 }
 
+/// How posts into a queue wait.
+pub(crate) fn post_flow(plan: &Plan, queue: usize) -> Flow
+    ensures { result ≡ spec.post_flow plan.now queue }
+{
+    match plan.queues().get(queue) {
+        Some(parameters) if parameters.waits => Flow::Full,
+        _ => Flow::NoWait,
+    }
+}
+
 /// The queue that a worker takes from, and how many entries at once.
 pub(crate) fn batch_of(plan: &Plan, worker: u32) -> (usize, usize)
     requires { worker < length plan.now.workers }

@@ -1,4 +1,4 @@
-use Rattle.sy_board.proofs.relay.Excluded.{enter_or_expire, fail_or_give_up, held_enters, held_expires, post_or_lose}
+use Rattle.sy_board.proofs.relay.Excluded.{enter_or_expire, fail_or_give_up, held_enters, held_expires, held_loses, held_posts, post_or_lose}
 use Rattle.sy_board.proofs.relay.steps_exclude.Goals as goal
 
 pub returns-clause-hand : goal.returns-clause-hand
@@ -15,6 +15,12 @@ returns-clause-held_enters c = held_enters
 
 pub returns-clause-held_expires : goal.returns-clause-held_expires
 returns-clause-held_expires c = held_expires
+
+pub returns-clause-held_posts : goal.returns-clause-held_posts
+returns-clause-held_posts c = held_posts
+
+pub returns-clause-held_loses : goal.returns-clause-held_loses
+returns-clause-held_loses c = held_loses
 
 pub returns-clause-grab : goal.returns-clause-grab
 returns-clause-grab c = λ plan old worker lost new grabs. grabs.some

@@ -23,8 +23,8 @@ fn is_guarded_loss(lost: bool, plan: &Plan, guard: &Option<Guard>, node: &Node) 
     lost && is_guarded(plan, guard, node)
 }
 
-// Whether a message stays in its hand.
-fn holds(hold: Hold) -> bool
+// Whether a message can't be put into the queue: it stays in its hand, or its post is still to be done.
+pub(super) fn holds(hold: Hold) -> bool
     ensures { result ≡ is_holding hold }
 {
     match hold {
@@ -33,8 +33,8 @@ fn holds(hold: Hold) -> bool
     }
 }
 
-// Whether a message that stays in its hand may be lost there.
-fn expires(hold: Hold) -> bool
+// Whether a message that can't be put into the queue may be lost for that.
+pub(super) fn expires(hold: Hold) -> bool
     ensures { result ≡ is_expiring hold }
 {
     match hold {
