@@ -10,7 +10,7 @@ use Rattle.sy_cert.specs.declared.fault.FaultCode.TheVariants as code
 use Rattle.sy_cert.specs.declared.kinds.Kind.{Kind}
 use Rattle.sy_cert.specs.declared.row.Row.{Row}
 use Rattle.sy_cert.specs.declared.row.Row.TheVariants as row
-use Rattle.sy_cert.specs.Faults.{HasShape, IsClassLine, IsPathLine, IsRelayLine, words_in}
+use Rattle.sy_cert.specs.Faults.{HasShape, IsClassLine, IsInnerLine, IsPathLine, IsRelayLine, words_in}
 use Rattle.sy_cert.specs.Reading.{AreUnread, IsNotTaken, IsUnread}
 use Rattle.sy_cert.specs.Rows.{AreOccurrences, IsPort, IsRow, kind, last_from, words}
 
@@ -40,6 +40,9 @@ after_second ws = after_first (after_first ws)
 abbrev pub third : List (List ℕ) → List ℕ
 third ws = first (after_second ws)
 
+abbrev pub fourth : List (List ℕ) → List ℕ
+fourth ws = first (after_second (after_first ws))
+
 abbrev pub after_fifth : List (List ℕ) → List (List ℕ)
 after_fifth ws = after_second (after_second (after_first ws))
 
@@ -55,6 +58,7 @@ class_unwritten version ws w h none (row.Class c) is e =
 class_unwritten version ws w h none (row.Reach relay port) is e = apart (codes "reach") (codes "class") refl (ap first e)
 class_unwritten version ws w h none (row.Branch relay port) is e = apart (codes "branch") (codes "class") refl (ap first e)
 class_unwritten version ws w h none (row.Rank relay rank) is e = apart (codes "rank") (codes "class") refl (ap first e)
+class_unwritten version ws w h none (row.Inner relay list number) is e = apart (codes "inner") (codes "class") refl (ap first e)
 class_unwritten version ws w h none (row.Path relay port archive action ns) is e = apart (codes "path") (codes "class") refl (ap first e)
 
 pub reach_unwritten : (version : ℕ) (ws : List (List ℕ)) (relay w : List ℕ) → IsRelayLine (codes "reach") (codes "reach" ∷ ws) relay w
@@ -63,6 +67,7 @@ reach_unwritten version ws relay w h none (row.Class c) is e = apart (codes "cla
 reach_unwritten version ws relay w h none (row.Reach name port) is e = none port is.1 (ap third (sym h.whole ∙ sym e))
 reach_unwritten version ws relay w h none (row.Branch name port) is e = apart (codes "branch") (codes "reach") refl (ap first e)
 reach_unwritten version ws relay w h none (row.Rank name rank) is e = apart (codes "rank") (codes "reach") refl (ap first e)
+reach_unwritten version ws relay w h none (row.Inner name list number) is e = apart (codes "inner") (codes "reach") refl (ap first e)
 reach_unwritten version ws relay w h none (row.Path name port archive action ns) is e = apart (codes "path") (codes "reach") refl (ap first e)
 
 pub branch_unwritten : (version : ℕ) (ws : List (List ℕ)) (relay w : List ℕ) → IsRelayLine (codes "branch") (codes "branch" ∷ ws) relay w
@@ -71,6 +76,7 @@ branch_unwritten version ws relay w h none (row.Class c) is e = apart (codes "cl
 branch_unwritten version ws relay w h none (row.Reach name port) is e = apart (codes "reach") (codes "branch") refl (ap first e)
 branch_unwritten version ws relay w h none (row.Branch name port) is e = none port is.2 (ap third (sym h.whole ∙ sym e))
 branch_unwritten version ws relay w h none (row.Rank name rank) is e = apart (codes "rank") (codes "branch") refl (ap first e)
+branch_unwritten version ws relay w h none (row.Inner name list number) is e = apart (codes "inner") (codes "branch") refl (ap first e)
 branch_unwritten version ws relay w h none (row.Path name port archive action ns) is e = apart (codes "path") (codes "branch") refl (ap first e)
 
 pub rank_unwritten : (version : ℕ) (ws : List (List ℕ)) (relay w : List ℕ) → IsRelayLine (codes "rank") (codes "rank" ∷ ws) relay w
@@ -79,7 +85,18 @@ rank_unwritten version ws relay w h none (row.Class c) is e = apart (codes "clas
 rank_unwritten version ws relay w h none (row.Reach name port) is e = apart (codes "reach") (codes "rank") refl (ap first e)
 rank_unwritten version ws relay w h none (row.Branch name port) is e = apart (codes "branch") (codes "rank") refl (ap first e)
 rank_unwritten version ws relay w h none (row.Rank name rank) is e = none rank is.1 (ap third (sym h.whole ∙ sym e))
+rank_unwritten version ws relay w h none (row.Inner name list number) is e = apart (codes "inner") (codes "rank") refl (ap first e)
 rank_unwritten version ws relay w h none (row.Path name port archive action ns) is e = apart (codes "path") (codes "rank") refl (ap first e)
+
+pub inner_unwritten : (version : ℕ) (ws : List (List ℕ)) (relay v w : List ℕ) → IsInnerLine (codes "inner" ∷ ws) relay v w
+    → ((m n : ℕ) → m ≤ 4294967295 → n ≤ 4294967295 → v ≡ decimal m → w ≡ decimal n → ⊥) → IsUnwritten version (codes "inner" ∷ ws)
+inner_unwritten version ws relay v w h none (row.Class c) is e = apart (codes "class") (codes "inner") refl (ap first e)
+inner_unwritten version ws relay v w h none (row.Reach name port) is e = apart (codes "reach") (codes "inner") refl (ap first e)
+inner_unwritten version ws relay v w h none (row.Branch name port) is e = apart (codes "branch") (codes "inner") refl (ap first e)
+inner_unwritten version ws relay v w h none (row.Rank name rank) is e = apart (codes "rank") (codes "inner") refl (ap first e)
+inner_unwritten version ws relay v w h none (row.Inner name list number) is e =
+    none list number is.1 is.2 (ap third (sym h.whole ∙ sym e)) (ap fourth (sym h.whole ∙ sym e))
+inner_unwritten version ws relay v w h none (row.Path name port archive action ns) is e = apart (codes "path") (codes "inner") refl (ap first e)
 
 pub path_unwritten : (version : ℕ) (ws : List (List ℕ)) (relay port archive action : List ℕ) (way : List (List ℕ))
     → IsPathLine (codes "path" ∷ ws) relay port archive action way
@@ -89,6 +106,7 @@ path_unwritten version ws relay port archive action way h none (row.Class c) is 
 path_unwritten version ws relay port archive action way h none (row.Reach name n) is e = apart (codes "reach") (codes "path") refl (ap first e)
 path_unwritten version ws relay port archive action way h none (row.Branch name n) is e = apart (codes "branch") (codes "path") refl (ap first e)
 path_unwritten version ws relay port archive action way h none (row.Rank name n) is e = apart (codes "rank") (codes "path") refl (ap first e)
+path_unwritten version ws relay port archive action way h none (row.Inner name list number) is e = apart (codes "inner") (codes "path") refl (ap first e)
 path_unwritten version ws relay port archive action way h none (row.Path name n other name_of ns) is e =
     none n ns is.1 is.4 (ap third (sym h.whole ∙ sym e)) (ap after_fifth (e ∙ h.whole))
 
@@ -108,6 +126,7 @@ no_branch version ws other (HasShape.class_line class h) = apart (codes "branch"
 no_branch version ws other (HasShape.reach_line relay port h) = apart (codes "branch") (codes "reach") refl (ap first h.whole)
 no_branch version ws other (HasShape.branch_line relay port is h) = other is
 no_branch version ws other (HasShape.rank_line relay rank h) = apart (codes "branch") (codes "rank") refl (ap first h.whole)
+no_branch version ws other (HasShape.inner_line relay list number h) = apart (codes "branch") (codes "inner") refl (ap first h.whole)
 no_branch version ws other (HasShape.path_line relay port archive action way h) = apart (codes "branch") (codes "path") refl (ap first h.whole)
 
 -- a line that is no row's is not taken

@@ -86,12 +86,13 @@ way_lacks : (c : ℕ) (ns : List ℕ) → is_ascii_digit c ≡ false → AreOccu
 way_lacks c [] out h = tt
 way_lacks c (n ∷ ns) out h = (digits_lack c n out (omega (arith, h.0)), way_lacks c ns out h.1)
 
--- none of the five words has the mark, nor do names and numbers
+-- none of the six words has the mark, nor do names and numbers
 record IsMark (c : ℕ) : Type 0 where
   class : Lacks c (codes "class")
   reach : Lacks c (codes "reach")
   branch : Lacks c (codes "branch")
   rank : Lacks c (codes "rank")
+  inner : Lacks c (codes "inner")
   path : Lacks c (codes "path")
   digit : is_ascii_digit c ≡ false
   name : is_name_byte c ≡ false
@@ -102,6 +103,13 @@ row_lacks version c m (row.Class k) h = (m.class, (digits_lack c (8 * k.facility
 row_lacks version c m (row.Reach relay port) h = (m.reach, (name_lacks c relay m.name h.0, (digits_lack c port m.digit (omega (arith, h.1.1)), tt)))
 row_lacks version c m (row.Branch relay port) h = (m.branch, (name_lacks c relay m.name h.1, (digits_lack c port m.digit (omega (arith, h.2.1)), tt)))
 row_lacks version c m (row.Rank relay rank) h = (m.rank, (name_lacks c relay m.name h.0, (digits_lack c rank m.digit (omega (arith, h.1)), tt)))
+row_lacks version c m (row.Inner relay list number) h = (
+  m.inner,
+  (
+    name_lacks c relay m.name h.0,
+    (digits_lack c list m.digit (omega (arith, h.1)), (digits_lack c number m.digit (omega (arith, h.2)), tt)),
+  ),
+)
 row_lacks version c m (row.Path relay port archive action ns) h = (
   m.path,
   (
@@ -119,6 +127,7 @@ space = record {
   reach = (refl, (refl, (refl, (refl, (refl, tt)))));
   branch = (refl, (refl, (refl, (refl, (refl, (refl, tt))))));
   rank = (refl, (refl, (refl, (refl, tt))));
+  inner = (refl, (refl, (refl, (refl, (refl, tt)))));
   path = (refl, (refl, (refl, (refl, tt))));
   digit = refl;
   name = refl;
@@ -131,6 +140,7 @@ feed = record {
   reach = (refl, (refl, (refl, (refl, (refl, tt)))));
   branch = (refl, (refl, (refl, (refl, (refl, (refl, tt))))));
   rank = (refl, (refl, (refl, (refl, tt))));
+  inner = (refl, (refl, (refl, (refl, (refl, tt)))));
   path = (refl, (refl, (refl, (refl, tt))));
   digit = refl;
   name = refl;
@@ -142,6 +152,7 @@ some_words (row.Class c) = (_, _, refl)
 some_words (row.Reach relay port) = (_, _, refl)
 some_words (row.Branch relay port) = (_, _, refl)
 some_words (row.Rank relay rank) = (_, _, refl)
+some_words (row.Inner relay list number) = (_, _, refl)
 some_words (row.Path relay port archive action ns) = (_, _, refl)
 
 pub words_of_line : (version : ℕ) (r : Row) → IsRow version r → words_in (line r) ≡ words r
@@ -171,6 +182,13 @@ row_shape version (row.Class c) h = HasShape.class_line (decimal (8 * c.facility
 row_shape version (row.Reach relay port) h = HasShape.reach_line relay (decimal port) (record { whole = refl; relay_is = h.0; number_is = numeral port (omega (arith, h.1.1)) })
 row_shape version (row.Branch relay port) h = HasShape.branch_line relay (decimal port) h.0 (record { whole = refl; relay_is = h.1; number_is = numeral port (omega (arith, h.2.1)) })
 row_shape version (row.Rank relay rank) h = HasShape.rank_line relay (decimal rank) (record { whole = refl; relay_is = h.0; number_is = numeral rank (omega (arith, h.1)) })
+row_shape version (row.Inner relay list number) h =
+    HasShape.inner_line relay (decimal list) (decimal number) (record {
+      whole = refl;
+      relay_is = h.0;
+      list_is = numeral list (omega (arith, h.1));
+      number_is = numeral number (omega (arith, h.2));
+    })
 row_shape version (row.Path relay port archive action ns) h =
     HasShape.path_line relay (decimal port) archive action (map decimal ns) (record {
       whole = refl;

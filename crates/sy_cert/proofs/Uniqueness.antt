@@ -16,7 +16,7 @@ use Rattle.sy_cert.specs.declared.row.Row.{Row}
 use Rattle.sy_cert.specs.declared.row.Row.TheVariants as row
 use Rattle.sy_cert.specs.Faults.{BeginsWith, HasFault, HasShape, IsFaulty, Lacks, line_after, words_in}
 use Rattle.sy_cert.specs.Rows.{AreOccurrences, AreRows, IsCertificate, IsRow, IsVersion, head, kind, last_from, last_kind, line, lines, may_follow, text, words}
-use Rattle.sy_cert.proofs.RowLines.{after_fifth, after_first, after_second, apart, first, second, third}
+use Rattle.sy_cert.proofs.RowLines.{after_fifth, after_first, after_second, apart, first, fourth, second, third}
 use Rattle.sy_cert.proofs.Texts.{head_lacks, lacks_not, line_lacks, one_cut, one_head, row_shape, words_of_line}
 
 -- ---- rows with the same words
@@ -47,9 +47,6 @@ one_way (m ∷ ms) (n ∷ ns) are also e =
     let same : m ≡ n = one_number m n (omega (arith, are.0)) (omega (arith, also.0)) (ap first e) in
     ap (λ k. k ∷ ms) same ∙ ap (λ ks. n ∷ ks) (one_way ms ns are.1 also.1 (ap after_first e))
 
-abbrev fourth : List (List ℕ) → List ℕ
-fourth ws = first (after_second (after_first ws))
-
 abbrev fifth : List (List ℕ) → List ℕ
 fifth ws = first (after_second (after_second ws))
 
@@ -66,34 +63,51 @@ same_branch relay relay' port port' e0 e1 = cc
 same_rank : (relay relay' : List ℕ) (rank rank' : ℕ) → relay ≡ relay' → rank ≡ rank' → row.Rank relay rank ≡ row.Rank relay' rank'
 same_rank relay relay' rank rank' e0 e1 = cc
 
+same_inner : (relay relay' : List ℕ) (list list' number number' : ℕ) → relay ≡ relay' → list ≡ list' → number ≡ number'
+    → row.Inner relay list number ≡ row.Inner relay' list' number'
+same_inner relay relay' list list' number number' e0 e1 e2 = cc
+
 pub one_row : (version : ℕ) (r s : Row) → IsRow version r → IsRow version s → words r ≡ words s → r ≡ s
 one_row version (row.Class c) (row.Class d) h g e =
     ap row.Class (one_class c d (one_number (8 * c.facility + c.severity) (8 * d.facility + d.severity) (omega (arith, h.0, h.1)) (omega (arith, g.0, g.1)) (ap second e)))
 one_row version (row.Class c) (row.Reach relay' port') h g e = absurd (apart (codes "class") (codes "reach") refl (ap first e))
 one_row version (row.Class c) (row.Branch relay' port') h g e = absurd (apart (codes "class") (codes "branch") refl (ap first e))
 one_row version (row.Class c) (row.Rank relay' rank') h g e = absurd (apart (codes "class") (codes "rank") refl (ap first e))
+one_row version (row.Class c) (row.Inner relay' list' number') h g e = absurd (apart (codes "class") (codes "inner") refl (ap first e))
 one_row version (row.Class c) (row.Path relay' port' archive' action' ns') h g e = absurd (apart (codes "class") (codes "path") refl (ap first e))
 one_row version (row.Reach relay port) (row.Class d) h g e = absurd (apart (codes "reach") (codes "class") refl (ap first e))
 one_row version (row.Reach relay port) (row.Reach relay' port') h g e =
     same_reach relay relay' port port' (ap second e) (one_number port port' (omega (arith, h.1.1)) (omega (arith, g.1.1)) (ap third e))
 one_row version (row.Reach relay port) (row.Branch relay' port') h g e = absurd (apart (codes "reach") (codes "branch") refl (ap first e))
 one_row version (row.Reach relay port) (row.Rank relay' rank') h g e = absurd (apart (codes "reach") (codes "rank") refl (ap first e))
+one_row version (row.Reach relay port) (row.Inner relay' list' number') h g e = absurd (apart (codes "reach") (codes "inner") refl (ap first e))
 one_row version (row.Reach relay port) (row.Path relay' port' archive' action' ns') h g e = absurd (apart (codes "reach") (codes "path") refl (ap first e))
 one_row version (row.Branch relay port) (row.Class d) h g e = absurd (apart (codes "branch") (codes "class") refl (ap first e))
 one_row version (row.Branch relay port) (row.Reach relay' port') h g e = absurd (apart (codes "branch") (codes "reach") refl (ap first e))
 one_row version (row.Branch relay port) (row.Branch relay' port') h g e =
     same_branch relay relay' port port' (ap second e) (one_number port port' (omega (arith, h.2.1)) (omega (arith, g.2.1)) (ap third e))
 one_row version (row.Branch relay port) (row.Rank relay' rank') h g e = absurd (apart (codes "branch") (codes "rank") refl (ap first e))
+one_row version (row.Branch relay port) (row.Inner relay' list' number') h g e = absurd (apart (codes "branch") (codes "inner") refl (ap first e))
 one_row version (row.Branch relay port) (row.Path relay' port' archive' action' ns') h g e = absurd (apart (codes "branch") (codes "path") refl (ap first e))
 one_row version (row.Rank relay rank) (row.Class d) h g e = absurd (apart (codes "rank") (codes "class") refl (ap first e))
 one_row version (row.Rank relay rank) (row.Reach relay' port') h g e = absurd (apart (codes "rank") (codes "reach") refl (ap first e))
 one_row version (row.Rank relay rank) (row.Branch relay' port') h g e = absurd (apart (codes "rank") (codes "branch") refl (ap first e))
 one_row version (row.Rank relay rank) (row.Rank relay' rank') h g e = same_rank relay relay' rank rank' (ap second e) (one_number rank rank' h.1 g.1 (ap third e))
+one_row version (row.Rank relay rank) (row.Inner relay' list' number') h g e = absurd (apart (codes "rank") (codes "inner") refl (ap first e))
 one_row version (row.Rank relay rank) (row.Path relay' port' archive' action' ns') h g e = absurd (apart (codes "rank") (codes "path") refl (ap first e))
+one_row version (row.Inner relay list number) (row.Class d) h g e = absurd (apart (codes "inner") (codes "class") refl (ap first e))
+one_row version (row.Inner relay list number) (row.Reach relay' port') h g e = absurd (apart (codes "inner") (codes "reach") refl (ap first e))
+one_row version (row.Inner relay list number) (row.Branch relay' port') h g e = absurd (apart (codes "inner") (codes "branch") refl (ap first e))
+one_row version (row.Inner relay list number) (row.Rank relay' rank') h g e = absurd (apart (codes "inner") (codes "rank") refl (ap first e))
+one_row version (row.Inner relay list number) (row.Inner relay' list' number') h g e =
+    same_inner relay relay' list list' number number' (ap second e) (one_number list list' h.1 g.1 (ap third e))
+    (one_number number number' h.2 g.2 (ap fourth e))
+one_row version (row.Inner relay list number) (row.Path relay' port' archive' action' ns') h g e = absurd (apart (codes "inner") (codes "path") refl (ap first e))
 one_row version (row.Path relay port archive action ns) (row.Class d) h g e = absurd (apart (codes "path") (codes "class") refl (ap first e))
 one_row version (row.Path relay port archive action ns) (row.Reach relay' port') h g e = absurd (apart (codes "path") (codes "reach") refl (ap first e))
 one_row version (row.Path relay port archive action ns) (row.Branch relay' port') h g e = absurd (apart (codes "path") (codes "branch") refl (ap first e))
 one_row version (row.Path relay port archive action ns) (row.Rank relay' rank') h g e = absurd (apart (codes "path") (codes "rank") refl (ap first e))
+one_row version (row.Path relay port archive action ns) (row.Inner relay' list' number') h g e = absurd (apart (codes "path") (codes "inner") refl (ap first e))
 one_row version (row.Path relay port archive action ns) (row.Path relay' port' archive' action' ns') h g e =
     same_path relay relay' archive archive' action action' ns ns' port port' (ap second e)
     (one_number port port' (omega (arith, h.1.1)) (omega (arith, g.1.1)) (ap third e)) (ap fourth e) (ap fifth e)

@@ -47,6 +47,13 @@ pub record IsRelayLine (word : List ℕ) (line : List (List ℕ)) (relay number 
   pub relay_is : is_name relay ≡ true
   pub number_is : is_numeral number ≡ true
 
+-- inner RELAY NUMBER NUMBER
+pub record IsInnerLine (line : List (List ℕ)) (relay list number : List ℕ) : Type 0 where
+  pub whole : line ≡ codes "inner" ∷ relay ∷ list ∷ number ∷ []
+  pub relay_is : is_name relay ≡ true
+  pub list_is : is_numeral list ≡ true
+  pub number_is : is_numeral number ≡ true
+
 -- path RELAY PORT RELAY ACTION NUMBER..
 pub record IsPathLine (line : List (List ℕ)) (relay port archive_relay action : List ℕ) (occurrences : List (List ℕ)) : Type 0 where
   pub whole : line ≡ codes "path" ∷ relay ∷ port ∷ archive_relay ∷ action ∷ occurrences
@@ -62,6 +69,7 @@ pub data HasShape (version : ℕ) (line : List (List ℕ)) : Type 0 where
   reach_line : (relay port : List ℕ) → IsRelayLine (codes "reach") line relay port → HasShape version line
   branch_line : (relay port : List ℕ) → version ≡ 2 → IsRelayLine (codes "branch") line relay port → HasShape version line
   rank_line : (relay rank : List ℕ) → IsRelayLine (codes "rank") line relay rank → HasShape version line
+  inner_line : (relay list number : List ℕ) → IsInnerLine line relay list number → HasShape version line
   path_line : (relay port archive_relay action : List ℕ) (occurrences : List (List ℕ)) → IsPathLine line relay port archive_relay action occurrences
       → HasShape version line
 

@@ -16,6 +16,7 @@ words (row.Class c) = codes "class" ∷ decimal (8 * c.facility + c.severity) �
 words (row.Reach relay port) = codes "reach" ∷ relay ∷ decimal port ∷ []
 words (row.Branch relay port) = codes "branch" ∷ relay ∷ decimal port ∷ []
 words (row.Rank relay rank) = codes "rank" ∷ relay ∷ decimal rank ∷ []
+words (row.Inner relay list number) = codes "inner" ∷ relay ∷ decimal list ∷ decimal number ∷ []
 words (row.Path relay port archive_relay action occurrences) =
     codes "path" ∷ relay ∷ decimal port ∷ archive_relay ∷ action ∷ map decimal occurrences
 
@@ -81,6 +82,7 @@ IsRow version (row.Class c) = (c.facility < 24) × (c.severity < 8)
 IsRow version (row.Reach relay port) = (is_name relay ≡ true) × IsPort port
 IsRow version (row.Branch relay port) = (version ≡ 2) × (is_name relay ≡ true) × IsPort port
 IsRow version (row.Rank relay rank) = (is_name relay ≡ true) × (rank ≤ 4294967295)
+IsRow version (row.Inner relay list number) = (is_name relay ≡ true) × (list ≤ 4294967295) × (number ≤ 4294967295)
 IsRow version (row.Path relay port archive_relay action occurrences) =
     (is_name relay ≡ true) × IsPort port × (is_name archive_relay ≡ true) × (is_action action ≡ true)
     × AreOccurrences occurrences
@@ -92,6 +94,7 @@ kind (row.Class c) = kinds.Class
 kind (row.Reach relay port) = kinds.Reach
 kind (row.Branch relay port) = kinds.Branch
 kind (row.Rank relay rank) = kinds.Rank
+kind (row.Inner relay list number) = kinds.Inner
 kind (row.Path relay port archive_relay action occurrences) = kinds.Path
 
 -- the kind of the last row, or of the first line
@@ -112,7 +115,10 @@ may_follow kinds.Reach kinds.Rank = true
 may_follow kinds.Branch kinds.Branch = true
 may_follow kinds.Branch kinds.Rank = true
 may_follow kinds.Rank kinds.Rank = true
+may_follow kinds.Rank kinds.Inner = true
 may_follow kinds.Rank kinds.Path = true
+may_follow kinds.Inner kinds.Inner = true
+may_follow kinds.Inner kinds.Path = true
 may_follow kinds.Path kinds.Path = true
 may_follow _ _ = false
 

@@ -43,8 +43,8 @@ impl Certificate {
     }
 
     /// Whether a row may follow the last one, by its kind: a class row the first line or a path row, a reach row a
-    /// class or a reach row, a branch row a reach or a branch row, a rank row a reach, a branch or a rank row, and a
-    /// path row a rank or a path row.
+    /// class or a reach row, a branch row a reach or a branch row, a rank row a reach, a branch or a rank row, an inner
+    /// row a rank or an inner row, and a path row a rank, an inner or a path row.
     pub fn may_follow(&self, row: &Row) -> bool
         ensures { result ≡ may_follow (last_kind self.now.rows) (kind row.now) }
     {

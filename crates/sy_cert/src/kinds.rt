@@ -5,7 +5,7 @@ ghost use Rattle.sy_cert.specs.Rows as spec;
 
 use crate::row::Row;
 
-/// The kinds of lines: the first line, and the five kinds of rows.
+/// The kinds of lines: the first line, and the six kinds of rows.
 #[derive(Clone, Copy)]
 pub enum Kind {
     Cert,
@@ -13,6 +13,7 @@ pub enum Kind {
     Reach,
     Branch,
     Rank,
+    Inner,
     Path,
 }
 
@@ -25,6 +26,7 @@ pub fn kind_of(row: &Row) -> Kind
         Row::Reach { .. } => Kind::Reach,
         Row::Branch { .. } => Kind::Branch,
         Row::Rank { .. } => Kind::Rank,
+        Row::Inner { .. } => Kind::Inner,
         Row::Path { .. } => Kind::Path,
     }
 }
@@ -48,7 +50,8 @@ pub fn follows(before: Kind, kind: Kind) -> bool
         (Kind::Class | Kind::Reach, Kind::Reach) => true,
         (Kind::Reach | Kind::Branch, Kind::Branch) => true,
         (Kind::Reach | Kind::Branch | Kind::Rank, Kind::Rank) => true,
-        (Kind::Rank | Kind::Path, Kind::Path) => true,
+        (Kind::Rank | Kind::Inner, Kind::Inner) => true,
+        (Kind::Rank | Kind::Inner | Kind::Path, Kind::Path) => true,
         _ => false,
     }
 }

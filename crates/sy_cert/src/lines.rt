@@ -16,6 +16,14 @@ pub struct RelayLine<'t> {
     pub number: &'t [u8],
 }
 
+/// A line with a relay's name, the number of a list there, and the list's number.
+#[derive(Clone, Copy)]
+pub struct InnerLine<'t> {
+    pub relay: &'t [u8],
+    pub list: &'t [u8],
+    pub number: &'t [u8],
+}
+
 /// A line of a path; its occurrences are the words that are left.
 #[derive(Clone, Copy)]
 pub struct PathLine<'t> {
@@ -60,6 +68,27 @@ pub fn relay_line(rest: Option<&[u8]>) -> Option<RelayLine<'_>>
     let number = only_word(rest)?;
     if is_name(relay) && is_numeral(number) {
         Some(RelayLine { relay, number })
+    } else {
+        None
+    }
+}
+
+/// The words of an inner line, of what is after its first word.
+pub fn inner_line(rest: Option<&[u8]>) -> Option<InnerLine<'_>>
+    ensures some { IfSome result (λ it. faults.IsInnerLine (codes "inner" ∷ words_left (option_copied rest.entry))
+        it.relay.now it.list.now it.number.now) }
+    ensures none { IfNone result ((relay list number : List ℕ)
+        → faults.IsInnerLine (codes "inner" ∷ words_left (option_copied rest.entry)) relay list number → ⊥) }
+{
+    let (relay, rest) = next_word(rest)?;
+    let (list, rest) = next_word(rest)?;
+    let number = only_word(rest)?;
+    if is_name(relay) && is_numeral(list) && is_numeral(number) {
+        Some(InnerLine {
+            relay,
+            list,
+            number,
+        })
     } else {
         None
     }

@@ -10,7 +10,7 @@ ghost use Rattle.sy_cert.specs.Reading.{AreUnread, IsNotTaken, IsRowOf, IsTaken,
 
 use crate::certificate::Certificate;
 use crate::fault::FaultCode;
-use crate::lines::{PathLine, class_line, path_line, relay_line};
+use crate::lines::{PathLine, class_line, inner_line, path_line, relay_line};
 use crate::row::Row;
 use crate::words::{first_word, next_word, number};
 use std::alloc::Global;
@@ -25,6 +25,9 @@ const MOST_PORT: u32 = 65_535;
 
 /// The highest rank.
 const MOST_RANK: u32 = u32::MAX;
+
+/// The highest number of a list, and the highest that an inner row gives it.
+const MOST_INNER: u32 = u32::MAX;
 
 /// The version of certificates that have branch rows.
 const BRANCH_VERSION: u32 = 2;
@@ -129,6 +132,32 @@ fn rank_row(alloc: Global, rest: Option<&[u8]>) -> Result<Row, FaultCode>
     }
 }
 
+// The row of an inner line, of what is after its first word.
+fn inner_row(alloc: Global, rest: Option<&[u8]>) -> Result<Row, FaultCode>
+    ensures ok { (version : ℕ) → IfOk result (λ r.
+        IsRowOf version (codes "inner" ∷ words_left (option_copied rest.entry)) r) }
+    ensures err { (version : ℕ) → IfErr result (λ code.
+        IsUnread version (codes "inner" ∷ words_left (option_copied rest.entry)) code) }
+{
+    match inner_line(rest) {
+        Some(line) => match number(line.list, MOST_INNER) {
+            Some(list) => match number(line.number, MOST_INNER) {
+                Some(number) => match copy(alloc, line.relay) {
+                    Ok(relay) => Ok(Row::Inner {
+                        relay,
+                        list,
+                        number,
+                    }),
+                    Err(code) => Err(code),
+                },
+                None => Err(FaultCode::Number),
+            },
+            None => Err(FaultCode::Number),
+        },
+        None => Err(FaultCode::Line),
+    }
+}
+
 // The occurrences that the words that are left write.
 fn occurrences(alloc: Global, rest: Option<&[u8]>) -> Result<Items<u8>, FaultCode>
     ensures ok { IfOk result (λ it. AreOccurrences it × (map decimal it ≡ words_left (option_copied rest.entry))) }
@@ -207,6 +236,9 @@ fn row_of(alloc: Global, version: u32, line: &[u8]) -> Result<Row, FaultCode>
     }
     if first == b"rank".as_slice() {
         return rank_row(alloc, rest);
+    }
+    if first == b"inner".as_slice() {
+        return inner_row(alloc, rest);
     }
     if first == b"path".as_slice() {
         return path_row(alloc, rest);

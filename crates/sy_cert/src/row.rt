@@ -9,7 +9,7 @@ use sy_wire::Class;
 pub enum Row {
     /// a protected class, of which the rows after it speak
     Class(Class),
-    /// a relay and the port of an input that messages of the class reach
+    /// a relay and the port of an input that messages of the class reach, in version 2 without a spare action
     Reach {
         relay: Items<u8>,
         port: u16,
@@ -24,8 +24,15 @@ pub enum Row {
         relay: Items<u8>,
         rank: u32,
     },
+    /// a relay and the number of a list there that posts lead such messages to, and a number that is above those of the
+    /// lists that its own posts lead them to
+    Inner {
+        relay: Items<u8>,
+        list: u32,
+        number: u32,
+    },
     /// an entry's relay and port, the archive's relay and its action's name there (of any bytes but space, tab and LF),
-    /// and the occurrences of the forwards from the one to the other, each below 64
+    /// and the occurrences of the posts and forwards from the one to the other, each below 64
     Path {
         relay: Items<u8>,
         port: u16,

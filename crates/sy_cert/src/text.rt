@@ -63,6 +63,16 @@ fn push_row(text: &mut Vec<u8>, row: &Row) -> Result<(), AllocError>
             push_word(text, relay.as_slice())?;
             push_number(text, *rank)?;
         }
+        Row::Inner {
+            relay,
+            list,
+            number,
+        } => {
+            text.extend_from_slice(b"inner")?;
+            push_word(text, relay.as_slice())?;
+            push_number(text, *list)?;
+            push_number(text, *number)?;
+        }
         Row::Path {
             relay,
             port,

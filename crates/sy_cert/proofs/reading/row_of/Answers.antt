@@ -30,6 +30,12 @@ returns-then-eq-4-clause-err c =
 
 pub returns-then-eq-5-clause-err : goal.returns-then-eq-5-clause-err
 returns-then-eq-5-clause-err c =
+    subst (λ ws. IfErr c.inner_row.result (λ code. IsUnread c.args.version ws code))
+    (sym (begins c.args.line.now c.first_word.result.0.now c.as_slice-5.result.now (codes "inner") _ c.eq-5.result c.first_word.ensures
+    c.eq-5.ensures c.if-eq-5.true c.as_slice-5.ensures)) (c.inner_row.ensures.err c.args.version)
+
+pub returns-then-eq-6-clause-err : goal.returns-then-eq-6-clause-err
+returns-then-eq-6-clause-err c =
     subst (λ ws. IfErr c.path_row.result (λ code. IsUnread c.args.version ws code))
-    (sym (begins c.args.line.now c.first_word.result.0.now c.as_slice-5.result.now (codes "path") _ c.eq-5.result c.first_word.ensures
-    c.eq-5.ensures c.if-eq-5.true c.as_slice-5.ensures)) (c.path_row.ensures.err c.args.version)
+    (sym (begins c.args.line.now c.first_word.result.0.now c.as_slice-6.result.now (codes "path") _ c.eq-6.result c.first_word.ensures
+    c.eq-6.ensures c.if-eq-6.true c.as_slice-6.ensures)) (c.path_row.ensures.err c.args.version)
