@@ -1,13 +1,14 @@
 //! Runs of sites that aren't sound, at whose end a message of a protected class isn't safe, or a copy not confined: for
-//! each part of these one at whose end that part alone is wanting. Each function does nothing; its contract is the law.
-ghost use Rattle.std.specs.Prelude.{◌≡◌, ◌↔◌, take};
+//! each part of these one at whose end that part alone is wanting, but for reach and for what is due. Each function does nothing; its contract is the law.
+ghost use Rattle.std.specs.Prelude.{◌≡◌, ◌↔◌, false, take};
 ghost use Rattle.sy_wire.specs.declared.class.Class.{Class};
+ghost use Rattle.sy_board.specs.relay.Steps.{Event};
 ghost use Rattle.sy_site.specs.Sites.{Site};
 ghost use Rattle.sy_site.specs.machine.States.{SiteState};
 ghost use Rattle.sy_site.specs.machine.Soundness.{IsSoundFor};
 ghost use Rattle.sy_site.specs.machine.Confinement.{AreConfined};
 ghost use Rattle.sy_site.specs.machine.Safety.{AreSafe};
-ghost use Rattle.sy_site.specs.machine.Counterexamples.{Bound, Bounds, EndsUnconfined, EndsUnsafe, Holds, Part, aimless_events, aimless_site, changing_events, changing_site, circling_events, circling_site, hasty_events, hasty_site, moving_events, moving_site, silent_events, silent_site, spared_events, spared_site, stray_site, twice_events, twice_site};
+ghost use Rattle.sy_site.specs.machine.Counterexamples.{Bound, Bounds, EndsUnconfined, EndsUnsafe, Holds, Part, aimless_events, aimless_site, changing_events, changing_site, circling_events, circling_site, discarding_queue, hasty_events, hasty_site, leaking_events, leaking_site, moving_events, moving_site, silent_events, silent_site, spared_events, spared_site, stray_site, turning_site, twice_events, twice_site, unmarked_queue};
 
 /// Safe is its four parts, and confined its seven.
 pub fn parts_are_the_whole()
@@ -20,6 +21,15 @@ pub fn parts_are_the_whole()
 pub fn a_lost_copy_isnt_safe()
     ensures { (class : Class) → class.facility ≡ 4 → class.severity ≡ 2
         → EndsUnsafe hasty_site (hasty_events class) Part.NotLost }
+{}
+
+/// Nor is one with a lost post into a queue in which posts wait: neither where that queue is full and has no full-delay
+/// mark, nor where it discards.
+pub fn a_lost_post_isnt_safe()
+    ensures without_a_mark { (class : Class) → class.facility ≡ 4 → class.severity ≡ 2
+        → EndsUnsafe (leaking_site unmarked_queue) (leaking_events class (Event.PostLost 1 false)) Part.NotLost }
+    ensures discarded { (class : Class) → class.facility ≡ 4 → class.severity ≡ 2
+        → EndsUnsafe (leaking_site discarding_queue) (leaking_events class (Event.Post 1)) Part.NotLost }
 {}
 
 /// A message that is neither written nor held where it heads for its archive isn't safe, though no copy of it is lost.
@@ -66,12 +76,12 @@ pub fn copies_on_such_links_arent_confined()
     ensures { (class : Class) → EndsUnconfined aimless_site class (aimless_events class) Bound.LinkLeads }
 {}
 
-/// A copy isn't confined where it follows another list than its input's.
+/// A copy isn't confined where it follows another list than its input's, and posts into that list's queue don't wait.
 pub fn copies_of_another_list_arent_confined()
     ensures { (class : Class) → EndsUnconfined changing_site class (changing_events class) Bound.OnList }
 {}
 
-/// A copy isn't confined in a queue that isn't its input's, nor with a worker of that queue.
+/// A copy isn't confined in a queue that isn't its input's and in which posts don't wait, nor with a worker of that queue.
 pub fn copies_at_such_places_arent_confined()
     ensures in_a_queue { (class : Class) → EndsUnconfined moving_site class (take 4 (moving_events class)) Bound.AtPlace }
     ensures with_a_worker { (class : Class) → EndsUnconfined moving_site class (moving_events class) Bound.AtPlace }
@@ -85,6 +95,17 @@ pub fn a_lost_copy_isnt_confined()
 /// A forward that leads nowhere is enough for a site not to be sound.
 pub fn a_forward_to_nowhere_isnt_sound()
     ensures { (class : Class) → IsSoundFor stray_site class → ⊥ }
+{}
+
+/// Nor is a site sound with a post into a queue in which posts wait, but that has no full-delay mark, or discards.
+pub fn a_queue_that_loses_posts_isnt_sound()
+    ensures without_a_mark { (class : Class) → IsSoundFor (leaking_site unmarked_queue) class → ⊥ }
+    ensures discarding { (class : Class) → IsSoundFor (leaking_site discarding_queue) class → ⊥ }
+{}
+
+/// Nor one in which posts go from queue to queue in a circle.
+pub fn a_circle_of_queues_isnt_sound()
+    ensures { (class : Class) → IsSoundFor turning_site class → ⊥ }
 {}
 
 /// Nor is a site sound in which spare actions alone lead to an archive that the policy names.

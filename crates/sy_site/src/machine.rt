@@ -1,6 +1,6 @@
 //! The machine of a whole site: laws of its runs. Steps and runs are definitions (`specs/machine`). Each function
 //! does nothing; its contract is the law.
-ghost use Rattle.std.specs.Prelude.{◌≡◌, ◌<◌, ◌||◌, ℕ, Bool, List, [], ◌∷◌, Some, true, false, length, slice_get};
+ghost use Rattle.std.specs.Prelude.{◌≡◌, ◌<◌, ◌⊎◌, AllPairs, ◌||◌, ◌↔◌, ℕ, Bool, List, [], ◌∷◌, Some, true, false, length, slice_get};
 ghost use Rattle.std.specs.Int.{bit_at};
 ghost use Rattle.std.specs.List.{Contains};
 ghost use Rattle.sy_wire.specs.Messages.{Said};
@@ -8,7 +8,7 @@ ghost use Rattle.sy_chain.specs.Entries.{Entry};
 ghost use Rattle.sy_rules.specs.declared.lists.occurrence.Occurrence.TheVariants as occurrence;
 ghost use Rattle.sy_rules.specs.Whole.{body_at};
 ghost use Rattle.sy_rules.specs.lists.Work.{May};
-ghost use Rattle.sy_board.specs.relay.Cells.{at, hand};
+ghost use Rattle.sy_board.specs.relay.Cells.{Cell, at, hand};
 ghost use Rattle.sy_board.specs.relay.Guards.{MayGuard};
 ghost use Rattle.sy_board.specs.relay.Spares.{Scope};
 ghost use Rattle.sy_board.specs.relay.Totals.{GuardState};
@@ -17,8 +17,8 @@ ghost use Rattle.sy_site.specs.Sites.{Site, SiteAction, SiteInput, does_spare, i
 ghost use Rattle.sy_site.specs.machine.States.{Copy, SiteState, is_flagged_at, is_flagged_on};
 ghost use Rattle.sy_site.specs.machine.Steps.{Runs, SiteEvent, SiteStep, TakesFrom, TakesNew};
 ghost use Rattle.sy_site.specs.machine.Lengths.{IsWithinMarks, IsWithinSizes};
-ghost use Rattle.sy_site.specs.machine.Findings.{IsFinding, IsForward, IsWay, Kind, WayRow};
-ghost use Rattle.sy_site.specs.machine.Reach.{Reach, Reaches, list_of, occurrence_at};
+ghost use Rattle.sy_site.specs.machine.Findings.{IsFinding, IsForward, IsInnerLoop, IsWay, Kind, WayRow};
+ghost use Rattle.sy_site.specs.machine.Reach.{Follows, MayDo, PostsOn, Reach, Reaches, list_of, occurrence_at};
 ghost use Rattle.sy_site.specs.machine.Soundness.{AreRanks, IsGuarded, IsSound, IsSoundFor};
 ghost use Rattle.sy_site.specs.machine.Confinement.{AreConfined, IsFollowed, RanksFall};
 ghost use Rattle.sy_site.specs.machine.Lawful.{IsLawful};
@@ -26,8 +26,8 @@ ghost use Rattle.sy_site.specs.machine.Safety.{AreSafe, AreWrittenOrHead, IsWrit
 ghost use Rattle.sy_site.specs.machine.Examples.{audit, example_events, example_site, narrow_events, narrow_site};
 ghost use Rattle.sy_site.specs.machine.Naming.{AreShaped, NumbersName, TagsName};
 
-/// The length bound: a queue whose feeders are all full-delay inputs, with a full-delay mark of at least 1, is never
-/// longer than that mark. It holds of every site and after every run, whatever comes from outside.
+/// The length bound: a queue whose feeders all wait at its full-delay mark, which is at least 1, is never longer than
+/// that mark. It holds of every site and after every run, whatever comes from outside.
 pub fn queues_stay_within_marks()
     ensures { (site : Site) → (events : List SiteEvent) → (state : SiteState)
         → Runs site events state → IsWithinMarks site state }
@@ -59,9 +59,10 @@ pub fn relays_keep_their_places()
 {}
 
 /// Confinement: where a site is sound for a class, its copies that came in at entries, but for flagged ones, are held at
-/// inputs that the class reaches without spare occurrences alone, each in a hand of its input, in the input's queue or by
-/// a worker of that queue, following the input's list; what is due of each the class may execute there; one on a link is
-/// on a link to an input that the class reaches so; and none is lost.
+/// inputs that the class reaches without spare occurrences alone: each in a hand of its input, in the input's queue or
+/// by a worker of that queue, following the input's list; or in the queue of a list that a post led it to, which can't
+/// lose it, or by a worker of that queue. What is due of each the class may execute there; one on a link is on a link
+/// to an input that the class reaches so; and none is lost.
 pub fn copies_are_confined()
     ensures { (site : Site) → (class : Class) → IsSoundFor site class → (events : List SiteEvent)
         → (state : SiteState) → Runs site events state → AreConfined site class state }
@@ -97,6 +98,26 @@ pub fn ranks_fall_along_trails()
         → RanksFall site class rank state }
 {}
 
+/// Where ranks fall, they do along the trail of a copy at a place, also of a flagged one, and its entry stands for an input
+/// that its class reaches with spare occurrences.
+pub fn ranks_fall_at_places()
+    ensures { (site : Site) → (class : Class) → (rank : ℕ → ℕ) → (state : SiteState) → RanksFall site class rank state
+        → (relay : ℕ) → (cell : Cell) → (entry : Entry) → Contains (at (state.relays relay) cell) entry → (copy : Copy)
+        → IsFollowed site state class entry.tag copy
+        → AllPairs (λ earlier later. rank later < rank earlier) copy.trail
+        × Reach site class Scope.Every (record { relay = relay; input = entry.input })
+        × Follows site class Scope.Every (record { relay = relay; input = entry.input }) entry.list }
+{}
+
+/// Likewise along the trail of a copy on a link or in a file; and what the link leads to, its class reaches so.
+pub fn ranks_fall_on_links()
+    ensures { (site : Site) → (class : Class) → (rank : ℕ → ℕ) → (state : SiteState) → RanksFall site class rank state
+        → (link : SiteAction) → (tag : ℕ) → Contains (state.passed link) tag → (copy : Copy)
+        → IsFollowed site state class tag copy
+        → AllPairs (λ earlier later. rank later < rank earlier) copy.trail
+        × ((to : SiteInput) → target site link ≡ Some to → Reach site class Scope.Every to) }
+{}
+
 /// Written or heading there: after every run of a sound site each message of a protected class that came from outside
 /// at an entry is, for each archive that is named for its class, written there, or held where it heads there, by a copy
 /// that isn't flagged.
@@ -129,6 +150,29 @@ pub fn reached_inputs()
         → (input : SiteInput) → Reach site class scope input → inside input ≡ true }
     ensures more { (site : Site) → (class : Class) → (input : SiteInput) → Reach site class Scope.Firm input
         → Reach site class Scope.Every input }
+{}
+
+/// The lists that messages of a class may follow from an input on are its own, and those that posts lead to from it. Posts
+/// that follow posts lead on.
+pub fn posts_lead_on()
+    ensures lists { (site : Site) → (class : Class) → (scope : Scope) → (input : SiteInput) → (list : ℕ)
+        → Follows site class scope input list
+        ↔ ((list ≡ list_of site input) ⊎ PostsOn site class scope input.relay (list_of site input) list) }
+    ensures onward { (site : Site) → (class : Class) → (scope : Scope) → (relay from mid to : ℕ)
+        → PostsOn site class scope relay from mid → PostsOn site class scope relay mid to
+        → PostsOn site class scope relay from to }
+    ensures from_its_own { (site : Site) → (class : Class) → (scope : Scope) → (input : SiteInput) → (list to : ℕ)
+        → Follows site class scope input list → PostsOn site class scope input.relay list to
+        → PostsOn site class scope input.relay (list_of site input) to }
+{}
+
+/// Where the numbers of the lists that posts lead to from an input's own list fall along their posts, but for spare ones,
+/// no list is met twice.
+pub fn numbers_exclude_inner_loops()
+    ensures { (site : Site) → (class : Class) → (input : SiteInput) → (inner : ℕ → ℕ)
+        → ((list number to : ℕ) → PostsOn site class Scope.Firm input.relay (list_of site input) list
+        → MayDo site class Scope.Firm input.relay list number (occurrence.Post to) → inner to < inner list)
+        → IsInnerLoop site class input → ⊥ }
 {}
 
 /// A flag is set by spare occurrences, and kept: what comes from outside isn't flagged; what an occurrence of a list puts
@@ -183,8 +227,8 @@ pub fn sound_sites_have_guards()
         → MayGuard (plan_at site relay) guard }
 {}
 
-/// The definitions are not empty: a run of a site of three relays, in which a message of any class comes to the first one
-/// and is written by the second; a copy of it, which a spare action forwarded to the third, is lost there.
+/// The definitions are not empty: a run of a site of three relays, in which a message of any class comes to the first one,
+/// through a queue in which posts wait, and is written by the second; a copy of it, which a spare action forwarded to the third, is lost there.
 pub fn a_message_is_written()
     ensures { (class : Class) → (state : SiteState)
         × Runs example_site (example_events class) state × IsWritten example_site state audit 0

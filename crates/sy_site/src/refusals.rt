@@ -1,11 +1,11 @@
 //! Events that are no steps: behind a run of a site the one that is named is refused, for one reason alone. Each function
 //! does nothing; its contract is the law.
-ghost use Rattle.std.specs.Prelude.{take, false};
+ghost use Rattle.std.specs.Prelude.{take, true, false};
 ghost use Rattle.sy_wire.specs.declared.class.Class.{Class};
 ghost use Rattle.sy_board.specs.relay.Steps.{Event};
 ghost use Rattle.sy_site.specs.machine.Steps.{SiteEvent};
 ghost use Rattle.sy_site.specs.machine.Examples.{edge_input, example_message, narrow_events, narrow_site};
-ghost use Rattle.sy_site.specs.machine.Refusals.{IsRefusedAfter, busy_events, marked_events, marked_site};
+ghost use Rattle.sy_site.specs.machine.Refusals.{IsRefusedAfter, busy_events, holding_site, marked_events, marked_site};
 
 /// A message comes to no hand that holds another one, nor to one that isn't there.
 pub fn takes_are_refused()
@@ -55,10 +55,18 @@ pub fn failures_are_refused()
         (SiteEvent.Inside 0 (Event.Fail 1 false)) }
 {}
 
-/// A message isn't posted into a full queue, nor is its post lost, for want of room, where there is room.
+/// A message isn't posted into a full queue, nor into one in which posts wait and that has come to its full-delay mark.
+/// Nor is its post lost for want of room where there is room, or where that mark holds it, nor for want of memory where
+/// posts wait.
 pub fn posts_are_refused()
     ensures full { (class : Class) → IsRefusedAfter narrow_site (take 9 (narrow_events class))
         (SiteEvent.Inside 0 (Event.Post 0)) }
+    ensures held { (class : Class) → IsRefusedAfter (holding_site 2) (take 9 (narrow_events class))
+        (SiteEvent.Inside 0 (Event.Post 0)) }
     ensures room { (class : Class) → IsRefusedAfter narrow_site (take 5 (narrow_events class))
         (SiteEvent.Inside 0 (Event.PostLost 0 false)) }
+    ensures held_full { (class : Class) → IsRefusedAfter (holding_site 1) (take 9 (narrow_events class))
+        (SiteEvent.Inside 0 (Event.PostLost 0 false)) }
+    ensures memory { (class : Class) → IsRefusedAfter (holding_site 2) (take 5 (narrow_events class))
+        (SiteEvent.Inside 0 (Event.PostLost 0 true)) }
 {}

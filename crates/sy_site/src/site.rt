@@ -87,7 +87,8 @@ impl Model for Site {
 }
 
 impl Site {
-    /// Each plan of a site is whole, its entries and archives are there, and it has no more relays than may be.
+    /// Each plan of a site is whole, its entries and archives are there, and it has no more relays than may be; its policy is 1 or 2, and each spare
+    /// action is there, of policy 2 alone, and no archive that is named.
     pub fn is_lawful(&self)
         ensures { IsLawful self.now }
     {

@@ -9,7 +9,7 @@ use Rattle.sy_site.specs.machine.States.{Copy, SiteState, opening, with_passed, 
 use Rattle.sy_site.specs.machine.Steps.{Runs, SiteEvent, SiteStep}
 use Rattle.sy_site.specs.machine.Examples.{edge_input, example_message, up}
 use Rattle.sy_site.specs.machine.Counterexamples.{aimless_events, aimless_plan, aimless_site}
-use Rattle.sy_site.proofs.machine.ExampleRun.{first_due, lowest}
+use Rattle.sy_site.proofs.machine.DueSets.{first_due, lowest}
 use Rattle.sy_site.proofs.machine.HastyRun as hasty
 
 module _ (class : Class) where

@@ -19,8 +19,9 @@ use Rattle.sy_site.specs.machine.Safety.{IsCopyOf, IsWrittenOrHeads}
 use Rattle.sy_site.specs.machine.Examples.{audit, edge_input, edge_plan, example_message, hub_input, up}
 use Rattle.sy_site.specs.machine.Counterexamples.{Holds, Part, back, circling_events, circling_plan, circling_site}
 use Rattle.sy_site.proofs.machine.EdgeRun as edge
-use Rattle.sy_site.proofs.machine.ExampleRun.{both_due, lowest_of_both, second_of_both}
-use Rattle.sy_site.proofs.machine.ExampleSound.{only_audit_is_named, two_differ}
+use Rattle.sy_site.proofs.machine.DueSets.{both_due, lowest_of_both, second_of_both}
+use Rattle.sy_site.proofs.machine.ExampleSound.{only_audit_is_named}
+use Rattle.sy_site.proofs.machine.ExampleWhole.{two_differ}
 use Rattle.sy_site.proofs.machine.Naming.{each_in}
 use Rattle.sy_site.proofs.machine.Parts.{none_there, of_one}
 use Rattle.sy_site.proofs.machine.Spread.{action_elim, some_same}

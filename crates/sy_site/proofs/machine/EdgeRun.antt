@@ -6,7 +6,7 @@ use Rattle.sy_board.specs.relay.Cells as cells
 use Rattle.sy_board.specs.relay.Cells.{Cell, RelayState, put, put_failures, hand}
 use Rattle.sy_board.specs.relay.Steps.{Enters, Grabs, Settles, Takes}
 use Rattle.sy_site.specs.machine.Examples.{edge_plan, example_message}
-use Rattle.sy_site.proofs.machine.ExampleRun.{first_due, lowest}
+use Rattle.sy_site.proofs.machine.DueSets.{first_due, lowest}
 
 module _ (class : Class) (tag : ℕ) where
   abbrev pub node : Entry

@@ -1,94 +1,16 @@
 -- A run of the example that writes a message.
-use Rattle.std.proofs.Common.{inr, ◌≡◌, ℕ, ◌<◌, ◌==◌, Bool, true, false, [], ◌∷◌, ◌++◌, refl, sym, subst, ap, arith, ◌∙◌}
-use Rattle.std.specs.Prelude.{◌||◌, ◌≢◌, drop}
-use Rattle.std.specs.Int.{bit_at}
-use Rattle.std.proofs.lemmas.Nat.Bits.{bit_at-suc, bit_at-zero, bit_at-pow_same, bit_at-pow_other}
-use Rattle.std.proofs.lemmas.Bool.{eqb-true, eqb-false}
+use Rattle.std.proofs.Common.{inr, ℕ, true, false, [], ◌∷◌, ◌++◌, refl, arith}
+use Rattle.std.specs.Prelude.{drop}
 use Rattle.sy_wire.specs.declared.class.Class.{Class}
 use Rattle.sy_chain.specs.Entries.{Entry}
-use Rattle.sy_rules.specs.lists.Body.{is_in}
-use Rattle.sy_rules.specs.lists.Sets.{Bits, IsLowest}
 use Rattle.sy_board.specs.relay.Cells as cells
 use Rattle.sy_board.specs.relay.Cells.{Cell, RelayState, put, put_failures, hand}
 use Rattle.sy_board.specs.relay.Steps.{Cause, Enters, Event, Fails, GivesUp, Grabs, Posts, Settles, Takes}
 use Rattle.sy_site.specs.Sites.{SiteAction}
 use Rattle.sy_site.specs.machine.States.{Copy, Loss, SiteState, off_link, opening, taken_by, with_passed, with_relay}
 use Rattle.sy_site.specs.machine.Steps.{Runs, SiteEvent, SiteStep, SiteSteps}
-use Rattle.sy_site.specs.machine.Examples.{audit, copying, copying_plan, edge_input, edge_plan, example_events, example_message, example_site, hub_input, mirror_input, mirror_plan, up}
-
--- the set of occurrence 0 alone
-pub only_first : (k : ℕ) → bit_at 1 k ≡ 1 → k ≡ 0
-only_first k e = go (k == 0) refl
-  where
-    go : (b : Bool) → (k == 0) ≡ b → k ≡ 0
-    go true t = eqb-true k 0 t
-    go false t = (let z : bit_at 1 k ≡ 0 = bit_at-pow_other 0 k (eqb-false k 0 t) in absurd (omega arith))
-
-one_in : (k : ℕ) → is_in k (0 ∷ []) ≡ true → bit_at 1 k ≡ 1
-one_in k i = go (0 == k) refl i
-  where
-    go : (b : Bool) → (0 == k) ≡ b → (b || false) ≡ true → bit_at 1 k ≡ 1
-    go true e i = subst (λ z. bit_at 1 z ≡ 1) (eqb-true 0 k e) (bit_at-pow_same 0)
-    go false e i = cc
-
-first_in : (k : ℕ) → k ≡ 0 → is_in k (0 ∷ []) ≡ true
-first_in ℕ.zero e = refl
-first_in (ℕ.suc k) e = absurd (omega (arith, e))
-
-pub first_due : Bits (λ k. is_in k (0 ∷ []) ≡ true) 1
-first_due k = ((λ e. first_in k (only_first k e)), one_in k)
-
--- the set of occurrences 0 and 1
-three : (k : ℕ) → bit_at 3 (ℕ.suc k) ≡ bit_at 1 k
-three k = bit_at-suc 3 k
-
-two : (k : ℕ) → bit_at 2 (ℕ.suc k) ≡ bit_at 1 k
-two k = bit_at-suc 2 k
-
-beyond : (k : ℕ) → bit_at 3 (ℕ.suc (ℕ.suc k)) ≡ 0
-beyond k = three (ℕ.suc k) ∙ bit_at-suc 1 k ∙ bit_at-zero k
-
-in_both : (k : ℕ) → is_in k (0 ∷ 1 ∷ []) ≡ true → bit_at 3 k ≡ 1
-in_both k i = go (0 == k) (1 == k) refl refl i
-  where
-    go : (a b : Bool) → (0 == k) ≡ a → (1 == k) ≡ b → (a || (b || false)) ≡ true → bit_at 3 k ≡ 1
-    go true b e f i = subst (λ z. bit_at 3 z ≡ 1) (eqb-true 0 k e) refl
-    go false true e f i = subst (λ z. bit_at 3 z ≡ 1) (eqb-true 1 k f) (three 0 ∙ bit_at-pow_same 0)
-    go false false e f i = cc
-
-of_both : (k : ℕ) → bit_at 3 k ≡ 1 → is_in k (0 ∷ 1 ∷ []) ≡ true
-of_both ℕ.zero e = refl
-of_both (ℕ.suc ℕ.zero) e = refl
-of_both (ℕ.suc (ℕ.suc k)) e = let z = beyond k in absurd (omega (arith, e, z))
-
-pub both_due : Bits (λ k. is_in k (0 ∷ 1 ∷ []) ≡ true) 3
-both_due k = (of_both k, in_both k)
-
-pub lowest_of_both : IsLowest 3 0 2
-lowest_of_both = record { member = refl; lowest = λ k l. absurd (omega arith); gone = refl; others = others }
-  where
-    others : (k : ℕ) → k ≢ 0 → bit_at 2 k ≡ bit_at 3 k
-    others ℕ.zero n = absurd (n refl)
-    others (ℕ.suc k) n = two k ∙ sym (three k)
-
-pub second_of_both : IsLowest 2 1 0
-second_of_both = record { member = two 0 ∙ bit_at-pow_same 0; lowest = first; gone = bit_at-zero 1; others = others }
-  where
-    first : (k : ℕ) → k < 1 → bit_at 2 k ≡ 0
-    first ℕ.zero l = refl
-    first (ℕ.suc k) l = absurd (omega (arith, l))
-
-    others : (k : ℕ) → k ≢ 1 → bit_at 0 k ≡ bit_at 2 k
-    others ℕ.zero n = refl
-    others (ℕ.suc k) n = bit_at-zero (ℕ.suc k) ∙ sym (two k ∙ bit_at-pow_other 0 k (λ e. n (ap ℕ.suc e)))
-
-pub lowest : IsLowest 1 0 0
-lowest = record {
-  member = bit_at-pow_same 0;
-  lowest = λ k l. absurd (omega arith);
-  gone = bit_at-zero 0;
-  others = λ k n. (let z : bit_at 1 k ≡ 0 = bit_at-pow_other 0 k n in let y : bit_at 0 k ≡ 0 = bit_at-zero k in omega arith);
-}
+use Rattle.sy_site.specs.machine.Examples.{audit, copying, copying_plan, edge_input, example_events, example_message, example_site, hub_input, mirror_input, mirror_plan, up, waiting_plan}
+use Rattle.sy_site.proofs.machine.DueSets.{both_due, first_due, lowest, lowest_of_both, second_of_both}
 
 module _ (class : Class) where
   abbrev node : ℕ → ℕ → ℕ → Entry
@@ -97,7 +19,7 @@ module _ (class : Class) where
   -- at edge
 
   abbrev edge0 : RelayState
-  edge0 = cells.opening edge_plan
+  edge0 = cells.opening waiting_plan
 
   abbrev edge1 : RelayState
   edge1 = put edge0 (hand 0 0) (node 1 1 0 ∷ [])
@@ -109,12 +31,18 @@ module _ (class : Class) where
   edge3 = put (put edge2 (Cell.Queue 1) []) (Cell.Worker 1) (node 1 1 0 ∷ [])
 
   abbrev edge4 : RelayState
-  edge4 = put_failures edge3 1 0
+  edge4 = put (put_failures (put edge3 (Cell.Worker 1) []) 1 0) (Cell.Queue 2) (node 2 1 0 ∷ [])
 
   abbrev edge5 : RelayState
-  edge5 = put_failures (put edge4 (Cell.Worker 1) []) 1 0
+  edge5 = put (put edge4 (Cell.Queue 2) []) (Cell.Worker 2) (node 2 1 0 ∷ [])
 
-  edge_takes : Takes edge_plan edge0 0 0 (node 1 1 0) false edge1
+  abbrev edge6 : RelayState
+  edge6 = put_failures edge5 2 0
+
+  abbrev edge7 : RelayState
+  edge7 = put_failures (put edge6 (Cell.Worker 2) []) 2 0
+
+  edge_takes : Takes waiting_plan edge0 0 0 (node 1 1 0) false edge1
   edge_takes = record {
     there =
         (omega arith, omega arith);
@@ -124,23 +52,35 @@ module _ (class : Class) where
     after = refl;
   }
 
-  edge_enters : Enters edge_plan edge1 0 0 (node 1 1 0) edge2
+  edge_enters : Enters waiting_plan edge1 0 0 (node 1 1 0) edge2
   edge_enters = record { leaves = record { there = (omega arith, omega arith); held = refl; not_held = refl }; room = omega arith; after = refl }
 
-  edge_grabs : Grabs edge_plan edge2 1 [] edge3
+  edge_grabs : Grabs waiting_plan edge2 1 [] edge3
   edge_grabs = record { there = omega arith; idle = refl; some = omega arith; lost_are = refl; after = refl }
 
-  edge_fails : Fails edge_plan edge3 1 0 (node 1 1 0) edge4
-  edge_fails = record {
+  edge_posts : Posts waiting_plan edge3 1 2 (node 2 1 0) false edge4
+  edge_posts = record {
     job = record { there = omega arith; entry = node 1 1 0; others = []; held = refl; number = 0; left = 0; first = lowest; found = refl };
+    made = record { message = refl; list_is = refl; input = refl; tag = refl; due = first_due };
+    discarded = refl;
+    room = inr (record { not_full = omega arith; not_held = refl });
+    after = refl;
+  }
+
+  edge_grabs_again : Grabs waiting_plan edge4 2 [] edge5
+  edge_grabs_again = record { there = omega arith; idle = refl; some = omega arith; lost_are = refl; after = refl }
+
+  edge_fails : Fails waiting_plan edge5 2 0 (node 2 1 0) edge6
+  edge_fails = record {
+    job = record { there = omega arith; entry = node 2 1 0; others = []; held = refl; number = 0; left = 0; first = lowest; found = refl };
     its = refl;
     again = tt;
     after = refl;
   }
 
-  edge_settles : Settles edge_plan edge4 1 0 (node 1 1 0) edge5
+  edge_settles : Settles waiting_plan edge6 2 0 (node 2 1 0) edge7
   edge_settles = record {
-    job = record { there = omega arith; entry = node 1 1 0; others = []; held = refl; number = 0; left = 0; first = lowest; found = refl };
+    job = record { there = omega arith; entry = node 2 1 0; others = []; held = refl; number = 0; left = 0; first = lowest; found = refl };
     its = refl;
     after = refl;
   }
@@ -199,7 +139,7 @@ module _ (class : Class) where
     job = record { there = omega arith; entry = node 0 2 1; others = []; held = refl; number = 1; left = 0; first = second_of_both; found = refl };
     made = record { message = refl; list_is = refl; input = refl; tag = refl; due = first_due };
     discarded = refl;
-    room = inr (omega arith);
+    room = inr (record { not_full = omega arith; not_held = refl });
     after = refl;
   }
 
@@ -296,43 +236,49 @@ module _ (class : Class) where
   s3 = on_relay s2 0 edge3
 
   abbrev s4 : SiteState
-  s4 = sent (on_relay s3 0 edge4) up 0
+  s4 = on_relay s3 0 edge4
 
   abbrev s5 : SiteState
-  s5 = sent (on_relay s4 0 edge5) up 0
+  s5 = on_relay s4 0 edge5
 
   abbrev s6 : SiteState
-  s6 = on_relay (record s5 { passed = with_passed s5.passed up (0 ∷ []); copies = at_edge ∷ at_hub ∷ [] }) 1 hub1
+  s6 = sent (on_relay s5 0 edge6) up 0
 
   abbrev s7 : SiteState
-  s7 = on_relay s6 1 hub2
+  s7 = sent (on_relay s6 0 edge7) up 0
 
   abbrev s8 : SiteState
-  s8 = on_relay s7 1 hub3
+  s8 = on_relay (record s7 { passed = with_passed s7.passed up (0 ∷ []); copies = at_edge ∷ at_hub ∷ [] }) 1 hub1
 
   abbrev s9 : SiteState
-  s9 = sent (on_relay s8 1 hub4) audit 1
+  s9 = on_relay s8 1 hub2
 
   abbrev s10 : SiteState
-  s10 = on_relay s9 1 hub5
+  s10 = on_relay s9 1 hub3
 
   abbrev s11 : SiteState
-  s11 = on_relay s10 1 hub6
+  s11 = sent (on_relay s10 1 hub4) audit 1
 
   abbrev s12 : SiteState
-  s12 = sent (on_relay s11 1 hub7) copying 1
+  s12 = on_relay s11 1 hub5
 
   abbrev s13 : SiteState
-  s13 = on_relay (record s12 { passed = with_passed s12.passed copying []; copies = at_edge ∷ at_hub ∷ at_mirror ∷ [] }) 2 mirror1
+  s13 = on_relay s12 1 hub6
 
   abbrev s14 : SiteState
-  s14 = on_relay s13 2 mirror2
+  s14 = sent (on_relay s13 1 hub7) copying 1
 
   abbrev s15 : SiteState
-  s15 = on_relay s14 2 mirror3
+  s15 = on_relay (record s14 { passed = with_passed s14.passed copying []; copies = at_edge ∷ at_hub ∷ at_mirror ∷ [] }) 2 mirror1
 
-  abbrev pub s16 : SiteState
-  s16 = record (on_relay s15 2 mirror4) { losses = given_up ∷ [] }
+  abbrev s16 : SiteState
+  s16 = on_relay s15 2 mirror2
+
+  abbrev s17 : SiteState
+  s17 = on_relay s16 2 mirror3
+
+  abbrev pub s18 : SiteState
+  s18 = record (on_relay s17 2 mirror4) { losses = given_up ∷ [] }
 
   step1 : SiteStep example_site s0 (SiteEvent.TakeNew edge_input 0 (example_message class)) s1
   step1 = record {
@@ -348,14 +294,20 @@ module _ (class : Class) where
   step3 : SiteStep example_site s2 (SiteEvent.Inside 0 (Event.Grab 1)) s3
   step3 = ((λ h. h), record { state = edge3; outs = []; step = ([], edge_grabs, refl); after = refl })
 
-  step4 : SiteStep example_site s3 (SiteEvent.Inside 0 (Event.Fail 1 true)) s4
-  step4 = ((λ h. h), record { state = edge4; outs = _; step = (0, node 1 1 0, edge_fails, refl); after = refl })
+  step4 : SiteStep example_site s3 (SiteEvent.Inside 0 (Event.Post 1)) s4
+  step4 = ((λ h. h), record { state = edge4; outs = []; step = (2, node 2 1 0, false, edge_posts, refl); after = refl })
 
-  step5 : SiteStep example_site s4 (SiteEvent.Inside 0 (Event.Done 1)) s5
-  step5 = ((λ h. h), record { state = edge5; outs = _; step = (0, node 1 1 0, edge_settles, refl); after = refl })
+  step5 : SiteStep example_site s4 (SiteEvent.Inside 0 (Event.Grab 2)) s5
+  step5 = ((λ h. h), record { state = edge5; outs = []; step = ([], edge_grabs_again, refl); after = refl })
 
-  step6 : SiteStep example_site s5 (SiteEvent.TakeFrom hub_input 0 up 1) s6
-  step6 = record {
+  step6 : SiteStep example_site s5 (SiteEvent.Inside 0 (Event.Fail 2 true)) s6
+  step6 = ((λ h. h), record { state = edge6; outs = _; step = (0, node 2 1 0, edge_fails, refl); after = refl })
+
+  step7 : SiteStep example_site s6 (SiteEvent.Inside 0 (Event.Done 2)) s7
+  step7 = ((λ h. h), record { state = edge7; outs = _; step = (0, node 2 1 0, edge_settles, refl); after = refl })
+
+  step8 : SiteStep example_site s7 (SiteEvent.TakeFrom hub_input 0 up 1) s8
+  step8 = record {
     leads = refl;
     before = 0 ∷ [];
     tag = 0;
@@ -372,26 +324,26 @@ module _ (class : Class) where
     };
   }
 
-  step7 : SiteStep example_site s6 (SiteEvent.Inside 1 (Event.Enter 0 0)) s7
-  step7 = ((λ h. h), record { state = hub2; outs = []; step = (node 0 3 1, hub_enters, refl); after = refl })
+  step9 : SiteStep example_site s8 (SiteEvent.Inside 1 (Event.Enter 0 0)) s9
+  step9 = ((λ h. h), record { state = hub2; outs = []; step = (node 0 3 1, hub_enters, refl); after = refl })
 
-  step8 : SiteStep example_site s7 (SiteEvent.Inside 1 (Event.Grab 0)) s8
-  step8 = ((λ h. h), record { state = hub3; outs = []; step = ([], hub_grabs, refl); after = refl })
+  step10 : SiteStep example_site s9 (SiteEvent.Inside 1 (Event.Grab 0)) s10
+  step10 = ((λ h. h), record { state = hub3; outs = []; step = ([], hub_grabs, refl); after = refl })
 
-  step9 : SiteStep example_site s8 (SiteEvent.Inside 1 (Event.Done 0)) s9
-  step9 = ((λ h. h), record { state = hub4; outs = _; step = (0, node 0 3 1, hub_settles, refl); after = refl })
+  step11 : SiteStep example_site s10 (SiteEvent.Inside 1 (Event.Done 0)) s11
+  step11 = ((λ h. h), record { state = hub4; outs = _; step = (0, node 0 3 1, hub_settles, refl); after = refl })
 
-  step10 : SiteStep example_site s9 (SiteEvent.Inside 1 (Event.Post 0)) s10
-  step10 = ((λ h. h), record { state = hub5; outs = []; step = (1, node 1 1 1, false, hub_posts, refl); after = refl })
+  step12 : SiteStep example_site s11 (SiteEvent.Inside 1 (Event.Post 0)) s12
+  step12 = ((λ h. h), record { state = hub5; outs = []; step = (1, node 1 1 1, false, hub_posts, refl); after = refl })
 
-  step11 : SiteStep example_site s10 (SiteEvent.Inside 1 (Event.Grab 1)) s11
-  step11 = ((λ h. h), record { state = hub6; outs = []; step = ([], hub_grabs_again, refl); after = refl })
+  step13 : SiteStep example_site s12 (SiteEvent.Inside 1 (Event.Grab 1)) s13
+  step13 = ((λ h. h), record { state = hub6; outs = []; step = ([], hub_grabs_again, refl); after = refl })
 
-  step12 : SiteStep example_site s11 (SiteEvent.Inside 1 (Event.Done 1)) s12
-  step12 = ((λ h. h), record { state = hub7; outs = _; step = (1, node 1 1 1, hub_copies, refl); after = refl })
+  step14 : SiteStep example_site s13 (SiteEvent.Inside 1 (Event.Done 1)) s14
+  step14 = ((λ h. h), record { state = hub7; outs = _; step = (1, node 1 1 1, hub_copies, refl); after = refl })
 
-  step13 : SiteStep example_site s12 (SiteEvent.TakeFrom mirror_input 0 copying 0) s13
-  step13 = record {
+  step15 : SiteStep example_site s14 (SiteEvent.TakeFrom mirror_input 0 copying 0) s15
+  step15 = record {
     leads = refl;
     before = [];
     tag = 1;
@@ -408,17 +360,17 @@ module _ (class : Class) where
     };
   }
 
-  step14 : SiteStep example_site s13 (SiteEvent.Inside 2 (Event.Enter 0 0)) s14
-  step14 = ((λ h. h), record { state = mirror2; outs = []; step = (node 0 1 2, mirror_enters, refl); after = refl })
+  step16 : SiteStep example_site s15 (SiteEvent.Inside 2 (Event.Enter 0 0)) s16
+  step16 = ((λ h. h), record { state = mirror2; outs = []; step = (node 0 1 2, mirror_enters, refl); after = refl })
 
-  step15 : SiteStep example_site s14 (SiteEvent.Inside 2 (Event.Grab 0)) s15
-  step15 = ((λ h. h), record { state = mirror3; outs = []; step = ([], mirror_grabs, refl); after = refl })
+  step17 : SiteStep example_site s16 (SiteEvent.Inside 2 (Event.Grab 0)) s17
+  step17 = ((λ h. h), record { state = mirror3; outs = []; step = ([], mirror_grabs, refl); after = refl })
 
-  step16 : SiteStep example_site s15 (SiteEvent.Inside 2 (Event.GiveUp 0 false)) s16
-  step16 = ((λ h. h), record { state = mirror4; outs = _; step = (0, node 0 1 2, mirror_gives_up, refl); after = refl })
+  step18 : SiteStep example_site s17 (SiteEvent.Inside 2 (Event.GiveUp 0 false)) s18
+  step18 = ((λ h. h), record { state = mirror4; outs = _; step = (0, node 0 1 2, mirror_gives_up, refl); after = refl })
 
-  later : SiteSteps example_site s8 (drop 8 (example_events class)) s16
-  later = (s9, step9, (s10, step10, (s11, step11, (s12, step12, (s13, step13, (s14, step14, (s15, step15, (s16, step16, refl))))))))
+  later : SiteSteps example_site s9 (drop 9 (example_events class)) s18
+  later = (s10, step10, (s11, step11, (s12, step12, (s13, step13, (s14, step14, (s15, step15, (s16, step16, (s17, step17, (s18, step18, refl)))))))))
 
-  pub example_run : Runs example_site (example_events class) s16
-  example_run = (s1, step1, (s2, step2, (s3, step3, (s4, step4, (s5, step5, (s6, step6, (s7, step7, (s8, step8, later))))))))
+  pub example_run : Runs example_site (example_events class) s18
+  example_run = (s1, step1, (s2, step2, (s3, step3, (s4, step4, (s5, step5, (s6, step6, (s7, step7, (s8, step8, (s9, step9, later)))))))))

@@ -1,36 +1,32 @@
 -- A copy of a class that came in at an entry: where it is, that it is never lost but where it is flagged, and that the ranks fall along its trail.
-use Rattle.std.proofs.Common.{◌≡◌, ℕ, ◌+◌, ◌*◌, ◌<◌, ◌≤◌, true, false, List, [], ◌∷◌, ◌++◌, length, refl, sym, subst, ap, arith, Option, Some, None, ◌∙◌, get_or}
+use Rattle.std.proofs.Common.{◌≡◌, ℕ, ◌+◌, ◌*◌, ◌<◌, ◌≤◌, true, false, List, [], ◌∷◌, ◌++◌, length, refl, sym, subst, ap, arith, inl, inr, Option, Some, None, ◌∙◌, get_or}
 use Rattle.std.specs.Prelude.{◌||◌, slice_get}
 use Rattle.std.specs.Int.{bit_at}
 use Rattle.std.specs.List.{Contains}
 use Rattle.std.proofs.lemmas.List.Quantifiers.{all_pairs_push}
 use Rattle.sy_wire.specs.declared.class.Class.{Class}
 use Rattle.sy_chain.specs.Entries.{Entry}
-use Rattle.sy_marks.specs.declared.marks.Flow.TheVariants as flow
 use Rattle.sy_marks.specs.Marks.{discards}
 use Rattle.sy_rules.specs.declared.lists.occurrence.Occurrence.{Occurrence}
 use Rattle.sy_rules.specs.declared.lists.occurrence.Occurrence.TheVariants as occurrence
 use Rattle.sy_rules.specs.lists.Work.{Due, May}
-use Rattle.sy_rules.specs.Whole.{AreDifferent, body_at}
+use Rattle.sy_rules.specs.Whole.{AreDifferent, body_at, queue_for}
 use Rattle.sy_rules.proofs.lemmas.lists.WorkLaws.{work_may}
 use Rattle.sy_board.specs.relay.Cells.{Cell, hand, waiting}
-use Rattle.sy_board.specs.relay.Feeders.{OnlyFullDelay}
-use Rattle.sy_board.specs.relay.Kinds as kinds
-use Rattle.sy_board.specs.relay.Plans.{flow_at, input_at, marks_at, queue_of_input}
+use Rattle.sy_board.specs.relay.Plans.{flow_at, input_at, marks_at, post_flow, queue_of_input, queue_of_worker}
 use Rattle.sy_board.specs.relay.Spares.{IsInScope, Scope, own, posted}
 use Rattle.sy_board.specs.relay.Steps.{Cause, IsHand, IsOfInput}
 use Rattle.sy_site.specs.Sites.{Site, SiteInput, SiteAction, does_spare, is_spare, is_spare_list, plan_at, spares_at, target}
 use Rattle.sy_site.specs.machine.States.{Copy, SiteState, is_flagged_at, is_flagged_on, loses_spare, off_link, opening, taken_by}
 use Rattle.sy_site.specs.machine.Steps.{Runs, SiteEvent}
-use Rattle.sy_site.specs.machine.Reach.{Follows, MayDo, Reach, Reaches, entry, forwards, list_of}
-use Rattle.sy_site.specs.machine.Findings.{HoldsInPlan, IsForward, Kind, queue_of}
-use Rattle.sy_site.specs.machine.Confinement.{AreConfined, Falls, IsFollowed, IsLinkWithin, IsOfItsInput, RanksFall}
+use Rattle.sy_site.specs.machine.Reach.{Follows, MayDo, Reach, Reaches, entry, forwards}
+use Rattle.sy_site.specs.machine.Findings.{IsForward, Kind}
+use Rattle.sy_site.specs.machine.Confinement.{AreConfined, Falls, IsFollowed, IsLinkWithin, RanksFall}
 use Rattle.sy_site.specs.machine.Soundness.{IsSoundFor}
 use Rattle.sy_board.proofs.relay.Keeps.{Each, Kept, Owes, each_append, each_weaker}
-use Rattle.sy_board.proofs.relay.Guards as guards
-use Rattle.sy_board.proofs.relay.Guards.{left_in, same_input}
-use Rattle.sy_board.proofs.relay.Marks.{InMarks, marks_start, not_delayed}
-use Rattle.sy_site.proofs.machine.Guards.{clean_in_plan}
+use Rattle.sy_board.proofs.relay.Guards.{clean_post, clean_room, left_in, same_input}
+use Rattle.sy_board.proofs.relay.Marks.{InMarks, marks_start}
+use Rattle.sy_site.proofs.machine.Firm.{FirmEntry, LosesPost, at_list, clean_at, in_hand, input_on, left_with, moved, never_discards, post_keeps, queue_keeps}
 use Rattle.sy_site.proofs.machine.Marks.{AllMarks, site_marks}
 use Rattle.sy_site.proofs.machine.Naming.{each_in}
 use Rattle.sy_site.proofs.machine.Spares.{both_false, firm_list, goes_on, neither, reaches_from}
@@ -56,9 +52,6 @@ pub record IsOurs (site : Site) (class : Class) (x : Copy) : Type 0 where
   pub entered : Contains site.entries x.origin
 
 module _ (site : Site) (class : Class) (sound : IsSoundFor site class) where
-  abbrev input_on : ℕ → ℕ → SiteInput
-  input_on r i = record { relay = r; input = i }
-
   record Tracked (r : ℕ) (x : Copy) : Type 0 where
     pub above : Each (λ t. sound.rank r ≤ sound.rank t) x.trail
     pub once : Falls sound.rank x.trail
@@ -68,17 +61,12 @@ module _ (site : Site) (class : Class) (sound : IsSoundFor site class) where
     pub reach : Reach site class scope (record { relay = r; input = i })
     pub follows : Follows site class scope (record { relay = r; input = i }) l
 
-  -- it is at its input, which is reached without spare occurrences
-  record FirmEntry (r : ℕ) (p : Cell) (e : Entry) : Type 0 where
-    pub reach : Reach site class Scope.Firm (record { relay = r; input = e.input })
-    pub of : IsOfItsInput (plan_at site r) p e
-
   record GoodEntry (r : ℕ) (x : Copy) (p : Cell) (e : Entry) : Type 0 where
     pub message : e.message ≡ x.message
     pub due : (k : ℕ) → bit_at e.due k ≡ 1 → Due (body_at (plan_at site r) e.list) e.message k
     pub within : Within Scope.Every r e.input e.list
     pub tracked : Tracked r x
-    pub firm : is_flagged_at site r e.list x ≡ false → FirmEntry r p e
+    pub firm : is_flagged_at site r e.list x ≡ false → FirmEntry site class r p e
 
   -- what the link leads to is reached without spare occurrences, and a forward leads somewhere
   record FirmCopy (d : SiteAction) : Type 0 where
@@ -105,23 +93,6 @@ module _ (site : Site) (class : Class) (sound : IsSoundFor site class) where
     once = falls_push sound.rank r x.trail a n;
   }
 
-  -- ---- what no finding says of an input
-
-  clean : (i : SiteInput) → Reach site class Scope.Firm i → (kind : kinds.Kind) → HoldsInPlan site class i kind → ⊥
-  clean = clean_in_plan site class sound
-
-  is_full : (i : SiteInput) → Reach site class Scope.Firm i → flow_at (plan_at site i.relay) i.input ≡ flow.Full
-  is_full i reach = guards.is_full (plan_at site i.relay) (spares_at site i.relay) class i.input (clean i reach)
-
-  has_mark : (i : SiteInput) → Reach site class Scope.Firm i → 1 ≤ (queue_of site i).full_delay_mark
-  has_mark i reach = guards.has_mark (plan_at site i.relay) (spares_at site i.relay) class i.input (clean i reach)
-
-  -- its queue never discards a message of the class, where it is within its mark
-  never_discards : (i : SiteInput) → Reach site class Scope.Firm i → (n : ℕ)
-      → (OnlyFullDelay (plan_at site i.relay) (queue_of_input (plan_at site i.relay) i.input) → n ≤ (queue_of site i).full_delay_mark)
-      → discards (marks_at (plan_at site i.relay) (queue_of_input (plan_at site i.relay) i.input)) class.severity n ≡ true → ⊥
-  never_discards i reach = guards.never_discards (plan_at site i.relay) (spares_at site i.relay) class i.input (clean i reach)
-
   -- what is owed may be executed
   owes_may : (scope : Scope) (r : ℕ) (x : Copy) (p : Cell) (e : Entry) (o : Occurrence) → IsOurs site class x → GoodEntry r x p e
       → (w : Owes (plan_at site r) e o) → IsInScope (plan_at site r) (spares_at site r) scope o → MayDo site class scope r e.list w.number o
@@ -130,19 +101,6 @@ module _ (site : Site) (class : Class) (sound : IsSoundFor site class) where
     found = w.is;
     in_scope = in_scope;
   }
-
-  -- an entry that isn't flagged follows its input's list
-  at_own : (r : ℕ) (p : Cell) (e : Entry) (number : ℕ) (o : Occurrence) → FirmEntry r p e → MayDo site class Scope.Firm r e.list number o
-      → MayDo site class Scope.Firm r (list_of site (input_on r e.input)) number o
-  at_own r p e number o here does = subst (λ z. MayDo site class Scope.Firm r z number o) here.of.list does
-
-  at_list : (r : ℕ) (p : Cell) (e : Entry) → FirmEntry r p e → Follows site class Scope.Firm (input_on r e.input) e.list
-  at_list r p e here = subst (Follows site class Scope.Firm (input_on r e.input)) (sym here.of.list) own
-
-  no_post : (r : ℕ) (p : Cell) (e : Entry) (number l : ℕ) → FirmEntry r p e → MayDo site class Scope.Firm r e.list number (occurrence.Post l) → ⊥
-  no_post r p e number l here does =
-      sound.clean (input_on r e.input) here.reach Kind.InnerQueue
-      (record { number = number; list = l; does = at_own r p e number (occurrence.Post l) here does })
 
   -- an entry of a copy that wasn't taken flagged, which owes something that isn't spare, isn't flagged
   not_flagged : (r : ℕ) (x : Copy) (e : Entry) (o : Occurrence) → Owes (plan_at site r) e o → x.flag ≡ false → does_spare site r o ≡ false
@@ -167,18 +125,12 @@ module _ (site : Site) (class : Class) (sound : IsSoundFor site class) where
         tracked = t;
         firm = λ plain. record {
           reach = at Scope.Firm (firm (neither x.flag (is_spare_list site to.relay node.list) plain).0);
-          of = record {
+          of = inl (record {
             place = (h, there.1, ap (λ j. 64 * j + h) (sym made.input_is));
             list = made.list ∙ ap (λ j. (input_at (plan_at site to.relay) j).list) (sym made.input_is);
-          };
+          });
         };
       }
-
-  -- an entry in a hand, which isn't flagged
-  in_hand : (r i h : ℕ) (e : Entry) → IsHand (plan_at site r) i h → FirmEntry r (hand i h) e → Reach site class Scope.Firm (input_on r i)
-  in_hand r i h e there f =
-      let same = same_input (plan_at site r) i h e.input f.of.place.0 there f.of.place.1 f.of.place.2 in
-      subst (λ j. Reach site class Scope.Firm (record { relay = r; input = j })) same f.reach
 
   severity_of : (r : ℕ) (x : Copy) (p : Cell) (e : Entry) (q n : ℕ) → IsOurs site class x → GoodEntry r x p e
       → discards (marks_at (plan_at site r) q) e.message.class.severity n ≡ true → discards (marks_at (plan_at site r) q) class.severity n ≡ true
@@ -195,15 +147,9 @@ module _ (site : Site) (class : Class) (sound : IsSoundFor site class) where
           within = g.within;
           tracked = g.tracked;
           firm = λ plain.
-              let f = g.firm plain in
-              record {
-                reach = f.reach;
-                of = record {
-                  place = ap (queue_of_input (plan_at site r))
-                      (same_input (plan_at site r) i h e.input f.of.place.0 there f.of.place.1 f.of.place.2);
-                  list = f.of.list;
-                };
-              };
+              moved site class r (hand i h) (Cell.Queue (queue_of_input (plan_at site r) i)) e
+              (λ place. ap (queue_of_input (plan_at site r)) (same_input (plan_at site r) i h e.input place.0 there place.1 place.2))
+              (λ none. absurd none) (g.firm plain);
         };
     grabs = λ w e p of.
         let g = p of in
@@ -212,7 +158,7 @@ module _ (site : Site) (class : Class) (sound : IsSoundFor site class) where
           due = g.due;
           within = g.within;
           tracked = g.tracked;
-          firm = λ plain. let f = g.firm plain in record { reach = f.reach; of = record { place = f.of.place; list = f.of.list } };
+          firm = λ plain. moved site class r (Cell.Queue (queue_of_worker (plan_at site r) w)) (Cell.Worker w) e (λ place. place) (λ place. place) (g.firm plain);
         };
     advances = λ w e number left p l of.
         let g = p of in
@@ -221,7 +167,7 @@ module _ (site : Site) (class : Class) (sound : IsSoundFor site class) where
           due = λ k b. g.due k (left_in e.due number left k l b);
           within = g.within;
           tracked = g.tracked;
-          firm = λ plain. let f = g.firm plain in record { reach = f.reach; of = record { place = f.of.place; list = f.of.list } };
+          firm = λ plain. left_with site class r (Cell.Worker w) e left (g.firm plain);
         };
     runs = λ w e a p o of.
         let g = p of in
@@ -241,10 +187,10 @@ module _ (site : Site) (class : Class) (sound : IsSoundFor site class) where
               let here = g.firm (not_flagged r x e (occurrence.Run a) o f.0 f.1) in
               let does = owes_may Scope.Firm r x at e (occurrence.Run a) of g o f.1 in
               record {
-                next = λ q t. goes_on site class Scope.Firm (input_on r e.input) e.list here.reach (at_list r at e here) o.number q
+                next = λ q t. goes_on site class Scope.Firm (input_on r e.input) e.list here.reach (at_list site class r at e here) o.number q
                     (forwards o.number a does t);
                 targeted = λ forward none. sound.clean (input_on r e.input) here.reach Kind.NoTarget
-                    (a, record { number = o.number; does = at_own r at e o.number (occurrence.Run a) here does }, forward, none);
+                    (a, record { list = e.list; follows = at_list site class r at e here; number = o.number; does = does }, forward, none);
               };
         };
     posts = λ w e l node p o m of.
@@ -266,47 +212,55 @@ module _ (site : Site) (class : Class) (sound : IsSoundFor site class) where
               let f = neither x.flag (is_spare_list site r l) (subst (λ z. is_flagged_at site r z x ≡ false) m.list_is plain) in
               let here = g.firm (not_flagged r x e (occurrence.Post l) o f.0 f.1) in
               let does = owes_may Scope.Firm r x at e (occurrence.Post l) of g o f.1 in
-              absurd (no_post r at e o.number l here does);
+              record {
+                reach = subst (λ j. Reach site class Scope.Firm (record { relay = r; input = j })) input_same here.reach;
+                of = inr (record {
+                  place = ap (queue_for (plan_at site r)) m.list_is;
+                  before = e.list;
+                  follows = subst (λ j. Follows site class Scope.Firm (record { relay = r; input = j }) e.list) input_same (at_list site class r at e here);
+                  number = o.number;
+                  does = subst (λ z. MayDo site class Scope.Firm r e.list o.number (occurrence.Post z)) (sym m.list_is) does;
+                  keeps = subst (λ z. LosesPost site class r z → ⊥) (sym m.list_is) (post_keeps site class sound r at e o.number l here does);
+                });
+              };
         };
     lost_take = λ old i h e g p there t of plain.
         let good = p of in
         let f = good.firm (neither (is_flagged_at site r e.list x) false plain).0 in
-        let reach = in_hand r i h e there f in
+        let reach = in_hand site class r i h e there f in
         let q = queue_of_input (plan_at site r) i in
-        never_discards (input_on r i) reach (waiting old q)
-        (λ only. g (Cell.Queue q) only (has_mark (input_on r i) reach))
+        never_discards site class r q (flow_at (plan_at site r) i) (clean_at site class sound (input_on r i) reach) (waiting old q) (g (Cell.Queue q))
         (severity_of r x (hand i h) e q (waiting old q) of good t);
     lost_expire = λ old i h e p leaves full of plain.
         let good = p of in
         let f = good.firm (neither (is_flagged_at site r e.list x) false plain).0 in
-        let reach = in_hand r i h e leaves.there f in
-        let below = not_delayed (flow_at (plan_at site r) i) (marks_at (plan_at site r) (queue_of_input (plan_at site r) i))
-        (waiting old (queue_of_input (plan_at site r) i)) (is_full (input_on r i) reach) (has_mark (input_on r i) reach) leaves.not_held in
-        sound.clean (input_on r i) reach Kind.MarkAboveSize (omega (arith, below, full));
+        let reach = in_hand site class r i h e leaves.there f in
+        let q = queue_of_input (plan_at site r) i in
+        clean_room (plan_at site r) class q (flow_at (plan_at site r) i) (clean_at site class sound (input_on r i) reach) (waiting old q) leaves.not_held full;
     lost_grab = λ old q n e g p l t of plain.
         let good = p of in
-        let plan = plan_at site r in
-        let f = good.firm (neither (is_flagged_at site r e.list x) false plain).0 in
-        let is : queue_of_input plan e.input ≡ q = f.of.place in
-        never_discards (input_on r e.input) f.reach n
-        (λ only. let m = g (Cell.Queue (queue_of_input plan e.input)) only (has_mark (input_on r e.input) f.reach) in
-        let less : n < waiting old (queue_of_input plan e.input) = subst (λ z. n < waiting old z) (sym is) l in omega (arith, m, less))
-        (subst (λ z. discards (marks_at plan z) class.severity n ≡ true) (sym is) (severity_of r x (Cell.Queue q) e q n of good t));
+        let keeps = queue_keeps site class sound r q e (good.firm (neither (is_flagged_at site r e.list x) false plain).0) in
+        never_discards site class r q keeps.0 keeps.1 n (λ only mark. let m = g (Cell.Queue q) only mark in omega (arith, m, l))
+        (severity_of r x (Cell.Queue q) e q n of good t);
     lost_run = λ w n e a p o t of plain.
         let g = p of in
         let f = neither (is_flagged_at site r e.list x) (is_spare site (record { relay = r; action = a })) plain in
         let here = g.firm f.0 in
         let does = owes_may Scope.Firm r x (Cell.Worker w) e (occurrence.Run a) of g o f.1 in
         sound.clean (input_on r e.input) here.reach Kind.GivesUp
-        (a, record { number = o.number; does = at_own r (Cell.Worker w) e o.number (occurrence.Run a) here does }, n, t);
-    lost_post = λ w e l p o of plain.
+        (a, record { list = e.list; follows = at_list site class r (Cell.Worker w) e here; number = o.number; does = does }, n, t);
+    lost_post = λ old w e l no_memory p o cause of plain.
         let g = p of in
         let f = neither (is_flagged_at site r e.list x) (is_spare_list site r l) plain in
-        no_post r (Cell.Worker w) e o.number l (g.firm f.0) (owes_may Scope.Firm r x (Cell.Worker w) e (occurrence.Post l) of g o f.1);
-    lost_node = λ w e l p o of plain.
-        let g = p of in
+        let does = owes_may Scope.Firm r x (Cell.Worker w) e (occurrence.Post l) of g o f.1 in
+        clean_post (plan_at site r) class old l no_memory (post_keeps site class sound r (Cell.Worker w) e o.number l (g.firm f.0) does) cause;
+    lost_node = λ old w e l g p o t of plain.
+        let good = p of in
         let f = neither (is_flagged_at site r e.list x) (is_spare_list site r l) plain in
-        no_post r (Cell.Worker w) e o.number l (g.firm f.0) (owes_may Scope.Firm r x (Cell.Worker w) e (occurrence.Post l) of g o f.1);
+        let q = queue_for (plan_at site r) l in
+        let does = owes_may Scope.Firm r x (Cell.Worker w) e (occurrence.Post l) of good o f.1 in
+        never_discards site class r q (post_flow (plan_at site r) q) (post_keeps site class sound r (Cell.Worker w) e o.number l (good.firm f.0) does) (waiting old q)
+        (g (Cell.Queue q)) (severity_of r x (Cell.Worker w) e q (waiting old q) of good t);
   }
     where
       ranks_on : (r i l : ℕ) → Within Scope.Every r i l → (number : ℕ) (to : SiteInput) → Reaches site class Scope.Every r l number to
@@ -369,7 +323,7 @@ module _ (site : Site) (class : Class) (sound : IsSoundFor site class) where
         held = λ r k e i x f plain.
             let of = ours new e.tag x f in
             let g = of_that new.copies (λ y. P r y k e) e.tag x (each_in _ _ (all.held r k) e i) f.is of in
-            record { reached = (g.firm plain).reach; follows = at_list r k e (g.firm plain); due = may_due r x k e of g };
+            record { reached = (g.firm plain).reach; follows = at_list site class r k e (g.firm plain); due = may_due r x k e of g };
         placed = λ r k e i x f plain.
             ((of_that new.copies (λ y. P r y k e) e.tag x (each_in _ _ (all.held r k) e i) f.is (ours new e.tag x f)).firm plain).of;
         on_links = λ d t i x f plain forward.

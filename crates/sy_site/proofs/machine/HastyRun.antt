@@ -12,7 +12,7 @@ use Rattle.sy_site.specs.machine.Steps.{Runs, SiteEvent, SiteStep}
 use Rattle.sy_site.specs.machine.Safety.{IsWrittenOrHeads, writes}
 use Rattle.sy_site.specs.machine.Examples.{audit, edge_input, example_message, hub_input, up}
 use Rattle.sy_site.specs.machine.Counterexamples.{Holds, Part, hasty_events, hasty_plan, hasty_site}
-use Rattle.sy_site.proofs.machine.ExampleRun.{first_due, lowest}
+use Rattle.sy_site.proofs.machine.DueSets.{first_due, lowest}
 use Rattle.sy_site.proofs.machine.ExampleSound.{only_audit_is_named}
 use Rattle.sy_site.proofs.machine.Parts.{of_one, one_trail}
 

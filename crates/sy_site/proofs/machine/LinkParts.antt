@@ -1,6 +1,6 @@
 -- What else holds of a copy on a link that leads nowhere, and of a lost one.
 use Rattle.std.proofs.Common.{◌≡◌, ℕ, ◌==◌, Bool, true, false, [], ◌∷◌, refl, subst, arith, Some}
-use Rattle.std.specs.Prelude.{◌≢◌}
+use Rattle.std.specs.Prelude.{◌≢◌, ◌⊎◌}
 use Rattle.std.specs.Int.{bit_at}
 use Rattle.std.proofs.lemmas.Bool.{eqb-true}
 use Rattle.sy_wire.specs.declared.class.Class.{Class}
@@ -14,7 +14,7 @@ use Rattle.sy_board.specs.relay.Spares.{Scope}
 use Rattle.sy_board.proofs.relay.Keeps.{Each}
 use Rattle.sy_site.specs.Sites.{SiteAction, SiteInput, plan_at, target}
 use Rattle.sy_site.specs.machine.Reach.{Reach, entry, forwards, list_of, onward}
-use Rattle.sy_site.specs.machine.Confinement.{IsPlaceOf}
+use Rattle.sy_site.specs.machine.Confinement.{IsOfAPost, IsPlaceOf}
 use Rattle.sy_site.specs.machine.Examples.{example_message, hub_input, up}
 use Rattle.sy_site.specs.machine.Counterexamples.{Bound, Bounds, OfHeld, OfLinks, aimless_site, hasty_site, input_of}
 use Rattle.sy_site.proofs.machine.Naming.{each_in}
@@ -45,10 +45,12 @@ module _ (class : Class) where
 
   pub aimless_others : (other : Bound) → other ≢ Bound.LinkLeads → Bounds aimless_site class (aimless.s4 class) other
   aimless_others Bound.InReach differs = none_held_aimless (λ relay cell e. Reach aimless_site class Scope.Firm (input_of relay e))
-  aimless_others Bound.OnList differs = none_held_aimless (λ relay cell e. e.list ≡ list_of aimless_site (input_of relay e))
+  aimless_others Bound.OnList differs = none_held_aimless (λ relay cell e.
+      (e.list ≡ list_of aimless_site (input_of relay e)) ⊎ IsOfAPost aimless_site class relay cell e)
   aimless_others Bound.MayRun differs = none_held_aimless (λ relay cell e.
       (number : ℕ) → bit_at e.due number ≡ 1 → May (body_at (plan_at aimless_site relay) e.list) class number)
-  aimless_others Bound.AtPlace differs = none_held_aimless (λ relay cell e. IsPlaceOf (plan_at aimless_site relay) cell e.input)
+  aimless_others Bound.AtPlace differs = none_held_aimless (λ relay cell e.
+      IsPlaceOf (plan_at aimless_site relay) cell e.input ⊎ IsOfAPost aimless_site class relay cell e)
   aimless_others Bound.LinkLeads differs = absurd (differs refl)
   aimless_others Bound.LinkInReach differs = on_up_aimless
       (λ link. (to : SiteInput) → target aimless_site link ≡ Some to → Reach aimless_site class Scope.Firm to) (λ to leads. absurd (cc))
@@ -79,10 +81,12 @@ module _ (class : Class) where
 
   pub hasty_others : (other : Bound) → other ≢ Bound.NoneLost → Bounds hasty_site class (hasty.s4 class) other
   hasty_others Bound.InReach differs = none_held_hasty (λ relay cell e. Reach hasty_site class Scope.Firm (input_of relay e))
-  hasty_others Bound.OnList differs = none_held_hasty (λ relay cell e. e.list ≡ list_of hasty_site (input_of relay e))
+  hasty_others Bound.OnList differs = none_held_hasty (λ relay cell e.
+      (e.list ≡ list_of hasty_site (input_of relay e)) ⊎ IsOfAPost hasty_site class relay cell e)
   hasty_others Bound.MayRun differs = none_held_hasty (λ relay cell e.
       (number : ℕ) → bit_at e.due number ≡ 1 → May (body_at (plan_at hasty_site relay) e.list) class number)
-  hasty_others Bound.AtPlace differs = none_held_hasty (λ relay cell e. IsPlaceOf (plan_at hasty_site relay) cell e.input)
+  hasty_others Bound.AtPlace differs = none_held_hasty (λ relay cell e.
+      IsPlaceOf (plan_at hasty_site relay) cell e.input ⊎ IsOfAPost hasty_site class relay cell e)
   hasty_others Bound.LinkLeads differs = on_up_hasty (λ link. (to : SiteInput) × (target hasty_site link ≡ Some to)) (hub_input, refl)
   hasty_others Bound.LinkInReach differs = on_up_hasty
       (λ link. (to : SiteInput) → target hasty_site link ≡ Some to → Reach hasty_site class Scope.Firm to)

@@ -6,7 +6,7 @@ use Rattle.sy_site.specs.machine.States.{SiteState, opening}
 use Rattle.sy_site.specs.machine.Steps.{Runs, SiteEvent, SiteStep}
 use Rattle.sy_site.specs.machine.Examples.{edge_input, example_message}
 use Rattle.sy_site.specs.machine.Refusals.{IsRefusedAfter, marked_events, marked_plan, marked_site}
-use Rattle.sy_site.proofs.machine.ExampleRun.{first_due}
+use Rattle.sy_site.proofs.machine.DueSets.{first_due}
 use Rattle.sy_site.proofs.machine.NarrowRun as narrow
 
 module _ (class : Class) (size : ℕ) (least : 1 ≤ size) where

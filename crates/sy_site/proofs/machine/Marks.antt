@@ -1,4 +1,4 @@
--- On each relay of a site a queue that only full-delay inputs feed stays within its mark.
+-- On each relay of a site a queue that only full-delay feeders feed stays within its mark.
 use Rattle.std.proofs.Common.{◌≡◌, ℕ, ◌==◌, List, [], ◌∷◌, ◌++◌, refl, sym, subst}
 use Rattle.std.proofs.lemmas.Bool.{eqb-true}
 use Rattle.sy_board.specs.relay.Cells.{Cell, RelayState}

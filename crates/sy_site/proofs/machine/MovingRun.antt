@@ -11,7 +11,7 @@ use Rattle.sy_site.specs.machine.States.{Copy, SiteState, opening, with_relay}
 use Rattle.sy_site.specs.machine.Steps.{Runs, SiteEvent, SiteStep}
 use Rattle.sy_site.specs.machine.Examples.{edge_input, example_message}
 use Rattle.sy_site.specs.machine.Counterexamples.{moving_events, moving_plan, moving_site}
-use Rattle.sy_site.proofs.machine.ExampleRun.{first_due, lowest}
+use Rattle.sy_site.proofs.machine.DueSets.{first_due, lowest}
 
 module _ (class : Class) where
   abbrev pub node : ℕ → Entry
@@ -62,7 +62,7 @@ module _ (class : Class) where
     job = posts4_job;
     made = record { message = refl; list_is = refl; input = refl; tag = refl; due = first_due };
     discarded = refl;
-    room = inr (omega arith);
+    room = inr (record { not_full = omega arith; not_held = refl });
     after = refl;
   }
 

@@ -113,8 +113,8 @@ module _ (site : Site) where
     lost_expire = λ old i h e p leaves full. tt;
     lost_grab = λ old q n e g p l t. tt;
     lost_run = λ w n e a p o t. tt;
-    lost_post = λ w e l p o. tt;
-    lost_node = λ w e l p o. tt;
+    lost_post = λ old w e l no_memory p o cause. tt;
+    lost_node = λ old w e l g p o d. tt;
   }
 
   tags_moves : Moves site P D L G

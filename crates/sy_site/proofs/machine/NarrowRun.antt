@@ -10,7 +10,7 @@ use Rattle.sy_board.specs.relay.Steps.{Cause, Enters, Event, Expires, Fails, Giv
 use Rattle.sy_site.specs.machine.States.{Copy, SiteState, opening, with_relay}
 use Rattle.sy_site.specs.machine.Steps.{Runs, SiteEvent, SiteStep, SiteSteps}
 use Rattle.sy_site.specs.machine.Examples.{edge_input, example_message, narrow_events, narrow_plan, narrow_site}
-use Rattle.sy_site.proofs.machine.ExampleRun.{first_due, lowest}
+use Rattle.sy_site.proofs.machine.DueSets.{first_due, lowest}
 
 module _ (class : Class) where
   abbrev pub node : ℕ → ℕ → Entry
@@ -106,7 +106,7 @@ module _ (class : Class) where
     job = job6;
     made = record { message = refl; list_is = refl; input = refl; tag = refl; due = first_due };
     discarded = refl;
-    room = inr (omega arith);
+    room = inr (record { not_full = omega arith; not_held = refl });
     after = refl;
   }
 
@@ -130,7 +130,7 @@ module _ (class : Class) where
   loses10 = record {
     job = record { there = omega arith; entry = node 0 2; others = []; held = refl; number = 0; left = 0; first = lowest; found = refl };
     its = refl;
-    cause = inr (omega arith);
+    cause = record { full = omega arith; not_held = refl };
     after = refl;
   }
 
@@ -168,7 +168,7 @@ module _ (class : Class) where
     arrivals = s.arrivals ++ record { message = example_message class; origin = edge_input } ∷ [];
   }
 
-  abbrev with_loss : SiteState → ℕ → ℕ → Cause → SiteState
+  abbrev pub with_loss : SiteState → ℕ → ℕ → Cause → SiteState
   with_loss s tag list cause = record s { losses = s.losses ++ record { copy = tag; relay = 0; list = list; cause = cause } ∷ [] }
 
   abbrev pub s0 : SiteState

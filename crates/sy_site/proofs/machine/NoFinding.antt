@@ -42,6 +42,7 @@ module _ (site : Site) (class : Class) (sound : IsSoundFor site class) where
     none_found way input Kind.InnerQueue (is, holds) = way_clean way input Kind.InnerQueue is holds
     none_found way input Kind.GivesUp (is, holds) = way_clean way input Kind.GivesUp is holds
     none_found way input Kind.NoTarget (is, holds) = way_clean way input Kind.NoTarget is holds
+    none_found way input Kind.InnerLoop (is, holds) = way_clean way input Kind.InnerLoop is holds
     none_found way input Kind.Loop loop =
         let relays = map (λ (row : WayRow). row.input.relay) way in
         let below : sound.rank input.relay < sound.rank input.relay =

@@ -6,22 +6,22 @@ use Rattle.sy_marks.specs.Marks.{discards}
 use Rattle.sy_rules.specs.declared.lists.occurrence.Occurrence.TheVariants as occurrence
 use Rattle.sy_rules.specs.Whole.{queue_for}
 use Rattle.sy_board.specs.relay.Cells.{Cell, RelayState, put, hand, waiting}
-use Rattle.sy_board.specs.relay.Plans.{marks_at, parameters_at}
-use Rattle.sy_board.specs.relay.Steps.{Enters, Event, Takes}
+use Rattle.sy_board.specs.relay.Plans.{marks_at}
+use Rattle.sy_board.specs.relay.Steps.{Enters, Event, HasRoom, Takes}
 use Rattle.sy_board.proofs.relay.Excluded.{enter_or_expire, fail_or_give_up, post_or_lose}
 use Rattle.sy_board.proofs.relay.Patience.{one_job}
 use Rattle.sy_site.specs.machine.States.{SiteState, opening}
 use Rattle.sy_site.specs.machine.Steps.{Runs, SiteEvent, SiteStep}
 use Rattle.sy_site.specs.machine.Examples.{edge_input, example_message, narrow_events, narrow_plan, narrow_site}
 use Rattle.sy_site.specs.machine.Refusals.{IsRefusedAfter, busy_events}
-use Rattle.sy_site.proofs.machine.ExampleRun.{first_due}
+use Rattle.sy_site.proofs.machine.DueSets.{first_due}
 use Rattle.sy_site.proofs.machine.NarrowRun as narrow
 use Rattle.sy_site.proofs.machine.SafeRun.{steps_on}
 
 post_is_no_run : (list action : ℕ) → occurrence.Post list ≡ occurrence.Run action → ⊥
 post_is_no_run list action e = cc
 
-same_post : (k l : ℕ) → occurrence.Post k ≡ occurrence.Post l → k ≡ l
+pub same_post : (k l : ℕ) → occurrence.Post k ≡ occurrence.Post l → k ≡ l
 same_post k l e = cc
 
 module _ (class : Class) where
@@ -185,19 +185,18 @@ module _ (class : Class) where
 
   -- ---- a post wants room, where nothing is discarded
 
-  no_room : (lost : Bool) → false ≡ lost → (lost ≡ true) ⊎ (1 < 1) → ⊥
+  no_room : (lost : Bool) → false ≡ lost → (lost ≡ true) ⊎ HasRoom narrow_plan (narrow.r9 class) 1 → ⊥
   no_room lost none (inl is) = cc
-  no_room lost none (inr below) = omega (arith, below)
+  no_room lost none (inr room) = let below : 1 < 1 = room.not_full in omega (arith, below)
 
   no_post : (l : ℕ) (lost : Bool) (severity : ℕ) → 1 ≡ l
       → discards (marks_at narrow_plan (queue_for narrow_plan l)) severity (waiting (narrow.r9 class) (queue_for narrow_plan l)) ≡ lost
-      → (lost ≡ true) ⊎ (waiting (narrow.r9 class) (queue_for narrow_plan l) < (parameters_at narrow_plan (queue_for narrow_plan l)).size) → ⊥
+      → (lost ≡ true) ⊎ HasRoom narrow_plan (narrow.r9 class) l → ⊥
   no_post l lost severity same discarded room =
       no_room lost
       (subst (λ z. discards (marks_at narrow_plan (queue_for narrow_plan z)) severity (waiting (narrow.r9 class) (queue_for narrow_plan z)) ≡ lost)
       (sym same) discarded)
-      (subst (λ z. (lost ≡ true) ⊎ (waiting (narrow.r9 class) (queue_for narrow_plan z) < (parameters_at narrow_plan (queue_for narrow_plan z)).size))
-      (sym same) room)
+      (subst (λ z. (lost ≡ true) ⊎ HasRoom narrow_plan (narrow.r9 class) z) (sym same) room)
 
   pub filled : IsRefusedAfter narrow_site (take 9 (narrow_events class)) (SiteEvent.Inside 0 (Event.Post 0))
   filled = (

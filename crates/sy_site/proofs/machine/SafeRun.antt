@@ -12,10 +12,10 @@ use Rattle.sy_board.specs.relay.Steps.{Event}
 use Rattle.sy_site.specs.Sites.{Site, SiteInput, SiteAction, archives, is_protected, is_spare, plan_at}
 use Rattle.sy_site.specs.machine.States.{Arrival, Copy, SiteState, copy_of_new, opening, taken_by}
 use Rattle.sy_site.specs.machine.Steps.{Runs, SiteEvent, SiteStep, SiteSteps}
-use Rattle.sy_site.specs.machine.Reach.{LeadsTo, MustDo, leads_on, list_of, writes}
+use Rattle.sy_site.specs.machine.Reach.{ListLeadsTo, MustDo, leads_on, list_of, posts_on, writes}
 use Rattle.sy_site.specs.machine.Confinement.{IsFollowed}
 use Rattle.sy_site.specs.machine.Lawful.{IsLawful}
-use Rattle.sy_site.specs.machine.Safety.{AreSafe, AreWrittenOrHead, HasLeft, Heads, IsCopyOf, IsHeld, IsOnLink, IsWritten, IsWrittenOrHeads, Left, forwards}
+use Rattle.sy_site.specs.machine.Safety.{AreSafe, AreWrittenOrHead, HasLeft, Heads, IsCopyOf, IsHeld, IsOnLink, IsWritten, IsWrittenOrHeads, Left, forwards, posts}
 use Rattle.sy_site.specs.machine.Safety as safety
 use Rattle.sy_site.specs.machine.Soundness.{IsSound}
 use Rattle.sy_site.proofs.machine.Guarded.{confined_run, falls_apart, falls_run}
@@ -53,10 +53,12 @@ has_left site m r l number o does = record {
   firm = does.firm;
 }
 
-leads_heads : (site : Site) (d : SiteAction) (m : Said) (p : SiteInput) → LeadsTo site m.class d p → Heads site d m p.relay (list_of site p) Left.All
-leads_heads site d m p (writes number a does e) = safety.writes a (has_left site m p.relay (list_of site p) number (occurrence.Run a) does) e
-leads_heads site d m p (leads_on number a to does goes more) =
-    forwards a to (has_left site m p.relay (list_of site p) number (occurrence.Run a) does) goes (leads_heads site d m to more)
+leads_heads : (site : Site) (d : SiteAction) (m : Said) (r l : ℕ) → ListLeadsTo site m.class d r l → Heads site d m r l Left.All
+leads_heads site d m r l (writes number a does e) = safety.writes a (has_left site m r l number (occurrence.Run a) does) e
+leads_heads site d m r l (leads_on number a to does goes more) =
+    forwards a to (has_left site m r l number (occurrence.Run a) does) goes (leads_heads site d m to.relay (list_of site to) more)
+leads_heads site d m r l (posts_on number inner does more) =
+    posts inner (has_left site m r l number (occurrence.Post inner) does) (leads_heads site d m r inner more)
 
 module _ (site : Site) (law : IsLawful site) (sound : IsSound site) where
   abbrev IsProtected : Arrival → Type 0
@@ -104,7 +106,7 @@ module _ (site : Site) (law : IsLawful site) (sound : IsSound site) where
         | inr here ↦ arrives_new site d n a.message mid to h (copy_of_new s to m) new w.shaped safe (sym here.0)
             (ap (λ (z : Arrival). z.message) here.1) refl
             (subst (λ (z : SiteInput). Heads site d a.message z.relay (list_of site z) Left.All) (sym (ap (λ (z : Arrival). z.origin) here.1))
-            (leads_heads site d a.message a.origin ((sound a.message.class p.0).leads a.origin p.1 d k))) st
+            (leads_heads site d a.message a.origin.relay (list_of site a.origin) ((sound a.message.class p.0).leads a.origin p.1 d k))) st
       ]
   met_on s (SiteEvent.TakeFrom to h link place) new w st n a at p d k safe =
       let same : new.arrivals ≡ s.arrivals = relay_arrivals site _ to.relay (Event.Take to.input h st.takes.node) new st.takes.step in

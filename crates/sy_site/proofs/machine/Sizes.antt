@@ -1,5 +1,5 @@
 -- No queue is longer than its size.
-use Rattle.std.proofs.Common.{◌≡◌, ℕ, ◌<◌, ◌≤◌, true, false, List, [], ◌∷◌, ◌++◌, length, drop, sym, subst, arith, inl, inr, length-append, length-drop}
+use Rattle.std.proofs.Common.{◌≡◌, ℕ, ◌≤◌, true, false, List, [], ◌∷◌, ◌++◌, length, drop, sym, subst, arith, inl, inr, length-append, length-drop}
 use Rattle.std.specs.Prelude.{◌⊎◌}
 use Rattle.sy_chain.specs.Entries.{Entry}
 use Rattle.sy_rules.specs.declared.lists.occurrence.Occurrence.{Occurrence}
@@ -7,9 +7,9 @@ use Rattle.sy_rules.specs.declared.lists.occurrence.Occurrence.TheVariants as oc
 use Rattle.sy_rules.specs.PlanValue.{Plan}
 use Rattle.sy_rules.specs.Whole.{queue_for}
 use Rattle.sy_board.specs.relay.Cells as cells
-use Rattle.sy_board.specs.relay.Cells.{Cell, RelayState, at, put, hand, waiting}
+use Rattle.sy_board.specs.relay.Cells.{Cell, RelayState, at, put, hand}
 use Rattle.sy_board.specs.relay.Plans.{parameters_at, queue_of_input, queue_of_worker}
-use Rattle.sy_board.specs.relay.Steps.{Event, Job, Out, Step, advanced, still}
+use Rattle.sy_board.specs.relay.Steps.{Event, HasRoom, Job, Out, Step, advanced, still}
 use Rattle.sy_board.proofs.relay.Put.{put_elim, if_elim}
 use Rattle.sy_site.specs.Sites.{Site, plan_at}
 use Rattle.sy_site.specs.machine.States.{SiteState, opening, with_relay}
@@ -18,9 +18,9 @@ use Rattle.sy_site.specs.machine.Lengths.{IsWithinSizes}
 use Rattle.sy_board.proofs.relay.Marks.{empty_everywhere}
 use Rattle.sy_site.proofs.machine.Marks.{put_outs_relays, relay_elim}
 
-has_room : (n size : ℕ) → (false ≡ true) ⊎ (n < size) → n < size
-has_room n size (inl e) = cc
-has_room n size (inr l) = l
+has_room : (plan : Plan) (old : RelayState) (list : ℕ) → (false ≡ true) ⊎ HasRoom plan old list → HasRoom plan old list
+has_room plan old list (inl e) = absurd (cc)
+has_room plan old list (inr room) = room
 
 module _ (plan : Plan) where
   abbrev SizeAt : Cell → List Entry → Type 0
@@ -59,7 +59,7 @@ module _ (plan : Plan) where
   sizes_step old (Event.Post w) new outs a (l, node, true, posts, is) = subst InSizes (sym posts.after) (advanced_sizes old w _ a posts.job)
   sizes_step old (Event.Post w) new outs a (l, node, false, posts, is) =
       let q = queue_for plan l in
-      let room = has_room (waiting old q) (parameters_at plan q).size posts.room in
+      let room = (has_room plan old l posts.room).not_full in
       subst InSizes (sym posts.after)
       (put_elim SizeAt (advanced plan old w (occurrence.Post l) posts.job) (Cell.Queue q) (at old (Cell.Queue q) ++ node ∷ [])
       (omega (arith, room, length-append (at old (Cell.Queue q)) (node ∷ []))) (advanced_sizes old w _ a posts.job))

@@ -19,7 +19,7 @@ use Rattle.sy_site.specs.machine.Safety.{Heads, IsCopyOf, Left}
 use Rattle.sy_site.specs.machine.Examples.{audit, edge_input, example_message, up}
 use Rattle.sy_site.specs.machine.Counterexamples.{Holds, Part, spared_site}
 use Rattle.sy_site.proofs.machine.EdgeRun as edge
-use Rattle.sy_site.proofs.machine.ExampleSound.{two_differ}
+use Rattle.sy_site.proofs.machine.ExampleWhole.{two_differ}
 use Rattle.sy_site.proofs.machine.Parts.{none_there, of_nothing, of_one, of_one_entry}
 use Rattle.sy_site.proofs.machine.SparedRun as spared
 use Rattle.sy_site.proofs.machine.Spread.{action_elim, some_same}

@@ -11,7 +11,7 @@ use Rattle.sy_site.specs.machine.Steps.{Runs, SiteEvent, SiteStep}
 use Rattle.sy_site.specs.machine.Examples.{audit, edge_input, example_message, hub_input, hub_plan, up}
 use Rattle.sy_site.specs.machine.Counterexamples.{spared_events, spared_site}
 use Rattle.sy_site.proofs.machine.EdgeRun as edge
-use Rattle.sy_site.proofs.machine.ExampleRun.{first_due, lowest}
+use Rattle.sy_site.proofs.machine.DueSets.{first_due, lowest}
 
 module _ (class : Class) where
   abbrev pub node : Entry

@@ -75,8 +75,12 @@ kept_of_all plan P O G copies k = record {
   lost_expire = λ old i h e p l f. record { copy = p.copy; is = p.is; holds = (k p.copy).lost_expire old i h e p.holds l f };
   lost_grab = λ old q n e g p l d. record { copy = p.copy; is = p.is; holds = (k p.copy).lost_grab old q n e g p.holds l d };
   lost_run = λ w n e a p o t. record { copy = p.copy; is = p.is; holds = (k p.copy).lost_run w n e a p.holds o t };
-  lost_post = λ w e l p o. record { copy = p.copy; is = p.is; holds = (k p.copy).lost_post w e l p.holds o };
-  lost_node = λ w e l p o. record { copy = p.copy; is = p.is; holds = (k p.copy).lost_node w e l p.holds o };
+  lost_post = λ old w e l no_memory p o cause. record {
+    copy = p.copy;
+    is = p.is;
+    holds = (k p.copy).lost_post old w e l no_memory p.holds o cause;
+  };
+  lost_node = λ old w e l g p o d. record { copy = p.copy; is = p.is; holds = (k p.copy).lost_node old w e l g p.holds o d };
 }
 
 -- what leaves a relay, by what holds of an action's copies and of losses

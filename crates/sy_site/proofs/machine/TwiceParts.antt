@@ -14,7 +14,7 @@ use Rattle.sy_site.specs.machine.States.{Arrival, Copy}
 use Rattle.sy_site.specs.machine.Safety.{Heads, IsCopyOf, IsWrittenOrHeads, Left, forwards, writes}
 use Rattle.sy_site.specs.machine.Examples.{audit, edge_input, example_message, hub_input, hub_plan}
 use Rattle.sy_site.specs.machine.Counterexamples.{Holds, Part, again, to_hub, twice_plan, twice_site}
-use Rattle.sy_site.proofs.machine.ExampleRun.{lowest}
+use Rattle.sy_site.proofs.machine.DueSets.{lowest}
 use Rattle.sy_site.proofs.machine.ExampleSound.{only_audit_is_named}
 use Rattle.sy_site.proofs.machine.Naming.{each_in}
 use Rattle.sy_site.proofs.machine.Parts.{none_there, of_one}

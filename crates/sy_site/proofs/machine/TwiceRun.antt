@@ -12,7 +12,7 @@ use Rattle.sy_site.specs.machine.States.{Copy, SiteState, opening, with_passed, 
 use Rattle.sy_site.specs.machine.Steps.{Runs, SiteEvent, SiteStep}
 use Rattle.sy_site.specs.machine.Examples.{audit, edge_input, example_message, hub_input, hub_plan}
 use Rattle.sy_site.specs.machine.Counterexamples.{again, again_input, to_hub, twice_events, twice_plan, twice_site}
-use Rattle.sy_site.proofs.machine.ExampleRun.{first_due, lowest}
+use Rattle.sy_site.proofs.machine.DueSets.{first_due, lowest}
 
 module _ (class : Class) where
   -- at edge: by the first input, then by the second one

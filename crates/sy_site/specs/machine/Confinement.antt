@@ -1,19 +1,21 @@
 -- Where the copies of a class are that came in at entries (this profile's own).
-use Rattle.std.specs.Prelude.{◌≡◌, ℕ, ◌+◌, ◌*◌, ◌<◌, false, List, Some, AllPairs, slice_get}
+use Rattle.std.specs.Prelude.{◌≡◌, ℕ, ◌+◌, ◌*◌, ◌<◌, ◌⊎◌, false, List, Some, AllPairs, slice_get}
 use Rattle.std.specs.Int.{bit_at}
 use Rattle.std.specs.List.{Contains}
 use Rattle.sy_wire.specs.declared.class.Class.{Class}
 use Rattle.sy_chain.specs.Entries.{Entry}
+use Rattle.sy_rules.specs.declared.lists.occurrence.Occurrence.TheVariants as occurrence
 use Rattle.sy_rules.specs.PlanValue.{Plan}
-use Rattle.sy_rules.specs.Whole.{body_at}
+use Rattle.sy_rules.specs.Whole.{body_at, queue_for}
 use Rattle.sy_rules.specs.lists.Work.{May}
 use Rattle.sy_board.specs.relay.Cells.{Cell, at}
-use Rattle.sy_board.specs.relay.Plans.{input_at, queue_of_input, queue_of_worker}
+use Rattle.sy_board.specs.relay.Kinds.{MayLose}
+use Rattle.sy_board.specs.relay.Plans.{input_at, post_flow, queue_of_input, queue_of_worker}
 use Rattle.sy_board.specs.relay.Spares.{Scope}
 use Rattle.sy_site.specs.Sites.{Site, SiteAction, SiteInput, plan_at, target}
 use Rattle.sy_site.specs.machine.States.{Copy, Loss, SiteState, is_flagged_at, is_flagged_loss, is_flagged_on}
 use Rattle.sy_site.specs.machine.Findings.{IsForward}
-use Rattle.sy_site.specs.machine.Reach.{Follows, Reach}
+use Rattle.sy_site.specs.machine.Reach.{Follows, MayDo, Reach}
 
 -- a copy, known by its tag, of a message of the class that came from outside at an entry
 pub record IsFollowed (site : Site) (state : SiteState) (class : Class) (tag : ℕ) (copy : Copy) : Type 0 where
@@ -39,6 +41,23 @@ pub record IsOfItsInput (plan : Plan) (cell : Cell) (entry : Entry) : Type 0 whe
   pub place : IsPlaceOf plan cell entry.input
   pub list : entry.list ≡ (input_at plan entry.input).list
 
+-- The place is one for entries that a post puts into a list's queue: that queue, or a worker that takes from it.
+abbrev pub IsPlaceOfList : Plan → Cell → ℕ → Type 0
+IsPlaceOfList plan (Cell.Hand place) list = ⊥
+IsPlaceOfList plan (Cell.Queue queue) list = queue_for plan list ≡ queue
+IsPlaceOfList plan (Cell.Worker worker) list = queue_for plan list ≡ queue_of_worker plan worker
+
+-- The entry is where a post put it: at a place of the list that it follows. The class may execute that post in a list that it may follow from the
+-- entry's input on; the post isn't spare, and its queue, in which posts wait, can't lose it.
+pub record IsOfAPost (site : Site) (class : Class) (relay : ℕ) (cell : Cell) (entry : Entry) : Type 0 where
+  pub place : IsPlaceOfList (plan_at site relay) cell entry.list
+  pub before : ℕ
+  pub follows : Follows site class Scope.Firm (record { relay = relay; input = entry.input }) before
+  pub number : ℕ
+  pub does : MayDo site class Scope.Firm relay before number (occurrence.Post entry.list)
+  pub keeps : MayLose (plan_at site relay) class (queue_for (plan_at site relay) entry.list)
+      (post_flow (plan_at site relay) (queue_for (plan_at site relay) entry.list)) → ⊥
+
 -- the link leads to an input, and the class reaches it without spare occurrences
 pub record IsLinkWithin (site : Site) (class : Class) (link : SiteAction) : Type 0 where
   pub to : SiteInput
@@ -54,14 +73,15 @@ abbrev pub Falls : (ℕ → ℕ) → List ℕ → Type 0
 Falls rank trail = AllPairs (λ earlier later. rank later < rank earlier) trail
 
 -- The copies of the class that came in at entries are confined, but for flagged ones: they are held within its reach without spare occurrences alone,
--- each at a place of its input, are on no link but of a forward that leads to a reached input, and none is lost.
+-- each where its input put it, or a post into a queue that can't lose it; are on no link but of a forward that leads to a reached input; and none is
+-- lost.
 pub record AreConfined (site : Site) (class : Class) (state : SiteState) : Type 0 where
   pub held : (relay : ℕ) (cell : Cell) (entry : Entry) → Contains (at (state.relays relay) cell) entry
       → (copy : Copy) → IsFollowed site state class entry.tag copy → is_flagged_at site relay entry.list copy ≡ false
       → IsWithinReach site class Scope.Firm relay entry
   pub placed : (relay : ℕ) (cell : Cell) (entry : Entry) → Contains (at (state.relays relay) cell) entry
       → (copy : Copy) → IsFollowed site state class entry.tag copy → is_flagged_at site relay entry.list copy ≡ false
-      → IsOfItsInput (plan_at site relay) cell entry
+      → IsOfItsInput (plan_at site relay) cell entry ⊎ IsOfAPost site class relay cell entry
   pub on_links : (link : SiteAction) (tag : ℕ) → Contains (state.passed link) tag
       → (copy : Copy) → IsFollowed site state class tag copy → is_flagged_on site link copy ≡ false
       → IsForward (slice_get (plan_at site link.relay).actions link.action) → IsLinkWithin site class link

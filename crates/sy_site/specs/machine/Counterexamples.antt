@@ -1,12 +1,13 @@
 -- Small sites, which aren't sound, with runs that end in states that aren't safe, or not confined (this profile's own). So no part of either can be
--- left out unseen.
-use Rattle.std.specs.Prelude.{◌≡◌, ◌≢◌, ℕ, true, false, List, [], ◌∷◌, Some, None, codes, slice_get, take}
+-- left out unseen, but for reach and for what is due.
+use Rattle.std.specs.Prelude.{◌≡◌, ◌≢◌, ℕ, ◌⊎◌, true, false, List, [], ◌∷◌, Some, None, codes, slice_get, take}
 use Rattle.std.specs.Int.{bit_at}
 use Rattle.std.specs.List.{Contains}
 use Rattle.sy_wire.specs.declared.class.Class.{Class}
 use Rattle.sy_chain.specs.Entries.{Entry}
 use Rattle.sy_rules.specs.declared.parameters.objects.Destination.TheVariants as destination
 use Rattle.sy_rules.specs.declared.parameters.settings.FlowControl.TheVariants as control
+use Rattle.sy_rules.specs.declared.parameters.settings.QueueParameters.{QueueParameters}
 use Rattle.sy_rules.specs.lists.Body.{Body}
 use Rattle.sy_rules.specs.PlanValue.{Plan}
 use Rattle.sy_rules.specs.Whole.{AreDifferent, body_at}
@@ -19,9 +20,9 @@ use Rattle.sy_site.specs.machine.States.{Arrival, Copy, Loss, SiteState, is_flag
 use Rattle.sy_site.specs.machine.Steps.{Runs, SiteEvent}
 use Rattle.sy_site.specs.machine.Reach.{Reach, list_of}
 use Rattle.sy_site.specs.machine.Findings.{IsForward}
-use Rattle.sy_site.specs.machine.Confinement.{AreConfined, IsFollowed, IsPlaceOf}
+use Rattle.sy_site.specs.machine.Confinement.{AreConfined, IsFollowed, IsOfAPost, IsPlaceOf}
 use Rattle.sy_site.specs.machine.Safety.{AreSafe, IsCopyOf, IsWrittenOrHeads}
-use Rattle.sy_site.specs.machine.Examples.{edge_input, edge_plan, example_message, example_queue, hub_input, hub_plan, narrow_plan, relay_of, site_of_two, up}
+use Rattle.sy_site.specs.machine.Examples.{edge_input, edge_plan, example_message, example_queue, hub_input, hub_plan, narrow_plan, relay_of, site_of_two, up, waiting_plan, waiting_queue}
 
 -- the parts of safe
 pub data Part : Type 0 where
@@ -72,10 +73,12 @@ input_of relay entry = record { relay = relay; input = entry.input }
 -- what a part says: `AreConfined` says all seven
 abbrev pub Bounds : Site → Class → SiteState → Bound → Type 0
 Bounds site class state Bound.InReach = OfHeld site class state (λ relay cell entry. Reach site class Scope.Firm (input_of relay entry))
-Bounds site class state Bound.OnList = OfHeld site class state (λ relay cell entry. entry.list ≡ list_of site (input_of relay entry))
+Bounds site class state Bound.OnList = OfHeld site class state (λ relay cell entry.
+    (entry.list ≡ list_of site (input_of relay entry)) ⊎ IsOfAPost site class relay cell entry)
 Bounds site class state Bound.MayRun = OfHeld site class state (λ relay cell entry.
     (number : ℕ) → bit_at entry.due number ≡ 1 → May (body_at (plan_at site relay) entry.list) class number)
-Bounds site class state Bound.AtPlace = OfHeld site class state (λ relay cell entry. IsPlaceOf (plan_at site relay) cell entry.input)
+Bounds site class state Bound.AtPlace = OfHeld site class state (λ relay cell entry.
+    IsPlaceOf (plan_at site relay) cell entry.input ⊎ IsOfAPost site class relay cell entry)
 Bounds site class state Bound.LinkLeads = OfLinks site class state (λ link. (to : SiteInput) × (target site link ≡ Some to))
 Bounds site class state Bound.LinkInReach =
     OfLinks site class state (λ link. (to : SiteInput) → target site link ≡ Some to → Reach site class Scope.Firm to)
@@ -239,7 +242,7 @@ aimless_events class =
     ∷ SiteEvent.Inside 0 (Event.Done 1)
     ∷ []
 
--- edge posts what comes in to the list that it follows already, whose queue isn't the input's
+-- edge posts what comes in to the list that it follows already, whose queue isn't the input's and doesn't wait
 abbrev pub moving_plan : Plan
 moving_plan = record narrow_plan {
   inputs = record { port = 6514; flow = control.Full; list = 1; queue = 0 } ∷ [];
@@ -260,7 +263,7 @@ moving_events class =
     ∷ SiteEvent.Inside 0 (Event.Grab 1)
     ∷ []
 
--- edge posts what comes in to another list, of the same queue
+-- edge posts what comes in to another list, of the same queue, which doesn't wait
 abbrev pub changing_plan : Plan
 changing_plan = record narrow_plan {
   lists = record { body = Body.Post 1 Body.End; queue = None } ∷ record { body = Body.Run 0 Body.End; queue = None } ∷ [];
@@ -292,3 +295,51 @@ stray_site = record {
   protections = [];
   spares = [];
 }
+
+-- ---- a post into a queue that waits is lost, and its message heads for its archive all the same
+
+-- edge posts what comes in twice to the list that forwards it, which has this queue
+abbrev pub leaking_plan : QueueParameters → Plan
+leaking_plan queue = record waiting_plan {
+  queues = example_queue 50000 48500 ∷ example_queue 100 90 ∷ queue ∷ [];
+  lists = record { body = Body.End; queue = None } ∷ record { body = Body.Post 2 (Body.Post 2 Body.End); queue = Some 1 }
+      ∷ record { body = Body.Run 0 Body.End; queue = Some 2 } ∷ [];
+  rulesets = 2;
+  names = codes "RSYSLOG_DefaultRuleset" ∷ codes "out" ∷ codes "side" ∷ [];
+}
+
+abbrev pub leaking_site : QueueParameters → Site
+leaking_site queue = site_of_two (leaking_plan queue) hub_plan
+
+-- a queue of size 1, in which posts wait at no mark
+abbrev pub unmarked_queue : QueueParameters
+unmarked_queue = waiting_queue 1 0
+
+-- one that has a mark, and discards what comes behind the first message
+abbrev pub discarding_queue : QueueParameters
+discarding_queue = record (waiting_queue 100 90) { discard_mark = 1; discard_severity = 0 }
+
+-- Behind the first post the queue has the message; then the second one is to be done.
+abbrev pub leaking_events : Class → Event → List SiteEvent
+leaking_events class last =
+    SiteEvent.TakeNew edge_input 0 (example_message class)
+    ∷ SiteEvent.Inside 0 (Event.Enter 0 0)
+    ∷ SiteEvent.Inside 0 (Event.Grab 1)
+    ∷ SiteEvent.Inside 0 (Event.Post 1)
+    ∷ SiteEvent.Inside 0 last
+    ∷ []
+
+-- ---- posts go from queue to queue in a circle
+
+-- edge forwards what comes in, and posts it to a list that posts it back; posts into both queues wait
+abbrev pub turning_plan : Plan
+turning_plan = record waiting_plan {
+  queues = example_queue 50000 48500 ∷ waiting_queue 100 90 ∷ waiting_queue 100 90 ∷ [];
+  lists = record { body = Body.End; queue = None } ∷ record { body = Body.Run 0 (Body.Post 2 Body.End); queue = Some 1 }
+      ∷ record { body = Body.Post 1 Body.End; queue = Some 2 } ∷ [];
+  rulesets = 2;
+  names = codes "RSYSLOG_DefaultRuleset" ∷ codes "out" ∷ codes "side" ∷ [];
+}
+
+abbrev pub turning_site : Site
+turning_site = site_of_two turning_plan hub_plan

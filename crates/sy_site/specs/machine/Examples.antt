@@ -34,7 +34,12 @@ example_queue size mark = record {
   discard_severity = 8;
   timeout_enqueue = 2000;
   workers = 1;
+  waits = false;
 }
+
+-- the same, in which posts wait
+abbrev pub waiting_queue : ℕ → ℕ → QueueParameters
+waiting_queue size mark = record (example_queue size mark) { waits = true }
 
 -- ---- a message comes to its archive
 
@@ -48,6 +53,19 @@ edge_plan = record {
   lists = record { body = Body.End; queue = None } ∷ record { body = Body.Run 0 Body.End; queue = Some 1 } ∷ [];
   rulesets = 1;
   names = codes "RSYSLOG_DefaultRuleset" ∷ codes "out" ∷ [];
+}
+
+-- edge does so through that action's own queue, which waits, besides
+abbrev pub waiting_plan : Plan
+waiting_plan = record {
+  inputs = record { port = 6514; flow = control.Full; list = 1; queue = 1 } ∷ [];
+  queues = example_queue 50000 48500 ∷ example_queue 100 90 ∷ waiting_queue 100 90 ∷ [];
+  workers = 0 ∷ 1 ∷ 2 ∷ [];
+  actions = record { name = codes "up"; destination = destination.Forward (codes "hub") 6515; retry = None; resume_interval = 30 } ∷ [];
+  lists = record { body = Body.End; queue = None } ∷ record { body = Body.Post 2 Body.End; queue = Some 1 }
+      ∷ record { body = Body.Run 0 Body.End; queue = Some 2 } ∷ [];
+  rulesets = 1;
+  names = codes "RSYSLOG_DefaultRuleset" ∷ codes "out" ∷ codes "up" ∷ [];
 }
 
 -- hub writes what comes to its port 6515 into a file
@@ -122,24 +140,26 @@ site_of_two edge hub = record {
   spares = [];
 }
 
--- mirror is the third relay, and hub's forward to it is spare
+-- edge has a queue that waits besides, mirror is the third relay, and hub's forward to it is spare
 abbrev pub example_site : Site
 example_site = record (site_of_two edge_plan copying_plan) {
   policy = 2;
-  relays = relay_of (codes "edge") edge_plan ∷ relay_of (codes "hub") copying_plan ∷ relay_of (codes "mirror") mirror_plan ∷ [];
+  relays = relay_of (codes "edge") waiting_plan ∷ relay_of (codes "hub") copying_plan ∷ relay_of (codes "mirror") mirror_plan ∷ [];
   spares = copying ∷ [];
 }
 
--- It comes to a hand of edge, into the queue, to the worker; the link fails, but took it all the same, and takes it once more; hub takes it from the
--- second place of the link, writes it, and puts it into the spare action's queue, from which it is forwarded to mirror; mirror takes it, and gives it
--- up.
+-- It comes to a hand of edge, into the queue, to the worker, into the action's queue, to its worker; the link fails, but took it all the same, and takes it
+-- once more; hub takes it from the second place of the link, writes it, and puts it into the spare action's queue, from which it is forwarded to mirror;
+-- mirror takes it, and gives it up.
 abbrev pub example_events : Class → List SiteEvent
 example_events class =
     SiteEvent.TakeNew edge_input 0 (example_message class)
     ∷ SiteEvent.Inside 0 (Event.Enter 0 0)
     ∷ SiteEvent.Inside 0 (Event.Grab 1)
-    ∷ SiteEvent.Inside 0 (Event.Fail 1 true)
-    ∷ SiteEvent.Inside 0 (Event.Done 1)
+    ∷ SiteEvent.Inside 0 (Event.Post 1)
+    ∷ SiteEvent.Inside 0 (Event.Grab 2)
+    ∷ SiteEvent.Inside 0 (Event.Fail 2 true)
+    ∷ SiteEvent.Inside 0 (Event.Done 2)
     ∷ SiteEvent.TakeFrom hub_input 0 up 1
     ∷ SiteEvent.Inside 1 (Event.Enter 0 0)
     ∷ SiteEvent.Inside 1 (Event.Grab 0)

@@ -1,4 +1,4 @@
--- What the checker may find in a site: nine kinds, by number, each a condition on plans and spare actions alone (this profile's own).
+-- What the checker may find in a site: ten kinds, by number, each a condition on plans and spare actions alone (this profile's own).
 use Rattle.std.specs.Prelude.{◌≡◌, ℕ, true, List, [], ◌∷◌, Option, Some, None, map, slice_get}
 use Rattle.std.specs.List.{Contains}
 use Rattle.sy_wire.specs.declared.class.Class.{Class}
@@ -10,10 +10,10 @@ use Rattle.sy_board.specs.relay.Feeders as feeders
 use Rattle.sy_board.specs.relay.Kinds as kinds
 use Rattle.sy_board.specs.relay.Spares.{Scope}
 use Rattle.sy_site.specs.Sites.{Site, SiteInput, SiteAction, archives, is_protected, plan_at, spares_at, target}
-use Rattle.sy_site.specs.machine.Reach.{LeadsTo, Reach, Reaches, list_of}
+use Rattle.sy_site.specs.machine.Reach.{Follows, LeadsTo, PostsOn, Reach, Reaches, list_of}
 
 pub data Kind : Type 0 where
-  NotFull MarkOff MarkAboveSize Discards InnerQueue GivesUp NoTarget Loop : Kind
+  NotFull MarkOff MarkAboveSize Discards InnerQueue GivesUp NoTarget Loop InnerLoop : Kind
   -- which archive isn't led to
   Unmet : SiteAction → Kind
 
@@ -27,14 +27,15 @@ kind_number Kind.GivesUp = 6
 kind_number Kind.NoTarget = 7
 kind_number Kind.Loop = 8
 kind_number (Kind.Unmet archive) = 9
+kind_number Kind.InnerLoop = 10
 
--- ---- kinds 1 to 7: what may be wrong at one input
+-- ---- kinds 1 to 7, and 10: what may be wrong at one input
 
 -- the parameters of the input's queue
 abbrev pub queue_of : Site → SiteInput → QueueParameters
 queue_of site input = kinds.queue_of (plan_at site input.relay) input.input
 
--- some feeder of the queue, of any class, isn't a full-delay input
+-- some feeder of the queue, of any class, isn't a full-delay feeder
 abbrev pub IsFedFreely : Site → ℕ → ℕ → Type 0
 IsFedFreely site relay queue = feeders.IsFedFreely (plan_at site relay) queue
 
@@ -53,6 +54,12 @@ IsForward (Some action) = sends action.destination where
   sends (destination.Archive file) = ⊥
   sends (destination.Forward name port) = Unit {0}
 
+-- it may be put into queue after queue, to a list that it followed before; none of these posts is spare
+pub record IsInnerLoop (site : Site) (class : Class) (input : SiteInput) : Type 0 where
+  pub list : ℕ
+  pub follows : Follows site class Scope.Firm input list
+  pub again : PostsOn site class Scope.Firm input.relay list list
+
 -- The kind's condition on an input, for a class: the first six are of its relay alone. Of kinds 8 and 9 see below.
 abbrev pub HoldsAt : Site → Class → SiteInput → Kind → Type 0
 HoldsAt site class input Kind.NotFull = HoldsInPlan site class input kinds.Kind.NotFull
@@ -64,6 +71,7 @@ HoldsAt site class input Kind.GivesUp = HoldsInPlan site class input kinds.Kind.
 HoldsAt site class input Kind.NoTarget =
     (action : ℕ) × MayRun site class input action × IsForward (slice_get (plan_at site input.relay).actions action)
     × (target site (record { relay = input.relay; action = action }) ≡ None)
+HoldsAt site class input Kind.InnerLoop = IsInnerLoop site class input
 HoldsAt site class input _ = ⊥
 
 -- ---- ways

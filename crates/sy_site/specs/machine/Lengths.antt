@@ -6,7 +6,7 @@ use Rattle.sy_board.specs.relay.Plans.{parameters_at}
 use Rattle.sy_site.specs.Sites.{Site, plan_at}
 use Rattle.sy_site.specs.machine.States.{SiteState}
 
--- The length bound, of each relay: a queue whose feeders are all full-delay inputs, and whose full-delay mark isn't off, is no longer than that mark.
+-- The length bound, of each relay: a queue whose feeders are all full-delay feeders, and whose full-delay mark isn't off, is no longer than that mark.
 abbrev pub IsWithinMarks : Site → SiteState → Type 0
 IsWithinMarks site state = (relay : ℕ) → feeders.IsWithinMarks (plan_at site relay) (state.relays relay)
 

@@ -29,6 +29,10 @@ MayDo site class scope relay list number is = spares.MayDo (plan_at site relay) 
 abbrev pub Follows : Site → Class → Scope → SiteInput → ℕ → Type 0
 Follows site class scope input list = spares.Follows (plan_at site input.relay) (spares_at site input.relay) class scope input.input list
 
+-- one post after another, at least one, leads from a list of a relay to another
+abbrev pub PostsOn : Site → Class → Scope → ℕ → ℕ → ℕ → Type 0
+PostsOn site class scope relay from to = spares.PostsOn (plan_at site relay) (spares_at site relay) class scope from to
+
 -- one that each message of the class executes, and that isn't spare
 pub record MustDo (site : Site) (class : Class) (relay list number : ℕ) (is : Occurrence) : Type 0 where
   pub must : Must (body_at (plan_at site relay) list) class number
@@ -49,10 +53,17 @@ pub data Reach (site : Site) (class : Class) (scope : Scope) : SiteInput → Typ
   onward : {from to : SiteInput} (number : ℕ) → Reach site class scope from → Reaches site class scope from.relay (list_of site from) number to
       → Reach site class scope to
 
--- An input leads to an archive where each message of the class runs the archive's action there, or a forward to an input that leads to it. None of
--- these is spare.
-pub data LeadsTo (site : Site) (class : Class) (archive : SiteAction) : SiteInput → Type 0 where
-  writes : {input : SiteInput} (number action : ℕ) → MustDo site class input.relay (list_of site input) number (occurrence.Run action)
-      → record { relay = input.relay; action = action } ≡ archive → LeadsTo site class archive input
-  leads_on : {from : SiteInput} (number action : ℕ) (to : SiteInput) → MustDo site class from.relay (list_of site from) number (occurrence.Run action)
-      → target site (record { relay = from.relay; action = action }) ≡ Some to → LeadsTo site class archive to → LeadsTo site class archive from
+-- A list of a relay leads to an archive where each message of the class runs the archive's action there, or a forward to an input whose list leads to
+-- it, or a post to a list that leads to it. None of these is spare.
+pub data ListLeadsTo (site : Site) (class : Class) (archive : SiteAction) : (relay list : ℕ) → Type 0 where
+  writes : {relay list : ℕ} (number action : ℕ) → MustDo site class relay list number (occurrence.Run action)
+      → record { relay = relay; action = action } ≡ archive → ListLeadsTo site class archive relay list
+  leads_on : {relay list : ℕ} (number action : ℕ) (to : SiteInput) → MustDo site class relay list number (occurrence.Run action)
+      → target site (record { relay = relay; action = action }) ≡ Some to → ListLeadsTo site class archive to.relay (list_of site to)
+      → ListLeadsTo site class archive relay list
+  posts_on : {relay list : ℕ} (number inner : ℕ) → MustDo site class relay list number (occurrence.Post inner)
+      → ListLeadsTo site class archive relay inner → ListLeadsTo site class archive relay list
+
+-- An input leads to an archive where its list does.
+abbrev pub LeadsTo : Site → Class → SiteAction → SiteInput → Type 0
+LeadsTo site class archive input = ListLeadsTo site class archive input.relay (list_of site input)

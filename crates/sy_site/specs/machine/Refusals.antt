@@ -7,7 +7,7 @@ use Rattle.sy_board.specs.relay.Steps.{Event}
 use Rattle.sy_site.specs.Sites.{Site}
 use Rattle.sy_site.specs.machine.States.{SiteState}
 use Rattle.sy_site.specs.machine.Steps.{Runs, SiteEvent, SiteStep}
-use Rattle.sy_site.specs.machine.Examples.{edge_input, example_message, example_queue, narrow_events, narrow_plan, narrow_site, relay_of}
+use Rattle.sy_site.specs.machine.Examples.{edge_input, example_message, example_queue, narrow_events, narrow_plan, narrow_site, relay_of, waiting_queue}
 
 -- behind a run of these events this one is no step
 abbrev pub IsRefusedAfter : Site → List SiteEvent → SiteEvent → Type 0
@@ -30,3 +30,10 @@ marked_site size = record narrow_site { relays = relay_of (codes "edge") (marked
 
 abbrev pub marked_events : Class → List SiteEvent
 marked_events class = take 3 (narrow_events class)
+
+-- The narrow site, but posts into its second queue wait: it has this size, and a full-delay mark of 1.
+abbrev pub holding_plan : ℕ → Plan
+holding_plan size = record narrow_plan { queues = example_queue 1 0 ∷ waiting_queue size 1 ∷ [] }
+
+abbrev pub holding_site : ℕ → Site
+holding_site size = record narrow_site { relays = relay_of (codes "edge") (holding_plan size) ∷ [] }

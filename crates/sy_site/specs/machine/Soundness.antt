@@ -13,8 +13,8 @@ pub record AreRanks (site : Site) (class : Class) (rank : ℕ → ℕ) : Type 0 
   pub falls : (from to : SiteInput) (number : ℕ) → Reach site class Scope.Every from
       → Reaches site class Scope.Every from.relay (list_of site from) number to → rank to.relay < rank from.relay
 
--- Sound for one class: at no input that is reached without spare occurrences one of the kinds 1 to 7 holds, there are ranks, and each entry leads to
--- each archive that is named.
+-- Sound for one class: at no input that is reached without spare occurrences one of the kinds 1 to 7 or 10 holds, there are ranks, and each entry leads
+-- to each archive that is named.
 pub record IsSoundFor (site : Site) (class : Class) : Type 0 where
   pub clean : (input : SiteInput) → Reach site class Scope.Firm input → (kind : Kind) → HoldsAt site class input kind → ⊥
   pub rank : ℕ → ℕ

@@ -1,10 +1,13 @@
-use Rattle.std.proofs.Common.{sym, subst, ◌∙◌}
+use Rattle.std.proofs.Common.{◌≡◌, ℕ, sym, subst, inl, inr, ◌∙◌}
+use Rattle.std.specs.Prelude.{◌⊎◌}
 use Rattle.sy_wire.specs.declared.class.Class.{Class}
-use Rattle.sy_board.specs.relay.Spares.{Scope, own}
-use Rattle.sy_site.specs.Sites.{Site}
-use Rattle.sy_site.specs.machine.Reach.{Follows, Reach}
+use Rattle.sy_chain.specs.Entries.{Entry}
+use Rattle.sy_board.specs.relay.Cells.{Cell}
+use Rattle.sy_board.specs.relay.Spares.{Scope, own, posted}
+use Rattle.sy_site.specs.Sites.{Site, plan_at}
+use Rattle.sy_site.specs.machine.Reach.{Follows, Reach, list_of}
 use Rattle.sy_site.specs.machine.States.{SiteState}
-use Rattle.sy_site.specs.machine.Confinement.{AreConfined}
+use Rattle.sy_site.specs.machine.Confinement.{AreConfined, IsOfAPost, IsOfItsInput, IsPlaceOf}
 use Rattle.sy_site.specs.machine.Safety.{AreSafe}
 use Rattle.sy_site.specs.machine.Counterexamples.{Bound, Bounds, Holds, Part, input_of}
 use Rattle.sy_site.proofs.machine.Spread.{some_same}
@@ -26,11 +29,36 @@ module _ (site : Site) (state : SiteState) where
   }
 
   module _ (class : Class) where
+    -- by its input or by a post
+    abbrev Placed : ℕ → Cell → Entry → Type 0
+    Placed relay cell entry = IsOfItsInput (plan_at site relay) cell entry ⊎ IsOfAPost site class relay cell entry
+
+    on_list : (relay : ℕ) (cell : Cell) (entry : Entry) → Placed relay cell entry
+        → (entry.list ≡ list_of site (input_of relay entry)) ⊎ IsOfAPost site class relay cell entry
+    on_list relay cell entry (inl its) = inl its.list
+    on_list relay cell entry (inr post) = inr post
+
+    at_place : (relay : ℕ) (cell : Cell) (entry : Entry) → Placed relay cell entry
+        → IsPlaceOf (plan_at site relay) cell entry.input ⊎ IsOfAPost site class relay cell entry
+    at_place relay cell entry (inl its) = inl its.place
+    at_place relay cell entry (inr post) = inr post
+
+    placed_by : (relay : ℕ) (cell : Cell) (entry : Entry) → (entry.list ≡ list_of site (input_of relay entry)) ⊎ IsOfAPost site class relay cell entry
+        → IsPlaceOf (plan_at site relay) cell entry.input ⊎ IsOfAPost site class relay cell entry → Placed relay cell entry
+    placed_by relay cell entry (inl list) (inl place) = inl (record { place = place; list = list })
+    placed_by relay cell entry (inl list) (inr post) = inr post
+    placed_by relay cell entry (inr post) place = inr post
+
+    follows_on : (relay : ℕ) (cell : Cell) (entry : Entry) → (entry.list ≡ list_of site (input_of relay entry)) ⊎ IsOfAPost site class relay cell entry
+        → Follows site class Scope.Firm (input_of relay entry) entry.list
+    follows_on relay cell entry (inl list) = subst (Follows site class Scope.Firm (input_of relay entry)) (sym list) own
+    follows_on relay cell entry (inr post) = posted post.number post.follows post.does
+
     bound_of : AreConfined site class state → (part : Bound) → Bounds site class state part
     bound_of confined Bound.InReach = λ relay cell entry there copy followed plain. (confined.held relay cell entry there copy followed plain).reached
-    bound_of confined Bound.OnList = λ relay cell entry there copy followed plain. (confined.placed relay cell entry there copy followed plain).list
+    bound_of confined Bound.OnList = λ relay cell entry there copy followed plain. on_list relay cell entry (confined.placed relay cell entry there copy followed plain)
     bound_of confined Bound.MayRun = λ relay cell entry there copy followed plain. (confined.held relay cell entry there copy followed plain).due
-    bound_of confined Bound.AtPlace = λ relay cell entry there copy followed plain. (confined.placed relay cell entry there copy followed plain).place
+    bound_of confined Bound.AtPlace = λ relay cell entry there copy followed plain. at_place relay cell entry (confined.placed relay cell entry there copy followed plain)
     bound_of confined Bound.LinkLeads = λ link tag there copy followed plain forward.
         (let within = confined.on_links link tag there copy followed plain forward in (within.to, within.leads))
     bound_of confined Bound.LinkInReach = λ link tag there copy followed plain forward to leads.
@@ -42,13 +70,11 @@ module _ (site : Site) (state : SiteState) where
     bounds parts = record {
       held = λ relay cell entry there copy followed plain. record {
         reached = parts Bound.InReach relay cell entry there copy followed plain;
-        follows = subst (Follows site class Scope.Firm (input_of relay entry)) (sym (parts Bound.OnList relay cell entry there copy followed plain)) own;
+        follows = follows_on relay cell entry (parts Bound.OnList relay cell entry there copy followed plain);
         due = parts Bound.MayRun relay cell entry there copy followed plain;
       };
-      placed = λ relay cell entry there copy followed plain. record {
-        place = parts Bound.AtPlace relay cell entry there copy followed plain;
-        list = parts Bound.OnList relay cell entry there copy followed plain;
-      };
+      placed = λ relay cell entry there copy followed plain. placed_by relay cell entry
+          (parts Bound.OnList relay cell entry there copy followed plain) (parts Bound.AtPlace relay cell entry there copy followed plain);
       on_links = λ link tag there copy followed plain forward.
           (let leads = parts Bound.LinkLeads link tag there copy followed plain forward in
           record { to = leads.0; leads = leads.1; reached = parts Bound.LinkInReach link tag there copy followed plain forward leads.0 leads.1 });
