@@ -1,6 +1,7 @@
 -- A worker has one job, and one entry is made of it where it is a post.
-use Rattle.std.proofs.Common.{◌≡◌, ◌<◌, inl, inr, ℕ, true, List, [], ◌∷◌, Option, Some, None, All, length, refl, sym, ap, subst, arith, ◌∙◌}
-use Rattle.std.specs.Prelude.{IfSome, is_some, slice_get}
+use Rattle.std.proofs.Common.{◌≡◌, ◌<◌, ◌≤◌, if◌then◌else◌, inl, inr, ℕ, true, List, [], ◌∷◌, Option, Some, None, All, length, refl, sym, ap, subst, arith, ◌∙◌}
+use Rattle.std.specs.Prelude.{IfNone, IfSome, is_some, slice_get}
+use Rattle.std.proofs.lemmas.Bool.Decides.{nat_tests}
 use Rattle.std.proofs.lemmas.Option.{get_or_from_slice_get, slice_get_within}
 use Rattle.sy_wire.specs.Messages.{Said}
 use Rattle.sy_chain.specs.Entries.{Entry}
@@ -12,12 +13,14 @@ use Rattle.sy_board.specs.declared.fault.BoardFault.{BoardFault}
 use Rattle.sy_board.specs.declared.fault.BoardFault.TheVariants as fault
 use Rattle.sy_board.specs.declared.relay.answers.Posted.TheVariants as posted
 use Rattle.sy_board.specs.declared.relay.answers.PostCause.TheVariants as cause
-use Rattle.sy_board.specs.relay.Boards.{BoardState, HasNoJob, HasNoPost, IsForPost, PostFails, PostIs, PostLostFails, PostLostIs}
-use Rattle.sy_board.specs.relay.Cells.{RelayState}
-use Rattle.sy_board.specs.relay.Plans.{IsDue, parameters_at}
-use Rattle.sy_board.specs.relay.Steps.{Job}
+use Rattle.sy_board.specs.relay.Boards.{BoardState, HasNoJob, HasNoPost, IsForPost, PostFails, PostIs, PostLostIs}
+use Rattle.sy_board.specs.relay.Cells.{RelayState, waiting}
+use Rattle.sy_board.specs.relay.Plans.{IsDue, marks_at, parameters_at}
+use Rattle.sy_board.specs.relay.Steps.{Job, is_post_held}
+use Rattle.sy_marks.specs.declared.marks.Flow.TheVariants as flow
+use Rattle.sy_marks.specs.Marks.{is_delayed, is_reached}
 use Rattle.sy_board.proofs.relay.Outcomes.{jobs_same}
-use Rattle.sy_runtime.specs.internal.Finding.{PostRefused, PostWas}
+use Rattle.sy_runtime.specs.internal.Finding.{IsHeldAtMark, PatienceIs, PostRefused, PostWas, WaitsAtMark}
 use Rattle.sy_runtime.specs.declared.posting.PostOutcome.TheVariants.{Done, Held}
 
 run_or_post : (a l : ℕ) → occurrence.Run a ≡ occurrence.Post l → ⊥
@@ -75,21 +78,52 @@ list_there plan state w list whole job = there_in plan.lists list (slice_get pla
     (lead_in plan (slice_get plan.lists job.entry.list) (at_or_none (λ x. All (Leads plan) (occurrences x.body)) plan.lists job.entry.list whole.occurrences_lead)
     job.number list job.found)
 
--- a list's timeout is that of the same list
-pub timeouts_of : (list other time : ℕ) (plan : Plan) → time ≡ (parameters_at plan (queue_for plan list)).timeout_enqueue → list ≡ other
-    → time ≡ (parameters_at plan (queue_for plan other)).timeout_enqueue
-timeouts_of list other time plan is same = subst (λ l. time ≡ (parameters_at plan (queue_for plan l)).timeout_enqueue) same is
+-- ---- how long a held post waits
+
+-- of all lists that a worker's job posts to
+pub patience_of : (list other : ℕ) (time : Option ℕ) (plan : Plan) → PatienceIs time (parameters_at plan (queue_for plan list)) → list ≡ other
+    → PatienceIs time (parameters_at plan (queue_for plan other))
+patience_of list other time plan is same = subst (λ l. PatienceIs time (parameters_at plan (queue_for plan l))) same is
+
+reached : (mark waits : ℕ) → 0 < mark → mark ≤ waits → is_reached mark waits ≡ true
+reached mark waits on there = grind (arith, nat_tests)
+
+-- where the queue is full the mark holds posts
+held_there : (plan : Plan) (state : RelayState) (list : ℕ) → WaitsAtMark (parameters_at plan (queue_for plan list))
+    → (parameters_at plan (queue_for plan list)).size ≤ waiting state (queue_for plan list) → is_post_held plan state list ≡ true
+held_there plan state list mark full =
+    let queue = parameters_at plan (queue_for plan list) in
+    let marks = marks_at plan (queue_for plan list) in
+    subst (λ waits. is_delayed (if waits then flow.Full else flow.NoWait) marks (waiting state (queue_for plan list)) ≡ true) (sym mark.0)
+    (reached queue.full_delay_mark (waiting state (queue_for plan list)) mark.1 (omega (arith, mark.2, full)))
+
+pub held_at_mark : (old : BoardState) (w : ℕ) → ((list : ℕ) → Job old.plan old.state w (occurrence.Post list)
+    → WaitsAtMark (parameters_at old.plan (queue_for old.plan list))) → (node back : Entry) (new : BoardState)
+    → PostIs (posted.Held back) old w node new → IsHeldAtMark old w
+held_at_mark old w marks node back new (same, unchanged, list, job, kept, inl held) = (list, job, held)
+held_at_mark old w marks node back new (same, unchanged, list, job, kept, inr full) =
+    (list, job, held_there old.plan old.state list (marks list job) full)
+
+pub held_if_none : (old : BoardState) (w list : ℕ) (time : Option ℕ) → Job old.plan old.state w (occurrence.Post list)
+    → PatienceIs time (parameters_at old.plan (queue_for old.plan list))
+    → IfNone time ((node back : Entry) → (new : BoardState) → PostIs (posted.Held back) old w node new → IsHeldAtMark old w)
+held_if_none old w list None job is =
+    held_at_mark old w (λ l other. patience_of list l None old.plan is (one_list old.plan old.state w list l job other))
+held_if_none old w list (Some time) job is = tt
 
 -- ---- what became of a post
 
 pub no_job_refused : (old : BoardState) (w : ℕ) → HasNoPost old w → PostRefused old w
-no_job_refused old w none = (fault.NoJob, inr none)
+no_job_refused old w none = inl none
 
 pub post_refused : (why : BoardFault) (old : BoardState) (w : ℕ) (node : Entry) → PostFails why old w node → PostRefused old w
-post_refused why old w node fails = (why, inl (node, fails))
-
-pub loss_refused : (why : BoardFault) (old : BoardState) (w : ℕ) → PostLostFails why cause.NoMemory old w → PostRefused old w
-loss_refused why old w fails = (why, inr fails)
+post_refused fault.HandTaken old w node fails = absurd fails
+post_refused fault.HandEmpty old w node fails = absurd fails
+post_refused fault.SlotBusy old w node fails = absurd fails
+post_refused fault.NoJob old w node fails = inl fails
+post_refused fault.WrongReceipt old w node fails = absurd fails
+post_refused fault.TotalsFull old w node fails = inr (inl (node, fails))
+post_refused fault.NotExpired old w node fails = absurd fails
 
 pub post_done : (old : BoardState) (w : ℕ) (node : Entry) (new : BoardState) → PostIs posted.Done old w node new → PostWas Done old w new
 post_done old w node new is = inl (node, is)

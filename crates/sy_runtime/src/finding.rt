@@ -30,7 +30,7 @@ pub(crate) enum Next {
     Grabbed,
     // nothing waits for it
     Idle,
-    // its messages can't have another owner now
+    // its messages can't have another owner now, or its post, which waits, can't have an entry
     NoMemory,
     Ends,
 }
@@ -66,6 +66,7 @@ fn find_post(alloc: Global, board: &mut Board, worker: u32, used: &mut Vec<Node>
     match post(alloc, board, worker, used) {
         PostOutcome::Done => Next::Posted,
         PostOutcome::Held => Next::Held,
+        PostOutcome::NoMemory => Next::NoMemory,
         PostOutcome::Refused => Next::Ends,
     }
 }

@@ -1,20 +1,22 @@
 //! What a worker does whose job is a post.
-ghost use Rattle.std.specs.Prelude.{◌≡◌, ◌<◌, ℕ, IfOk, IfNone, IfSome, length};
+ghost use Rattle.std.specs.Prelude.{◌≡◌, ◌<◌, ℕ, Decides, IfOk, IfNone, IfSome, length};
 ghost use Rattle.std.specs.Arc.{arc_value};
 ghost use Rattle.sy_rules.specs.Whole.{queue_for};
 ghost use Rattle.sy_rules.specs.declared.lists.occurrence.Occurrence.TheVariants as occurrence;
-ghost use Rattle.sy_board.specs.relay.Boards.{HasNoPost, IsForPost};
+ghost use Rattle.sy_chain.specs.Entries.{Entry};
+ghost use Rattle.sy_board.specs.declared.relay.answers.Posted.TheVariants as posted;
+ghost use Rattle.sy_board.specs.relay.Boards.{BoardState, HasNoPost, IsForPost, PostIs};
 ghost use Rattle.sy_board.specs.relay.Plans.{parameters_at};
 ghost use Rattle.sy_board.specs.relay.Steps.{Job as IsJob};
-ghost use Rattle.sy_runtime.specs.internal.Finding.{IsEntryOf, PostWas};
+ghost use Rattle.sy_runtime.specs.internal.Finding.{IsEntryOf, IsHeldAtMark, PatienceIs, PostWas, WaitsAtMark};
 
 use crate::used::keep;
 use std::alloc::{AllocError, Global};
 use std::sync::Arc;
-use sy_board::{Board, Job, PostCause, Posted};
+use sy_board::{Board, BoardFault, Job, PostCause, Posted};
 use sy_chain::Node;
-use sy_rules::Plan;
 use sy_rules::laws::plans_are_whole;
+use sy_rules::{Plan, QueueParameters};
 use sy_wire::Message;
 
 /// What became of a worker's post.
@@ -22,8 +24,10 @@ use sy_wire::Message;
 pub(crate) enum PostOutcome {
     // it is dealt with: there is an entry in the queue, or it was lost
     Done,
-    // its queue is full
+    // the full-delay mark of its queue holds it, or that queue is full
     Held,
+    // there is no memory for its entry, and it isn't lost for that: posts into its queue wait
+    NoMemory,
     // the board refuses it
     Refused,
 }
@@ -76,18 +80,19 @@ fn posted_node(alloc: Global, board: &Board, worker: u32) -> Result<Option<Node>
     }
 }
 
-// The post of a worker is lost, since there was no memory for its entry.
+// The post of a worker is lost, since there was no memory for its entry; but not where posts into its queue wait.
 fn lose(board: &mut Board, worker: u32) -> PostOutcome
     requires { worker < length board.old.plan.workers }
     ensures { PostWas result board.old worker board.new }
 {
     match board.post_lost(worker, PostCause::NoMemory) {
         Ok(()) => PostOutcome::Done,
+        Err(BoardFault::NotExpired) => PostOutcome::NoMemory,
         Err(_) => PostOutcome::Refused,
     }
 }
 
-/// Does the post of a worker. It is lost where memory for its entry was refused.
+/// Does the post of a worker. Where memory for its entry was refused it is lost, or still to be done where posts into its queue wait.
 pub(crate) fn post(
     alloc: Global,
     board: &mut Board,
@@ -116,30 +121,46 @@ pub(crate) fn post(
     }
 }
 
-// How long a message waits at the queue of a list.
-fn timeout_of(plan: &Plan, list: u32) -> u32
+// Whether the full-delay mark of a queue holds posts there, rather than that the queue is full.
+fn waits_at_mark(queue: &QueueParameters) -> bool
+    ensures { Decides result (WaitsAtMark queue.now) }
+{
+    queue.waits && queue.full_delay_mark > 0 && queue.full_delay_mark <= queue.size
+}
+
+// How long a post waits at the queue of a list, in milliseconds; none where its full-delay mark holds it.
+fn timeout_of(plan: &Plan, list: u32) -> Option<u32>
     requires { list < length plan.now.lists }
-    ensures { result ≡ (parameters_at plan.now (queue_for plan.now list)).timeout_enqueue }
+    ensures { PatienceIs result (parameters_at plan.now (queue_for plan.now list)) }
 {
     let queue = plan.list_queue(list).unwrap_or(0);
     match plan.queues().get(queue as usize) {
-        Some(queue) => queue.timeout_enqueue,
-        None => 0,
+        Some(queue) => {
+            if waits_at_mark(queue) {
+                None
+            } else {
+                Some(queue.timeout_enqueue)
+            }
+        }
+        None => Some(0),
     }
 }
 
-/// How long the post of a worker may wait at a full queue (`queue.timeoutEnqueue` of that queue), in milliseconds.
-pub(crate) fn patience(board: &Board, worker: u32) -> u32
+/// How long the post of a worker may wait where it is held, in milliseconds: `queue.timeoutEnqueue` of its queue. None where the full-delay mark
+/// of that queue holds it: such a post waits as long as it takes.
+pub(crate) fn patience(board: &Board, worker: u32) -> Option<u32>
     requires { worker < length board.now.plan.workers }
-    ensures { (list : ℕ) → IsJob board.now.plan board.now.state worker (occurrence.Post list) →
-        result ≡ (parameters_at board.now.plan (queue_for board.now.plan list)).timeout_enqueue }
+    ensures exact { (list : ℕ) → IsJob board.now.plan board.now.state worker (occurrence.Post list)
+        → PatienceIs result (parameters_at board.now.plan (queue_for board.now.plan list)) }
+    ensures held { IfNone result ((node back : Entry) → (new : BoardState) → PostIs (posted.Held back) board.now worker node new
+        → IsHeldAtMark board.now worker) }
 {
     match board.job(worker) {
         Some(Job::Post { list, .. }) => {
             plans_are_whole(board.plan());
             timeout_of(board.plan(), list)
         }
-        Some(Job::Run { .. }) => 0,
-        None => 0,
+        Some(Job::Run { .. }) => Some(0),
+        None => Some(0),
     }
 }

@@ -157,7 +157,30 @@ pub(crate) fn pause<'a, R: Wait + Clock>(
     locked
 }
 
-/// Waits while a full queue holds the post of a worker, which is lost where it waited long enough.
+// Waits while the post of a worker is held, and loses it where it waited long enough.
+fn wait_for_post<'a, R: Wait + Clock>(
+    rt: &R,
+    alloc: Global,
+    shared: &'a Shared,
+    locked: MutexGuard<'a, Locked>,
+    worker: u32,
+) -> MutexGuard<'a, Locked> {
+    let Some(patience) = locked.patience(worker) else {
+        return shared
+            .room
+            .wait_while(rt, locked, |it| it.holds_post(alloc, worker));
+    };
+    let (mut locked, waited) = shared
+        .room
+        .wait_timeout_while(rt, locked, patience, |it| it.holds_post(alloc, worker));
+    if waited.timed_out() {
+        locked.lose_post(worker);
+    }
+    locked
+}
+
+/// Waits while a full queue holds the post of a worker, which is lost where it waited long enough; while the full-delay mark of its queue holds
+/// it, as long as it takes.
 pub(crate) fn wait_for_room<'a, R: Wait + Clock, G: Gate>(
     rt: &R,
     alloc: Global,
@@ -166,14 +189,8 @@ pub(crate) fn wait_for_room<'a, R: Wait + Clock, G: Gate>(
     locked: MutexGuard<'a, Locked>,
     worker: u32,
 ) -> MutexGuard<'a, Locked> {
-    let patience = locked.patience(worker);
-    let (mut locked, waited) = shared
-        .room
-        .wait_timeout_while(rt, locked, patience, |it| it.holds_post(alloc, worker));
-    if waited.timed_out() {
-        locked.lose_post(worker);
-    }
-    // (either way it is dealt with, or the relay closes)
+    let locked = wait_for_post(rt, alloc, shared, locked, worker);
+    // (it is dealt with, or memory for it is to be asked for again, or the relay closes)
     shared.wake_all();
     tell_lost_at_queue(rt, shared, gate, locked).0
 }

@@ -1,4 +1,10 @@
 //! What a worker does under the lock.
+ghost use Rattle.std.specs.Prelude.{◌<◌, ℕ, IfNone, IfSome, length};
+ghost use Rattle.sy_rules.specs.Whole.{queue_for};
+ghost use Rattle.sy_rules.specs.declared.lists.occurrence.Occurrence.TheVariants as occurrence;
+ghost use Rattle.sy_board.specs.relay.Plans.{parameters_at};
+ghost use Rattle.sy_board.specs.relay.Steps.{Job as IsJob};
+ghost use Rattle.sy_runtime.specs.internal.Finding.{WaitsAtMark};
 
 use crate::finding::{Next, find, has_worker};
 use crate::locked::Locked;
@@ -69,7 +75,7 @@ impl Locked {
         }
     }
 
-    /// Tries the post of a worker again, which a full queue holds; whether it still does. Nothing does once the relay closes.
+    /// Tries the post of a worker again, which is held; whether it still is. Nothing is once the relay closes.
     pub(crate) fn holds_post(&mut self, alloc: Global, worker: u32) -> bool {
         if self.is_closing {
             return false;
@@ -86,7 +92,7 @@ impl Locked {
         holds
     }
 
-    /// Loses the post of a worker, unless its queue has room by now.
+    /// Loses the post of a worker, unless its queue has room by now or a mark holds the post.
     pub(crate) fn lose_post(&mut self, worker: u32) {
         let before = self.lost_before(worker);
         if let Some(board) = self.board.as_mut() {
@@ -97,18 +103,24 @@ impl Locked {
         self.note_lost(before);
     }
 
-    /// How long the post of a worker waits at a full queue.
-    pub(crate) fn patience(&self, worker: u32) -> Duration {
+    /// How long the post of a worker waits where it is held; none where it waits as long as it takes.
+    pub(crate) fn patience(&self, worker: u32) -> Option<Duration>
+        ensures none { IfNone result (IfSome self.now.board (λ board. (list : ℕ) → IsJob board.plan board.state worker (occurrence.Post list)
+            → WaitsAtMark (parameters_at board.plan (queue_for board.plan list)))) }
+        ensures some { IfSome result (λ time. IfSome self.now.board (λ board. (list : ℕ) → worker < length board.plan.workers
+            → IsJob board.plan board.state worker (occurrence.Post list)
+            → WaitsAtMark (parameters_at board.plan (queue_for board.plan list)) → ⊥)) }
+    {
         let time = match &self.board {
             Some(board) => {
                 if has_worker(board, worker) {
-                    patience(board, worker)
+                    patience(board, worker)?
                 } else {
                     0
                 }
             }
             None => 0,
         };
-        Duration::from_millis(u64::from(time))
+        Some(Duration::from_millis(u64::from(time)))
     }
 }
