@@ -1,6 +1,7 @@
 -- What a board's refusals mean for an event.
 use Rattle.std.proofs.Common.{◌≡◌, ◌≢◌, ℕ, ◌<◌, ◌≤◌, ◌⊎◌, inl, inr, Bool, true, false, List, [], ◌∷◌, map, Option, Some, None, All, length, refl, sym, ap, subst, arith, ◌∙◌}
 use Rattle.std.specs.Prelude.{IfSome, slice_get}
+use Rattle.std.proofs.lemmas.Bool.{true≢false}
 use Rattle.std.proofs.lemmas.Option.{get_or_from_slice_get, slice_get_within}
 use Rattle.sy_wire.specs.Messages.{Said}
 use Rattle.sy_chain.specs.Entries.{Entry}
@@ -21,7 +22,7 @@ use Rattle.sy_board.specs.declared.relay.answers.PostCause.{PostCause}
 use Rattle.sy_board.specs.relay.Boards.{BoardState, EnterFails, ExpireFails, FailFails, GrabFails, HasNoJob, HasNoPost, HasNoRun, IsFailureOf, IsForPost, IsHeldBy, IsOf, IsTooFull, NothingWaits, PostFails, PostIs, PostLostFails, SettleFails, TakeFails, is_no_memory, stepped}
 use Rattle.sy_board.specs.relay.Cells.{RelayState, failures_at, first_list, followed_at, waiting}
 use Rattle.sy_board.specs.relay.Plans.{IsDue, input_at, marks_at, parameters_at, retry_at}
-use Rattle.sy_board.specs.relay.Steps.{Cause, Event, IsHand, IsOfInput, Job, MayTry, Out, Step, if_so}
+use Rattle.sy_board.specs.relay.Steps.{Cause, Event, HasRoom, IsHand, IsOfInput, Job, MayBeLost, MayTry, Out, Step, if_so, is_post_held}
 use Rattle.sy_board.proofs.relay.Excluded.{held_enters, held_expires}
 use Rattle.sy_board.proofs.relay.Outcomes.{jobs_same, one_taken}
 use Rattle.sy_replay.specs.declared.event.Illegal.{Illegal}
@@ -195,21 +196,26 @@ same_post a b h = cc
 pub one_list : (plan : Plan) (state : RelayState) (w k l : ℕ) → Job plan state w (occurrence.Post k) → Job plan state w (occurrence.Post l) → k ≡ l
 one_list plan state w k l a b = same_post k l (jobs_same plan state w (occurrence.Post k) (occurrence.Post l) a b).0
 
-no_room : (lost : Bool) (waits size : ℕ) → lost ≡ false → size ≤ waits → (lost ≡ true) ⊎ (waits < size) → ⊥
-no_room lost waits size e full (inl t) = cc
-no_room lost waits size e full (inr room) = omega (arith, room, full)
+-- a mark holds posts to the list, or its queue is full
+abbrev IsShut : Plan → RelayState → ℕ → Type 0
+IsShut plan state list =
+    (is_post_held plan state list ≡ true) ⊎ ((parameters_at plan (queue_for plan list)).size ≤ waiting state (queue_for plan list))
+
+no_room : (plan : Plan) (state : RelayState) (list : ℕ) (lost : Bool) → lost ≡ false → IsShut plan state list → (lost ≡ true) ⊎ HasRoom plan state list → ⊥
+no_room plan state list lost e shut (inl t) = cc
+no_room plan state list lost e (inl held) (inr room) = true≢false (sym held ∙ room.not_held)
+no_room plan state list lost e (inr full) (inr room) = let less = room.not_full in omega (arith, less, full)
 
 pub post_held : (old new : BoardState) (w : ℕ) (node back : Entry) → IsForPost old w node → PostIs (posted.Held back) old w node new
     → IsIllegal illegal.NotAStep old (Event.Post w)
-post_held old new w node back made (same, unchanged, list, job, kept, full) = λ after outs (l, n, lost, posts, is).
+post_held old new w node back made (same, unchanged, list, job, kept, shut) = λ after outs (l, n, lost, posts, is).
     let other : l ≡ list = one_list old.plan old.state w l list posts.job job in
     let entry : posts.job.entry ≡ job.entry = (jobs_same old.plan old.state w (occurrence.Post l) (occurrence.Post list) posts.job job).1 in
     let message : n.message ≡ node.message = posts.made.message ∙ ap (λ (e : Entry). e.message) entry ∙ sym (made list job).message in
     let judged : discards (marks_at old.plan (queue_for old.plan l)) n.message.class.severity (waiting old.state (queue_for old.plan l)) ≡ false =
     subst (λ (m : Said). discards (marks_at old.plan (queue_for old.plan l)) m.class.severity (waiting old.state (queue_for old.plan l)) ≡ false) (sym message)
     (subst (λ q. discards (marks_at old.plan (queue_for old.plan q)) node.message.class.severity (waiting old.state (queue_for old.plan q)) ≡ false) (sym other) kept) in
-    no_room lost (waiting old.state (queue_for old.plan l)) (parameters_at old.plan (queue_for old.plan l)).size (sym posts.discarded ∙ judged)
-    (subst (λ q. (parameters_at old.plan (queue_for old.plan q)).size ≤ waiting old.state (queue_for old.plan q)) (sym other) full) posts.room
+    no_room old.plan old.state l lost (sym posts.discarded ∙ judged) (subst (IsShut old.plan old.state) (sym other) shut) posts.room
 
 pub post_refused : (f : BoardFault) (old : BoardState) (w : ℕ) (node : Entry) → PostFails f old w node → IsIllegal (illegal_of f) old (Event.Post w)
 post_refused fault.HandTaken old w node e = absurd e
@@ -220,10 +226,6 @@ post_refused fault.WrongReceipt old w node e = absurd e
 post_refused fault.TotalsFull old w node (l, lost, new, posts, full) = (new, if_so lost (Out.Lost (Cause.Post l) posts.job.entry), (l, node, lost, posts, refl), full)
 post_refused fault.NotExpired old w node e = absurd e
 
-not_lost : (no_memory : Bool) (waits size : ℕ) → no_memory ≡ false → waits < size → (no_memory ≡ true) ⊎ (size ≤ waits) → ⊥
-not_lost no_memory waits size e room (inl t) = cc
-not_lost no_memory waits size e room (inr full) = omega (arith, room, full)
-
 pub post_lost_refused : (f : BoardFault) (why : PostCause) (old : BoardState) (w : ℕ) → PostLostFails f why old w
     → IsIllegal (illegal_of f) old (Event.PostLost w (is_no_memory why))
 post_lost_refused fault.HandTaken why old w e = absurd e
@@ -232,10 +234,8 @@ post_lost_refused fault.SlotBusy why old w e = absurd e
 post_lost_refused fault.NoJob why old w e = λ new outs (l, n, loses, is). e l loses.job
 post_lost_refused fault.WrongReceipt why old w e = absurd e
 post_lost_refused fault.TotalsFull why old w (l, n, new, loses, full) = (new, Out.Lost (Cause.PostLost l) n ∷ [], (l, n, loses, refl), full)
-post_lost_refused fault.NotExpired why old w (full, list, job, room) = λ new outs (l, n, loses, is).
-    let other : l ≡ list = one_list old.plan old.state w l list loses.job job in
-    not_lost (is_no_memory why) (waiting old.state (queue_for old.plan l)) (parameters_at old.plan (queue_for old.plan l)).size full
-    (subst (λ q. waiting old.state (queue_for old.plan q) < (parameters_at old.plan (queue_for old.plan q)).size) (sym other) room) loses.cause
+post_lost_refused fault.NotExpired why old w (list, job, never) = λ new outs (l, n, loses, is).
+    never (subst (λ k. MayBeLost old.plan old.state k (is_no_memory why)) (one_list old.plan old.state w l list loses.job job) loses.cause)
 
 -- the entry that is made of a post is the job's
 pub posts_made : (old : BoardState) (w list followed input tag : ℕ) (message : Said) → IsPostJob old w list followed input message tag → (due : ℕ) (node : Entry)

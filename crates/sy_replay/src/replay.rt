@@ -302,7 +302,7 @@ impl<'a> Replay<'a> {
     }
 
     /// The state of a replay is one that a run of its site ends in, so that all laws of runs hold of it: no queue whose
-    /// feeders are all full-delay inputs, and whose full-delay mark isn't off, is longer than that mark.
+    /// feeders all wait at its full-delay mark, where that isn't off, is longer than that mark.
     pub fn is_reached(&self)
         ensures reached { IsReached self.now.site (state_at self.now) }
         ensures within_marks { IsWithinMarks self.now.site (state_at self.now) }
