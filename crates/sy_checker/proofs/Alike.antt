@@ -6,11 +6,11 @@ use Rattle.std.proofs.lemmas.Option.{slice_get_read, slice_get_within, unwrap_or
 use Rattle.sy_wire.specs.declared.class.Class.{Class}
 use Rattle.sy_rules.specs.declared.lists.occurrence.Occurrence.{Occurrence}
 use Rattle.sy_rules.specs.declared.lists.occurrence.Occurrence.TheVariants as occurrence
-use Rattle.sy_board.specs.relay.Spares.{Scope}
+use Rattle.sy_board.specs.relay.Spares.{Scope, more, once}
 use Rattle.sy_site.specs.declared.site.SiteInput.{SiteInput}
 use Rattle.sy_site.specs.Sites.{Site, plan_at}
 use Rattle.sy_site.specs.machine.Lawful.{IsInput, IsLawful}
-use Rattle.sy_site.specs.machine.Reach.{MayDo, Reach, Reaches, entry, forwards, list_of, occurrence_at, onward, posts}
+use Rattle.sy_site.specs.machine.Reach.{MayDo, PostsOn, Reach, Reaches, entry, forwards, list_of, occurrence_at, onward, posts}
 use Rattle.sy_site.specs.machine.Soundness.{AreRanks}
 use Rattle.sy_checker.specs.declared.course.Course.{Course}
 use Rattle.sy_checker.specs.declared.executed.Executed.{Executed}
@@ -23,10 +23,15 @@ use Rattle.sy_checker.specs.declared.flows.SiteHops.{SiteHops}
 use Rattle.sy_checker.specs.declared.reach.Origin.{Origin}
 use Rattle.sy_checker.specs.Course.{AreAlike, AreCourses, AreSame, IsCourse, IsCourseAt, IsSameAt}
 use Rattle.sy_checker.specs.Flows.{AreEach, AreSiteFlows, Does, IsFlow, is_used}
-use Rattle.sy_checker.specs.Hops.{AreHops, AreSiteHops, Leads, LeadsBy}
+use Rattle.sy_checker.specs.declared.wanted.InnerList.{InnerList}
+use Rattle.sy_checker.specs.Fit.{IsInner}
+use Rattle.sy_checker.specs.Hops.{AreHops, AreSiteHops, Leads, LeadsBy, LeadsByPosts}
+use Rattle.sy_checker.specs.Inner.{AreNumbers, number_at}
 use Rattle.sy_checker.specs.Loops.{rank_at}
 use Rattle.sy_checker.specs.Search.{IsOrigin, IsSpread}
+use Rattle.sy_checker.proofs.Followed.{posts_used}
 use Rattle.sy_checker.proofs.Gone.{stands_in}
+use Rattle.sy_checker.proofs.Led.{leads_as}
 use Rattle.sy_checker.proofs.Rooted.{last_place, stood}
 use Rattle.sy_checker.proofs.There.{reach_there}
 use Rattle.sy_checker.proofs.Used.{input_list, input_used, list_of_found, posted_used, relay_of}
@@ -174,6 +179,34 @@ module _ (site : Site) (law : IsLawful site) (one other : Class) (same : AreAlik
     whole = λ number to leads. are.whole number to (leads_to site law other one back which relay list number to used leads);
   }
 
+  posts_to : (which : Executed) (scope : Scope) → ((relay list number : ℕ) (is : Occurrence) → MayDo site one scope relay list number is
+      → Does site one which relay list number is) → ((relay list number : ℕ) (is : Occurrence) → Does site other which relay list number is
+      → MayDo site other scope relay list number is) → (relay : ℕ) {from to : ℕ} → is_used (plan_at site relay) from ≡ true
+      → PostsOn site one scope relay from to → PostsOn site other scope relay from to
+  posts_to which scope as_does as_may relay {from} {to} used (once number does) =
+      once number (as_may relay from number (occurrence.Post to) ((same which relay from number (occurrence.Post to) used).0 (as_does relay from number (occurrence.Post to) does)))
+  posts_to which scope as_does as_may relay {from} {to} used (more {mid = mid} number does later) =
+      more number (as_may relay from number (occurrence.Post mid) ((same which relay from number (occurrence.Post mid) used).0 (as_does relay from number (occurrence.Post mid) does)))
+      (posts_to which scope as_does as_may relay (posted_used site law relay from number mid does.found) later)
+
+  lists_by : (which : Executed) (relay list to : ℕ) → is_used (plan_at site relay) list ≡ true → LeadsByPosts site one which relay list to
+      → LeadsByPosts site other which relay list to
+  lists_by executed.Every relay list to used leads = posts_to executed.Every Scope.Every (λ r l n is does. does) (λ r l n is does. does) relay used leads
+  lists_by executed.Firm relay list to used leads = posts_to executed.Firm Scope.Firm (λ r l n is does. does) (λ r l n is does. does) relay used leads
+  lists_by executed.Must relay list to used leads = leads
+
+  -- a list that posts lead to
+  inner_to : (inner : InnerList) → IsInner site one inner → IsInner site other inner
+  inner_to inner is = record {
+    input = is.input;
+    at = is.at;
+    reached = firm_to is.input is.reached;
+    posted = posts_to executed.Firm Scope.Firm (λ r l n is does. does) (λ r l n is does. does) inner.relay
+        (subst (λ r. is_used (plan_at site r) (list_of site is.input) ≡ true) is.at
+        (list_used site is.input (reach_there site law one Scope.Firm is.input is.reached))) is.posted;
+  }
+
+module _ (site : Site) (law : IsLawful site) (one other : Class) (same : AreAlike site one other) where
   site_hops_to : (which : Executed) (hops : SiteHops) → AreAlike site other one → AreSiteHops site one which hops → AreSiteHops site other which hops
   site_hops_to which hops back are = record {
     length_is = are.length_is;
@@ -182,7 +215,18 @@ module _ (site : Site) (law : IsLawful site) (one other : Class) (same : AreAlik
         record {
           length_is = own.length_is;
           each = λ list of here is.
-              hops_to which relay list of.hops.items (input_used (plan_at site relay) list is) back (own.each list of here is);
+              (let used = input_used (plan_at site relay) list is in
+              let had = own.each list of here is in
+              record {
+                hops = hops_to site law one other same which relay list of.hops.items used back had.hops;
+                lists = record {
+                  each = λ to. (
+                    λ there. lists_by site law one other same which relay list to used ((had.lists.each to).0 there),
+                    λ leads. (had.lists.each to).1 (lists_by site law other one back which relay list to used leads),
+                  );
+                  apart = had.lists.apart;
+                };
+              });
         };
   }
 
@@ -214,6 +258,13 @@ module _ (site : Site) (law : IsLawful site) (one other : Class) (same : AreAlik
         (leads_by site law other one (turned site one other same) executed.Every from number to (reach_there site law one Scope.Every from before) goes);
   }
 
+  numbers_to : (number : ℕ → ℕ → ℕ) → AreNumbers site one number → AreNumbers site other number
+  numbers_to number numbers inner to is (post, does) =
+      let back = turned site one other same in
+      let before = inner_to site law other one back inner is in
+      let used : is_used (plan_at site inner.relay) inner.list ≡ true = posts_used site one Scope.Firm law inner.relay before.posted in
+      numbers inner to before (post, (back executed.Firm inner.relay inner.list post (occurrence.Post to) used).0 does)
+
 -- A course is that of a class which executes the same.
 pub course_as : (site : Site) → IsLawful site → (one other : Class) (course : Course) (flows : SiteFlows) → IsCourse site one course
     → AreSiteFlows site other flows → AreSame course.flows.lists flows → IsCourse site other course
@@ -238,11 +289,8 @@ course_as site law one other course flows is are same =
       );
       ranks = ranks_to site law one other both (rank_at course.ranks.items) is.ranks;
       many = is.many;
-      leads = record {
-        length_is = is.leads.length_is;
-        each = λ place found stands entry at.
-            spread_to site law one other both executed.Must (entry ∷ []) found.inputs.items found.origins.items (is.leads.each place found stands entry at);
-      };
+      numbers = numbers_to site law one other both (number_at course.numbers.items) is.numbers;
+      leads = leads_as site one other both course.leads.items is.leads;
     }
 
 -- ---- the courses so far

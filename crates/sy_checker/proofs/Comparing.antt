@@ -18,7 +18,7 @@ use Rattle.sy_site.specs.Sites.{Site, archives}
 use Rattle.sy_site.specs.machine.Lawful.{IsLawful}
 use Rattle.sy_site.specs.machine.Reach.{Reach, list_of}
 use Rattle.sy_site.proofs.machine.Spares.{reach_every}
-use Rattle.sy_checker.specs.Fit.{AreWanted, HasRank, IsAbove, IsBranch, IsReached, name_of, paths}
+use Rattle.sy_checker.specs.Fit.{AreWanted, HasRank, IsAbove, IsBranch, IsInner, IsReached, name_of, paths}
 use Rattle.sy_checker.specs.Hops.{AreHops}
 use Rattle.sy_checker.specs.Internal.{same_input}
 use Rattle.sy_checker.specs.Ranked.{FallsAt, FallsFrom, IsBelow, IsBelowAt, IsInputThere, input_in, rank_at}
@@ -75,11 +75,13 @@ module _ (site : Site) (part : List Wanted) (rows : List Row) (relay : ℕ) wher
   stands_by place below (Some (wanted.Rank of)) (Some (row.Class c)) is there e = absurd (none_by (of == relay) below e)
   stands_by place below (Some (wanted.Rank of)) (Some (row.Reach name port)) is there e = absurd (none_by (of == relay) below e)
   stands_by place below (Some (wanted.Rank of)) (Some (row.Branch name port)) is there e = absurd (none_by (of == relay) below e)
+  stands_by place below (Some (wanted.Rank of)) (Some (row.Inner name list number)) is there e = absurd (none_by (of == relay) below e)
   stands_by place below (Some (wanted.Rank of)) (Some (row.Path name port archive_relay action occurrences)) is there e =
       absurd (none_by (of == relay) below e)
   stands_by place below (Some (wanted.Class c)) (Some r) is there e = absurd (no_value e)
   stands_by place below (Some (wanted.Reach input)) (Some r) is there e = absurd (no_value e)
   stands_by place below (Some (wanted.Branch input)) (Some r) is there e = absurd (no_value e)
+  stands_by place below (Some (wanted.Inner inner)) (Some r) is there e = absurd (no_value e)
   stands_by place below (Some (wanted.Path entry archive)) (Some r) is there e = absurd (no_value e)
 
   pub below_there : (rank place : ℕ) → IsBelow site part rows relay rank → IsBelowAt site part rows relay rank place
@@ -167,6 +169,7 @@ IsMeant site class (wanted.Class c) = c ≡ class
 IsMeant site class (wanted.Reach input) = Reach site class Scope.Firm input
 IsMeant site class (wanted.Branch input) = IsBranch site class input
 IsMeant site class (wanted.Rank relay) = IsReached site class relay
+IsMeant site class (wanted.Inner inner) = IsInner site class inner
 IsMeant site class (wanted.Path entry archive) = Contains site.entries entry × Contains (archives site class) archive
 
 module _ (site : Site) (class : Class) (part : List Wanted) (are : AreWanted site class part) where
@@ -176,19 +179,36 @@ module _ (site : Site) (class : Class) (part : List Wanted) (are : AreWanted sit
       let it = from_map (λ a. wanted.Path found.0 a) (archives site class) is found.2 in
       subst (IsMeant site class) it.2 (found.1, it.1)
 
-  in_ranks : (is : Wanted) → Contains (map wanted.Rank are.relays ++ paths site class) is → IsMeant site class is
-  in_ranks is there =
-      elim (Contains-append_cases (map wanted.Rank are.relays) (paths site class) is there) [
-        | inl rank ↦
-            let it = from_map wanted.Rank are.relays is rank in
-            subst (IsMeant site class) it.2 ((are.relays_reached.member it.0).0 it.1)
+  abbrev behind_ranks : List Wanted
+  behind_ranks = map wanted.Inner are.inners ++ paths site class
+
+  abbrev behind_branches : List Wanted
+  behind_branches = map wanted.Rank are.relays ++ behind_ranks
+
+  abbrev behind_inputs : List Wanted
+  behind_inputs = map wanted.Branch are.branches ++ behind_branches
+
+  in_inners : (is : Wanted) → Contains behind_ranks is → IsMeant site class is
+  in_inners is there =
+      elim (Contains-append_cases (map wanted.Inner are.inners) (paths site class) is there) [
+        | inl inner ↦
+            let it = from_map wanted.Inner are.inners is inner in
+            subst (IsMeant site class) it.2 ((are.inners_posted.member it.0).0 it.1)
         | inr path ↦ in_paths is path
       ]
 
-  in_branches : (is : Wanted) → Contains (map wanted.Branch are.branches ++ (map wanted.Rank are.relays ++ paths site class)) is
-      → IsMeant site class is
+  in_ranks : (is : Wanted) → Contains behind_branches is → IsMeant site class is
+  in_ranks is there =
+      elim (Contains-append_cases (map wanted.Rank are.relays) behind_ranks is there) [
+        | inl rank ↦
+            let it = from_map wanted.Rank are.relays is rank in
+            subst (IsMeant site class) it.2 ((are.relays_reached.member it.0).0 it.1)
+        | inr later ↦ in_inners is later
+      ]
+
+  in_branches : (is : Wanted) → Contains behind_inputs is → IsMeant site class is
   in_branches is there =
-      elim (Contains-append_cases (map wanted.Branch are.branches) (map wanted.Rank are.relays ++ paths site class) is there) [
+      elim (Contains-append_cases (map wanted.Branch are.branches) behind_branches is there) [
         | inl branch ↦
             let it = from_map wanted.Branch are.branches is branch in
             subst (IsMeant site class) it.2 ((are.branches_reached.member it.0).0 it.1)
@@ -196,11 +216,11 @@ module _ (site : Site) (class : Class) (part : List Wanted) (are : AreWanted sit
       ]
 
   abbrev behind : List Wanted
-  behind = map wanted.Reach are.inputs ++ (map wanted.Branch are.branches ++ (map wanted.Rank are.relays ++ paths site class))
+  behind = map wanted.Reach are.inputs ++ behind_inputs
 
   in_rest : (is : Wanted) → Contains behind is → IsMeant site class is
   in_rest is there =
-      elim (Contains-append_cases (map wanted.Reach are.inputs) (map wanted.Branch are.branches ++ (map wanted.Rank are.relays ++ paths site class)) is there) [
+      elim (Contains-append_cases (map wanted.Reach are.inputs) behind_inputs is there) [
         | inl reach ↦
             let it = from_map wanted.Reach are.inputs is reach in
             subst (IsMeant site class) it.2 ((are.inputs_reached.member it.0).0 it.1)
@@ -220,6 +240,7 @@ module _ (site : Site) (class : Class) (part : List Wanted) (are : AreWanted sit
   meant_every (wanted.Reach input) m from same = subst (Reach site class Scope.Every) (one_value same) (reach_every site class input m)
   meant_every (wanted.Branch input) m from same = subst (Reach site class Scope.Every) (one_value same) m.reached
   meant_every (wanted.Rank relay) m from same = absurd (no_value same)
+  meant_every (wanted.Inner inner) m from same = absurd (no_value same)
   meant_every (wanted.Path entry archive) m from same = absurd (no_value same)
 
   pub input_reached : (is : Wanted) → Contains part is → (from : SiteInput) → input_in is ≡ Some from → Reach site class Scope.Every from
@@ -243,15 +264,15 @@ module _ (site : Site) (class : Class) (part : List Wanted) (are : AreWanted sit
   reach_row : (from : SiteInput) → Contains are.inputs from → HasRow from
   reach_row from there =
       row_of from (wanted.Reach from)
-      (Contains-append_left (map wanted.Reach are.inputs) (map wanted.Branch are.branches ++ (map wanted.Rank are.relays ++ paths site class)) (wanted.Reach from)
+      (Contains-append_left (map wanted.Reach are.inputs) behind_inputs (wanted.Reach from)
       (in_map wanted.Reach are.inputs from there))
       refl
 
   branch_row : (from : SiteInput) → Contains are.branches from → HasRow from
   branch_row from there =
       row_of from (wanted.Branch from)
-      (Contains-append_right (map wanted.Reach are.inputs) (map wanted.Branch are.branches ++ (map wanted.Rank are.relays ++ paths site class)) (wanted.Branch from)
-      (Contains-append_left (map wanted.Branch are.branches) (map wanted.Rank are.relays ++ paths site class) (wanted.Branch from)
+      (Contains-append_right (map wanted.Reach are.inputs) behind_inputs (wanted.Branch from)
+      (Contains-append_left (map wanted.Branch are.branches) behind_branches (wanted.Branch from)
       (in_map wanted.Branch are.branches from there)))
       refl
 

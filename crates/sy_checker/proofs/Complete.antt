@@ -1,27 +1,27 @@
--- A lawful site in which no finding is true is sound. Without a loop no way is longer than there are relays; so what a class reaches, how many
--- hops follow one another and which archives are led to is found by going so far.
+-- A lawful site in which no finding is true is sound. Without a loop no way is longer than there are relays; so what a class reaches, and how many
+-- hops follow one another, is found by going so far.
 use Rattle.std.proofs.Common.{◌≡◌, ℕ, suc, ◌<◌, ◌≤◌, ◌+◌, ◌==◌, ◌&&◌, ◌||◌, Bool, true, false, List, [], ◌∷◌, ◌++◌, length, Some, refl, sym, ap, subst, ◌∙◌, arith, inl, inr, eqb-true, eq-eqb}
 use Rattle.std.specs.Prelude.{Contains, ◌⊎◌, ◌↔◌}
 use Rattle.std.proofs.lemmas.Bool.{cases_eq, false≢true}
 use Rattle.std.proofs.lemmas.List.{length_push}
 use Rattle.sy_wire.specs.declared.class.Class.{Class}
-use Rattle.sy_rules.specs.declared.lists.occurrence.Occurrence.{Occurrence}
-use Rattle.sy_rules.specs.declared.lists.occurrence.Occurrence.TheVariants as occurrence
-use Rattle.sy_rules.specs.Whole.{body_at}
-use Rattle.sy_rules.proofs.lemmas.lists.WorkLaws.{must_may}
 use Rattle.sy_board.specs.relay.Spares.{Scope}
 use Rattle.sy_site.specs.declared.site.SiteAction.{SiteAction}
 use Rattle.sy_site.specs.declared.site.SiteInput.{SiteInput}
-use Rattle.sy_site.specs.Sites.{Site, archives, plan_at, same_action, target}
+use Rattle.sy_site.specs.Sites.{Site, archives}
 use Rattle.sy_site.specs.machine.Findings.{HoldsAt, IsFinding, IsFound, Kind, WayRow}
 use Rattle.sy_site.specs.machine.Lawful.{IsLawful}
-use Rattle.sy_site.specs.machine.Reach.{LeadsTo, MustDo, Reach, Reaches, entry, forwards, leads_on, list_of, onward, writes}
+use Rattle.sy_site.specs.machine.Reach.{LeadsTo, Reach, Reaches, entry, list_of, onward}
 use Rattle.sy_site.specs.machine.Soundness.{IsSound, IsSoundFor}
 use Rattle.sy_site.proofs.machine.Spares.{reach_every, reaches_every}
 use Rattle.sy_site.proofs.machine.Ways.{way_to}
 use Rattle.sy_checker.specs.Loops.{IsTrail, relays_of}
-use Rattle.sy_checker.proofs.Leading.{must_does, must_execute, must_has, next_of, targets, targets_has, targets_is}
+use Rattle.sy_checker.specs.Leads.{list_at}
+use Rattle.sy_checker.proofs.Leading.{next_of}
+use Rattle.sy_checker.proofs.LeadsDecided.{leads_or_not}
+use Rattle.sy_checker.proofs.Led.{list_there}
 use Rattle.sy_checker.proofs.Listing.{In, and_first, and_second, both_true, flat, flat_has, flat_is, in_cases, in_left, in_list, in_right, of_list, or_cases, or_left, or_right, some, some_has, some_is}
+use Rattle.sy_checker.proofs.There.{entry_there}
 use Rattle.sy_checker.proofs.Trails.{first_trail, loops, short, trail_on}
 
 -- ---- numbers
@@ -220,87 +220,11 @@ module _ (site : Site) (law : IsLawful site) (class : Class) (none : (way : List
 
   -- ---- which archives are led to
 
-  module _ (archive : SiteAction) where
-    abbrev action_of : SiteInput → ℕ → SiteAction
-    action_of x action = record { relay = x.relay; action = action }
-
-    abbrev is_written : SiteInput → Occurrence → Bool
-    is_written x (occurrence.Run action) = same_action (action_of x action) archive
-    is_written x (occurrence.Post list) = false
-
-    abbrev done : SiteInput → List Occurrence
-    done x = must_execute site class x.relay (list_of site x)
-
-    abbrev must_next : SiteInput → List SiteInput
-    must_next x = targets site class x.relay (done x)
-
-    same_is : (a b : SiteAction) → same_action a b ≡ true → a ≡ b
-    same_is a b e =
-        let relay = eqb-true a.relay b.relay (and_first (a.relay == b.relay) (a.action == b.action) e) in
-        let action = eqb-true a.action b.action (and_second (a.relay == b.relay) (a.action == b.action) e) in
-        λ i. record { relay = relay i; action = action i }
-
-    same_so : (a b : SiteAction) → a ≡ b → same_action a b ≡ true
-    same_so a b e =
-        both_true (a.relay == b.relay) (a.action == b.action) (eq-eqb a.relay b.relay (ap (λ (z : SiteAction). z.relay) e))
-        (eq-eqb a.action b.action (ap (λ (z : SiteAction). z.action) e))
-
-    written_is : (x : SiteInput) (o : Occurrence) → is_written x o ≡ true → (action : ℕ) × (o ≡ occurrence.Run action) × (action_of x action ≡ archive)
-    written_is x (occurrence.Run action) e = (action, refl, same_is (action_of x action) archive e)
-    written_is x (occurrence.Post list) e = absurd (false≢true e)
-
-    abbrev leads : ℕ → SiteInput → Bool
-    leads ℕ.zero x = false
-    leads (ℕ.suc n) x = some (is_written x) (done x) || some (leads n) (must_next x)
-
-    leads_says : (n : ℕ) (x : SiteInput) → leads n x ≡ true → LeadsTo site class archive x
-    leads_says ℕ.zero x e = absurd (false≢true e)
-    leads_says (ℕ.suc n) x e = elim (or_cases (some (is_written x) (done x)) (some (leads n) (must_next x)) e) [
-      | inl here ↦
-          (let f = some_is (is_written x) (done x) here in
-          let w = written_is x f.0 f.2 in
-          let does = must_does site class x.relay (list_of site x) (occurrence.Run w.0) (subst (λ o. In o (done x)) w.1 f.1) in
-          writes does.0 w.0 does.1 w.2)
-      | inr later ↦
-          (let f = some_is (leads n) (must_next x) later in
-          let t = targets_is site class x.relay (done x) f.0 f.1 in
-          let does = must_does site class x.relay (list_of site x) (occurrence.Run t.0) t.1 in
-          leads_on does.0 t.0 f.0 does.1 t.2 (leads_says n f.0 f.2))
-    ]
-
-    must_go : (x : SiteInput) (number action : ℕ) (to : SiteInput) → MustDo site class x.relay (list_of site x) number (occurrence.Run action)
-        → target site (action_of x action) ≡ Some to → GoesTo Scope.Every x number to
-    must_go x number action to does goes = forwards number action
-        (record { may = must_may (body_at (plan_at site x.relay) (list_of site x)) class number does.must; found = does.found; in_scope = tt }) goes
-
-    leads_so : (n : ℕ) (way : List WayRow) (x : SiteInput) → IsTrail site class way x → Reach site class Scope.Every x
-        → length site.relays ≤ length way + n → LeadsTo site class archive x → leads n x ≡ true
-    leads_so ℕ.zero way x trail at most is = let low = short site law class way x trail at in absurd (omega (arith, low, most))
-    leads_so (ℕ.suc n) way x trail at most (writes number action does same) =
-        or_left (some (is_written x) (done x)) (some (leads n) (must_next x))
-        (some_has (is_written x) (done x) (occurrence.Run action)
-        (must_has site class x.relay (list_of site x) number (occurrence.Run action) does) (same_so (action_of x action) archive same))
-    leads_so (ℕ.suc n) way x trail at most (leads_on number action to does goes more) =
-        let on = must_go x number action to does goes in
-        let l = length_push way (row_of x number) in
-        or_right (some (is_written x) (done x)) (some (leads n) (must_next x))
-        (some_has (leads n) (must_next x) to
-        (targets_has site class x.relay (done x) action to (must_has site class x.relay (list_of site x) number (occurrence.Run action) does) goes)
-        (leads_so n (way ++ row_of x number ∷ []) to (longer way x number to at on trail to refl) (onward number at on) (omega (arith, most, l)) more))
-
-    lead : (x : SiteInput) → Contains site.entries x → Contains (archives site class) archive → LeadsTo site class archive x
-    lead x is named = go (leads (length site.relays) x) refl
-      where
-        go : (b : Bool) → leads (length site.relays) x ≡ b → LeadsTo site class archive x
-        go true e = leads_says (length site.relays) x e
-        go false e = absurd (none [] x (Kind.Unmet archive) (
-          refl,
-          record {
-            named = named;
-            is_entry = is;
-            leads_not = λ l. false≢true (sym e ∙ leads_so (length site.relays) [] x (first_trail site class x is) (entry is) (omega arith) l);
-          },
-        ))
+  lead : (archive : SiteAction) (x : SiteInput) → Contains site.entries x → Contains (archives site class) archive → LeadsTo site class archive x
+  lead archive x is named = elim (leads_or_not site law class archive (list_at site x) (list_there site law x (entry_there site law x is))) [
+    | inl leads ↦ leads
+    | inr leads_not ↦ absurd (none [] x (Kind.Unmet archive) (refl, record { named = named; is_entry = is; leads_not = leads_not }))
+  ]
 
   -- ---- all of it
 
@@ -312,6 +236,7 @@ module _ (site : Site) (law : IsLawful site) (class : Class) (none : (way : List
   clean input at Kind.InnerQueue holds = let w = way_to site class input at in none w.0 input Kind.InnerQueue (w.1, holds)
   clean input at Kind.GivesUp holds = let w = way_to site class input at in none w.0 input Kind.GivesUp (w.1, holds)
   clean input at Kind.NoTarget holds = let w = way_to site class input at in none w.0 input Kind.NoTarget (w.1, holds)
+  clean input at Kind.InnerLoop holds = let w = way_to site class input at in none w.0 input Kind.InnerLoop (w.1, holds)
   clean input at Kind.Loop holds = holds
   clean input at (Kind.Unmet archive) holds = holds
 

@@ -1,5 +1,5 @@
 -- What feeds a queue.
-use Rattle.std.proofs.Common.{◌≡◌, ℕ, suc, ◌<◌, ◌≤◌, ◌+◌, Bool, true, false, not, ◌&&◌, ◌||◌, ◌==◌, List, [], ◌∷◌, length, get_or, Some, None, refl, sym, ap, subst, ◌∙◌, arith, inl, inr, eqb-true, eq-eqb}
+use Rattle.std.proofs.Common.{◌≡◌, ℕ, suc, ◌<◌, ◌≤◌, ◌+◌, Bool, true, false, not, ◌&&◌, ◌||◌, ◌==◌, if◌then◌else◌, List, [], ◌∷◌, length, get_or, Some, None, refl, sym, ap, subst, ◌∙◌, arith, inl, inr, eqb-true, eq-eqb}
 use Rattle.std.specs.Prelude.{◌⊎◌, ◌≢◌, Decides, slice_get}
 use Rattle.std.specs.List.{list_any}
 use Rattle.std.proofs.lemmas.Bool.{cases_eq, false≢true}
@@ -13,7 +13,7 @@ use Rattle.sy_rules.specs.declared.parts.Input.{Input}
 use Rattle.sy_rules.specs.PlanValue.{Listed, Plan}
 use Rattle.sy_rules.specs.Whole.{body_in, queue_for}
 use Rattle.sy_rules.specs.lists.Body.{occurrences}
-use Rattle.sy_board.specs.relay.Plans.{flow_of, occurrences_at}
+use Rattle.sy_board.specs.relay.Plans.{flow_of, occurrences_at, parameters_at, post_flow}
 use Rattle.sy_site.specs.Sites.{Site, plan_at}
 use Rattle.sy_site.specs.machine.Findings.{IsFedFreely}
 use Rattle.sy_board.specs.relay.Feeders.{Feeder, Feeds, IsFullDelay}
@@ -113,6 +113,9 @@ no_post plan queue most all none h =
 zero_input : Input
 zero_input = record { port = 0; flow = control.Off; list = 0; queue = 0 }
 
+none_full : flow.NoWait ≡ flow.Full → ⊥
+none_full e = cc
+
 module _ (site : Site) (relay queue : ℕ) where
   pub free_input : list_any (is_free queue) (plan_at site relay).inputs ≡ true → IsFedFreely site relay queue
   unfolding zero_input
@@ -126,46 +129,48 @@ module _ (site : Site) (relay queue : ℕ) where
         is_free = (not_full it.flow).0 (second_true (it.queue == queue) (not (is_full_delay it.flow)) at.2);
       }
 
-  free_post : HasPost (plan_at site relay) queue → IsFedFreely site relay queue
-  free_post h = record {
+  -- posts into a queue are free feeders where it doesn't wait
+  free_post : (parameters_at (plan_at site relay) queue).waits ≡ false → HasPost (plan_at site relay) queue → IsFedFreely site relay queue
+  free_post off h = record {
     feeder = Feeder.Post h.list h.number;
     feeds = (h.to, h.posts, h.leads);
-    is_free = λ full. full;
+    is_free = λ full. not_waiting full;
   }
+    where
+      not_waiting : post_flow (plan_at site relay) queue ≡ flow.Full → ⊥
+      not_waiting full = none_full (sym (ap (λ b. if b then flow.Full else flow.NoWait) off) ∙ full)
 
-  of_feeder : (b : Bool) → Decides b (HasPost (plan_at site relay) queue) → (f : Feeder) → Feeds (plan_at site relay) queue f
-      → (IsFullDelay (plan_at site relay) f → ⊥) → (list_any (is_free queue) (plan_at site relay).inputs || b) ≡ true
+  -- and where it does they aren't
+  held_post : (parameters_at (plan_at site relay) queue).waits ≡ true → (list number : ℕ)
+      → (IsFullDelay (plan_at site relay) queue (Feeder.Post list number) → ⊥) → ⊥
+  held_post on list number free = free (ap (λ b. if b then flow.Full else flow.NoWait) on)
+
+  free_of_input : (number : ℕ) → Feeds (plan_at site relay) queue (Feeder.Input number)
+      → (IsFullDelay (plan_at site relay) queue (Feeder.Input number) → ⊥) → list_any (is_free queue) (plan_at site relay).inputs ≡ true
   unfolding zero_input
-  of_feeder b posts (Feeder.Input number) feeds free =
+  free_of_input number feeds free =
       let inputs = (plan_at site relay).inputs in
       let it = get_or inputs number zero_input in
-      let here = some_at (is_free queue) inputs zero_input number feeds.0
-      (ap (λ x. x && not (is_full_delay it.flow)) (eq-eqb it.queue queue feeds.1) ∙ (not_full it.flow).1 free) in
-      ap (λ x. x || b) here
-  of_feeder b posts (Feeder.Post list number) feeds free =
-      ap (λ x. list_any (is_free queue) (plan_at site relay).inputs || x)
-      (posts.1 (record { list = list; number = number; to = feeds.0; posts = feeds.1; leads = feeds.2 }))
-      ∙ or_true (list_any (is_free queue) (plan_at site relay).inputs)
+      some_at (is_free queue) inputs zero_input number feeds.0
+      (ap (λ x. x && not (is_full_delay it.flow)) (eq-eqb it.queue queue feeds.1) ∙ (not_full it.flow).1 free)
+
+  -- a queue that waits is fed freely by inputs alone
+  pub fed_by_inputs : (parameters_at (plan_at site relay) queue).waits ≡ true → list_any (is_free queue) (plan_at site relay).inputs ≡ false
+      → IsFedFreely site relay queue → ⊥
+  fed_by_inputs on none f = go f.feeder f.feeds f.is_free
     where
-      or_true : (x : Bool) → (x || true) ≡ true
-      or_true true = refl
-      or_true false = refl
+      go : (feeder : Feeder) → Feeds (plan_at site relay) queue feeder → (IsFullDelay (plan_at site relay) queue feeder → ⊥) → ⊥
+      go (Feeder.Input number) feeds free = false≢true (sym none ∙ free_of_input number feeds free)
+      go (Feeder.Post list number) feeds free = held_post on list number free
 
-  of_either : (a b : Bool) → a ≡ list_any (is_free queue) (plan_at site relay).inputs → Decides b (HasPost (plan_at site relay) queue)
-      → (a || b) ≡ true → IsFedFreely site relay queue
-  of_either true b is posts e = free_input (sym is)
-  of_either false b is posts e = free_post (posts.0 e)
-
-  pub fed : (a b : Bool) → a ≡ list_any (is_free queue) (plan_at site relay).inputs → Decides b (HasPost (plan_at site relay) queue)
-      → Decides (a || b) (IsFedFreely site relay queue)
-  fed a b is posts = (
-    of_either a b is posts,
-    λ f. ap (λ x. x || b) is ∙ of_feeder b posts f.feeder f.feeds f.is_free,
-  )
-
-  pub fed_by_post : (b : Bool) → false ≡ list_any (is_free queue) (plan_at site relay).inputs → Decides b (HasPost (plan_at site relay) queue)
-      → Decides b (IsFedFreely site relay queue)
-  fed_by_post b is posts = fed false b is posts
+  -- one that doesn't, by posts besides
+  pub fed_by_post : (parameters_at (plan_at site relay) queue).waits ≡ false → list_any (is_free queue) (plan_at site relay).inputs ≡ false → (b : Bool)
+      → Decides b (HasPost (plan_at site relay) queue) → Decides b (IsFedFreely site relay queue)
+  fed_by_post off none b posts = (λ yes. free_post off (posts.0 yes), λ f. go f.feeder f.feeds f.is_free)
+    where
+      go : (feeder : Feeder) → Feeds (plan_at site relay) queue feeder → (IsFullDelay (plan_at site relay) queue feeder → ⊥) → b ≡ true
+      go (Feeder.Input number) feeds free = absurd (false≢true (sym none ∙ free_of_input number feeds free))
+      go (Feeder.Post list number) feeds free = posts.1 (record { list = list; number = number; to = feeds.0; posts = feeds.1; leads = feeds.2 })
 
 -- the same plan by another name
 pub posts_as : (p q : Plan) (queue : ℕ) (b : Bool) → p ≡ q → Decides b (HasPost p queue) → Decides b (HasPost q queue)

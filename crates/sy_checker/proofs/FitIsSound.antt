@@ -11,11 +11,15 @@ use Rattle.sy_site.specs.declared.site.SiteAction.{SiteAction}
 use Rattle.sy_site.specs.declared.site.SiteInput.{SiteInput}
 use Rattle.sy_site.specs.Sites.{Site, archives}
 use Rattle.sy_board.specs.relay.Spares.{Scope}
-use Rattle.sy_site.specs.machine.Reach.{LeadsTo, Reach, Reaches, leads_on, list_of, writes}
+use Rattle.sy_site.specs.machine.Findings.{HoldsAt, IsInnerLoop, Kind}
+use Rattle.sy_site.specs.machine.Reach.{LeadsTo, Reach, Reaches, list_of}
 use Rattle.sy_site.specs.machine.Soundness.{IsSound, IsSoundFor}
-use Rattle.sy_checker.specs.Fit.{AreFit, AreRight, AreWanted, HasRank, IsAbove, IsClean, IsFit, IsPath, IsRight, paths}
+use Rattle.sy_checker.specs.Fit.{AreFit, AreRight, AreWanted, HasNumber, HasRank, IsAbove, IsClean, IsFit, IsInner, IsNumbered, IsRight, name_of, paths}
+use Rattle.sy_checker.specs.declared.wanted.InnerList.{InnerList}
 use Rattle.sy_checker.specs.declared.wanted.Wanted.{Wanted}
 use Rattle.sy_checker.specs.declared.wanted.Wanted.TheVariants as wanted
+use Rattle.sy_checker.proofs.InnerLists.{no_inner_loop}
+use Rattle.sy_checker.proofs.PathsLead.{path_leads}
 
 -- ---- lists
 
@@ -65,12 +69,18 @@ record RankRow (site : Site) (class : Class) (part : List Wanted) (rows : List R
   pub stands : HasRank site part rows relay rank
   pub above : IsAbove site class part rows relay rank
 
+record InnerRow (site : Site) (class : Class) (part : List Wanted) (rows : List Row) (inner : InnerList) : Type 0 where
+  pub number : ℕ
+  pub stands : HasNumber site part rows inner number
+  pub numbered : IsNumbered site class part rows inner number
+
 module _ (site : Site) (class : Class) (part : List Wanted) (rows : List Row) where
   reach_row : (input : SiteInput) (r : Row) → IsRight site class part rows (wanted.Reach input) r → IsClean site class input
   reach_row input (row.Reach relay port) right = right.2
   reach_row input (row.Class given) right = absurd right
   reach_row input (row.Branch relay port) right = absurd right
   reach_row input (row.Rank relay rank) right = absurd right
+  reach_row input (row.Inner relay list number) right = absurd right
   reach_row input (row.Path relay port archive_relay action occurrences) right = absurd right
 
   rank_row : (relay place : ℕ) → slice_get part place ≡ Some (wanted.Rank relay) → (r : Row) → slice_get rows place ≡ Some r
@@ -83,28 +93,45 @@ module _ (site : Site) (class : Class) (part : List Wanted) (rows : List Row) wh
   rank_row relay place is (row.Class given) there right = absurd right
   rank_row relay place is (row.Reach name port) there right = absurd right
   rank_row relay place is (row.Branch name port) there right = absurd right
+  rank_row relay place is (row.Inner name list number) there right = absurd right
   rank_row relay place is (row.Path name port archive_relay action occurrences) there right = absurd right
 
-  path_leads : (archive : SiteAction) (input : SiteInput) (occurrences : List ℕ) → IsPath site class archive input occurrences
-      → LeadsTo site class archive input
-  path_leads archive input [] last = writes last.number last.action last.does last.writes
-  path_leads archive input (number ∷ later) (to, goes, more) =
-      leads_on number goes.action to goes.does goes.leads (path_leads archive to later more)
+  inner_row : (inner : InnerList) (place : ℕ) → slice_get part place ≡ Some (wanted.Inner inner) → (r : Row) → slice_get rows place ≡ Some r
+      → IsRight site class part rows (wanted.Inner inner) r → InnerRow site class part rows inner
+  inner_row inner place is (row.Inner name list number) there right = record {
+    number = number;
+    stands = record {
+      place = place;
+      is_wanted = is;
+      stands = there ∙ ap (λ n. Some (row.Inner n list number)) right.0 ∙ ap (λ l. Some (row.Inner (name_of site inner.relay) l number)) right.1;
+    };
+    numbered = right.2;
+  }
+  inner_row inner place is (row.Class given) there right = absurd right
+  inner_row inner place is (row.Reach name port) there right = absurd right
+  inner_row inner place is (row.Branch name port) there right = absurd right
+  inner_row inner place is (row.Rank name rank) there right = absurd right
+  inner_row inner place is (row.Path name port archive_relay action occurrences) there right = absurd right
 
   path_row : (entry : SiteInput) (archive : SiteAction) (r : Row) → IsRight site class part rows (wanted.Path entry archive) r
       → LeadsTo site class archive entry
-  path_row entry archive (row.Path relay port archive_relay action occurrences) right = path_leads archive entry occurrences right.4
+  path_row entry archive (row.Path relay port archive_relay action occurrences) right =
+      path_leads site class archive entry.relay (list_of site entry) occurrences right.4
   path_row entry archive (row.Class given) right = absurd right
   path_row entry archive (row.Reach relay port) right = absurd right
   path_row entry archive (row.Branch relay port) right = absurd right
   path_row entry archive (row.Rank relay rank) right = absurd right
+  path_row entry archive (row.Inner relay list number) right = absurd right
 
 -- ---- what a class's rows show
 
 module _ (site : Site) (class : Class) (part : List Wanted) (rows : List Row) (are : AreWanted site class part)
     (right : AreRight site class part rows) where
+  abbrev inners_and_paths : List Wanted
+  inners_and_paths = map wanted.Inner are.inners ++ paths site class
+
   abbrev ranks_and_paths : List Wanted
-  ranks_and_paths = map wanted.Rank are.relays ++ paths site class
+  ranks_and_paths = map wanted.Rank are.relays ++ inners_and_paths
 
   abbrev behind_reach : List Wanted
   behind_reach = map wanted.Branch are.branches ++ ranks_and_paths
@@ -119,8 +146,8 @@ module _ (site : Site) (class : Class) (part : List Wanted) (rows : List Row) (a
       in_part is (Contains-append_right (map wanted.Reach are.inputs) behind_reach is
       (Contains-append_right (map wanted.Branch are.branches) ranks_and_paths is there))
 
-  clean : (input : SiteInput) → Reach site class Scope.Firm input → IsClean site class input
-  clean input reach =
+  of_reach_row : (input : SiteInput) → Reach site class Scope.Firm input → IsClean site class input
+  of_reach_row input reach =
       let here = in_part (wanted.Reach input)
       (Contains-append_left (map wanted.Reach are.inputs) behind_reach (wanted.Reach input)
       (in_map wanted.Reach are.inputs input ((are.inputs_reached.member input).1 reach))) in
@@ -131,18 +158,47 @@ module _ (site : Site) (class : Class) (part : List Wanted) (rows : List Row) (a
   ranked : (relay : ℕ) → Contains are.relays relay → RankRow site class part rows relay
   ranked relay there =
       let here = in_behind (wanted.Rank relay)
-      (Contains-append_left (map wanted.Rank are.relays) (paths site class) (wanted.Rank relay) (in_map wanted.Rank are.relays relay there)) in
+      (Contains-append_left (map wanted.Rank are.relays) inners_and_paths (wanted.Rank relay) (in_map wanted.Rank are.relays relay there)) in
       let found = at_place part (wanted.Rank relay) here in
       let is = right found.0 (wanted.Rank relay) found.1 in
       rank_row site class part rows relay found.0 found.1 is.stands is.there is.right
+
+  numbered : (inner : InnerList) → IsInner site class inner → InnerRow site class part rows inner
+  numbered inner is_inner =
+      let here = in_behind (wanted.Inner inner)
+      (Contains-append_right (map wanted.Rank are.relays) inners_and_paths (wanted.Inner inner)
+      (Contains-append_left (map wanted.Inner are.inners) (paths site class) (wanted.Inner inner)
+      (in_map wanted.Inner are.inners inner ((are.inners_posted.member inner).1 is_inner)))) in
+      let found = at_place part (wanted.Inner inner) here in
+      let is = right found.0 (wanted.Inner inner) found.1 in
+      inner_row site class part rows inner found.0 found.1 is.stands is.there is.right
+
+  -- of the numbers of rows each is above the next ones
+  no_loop : (input : SiteInput) → Reach site class Scope.Firm input → IsInnerLoop site class input → ⊥
+  no_loop input reach loop =
+      no_inner_loop site class (λ inner number. HasNumber site part rows inner number)
+      (λ inner is. (let row = numbered inner is in (row.number, row.stands, row.numbered))) input reach loop
+
+  clean : (input : SiteInput) → Reach site class Scope.Firm input → (kind : Kind) → HoldsAt site class input kind → ⊥
+  clean input reach Kind.NotFull holds = of_reach_row input reach Kind.NotFull (λ e. cc) holds
+  clean input reach Kind.MarkOff holds = of_reach_row input reach Kind.MarkOff (λ e. cc) holds
+  clean input reach Kind.MarkAboveSize holds = of_reach_row input reach Kind.MarkAboveSize (λ e. cc) holds
+  clean input reach Kind.Discards holds = of_reach_row input reach Kind.Discards (λ e. cc) holds
+  clean input reach Kind.InnerQueue holds = of_reach_row input reach Kind.InnerQueue (λ e. cc) holds
+  clean input reach Kind.GivesUp holds = of_reach_row input reach Kind.GivesUp (λ e. cc) holds
+  clean input reach Kind.NoTarget holds = of_reach_row input reach Kind.NoTarget (λ e. cc) holds
+  clean input reach Kind.Loop holds = holds
+  clean input reach Kind.InnerLoop holds = no_loop input reach holds
+  clean input reach (Kind.Unmet archive) holds = holds
 
   leads : (entry : SiteInput) → Contains site.entries entry → (archive : SiteAction) → Contains (archives site class) archive
       → LeadsTo site class archive entry
   leads entry is_entry archive is_archive =
       let here = in_behind (wanted.Path entry archive)
-      (Contains-append_right (map wanted.Rank are.relays) (paths site class) (wanted.Path entry archive)
+      (Contains-append_right (map wanted.Rank are.relays) inners_and_paths (wanted.Path entry archive)
+      (Contains-append_right (map wanted.Inner are.inners) (paths site class) (wanted.Path entry archive)
       (in_flat (λ e. map (λ a. wanted.Path e a) (archives site class)) site.entries entry (wanted.Path entry archive) is_entry
-      (in_map (λ a. wanted.Path entry a) (archives site class) archive is_archive))) in
+      (in_map (λ a. wanted.Path entry a) (archives site class) archive is_archive)))) in
       let found = at_place part (wanted.Path entry archive) here in
       let is = right found.0 (wanted.Path entry archive) found.1 in
       path_row site class part rows entry archive is.stands is.right

@@ -1,6 +1,6 @@
 -- Each lawful sound site has a fit certificate: its rows, made from what the class reaches, the site's ranks, and how each entry leads to each archive.
 use Rattle.std.proofs.Common.{◌≡◌, ℕ, suc, ◌<◌, ◌≤◌, ◌+◌, ◌*◌, ◌==◌, Bool, true, false, List, [], ◌∷◌, ◌++◌, drop, length, map, get_or, Some, None, refl, sym, ap, subst, ◌∙◌, arith, inl, inr}
-use Rattle.std.specs.Prelude.{Contains, flat_map, slice_get}
+use Rattle.std.specs.Prelude.{Contains, ◌⊎◌, ◌↔◌, flat_map, slice_get}
 use Rattle.std.specs.List.{list_any}
 use Rattle.std.proofs.lemmas.Bool.{cases_eq}
 use Rattle.std.proofs.lemmas.List.{drop-append-le, drop_all}
@@ -13,17 +13,24 @@ use Rattle.sy_site.specs.declared.site.SiteAction.{SiteAction}
 use Rattle.sy_site.specs.declared.site.SiteInput.{SiteInput}
 use Rattle.sy_site.specs.Sites.{Site, archives, is_protected, plan_at}
 use Rattle.sy_site.specs.machine.Lawful.{IsInput, IsLawful}
-use Rattle.sy_site.specs.machine.Reach.{LeadsTo, Reach, leads_on, onward, writes}
+use Rattle.sy_site.specs.machine.Reach.{Reach, list_of, onward}
 use Rattle.sy_site.specs.machine.Soundness.{AreRanks, IsSound}
 use Rattle.sy_board.proofs.relay.Keeps.{Each, each_append}
 use Rattle.sy_site.proofs.machine.NoFinding.{no_finding}
-use Rattle.sy_checker.specs.Fit.{AreFit, AreRight, AreWanted, IsFit, IsPath, ListsAll, StandsBefore, action_name, name_of, paths, port_of}
+use Rattle.sy_checker.specs.Fit.{AreFit, AreRight, AreWanted, ComesBefore, IsFit, IsInner, ListsAll, StandsBefore, action_name, name_of, paths, port_of}
 use Rattle.sy_checker.specs.Internal.{AreProtectedBelow, AreRelays, AreRest, AreSorted, IsRest, same_input}
 use Rattle.sy_checker.specs.Made.{IsMade, IsMadeAt}
+use Rattle.sy_checker.specs.declared.wanted.InnerList.{InnerList}
+use Rattle.sy_checker.specs.Inners.{AreInners}
 use Rattle.sy_checker.specs.declared.wanted.Wanted.{Wanted}
 use Rattle.sy_checker.specs.declared.wanted.Wanted.TheVariants as wanted
 use Rattle.sy_checker.proofs.Complete.{reached_list}
+use Rattle.sy_checker.proofs.Falling.{numbers}
 use Rattle.sy_checker.proofs.Found.{not_among, same_is}
+use Rattle.sy_checker.proofs.InnerLists.{on}
+use Rattle.sy_checker.proofs.InnersSorted.{inner_put, inner_skip, inners_all, inners_first, inners_relay}
+use Rattle.sy_checker.proofs.InnersDecided.{is_inner}
+use Rattle.sy_checker.proofs.PathsLead.{lead_path}
 use Rattle.sy_checker.proofs.Joined.{are_wanted}
 use Rattle.sy_checker.proofs.Numbered.{class_put, class_skip, classes_all, classes_first}
 use Rattle.sy_checker.proofs.PartsJoined.{right_append}
@@ -168,6 +175,35 @@ relays_to inputs (ℕ.suc m) =
         (old ++ m ∷ [], subst (λ k. AreRelays inputs k (old ++ m ∷ [])) next (relay_put inputs m old is (has_input inputs m e)))
     go old is next false e = (old, subst (λ k. AreRelays inputs k old) next (relay_skip inputs m old is (no_input inputs m e)))
 
+-- ---- lists that posts lead to, in their order
+
+module _ (site : Site) (law : IsLawful site) (class : Class) (found : List SiteInput)
+    (firm : (x : SiteInput) → Contains found x ↔ Reach site class Scope.Firm x) where
+  inners_on : (relay : ℕ) (inners : List InnerList) → AreInners site class relay 0 inners → (n : ℕ)
+      → (new : List InnerList) × AreInners site class relay n new
+  inners_on relay inners are ℕ.zero = (inners, are)
+  inners_on relay inners are (ℕ.suc n) =
+      let before = inners_on relay inners are n in
+      let next : n + 1 ≡ suc n = omega arith in
+      go before.0 before.1 next (is_inner site law class found firm relay n)
+    where
+      go : (old : List InnerList) → AreInners site class relay n old → n + 1 ≡ suc n
+          → IsInner site class (on relay n) ⊎ (IsInner site class (on relay n) → ⊥) → (new : List InnerList) × AreInners site class relay (suc n) new
+      go old are next (inl is) =
+          (old ++ on relay n ∷ [], subst (λ k. AreInners site class relay k (old ++ on relay n ∷ [])) next (inner_put site class relay n old are is))
+      go old are next (inr none) = (old, subst (λ k. AreInners site class relay k old) next (inner_skip site class relay n old are none))
+
+  inners_to : (m : ℕ) → (inners : List InnerList) × AreInners site class m 0 inners
+  inners_to ℕ.zero = ([], inners_first site class)
+  inners_to (ℕ.suc m) =
+      let before = inners_to m in
+      let all = inners_on m before.0 before.1 (length (plan_at site m).lists) in
+      let next : m + 1 ≡ suc m = omega arith in
+      (all.0, subst (λ k. AreInners site class k 0 all.0) next (inners_relay site law class m all.0 all.1))
+
+  inners_of : (inners : List InnerList) × ListsAll (IsInner site class) ComesBefore inners
+  inners_of = let s = inners_to (length site.relays) in (s.0, inners_all site law class (length site.relays) s.0 (omega arith) s.1)
+
 -- ---- ranks as a list
 
 abbrev tabled : (ℕ → ℕ) → ℕ → List ℕ
@@ -181,21 +217,13 @@ tabled_at f (ℕ.suc n) (ℕ.suc k) low = tabled_at (λ j. f (suc j)) n k (omega
 
 -- ---- the rows of a class
 
-path_of : (site : Site) (class : Class) (archive : SiteAction) (input : SiteInput) → LeadsTo site class archive input
-    → (path : List ℕ) × IsPath site class archive input path
-path_of site class archive input (writes number action does is) =
-    ([], record { number = number; action = action; does = does; writes = is })
-path_of site class archive input (leads_on number action to does goes more) =
-    let p = path_of site class archive to more in
-    (number ∷ p.0, (to, record { action = action; does = does; leads = goes }, p.1))
+abbrev Makes : Site → Class → List ℕ → (ℕ → ℕ → ℕ) → Wanted → Type 0
+Makes site class ranks number is = (r : Row) × IsMade site class ranks number is r
 
-abbrev Makes : Site → Class → List ℕ → Wanted → Type 0
-Makes site class ranks is = (r : Row) × IsMade site class ranks is r
-
-record Rows (site : Site) (class : Class) (ranks : List ℕ) (part : List Wanted) : Type 0 where
+record Rows (site : Site) (class : Class) (ranks : List ℕ) (number : ℕ → ℕ → ℕ) (part : List Wanted) : Type 0 where
   pub rows : List Row
   pub many : length rows ≡ length part
-  pub made : (k : ℕ) (is : Wanted) → slice_get part k ≡ Some is → IsMadeAt site class ranks rows k is
+  pub made : (k : ℕ) (is : Wanted) → slice_get part k ≡ Some is → IsMadeAt site class ranks number rows k is
 
 no_value : {A : Type 0} {x : A} → None ≡ Some x → ⊥
 no_value e = cc
@@ -203,20 +231,21 @@ no_value e = cc
 one_value : {A : Type 0} {x y : A} → Some x ≡ Some y → x ≡ y
 one_value e = cc
 
-rows_of : (site : Site) (class : Class) (ranks : List ℕ) (part : List Wanted) → Each (Makes site class ranks) part → Rows site class ranks part
-rows_of site class ranks [] each = record { rows = []; many = refl; made = λ k is there. absurd (no_value there) }
-rows_of site class ranks (w ∷ part) each =
-    let later = rows_of site class ranks part each.1 in
+rows_of : (site : Site) (class : Class) (ranks : List ℕ) (number : ℕ → ℕ → ℕ) (part : List Wanted) → Each (Makes site class ranks number) part
+    → Rows site class ranks number part
+rows_of site class ranks number [] each = record { rows = []; many = refl; made = λ k is there. absurd (no_value there) }
+rows_of site class ranks number (w ∷ part) each =
+    let later = rows_of site class ranks number part each.1 in
     record {
       rows = each.0.0 ∷ later.rows;
       many = ap (λ n. suc n) later.many;
       made = step later;
     }
   where
-    step : (later : Rows site class ranks part) (k : ℕ) (is : Wanted) → slice_get (w ∷ part) k ≡ Some is
-        → IsMadeAt site class ranks (each.0.0 ∷ later.rows) k is
+    step : (later : Rows site class ranks number part) (k : ℕ) (is : Wanted) → slice_get (w ∷ part) k ≡ Some is
+        → IsMadeAt site class ranks number (each.0.0 ∷ later.rows) k is
     step later ℕ.zero is there =
-        record { stands = each.0.0; there = refl; made = subst (λ x. IsMade site class ranks x each.0.0) (one_value there) each.0.1 }
+        record { stands = each.0.0; there = refl; made = subst (λ x. IsMade site class ranks number x each.0.0) (one_value there) each.0.1 }
     step later (ℕ.suc k) is there =
         let at = later.made k is there in record { stands = at.stands; there = at.there; made = at.made }
 
@@ -244,7 +273,10 @@ part_rows site law all class protected =
     let b = rest site e.0 f.0 every_few (λ x is. place_there site x (every_there x is)) in
     let r = relays_to e.0 n in
     let relays = relays_all e.0 r.0 n every_few r.1 in
-    let part = (((([] ++ wanted.Class class ∷ []) ++ map wanted.Reach s.0) ++ map wanted.Branch b.0) ++ map wanted.Rank r.0) ++ paths site class in
+    let i = inners_of site law class f.0 f.1 in
+    let number = (numbers site law class sound.clean).0 in
+    let part = ((((([] ++ wanted.Class class ∷ []) ++ map wanted.Reach s.0) ++ map wanted.Branch b.0) ++ map wanted.Rank r.0) ++ map wanted.Inner i.0)
+    ++ paths site class in
     let ranks = tabled sound.rank n in
     let low : (x : SiteInput) → Reach site class Scope.Every x → x.relay < n
     = λ x at. relay_there site x (reach_there site law class Scope.Every x at) in
@@ -255,35 +287,42 @@ part_rows site law all class protected =
           let b = tabled_at sound.rank n to.relay (low to (onward number at goes)) in
           omega (arith, below, a, b);
     } in
-    let inputs_made : Each (Makes site class ranks) (map wanted.Reach s.0) = each_map (Makes site class ranks) (λ x. wanted.Reach x) s.0
-    (each_from (λ x. Makes site class ranks (wanted.Reach x)) s.0
-    (λ x is. (row.Reach (name_of site x.relay) (port_of site x), (refl, refl, sound.clean x ((f.1 x).0 ((s.1.member x).0 is)))))) in
-    let branches_made : Each (Makes site class ranks) (map wanted.Branch b.0) = each_map (Makes site class ranks) (λ x. wanted.Branch x) b.0
-    (each_from (λ x. Makes site class ranks (wanted.Branch x)) b.0
+    let inputs_made : Each (Makes site class ranks number) (map wanted.Reach s.0) = each_map (Makes site class ranks number) (λ x. wanted.Reach x) s.0
+    (each_from (λ x. Makes site class ranks number (wanted.Reach x)) s.0
+    (λ x is. (row.Reach (name_of site x.relay) (port_of site x), (refl, refl, λ kind other holds. sound.clean x ((f.1 x).0 ((s.1.member x).0 is)) kind holds)))) in
+    let branches_made : Each (Makes site class ranks number) (map wanted.Branch b.0) = each_map (Makes site class ranks number) (λ x. wanted.Branch x) b.0
+    (each_from (λ x. Makes site class ranks number (wanted.Branch x)) b.0
     (λ x is. (row.Branch (name_of site x.relay) (port_of site x), (refl, refl)))) in
-    let ranks_made : Each (Makes site class ranks) (map wanted.Rank r.0) = each_map (Makes site class ranks) (λ x. wanted.Rank x) r.0
-    (each_from (λ x. Makes site class ranks (wanted.Rank x)) r.0 (λ x is. (row.Rank (name_of site x) (get_or ranks x 0), refl))) in
-    let paths_made : Each (Makes site class ranks) (paths site class) =
-    each_flat (Makes site class ranks) (λ (e : SiteInput). map (λ (a : SiteAction). wanted.Path e a) (archives site class)) site.entries
-    (each_from (λ e. Each (Makes site class ranks) (map (λ a. wanted.Path e a) (archives site class))) site.entries
-    (λ e is. each_map (Makes site class ranks) (λ a. wanted.Path e a) (archives site class)
-    (each_from (λ a. Makes site class ranks (wanted.Path e a)) (archives site class)
-    (λ a named. (let p = path_of site class a e (sound.leads e is a named) in
+    let ranks_made : Each (Makes site class ranks number) (map wanted.Rank r.0) = each_map (Makes site class ranks number) (λ x. wanted.Rank x) r.0
+    (each_from (λ x. Makes site class ranks number (wanted.Rank x)) r.0 (λ x is. (row.Rank (name_of site x) (get_or ranks x 0), refl))) in
+    let inners_made : Each (Makes site class ranks number) (map wanted.Inner i.0) = each_map (Makes site class ranks number) (λ x. wanted.Inner x) i.0
+    (each_from (λ x. Makes site class ranks number (wanted.Inner x)) i.0
+    (λ x is. (row.Inner (name_of site x.relay) x.list (number x.relay x.list), refl))) in
+    let paths_made : Each (Makes site class ranks number) (paths site class) =
+    each_flat (Makes site class ranks number) (λ (e : SiteInput). map (λ (a : SiteAction). wanted.Path e a) (archives site class)) site.entries
+    (each_from (λ e. Each (Makes site class ranks number) (map (λ a. wanted.Path e a) (archives site class))) site.entries
+    (λ e is. each_map (Makes site class ranks number) (λ a. wanted.Path e a) (archives site class)
+    (each_from (λ a. Makes site class ranks number (wanted.Path e a)) (archives site class)
+    (λ a named. (let p = lead_path site class a e.relay (list_of site e) (sound.leads e is a named) in
     (row.Path (name_of site e.relay) (port_of site e) (name_of site a.relay) (action_name site a) p.0, (refl, refl, refl, refl, p.1))))))) in
     let top = [] ++ wanted.Class class ∷ [] in
-    let each : Each (Makes site class ranks) part =
-    each_append (Makes site class ranks) (((top ++ map wanted.Reach s.0) ++ map wanted.Branch b.0) ++ map wanted.Rank r.0) (paths site class)
-    (each_append (Makes site class ranks) ((top ++ map wanted.Reach s.0) ++ map wanted.Branch b.0) (map wanted.Rank r.0)
-    (each_append (Makes site class ranks) (top ++ map wanted.Reach s.0) (map wanted.Branch b.0)
-    (each_append (Makes site class ranks) top (map wanted.Reach s.0) ((row.Class class, refl), tt) inputs_made) branches_made) ranks_made)
+    let each : Each (Makes site class ranks number) part =
+    each_append (Makes site class ranks number)
+    ((((top ++ map wanted.Reach s.0) ++ map wanted.Branch b.0) ++ map wanted.Rank r.0) ++ map wanted.Inner i.0) (paths site class)
+    (each_append (Makes site class ranks number) (((top ++ map wanted.Reach s.0) ++ map wanted.Branch b.0) ++ map wanted.Rank r.0) (map wanted.Inner i.0)
+    (each_append (Makes site class ranks number) ((top ++ map wanted.Reach s.0) ++ map wanted.Branch b.0) (map wanted.Rank r.0)
+    (each_append (Makes site class ranks number) (top ++ map wanted.Reach s.0) (map wanted.Branch b.0)
+    (each_append (Makes site class ranks number) top (map wanted.Reach s.0) ((row.Class class, refl), tt) inputs_made) branches_made) ranks_made)
+    inners_made)
     paths_made in
-    let rows = rows_of site class ranks part each in
+    let rows = rows_of site class ranks number part each in
+    let is_wanted = are_wanted site class f.0 e.0 s.0 b.0 r.0 i.0 part f.1 e.1 s.1 b.1 relays i.1 refl in
     record {
       part = part;
-      wanted_part = are_wanted site class f.0 e.0 s.0 b.0 r.0 part f.1 e.1 s.1 b.1 relays refl;
+      wanted_part = is_wanted;
       rows = rows.rows;
       many = rows.many;
-      right = are_right site class part ranks rows.rows rows.made falls;
+      right = are_right site class part ranks number rows.rows rows.made is_wanted falls (numbers site law class sound.clean).1;
     }
 
 -- ---- the rows of all classes

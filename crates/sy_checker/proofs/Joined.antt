@@ -6,18 +6,20 @@ use Rattle.sy_board.specs.relay.Spares.{Scope}
 use Rattle.sy_site.specs.declared.site.SiteInput.{SiteInput}
 use Rattle.sy_site.specs.Sites.{Site}
 use Rattle.sy_site.specs.machine.Reach.{Reach}
-use Rattle.sy_checker.specs.Fit.{AreWanted, IsBranch, IsReached, ListsAll, StandsBefore, paths}
+use Rattle.sy_checker.specs.Fit.{AreWanted, ComesBefore, IsBranch, IsInner, IsReached, ListsAll, StandsBefore, paths}
 use Rattle.sy_checker.specs.Internal.{HasInput, IsRest}
+use Rattle.sy_checker.specs.declared.wanted.InnerList.{InnerList}
 use Rattle.sy_checker.specs.declared.wanted.Wanted.{Wanted}
 use Rattle.sy_checker.specs.declared.wanted.Wanted.TheVariants as wanted
 use Rattle.sy_checker.proofs.Sorted.{lists_as}
 
-module _ (site : Site) (class : Class) (firm every inputs branches : List SiteInput) (relays : List ℕ) (part : List Wanted)
+module _ (site : Site) (class : Class) (firm every inputs branches : List SiteInput) (relays : List ℕ) (inners : List InnerList)
+    (part : List Wanted)
     (is_firm : (x : SiteInput) → Contains firm x ↔ Reach site class Scope.Firm x) (is_every : (x : SiteInput) → Contains every x ↔ Reach site class Scope.Every x)
     (sorted : ListsAll (Contains firm) StandsBefore inputs) (rest : ListsAll (IsRest every firm) StandsBefore branches)
-    (of_inputs : ListsAll (HasInput every) ◌<◌ relays)
-    (whole : part ≡ ((((([] ++ wanted.Class class ∷ []) ++ map wanted.Reach inputs) ++ map wanted.Branch branches) ++ map wanted.Rank relays)
-    ++ paths site class)) where
+    (of_inputs : ListsAll (HasInput every) ◌<◌ relays) (posted : ListsAll (IsInner site class) ComesBefore inners)
+    (whole : part ≡ (((((([] ++ wanted.Class class ∷ []) ++ map wanted.Reach inputs) ++ map wanted.Branch branches) ++ map wanted.Rank relays)
+    ++ map wanted.Inner inners) ++ paths site class)) where
   pub are_wanted : AreWanted site class part
   are_wanted = record {
     inputs = inputs;
@@ -31,7 +33,13 @@ module _ (site : Site) (class : Class) (firm every inputs branches : List SiteIn
     relays_reached = lists_as (HasInput every) (IsReached site class) ◌<◌ relays
         (λ relay has. (has.0, (is_every (record { relay = relay; input = has.0 })).0 has.1))
         (λ relay is. (is.0, (is_every (record { relay = relay; input = is.0 })).1 is.1)) of_inputs;
+    inners = inners;
+    inners_posted = posted;
     whole = whole
-        ∙ append_assoc ((wanted.Class class ∷ map wanted.Reach inputs) ++ map wanted.Branch branches) (map wanted.Rank relays) (paths site class)
-        ∙ append_assoc (wanted.Class class ∷ map wanted.Reach inputs) (map wanted.Branch branches) (map wanted.Rank relays ++ paths site class);
+        ∙ append_assoc (((wanted.Class class ∷ map wanted.Reach inputs) ++ map wanted.Branch branches) ++ map wanted.Rank relays) (map wanted.Inner inners)
+        (paths site class)
+        ∙ append_assoc ((wanted.Class class ∷ map wanted.Reach inputs) ++ map wanted.Branch branches) (map wanted.Rank relays)
+        (map wanted.Inner inners ++ paths site class)
+        ∙ append_assoc (wanted.Class class ∷ map wanted.Reach inputs) (map wanted.Branch branches)
+        (map wanted.Rank relays ++ (map wanted.Inner inners ++ paths site class));
   }

@@ -143,12 +143,12 @@ module _ (site : Site) (class : Class) (relay : ℕ) where
   ]
   targets_is (occurrence.Post inner ∷ later) to i = let t = targets_is later to i in (t.0, inr t.1, t.2)
 
-  abbrev inners : List Occurrence → List ℕ
+  abbrev pub inners : List Occurrence → List ℕ
   inners [] = []
   inners (occurrence.Run action ∷ later) = inners later
   inners (occurrence.Post inner ∷ later) = inner ∷ inners later
 
-  inners_has : (all : List Occurrence) (inner : ℕ) → In (occurrence.Post inner) all → In inner (inners all)
+  pub inners_has : (all : List Occurrence) (inner : ℕ) → In (occurrence.Post inner) all → In inner (inners all)
   inners_has [] inner i = absurd i
   inners_has (occurrence.Run a ∷ later) inner (inl same) = absurd (not_both same)
     where
@@ -161,7 +161,7 @@ module _ (site : Site) (class : Class) (relay : ℕ) where
       one_list e = cc
   inners_has (occurrence.Post b ∷ later) inner (inr i) = inr (inners_has later inner i)
 
-  inners_is : (all : List Occurrence) (inner : ℕ) → In inner (inners all) → In (occurrence.Post inner) all
+  pub inners_is : (all : List Occurrence) (inner : ℕ) → In inner (inners all) → In (occurrence.Post inner) all
   inners_is [] inner i = absurd i
   inners_is (occurrence.Run a ∷ later) inner i = inr (inners_is later inner i)
   inners_is (occurrence.Post b ∷ later) inner (inl same) = inl (ap (λ z. occurrence.Post z) same)

@@ -11,9 +11,12 @@ use Rattle.sy_site.specs.declared.site.SiteInput.{SiteInput}
 use Rattle.sy_site.specs.Sites.{Relay, Site, archives, asks_for, plan_in}
 use Rattle.sy_site.specs.machine.Lawful.{IsArchive, IsInput, IsLawful}
 use Rattle.sy_checker.specs.Fit.{AreWanted}
+use Rattle.sy_checker.specs.Leads.{IsThere}
+use Rattle.sy_checker.specs.declared.wanted.InnerList.{InnerList}
 use Rattle.sy_checker.specs.declared.wanted.Wanted.{Wanted}
 use Rattle.sy_checker.specs.declared.wanted.Wanted.TheVariants as wanted
 use Rattle.sy_checker.proofs.Comparing.{meant, no_value}
+use Rattle.sy_checker.proofs.InnersSorted.{inner_is_there}
 use Rattle.sy_checker.proofs.There.{entry_there as is_there, reach_there, relay_there}
 
 action_there : (found : Option Relay) (n : ℕ) (part : Action) → slice_get (plan_in found).actions n ≡ Some part → (relay : Relay) × (found ≡ Some relay)
@@ -35,6 +38,9 @@ module _ (site : Site) (law : IsLawful site) (class : Class) (part : List Wanted
   rank_there of there =
       let is = meant site class part are (wanted.Rank of) there in
       relay_there site (record { relay = of; input = is.0 }) (reach_there site law class Scope.Every (record { relay = of; input = is.0 }) is.1)
+
+  pub inner_there : (inner : InnerList) → Contains part (wanted.Inner inner) → IsThere site inner
+  inner_there inner there = inner_is_there site law class inner (meant site class part are (wanted.Inner inner) there)
 
   pub entry_there : (from : SiteInput) (archive : SiteAction) → Contains part (wanted.Path from archive) → IsInput site from
   entry_there from archive there =

@@ -7,9 +7,10 @@ use Rattle.sy_wire.specs.declared.class.Class.{Class}
 use Rattle.sy_cert.specs.declared.row.Row.{Row}
 use Rattle.sy_cert.specs.declared.row.Row.TheVariants as row
 use Rattle.sy_site.specs.Sites.{Site}
+use Rattle.sy_checker.specs.declared.wanted.InnerList.{InnerList}
 use Rattle.sy_checker.specs.declared.wanted.Wanted.{Wanted}
 use Rattle.sy_checker.specs.declared.wanted.Wanted.TheVariants as wanted
-use Rattle.sy_checker.specs.Fit.{AreFit, AreRight, AreWanted, HasRank, IsRankRow, IsRight}
+use Rattle.sy_checker.specs.Fit.{AreFit, AreRight, AreWanted, HasNumber, HasRank, IsInnerRow, IsRankRow, IsRight}
 use Rattle.sy_checker.proofs.RowsMade.{same_place}
 
 module _ (site : Site) (class : Class) (part : List Wanted) (rows more : List Row) (right : AreRight site class part rows) where
@@ -29,13 +30,33 @@ module _ (site : Site) (class : Class) (part : List Wanted) (rows more : List Ro
   rank_with of (row.Class c) h = h
   rank_with of (row.Reach relay port) h = h
   rank_with of (row.Branch relay port) h = h
+  rank_with of (row.Inner relay list number) h = h
   rank_with of (row.Path relay port archive_relay action occurrences) h = h
+
+  has_number : (inner : InnerList) (number : ℕ) → HasNumber site part (rows ++ more) inner number → HasNumber site part rows inner number
+  has_number inner number h =
+      let at = right h.place (wanted.Inner inner) h.is_wanted in
+      record {
+        place = h.place;
+        is_wanted = h.is_wanted;
+        stands = sym (same_place rows more h.place (slice_get_within rows h.place at.stands at.there)) ∙ h.stands;
+      }
+
+  inner_with : (inner : InnerList) (r : Row) → IsInnerRow site class part rows inner r → IsInnerRow site class part (rows ++ more) inner r
+  inner_with inner (row.Inner relay list number) h =
+      (h.0, h.1, λ post to below does has. h.2 post to below does (has_number (record { relay = inner.relay; list = to }) below has))
+  inner_with inner (row.Class c) h = h
+  inner_with inner (row.Reach relay port) h = h
+  inner_with inner (row.Branch relay port) h = h
+  inner_with inner (row.Rank relay rank) h = h
+  inner_with inner (row.Path relay port archive_relay action occurrences) h = h
 
   right_with : (is : Wanted) (r : Row) → IsRight site class part rows is r → IsRight site class part (rows ++ more) is r
   right_with (wanted.Class c) r h = h
   right_with (wanted.Reach input) r h = h
   right_with (wanted.Branch input) r h = h
   right_with (wanted.Rank of) r h = rank_with of r h
+  right_with (wanted.Inner inner) r h = inner_with inner r h
   right_with (wanted.Path entry archive) r h = h
 
   pub right_append : AreRight site class part (rows ++ more)

@@ -1,7 +1,10 @@
 -- What may be wrong with occurrences.
-use Rattle.std.proofs.Common.{◌≡◌, ℕ, ◌<◌, ◌+◌, Bool, true, false, ◌&&◌, ◌||◌, not, Option, Some, None, refl, ap, ◌∙◌, arith}
-use Rattle.std.specs.Prelude.{Decides, is_none, is_some, slice_get}
+use Rattle.std.proofs.Common.{◌≡◌, ℕ, ◌<◌, ◌≤◌, ◌+◌, Bool, true, false, ◌&&◌, ◌||◌, not, List, [], length, get_or, take, Option, Some, None, refl, sym, ap, subst, ◌∙◌, arith, inl, inr}
+use Rattle.std.specs.Int.{bit_at}
+use Rattle.std.specs.Prelude.{Contains, Decides, is_none, is_some, slice_get}
 use Rattle.std.proofs.lemmas.Bool.{false≢true}
+use Rattle.std.proofs.lemmas.List.{take_all, take_more}
+use Rattle.std.proofs.lemmas.List.Elements.{Contains-push_cases}
 use Rattle.sy_wire.specs.declared.class.Class.{Class}
 use Rattle.sy_rules.specs.declared.lists.occurrence.Occurrence.{Occurrence}
 use Rattle.sy_rules.specs.declared.lists.occurrence.Occurrence.TheVariants as occurrence
@@ -9,18 +12,20 @@ use Rattle.sy_rules.specs.declared.parameters.objects.Destination.{Destination}
 use Rattle.sy_rules.specs.declared.parameters.objects.Destination.TheVariants as destination
 use Rattle.sy_rules.specs.declared.parts.Action.{Action}
 use Rattle.sy_board.specs.relay.Plans.{retry_at}
-use Rattle.sy_board.specs.relay.Spares.{Scope}
+use Rattle.sy_board.specs.relay.Spares.{Scope, own}
 use Rattle.sy_site.specs.declared.site.SiteInput.{SiteInput}
 use Rattle.sy_site.specs.Sites.{Site, plan_at, target}
-use Rattle.sy_site.specs.machine.Findings.{HoldsAt, IsForward, Kind}
-use Rattle.sy_site.specs.machine.Reach.{MayDo, list_of}
+use Rattle.sy_site.specs.machine.Findings.{HoldsAt, IsForward, IsInnerLoop, Kind}
+use Rattle.sy_site.specs.machine.Reach.{Follows, MayDo, list_of}
 use Rattle.sy_checker.specs.declared.executed.Executed.TheVariants as executed
 use Rattle.sy_checker.specs.Fit.{IsClean}
 use Rattle.sy_checker.specs.Flows.{IsSet}
 use Rattle.sy_checker.specs.Internal.{HasNoneFrom, IsNextIn}
-use Rattle.sy_checker.specs.Risks.{IsRisky, RisksBy, is_forward, is_risk, kind_of}
+use Rattle.sy_checker.specs.Hops.{AreLists}
+use Rattle.sy_checker.specs.Risks.{HasRisk, IsRisk, IsRisky, ListRisks, PostedRisks, is_forward, kind_of}
 use Rattle.sy_checker.specs.declared.kinds.Risk.{Risk}
 use Rattle.sy_checker.specs.declared.kinds.Risk.TheVariants as risks
+use Rattle.sy_checker.proofs.Followed.{followed_by, follows_posts}
 use Rattle.sy_checker.proofs.Members.{all_members, more_members}
 
 first_true : (a b : Bool) → (a && b) ≡ true → a ≡ true
@@ -67,123 +72,160 @@ so_forward (Some a) f = so_sends a f
 
 -- ---- kinds 5 to 7
 
--- the set has the occurrences of an input's list that may be executed and aren't spare
-abbrev pub IsFirmSet : Site → Class → SiteInput → ℕ → Type 0
-IsFirmSet site class input set = IsSet site class executed.Firm input.relay (list_of site input) set
-
 module _ (site : Site) (class : Class) (input : SiteInput) where
-  kind_shown : (number : ℕ) (risk : Risk) (is : Occurrence) → MayDo site class Scope.Firm input.relay (list_of site input) number is
-      → is_risk site input risk is ≡ true → HoldsAt site class input (kind_of risk)
-  kind_shown number risks.Post (occurrence.Post list) does e = record { number = number; list = list; does = does }
-  kind_shown number risks.Post (occurrence.Run action) does e = absurd (false≢true e)
-  kind_shown number risks.GivesUp (occurrence.Post list) does e = absurd (false≢true e)
-  kind_shown number risks.GivesUp (occurrence.Run action) does e =
+  kind_shown : (list : ℕ) → Follows site class Scope.Firm input list → (number : ℕ) (risk : Risk) (is : Occurrence)
+      → MayDo site class Scope.Firm input.relay list number is → IsRisk site class input.relay risk is → HoldsAt site class input (kind_of risk)
+  kind_shown list follows number risks.Post (occurrence.Post to) does e =
+      record { list = list; follows = follows; number = number; to = to; does = does; loses = e }
+  kind_shown list follows number risks.Post (occurrence.Run action) does e = absurd (false≢true e)
+  kind_shown list follows number risks.GivesUp (occurrence.Post to) does e = absurd e
+  kind_shown list follows number risks.GivesUp (occurrence.Run action) does e =
       let retry = some_so (retry_at (plan_at site input.relay) action) e in
-      (action, record { number = number; does = does }, retry.0, retry.1)
-  kind_shown number risks.NoTarget (occurrence.Post list) does e = absurd (false≢true e)
-  kind_shown number risks.NoTarget (occurrence.Run action) does e =
+      (action, record { list = list; follows = follows; number = number; does = does }, retry.0, retry.1)
+  kind_shown list follows number risks.NoTarget (occurrence.Post to) does e = absurd e
+  kind_shown list follows number risks.NoTarget (occurrence.Run action) does e =
       let found = slice_get (plan_at site input.relay).actions action in
       let to = target site (record { relay = input.relay; action = action }) in (
         action,
-        record { number = number; does = does },
+        record { list = list; follows = follows; number = number; does = does },
         forward_so found (first_true (is_forward found) (is_none to) e),
         none_so to (second_true (is_forward found) (is_none to) e),
       )
 
-  pub shown : (set number : ℕ) (risk : Risk) → IsFirmSet site class input set → RisksBy site input set number risk
+  pub shown : (list : ℕ) (risk : Risk) → Follows site class Scope.Firm input list → ListRisks site class input.relay list risk
       → HoldsAt site class input (kind_of risk)
-  shown set number risk firm r = kind_shown number risk r.is (firm.sound number r.is r.member r.there) r.risky
+  shown list risk follows r = kind_shown list follows r.number risk r.is r.does r.risky
 
-  -- the risk of some occurrence
-  abbrev pub Shows : ℕ → Risk → Type 0
-  Shows set risk = (number : ℕ) × RisksBy site input set number risk
+  -- some list that is followed has the risk
+  abbrev pub Shows : Risk → Type 0
+  Shows risk = (list : ℕ) × Follows site class Scope.Firm input list × ListRisks site class input.relay list risk
 
-  pub shows : (set : ℕ) (risk : Risk) → IsFirmSet site class input set → HoldsAt site class input (kind_of risk) → Shows set risk
-  shows set risks.Post firm h = (
-    h.number,
-    record {
-      member = firm.whole h.number (occurrence.Post h.list) h.does;
-      is = occurrence.Post h.list;
-      there = h.does.found;
-      risky = refl;
-    },
-  )
-  shows set risks.GivesUp firm (action, runs, retry, is) = (
-    runs.number,
-    record {
-      member = firm.whole runs.number (occurrence.Run action) runs.does;
-      is = occurrence.Run action;
-      there = runs.does.found;
-      risky = ap is_some is;
-    },
-  )
-  shows set risks.NoTarget firm (action, runs, forward, none) =
+  pub shows : (risk : Risk) → HoldsAt site class input (kind_of risk) → Shows risk
+  shows risks.Post h = (h.list, h.follows, record { number = h.number; is = occurrence.Post h.to; does = h.does; risky = h.loses })
+  shows risks.GivesUp (action, runs, retry, is) =
+      (runs.list, runs.follows, record { number = runs.number; is = occurrence.Run action; does = runs.does; risky = ap is_some is })
+  shows risks.NoTarget (action, runs, forward, none) =
       let to = target site (record { relay = input.relay; action = action }) in (
-        runs.number,
+        runs.list,
+        runs.follows,
         record {
-          member = firm.whole runs.number (occurrence.Run action) runs.does;
+          number = runs.number;
           is = occurrence.Run action;
-          there = runs.does.found;
+          does = runs.does;
           risky = ap (λ b. b && is_none to) (so_forward (slice_get (plan_at site input.relay).actions action) forward) ∙ ap is_none none;
         },
       )
 
--- ---- one after another
+  -- the input's own list has it, or one that posts lead to
+  pub own_shown : (risk : Risk) → ListRisks site class input.relay (list_of site input) risk → HoldsAt site class input (kind_of risk)
+  own_shown risk r = shown (list_of site input) risk own r
 
-abbrev pub IsSafeBelow : Site → SiteInput → ℕ → Risk → ℕ → Type 0
-IsSafeBelow site input set risk most = (number : ℕ) → number < most → RisksBy site input set number risk → ⊥
+  pub posted_shown : (risk : Risk) (b : Bool) → (ListRisks site class input.relay (list_of site input) risk → ⊥)
+      → Decides b (PostedRisks site class input risk) → Decides b (HoldsAt site class input (kind_of risk))
+  posted_shown risk b none d = (
+    λ yes. (let r = d.0 yes in shown r.list risk (follows_posts site class Scope.Firm input own r.posted) r.risky),
+    λ h. go (shows risk h),
+  )
+    where
+      go : Shows risk → b ≡ true
+      go (list, follows, r) = elim (followed_by site class Scope.Firm input follows) [
+        | inl same ↦ absurd (none (subst (λ l. ListRisks site class input.relay l risk) same r))
+        | inr posts ↦ d.1 (record { list = list; posted = posts; risky = r })
+      ]
 
-pub safe_first : (site : Site) (input : SiteInput) (set : ℕ) (risk : Risk) → IsSafeBelow site input set risk 0
-safe_first site input set risk number low r = omega (arith, low)
+-- ---- one occurrence after another
 
-pub safe_more : (site : Site) (input : SiteInput) (set : ℕ) (risk : Risk) (from n : ℕ) → IsNextIn set from n → (RisksBy site input set n risk → ⊥)
-    → IsSafeBelow site input set risk from → IsSafeBelow site input set risk (n + 1)
-safe_more site input set risk from n next none before =
-    more_members (λ k. RisksBy site input set k risk → ⊥) set from n next (λ k no r. no r.member) before none
+module _ (site : Site) (class : Class) (relay list set : ℕ) (risk : Risk) where
+  pub list_shown : (from number : ℕ) → IsSet site class executed.Firm relay list set → IsNextIn set from number
+      → HasRisk site class relay list number risk → ListRisks site class relay list risk
+  list_shown from number firm next h =
+      record { number = number; is = h.is; does = firm.sound number h.is next.member h.there; risky = h.risky }
 
-pub safe_all : (site : Site) (class : Class) (input : SiteInput) (set : ℕ) (risk : Risk) (from : ℕ) → IsFirmSet site class input set
-    → HasNoneFrom set from → IsSafeBelow site input set risk from → HoldsAt site class input (kind_of risk) → ⊥
-safe_all site class input set risk from firm none safe h =
-    let shown_by = shows site class input set risk firm h in
-    all_members (λ k. RisksBy site input set k risk → ⊥) set from none (λ k no r. no r.member) safe shown_by.0 shown_by.1
+  abbrev pub IsSafeBelow : ℕ → Type 0
+  IsSafeBelow most = (number : ℕ) → number < most → bit_at set number ≡ 1 → HasRisk site class relay list number risk → ⊥
+
+  pub safe_first : IsSafeBelow 0
+  safe_first number low r = absurd (omega (arith, low))
+
+  pub safe_more : (from n : ℕ) → IsNextIn set from n → (HasRisk site class relay list n risk → ⊥) → IsSafeBelow from → IsSafeBelow (n + 1)
+  safe_more from n next none before =
+      more_members (λ k. bit_at set k ≡ 1 → HasRisk site class relay list k risk → ⊥) set from n next (λ k no yes r. no yes) before (λ yes r. none r)
+
+  pub safe_all : (from : ℕ) → IsSet site class executed.Firm relay list set → HasNoneFrom set from → IsSafeBelow from
+      → ListRisks site class relay list risk → ⊥
+  safe_all from firm none safe r =
+      all_members (λ k. bit_at set k ≡ 1 → HasRisk site class relay list k risk → ⊥) set from none (λ k no yes h. no yes) safe r.number
+      (firm.whole r.number r.is r.does) (record { is = r.is; there = r.does.found; risky = r.risky })
+
+-- ---- one list after another
+
+module _ (site : Site) (class : Class) (relay : ℕ) (risk : Risk) where
+  abbrev pub AreSafe : List ℕ → Type 0
+  AreSafe lists = (list : ℕ) → Contains lists list → ListRisks site class relay list risk → ⊥
+
+  pub none_risky : AreSafe []
+  none_risky list (k, low, is) r = omega (arith, low)
+
+  pub more_safe : (lists : List ℕ) (n d : ℕ) → n < length lists → AreSafe (take n lists) → (ListRisks site class relay (get_or lists n d) risk → ⊥)
+      → AreSafe (take (n + 1) lists)
+  more_safe lists n d low before none list is r =
+      elim (Contains-push_cases (take n lists) (get_or lists n d) list (subst (λ l. Contains l list) (take_more lists n d low) is)) [
+        | inl earlier ↦ before list earlier r
+        | inr here ↦ none (subst (λ l. ListRisks site class relay l risk) (sym here) r)
+      ]
+
+pub posts_safe : (site : Site) (class : Class) (input : SiteInput) (risk : Risk) (lists : List ℕ) (n : ℕ)
+    → AreLists site class executed.Firm input.relay (list_of site input) lists → length lists ≤ n → AreSafe site class input.relay risk (take n lists)
+    → PostedRisks site class input risk → ⊥
+posts_safe site class input risk lists n are all safe r =
+    safe r.list (subst (λ l. Contains l r.list) (sym (take_all n lists all)) ((are.each r.list).1 r.posted)) r.risky
 
 -- ---- all kinds
 
-pub some_risk : (site : Site) (class : Class) (input : SiteInput) (a b d : Bool) → Decides a (HoldsAt site class input Kind.InnerQueue)
-    → Decides b (HoldsAt site class input Kind.GivesUp) → Decides d (HoldsAt site class input Kind.NoTarget)
-    → Decides (a || (b || d)) (IsRisky site class input)
-some_risk site class input a b d is_a is_b is_d = (to a b d is_a is_b is_d, from)
+pub last_risk : (site : Site) (class : Class) (input : SiteInput) (b : Bool) → (HoldsAt site class input Kind.InnerQueue → ⊥)
+    → (HoldsAt site class input Kind.GivesUp → ⊥) → Decides b (HoldsAt site class input Kind.NoTarget) → Decides b (IsRisky site class input)
+last_risk site class input b no_post no_end d = (λ yes. (risks.NoTarget, d.0 yes), from)
   where
-    to : (a b d : Bool) → Decides a (HoldsAt site class input Kind.InnerQueue) → Decides b (HoldsAt site class input Kind.GivesUp)
-        → Decides d (HoldsAt site class input Kind.NoTarget) → (a || (b || d)) ≡ true → IsRisky site class input
-    to true b d x y z e = (risks.Post, x.0 refl)
-    to false true d x y z e = (risks.GivesUp, y.0 refl)
-    to false false d x y z e = (risks.NoTarget, z.0 e)
-
-    or_true : (x : Bool) → (x || true) ≡ true
-    or_true true = refl
-    or_true false = refl
-
-    from : IsRisky site class input → (a || (b || d)) ≡ true
-    from (risks.Post, h) = ap (λ x. x || (b || d)) (is_a.1 h)
-    from (risks.GivesUp, h) = ap (λ x. a || (x || d)) (is_b.1 h) ∙ or_true a
-    from (risks.NoTarget, h) = ap (λ x. a || (b || x)) (is_d.1 h) ∙ ap (λ x. a || x) (or_true b) ∙ or_true a
+    from : IsRisky site class input → b ≡ true
+    from (risks.Post, h) = absurd (no_post h)
+    from (risks.GivesUp, h) = absurd (no_end h)
+    from (risks.NoTarget, h) = d.1 h
 
 pub all_clean : (site : Site) (class : Class) (input : SiteInput) → (HoldsAt site class input Kind.NotFull → ⊥)
     → (HoldsAt site class input Kind.MarkOff → ⊥) → (HoldsAt site class input Kind.MarkAboveSize → ⊥)
     → (HoldsAt site class input Kind.Discards → ⊥) → (IsRisky site class input → ⊥) → IsClean site class input
-all_clean site class input a b d e risky Kind.NotFull h = a h
-all_clean site class input a b d e risky Kind.MarkOff h = b h
-all_clean site class input a b d e risky Kind.MarkAboveSize h = d h
-all_clean site class input a b d e risky Kind.Discards h = e h
-all_clean site class input a b d e risky Kind.InnerQueue h = risky (risks.Post, h)
-all_clean site class input a b d e risky Kind.GivesUp h = risky (risks.GivesUp, h)
-all_clean site class input a b d e risky Kind.NoTarget h = risky (risks.NoTarget, h)
-all_clean site class input a b d e risky Kind.Loop h = h
-all_clean site class input a b d e risky (Kind.Unmet archive) h = h
+all_clean site class input a b d e risky Kind.NotFull asked h = a h
+all_clean site class input a b d e risky Kind.MarkOff asked h = b h
+all_clean site class input a b d e risky Kind.MarkAboveSize asked h = d h
+all_clean site class input a b d e risky Kind.Discards asked h = e h
+all_clean site class input a b d e risky Kind.InnerQueue asked h = risky (risks.Post, h)
+all_clean site class input a b d e risky Kind.GivesUp asked h = risky (risks.GivesUp, h)
+all_clean site class input a b d e risky Kind.NoTarget asked h = risky (risks.NoTarget, h)
+all_clean site class input a b d e risky Kind.InnerLoop other h = other refl
+all_clean site class input a b d e risky Kind.Loop asked h = h
+all_clean site class input a b d e risky (Kind.Unmet archive) asked h = h
+
+-- none of the kinds 1 to 7, and no list is met twice: none at all
+pub each_clean : (site : Site) (class : Class) (input : SiteInput) → IsClean site class input → (IsInnerLoop site class input → ⊥)
+    → (k : Kind) → HoldsAt site class input k → ⊥
+each_clean site class input clean once Kind.NotFull h = clean Kind.NotFull (λ e. cc) h
+each_clean site class input clean once Kind.MarkOff h = clean Kind.MarkOff (λ e. cc) h
+each_clean site class input clean once Kind.MarkAboveSize h = clean Kind.MarkAboveSize (λ e. cc) h
+each_clean site class input clean once Kind.Discards h = clean Kind.Discards (λ e. cc) h
+each_clean site class input clean once Kind.InnerQueue h = clean Kind.InnerQueue (λ e. cc) h
+each_clean site class input clean once Kind.GivesUp h = clean Kind.GivesUp (λ e. cc) h
+each_clean site class input clean once Kind.NoTarget h = clean Kind.NoTarget (λ e. cc) h
+each_clean site class input clean once Kind.InnerLoop h = once h
+each_clean site class input clean once Kind.Loop h = h
+each_clean site class input clean once (Kind.Unmet archive) h = h
+
+not_inner : (risk : Risk) → kind_of risk ≡ Kind.InnerLoop → ⊥
+not_inner risks.Post e = cc
+not_inner risks.GivesUp e = cc
+not_inner risks.NoTarget e = cc
 
 pub clean_not_risky : (site : Site) (class : Class) (input : SiteInput) → IsClean site class input → IsRisky site class input → ⊥
-clean_not_risky site class input clean (risk, h) = clean (kind_of risk) h
+clean_not_risky site class input clean (risk, h) = clean (kind_of risk) (not_inner risk) h
 
 pub clean_by : (site : Site) (class : Class) (input : SiteInput) (b : Bool) → Decides b (IsRisky site class input)
     → ((IsRisky site class input → ⊥) → IsClean site class input) → Decides (not b) (IsClean site class input)

@@ -10,6 +10,7 @@ use Rattle.sy_cert.specs.declared.kinds.Kind.TheVariants as kinds
 use Rattle.sy_cert.specs.declared.row.Row.{Row}
 use Rattle.sy_cert.specs.declared.row.Row.TheVariants as row
 use Rattle.sy_cert.specs.Rows.{AreOccurrences, IsPort, IsRow, IsVersion, is_action, is_name, kind, last_from, may_follow}
+use Rattle.sy_rules.specs.declared.lists.occurrence.Occurrence.{Occurrence}
 use Rattle.sy_rules.specs.declared.lists.occurrence.Occurrence.TheVariants as occurrence
 use Rattle.sy_rules.specs.Whole.{IsWhole}
 use Rattle.sy_board.specs.relay.Plans.{occurrences_at}
@@ -20,19 +21,20 @@ use Rattle.sy_site.specs.declared.site.SiteInput.{SiteInput}
 use Rattle.sy_site.specs.Sites.{Relay, Site, archives, asks_for, is_protected, plan_at, plan_in}
 use Rattle.sy_site.specs.machine.Lawful.{IsInput, IsLawful}
 use Rattle.sy_board.specs.relay.Spares.{Scope}
-use Rattle.sy_site.specs.machine.Reach.{Reach, list_of}
-use Rattle.sy_checker.specs.declared.executed.Executed.TheVariants as executed
+use Rattle.sy_site.specs.machine.Reach.{Reach, list_of, occurrence_at}
 use Rattle.sy_site.specs.machine.Reach as reach
 use Rattle.sy_checker.specs.Certifying.{AreShaped, IsInRange}
 use Rattle.sy_checker.specs.Fit.{AreFit, AreWanted, IsFit, IsPath, IsRight, action_name, name_of, paths, port_of}
+use Rattle.sy_checker.specs.declared.wanted.InnerList.{InnerList}
 use Rattle.sy_checker.specs.declared.wanted.Wanted.{Wanted}
 use Rattle.sy_checker.specs.declared.wanted.Wanted.TheVariants as wanted
 use Rattle.sy_checker.proofs.Comparing.{meant, no_value, one_value}
 use Rattle.sy_checker.proofs.Described.{IsNamed}
 use Rattle.sy_checker.proofs.FitIsSound.{in_flat, in_map, one_behind}
-use Rattle.sy_checker.proofs.Meant.{end_there, entry_there, rank_there}
-use Rattle.sy_checker.proofs.There.{lead_there, reach_there, relay_there}
+use Rattle.sy_checker.proofs.Meant.{end_there, entry_there, inner_there, rank_there}
+use Rattle.sy_checker.proofs.There.{reach_there, relay_there}
 use Rattle.sy_checker.proofs.Unspared.{branch_policy}
+use Rattle.sy_checker.proofs.Used.{relay_of}
 
 -- ---- the order of what is wanted
 
@@ -41,6 +43,7 @@ kind_of (wanted.Class class) = kinds.Class
 kind_of (wanted.Reach input) = kinds.Reach
 kind_of (wanted.Branch input) = kinds.Branch
 kind_of (wanted.Rank relay) = kinds.Rank
+kind_of (wanted.Inner inner) = kinds.Inner
 kind_of (wanted.Path entry archive) = kinds.Path
 
 abbrev pub Run : Kind → List Wanted → Type 0
@@ -120,22 +123,32 @@ module _ (site : Site) (class : Class) (part : List Wanted) (are : AreWanted sit
       (all_map wanted.Branch kinds.Branch (λ y. refl) (x ∷ branches)))
       (ranks_run kinds.Branch refl)
 
-  paths_run : RunsTo kinds.Rank kinds.Path (paths site class)
-  paths_run =
-      runs_from kinds.Rank kinds.Path refl refl (paths site class) (wanted.Path entry archive)
+  paths_run : (before : Kind) → may_follow before kinds.Path ≡ true → RunsTo before kinds.Path (paths site class)
+  paths_run before first =
+      runs_from before kinds.Path first refl (paths site class) (wanted.Path entry archive)
       (in_flat (λ e. map (λ a. wanted.Path e a) (archives site class)) site.entries entry (wanted.Path entry archive) is_entry
       (in_map (λ a. wanted.Path entry a) (archives site class) archive named))
       (all_flat (λ e. map (λ a. wanted.Path e a) (archives site class)) kinds.Path
       (λ e. all_map (λ a. wanted.Path e a) kinds.Path (λ x. refl) (archives site class)) site.entries)
 
+  -- behind the rank rows come inner rows, if there are any
+  inners_run : (inners : List InnerList) → RunsTo kinds.Rank kinds.Path (map wanted.Inner inners ++ paths site class)
+  inners_run [] = paths_run kinds.Rank refl
+  inners_run (x ∷ inners) =
+      runs_join kinds.Rank kinds.Inner kinds.Path (map wanted.Inner (x ∷ inners)) (paths site class)
+      (runs_from kinds.Rank kinds.Inner refl refl (map wanted.Inner (x ∷ inners)) (wanted.Inner x) (0, omega arith, refl)
+      (all_map wanted.Inner kinds.Inner (λ y. refl) (x ∷ inners)))
+      (paths_run kinds.Inner refl)
+
   pub part_runs : (before : Kind) → may_follow before kinds.Class ≡ true → RunsTo before kinds.Path part
   part_runs before first =
-      let behind = map wanted.Branch are.branches ++ (map wanted.Rank are.relays ++ paths site class) in
+      let last = map wanted.Inner are.inners ++ paths site class in
+      let behind = map wanted.Branch are.branches ++ (map wanted.Rank are.relays ++ last) in
       let later =
       runs_join kinds.Class kinds.Reach kinds.Path (map wanted.Reach are.inputs) behind inputs_run
-      (subst (RunsTo kinds.Reach kinds.Path) (append_assoc (map wanted.Branch are.branches) (map wanted.Rank are.relays) (paths site class))
-      (runs_join kinds.Reach kinds.Rank kinds.Path (map wanted.Branch are.branches ++ map wanted.Rank are.relays) (paths site class)
-      (branches_run are.branches) paths_run)) in
+      (subst (RunsTo kinds.Reach kinds.Path) (append_assoc (map wanted.Branch are.branches) (map wanted.Rank are.relays) last)
+      (runs_join kinds.Reach kinds.Rank kinds.Path (map wanted.Branch are.branches ++ map wanted.Rank are.relays) last
+      (branches_run are.branches) (inners_run are.inners))) in
       subst (RunsTo before kinds.Path) (sym are.whole) ((first, later.0), later.1)
 
 -- ---- shapes
@@ -154,15 +167,21 @@ module _ (site : Site) (law : IsLawful site) where
   port_least input is =
       (whole_at input is).input_ports input.input _ (slice_get_within (plan_at site input.relay).inputs input.input is.parts is.found)
 
-  -- the occurrences of a path, from an input that is there
-  path_few : (class : Class) (archive : SiteAction) (input : SiteInput) (numbers : List ℕ) → IsInput site input
-      → IsPath site class archive input numbers → AreOccurrences numbers
-  path_few class archive input [] is path = tt
-  path_few class archive input (number ∷ later) is (to, goes, more) =
-      let low =
-      slice_get_within (occurrences_at (plan_at site input.relay) (list_of site input)) number (occurrence.Run goes.action) goes.does.found in
-      let few = occurrences_few (plan_at site input.relay) (list_of site input) (whole_at input is) in
-      (omega (arith, low, few), path_few class archive to later (lead_there site class executed.Must input.relay (list_of site input) number to goes) more)
+  -- the number of an occurrence
+  number_few : (relay list number : ℕ) (is : Occurrence) → occurrence_at site relay list number ≡ Some is → number < 64
+  number_few relay list number is here =
+      let low = slice_get_within (occurrences_at (plan_at site relay) list) number is here in
+      let few = occurrences_few (plan_at site relay) list (whole_in site.relays relay law.plans (relay_of site relay list number is here)) in
+      omega (arith, low, few)
+
+  -- the occurrences of a path
+  path_few : (class : Class) (archive : SiteAction) (relay list : ℕ) (numbers : List ℕ) → IsPath site class archive relay list numbers
+      → AreOccurrences numbers
+  path_few class archive relay list [] path = tt
+  path_few class archive relay list (number ∷ later) (inl (inner, does, path)) =
+      (number_few relay list number (occurrence.Post inner) does.found, path_few class archive relay inner later path)
+  path_few class archive relay list (number ∷ later) (inr (to, goes, path)) =
+      (number_few relay list number (occurrence.Run goes.action) goes.does.found, path_few class archive to.relay (list_of site to) later path)
 
   module _ (named : IsNamed site) (all : (class : Class) (archive : SiteAction) → Contains (archives site class) archive
       → (p : Protection) × Contains site.protections p × (asks_for p class ≡ true) × (p.archive ≡ archive))
@@ -187,6 +206,8 @@ module _ (site : Site) (law : IsLawful site) where
         )
     shaped (wanted.Rank of) there (row.Rank relay rank) right =
         (λ range. (name_is of relay right.0 (rank_there site law class part are of there), range), refl)
+    shaped (wanted.Inner inner) there (row.Inner relay list number) right =
+        (λ range. (name_is inner.relay relay right.0 (inner_there site law class part are inner there).relay, range.0, range.1), refl)
     shaped (wanted.Path entry archive) there (row.Path relay port archive_relay action occurrences) right =
         let it = entry_there site law class part are entry archive there in
         let at = all class archive (meant site class part are (wanted.Path entry archive) there).1 in
@@ -196,7 +217,7 @@ module _ (site : Site) (law : IsLawful site) where
             port_is entry port it right.1 range,
             name_is archive.relay archive_relay right.2 (end_there site law class part are (all class) entry archive there),
             subst (λ n. is_action n ≡ true) (sym right.3) action_is,
-            path_few class archive entry occurrences it right.4,
+            path_few class archive entry.relay (list_of site entry) occurrences right.4,
           ),
           refl,
         )
@@ -220,6 +241,16 @@ module _ (site : Site) (law : IsLawful site) where
     shaped (wanted.Path entry archive) there (row.Reach relay port) right = absurd right
     shaped (wanted.Path entry archive) there (row.Branch relay port) right = absurd right
     shaped (wanted.Path entry archive) there (row.Rank relay rank) right = absurd right
+    shaped (wanted.Path entry archive) there (row.Inner relay list number) right = absurd right
+    shaped (wanted.Class c) there (row.Inner relay list number) right = absurd right
+    shaped (wanted.Reach input) there (row.Inner relay list number) right = absurd right
+    shaped (wanted.Branch input) there (row.Inner relay list number) right = absurd right
+    shaped (wanted.Rank of) there (row.Inner relay list number) right = absurd right
+    shaped (wanted.Inner inner) there (row.Class given) right = absurd right
+    shaped (wanted.Inner inner) there (row.Reach relay port) right = absurd right
+    shaped (wanted.Inner inner) there (row.Branch relay port) right = absurd right
+    shaped (wanted.Inner inner) there (row.Rank relay rank) right = absurd right
+    shaped (wanted.Inner inner) there (row.Path relay port archive_relay action occurrences) right = absurd right
 
 -- ---- rows
 

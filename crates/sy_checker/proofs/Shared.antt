@@ -11,13 +11,14 @@ use Rattle.sy_site.specs.declared.site.SiteAction.{SiteAction}
 use Rattle.sy_site.specs.declared.site.SiteInput.{SiteInput}
 use Rattle.sy_site.specs.Sites.{Site, archives, same_action}
 use Rattle.sy_site.specs.machine.Lawful.{IsInput, IsLawful}
-use Rattle.sy_site.specs.machine.Reach.{LeadsTo, leads_on, writes}
+use Rattle.sy_site.specs.machine.Reach.{ListLeadsTo, leads_on, posts_on, writes}
 use Rattle.sy_site.specs.machine.Soundness.{IsSoundFor}
 use Rattle.sy_checker.specs.declared.course.Course.{Course}
 use Rattle.sy_checker.specs.declared.met.Met.{Met}
 use Rattle.sy_checker.specs.Checking.{AreSound}
 use Rattle.sy_checker.specs.Course.{AreAlike, AreClean, AreKept, IsCourseAt}
-use Rattle.sy_checker.specs.Flows.{AreSiteFlows}
+use Rattle.sy_checker.specs.Flows.{AreSiteFlows, is_used}
+use Rattle.sy_checker.specs.Inner.{number_at}
 use Rattle.sy_checker.specs.Loops.{rank_at}
 use Rattle.sy_checker.specs.Met.{AreMet, IsMet, is_met, met_at, same_met}
 use Rattle.sy_checker.proofs.Alike.{alike, one_value}
@@ -26,8 +27,10 @@ use Rattle.sy_checker.specs.declared.executed.Executed.TheVariants as executed
 use Rattle.sy_rules.specs.declared.lists.occurrence.Occurrence.TheVariants as occurrence
 use Rattle.sy_site.specs.machine.Reach.{list_of}
 use Rattle.sy_site.specs.Sites.{plan_at}
+use Rattle.sy_checker.proofs.Numbering.{no_inner_loop}
+use Rattle.sy_checker.proofs.Risky.{each_clean}
 use Rattle.sy_checker.proofs.There.{entry_there, lead_there}
-use Rattle.sy_checker.proofs.Used.{input_list, input_used}
+use Rattle.sy_checker.proofs.Used.{input_list, input_used, posted_used}
 
 -- ---- which are among them
 
@@ -53,17 +56,20 @@ all_at test (y ∷ ys) x all (ℕ.suc k, low, is) =
 
 -- ---- classes of one course
 
-leads_as : (site : Site) (one other : Class) → AreAlike site one other → (archive : SiteAction) (x : SiteInput) → IsInput site x
-    → LeadsTo site one archive x → LeadsTo site other archive x
-leads_as site one other same archive x there (writes number action does is) =
-    writes number action
-    ((same executed.Must x.relay (list_of site x) number (occurrence.Run action)
-    (input_used (plan_at site x.relay) (list_of site x) (input_list site x there))).0 does) is
-leads_as site one other same archive x there (leads_on number action to does leads later) =
-    leads_on number action to
-    ((same executed.Must x.relay (list_of site x) number (occurrence.Run action)
-    (input_used (plan_at site x.relay) (list_of site x) (input_list site x there))).0 does)
-    leads (leads_as site one other same archive to (lead_there site one executed.Must x.relay (list_of site x) number to (record { action = action; does = does; leads = leads })) later)
+leads_as : (site : Site) → IsLawful site → (one other : Class) → AreAlike site one other → (archive : SiteAction) (relay list : ℕ)
+    → is_used (plan_at site relay) list ≡ true → ListLeadsTo site one archive relay list → ListLeadsTo site other archive relay list
+leads_as site law one other same archive relay list used (writes number action does is) =
+    writes number action ((same executed.Must relay list number (occurrence.Run action) used).0 does) is
+leads_as site law one other same archive relay list used (leads_on number action to does leads later) =
+    leads_on number action to ((same executed.Must relay list number (occurrence.Run action) used).0 does) leads
+    (leads_as site law one other same archive to.relay (list_of site to)
+    (of_input to (lead_there site one executed.Must relay list number to (record { action = action; does = does; leads = leads }))) later)
+  where
+    of_input : (x : SiteInput) → IsInput site x → is_used (plan_at site x.relay) (list_of site x) ≡ true
+    of_input x there = input_used (plan_at site x.relay) (list_of site x) (input_list site x there)
+leads_as site law one other same archive relay list used (posts_on number inner does later) =
+    posts_on number inner ((same executed.Must relay list number (occurrence.Post inner) used).0 does)
+    (leads_as site law one other same archive relay inner (posted_used site law relay list number inner does.found) later)
 
 alike_at : (site : Site) (one other : Class) (courses : List Course) (place : ℕ) → IsCourseAt site one courses place
     → IsCourseAt site other courses place → AreAlike site one other
@@ -75,14 +81,15 @@ pub sound_by : (site : Site) → IsLawful site → (class : Class) (courses : Li
     → IsCourseAt site class courses place → AreClean site class → AreMet site courses met → named ≡ archives site class
     → list_all (is_met met place) named ≡ true → IsSoundFor site class
 sound_by site law class courses place met named at clean are is all = record {
-  clean = clean;
+  clean = λ input reach. each_clean site class input (clean input reach) (no_inner_loop site class (number_at at.course.numbers.items) at.is.numbers input reach);
   rank = rank_at at.course.ranks.items;
   ranks = at.is.ranks;
   leads = λ entry is_entry archive is_named.
       let there = Contains-from_any same_is (met_at place archive) met
       (all_at (is_met met place) named archive all (subst (λ l. Contains l archive) (sym is) is_named)) in
       let it = are (met_at place archive) there in
-      leads_as site it.class class (alike_at site it.class class courses place it.course at) archive entry (entry_there site law entry is_entry)
+      leads_as site law it.class class (alike_at site it.class class courses place it.course at) archive entry.relay (list_of site entry)
+      (input_used (plan_at site entry.relay) (list_of site entry) (input_list site entry (entry_there site law entry is_entry)))
       (it.leads entry is_entry);
 }
 

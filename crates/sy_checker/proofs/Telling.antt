@@ -11,13 +11,13 @@ use Rattle.sy_site.specs.declared.site.SiteInput.{SiteInput}
 use Rattle.sy_site.specs.Sites.{Site, archives, is_protected}
 use Rattle.sy_site.specs.machine.Findings.{HoldsAt, IsChain, IsFinding, Kind as AnyKind, WayRow}
 use Rattle.sy_site.specs.machine.Lawful.{IsLawful}
-use Rattle.sy_site.specs.machine.Reach.{LeadsTo, Reach, leads_on, writes}
+use Rattle.sy_site.specs.machine.Reach.{LeadsTo, ListLeadsTo, Reach, leads_on, list_of, posts_on, writes}
 use Rattle.sy_site.specs.machine.Soundness.{IsSound}
 use Rattle.sy_site.proofs.machine.Ways.{reached_by, way_to}
 use Rattle.sy_checker.specs.declared.finding.Kind.{Kind}
 use Rattle.sy_checker.specs.declared.finding.Kind.TheVariants as kind
 use Rattle.sy_checker.specs.declared.groups.Group.{Group}
-use Rattle.sy_checker.specs.Answer.{IsLead}
+use Rattle.sy_checker.specs.Leads.{IsLead}
 use Rattle.sy_checker.specs.Finding.{kind_of}
 use Rattle.sy_checker.specs.Fit.{IsPath}
 use Rattle.sy_checker.specs.Survey.{Among, AreHeld, HasRanks, IsHeld, IsNothing, IsSurvey, IsSurveyOf, IsThere, IsToldOf, IsUnmetBy, Names, Puts, Tells}
@@ -99,20 +99,36 @@ module _ {A : Type 0} (site : Site) (class : Class) (Q : A → Facts) (xs : List
 abbrev pub seven : List Kind
 seven = kind.NotFull ∷ kind.MarkOff ∷ kind.MarkAboveSize ∷ kind.Discards ∷ kind.InnerQueue ∷ kind.GivesUp ∷ kind.NoTarget ∷ []
 
-pub among_seven : (site : Site) (class : Class) (input : SiteInput) (j : Kind) → HoldsAt site class input (kind_of j) → Contains seven j
-among_seven site class input kind.NotFull holds = (0, omega arith, refl)
-among_seven site class input kind.MarkOff holds = (1, omega arith, refl)
-among_seven site class input kind.MarkAboveSize holds = (2, omega arith, refl)
-among_seven site class input kind.Discards holds = (3, omega arith, refl)
-among_seven site class input kind.InnerQueue holds = (4, omega arith, refl)
-among_seven site class input kind.GivesUp holds = (5, omega arith, refl)
-among_seven site class input kind.NoTarget holds = (6, omega arith, refl)
-among_seven site class input kind.Loop holds = absurd holds
-among_seven site class input (kind.Unmet archive) holds = absurd holds
+pub among_seven : (site : Site) (class : Class) (input : SiteInput) (j : Kind) → (j ≡ kind.InnerLoop → ⊥) → HoldsAt site class input (kind_of j)
+    → Contains seven j
+among_seven site class input kind.NotFull asked holds = (0, omega arith, refl)
+among_seven site class input kind.MarkOff asked holds = (1, omega arith, refl)
+among_seven site class input kind.MarkAboveSize asked holds = (2, omega arith, refl)
+among_seven site class input kind.Discards asked holds = (3, omega arith, refl)
+among_seven site class input kind.InnerQueue asked holds = (4, omega arith, refl)
+among_seven site class input kind.GivesUp asked holds = (5, omega arith, refl)
+among_seven site class input kind.NoTarget asked holds = (6, omega arith, refl)
+among_seven site class input kind.InnerLoop other holds = absurd (other refl)
+among_seven site class input kind.Loop asked holds = absurd holds
+among_seven site class input (kind.Unmet archive) asked holds = absurd holds
 
 pub held_among : (site : Site) (class : Class) (input i : SiteInput) (j : Kind) → AreHeld site class input i j
     → Among seven (λ k. IsHeld site class input k i j)
-held_among site class input i j (same, holds) = (j, among_seven site class input j holds, (same, refl, holds))
+held_among site class input i j (same, asked, holds) = (j, among_seven site class input j asked holds, (same, refl, holds))
+
+-- one of them, or a list that is met twice
+pub held_or_looped : (site : Site) (class : Class) (input : SiteInput) (j : Kind) → HoldsAt site class input (kind_of j)
+    → AreHeld site class input input j ⊎ IsHeld site class input kind.InnerLoop input j
+held_or_looped site class input kind.NotFull holds = inl (refl, (λ e. cc), holds)
+held_or_looped site class input kind.MarkOff holds = inl (refl, (λ e. cc), holds)
+held_or_looped site class input kind.MarkAboveSize holds = inl (refl, (λ e. cc), holds)
+held_or_looped site class input kind.Discards holds = inl (refl, (λ e. cc), holds)
+held_or_looped site class input kind.InnerQueue holds = inl (refl, (λ e. cc), holds)
+held_or_looped site class input kind.GivesUp holds = inl (refl, (λ e. cc), holds)
+held_or_looped site class input kind.NoTarget holds = inl (refl, (λ e. cc), holds)
+held_or_looped site class input kind.InnerLoop holds = inr (refl, refl, holds)
+held_or_looped site class input kind.Loop holds = absurd holds
+held_or_looped site class input (kind.Unmet archive) holds = absurd holds
 
 pub is_there : (site : Site) (class : Class) (input : SiteInput) (k : Kind) → is_protected site class ≡ true → Reach site class Scope.Firm input
     → HoldsAt site class input (kind_of k) → IsThere site class input k
@@ -123,21 +139,26 @@ is_there site class input kind.Discards asked at holds = let w = way_to site cla
 is_there site class input kind.InnerQueue asked at holds = let w = way_to site class input at in (w.0, record { protected = asked; found = (w.1, holds) })
 is_there site class input kind.GivesUp asked at holds = let w = way_to site class input at in (w.0, record { protected = asked; found = (w.1, holds) })
 is_there site class input kind.NoTarget asked at holds = let w = way_to site class input at in (w.0, record { protected = asked; found = (w.1, holds) })
+is_there site class input kind.InnerLoop asked at holds = let w = way_to site class input at in (w.0, record { protected = asked; found = (w.1, holds) })
 is_there site class input kind.Loop asked at holds = absurd holds
 is_there site class input (kind.Unmet archive) asked at holds = absurd holds
 
 -- ---- archives
 
-led_by : (site : Site) (class : Class) (archive : SiteAction) (input : SiteInput) (path : List ℕ) → IsPath site class archive input path
-    → LeadsTo site class archive input
-led_by site class archive input [] last = writes last.number last.action last.does last.writes
-led_by site class archive input (number ∷ later) (to, goes, more) =
-    leads_on number goes.action to goes.does goes.leads (led_by site class archive to later more)
+led_by : (site : Site) (class : Class) (archive : SiteAction) (relay list : ℕ) (path : List ℕ) → IsPath site class archive relay list path
+    → ListLeadsTo site class archive relay list
+led_by site class archive relay list [] last = writes last.number last.action last.does last.writes
+led_by site class archive relay list (number ∷ later) path = elim path [
+  | inl post ↦ posts_on number post.0 post.1 (led_by site class archive relay post.0 later post.2)
+  | inr forward ↦
+      leads_on number forward.1.action forward.0 forward.1.does forward.1.leads
+      (led_by site class archive forward.0.relay (list_of site forward.0) later forward.2)
+]
 
 pub lead_decides : (site : Site) (class : Class) (archive : SiteAction) (entry : SiteInput) (path : Option (List ℕ))
     → IsLead site class archive entry path → Decides (is_some path) (LeadsTo site class archive entry)
 lead_decides site class archive entry None lacks = (λ e. absurd (false≢true e), λ leads. absurd (lacks leads))
-lead_decides site class archive entry (Some path) is = (λ e. led_by site class archive entry path is.0, λ leads. refl)
+lead_decides site class archive entry (Some path) is = (λ e. led_by site class archive entry.relay (list_of site entry) path is.0, λ leads. refl)
 
 -- ---- class after class
 
@@ -237,6 +258,8 @@ none_found site survey class way input AnyKind.GivesUp f =
     no_names class input kind.GivesUp ((survey.all class f.protected).kinds input (reached_by site class way input f.found.0) kind.GivesUp f.found.1)
 none_found site survey class way input AnyKind.NoTarget f =
     no_names class input kind.NoTarget ((survey.all class f.protected).kinds input (reached_by site class way input f.found.0) kind.NoTarget f.found.1)
+none_found site survey class way input AnyKind.InnerLoop f =
+    no_names class input kind.InnerLoop ((survey.all class f.protected).kinds input (reached_by site class way input f.found.0) kind.InnerLoop f.found.1)
 none_found site survey class way input AnyKind.Loop f = elim (survey.all class f.protected).ranked [
   | inl ranks ↦
       (let below : ranks.0 input.relay < ranks.0 input.relay = below_all site class ranks way input f.found.chain input.relay f.found.met_before in

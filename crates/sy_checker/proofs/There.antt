@@ -48,7 +48,7 @@ leads_there : (site : Site) (name : List ℕ) (d : Destination) (retry : Option 
 leads_there site name (destination.Archive file) retry wait e some = absurd (no_value some)
 leads_there site name (destination.Forward to port) retry wait e some = at_relay site port (relay_named site.relays to) e some
 
-target_there : (site : Site) (action : Option Action) (e : SiteInput) → target_of site action ≡ Some e → IsInput site e
+pub target_there : (site : Site) (action : Option Action) (e : SiteInput) → target_of site action ≡ Some e → IsInput site e
 target_there site None e none = absurd (no_value none)
 target_there site (Some action) e some = leads_there site action.name action.destination action.retry action.resume_interval e some
 

@@ -8,11 +8,12 @@ use Rattle.sy_site.specs.declared.site.SiteInput.{SiteInput}
 use Rattle.sy_site.specs.Sites.{Site, is_protected}
 use Rattle.sy_board.specs.relay.Spares.{Scope}
 use Rattle.sy_site.specs.machine.Reach.{Reach}
-use Rattle.sy_checker.specs.Fit.{AreFit, AreProtected, AreRight, AreWanted, AreWrong, IsBranch, IsFit, IsFitFor, IsReached, IsWrongAt, IsWrongFor, IsWrongIn, ListsAll, StandsBefore, number_of, paths, wanted_kind}
+use Rattle.sy_checker.specs.Fit.{AreFit, AreProtected, AreRight, AreWanted, AreWrong, ComesBefore, IsBranch, IsFit, IsFitFor, IsInner, IsReached, IsWrongAt, IsWrongFor, IsWrongIn, ListsAll, StandsBefore, number_of, paths, wanted_kind}
 use Rattle.sy_cert.specs.CertificateValue.{Certificate}
 use Rattle.sy_checker.specs.Verifying.{AreWrongRows, IsFault, IsFirstWrong}
 use Rattle.sy_checker.specs.declared.verifying.CertFault.{CertFault}
 use Rattle.sy_checker.specs.declared.verifying.CertFault.TheVariants as faults
+use Rattle.sy_checker.specs.declared.wanted.InnerList.{InnerList}
 use Rattle.sy_checker.specs.declared.wanted.RowKind.{RowKind}
 use Rattle.sy_checker.specs.declared.wanted.Wanted.{Wanted}
 use Rattle.sy_checker.specs.declared.wanted.Wanted.TheVariants as wanted
@@ -76,6 +77,16 @@ inputs_apart a b (inl low) (inr (same, high)) = omega (arith, low, same)
 inputs_apart a b (inr (same, low)) (inl high) = omega (arith, same, high)
 inputs_apart a b (inr (same, low)) (inr (other, high)) = omega (arith, low, high)
 
+abbrev all_of : Site → Class → List SiteInput → List SiteInput → List ℕ → List InnerList → List Wanted
+all_of site class inputs branches relays inners = wanted.Class class ∷ (map wanted.Reach inputs ++ (map wanted.Branch branches ++ (map wanted.Rank relays
+    ++ (map wanted.Inner inners ++ paths site class))))
+
+lists_apart : (a b : InnerList) → ComesBefore a b → ComesBefore b a → ⊥
+lists_apart a b (inl low) (inl high) = omega (arith, low, high)
+lists_apart a b (inl low) (inr (same, high)) = omega (arith, low, same)
+lists_apart a b (inr (same, low)) (inl high) = omega (arith, same, high)
+lists_apart a b (inr (same, low)) (inr (other, high)) = omega (arith, low, high)
+
 pub one_wanted : (site : Site) (class : Class) (a b : List Wanted) → AreWanted site class a → AreWanted site class b → a ≡ b
 one_wanted site class a b first second =
     let inputs = one_list StandsBefore inputs_apart (Reach site class Scope.Firm) first.inputs second.inputs first.inputs_reached second.inputs_reached in
@@ -83,10 +94,12 @@ one_wanted site class a b first second =
     second.branches_reached in
     let relays = one_list ◌<◌ (λ m n low high. omega (arith, low, high)) (IsReached site class) first.relays second.relays first.relays_reached
     second.relays_reached in
+    let inners = one_list ComesBefore lists_apart (IsInner site class) first.inners second.inners first.inners_posted second.inners_posted in
     first.whole
-    ∙ ap (λ l. wanted.Class class ∷ (map wanted.Reach l ++ (map wanted.Branch first.branches ++ (map wanted.Rank first.relays ++ paths site class)))) inputs
-    ∙ ap (λ l. wanted.Class class ∷ (map wanted.Reach second.inputs ++ (map wanted.Branch l ++ (map wanted.Rank first.relays ++ paths site class)))) branches
-    ∙ ap (λ l. wanted.Class class ∷ (map wanted.Reach second.inputs ++ (map wanted.Branch second.branches ++ (map wanted.Rank l ++ paths site class)))) relays
+    ∙ ap (λ l. all_of site class l first.branches first.relays first.inners) inputs
+    ∙ ap (λ l. all_of site class second.inputs l first.relays first.inners) branches
+    ∙ ap (λ l. all_of site class second.inputs second.branches l first.inners) relays
+    ∙ ap (λ l. all_of site class second.inputs second.branches second.relays l) inners
     ∙ sym second.whole
 
 one_protected : (site : Site) (a b : List Class) → AreProtected site a → AreProtected site b → a ≡ b

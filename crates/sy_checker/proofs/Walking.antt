@@ -15,15 +15,17 @@ use Rattle.sy_rules.specs.declared.lists.occurrence.Occurrence.{Occurrence}
 use Rattle.sy_rules.specs.declared.lists.occurrence.Occurrence.TheVariants as occurrence
 use Rattle.sy_site.specs.declared.site.SiteInput.{SiteInput}
 use Rattle.sy_board.specs.relay.Spares.{Scope}
-use Rattle.sy_site.specs.Sites.{Site, target}
+use Rattle.sy_site.specs.Sites.{Site, plan_at, target}
 use Rattle.sy_site.specs.machine.Reach.{MayDo, Reaches, forwards, occurrence_at, posts}
 use Rattle.sy_checker.specs.declared.executed.Executed.{Executed}
 use Rattle.sy_checker.specs.declared.executed.Executed.TheVariants as executed
 use Rattle.sy_checker.specs.declared.flows.Hop.{Hop}
 use Rattle.sy_checker.specs.Flows.{Does, IsSet}
-use Rattle.sy_checker.specs.Hops.{AddsHop, AddsLeads, AddsTarget, AreApart, AreHops, HasHop, IsFollowed, IsWalked, IsWalkedBelow, Leads, LeadsAsWell, WalksOn, follows_posts}
+use Rattle.sy_checker.specs.declared.flows.ListHops.{ListHops}
+use Rattle.sy_checker.specs.Hops.{AddsHop, AddsLeads, AddsPosted, AddsTarget, AreApart, AreListHops, HasHop, IsFollowed, IsWalked, IsWalkedBelow, Leads, LeadsAsWell, LeadsByPosts, WalksOn, follows_posts}
 use Rattle.sy_checker.specs.Internal.{HasNoneFrom, IsNextIn, same_input}
 use Rattle.sy_checker.proofs.Found.{same_is}
+use Rattle.sy_checker.proofs.Posted.{lists_found}
 
 pub one_value : {A : Type 0} {x y : A} → Some x ≡ Some y → x ≡ y
 one_value e = cc
@@ -244,6 +246,7 @@ pub record HasWalked (site : Site) (class : Class) (which : Executed) (relay man
   pub sound : (hop : Hop) → Contains hops hop → (hop.number < 64) × Leads site class which relay list hop.number hop.to
   pub walked : (x : ℕ) → Contains lists x → IsWalked site class which relay hops lists x
   pub below : IsWalkedBelow site class which relay hops lists list behind
+  pub posted : (to : ℕ) → Contains lists to → LeadsByPosts site class which relay list to
   pub apart : AreApart many lists
 
 module _ (site : Site) (class : Class) (which : Executed) (relay many list : ℕ) where
@@ -252,15 +255,17 @@ module _ (site : Site) (class : Class) (which : Executed) (relay many list : ℕ
     sound = λ hop is. (let (k, low, e) = subst (λ l. Contains l hop) no_hops is in absurd (omega (arith, low)));
     walked = λ x is. (let (k, low, e) = subst (λ l. Contains l x) no_lists is in absurd (omega (arith, low)));
     below = none_walked site class which relay hops lists list;
+    posted = λ to is. (let (k, low, e) = subst (λ l. Contains l to) no_lists is in absurd (omega (arith, low)));
     apart = subst (AreApart many) (sym no_lists) (none_apart many);
   }
 
   pub walk_goes_on : (set behind at : ℕ) (h0 h : List Hop) (l0 l : List ℕ) → IsSet site class which relay list set → IsNextIn set behind at
       → HasWalked site class which relay many list behind h0 l0 → WalksOn site class which relay h0 l0 h l
       → AddsLeads site class which relay list at h0 h
+      → AddsPosted site class which relay list l0 l
       → ((is : Occurrence) → occurrence_at site relay list at ≡ Some is → IsFollowed site which relay h l is) → AreApart many l
       → HasWalked site class which relay many list (at + 1) h l
-  walk_goes_on set behind at h0 h l0 l is_set next before walks sound here apart = record {
+  walk_goes_on set behind at h0 h l0 l is_set next before walks sound posted here apart = record {
     sound = λ hop is. elim (sound hop is) [
       | inl had ↦ before.sound hop had
       | inr new ↦ (
@@ -273,15 +278,28 @@ module _ (site : Site) (class : Class) (which : Executed) (relay many list : ℕ
       | inr walked ↦ walked
     ];
     below = more_walked site class which relay list set behind at h0 h l0 l is_set next walks.hops_kept walks.lists_kept before.below here;
+    posted = λ to is. elim (posted to is) [
+      | inl had ↦ before.posted to had
+      | inr new ↦ new
+    ];
     apart = apart;
   }
 
-  pub walk_ends : (set behind : ℕ) (hops : List Hop) (lists : List ℕ) → IsSet site class which relay list set → HasNoneFrom set behind
-      → HasWalked site class which relay many list behind hops lists → AreHops site class which relay list hops
-  walk_ends set behind hops lists is_set none has = record {
-    sound = has.sound;
-    whole = λ number to leads.
-        (let hop = leads_hop site class which relay hops lists has.walked list number to
-        (all_walked site class which relay list set behind hops lists is_set none has.below) leads in
-        (hop.hop, hop.there, hop.leads));
-  }
+  pub walk_ends : (set behind : ℕ) (of : ListHops) → IsSet site class which relay list set → HasNoneFrom set behind
+      → HasWalked site class which relay (length (plan_at site relay).lists) list behind of.hops.items of.lists.items
+      → AreListHops site class which relay list of
+  walk_ends set behind of is_set none has =
+      let hops = of.hops.items in
+      let lists = of.lists.items in
+      let done = all_walked site class which relay list set behind hops lists is_set none has.below in
+      record {
+        hops = record {
+          sound = has.sound;
+          whole = λ number to leads.
+              (let hop = leads_hop site class which relay hops lists has.walked list number to done leads in (hop.hop, hop.there, hop.leads));
+        };
+        lists = record {
+          each = λ to. (has.posted to, λ leads. lists_found site class which relay hops lists has.walked list to done leads);
+          apart = has.apart;
+        };
+      }

@@ -5,21 +5,17 @@ use Rattle.std.proofs.lemmas.Bool.{cases_eq}
 use Rattle.std.proofs.lemmas.List.{reverse-append}
 use Rattle.std.proofs.lemmas.Option.{slice_get-get_or, slice_get_within}
 use Rattle.sy_wire.specs.declared.class.Class.{Class}
-use Rattle.sy_cert.specs.Rows.{AreOccurrences}
-use Rattle.sy_site.specs.declared.site.SiteAction.{SiteAction}
 use Rattle.sy_site.specs.declared.site.SiteInput.{SiteInput}
 use Rattle.sy_site.specs.Sites.{Site, is_protected}
 use Rattle.sy_site.specs.machine.Findings.{HoldsAt, IsFinding, IsWay, IsWayFrom, Kind as AnyKind}
-use Rattle.sy_site.specs.machine.Reach.{LeadsTo, leads_on, writes}
 use Rattle.sy_checker.specs.declared.executed.Executed.{Executed}
 use Rattle.sy_checker.specs.declared.executed.Executed.TheVariants as executed
 use Rattle.sy_checker.specs.declared.finding.Kind.{Kind}
 use Rattle.sy_checker.specs.declared.finding.Kind.TheVariants as kind
 use Rattle.sy_checker.specs.declared.finding.WayRow.{WayRow}
 use Rattle.sy_checker.specs.declared.reach.Origin.{Origin}
-use Rattle.sy_checker.specs.Answer.{AreSmall, IsKindAt, IsLead, IsRiskAt}
+use Rattle.sy_checker.specs.Answer.{IsKindAt, IsRiskAt}
 use Rattle.sy_checker.specs.Finding.{kind_of, way_of}
-use Rattle.sy_checker.specs.Fit.{IsPath, MustWrite}
 use Rattle.sy_checker.proofs.FitIsSound.{at_place}
 use Rattle.sy_checker.proofs.Risky.{all_clean}
 use Rattle.sy_checker.specs.Search.{AreRooted, IsLed, IsLedFrom, IsNumberTo, IsSpread}
@@ -93,50 +89,9 @@ is_finding site class way input kind.Discards asked is holds = record { protecte
 is_finding site class way input kind.InnerQueue asked is holds = record { protected = asked; found = (is, holds) }
 is_finding site class way input kind.GivesUp asked is holds = record { protected = asked; found = (is, holds) }
 is_finding site class way input kind.NoTarget asked is holds = record { protected = asked; found = (is, holds) }
+is_finding site class way input kind.InnerLoop asked is holds = record { protected = asked; found = (is, holds) }
 is_finding site class way input kind.Loop asked is holds = absurd holds
 is_finding site class way input (kind.Unmet archive) asked is holds = absurd holds
-
--- ---- paths
-
-small_from : (site : Site) (class : Class) (which : Executed) (way : List WayRow) (from end : SiteInput) → IsLedFrom site class which from way end
-    → AreSmall way
-small_from site class which [] from end led k d low = absurd (omega (arith, low))
-small_from site class which (row ∷ way) from end led ℕ.zero d low = led.2.0
-small_from site class which (row ∷ way) from end led (ℕ.suc k) d low = small_from site class which way led.1 end led.3 k d (omega (arith, low))
-
-pub way_small : (site : Site) (class : Class) (which : Executed) (start : List SiteInput) (way : List WayRow) (end : SiteInput)
-    → IsLed site class which start way end → AreSmall way
-way_small site class which start way end led = small_from site class which way led.from end led.follows
-
-path_from : (site : Site) (class : Class) (archive : SiteAction) (way : List WayRow) (from end : SiteInput)
-    → IsLedFrom site class executed.Must from way end → MustWrite site class archive end → IsPath site class archive from (map (λ row. row.number) way)
-path_from site class archive [] from end is write = subst (MustWrite site class archive) (sym is) write
-path_from site class archive (row ∷ way) from end led write = (led.1, led.2.1, path_from site class archive way led.1 end led.3 write)
-
-pub one_start : (entry x : SiteInput) → Contains (entry ∷ []) x → entry ≡ x
-one_start entry x (ℕ.zero, low, is) = is
-one_start entry x (ℕ.suc k, low, is) = absurd (omega (arith, low))
-
-occurrences_from : (site : Site) (class : Class) (which : Executed) (way : List WayRow) (from end : SiteInput)
-    → IsLedFrom site class which from way end → AreOccurrences (map (λ row. row.number) way)
-occurrences_from site class which [] from end led = tt
-occurrences_from site class which (row ∷ way) from end led = (led.2.0, occurrences_from site class which way led.1 end led.3)
-
-pub path_is : (site : Site) (class : Class) (archive : SiteAction) (entry : SiteInput) (way : List WayRow) (end : SiteInput)
-    → IsLed site class executed.Must (entry ∷ []) way end → MustWrite site class archive end
-    → IsLead site class archive entry (Some (map (λ row. row.number) way))
-path_is site class archive entry way end led write = (
-  subst (λ z. IsPath site class archive z (map (λ row. row.number) way)) (sym (one_start entry led.from led.starts))
-      (path_from site class archive way led.from end led.follows write),
-  occurrences_from site class executed.Must way led.from end led.follows,
-)
-
-module _ (site : Site) (class : Class) (archive : SiteAction) (start found : List SiteInput) (origins : List (Option Origin))
-    (spread : IsSpread site class executed.Must start found origins) (none : (x : SiteInput) → Contains found x → MustWrite site class archive x → ⊥) where
-  pub leads_not : (x : SiteInput) → Contains found x → LeadsTo site class archive x → ⊥
-  leads_not x is (writes number action does same) = none x is (record { number = number; action = action; does = does; writes = same })
-  leads_not x is (leads_on number action to does leads later) =
-      leads_not to (spread.closed x to is (record { number = number; leads = record { action = action; does = does; leads = leads } })) later
 
 -- ---- what is answered
 

@@ -41,27 +41,3 @@ pub record IsUncleanAt (site : Site) (class : Class) (inputs : List SiteInput) (
 abbrev pub IsSearched : Site → Class → Option Finding → Type 0
 IsSearched site class None = (input : SiteInput) → Reach site class Scope.Firm input → IsClean site class input
 IsSearched site class (Some found) = IsTrueFinding site found
-
--- ---- paths
-
--- what must be executed leads on so from the entry at this place
-abbrev pub IsLeadOf : Site → Class → ℕ → Found → Type 0
-IsLeadOf site class place found = (entry : SiteInput) → slice_get site.entries place ≡ Some entry
-    → IsSpread site class executed.Must (entry ∷ []) found.inputs.items found.origins.items
-
-abbrev pub AreLeads : Site → Class → List Found → Type 0
-AreLeads site class leads = AreEach (IsLeadOf site class) (length site.entries) leads
-
--- the archive must be written at the input at this place; at none, where there is none
-abbrev pub IsWriting : Site → Class → SiteAction → List SiteInput → Option ℕ → Type 0
-IsWriting site class archive inputs None = (x : SiteInput) → Contains inputs x → MustWrite site class archive x → ⊥
-IsWriting site class archive inputs (Some place) = (x : SiteInput) × (slice_get inputs place ≡ Some x) × MustWrite site class archive x
-
--- each number is one of an occurrence
-abbrev pub AreSmall : List WayRow → Type 0
-AreSmall way = All (λ row. row.number < 64) way
-
--- a path from the input to the archive, of numbers as a certificate has them; none where it doesn't lead there
-abbrev pub IsLead : Site → Class → SiteAction → SiteInput → Option (List ℕ) → Type 0
-IsLead site class archive input None = LeadsTo site class archive input → ⊥
-IsLead site class archive input (Some path) = IsPath site class archive input path × AreOccurrences path

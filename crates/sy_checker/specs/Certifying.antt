@@ -30,6 +30,7 @@ IsInRange (row.Class class) = (class.facility < 24) × (class.severity < 8)
 IsInRange (row.Reach relay port) = port ≤ 65535
 IsInRange (row.Branch relay port) = port ≤ 65535
 IsInRange (row.Rank relay rank) = rank ≤ 4294967295
+IsInRange (row.Inner relay list number) = (list ≤ 4294967295) × (number ≤ 4294967295)
 IsInRange (row.Path relay port archive_relay action occurrences) = port ≤ 65535
 
 -- each is a row of the version, with its shape where its numbers are in range, and may follow the one before

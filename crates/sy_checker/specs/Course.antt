@@ -1,5 +1,5 @@
 -- The course of a class through a site: what it executes, which inputs it reaches without spare occurrences and with them, how
--- the relays rank by that, and where its entries lead. Classes that execute the same have the same one.
+-- the relays rank by that, how many posts follow one another, and where its entries lead. Classes that execute the same have the same one.
 use Rattle.std.specs.Prelude.{◌≡◌, ℕ, ◌↔◌, Contains, List, Some, length, slice_get, true}
 use Rattle.sy_wire.specs.declared.class.Class.{Class}
 use Rattle.sy_site.specs.declared.site.SiteInput.{SiteInput}
@@ -13,10 +13,11 @@ use Rattle.sy_checker.specs.declared.executed.Executed.{Executed}
 use Rattle.sy_checker.specs.declared.executed.Executed.TheVariants as executed
 use Rattle.sy_checker.specs.declared.flows.RelayFlows.{RelayFlows}
 use Rattle.sy_checker.specs.declared.flows.SiteFlows.{SiteFlows}
-use Rattle.sy_checker.specs.Answer.{AreLeads}
+use Rattle.sy_checker.specs.Leads.{AreLeads}
 use Rattle.sy_checker.specs.Fit.{IsClean}
 use Rattle.sy_checker.specs.Flows.{Does, is_used}
 use Rattle.sy_checker.specs.Hops.{AreFlows}
+use Rattle.sy_checker.specs.Inner.{AreNumbers, number_at}
 use Rattle.sy_checker.specs.Loops.{rank_at}
 use Rattle.sy_checker.specs.Search.{IsSpread}
 
@@ -39,6 +40,7 @@ pub record IsCourse (site : Site) (class : Class) (course : Course) : Type 0 whe
   pub every : (x : SiteInput) → Contains course.every.items x ↔ Reach site class Scope.Every x
   pub ranks : AreRanks site class (rank_at course.ranks.items)
   pub many : length course.ranks.items ≡ length site.relays
+  pub numbers : AreNumbers site class (number_at course.numbers.items)
   pub leads : AreLeads site class course.leads.items
 
 -- each is that of some class

@@ -18,6 +18,7 @@ kind_of kind.InnerQueue = AnyKind.InnerQueue
 kind_of kind.GivesUp = AnyKind.GivesUp
 kind_of kind.NoTarget = AnyKind.NoTarget
 kind_of kind.Loop = AnyKind.Loop
+kind_of kind.InnerLoop = AnyKind.InnerLoop
 kind_of (kind.Unmet archive) = AnyKind.Unmet archive
 
 abbrev pub number : Kind → ℕ
@@ -34,6 +35,7 @@ words kind.GivesUp = codes "6 GivesUp"
 words kind.NoTarget = codes "7 NoTarget"
 words kind.Loop = codes "8 Loop"
 words (kind.Unmet archive) = codes "9 Unmet"
+words kind.InnerLoop = codes "10 InnerLoop"
 
 abbrev pub row_of : WayRow → AnyRow
 row_of row = record { input = row.input; number = row.number }

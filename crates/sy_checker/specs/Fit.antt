@@ -1,6 +1,7 @@
 -- When a certificate is fit for a site: its rows are the wanted ones, in their order, and each of them holds. For each protected class, by rising
 -- number, these are wanted: the class, each input that it reaches without spare occurrences, each other one that it reaches, each relay with a reached
--- input, and the way from each entry to each archive that is named for the class. The certificate is this profile's own.
+-- input, each list that posts lead to from the first ones, and the way from each entry to each archive that is named for the class. The certificate is
+-- this profile's own.
 use Rattle.std.specs.Prelude.{◌≡◌, ℕ, ◌<◌, ◌+◌, ◌*◌, ◌↔◌, ◌⊎◌, AllPairs, Contains, List, [], ◌∷◌, ◌++◌, Option, Some, None, drop, flat_map, length, map, slice_get, true}
 use Rattle.sy_wire.specs.declared.class.Class.{Class}
 use Rattle.sy_cert.specs.declared.row.Row.{Row}
@@ -13,11 +14,12 @@ use Rattle.sy_site.specs.declared.site.SiteInput.{SiteInput}
 use Rattle.sy_site.specs.Sites.{Relay, Site, archives, is_protected, plan_at}
 use Rattle.sy_site.specs.machine.Findings.{HoldsAt, Kind}
 use Rattle.sy_board.specs.relay.Spares.{Scope}
-use Rattle.sy_site.specs.machine.Reach.{MustDo, Reach, Reaches, list_of}
+use Rattle.sy_site.specs.machine.Reach.{MayDo, MustDo, PostsOn, Reach, Reaches, list_of}
 use Rattle.sy_cert.specs.CertificateValue.{Certificate}
 use Rattle.sy_checker.specs.Hops.{MustForward}
 use Rattle.sy_checker.specs.declared.wanted.RowKind.{RowKind}
 use Rattle.sy_checker.specs.declared.wanted.RowKind.TheVariants as kinds
+use Rattle.sy_checker.specs.declared.wanted.InnerList.{InnerList}
 use Rattle.sy_checker.specs.declared.wanted.Wanted.{Wanted}
 use Rattle.sy_checker.specs.declared.wanted.Wanted.TheVariants as wanted
 
@@ -41,6 +43,18 @@ pub record IsBranch (site : Site) (class : Class) (input : SiteInput) : Type 0 w
 abbrev pub IsReached : Site → Class → ℕ → Type 0
 IsReached site class relay = (input : ℕ) × Reach site class Scope.Every (record { relay = relay; input = input })
 
+-- Posts that aren't spare lead messages of the class to the list, one or more of them, from the list of an input that is reached without spare
+-- occurrences.
+pub record IsInner (site : Site) (class : Class) (inner : InnerList) : Type 0 where
+  pub input : SiteInput
+  pub at : input.relay ≡ inner.relay
+  pub reached : Reach site class Scope.Firm input
+  pub posted : PostsOn site class Scope.Firm inner.relay (list_of site input) inner.list
+
+-- relays in the order of the site, lists in that of the plan
+abbrev pub ComesBefore : InnerList → InnerList → Type 0
+ComesBefore a b = (a.relay < b.relay) ⊎ ((a.relay ≡ b.relay) × (a.list < b.list))
+
 -- a way from each entry to each archive, both in the order of the file
 abbrev pub paths : Site → Class → List Wanted
 paths site class = flat_map (λ entry. map (λ archive. wanted.Path entry archive) (archives site class)) site.entries
@@ -53,8 +67,11 @@ pub record AreWanted (site : Site) (class : Class) (part : List Wanted) : Type 0
   pub branches_reached : ListsAll (IsBranch site class) StandsBefore branches
   pub relays : List ℕ
   pub relays_reached : ListsAll (IsReached site class) ◌<◌ relays
+  pub inners : List InnerList
+  pub inners_posted : ListsAll (IsInner site class) ComesBefore inners
   pub whole : part
-      ≡ wanted.Class class ∷ (map wanted.Reach inputs ++ (map wanted.Branch branches ++ (map wanted.Rank relays ++ paths site class)))
+      ≡ wanted.Class class ∷ (map wanted.Reach inputs ++ (map wanted.Branch branches ++ (map wanted.Rank relays
+      ++ (map wanted.Inner inners ++ paths site class))))
 
 -- ---- what the rows name
 
@@ -78,9 +95,9 @@ action_name site action = name_of_action (slice_get (plan_at site action.relay).
 
 -- ---- what holds of a row
 
--- none of the kinds 1 to 7 is found at the input
+-- none of the kinds 1 to 7 is found at the input; that none is met twice of the lists that its messages follow, inner rows show
 abbrev pub IsClean : Site → Class → SiteInput → Type 0
-IsClean site class input = (kind : Kind) → HoldsAt site class input kind → ⊥
+IsClean site class input = (kind : Kind) → (kind ≡ Kind.InnerLoop → ⊥) → HoldsAt site class input kind → ⊥
 
 -- The rank row of a relay stands where it is wanted, with this rank.
 pub record HasRank (site : Site) (part : List Wanted) (rows : List Row) (relay rank : ℕ) : Type 0 where
@@ -94,18 +111,33 @@ abbrev pub IsAbove : Site → Class → List Wanted → List Row → ℕ → ℕ
 IsAbove site class part rows relay rank = (from to : SiteInput) (number below : ℕ) → from.relay ≡ relay → Reach site class Scope.Every from
     → Reaches site class Scope.Every from.relay (list_of site from) number to → HasRank site part rows to.relay below → below < rank
 
--- an occurrence of the archive must be executed at the input, and isn't spare
-pub record MustWrite (site : Site) (class : Class) (archive : SiteAction) (input : SiteInput) : Type 0 where
+-- The inner row of a list stands where it is wanted, with this number.
+pub record HasNumber (site : Site) (part : List Wanted) (rows : List Row) (inner : InnerList) (number : ℕ) : Type 0 where
+  pub place : ℕ
+  pub is_wanted : slice_get part place ≡ Some (wanted.Inner inner)
+  pub stands : slice_get rows place ≡ Some (row.Inner (name_of site inner.relay) inner.list number)
+
+-- The number is above that of each list that posts of this one, which may be executed and aren't spare, lead to. A list whose row doesn't stand where it
+-- is wanted isn't compared.
+abbrev pub IsNumbered : Site → Class → List Wanted → List Row → InnerList → ℕ → Type 0
+IsNumbered site class part rows inner number = (post to below : ℕ)
+    → MayDo site class Scope.Firm inner.relay inner.list post (occurrence.Post to)
+    → HasNumber site part rows (record { relay = inner.relay; list = to }) below → below < number
+
+-- an occurrence of the archive must be executed in the list, and isn't spare
+pub record MustWrite (site : Site) (class : Class) (archive : SiteAction) (relay list : ℕ) : Type 0 where
   pub number : ℕ
   pub action : ℕ
-  pub does : MustDo site class input.relay (list_of site input) number (occurrence.Run action)
-  pub writes : record { relay = input.relay; action = action } ≡ archive
+  pub does : MustDo site class relay list number (occurrence.Run action)
+  pub writes : record { relay = relay; action = action } ≡ archive
 
--- Each occurrence is a forward that must be executed at its input and isn't spare, to the input of the next; the archive must be written at the last.
-abbrev pub IsPath : Site → Class → SiteAction → SiteInput → List ℕ → Type 0
-IsPath site class archive input [] = MustWrite site class archive input
-IsPath site class archive input (number ∷ later) =
-    (to : SiteInput) × MustForward site class input.relay (list_of site input) number to × IsPath site class archive to later
+-- Each occurrence must be executed in the list where the path stands, and isn't spare: a post leads on to its list, a forward to the list of the input
+-- that it leads to. In the last list the archive must be written.
+abbrev pub IsPath : Site → Class → SiteAction → (relay list : ℕ) → List ℕ → Type 0
+IsPath site class archive relay list [] = MustWrite site class archive relay list
+IsPath site class archive relay list (number ∷ later) =
+    ((inner : ℕ) × MustDo site class relay list number (occurrence.Post inner) × IsPath site class archive relay inner later)
+    ⊎ ((to : SiteInput) × MustForward site class relay list number to × IsPath site class archive to.relay (list_of site to) later)
 
 abbrev pub IsClassRow : Class → Row → Type 0
 IsClassRow class (row.Class given) = given ≡ class
@@ -124,10 +156,15 @@ abbrev pub IsRankRow : Site → Class → List Wanted → List Row → ℕ → R
 IsRankRow site class part rows of (row.Rank relay rank) = (relay ≡ name_of site of) × IsAbove site class part rows of rank
 IsRankRow site class part rows of _ = ⊥
 
+abbrev pub IsInnerRow : Site → Class → List Wanted → List Row → InnerList → Row → Type 0
+IsInnerRow site class part rows inner (row.Inner relay list number) =
+    (relay ≡ name_of site inner.relay) × (list ≡ inner.list) × IsNumbered site class part rows inner number
+IsInnerRow site class part rows inner _ = ⊥
+
 abbrev pub IsPathRow : Site → Class → SiteInput → SiteAction → Row → Type 0
 IsPathRow site class entry archive (row.Path relay port archive_relay action occurrences) =
     (relay ≡ name_of site entry.relay) × (port ≡ port_of site entry) × (archive_relay ≡ name_of site archive.relay)
-    × (action ≡ action_name site archive) × IsPath site class archive entry occurrences
+    × (action ≡ action_name site archive) × IsPath site class archive entry.relay (list_of site entry) occurrences
 IsPathRow site class entry archive _ = ⊥
 
 -- A row is the wanted one, and holds.
@@ -136,6 +173,7 @@ IsRight site class part rows (wanted.Class c) r = IsClassRow c r
 IsRight site class part rows (wanted.Reach input) r = IsReachRow site class input r
 IsRight site class part rows (wanted.Branch input) r = IsBranchRow site input r
 IsRight site class part rows (wanted.Rank of) r = IsRankRow site class part rows of r
+IsRight site class part rows (wanted.Inner inner) r = IsInnerRow site class part rows inner r
 IsRight site class part rows (wanted.Path entry archive) r = IsPathRow site class entry archive r
 
 -- ---- fit
@@ -179,6 +217,7 @@ wanted_kind (wanted.Class class) = kinds.Class
 wanted_kind (wanted.Reach input) = kinds.Reach
 wanted_kind (wanted.Branch input) = kinds.Branch
 wanted_kind (wanted.Rank relay) = kinds.Rank
+wanted_kind (wanted.Inner inner) = kinds.Inner
 wanted_kind (wanted.Path entry archive) = kinds.Path
 
 abbrev pub row_kind : Row → RowKind
@@ -186,6 +225,7 @@ row_kind (row.Class class) = kinds.Class
 row_kind (row.Reach relay port) = kinds.Reach
 row_kind (row.Branch relay port) = kinds.Branch
 row_kind (row.Rank relay rank) = kinds.Rank
+row_kind (row.Inner relay list number) = kinds.Inner
 row_kind (row.Path relay port archive_relay action occurrences) = kinds.Path
 
 -- At this place the wanted row doesn't stand, or doesn't hold, and each before is right.

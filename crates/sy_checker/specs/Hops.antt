@@ -1,5 +1,5 @@
--- Where the occurrences of a list lead messages of a class, kept for the list of each input.
-use Rattle.std.specs.Prelude.{◌≡◌, ℕ, ◌<◌, ◌==◌, ◌⊎◌, Bool, true, false, Contains, List, Some, length}
+-- Where the occurrences of a list lead messages of a class, to inputs and to lists of the relay, kept for the list of each input.
+use Rattle.std.specs.Prelude.{◌≡◌, ℕ, ◌<◌, ◌==◌, ◌⊎◌, ◌↔◌, Bool, true, false, Contains, List, Some, length}
 use Rattle.std.specs.List.{IsDistinct, list_any}
 use Rattle.sy_wire.specs.declared.class.Class.{Class}
 use Rattle.sy_rules.specs.declared.lists.occurrence.Occurrence.{Occurrence}
@@ -8,11 +8,12 @@ use Rattle.sy_rules.specs.PlanValue.{Plan}
 use Rattle.sy_board.specs.relay.Spares.{Scope}
 use Rattle.sy_site.specs.declared.site.SiteInput.{SiteInput}
 use Rattle.sy_site.specs.Sites.{Site, plan_at, target}
-use Rattle.sy_site.specs.machine.Reach.{MustDo, Reaches, list_of}
+use Rattle.sy_site.specs.machine.Reach.{MustDo, PostsOn, Reaches, list_of}
 use Rattle.sy_checker.specs.declared.executed.Executed.{Executed}
 use Rattle.sy_checker.specs.declared.executed.Executed.TheVariants as executed
 use Rattle.sy_checker.specs.declared.flows.ClassFlows.{ClassFlows}
 use Rattle.sy_checker.specs.declared.flows.Hop.{Hop}
+use Rattle.sy_checker.specs.declared.flows.ListHops.{ListHops}
 use Rattle.sy_checker.specs.declared.flows.RelayHops.{RelayHops}
 use Rattle.sy_checker.specs.declared.flows.SiteHops.{SiteHops}
 use Rattle.sy_checker.specs.Flows.{AreEach, AreSiteFlows, Does}
@@ -42,6 +43,28 @@ pub record AreHops (site : Site) (class : Class) (which : Executed) (relay list 
   pub sound : (hop : Hop) → Contains hops hop → (hop.number < 64) × Leads site class which relay list hop.number hop.to
   pub whole : (number : ℕ) (to : SiteInput) → Leads site class which relay list number to → (hop : Hop) × Contains hops hop × (hop.to ≡ to)
 
+-- Posts lead from a list of a relay to another one, one after another and at least one, of those that are executed. What must be executed leads on by
+-- forwards alone.
+abbrev pub LeadsByPosts : Site → Class → Executed → ℕ → ℕ → ℕ → Type 0
+LeadsByPosts site class executed.Every relay list to = PostsOn site class Scope.Every relay list to
+LeadsByPosts site class executed.Firm relay list to = PostsOn site class Scope.Firm relay list to
+LeadsByPosts site class executed.Must relay list to = ⊥
+
+-- no list twice, and each is one of the plan's
+pub record AreApart (many : ℕ) (lists : List ℕ) : Type 0 where
+  pub distinct : IsDistinct ◌==◌ lists
+  pub there : (list : ℕ) → Contains lists list → list < many
+
+-- Posts lead to each of these lists, and to no other.
+pub record AreLists (site : Site) (class : Class) (which : Executed) (relay list : ℕ) (lists : List ℕ) : Type 0 where
+  pub each : (to : ℕ) → Contains lists to ↔ LeadsByPosts site class which relay list to
+  pub apart : AreApart (length (plan_at site relay).lists) lists
+
+-- where the occurrences of a list lead
+pub record AreListHops (site : Site) (class : Class) (which : Executed) (relay list : ℕ) (of : ListHops) : Type 0 where
+  pub hops : AreHops site class which relay list of.hops.items
+  pub lists : AreLists site class which relay list of.lists.items
+
 -- an input has the list
 abbrev pub is_input_list : Plan → ℕ → Bool
 is_input_list plan list = list_any (λ i. i.list == list) plan.inputs
@@ -49,7 +72,7 @@ is_input_list plan list = list_any (λ i. i.list == list) plan.inputs
 -- of each list of a relay that an input has
 abbrev pub AreRelayHops : Site → Class → Executed → ℕ → RelayHops → Type 0
 AreRelayHops site class which relay hops = AreEach
-    (λ list of. is_input_list (plan_at site relay) list ≡ true → AreHops site class which relay list of.hops.items)
+    (λ list of. is_input_list (plan_at site relay) list ≡ true → AreListHops site class which relay list of)
     (length (plan_at site relay).lists) hops.lists.items
 
 -- of each relay
@@ -122,7 +145,12 @@ abbrev pub AddsLeads : Site → Class → Executed → ℕ → ℕ → ℕ → L
 AddsLeads site class which relay first number old new =
     (hop : Hop) → Contains new hop → Contains old hop ⊎ ((hop.number ≡ number) × Leads site class which relay first number hop.to)
 
--- no list twice, and each is one of the plan's
-pub record AreApart (many : ℕ) (lists : List ℕ) : Type 0 where
-  pub distinct : IsDistinct ◌==◌ lists
-  pub there : (list : ℕ) → Contains lists list → list < many
+-- a list that is new is one that posts of this list lead to
+abbrev pub AddsPosted : Site → Class → Executed → ℕ → ℕ → List ℕ → List ℕ → Type 0
+AddsPosted site class which relay list old new =
+    (to : ℕ) → Contains new to → Contains old to ⊎ LeadsByPosts site class which relay list to
+
+-- or this list
+abbrev pub AddsLists : Site → Class → Executed → ℕ → ℕ → List ℕ → List ℕ → Type 0
+AddsLists site class which relay list old new =
+    (to : ℕ) → Contains new to → Contains old to ⊎ ((to ≡ list) ⊎ LeadsByPosts site class which relay list to)

@@ -5,6 +5,7 @@ use Rattle.sy_site.specs.declared.site.SiteAction.{SiteAction}
 use Rattle.sy_site.specs.declared.site.SiteInput.{SiteInput}
 use Rattle.sy_site.specs.Sites.{Site}
 use Rattle.sy_checker.specs.Fit.{IsClean, action_name, name_of, port_of}
+use Rattle.sy_checker.specs.declared.wanted.InnerList.{InnerList}
 
 -- a reach row names the input, which is clean
 abbrev pub IsReach : Site → Class → SiteInput → List ℕ → ℕ → Type 0
@@ -13,6 +14,10 @@ IsReach site class input relay port = (relay ≡ name_of site input.relay) × (p
 -- a branch row names the input
 abbrev pub NamesInput : Site → SiteInput → List ℕ → ℕ → Type 0
 NamesInput site input relay port = (relay ≡ name_of site input.relay) × (port ≡ port_of site input)
+
+-- an inner row names the list
+abbrev pub NamesInner : Site → InnerList → List ℕ → ℕ → Type 0
+NamesInner site inner relay list = (relay ≡ name_of site inner.relay) × (list ≡ inner.list)
 
 -- a path row names the entry and the archive
 abbrev pub NamesPath : Site → SiteInput → SiteAction → List ℕ → ℕ → List ℕ → List ℕ → Type 0

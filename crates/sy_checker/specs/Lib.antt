@@ -11,8 +11,11 @@ pub mod Verifying
 pub mod Search
 pub mod Finding
 pub mod Answer
+pub mod Leads
+pub mod Inners
 pub mod Made
 pub mod Loops
+pub mod Inner
 pub mod Course
 pub mod Met
 pub mod Certifying

@@ -8,16 +8,17 @@ use Rattle.sy_checker.specs.declared.wanted.Wanted.{Wanted}
 use Rattle.sy_checker.specs.declared.wanted.Wanted.TheVariants as wanted
 use Rattle.sy_checker.specs.Fit.{IsBranchRow, IsClassRow, IsPathRow, IsReachRow, name_of}
 
--- The row is the wanted one, and holds where ranks are those of all relays.
-abbrev pub IsMade : Site → Class → List ℕ → Wanted → Row → Type 0
-IsMade site class ranks (wanted.Class c) r = IsClassRow c r
-IsMade site class ranks (wanted.Reach input) r = IsReachRow site class input r
-IsMade site class ranks (wanted.Branch input) r = IsBranchRow site input r
-IsMade site class ranks (wanted.Rank of) r = r ≡ row.Rank (name_of site of) (get_or ranks of 0)
-IsMade site class ranks (wanted.Path entry archive) r = IsPathRow site class entry archive r
+-- The row is the wanted one, and holds where ranks are those of all relays and numbers those of all lists.
+abbrev pub IsMade : Site → Class → List ℕ → (ℕ → ℕ → ℕ) → Wanted → Row → Type 0
+IsMade site class ranks number (wanted.Class c) r = IsClassRow c r
+IsMade site class ranks number (wanted.Reach input) r = IsReachRow site class input r
+IsMade site class ranks number (wanted.Branch input) r = IsBranchRow site input r
+IsMade site class ranks number (wanted.Rank of) r = r ≡ row.Rank (name_of site of) (get_or ranks of 0)
+IsMade site class ranks number (wanted.Inner inner) r = r ≡ row.Inner (name_of site inner.relay) inner.list (number inner.relay inner.list)
+IsMade site class ranks number (wanted.Path entry archive) r = IsPathRow site class entry archive r
 
 -- at this place
-pub record IsMadeAt (site : Site) (class : Class) (ranks : List ℕ) (rows : List Row) (place : ℕ) (is : Wanted) : Type 0 where
+pub record IsMadeAt (site : Site) (class : Class) (ranks : List ℕ) (number : ℕ → ℕ → ℕ) (rows : List Row) (place : ℕ) (is : Wanted) : Type 0 where
   pub stands : Row
   pub there : slice_get rows place ≡ Some stands
-  pub made : IsMade site class ranks is stands
+  pub made : IsMade site class ranks number is stands

@@ -17,6 +17,7 @@ rank_in site relay (row.Rank name rank) = if bytes_eq name (name_of site relay) 
 rank_in site relay (row.Class class) = None
 rank_in site relay (row.Reach name port) = None
 rank_in site relay (row.Branch name port) = None
+rank_in site relay (row.Inner name list number) = None
 rank_in site relay (row.Path name port archive_relay action occurrences) = None
 
 abbrev pub is_rank_of : ℕ → Wanted → Bool
@@ -24,6 +25,7 @@ is_rank_of relay (wanted.Rank of) = of == relay
 is_rank_of relay (wanted.Class class) = false
 is_rank_of relay (wanted.Reach input) = false
 is_rank_of relay (wanted.Branch input) = false
+is_rank_of relay (wanted.Inner inner) = false
 is_rank_of relay (wanted.Path entry archive) = false
 
 abbrev pub rank_at : Site → ℕ → Option Wanted → Option Row → Option ℕ
@@ -48,6 +50,7 @@ input_in (wanted.Class class) = None
 input_in (wanted.Reach input) = Some input
 input_in (wanted.Branch input) = Some input
 input_in (wanted.Rank of) = None
+input_in (wanted.Inner inner) = None
 input_in (wanted.Path entry archive) = None
 
 -- of the input of a wanted row, where it is one of the relay

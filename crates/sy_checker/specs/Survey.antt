@@ -40,7 +40,7 @@ IsThere site class input k = (way : List WayRow) × IsFinding site class way inp
 abbrev pub HasRanks : Site → Class → Type 0
 HasRanks site class = (rank : ℕ → ℕ) × AreRanks site class rank
 
--- Nothing of the class is left out: each of the kinds 1 to 7 that holds at an input that it reaches without spare occurrences, each entry with each named
+-- Nothing of the class is left out: each of the kinds 1 to 7 and 10 that holds at an input that it reaches without spare occurrences, each entry with each named
 -- archive that it doesn't lead to; and a loop, or there are ranks, so that there is none.
 pub record IsToldOf (site : Site) (class : Class) (groups : List Group) : Type 0 where
   pub kinds : (input : SiteInput) → Reach site class Scope.Firm input → (k : Kind) → HoldsAt site class input (kind_of k) → Names groups class input k
@@ -90,7 +90,7 @@ IsHeld site class input k i j = (i ≡ input) × (j ≡ k) × HoldsAt site class
 
 -- each of the kinds 1 to 7 that does
 abbrev pub AreHeld : Site → Class → SiteInput → SiteInput → Kind → Type 0
-AreHeld site class input i j = (i ≡ input) × HoldsAt site class input (kind_of j)
+AreHeld site class input i j = (i ≡ input) × (j ≡ kind.InnerLoop → ⊥) × HoldsAt site class input (kind_of j)
 
 -- that the entry doesn't lead to the archive
 abbrev pub IsUnmetBy : Site → Class → SiteInput → SiteAction → SiteInput → Kind → Type 0

@@ -31,6 +31,7 @@ kind_words kinds.Class = codes "class"
 kind_words kinds.Reach = codes "reach"
 kind_words kinds.Branch = codes "branch"
 kind_words kinds.Rank = codes "rank"
+kind_words kinds.Inner = codes "inner"
 kind_words kinds.Path = codes "path"
 kind_words kinds.Cert = codes "cert"
 

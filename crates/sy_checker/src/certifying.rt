@@ -41,7 +41,7 @@ pub(crate) fn rows_of_class(
     ensures err { IfErr result (λ why. IsTrueRefusal site.now why) }
 {
     let (firm, every) = (course.found.inputs.as_slice(), course.every.as_slice());
-    let part = wanted_rows(alloc, site, class, firm, every)?;
+    let part = wanted_rows(alloc, site, class, &course.flows, firm, every)?;
     let rows = rows_for(
         alloc,
         site,
@@ -50,6 +50,7 @@ pub(crate) fn rows_of_class(
         course.leads.as_slice(),
         part.as_slice(),
         course.ranks.as_slice(),
+        course.numbers.as_slice(),
     )?;
     Ok(rows)
 }
@@ -124,10 +125,18 @@ fn port_in_range(port: u16)
     let _ = port;
 }
 
-fn rank_in_range(rank: u32)
-    ensures { rank ≤ 4294967295 }
+fn number_in_range(number: u32)
+    ensures { number ≤ 4294967295 }
 {
-    let _ = rank;
+    let _ = number;
+}
+
+fn inner_in_range(list: u32, number: u32)
+    ensures list { list ≤ 4294967295 }
+    ensures number { number ≤ 4294967295 }
+{
+    number_in_range(list);
+    number_in_range(number)
 }
 
 // The same of all numbers of a row.
@@ -137,7 +146,8 @@ fn in_range(row: &Row)
     match row {
         Row::Class(class) => class_in_range(*class),
         Row::Reach { port, .. } | Row::Branch { port, .. } => port_in_range(*port),
-        Row::Rank { rank, .. } => rank_in_range(*rank),
+        Row::Rank { rank, .. } => number_in_range(*rank),
+        Row::Inner { list, number, .. } => inner_in_range(*list, *number),
         Row::Path { port, .. } => port_in_range(*port),
     }
 }
@@ -181,8 +191,8 @@ fn fit_certificate(alloc: Global, site: &Site) -> Result<Certificate, Refusal>
 }
 
 /// A certificate that is fit for a site; or what is found of the first protected class of which something is: first at
-/// the inputs that it reaches without spare occurrences, then a loop, then an archive that an entry doesn't lead to. A sound site is refused for
-/// want of memory alone.
+/// the inputs that it reaches without spare occurrences, then a loop of relays, then one of lists, then an archive that an
+/// entry doesn't lead to. A sound site is refused for want of memory alone.
 pub fn certify(alloc: Global, site: &Site) -> Result<Certificate, Refusal>
     ensures fit { IfOk result (λ certificate. IsFitFor site.now certificate) }
     ensures found { IfErr result (λ why. IsTrueRefusal site.now why) }

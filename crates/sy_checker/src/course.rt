@@ -7,20 +7,25 @@ ghost use Rattle.sy_board.specs.relay.Spares.{Scope};
 ghost use Rattle.sy_site.specs.machine.Reach.{Reach};
 ghost use Rattle.sy_site.specs.machine.Soundness.{AreRanks};
 ghost use Rattle.sy_checker.specs.Course as spec;
+ghost use Rattle.sy_checker.specs.Search.{IsSpread};
+ghost use Rattle.sy_checker.specs.declared.executed.Executed.TheVariants as executed;
 ghost use Rattle.sy_checker.specs.Finding.{IsTrueRefusal};
 ghost use Rattle.sy_checker.specs.Flows.{AreFirm, AreSiteFlows};
 ghost use Rattle.sy_checker.specs.Hops.{AreFlows};
+ghost use Rattle.sy_checker.specs.Inner.{AreNumbers, HasNoNumbers, number_at};
 ghost use Rattle.sy_checker.specs.Loops.{HasNoRanks, rank_at};
 
-use crate::finding::Refusal;
+use crate::finding::{Kind, Refusal};
 use crate::firm::SiteFirm;
 use crate::flows::{ClassFlows, ListFlows, SiteFlows, flows_of};
 use crate::hops::class_flows;
+use crate::inner::{RelayNumbers, Unnumbered, numbers_of};
 use crate::lead::leads_of;
+use crate::lists::FoundLists;
 use crate::looped::looped;
 use crate::loops::{Unranked, ranks_of};
 use crate::reach::{Found, reached, reached_by_every};
-use crate::search::searched;
+use crate::search::{finding_at, searched};
 use std::alloc::{AllocError, Global};
 use sy_site::{Site, SiteInput};
 use sy_wire::Class;
@@ -35,8 +40,10 @@ pub struct Course {
     pub every: Vec<SiteInput>,
     /// a rank for each relay
     pub ranks: Vec<u32>,
-    /// what forwards lead to that its messages must run and that aren't spare, from each entry
-    pub leads: Vec<Found>,
+    /// numbers of the lists of each relay that posts lead to
+    pub numbers: Vec<RelayNumbers>,
+    /// the lists that posts and forwards lead to which its messages must execute and that aren't spare, from each entry
+    pub leads: Vec<FoundLists>,
 }
 
 fn is_same(one: ListFlows, other: ListFlows) -> bool
@@ -112,7 +119,49 @@ fn ranks_for(
     }
 }
 
-// The course of a class with these flows, or what is found of it: first at the inputs that it reaches, then a loop.
+// What is found where there are no numbers.
+fn unnumbered(alloc: Global, site: &Site, class: Class, found: &Found, why: Unnumbered) -> Refusal
+    requires protected { sites.is_protected site.now class ≡ true }
+    requires spread { IsSpread site.now class executed.Firm site.now.entries
+        found.now.inputs.items found.now.origins.items }
+    requires none { HasNoNumbers site.now class found.now.inputs.items why }
+    ensures { IsTrueRefusal site.now result }
+{
+    match why {
+        Unnumbered::NoMemory => Refusal::NoMemory,
+        Unnumbered::Loop(place) => {
+            match finding_at(alloc, site, class, found, place, Kind::InnerLoop) {
+                Ok(finding) => Refusal::Finding(finding),
+                Err(_) => Refusal::NoMemory,
+            }
+        }
+    }
+}
+
+// Numbers of lists for a class, or the finding of an inner loop.
+fn numbers_for(
+    alloc: Global,
+    site: &Site,
+    class: Class,
+    flows: &ClassFlows,
+    found: &Found,
+) -> Result<Vec<RelayNumbers>, Refusal>
+    requires protected { sites.is_protected site.now class ≡ true }
+    requires flows { AreFlows site.now class flows.now }
+    requires spread { IsSpread site.now class executed.Firm site.now.entries
+        found.now.inputs.items found.now.origins.items }
+    requires reached { (x : AnyInput) → Contains found.now.inputs.items x ↔ Reach site.now class Scope.Firm x }
+    ensures numbers { IfOk result (λ numbers. AreNumbers site.now class (number_at numbers.items)) }
+    ensures err { IfErr result (λ why. IsTrueRefusal site.now why) }
+{
+    match numbers_of(alloc, site, class, flows, found.inputs.as_slice()) {
+        Ok(numbers) => Ok(numbers),
+        Err(why) => Err(unnumbered(alloc, site, class, found, why)),
+    }
+}
+
+// The course of a class with these flows, or what is found of it: first at the inputs that it reaches, then a loop of
+// relays, then one of lists.
 fn new_course(alloc: Global, site: &Site, class: Class, lists: SiteFlows) -> Result<Course, Refusal>
     requires protected { sites.is_protected site.now class ≡ true }
     requires lists { AreSiteFlows site.now class lists }
@@ -125,12 +174,14 @@ fn new_course(alloc: Global, site: &Site, class: Class, lists: SiteFlows) -> Res
     searched(alloc, site, class, &flows, &found)?;
     let every = reached_by_every(alloc, site, class, &flows, found.inputs.as_slice())?;
     let ranks = ranks_for(alloc, site, class, &flows, every.as_slice())?;
+    let numbers = numbers_for(alloc, site, class, &flows, &found)?;
     let leads = leads_of(alloc, site, class, &flows)?;
     Ok(Course {
         flows,
         found,
         every,
         ranks,
+        numbers,
         leads,
     })
 }
@@ -200,7 +251,8 @@ fn more_course(
 }
 
 /// The place of the course of a class whose reached inputs are clean, among those of the classes before, behind which it
-/// is put where none has the same flows; or what is found of it, first at these inputs, then a loop.
+/// is put where none has the same flows; or what is found of it, first at these inputs, then a loop of relays, then one of
+/// lists.
 pub fn course_for(
     alloc: Global,
     site: &Site,

@@ -19,7 +19,7 @@ pub enum Kind {
     MarkAboveSize,
     /// The queue may discard messages of the class.
     Discards,
-    /// They may be put into another queue of the relay, by a post that isn't spare.
+    /// They may be put into another queue of the relay, by a post that isn't spare, which may lose them on the way.
     InnerQueue,
     /// An action that they may run, and that isn't spare, is given up at some time.
     GivesUp,
@@ -27,12 +27,14 @@ pub enum Kind {
     NoTarget,
     /// Going from relay to relay, one is met twice.
     Loop,
+    /// Going from queue to queue of the relay, a list is met twice.
+    InnerLoop,
     /// An entry doesn't lead to this archive, which is named for the class.
     Unmet(SiteAction),
 }
 
 impl Kind {
-    /// The number of the kind: 1 for `NotFull` to 9 for `Unmet`.
+    /// The number of the kind: 1 for `NotFull` to 8 for `Loop`, 9 for `Unmet`, 10 for `InnerLoop`.
     pub fn number(self) -> u8
         ensures { result ≡ spec.number self }
     {
@@ -45,6 +47,7 @@ impl Kind {
             Kind::GivesUp => 6,
             Kind::NoTarget => 7,
             Kind::Loop => 8,
+            Kind::InnerLoop => 10,
             Kind::Unmet(_) => 9,
         }
     }
@@ -62,6 +65,7 @@ impl Kind {
             Kind::GivesUp => "6 GivesUp",
             Kind::NoTarget => "7 NoTarget",
             Kind::Loop => "8 Loop",
+            Kind::InnerLoop => "10 InnerLoop",
             Kind::Unmet(_) => "9 Unmet",
         }
     }

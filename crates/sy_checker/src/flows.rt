@@ -44,10 +44,13 @@ pub struct Hop {
     pub to: SiteInput,
 }
 
-/// Where the occurrences of a list lead, by rising occurrences; of those that lead to one input the first alone.
+/// Where the occurrences of a list lead.
 #[derive(Drop)]
 pub struct ListHops {
+    /// to which inputs, by rising occurrences; of those that lead to one input the first alone
     pub hops: Vec<Hop>,
+    /// to which lists of the relay, by posts: each once, in the order in which posts lead there
+    pub lists: Vec<u32>,
 }
 
 /// The same of each list of a relay that an input has.

@@ -9,6 +9,7 @@ ghost use Rattle.sy_site.specs.machine.Reach.{list_of, occurrence_at};
 ghost use Rattle.sy_rules.specs.declared.lists.occurrence.Occurrence.{Occurrence as AnyOccurrence};
 ghost use Rattle.sy_checker.specs.Flows.{AreSiteFlows, Does, is_used};
 ghost use Rattle.sy_checker.specs.Hops as spec;
+ghost use Rattle.sy_checker.specs.declared.executed.Executed.TheVariants as executed;
 
 use crate::executed::Executed;
 use crate::flows::{
@@ -80,8 +81,8 @@ fn follows_posts(which: Executed) -> bool
     }
 }
 
-// An occurrence of a list, by number.
-fn occurrence_at(site: &Site, relay: u32, list: u32, at: u32) -> Option<Occurrence>
+/// An occurrence of a list, by number.
+pub fn occurrence_at(site: &Site, relay: u32, list: u32, at: u32) -> Option<Occurrence>
     requires relay { relay < length site.now.relays }
     requires there { list < length (plan_at site.now relay).lists }
     ensures { result ≡ occurrence_at site.now relay list at }
@@ -111,6 +112,8 @@ fn walk(
         found.new.hops.items found.new.lists.items) }
     ensures sound { (first : ℕ) → ((at : ℕ) → spec.LeadsAsWell site.now class which relay list at first number)
         → OnOk result (spec.AddsLeads site.now class which relay first number found.old.hops.items found.new.hops.items) }
+    ensures posted { OnOk result (spec.AddsLists site.now class which relay list found.old.lists.items
+        found.new.lists.items) }
     ensures done { OnOk result (Contains found.new.lists.items list) }
     ensures apart { OnOk result (spec.AreApart (length (plan_at site.now relay).lists) found.new.lists.items) }
     ensures longer { OnOk result (length found.old.lists.items ≤ length found.new.lists.items) }
@@ -152,6 +155,8 @@ fn follow(
         found.new.hops.items found.new.lists.items) }
     ensures sound { (first : ℕ) → spec.LeadsAsWell site.now class which relay list at first number
         → OnOk result (spec.AddsLeads site.now class which relay first number found.old.hops.items found.new.hops.items) }
+    ensures posted { OnOk result (spec.AddsPosted site.now class which relay list found.old.lists.items
+        found.new.lists.items) }
     ensures followed { (is : AnyOccurrence) → occurrence_at site.now relay list at ≡ Some is
         → OnOk result (spec.IsFollowed site.now which relay found.new.hops.items found.new.lists.items is) }
     ensures apart { OnOk result (spec.AreApart (length (plan_at site.now relay).lists) found.new.lists.items) }
@@ -188,6 +193,8 @@ fn follow_one(
         found.new.hops.items found.new.lists.items) }
     ensures sound { (first : ℕ) → spec.LeadsAsWell site.now class which relay list at first number
         → OnOk result (spec.AddsLeads site.now class which relay first number found.old.hops.items found.new.hops.items) }
+    ensures posted { OnOk result (spec.AddsPosted site.now class which relay list found.old.lists.items
+        found.new.lists.items) }
     ensures followed { OnOk result
         (spec.IsFollowed site.now which relay found.new.hops.items found.new.lists.items is) }
     ensures apart { OnOk result (spec.AreApart (length (plan_at site.now relay).lists) found.new.lists.items) }
@@ -231,7 +238,7 @@ fn hops_of(
     requires there { list < length (plan_at site.now relay).lists }
     requires used { is_used (plan_at site.now relay) list ≡ true }
     requires flows { AreSiteFlows site.now class flows.now }
-    ensures { IfOk result (λ found. spec.AreHops site.now class which relay list found.hops.items) }
+    ensures { IfOk result (spec.AreListHops site.now class which relay list) }
 {
     let mut found = nothing_walked(alloc);
     let set = set_at(site, class, flows, which, relay, list);
@@ -240,7 +247,10 @@ fn hops_of(
         follow(site, class, flows, which, relay, list, at, at, &mut found)?;
         next = at + 1;
     }
-    Ok(ListHops { hops: found.hops })
+    Ok(ListHops {
+        hops: found.hops,
+        lists: found.lists,
+    })
 }
 
 // The same where an input has the list.
@@ -257,11 +267,11 @@ fn input_hops(
     requires there { list < length (plan_at site.now relay).lists }
     requires flows { AreSiteFlows site.now class flows.now }
     ensures { IfOk result (λ found. spec.is_input_list (plan_at site.now relay) list ≡ true
-        → spec.AreHops site.now class which relay list found.hops.items) }
+        → spec.AreListHops site.now class which relay list found) }
 {
     if !is_input_list(site.plan(relay).inputs(), list) {
-        let hops = Vec::new(alloc);
-        return Ok(ListHops { hops });
+        let (hops, lists) = (Vec::new(alloc), Vec::new(alloc));
+        return Ok(ListHops { hops, lists });
     }
     let found = hops_of(alloc, site, class, flows, which, relay, list)?;
     Ok(found)
@@ -342,4 +352,17 @@ pub fn hops_at<'a>(
     let list = list_at(site, input);
     let relay = &hops.relays[input.relay as usize];
     relay.lists[list as usize].hops.as_slice()
+}
+
+/// The lists that posts lead to from an input's list, posts that may be executed and aren't spare: each once, in the order
+/// in which they lead there.
+pub fn lists_at<'a>(site: &Site, class: Class, flows: &'a ClassFlows, input: SiteInput) -> &'a [u32]
+    requires there { IsInput site.now input }
+    requires flows { spec.AreFlows site.now class flows.now }
+    ensures { spec.AreLists site.now class executed.Firm input.relay (list_of site.now input) result.now }
+{
+    let _ = class;
+    let list = list_at(site, input);
+    let relay = &flows.firm.relays[input.relay as usize];
+    relay.lists[list as usize].lists.as_slice()
 }

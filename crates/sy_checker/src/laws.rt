@@ -51,7 +51,7 @@ pub fn claims_of_sound_sites()
     messages_are_written_or_head_there()
 }
 
-/// A lawful site in which no finding of the nine kinds is true is sound. A sound site has no true finding
+/// A lawful site in which no finding of the ten kinds is true is sound. A sound site has no true finding
 /// (`sy_site::machine::sound_sites_have_no_finding`).
 pub fn sites_without_a_finding_are_sound()
     ensures { (site : Site) → IsLawful site → ((class : Class) (way : List WayRow) (input : SiteInput) (kind : Kind)

@@ -1,101 +1,107 @@
-//! Paths that are looked for: from an entry to an archive, by forwards that must be executed and aren't spare.
+//! Paths that are looked for: from an entry to an archive, by posts and forwards that must be executed and aren't spare.
 
 ghost use Rattle.std.specs.List.{position};
-ghost use Rattle.std.specs.Prelude.{◌≡◌, ◌∷◌, [], Contains, IfOk, map};
-ghost use Rattle.sy_site.specs.declared.site.SiteInput.{SiteInput as AnyInput};
+ghost use Rattle.std.specs.Prelude.{◌≡◌, ◌<◌, Contains, IfOk, Some, length, slice_get};
 ghost use Rattle.sy_site.specs.machine.Lawful.{IsInput};
-ghost use Rattle.sy_checker.specs.declared.executed.Executed.TheVariants as executed;
-ghost use Rattle.sy_checker.specs.Search.{IsSpread};
-ghost use Rattle.sy_checker.specs.Answer as spec;
-ghost use Rattle.sy_checker.specs.Internal.{same_input};
+ghost use Rattle.sy_checker.specs.declared.wanted.InnerList.{InnerList as AnyList};
 ghost use Rattle.sy_checker.specs.Hops.{AreFlows};
+ghost use Rattle.sy_checker.specs.Internal.{same_input};
+ghost use Rattle.sy_checker.specs.Leads as spec;
 
-use crate::executed::Executed;
-use crate::finding::WayRow;
 use crate::flows::ClassFlows;
-use crate::hops::site_hops;
-use crate::path::must_write;
-use crate::reach::{Found, spread};
-use crate::way::way_to;
+use crate::lists::{FoundLists, lists_from};
+use crate::path::{list_of, must_write};
+use crate::wanted::InnerList;
 use std::alloc::{AllocError, Global};
 use sy_script::Items;
 use sy_site::{Site, SiteAction, SiteInput};
 use sy_wire::Class;
 
-// The first of inputs at which an archive must be written, by its place.
+// The first of lists in which an archive must be written, by its place.
 fn first_writing(
     site: &Site,
     class: Class,
     flows: &ClassFlows,
     archive: SiteAction,
-    inputs: &[SiteInput],
+    lists: &[InnerList],
 ) -> Option<usize>
-    requires there { (x : AnyInput) → Contains inputs.now x → IsInput site.now x }
+    requires there { (x : AnyList) → Contains lists.now x → spec.IsThere site.now x }
     requires flows { AreFlows site.now class flows.now }
-    ensures { spec.IsWriting site.now class archive inputs.now result }
+    ensures { spec.IsWriting site.now class archive lists.now result }
 {
-    for place in 0..inputs.len() {
-        if must_write(site, class, flows, archive, inputs[place]) {
+    for place in 0..lists.len() {
+        if must_write(site, class, flows, archive, lists[place]) {
             return Some(place);
         }
     }
     None
 }
 
-// The occurrences of a way.
-fn occurrences(alloc: Global, way: &[WayRow]) -> Result<Items<u8>, AllocError>
-    requires small { spec.AreSmall way.now }
-    ensures { IfOk result (λ path. path ≡ map (λ row. row.number) way.now) }
+// The occurrences by which the list at a place was found, from where the search started.
+fn way_to(
+    alloc: Global,
+    site: &Site,
+    class: Class,
+    start: InnerList,
+    found: &FoundLists,
+    place: usize,
+) -> Result<Items<u8>, AllocError>
+    requires found { spec.AreFound site.now class start found.now.lists.items found.now.origins.items }
+    requires within { place < length found.now.lists.items }
+    ensures { IfOk result (λ way. (end : AnyList) → slice_get found.now.lists.items place ≡ Some end
+        → spec.IsWayBetween site.now class start way end) }
 {
-    let mut path = Items::new(alloc);
-    for row in way {
-        path.push(row.number as u8)?;
+    let _ = site;
+    let _ = class;
+    let _ = start;
+    let mut back = Vec::new(alloc);
+    let mut at = place;
+    while let Some(origin) = found.origins[at] {
+        back.push(origin.number)?;
+        at = origin.place;
     }
-    Ok(path)
+    back.reverse();
+    Items::from_slice(alloc, back.as_slice())
 }
 
-// The path from an entry to the first at which an archive must be written, of what is found from that entry.
+// The path from an entry to the first list in which an archive must be written, of what is found from that entry.
 fn lead_among(
     alloc: Global,
     site: &Site,
     class: Class,
     flows: &ClassFlows,
     archive: SiteAction,
-    start: &[SiteInput],
-    found: &Found,
+    entry: SiteInput,
+    found: &FoundLists,
 ) -> Result<Option<Items<u8>>, AllocError>
-    requires spread { IsSpread site.now class executed.Must start.now found.now.inputs.items found.now.origins.items }
+    requires there { IsInput site.now entry }
+    requires found { spec.AreAllFound site.now class (spec.list_at site.now entry) found.now.lists.items found.now.origins.items }
     requires flows { AreFlows site.now class flows.now }
-    ensures { IfOk result (λ path. (entry : AnyInput) → start.now ≡ entry ∷ []
-        → spec.IsLead site.now class archive entry path) }
+    ensures { IfOk result (λ path. spec.IsLead site.now class archive entry path) }
 {
-    let _ = start;
-    match first_writing(site, class, flows, archive, found.inputs.as_slice()) {
+    match first_writing(site, class, flows, archive, found.lists.as_slice()) {
         Some(place) => {
-            let way = way_to(alloc, found, place)?;
-            let path = occurrences(alloc, way.as_slice())?;
+            let path = way_to(alloc, site, class, list_of(site, entry), found, place)?;
             Ok(Some(path))
         }
         None => Ok(None),
     }
 }
 
-/// What forwards lead to that must be executed and aren't spare, from each entry.
+/// The lists that what must be executed and isn't spare leads to, from the list of each entry.
 pub fn leads_of(
     alloc: Global,
     site: &Site,
     class: Class,
     flows: &ClassFlows,
-) -> Result<Vec<Found>, AllocError>
+) -> Result<Vec<FoundLists>, AllocError>
     requires flows { AreFlows site.now class flows.now }
     ensures { IfOk result (λ leads. spec.AreLeads site.now class leads.items) }
 {
     site.is_lawful();
-    let hops = site_hops(alloc, site, class, &flows.lists, Executed::Must)?;
     let mut leads = Vec::new(alloc);
     for entry in site.entries() {
-        let start = [*entry];
-        let found = spread(alloc, site, class, &hops, Executed::Must, &start)?;
+        let found = lists_from(alloc, site, class, flows, list_of(site, *entry))?;
         leads.push(found)?;
     }
     Ok(leads)
@@ -115,7 +121,7 @@ pub fn lead(
     site: &Site,
     class: Class,
     flows: &ClassFlows,
-    leads: &[Found],
+    leads: &[FoundLists],
     archive: SiteAction,
     entry: SiteInput,
 ) -> Result<Option<Items<u8>>, AllocError>
@@ -124,11 +130,9 @@ pub fn lead(
     requires leads { spec.AreLeads site.now class leads.now }
     ensures { IfOk result (λ path. spec.IsLead site.now class archive entry path) }
 {
+    site.is_lawful();
     match place_of(site.entries(), entry) {
-        Some(place) => {
-            let start = [entry];
-            lead_among(alloc, site, class, flows, archive, &start, &leads[place])
-        }
+        Some(place) => lead_among(alloc, site, class, flows, archive, entry, &leads[place]),
         None => unreachable!(),
     }
 }

@@ -8,21 +8,23 @@ ghost use Rattle.sy_site.specs.Sites as sites;
 ghost use Rattle.sy_site.specs.declared.site.SiteInput.{SiteInput as AnyInput};
 ghost use Rattle.sy_site.specs.machine.Lawful.{IsInput};
 ghost use Rattle.sy_board.specs.relay.Spares.{Scope};
-ghost use Rattle.sy_site.specs.machine.Reach.{Reach};
+ghost use Rattle.sy_site.specs.machine.Reach.{Reach, list_of};
 ghost use Rattle.sy_site.specs.machine.Soundness.{AreRanks};
 ghost use Rattle.sy_checker.specs.declared.wanted.Wanted.{Wanted as AnyWanted};
 ghost use Rattle.sy_checker.specs.Finding.{IsTrueRefusal};
 ghost use Rattle.sy_checker.specs.Fit as fit;
 ghost use Rattle.sy_checker.specs.Made as spec;
-ghost use Rattle.sy_checker.specs.Answer.{AreLeads};
 ghost use Rattle.sy_checker.specs.Hops.{AreFlows};
+ghost use Rattle.sy_checker.specs.Inner as numbering;
+ghost use Rattle.sy_checker.specs.Leads.{AreLeads};
 
 use crate::finding::Refusal;
 use crate::flows::ClassFlows;
+use crate::inner::{RelayNumbers, number_at};
 use crate::inputs::input_at;
-use crate::reach::Found;
+use crate::lists::FoundLists;
 use crate::unmet::path_for;
-use crate::wanted::Wanted;
+use crate::wanted::{InnerList, Wanted};
 use std::alloc::{AllocError, Global};
 use sy_cert::Row;
 use sy_script::Items;
@@ -84,6 +86,26 @@ fn rank_row(alloc: Global, site: &Site, of: u32, ranks: &[u32]) -> Result<Row, A
     Ok(Row::Rank { relay, rank })
 }
 
+fn inner_row(
+    alloc: Global,
+    site: &Site,
+    inner: InnerList,
+    numbers: &[RelayNumbers],
+) -> Result<Row, AllocError>
+    requires relay { inner.relay < length site.now.relays }
+    ensures { IfOk result (λ r. r ≡ row.Inner (fit.name_of site.now inner.relay) inner.list
+        (numbering.number_at numbers.now inner.relay inner.list)) }
+{
+    let relay = name_of(alloc, site, inner.relay)?;
+    let list = inner.list;
+    let number = number_at(numbers, inner.relay, list);
+    Ok(Row::Inner {
+        relay,
+        list,
+        number,
+    })
+}
+
 // The row of a path with these occurrences.
 fn named_path(
     alloc: Global,
@@ -96,7 +118,7 @@ fn named_path(
     requires there { IsInput site.now entry }
     requires relay { entry.relay < length site.now.relays }
     requires archive { archive.relay < length site.now.relays }
-    requires path { fit.IsPath site.now class archive entry occurrences }
+    requires path { fit.IsPath site.now class archive entry.relay (list_of site.now entry) occurrences }
     ensures { IfOk result (λ r. fit.IsPathRow site.now class entry archive r) }
 {
     let relay = name_of(alloc, site, entry.relay)?;
@@ -118,7 +140,7 @@ fn path_row(
     site: &Site,
     class: Class,
     flows: &ClassFlows,
-    leads: &[Found],
+    leads: &[FoundLists],
     entry: SiteInput,
     archive: SiteAction,
 ) -> Result<Row, Refusal>
@@ -144,9 +166,10 @@ fn row_for(
     site: &Site,
     class: Class,
     flows: &ClassFlows,
-    leads: &[Found],
+    leads: &[FoundLists],
     part: &[Wanted],
     ranks: &[u32],
+    numbers: &[RelayNumbers],
     is: Wanted,
 ) -> Result<Row, Refusal>
     requires protected { sites.is_protected site.now class ≡ true }
@@ -156,7 +179,7 @@ fn row_for(
     requires many { length ranks.now ≡ length site.now.relays }
     requires flows { AreFlows site.now class flows.now }
     requires leads { AreLeads site.now class leads.now }
-    ensures ok { IfOk result (λ r. spec.IsMade site.now class ranks.now is r) }
+    ensures ok { IfOk result (λ r. spec.IsMade site.now class ranks.now (numbering.number_at numbers.now) is r) }
     ensures err { IfErr result (λ why. IsTrueRefusal site.now why) }
 {
     site.is_lawful();
@@ -167,6 +190,7 @@ fn row_for(
         Wanted::Reach(input) => Ok(reach_row(alloc, site, class, input)?),
         Wanted::Branch(input) => Ok(branch_row(alloc, site, input)?),
         Wanted::Rank(of) => Ok(rank_row(alloc, site, of, ranks)?),
+        Wanted::Inner(inner) => Ok(inner_row(alloc, site, inner, numbers)?),
         Wanted::Path(entry, archive) => path_row(alloc, site, class, flows, leads, entry, archive),
     }
 }
@@ -178,21 +202,23 @@ fn put(rows: &mut Vec<Row>, row: Row) -> Result<(), AllocError>
     Ok(())
 }
 
-/// The rows of a class whose inputs that are reached without spare occurrences are clean, with ranks of its relays; the finding where an entry doesn't
-/// lead to an archive.
+/// The rows of a class whose inputs that are reached without spare occurrences are clean, with ranks of its relays and numbers
+/// of the lists that posts lead to; the finding where an entry doesn't lead to an archive.
 pub fn rows_for(
     alloc: Global,
     site: &Site,
     class: Class,
     flows: &ClassFlows,
-    leads: &[Found],
+    leads: &[FoundLists],
     part: &[Wanted],
     ranks: &[u32],
+    numbers: &[RelayNumbers],
 ) -> Result<Vec<Row>, Refusal>
     requires protected { sites.is_protected site.now class ≡ true }
     requires clean { (x : AnyInput) → Reach site.now class Scope.Firm x → fit.IsClean site.now class x }
     requires wanted { fit.AreWanted site.now class part.now }
     requires ranks { AreRanks site.now class (λ relay. get_or ranks.now relay 0) }
+    requires numbers { numbering.AreNumbers site.now class (numbering.number_at numbers.now) }
     requires many { length ranks.now ≡ length site.now.relays }
     requires flows { AreFlows site.now class flows.now }
     requires leads { AreLeads site.now class leads.now }
@@ -202,7 +228,7 @@ pub fn rows_for(
 {
     let mut rows = Vec::new(alloc);
     for is in part {
-        let row = row_for(alloc, site, class, flows, leads, part, ranks, *is)?;
+        let row = row_for(alloc, site, class, flows, leads, part, ranks, numbers, *is)?;
         put(&mut rows, row)?;
     }
     Ok(rows)

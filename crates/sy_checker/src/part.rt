@@ -20,6 +20,7 @@ pub fn wanted_kind(is: Wanted) -> RowKind
         Wanted::Reach(_) => RowKind::Reach,
         Wanted::Branch(_) => RowKind::Branch,
         Wanted::Rank(_) => RowKind::Rank,
+        Wanted::Inner(_) => RowKind::Inner,
         Wanted::Path(_, _) => RowKind::Path,
     }
 }
@@ -33,6 +34,7 @@ pub fn row_kind(row: &Row) -> RowKind
         Row::Reach { .. } => RowKind::Reach,
         Row::Branch { .. } => RowKind::Branch,
         Row::Rank { .. } => RowKind::Rank,
+        Row::Inner { .. } => RowKind::Inner,
         Row::Path { .. } => RowKind::Path,
     }
 }

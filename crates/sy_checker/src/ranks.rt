@@ -37,7 +37,8 @@ fn rank_in(site: &Site, row: &Row, relay: u32) -> Option<u32>
                 None
             }
         }
-        Row::Class(_) | Row::Reach { .. } | Row::Branch { .. } | Row::Path { .. } => None,
+        Row::Class(_) | Row::Reach { .. } | Row::Branch { .. } | Row::Inner { .. } => None,
+        Row::Path { .. } => None,
     }
 }
 
@@ -46,7 +47,8 @@ fn is_rank_of(is: Wanted, relay: u32) -> bool
 {
     match is {
         Wanted::Rank(of) => of == relay,
-        Wanted::Class(_) | Wanted::Reach(_) | Wanted::Branch(_) | Wanted::Path(_, _) => false,
+        Wanted::Class(_) | Wanted::Reach(_) | Wanted::Branch(_) | Wanted::Inner(_) => false,
+        Wanted::Path(_, _) => false,
     }
 }
 
@@ -184,7 +186,7 @@ fn falls_at(
             }
             falls_from(site, class, flows, from, part, rows, rank)
         }
-        Wanted::Class(_) | Wanted::Rank(_) | Wanted::Path(_, _) => true,
+        Wanted::Class(_) | Wanted::Rank(_) | Wanted::Inner(_) | Wanted::Path(_, _) => true,
     }
 }
 

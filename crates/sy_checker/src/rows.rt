@@ -6,13 +6,15 @@ ghost use Rattle.sy_site.specs.machine.Lawful.{IsInput};
 ghost use Rattle.sy_checker.specs.Fit as fit;
 ghost use Rattle.sy_checker.specs.Judging as spec;
 ghost use Rattle.sy_checker.specs.Hops.{AreFlows};
+ghost use Rattle.sy_checker.specs.Leads.{IsThere};
 
 use crate::flows::ClassFlows;
 use crate::inputs::input_at;
 use crate::kinds::is_clean;
+use crate::numbers::is_numbered;
 use crate::path::is_path;
 use crate::ranks::{is_above, is_name};
-use crate::wanted::Wanted;
+use crate::wanted::{InnerList, Wanted};
 use sy_cert::Row;
 use sy_site::laws::archives_are_those_named;
 use sy_site::{Site, SiteAction, SiteInput};
@@ -108,7 +110,8 @@ fn is_class_row(class: Class, row: &Row) -> bool
 {
     match row {
         Row::Class(given) => is_class(class, *given),
-        Row::Reach { .. } | Row::Branch { .. } | Row::Rank { .. } | Row::Path { .. } => false,
+        Row::Reach { .. } | Row::Branch { .. } | Row::Rank { .. } => false,
+        Row::Inner { .. } | Row::Path { .. } => false,
     }
 }
 
@@ -120,7 +123,8 @@ fn is_reach_row(site: &Site, class: Class, flows: &ClassFlows, input: SiteInput,
 {
     match row {
         Row::Reach { relay, port } => is_reach(site, class, flows, input, relay.as_slice(), *port),
-        Row::Class(_) | Row::Branch { .. } | Row::Rank { .. } | Row::Path { .. } => false,
+        Row::Class(_) | Row::Branch { .. } | Row::Rank { .. } => false,
+        Row::Inner { .. } | Row::Path { .. } => false,
     }
 }
 
@@ -131,7 +135,8 @@ fn is_branch_row(site: &Site, input: SiteInput, row: &Row) -> bool
 {
     match row {
         Row::Branch { relay, port } => is_branch(site, input, relay.as_slice(), *port),
-        Row::Class(_) | Row::Reach { .. } | Row::Rank { .. } | Row::Path { .. } => false,
+        Row::Class(_) | Row::Reach { .. } | Row::Rank { .. } => false,
+        Row::Inner { .. } | Row::Path { .. } => false,
     }
 }
 
@@ -156,7 +161,48 @@ fn is_rank_row(
             }
             is_above(site, class, flows, part, rows, of, *rank)
         }
-        Row::Class(_) | Row::Reach { .. } | Row::Branch { .. } | Row::Path { .. } => false,
+        Row::Class(_) | Row::Reach { .. } | Row::Branch { .. } => false,
+        Row::Inner { .. } | Row::Path { .. } => false,
+    }
+}
+
+// Whether an inner row names a list.
+fn names_inner(site: &Site, inner: InnerList, relay: &[u8], list: u32) -> bool
+    requires relay { inner.relay < length site.now.relays }
+    ensures { Decides result (spec.NamesInner site.now inner relay.now list) }
+{
+    if !is_name(site, inner.relay, relay) {
+        return false;
+    }
+    list == inner.list
+}
+
+fn is_inner_row(
+    site: &Site,
+    class: Class,
+    flows: &ClassFlows,
+    part: &[Wanted],
+    rows: &[Row],
+    inner: InnerList,
+    row: &Row,
+) -> bool
+    requires there { IsThere site.now inner }
+    requires flows { AreFlows site.now class flows.now }
+    ensures { Decides result (fit.IsInnerRow site.now class part.now rows.now inner row.now) }
+{
+    match row {
+        Row::Inner {
+            relay,
+            list,
+            number,
+        } => {
+            if !names_inner(site, inner, relay.as_slice(), *list) {
+                return false;
+            }
+            is_numbered(site, class, flows, part, rows, inner, *number)
+        }
+        Row::Class(_) | Row::Reach { .. } | Row::Branch { .. } => false,
+        Row::Rank { .. } | Row::Path { .. } => false,
     }
 }
 
@@ -189,7 +235,8 @@ fn is_path_row(
             }
             is_path(site, class, flows, archive, entry, occurrences)
         }
-        Row::Class(_) | Row::Reach { .. } | Row::Branch { .. } | Row::Rank { .. } => false,
+        Row::Class(_) | Row::Reach { .. } | Row::Branch { .. } => false,
+        Row::Rank { .. } | Row::Inner { .. } => false,
     }
 }
 
@@ -215,6 +262,7 @@ pub fn is_right(
         Wanted::Reach(input) => is_reach_row(site, class, flows, input, row),
         Wanted::Branch(input) => is_branch_row(site, input, row),
         Wanted::Rank(of) => is_rank_row(site, class, flows, part, rows, of, row),
+        Wanted::Inner(inner) => is_inner_row(site, class, flows, part, rows, inner, row),
         Wanted::Path(entry, archive) => is_path_row(site, class, flows, entry, archive, row),
     }
 }

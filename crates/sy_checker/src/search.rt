@@ -82,8 +82,8 @@ fn first_unclean(
     None
 }
 
-// The finding of a kind at the place of an input, with the way there.
-fn finding_at(
+/// The finding of a kind at the place of an input, with the way there.
+pub fn finding_at(
     alloc: Global,
     site: &Site,
     class: Class,

@@ -6,12 +6,11 @@ ghost use Rattle.sy_site.specs.Sites as sites;
 ghost use Rattle.sy_site.specs.declared.site.SiteInput.{SiteInput as AnyInput};
 ghost use Rattle.sy_site.specs.declared.site.SiteAction.{SiteAction as AnyAction};
 ghost use Rattle.sy_site.specs.machine.Findings.{HoldsAt};
-ghost use Rattle.sy_site.specs.machine.Lawful.{IsInput};
 ghost use Rattle.sy_board.specs.relay.Spares.{Scope};
 ghost use Rattle.sy_site.specs.machine.Reach.{LeadsTo, Reach};
 ghost use Rattle.sy_site.specs.machine.Soundness.{IsSound};
 ghost use Rattle.sy_wire.specs.declared.class.Class.{Class as AnyClass};
-ghost use Rattle.sy_checker.specs.Answer.{AreLeads};
+ghost use Rattle.sy_checker.specs.Leads.{AreLeads};
 ghost use Rattle.sy_checker.specs.Finding.{kind_of};
 ghost use Rattle.sy_checker.specs.Fit.{AreProtected};
 ghost use Rattle.sy_checker.specs.Flows.{AreFirm};
@@ -26,135 +25,18 @@ use crate::firm::{SiteFirm, firm_of};
 use crate::flows::{ClassFlows, flows_of};
 use crate::groups::{Gathered, Group, nothing_gathered, put};
 use crate::hops::class_flows;
-use crate::kinds::{Risk, is_mark_above_size, is_mark_off, is_not_full, may_discard, may_risk};
 use crate::laws::sites_without_a_finding_are_sound;
 use crate::lead::{lead, leads_of};
+use crate::lists::FoundLists;
 use crate::loops::{Unranked, ranks_of};
 use crate::order::sorted;
-use crate::reach::{Found, reached, reached_by_every};
+use crate::reach::{reached, reached_by_every};
+use crate::told::{put_inner_loops, put_inputs};
 use crate::wanted::archives;
 use std::alloc::{AllocError, Global};
 use sy_site::machine::sound_sites_have_no_finding;
 use sy_site::{Site, SiteAction, SiteInput};
 use sy_wire::Class;
-
-// Whether a kind holds at an input, of the kinds 1 to 7.
-fn holds(site: &Site, class: Class, flows: &ClassFlows, input: SiteInput, kind: Kind) -> bool
-    requires there { IsInput site.now input }
-    requires flows { AreFlows site.now class flows.now }
-    ensures { Decides result (HoldsAt site.now class input (kind_of kind)) }
-{
-    match kind {
-        Kind::NotFull => is_not_full(site, class, input),
-        Kind::MarkOff => is_mark_off(site, class, input),
-        Kind::MarkAboveSize => is_mark_above_size(site, class, input),
-        Kind::Discards => may_discard(site, class, input),
-        Kind::InnerQueue => may_risk(site, class, flows, input, Risk::Post),
-        Kind::GivesUp => may_risk(site, class, flows, input, Risk::GivesUp),
-        Kind::NoTarget => may_risk(site, class, flows, input, Risk::NoTarget),
-        Kind::Loop | Kind::Unmet(_) => false,
-    }
-}
-
-// Puts a kind at a reached input, where it holds there.
-fn put_kind(
-    alloc: Global,
-    site: &Site,
-    class: Class,
-    flows: &ClassFlows,
-    input: SiteInput,
-    kind: Kind,
-    found: &mut Gathered,
-) -> Result<(), AllocError>
-    requires protected { sites.is_protected site.now class ≡ true }
-    requires flows { AreFlows site.now class flows.now }
-    requires there { IsInput site.now input }
-    requires reached { Reach site.now class Scope.Firm input }
-    ensures { OnOk result (spec.Tells site.now class (spec.IsHeld site.now class input kind)
-        found.old.groups.items found.new.groups.items) }
-{
-    if !holds(site, class, flows, input, kind) {
-        return Ok(());
-    }
-    put(alloc, found, class, input, kind)?;
-    Ok(())
-}
-
-// Puts each of some kinds that holds at a reached input.
-fn put_kinds(
-    alloc: Global,
-    site: &Site,
-    class: Class,
-    flows: &ClassFlows,
-    input: SiteInput,
-    kinds: &[Kind],
-    found: &mut Gathered,
-) -> Result<(), AllocError>
-    requires protected { sites.is_protected site.now class ≡ true }
-    requires flows { AreFlows site.now class flows.now }
-    requires there { IsInput site.now input }
-    requires reached { Reach site.now class Scope.Firm input }
-    ensures { OnOk result (spec.Tells site.now class
-        (λ i j. spec.Among kinds.now (λ kind. spec.IsHeld site.now class input kind i j))
-        found.old.groups.items found.new.groups.items) }
-{
-    for kind in kinds {
-        put_kind(alloc, site, class, flows, input, *kind, found)?;
-    }
-    Ok(())
-}
-
-// Puts each of the kinds 1 to 7 that holds at a reached input.
-fn put_input(
-    alloc: Global,
-    site: &Site,
-    class: Class,
-    flows: &ClassFlows,
-    input: SiteInput,
-    found: &mut Gathered,
-) -> Result<(), AllocError>
-    requires protected { sites.is_protected site.now class ≡ true }
-    requires flows { AreFlows site.now class flows.now }
-    requires there { IsInput site.now input }
-    requires reached { Reach site.now class Scope.Firm input }
-    ensures { OnOk result (spec.Tells site.now class (spec.AreHeld site.now class input)
-        found.old.groups.items found.new.groups.items) }
-{
-    let kinds = [
-        Kind::NotFull,
-        Kind::MarkOff,
-        Kind::MarkAboveSize,
-        Kind::Discards,
-        Kind::InnerQueue,
-        Kind::GivesUp,
-        Kind::NoTarget,
-    ];
-    put_kinds(alloc, site, class, flows, input, &kinds, found)?;
-    Ok(())
-}
-
-// Puts them at each of some inputs.
-fn put_inputs(
-    alloc: Global,
-    site: &Site,
-    class: Class,
-    flows: &ClassFlows,
-    inputs: &[SiteInput],
-    found: &mut Gathered,
-) -> Result<(), AllocError>
-    requires protected { sites.is_protected site.now class ≡ true }
-    requires flows { AreFlows site.now class flows.now }
-    requires there { (x : AnyInput) → Contains inputs.now x → IsInput site.now x }
-    requires reached { (x : AnyInput) → Contains inputs.now x → Reach site.now class Scope.Firm x }
-    ensures { OnOk result (spec.Tells site.now class
-        (λ i j. spec.Among inputs.now (λ input. spec.AreHeld site.now class input i j))
-        found.old.groups.items found.new.groups.items) }
-{
-    for input in inputs {
-        put_input(alloc, site, class, flows, *input, found)?;
-    }
-    Ok(())
-}
 
 // Puts a loop, where there are no ranks.
 fn put_looped(
@@ -207,7 +89,7 @@ fn leads_to(
     site: &Site,
     class: Class,
     flows: &ClassFlows,
-    leads: &[Found],
+    leads: &[FoundLists],
     entry: SiteInput,
     archive: SiteAction,
 ) -> Result<bool, AllocError>
@@ -226,7 +108,7 @@ fn put_unmet(
     site: &Site,
     class: Class,
     flows: &ClassFlows,
-    leads: &[Found],
+    leads: &[FoundLists],
     entry: SiteInput,
     archive: SiteAction,
     found: &mut Gathered,
@@ -252,7 +134,7 @@ fn put_archives(
     site: &Site,
     class: Class,
     flows: &ClassFlows,
-    leads: &[Found],
+    leads: &[FoundLists],
     entry: SiteInput,
     archives: &[SiteAction],
     found: &mut Gathered,
@@ -278,7 +160,7 @@ fn put_entries(
     site: &Site,
     class: Class,
     flows: &ClassFlows,
-    leads: &[Found],
+    leads: &[FoundLists],
     entries: &[SiteInput],
     archives: &[SiteAction],
     found: &mut Gathered,
@@ -327,7 +209,8 @@ fn put_all_unmet(
     Ok(())
 }
 
-// Puts each of the kinds 1 to 7 at each input that the class reaches without spare occurrences, and a loop.
+// Puts each of the kinds 1 to 7 at each input that the class reaches without spare occurrences, a loop of relays, and each
+// such input from which on a list is met twice.
 fn put_reached(
     alloc: Global,
     site: &Site,
@@ -349,6 +232,7 @@ fn put_reached(
     put_inputs(alloc, site, class, flows, inputs.as_slice(), found)?;
     let every = reached_by_every(alloc, site, class, flows, reached.inputs.as_slice())?;
     put_loop(alloc, site, class, flows, every.as_slice(), found)?;
+    put_inner_loops(alloc, site, class, flows, inputs.as_slice(), found)?;
     Ok(())
 }
 
@@ -397,11 +281,13 @@ fn survey_all(alloc: Global, site: &Site) -> Result<Vec<Group>, AllocError>
 }
 
 /// All that is found in a site, in groups: of each protected class each of the kinds 1 to 7 that holds at an input that
-/// it reaches without spare occurrences, each entry with each named archive that it doesn't lead to, and a loop where there are no ranks. Nothing
-/// is found exactly in a sound site. Want of memory is the only refusal.
+/// it reaches without spare occurrences, a loop of relays where there are no ranks, each such input from which on a list is
+/// met twice, and each entry with each named archive that it doesn't lead to. Nothing is found exactly in a sound site. Want of
+/// memory is the only refusal.
 ///
 /// The groups stand in the order in which they are met: classes by rising number, of each its inputs in the order of the
-/// site with the kinds by number, then the loop, then entries and archives in the order of the file.
+/// site with the kinds 1 to 7 by number, then the loop of relays, then the inputs with a loop of lists, then entries and
+/// archives in the order of the file.
 pub fn survey(alloc: Global, site: &Site) -> Result<Vec<Group>, AllocError>
     ensures survey { IfOk result (λ groups. spec.IsSurvey site.now groups.items) }
     ensures sound { IfOk result (λ groups. groups.items ≡ [] → IsSound site.now) }

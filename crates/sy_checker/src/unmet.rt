@@ -3,16 +3,16 @@
 ghost use Rattle.std.specs.Prelude.{◌≡◌, Contains, IfErr, IfOk, true};
 ghost use Rattle.sy_cert.specs.Rows.{AreOccurrences};
 ghost use Rattle.sy_site.specs.Sites as sites;
-ghost use Rattle.sy_site.specs.machine.Reach.{LeadsTo};
+ghost use Rattle.sy_site.specs.machine.Reach.{LeadsTo, list_of};
 ghost use Rattle.sy_checker.specs.Finding.{IsTrueFinding, IsTrueRefusal};
 ghost use Rattle.sy_checker.specs.Fit.{IsPath};
-ghost use Rattle.sy_checker.specs.Answer.{AreLeads};
 ghost use Rattle.sy_checker.specs.Hops.{AreFlows};
+ghost use Rattle.sy_checker.specs.Leads.{AreLeads};
 
 use crate::finding::{Finding, Kind, Refusal};
 use crate::flows::ClassFlows;
 use crate::lead::lead;
-use crate::reach::Found;
+use crate::lists::FoundLists;
 use std::alloc::Global;
 use sy_script::Items;
 use sy_site::{Site, SiteAction, SiteInput};
@@ -41,7 +41,7 @@ pub fn path_for(
     site: &Site,
     class: Class,
     flows: &ClassFlows,
-    leads: &[Found],
+    leads: &[FoundLists],
     entry: SiteInput,
     archive: SiteAction,
 ) -> Result<Items<u8>, Refusal>
@@ -50,7 +50,8 @@ pub fn path_for(
     requires named { Contains (sites.archives site.now class) archive }
     requires flows { AreFlows site.now class flows.now }
     requires leads { AreLeads site.now class leads.now }
-    ensures ok { IfOk result (λ path. IsPath site.now class archive entry path × AreOccurrences path) }
+    ensures ok { IfOk result (λ path. IsPath site.now class archive entry.relay (list_of site.now entry) path
+        × AreOccurrences path) }
     ensures err { IfErr result (λ why. IsTrueRefusal site.now why) }
 {
     match lead(alloc, site, class, flows, leads, archive, entry)? {

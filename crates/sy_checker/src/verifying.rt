@@ -65,7 +65,7 @@ pub(crate) fn judge(
     requires every { (x : AnyInput) → Contains every.now x ↔ Reach site.now class Scope.Every x }
     ensures { IfOk result (λ judged. spec.IsJudged site.now class rows.now judged) }
 {
-    let part = wanted_rows(alloc, site, class, firm, every)?;
+    let part = wanted_rows(alloc, site, class, flows, firm, every)?;
     match first_wrong(site, class, flows, part.as_slice(), rows) {
         Some((place, kind)) => Ok(Judged::Wrong(place, kind)),
         None => Ok(Judged::Right(part.len())),

@@ -7,14 +7,24 @@ ghost use Rattle.sy_site.specs.declared.site.SiteInput.{SiteInput as AnyInput};
 ghost use Rattle.sy_board.specs.relay.Spares.{Scope};
 ghost use Rattle.sy_site.specs.machine.Reach.{Reach};
 ghost use Rattle.sy_checker.specs.Fit.{AreWanted};
+ghost use Rattle.sy_checker.specs.Hops.{AreFlows};
 ghost use Rattle.sy_checker.specs.Internal.{AddsArchive};
 ghost use Rattle.sy_checker.specs.Verifying.{kind_words};
 ghost use Rattle.sy_checker.specs.declared.wanted.Wanted.TheVariants as spec;
 
+use crate::flows::ClassFlows;
+use crate::inners::inners_of;
 use crate::order::{relays_of, rest, sorted};
 use std::alloc::{AllocError, Global};
 use sy_site::{Protection, Site, SiteAction, SiteInput};
 use sy_wire::Class;
+
+/// A list of a relay.
+#[derive(Clone, Copy)]
+pub struct InnerList {
+    pub relay: u32,
+    pub list: u32,
+}
 
 /// What a row of a certificate has to be about, for the class of the rows around it.
 #[derive(Clone, Copy)]
@@ -27,6 +37,8 @@ pub enum Wanted {
     Branch(SiteInput),
     /// a relay with a reached input
     Rank(u32),
+    /// a list that posts lead to from an input that is reached without spare occurrences
+    Inner(InnerList),
     /// the way from an entry to an archive that is named for the class
     Path(SiteInput, SiteAction),
 }
@@ -38,6 +50,7 @@ pub enum RowKind {
     Reach,
     Branch,
     Rank,
+    Inner,
     Path,
     Cert,
 }
@@ -52,6 +65,7 @@ impl RowKind {
             RowKind::Reach => "reach",
             RowKind::Branch => "branch",
             RowKind::Rank => "rank",
+            RowKind::Inner => "inner",
             RowKind::Path => "path",
             RowKind::Cert => "cert",
         }
@@ -122,6 +136,15 @@ fn put_relays(part: &mut Vec<Wanted>, relays: &[u32]) -> Result<(), AllocError>
     Ok(())
 }
 
+fn put_inners(part: &mut Vec<Wanted>, inners: &[InnerList]) -> Result<(), AllocError>
+    ensures { OnOk result (part.new.items ≡ part.old.items ++ map spec.Inner inners.now) }
+{
+    for inner in inners {
+        part.push(Wanted::Inner(*inner))?;
+    }
+    Ok(())
+}
+
 // Puts a path from an entry to each archive.
 fn put_paths(
     part: &mut Vec<Wanted>,
@@ -156,23 +179,27 @@ pub fn wanted_rows(
     alloc: Global,
     site: &Site,
     class: Class,
+    flows: &ClassFlows,
     firm: &[SiteInput],
     every: &[SiteInput],
 ) -> Result<Vec<Wanted>, AllocError>
     requires firm { (x : AnyInput) → Contains firm.now x ↔ Reach site.now class Scope.Firm x }
     requires every { (x : AnyInput) → Contains every.now x ↔ Reach site.now class Scope.Every x }
+    requires flows { AreFlows site.now class flows.now }
     ensures { IfOk result (λ part. AreWanted site.now class part.items) }
 {
     site.is_lawful();
     let inputs = sorted(alloc, site, firm)?;
     let branches = rest(alloc, site, every, firm)?;
     let relays = relays_of(alloc, site, every)?;
+    let inners = inners_of(alloc, site, class, flows, firm)?;
     let archives = archives(alloc, site, class)?;
     let mut part = Vec::new(alloc);
     part.push(Wanted::Class(class))?;
     put_inputs(&mut part, inputs.as_slice())?;
     put_branches(&mut part, branches.as_slice())?;
     put_relays(&mut part, relays.as_slice())?;
+    put_inners(&mut part, inners.as_slice())?;
     put_all_paths(&mut part, site.entries(), archives.as_slice())?;
     Ok(part)
 }

@@ -1,6 +1,7 @@
 use Rattle.std.proofs.Common.{subst, sym}
 use Rattle.sy_site.specs.machine.Soundness.{AreRanks}
 use Rattle.sy_checker.specs.Fit.{AreWanted}
+use Rattle.sy_checker.specs.Inner.{AreNumbers, number_at}
 use Rattle.sy_checker.specs.Loops.{rank_at}
 use Rattle.sy_checker.proofs.certifying.rows_of_class.Goals as goal
 
@@ -10,6 +11,10 @@ rows_for-requires-clause-wanted c = subst (AreWanted c.args.site.now c.args.clas
 pub rows_for-requires-clause-ranks : goal.rows_for-requires-clause-ranks
 rows_for-requires-clause-ranks c =
     subst (λ l. AreRanks c.args.site.now c.args.class (rank_at l)) (sym c.as_slice-3.ensures.value) c.requires.course.ranks
+
+pub rows_for-requires-clause-numbers : goal.rows_for-requires-clause-numbers
+rows_for-requires-clause-numbers c =
+    subst (λ l. AreNumbers c.args.site.now c.args.class (number_at l)) (sym c.as_slice-4.ensures.value) c.requires.course.numbers
 
 pub returns-clause-ok : goal.returns-clause-ok
 returns-clause-ok c = record {

@@ -8,8 +8,9 @@ use Rattle.sy_rules.specs.declared.lists.occurrence.Occurrence.TheVariants as oc
 use Rattle.sy_site.specs.Sites.{plan_at}
 use Rattle.sy_site.specs.machine.Reach.{occurrence_at}
 use Rattle.sy_checker.specs.Flows.{Does, is_used}
-use Rattle.sy_checker.specs.Hops.{AddsLeads, AddsTarget, AreApart, IsFollowed, WalksOn, follows_posts}
+use Rattle.sy_checker.specs.Hops.{AddsLeads, AddsLists, AddsPosted, AddsTarget, AreApart, IsFollowed, WalksOn, follows_posts}
 use Rattle.sy_checker.proofs.Found.{on_ok}
+use Rattle.sy_checker.proofs.Posted.{lists_added, lists_of, posted_by}
 use Rattle.sy_checker.proofs.Used.{posted_there, posted_used}
 use Rattle.sy_checker.proofs.Walking.{all_walked, apart_room, leads_added, leads_post, list_done, more_apart, more_walked, none_walked, one_value, run_grows, run_sound, stays_there, walks_on}
 use Rattle.sy_checker.proofs.hops.+walk.Goals as goal
@@ -27,6 +28,7 @@ walk-loop-at-init t c =
       longer = omega arith;
       grows = stays_there c.args.site.now c.args.class c.args.which c.args.relay c.args.found.now.hops.items c.push.new.self.items;
       sound = λ first leads hop is. inl is;
+      posted = λ to is. inl is;
       below = none_walked c.args.site.now c.args.class c.args.which c.args.relay c.args.found.now.hops.items c.push.new.self.items c.args.list;
     }
 
@@ -60,6 +62,8 @@ walk-loop-at-preserved t c =
           c.push.new.self.items before.lists.items after.lists.items c.loop-at.invariant.grows c.in_ok-follow.ensures.grows;
       sound = λ first leads. leads_added c.args.site.now c.args.class c.args.which c.args.relay first c.args.number c.args.found.now.hops.items
           before.hops.items after.hops.items (c.loop-at.invariant.sound first leads) (c.in_ok-follow.ensures.sound first (leads c.in-Some.at));
+      posted = lists_added c.args.site.now c.args.class c.args.which c.args.relay c.args.list c.push.new.self.items before.lists.items
+          after.lists.items c.loop-at.invariant.posted c.in_ok-follow.ensures.posted;
       below = more_walked c.args.site.now c.args.class c.args.which c.args.relay c.args.list c.set_at-set.result c.loop-at.next c.in-Some.at
           before.hops.items after.hops.items before.lists.items after.lists.items c.set_at-set.ensures c.in-Some.ensures.some
           c.in_ok-follow.ensures.grows.hops_kept c.in_ok-follow.ensures.grows.lists_kept c.loop-at.invariant.below c.in_ok-follow.ensures.followed;
@@ -74,6 +78,11 @@ walk-returns-clause-grows t c =
     c.in_ok-push.ensures.items c.loop-at.invariant.grows)
     (all_walked c.args.site.now c.args.class c.args.which c.args.relay c.args.list c.set_at-set.result c.loop-at.next found.hops.items found.lists.items
     c.set_at-set.ensures c.in_default.ensures.none c.loop-at.invariant.below)
+
+pub walk-returns-clause-posted : goal.walk-returns-clause-posted
+walk-returns-clause-posted t c = λ to is.
+    lists_of c.args.site.now c.args.class c.args.which c.args.relay c.args.list c.args.found.now.lists.items c.push.new.self.items
+    c.loop-at.found.lists.items c.in_ok-push.ensures.items c.loop-at.invariant.posted to is
 
 pub walk-returns-clause-done : goal.walk-returns-clause-done
 walk-returns-clause-done t c =
@@ -137,3 +146,12 @@ follow_one-returns-else-not-follows_posts-clause-followed t c =
     (λ there. subst (IsFollowed c.args.site.now c.args.which c.args.relay c.walk.new.found.hops.items c.walk.new.found.lists.items) (sym c.in-Post.is)
     (λ follows. there))
     c.walk.result c.walk.ensures.done
+
+pub follow_one-returns-else-not-follows_posts-clause-posted : goal.follow_one-returns-else-not-follows_posts-clause-posted
+follow_one-returns-else-not-follows_posts-clause-posted t c =
+    on_ok (AddsLists c.args.site.now c.args.class c.args.which c.args.relay c.in-Post.inner c.args.found.now.lists.items c.walk.new.found.lists.items)
+    (AddsPosted c.args.site.now c.args.class c.args.which c.args.relay c.args.list c.args.found.now.lists.items c.walk.new.found.lists.items)
+    (posted_by c.args.site.now c.args.class c.args.which c.args.relay c.args.list c.args.at c.in-Post.inner c.args.found.now.lists.items
+    c.walk.new.found.lists.items (sym c.follows_posts.ensures ∙ c.if-not-follows_posts.false)
+    (subst (Does c.args.site.now c.args.class c.args.which c.args.relay c.args.list c.args.at) c.in-Post.is c.requires.does))
+    c.walk.result c.walk.ensures.posted

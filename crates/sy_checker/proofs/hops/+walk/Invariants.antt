@@ -1,6 +1,6 @@
 use Rattle.std.proofs.Common.{◌≡◌, ℕ, ◌≤◌, ◌+◌, ◌*◌, ◌-◌, length}
 use Rattle.sy_site.specs.Sites.{plan_at}
-use Rattle.sy_checker.specs.Hops.{AddsLeads, AreApart, IsWalkedBelow, LeadsAsWell, WalksOn}
+use Rattle.sy_checker.specs.Hops.{AddsLeads, AddsPosted, AreApart, IsWalkedBelow, LeadsAsWell, WalksOn}
 use Rattle.sy_checker.proofs.hops.+walk.Given as goal
 
 -- the lists that weren't gone through
@@ -20,6 +20,7 @@ invariant-walk-loop-at l = record {
   grows : WalksOn l.site l.class l.which l.relay l.initial.found.hops.items l.initial.found.lists.items l.found.hops.items l.found.lists.items;
   sound : (first : ℕ) → ((at : ℕ) → LeadsAsWell l.site l.class l.which l.relay l.list at first l.number)
       → AddsLeads l.site l.class l.which l.relay first l.number l.initial.found.hops.items l.found.hops.items;
+  posted : AddsPosted l.site l.class l.which l.relay l.list l.initial.found.lists.items l.found.lists.items;
   below : IsWalkedBelow l.site l.class l.which l.relay l.found.hops.items l.found.lists.items l.list l.next;
 }
 

@@ -28,4 +28,4 @@ returns c =
     (input_list c.args.site.now c.args.input c.requires.there) in
     subst (AreHops c.args.site.now c.args.class c.args.which relay (list_of c.args.site.now c.args.input)) (sym c.as_slice.ensures.value)
     (subst (λ l. AreHops c.args.site.now c.args.class c.args.which relay l c.index.result.now.hops.items) c.list_at-list.ensures.list
-    (own.each list c.index.result.now at_list used))
+    (own.each list c.index.result.now at_list used).hops)

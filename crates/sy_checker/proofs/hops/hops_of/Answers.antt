@@ -14,7 +14,7 @@ loop-at-preserved c =
     walk_goes_on c.args.site.now c.args.class c.args.which c.args.relay (length (plan_at c.args.site.now c.args.relay).lists) c.args.list
     c.set_at-set.result c.loop-at.next c.in-Some.at c.loop-at.found.hops.items c.follow.new.found.hops.items c.loop-at.found.lists.items
     c.follow.new.found.lists.items c.set_at-set.ensures c.in-Some.ensures.some c.loop-at.invariant c.in_ok-follow.ensures.grows
-    (c.in_ok-follow.ensures.sound c.args.list (λ to leads. leads)) c.in_ok-follow.ensures.followed c.in_ok-follow.ensures.apart
+    (c.in_ok-follow.ensures.sound c.args.list (λ to leads. leads)) c.in_ok-follow.ensures.posted c.in_ok-follow.ensures.followed c.in_ok-follow.ensures.apart
 
 pub follow-requires : goal.follow-requires
 follow-requires c = record {
@@ -28,5 +28,5 @@ follow-requires c = record {
 pub returns : goal.returns
 returns c =
     walk_ends c.args.site.now c.args.class c.args.which c.args.relay (length (plan_at c.args.site.now c.args.relay).lists) c.args.list
-    c.set_at-set.result c.loop-at.next c.loop-at.found.hops.items c.loop-at.found.lists.items c.set_at-set.ensures c.in_default.ensures.none
-    c.loop-at.invariant
+    c.set_at-set.result c.loop-at.next (record { hops = c.loop-at.found.hops; lists = c.loop-at.found.lists }) c.set_at-set.ensures
+    c.in_default.ensures.none c.loop-at.invariant

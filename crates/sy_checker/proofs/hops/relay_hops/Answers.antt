@@ -2,7 +2,7 @@ use Rattle.std.proofs.Common.{◌≡◌, ◌+◌, true, arith, subst, sym}
 use Rattle.sy_site.specs.Sites.{plan_at}
 use Rattle.sy_checker.specs.declared.flows.ListHops.{ListHops}
 use Rattle.sy_checker.specs.Flows.{AreEach}
-use Rattle.sy_checker.specs.Hops.{AreHops, is_input_list}
+use Rattle.sy_checker.specs.Hops.{AreListHops, is_input_list}
 use Rattle.sy_checker.proofs.Flowing.{each_more}
 use Rattle.sy_checker.proofs.hops.relay_hops.Goals as goal
 
@@ -12,11 +12,11 @@ loop-list-preserved c =
     record {
       each = subst
           (AreEach (λ list (of : ListHops). is_input_list (plan_at c.args.site.now c.args.relay) list ≡ true
-          → AreHops c.args.site.now c.args.class c.args.which c.args.relay list of.hops.items) (c.loop-list.list + 1))
+          → AreListHops c.args.site.now c.args.class c.args.which c.args.relay list of) (c.loop-list.list + 1))
           (sym c.in_ok-push.ensures.items)
           (each_more
           (λ list (of : ListHops). is_input_list (plan_at c.args.site.now c.args.relay) list ≡ true
-          → AreHops c.args.site.now c.args.class c.args.which c.args.relay list of.hops.items)
+          → AreListHops c.args.site.now c.args.class c.args.which c.args.relay list of)
           c.loop-list.list c.loop-list.lists.items c.in_ok-found.found c.loop-list.invariant.each c.in_ok-found.ensures);
       all = c.loop-list.invariant.all;
       within = omega (arith, below);

@@ -7,25 +7,25 @@ use Rattle.sy_checker.proofs.kinds.is_clean.Goals as goal
 pub returns-then-is_not_full : goal.returns-then-is_not_full
 returns-then-is_not_full c = (
   λ no. absurd (false≢true no),
-  λ clean. absurd (clean Kind.NotFull (c.is_not_full.ensures.0 c.if-is_not_full.true)),
+  λ clean. absurd (clean Kind.NotFull (λ e. cc) (c.is_not_full.ensures.0 c.if-is_not_full.true)),
 )
 
 pub returns-then-is_mark_off : goal.returns-then-is_mark_off
 returns-then-is_mark_off c = (
   λ no. absurd (false≢true no),
-  λ clean. absurd (clean Kind.MarkOff (c.is_mark_off.ensures.0 c.if-is_mark_off.true)),
+  λ clean. absurd (clean Kind.MarkOff (λ e. cc) (c.is_mark_off.ensures.0 c.if-is_mark_off.true)),
 )
 
 pub returns-then-is_mark_above_size : goal.returns-then-is_mark_above_size
 returns-then-is_mark_above_size c = (
   λ no. absurd (false≢true no),
-  λ clean. absurd (clean Kind.MarkAboveSize (c.is_mark_above_size.ensures.0 c.if-is_mark_above_size.true)),
+  λ clean. absurd (clean Kind.MarkAboveSize (λ e. cc) (c.is_mark_above_size.ensures.0 c.if-is_mark_above_size.true)),
 )
 
 pub returns-then-may_discard : goal.returns-then-may_discard
 returns-then-may_discard c = (
   λ no. absurd (false≢true no),
-  λ clean. absurd (clean Kind.Discards (c.may_discard.ensures.0 c.if-may_discard.true)),
+  λ clean. absurd (clean Kind.Discards (λ e. cc) (c.may_discard.ensures.0 c.if-may_discard.true)),
 )
 
 pub returns : goal.returns

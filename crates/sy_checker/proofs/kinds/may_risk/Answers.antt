@@ -1,26 +1,30 @@
-use Rattle.std.proofs.Common.{◌∙◌, refl, sym}
+use Rattle.std.proofs.Common.{◌≡◌, true, refl, subst, sym, ◌∙◌}
 use Rattle.std.proofs.lemmas.Bool.{false≢true}
-use Rattle.sy_checker.proofs.Risky.{safe_all, safe_first, safe_more, shown}
+use Rattle.sy_site.specs.Sites.{plan_at}
+use Rattle.sy_site.specs.machine.Reach.{list_of}
+use Rattle.sy_checker.specs.Flows.{is_used}
+use Rattle.sy_checker.specs.Risks.{ListRisks}
+use Rattle.sy_checker.proofs.Risky.{own_shown, posted_shown}
+use Rattle.sy_checker.proofs.Used.{input_list, input_used}
 use Rattle.sy_checker.proofs.kinds.may_risk.Goals as goal
 
-pub loop-number-init : goal.loop-number-init
-loop-number-init c = safe_first c.args.site.now c.args.input c.executed_at-may.result c.args.risk
+pub list_risks-requires-clause-used : goal.list_risks-requires-clause-used
+list_risks-requires-clause-used c =
+    subst (λ l. is_used (plan_at c.args.site.now c.args.input.relay) l ≡ true) (sym c.list_at-own.ensures.list)
+    (input_used (plan_at c.args.site.now c.args.input.relay) (list_of c.args.site.now c.args.input)
+    (input_list c.args.site.now c.args.input c.requires.there))
 
-pub loop-number-preserved : goal.loop-number-preserved
-loop-number-preserved c =
-    safe_more c.args.site.now c.args.input c.executed_at-may.result c.args.risk c.loop-number.from c.in-Some.number c.in-Some.ensures.some
-    (λ r. false≢true (sym c.if-has_risk.false ∙ c.has_risk.ensures.1 r)) c.loop-number.invariant
-
-pub returns-then-has_risk : goal.returns-then-has_risk
-returns-then-has_risk c = (
-  λ yes. shown c.args.site.now c.args.class c.args.input c.executed_at-may.result c.in-Some.number c.args.risk c.executed_at-may.ensures
-      (c.has_risk.ensures.0 c.if-has_risk.true),
+pub returns-then-list_risks : goal.returns-then-list_risks
+returns-then-list_risks c = (
+  λ yes. own_shown c.args.site.now c.args.class c.args.input c.args.risk
+      (subst (λ l. ListRisks c.args.site.now c.args.class c.args.input.relay l c.args.risk) c.list_at-own.ensures.list
+      (c.list_risks.ensures.0 c.if-list_risks.true)),
   λ h. refl,
 )
 
 pub returns : goal.returns
-returns c = (
-  λ no. absurd (false≢true no),
-  λ h. absurd (safe_all c.args.site.now c.args.class c.args.input c.executed_at-may.result c.args.risk c.loop-number.from c.executed_at-may.ensures
-      c.in_default.ensures.none c.loop-number.invariant h),
-)
+returns c =
+    posted_shown c.args.site.now c.args.class c.args.input c.args.risk c.posted_risks.result
+    (λ r. false≢true (sym c.if-list_risks.false ∙ c.list_risks.ensures.1
+    (subst (λ l. ListRisks c.args.site.now c.args.class c.args.input.relay l c.args.risk) (sym c.list_at-own.ensures.list) r)))
+    c.posted_risks.ensures

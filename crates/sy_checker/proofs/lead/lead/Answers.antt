@@ -5,10 +5,14 @@ use Rattle.std.proofs.lemmas.Option.{slice_get_read}
 use Rattle.sy_site.proofs.lemmas.sites.Places.{place_none}
 use Rattle.sy_checker.specs.Internal.{same_input}
 use Rattle.sy_checker.proofs.Found.{same_is, same_laws}
+use Rattle.sy_checker.proofs.There.{entry_there}
 use Rattle.sy_checker.proofs.lead.lead.Goals as goal
 
-pub lead_among-requires-clause-spread : goal.lead_among-requires-clause-spread
-lead_among-requires-clause-spread c =
+pub lead_among-requires-clause-there : goal.lead_among-requires-clause-there
+lead_among-requires-clause-there c = entry_there c.args.site.now c.is_lawful.ensures c.args.entry c.requires.entry
+
+pub lead_among-requires-clause-found : goal.lead_among-requires-clause-found
+lead_among-requires-clause-found c =
     let entries = c.entries.result.now in
     let entry = c.args.entry in
     let place = c.in-Some.place in

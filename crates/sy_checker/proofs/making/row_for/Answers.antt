@@ -3,7 +3,7 @@ use Rattle.std.specs.Prelude.{Contains}
 use Rattle.sy_checker.specs.declared.wanted.Wanted.TheVariants as wanted
 use Rattle.sy_checker.specs.Ranked.{input_in}
 use Rattle.sy_checker.proofs.Comparing.{input_there, meant}
-use Rattle.sy_checker.proofs.Meant.{end_there, entry_there, rank_there}
+use Rattle.sy_checker.proofs.Meant.{end_there, entry_there, inner_there, rank_there}
 use Rattle.sy_checker.proofs.There.{relay_there}
 use Rattle.sy_checker.proofs.making.row_for.Goals as goal
 
@@ -30,6 +30,12 @@ rank_row-requires c = record {
   relay = rank_there c.args.site.now c.is_lawful.ensures c.args.class c.args.part.now c.requires.wanted c.in-Rank.of
       (subst (Contains c.args.part.now) c.in-Rank.is c.requires.member);
   many = c.requires.many;
+}
+
+pub inner_row-requires : goal.inner_row-requires
+inner_row-requires c = record {
+  relay = (inner_there c.args.site.now c.is_lawful.ensures c.args.class c.args.part.now c.requires.wanted c.in-Inner.inner
+      (subst (Contains c.args.part.now) c.in-Inner.is c.requires.member)).relay;
 }
 
 pub path_row-requires : goal.path_row-requires

@@ -1,6 +1,7 @@
 use Rattle.std.proofs.Common.{◌∙◌, subst, sym, false}
 use Rattle.std.specs.Prelude.{Decides}
 use Rattle.std.proofs.lemmas.Bool.{false≢true}
+use Rattle.sy_site.specs.machine.Reach.{list_of}
 use Rattle.sy_checker.specs.Fit.{IsPath, IsPathRow}
 use Rattle.sy_checker.specs.Judging.{NamesPath}
 use Rattle.sy_checker.proofs.rows.is_path_row.Goals as goal
@@ -24,7 +25,7 @@ returns-else-not-names_path c =
     c.as_slice-archive_relay.ensures first in
     let named = subst (λ l. Decides c.names_path.result (NamesPath c.args.site.now c.args.entry c.args.archive c.in-Path.relay c.in-Path.port c.in-Path.archive_relay l))
     c.as_slice-action.ensures second in
-    let path = subst (λ l. Decides c.is_path.result (IsPath c.args.site.now c.args.class c.args.archive c.args.entry l)) c.as_slice-occurrences.ensures
+    let path = subst (λ l. Decides c.is_path.result (IsPath c.args.site.now c.args.class c.args.archive c.args.entry.relay (list_of c.args.site.now c.args.entry) l)) c.as_slice-occurrences.ensures
     c.is_path.ensures in
     let names = named.0 c.if-not-names_path.false in
     subst (λ r. Decides c.is_path.result (IsPathRow c.args.site.now c.args.class c.args.entry c.args.archive r)) (sym c.in-Path.is)

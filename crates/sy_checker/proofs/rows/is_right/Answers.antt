@@ -2,7 +2,7 @@ use Rattle.std.proofs.Common.{ap, subst}
 use Rattle.std.specs.Prelude.{Contains}
 use Rattle.sy_checker.specs.Ranked.{input_in}
 use Rattle.sy_checker.proofs.Comparing.{input_there}
-use Rattle.sy_checker.proofs.Meant.{end_there, entry_there, rank_there}
+use Rattle.sy_checker.proofs.Meant.{end_there, entry_there, inner_there, rank_there}
 use Rattle.sy_checker.proofs.There.{relay_there}
 use Rattle.sy_checker.proofs.rows.is_right.Goals as goal
 
@@ -24,6 +24,13 @@ is_rank_row-requires c = record {
   wanted = c.requires.wanted;
   relay = rank_there c.args.site.now c.is_lawful.ensures c.args.class c.args.part.now c.requires.wanted c.in-Rank.of
       (subst (Contains c.args.part.now) c.in-Rank.is c.requires.member);
+}
+
+pub is_inner_row-requires : goal.is_inner_row-requires
+is_inner_row-requires c = record {
+  there = inner_there c.args.site.now c.is_lawful.ensures c.args.class c.args.part.now c.requires.wanted c.in-Inner.inner
+      (subst (Contains c.args.part.now) c.in-Inner.is c.requires.member);
+  flows = c.requires.flows;
 }
 
 pub is_path_row-requires : goal.is_path_row-requires

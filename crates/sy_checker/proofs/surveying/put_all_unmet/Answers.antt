@@ -1,6 +1,6 @@
 use Rattle.std.proofs.Common.{subst, sym, ◌∙◌}
 use Rattle.std.specs.Prelude.{Contains}
-use Rattle.sy_checker.specs.Answer.{AreLeads}
+use Rattle.sy_checker.specs.Leads.{AreLeads}
 use Rattle.sy_checker.specs.Survey.{Among, IsUnmetBy, Tells}
 use Rattle.sy_checker.proofs.surveying.put_all_unmet.Goals as goal
 

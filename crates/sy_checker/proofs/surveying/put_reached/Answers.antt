@@ -1,13 +1,15 @@
-use Rattle.std.proofs.Common.{inl, refl, subst, sym}
+use Rattle.std.proofs.Common.{inl, inr, subst, sym}
 use Rattle.std.specs.Prelude.{◌↔◌, Contains}
 use Rattle.sy_board.specs.relay.Spares.{Scope}
 use Rattle.sy_site.specs.declared.site.SiteInput.{SiteInput}
 use Rattle.sy_site.specs.machine.Findings.{HoldsAt}
 use Rattle.sy_site.specs.machine.Reach.{Reach}
 use Rattle.sy_checker.specs.Finding.{kind_of}
-use Rattle.sy_checker.specs.Survey.{Among, AreHeld, IsNothing}
+use Rattle.sy_checker.specs.declared.finding.Kind.{Kind}
+use Rattle.sy_checker.specs.declared.finding.Kind.TheVariants as kind
+use Rattle.sy_checker.specs.Survey.{Among, AreHeld, IsHeld, IsNothing, Tells}
 use Rattle.sy_checker.proofs.There.{reach_there}
-use Rattle.sy_checker.proofs.Telling.{both_told}
+use Rattle.sy_checker.proofs.Telling.{both_told, held_or_looped}
 use Rattle.sy_checker.proofs.surveying.put_reached.Goals as goal
 
 pub sorted-requires : goal.sorted-requires
@@ -42,16 +44,42 @@ put_loop-requires c = record {
       c.in_ok-every.ensures;
 }
 
+pub put_inner_loops-requires : goal.put_inner_loops-requires
+put_inner_loops-requires c =
+    let reach : (x : SiteInput) → Contains c.as_slice-5.result.now x → Reach c.args.site.now c.args.class Scope.Firm x = λ x there. (c.in_ok-reached.ensures.reached x).0 (subst (λ l. Contains l x) c.as_slice.ensures.value
+    ((c.in_ok-inputs.ensures.member x).0 (subst (λ l. Contains l x) c.as_slice-5.ensures.value there))) in
+    record {
+      protected = c.requires.protected;
+      flows = c.requires.flows;
+      there = λ x there. reach_there c.args.site.now c.is_lawful.ensures c.args.class Scope.Firm x (reach x there);
+      reached = reach;
+    }
+
 pub returns-clause-tells : goal.returns-clause-tells
 returns-clause-tells c =
     let site = c.args.site.now in
+    let class = c.args.class in
     let inputs = c.as_slice-2.result.now in
-    both_told site c.args.class (λ i j. Among inputs (λ input. AreHeld site c.args.class input i j)) IsNothing
-    (λ i j. Reach site c.args.class Scope.Firm i × HoldsAt site c.args.class i (kind_of j)) c.args.found.now.groups.items c.put_inputs.new.found.groups.items
-    c.put_loop.new.found.groups.items c.in_ok-put_inputs.ensures c.in_ok-put_loop.ensures.tells
-    (λ i j p. inl (
-      i,
-      subst (λ l. Contains l i) (sym c.as_slice-2.ensures.value) ((c.in_ok-inputs.ensures.member i).1
-          (subst (λ l. Contains l i) (sym c.as_slice.ensures.value) ((c.in_ok-reached.ensures.reached i).1 p.0))),
-      (refl, p.1),
-    ))
+    let again = c.as_slice-5.result.now in
+    let old = c.args.found.now.groups.items in
+    let mid = c.put_inputs.new.found.groups.items in
+    let next = c.put_loop.new.found.groups.items in
+    let new = c.put_inner_loops.new.found.groups.items in
+    let Held = λ (i : SiteInput) (j : Kind). Among inputs (λ input. AreHeld site class input i j) in
+    let Looped = λ (i : SiteInput) (j : Kind). Among again (λ input. IsHeld site class input kind.InnerLoop i j) in
+    let first : Tells site class Held old next =
+    both_told site class Held IsNothing Held old mid next c.in_ok-put_inputs.ensures c.in_ok-put_loop.ensures.tells (λ i j p. inl p) in
+    both_told site class Held Looped (λ i j. Reach site class Scope.Firm i × HoldsAt site class i (kind_of j)) old next new first
+    c.in_ok-put_inner_loops.ensures
+    (λ i j p.
+    let found = (c.in_ok-inputs.ensures.member i).1 (subst (λ l. Contains l i) (sym c.as_slice.ensures.value) ((c.in_ok-reached.ensures.reached i).1 p.0)) in
+    elim (held_or_looped site class i j p.1) [
+      | inl held ↦ inl (i, subst (λ l. Contains l i) (sym c.as_slice-2.ensures.value) found, held)
+      | inr looped ↦ inr (i, subst (λ l. Contains l i) (sym c.as_slice-5.ensures.value) found, looped)
+    ])
+
+pub returns-clause-ranked : goal.returns-clause-ranked
+returns-clause-ranked c = elim c.in_ok-put_loop.ensures.ranked [
+  | inl ranks ↦ inl ranks
+  | inr loop ↦ inr (loop.0, c.in_ok-put_inner_loops.ensures.kept c.args.class loop.0 kind.Loop loop.1)
+]

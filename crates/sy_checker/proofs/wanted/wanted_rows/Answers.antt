@@ -32,11 +32,13 @@ returns c =
     ∙ ap (λ l. l ++ map wanted.Branch c.in_ok-branches.branches.items) second in
     let third = c.in_ok-put_relays.ensures ∙ ap (λ l. c.put_branches.new.part.items ++ map wanted.Rank l) c.as_slice-3.ensures.value
     ∙ ap (λ l. l ++ map wanted.Rank c.in_ok-relays.relays.items) branched in
+    let fourth = c.in_ok-put_inners.ensures ∙ ap (λ l. c.put_relays.new.part.items ++ map wanted.Inner l) c.as_slice-4.ensures.value
+    ∙ ap (λ l. l ++ map wanted.Inner c.in_ok-inners.inners.items) third in
     let last = c.in_ok-put_all_paths.ensures
-    ∙ ap (λ l. c.put_relays.new.part.items ++ flat_map (λ e. map (λ a. wanted.Path e a) l) c.entries.result.now)
-    (c.as_slice-4.ensures.value ∙ c.in_ok-archives.ensures)
-    ∙ ap (λ l. c.put_relays.new.part.items ++ flat_map (λ e. map (λ a. wanted.Path e a) (archives c.args.site.now c.args.class)) l) c.entries.ensures
-    ∙ ap (λ l. l ++ paths c.args.site.now c.args.class) third in
+    ∙ ap (λ l. c.put_inners.new.part.items ++ flat_map (λ e. map (λ a. wanted.Path e a) l) c.entries.result.now)
+    (c.as_slice-5.ensures.value ∙ c.in_ok-archives.ensures)
+    ∙ ap (λ l. c.put_inners.new.part.items ++ flat_map (λ e. map (λ a. wanted.Path e a) (archives c.args.site.now c.args.class)) l) c.entries.ensures
+    ∙ ap (λ l. l ++ paths c.args.site.now c.args.class) fourth in
     are_wanted c.args.site.now c.args.class c.args.firm.now c.args.every.now c.in_ok-inputs.inputs.items c.in_ok-branches.branches.items
-    c.in_ok-relays.relays.items c.put_all_paths.new.part.items c.requires.firm c.requires.every c.in_ok-inputs.ensures c.in_ok-branches.ensures
-    c.in_ok-relays.ensures last
+    c.in_ok-relays.relays.items c.in_ok-inners.inners.items c.put_all_paths.new.part.items c.requires.firm c.requires.every c.in_ok-inputs.ensures c.in_ok-branches.ensures
+    c.in_ok-relays.ensures c.in_ok-inners.ensures last

@@ -1,0 +1,13 @@
+use Rattle.std.proofs.Common.{◌-◌}
+use Rattle.sy_checker.specs.Leads.{AreFound}
+use Rattle.sy_checker.proofs.Led.{AreLed}
+use Rattle.sy_checker.proofs.lists.lists_from.Given as goal
+
+abbrev pub invariant-loop-done : goal.invariant-loop-done
+invariant-loop-done l = record {
+  found : AreFound l.site l.class l.start l.found.lists.items l.found.origins.items;
+  led : AreLed l.site l.class l.found.lists.items l.done;
+}
+
+abbrev pub decreases-loop-done : goal.decreases-loop-done
+decreases-loop-done l = 32832 - l.done
