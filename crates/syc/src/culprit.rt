@@ -1,5 +1,6 @@
 //! What of a relay a finding is about: its input, the input's queue and what feeds it, an occurrence, an action.
 
+use crate::followed::followed;
 use crate::places::Thing;
 use std::alloc::{AllocError, Global};
 use sy_checker::finding::{Finding, Kind, WayRow};
@@ -29,9 +30,9 @@ pub fn spot_at(site: &Site, at: SiteInput) -> Option<Spot<'_>> {
     }
 }
 
-/// The queue that its messages are put into.
-pub fn queue_at(spot: Spot<'_>) -> Option<QueueParameters> {
-    match spot.plan.queues().get(spot.input.queue as usize) {
+/// A queue of a plan.
+pub fn queue_at(plan: &Plan, queue: u32) -> Option<QueueParameters> {
+    match plan.queues().get(queue as usize) {
         Some(queue) => Some(*queue),
         None => None,
     }
@@ -53,8 +54,8 @@ pub fn name_of_list(plan: &Plan, list: u32) -> &[u8] {
     b""
 }
 
-// The queue of a list, 0 where it has none of its own.
-fn queue_for(plan: &Plan, list: u32) -> u32 {
+/// The queue of a list, 0 where it has none of its own.
+pub fn queue_for(plan: &Plan, list: u32) -> u32 {
     if (list as usize) >= plan.list_names().len() {
         return 0;
     }
@@ -80,14 +81,15 @@ pub fn owner_of(plan: &Plan, list: u32) -> Thing {
 
 // ---- what feeds a queue without waiting at its full-delay mark
 
-/// An input that isn't a full-delay one, or posts to a list.
+/// An input that isn't a full-delay one, or posts to a list, where they don't wait.
 #[derive(Clone, Copy)]
 pub enum Feeder {
     Input(u32),
     Post(u32),
 }
 
-fn free_input(plan: &Plan, queue: u32) -> Option<Feeder> {
+/// The first input that feeds a queue and doesn't wait at its full-delay mark.
+pub fn free_input(plan: &Plan, queue: u32) -> Option<Feeder> {
     let mut number: u32 = 0;
     for input in plan.inputs() {
         if input.queue == queue && !matches!(input.flow, FlowControl::Full) {
@@ -120,11 +122,43 @@ fn free_post(plan: &Plan, queue: u32) -> Option<Feeder> {
     None
 }
 
-/// What feeds an input's queue and doesn't wait at its full-delay mark.
-pub fn free_feeder(spot: Spot<'_>) -> Option<Feeder> {
-    match free_input(spot.plan, spot.input.queue) {
+// Whether posts into a queue wait at its full-delay mark.
+fn posts_wait(plan: &Plan, queue: u32) -> bool {
+    match queue_at(plan, queue) {
+        Some(queue) => queue.waits,
+        None => false,
+    }
+}
+
+/// What feeds a queue and doesn't wait at its full-delay mark.
+pub fn free_feeder(plan: &Plan, queue: u32) -> Option<Feeder> {
+    match free_input(plan, queue) {
         Some(feeder) => Some(feeder),
-        None => free_post(spot.plan, spot.input.queue),
+        None if posts_wait(plan, queue) => None,
+        None => free_post(plan, queue),
+    }
+}
+
+// ---- what a post may lose
+
+// Whether a queue may discard a message of the class.
+fn may_discard(plan: &Plan, number: u32, queue: QueueParameters, class: Class) -> bool {
+    class.severity >= queue.discard_severity
+        && queue.discard_mark > 0
+        && (queue.discard_mark <= queue.full_delay_mark || free_feeder(plan, number).is_some())
+}
+
+// Whether a post of a message of the class to a list may be lost on the way.
+fn may_lose(plan: &Plan, list: u32, class: Class) -> bool {
+    let number = queue_for(plan, list);
+    match queue_at(plan, number) {
+        Some(queue) => {
+            !queue.waits
+                || queue.full_delay_mark == 0
+                || queue.size < queue.full_delay_mark
+                || may_discard(plan, number, queue, class)
+        }
+        None => false,
     }
 }
 
@@ -147,8 +181,8 @@ fn leads_nowhere(site: &Site, relay: u32, plan: &Plan, action: u32) -> bool {
     }
 }
 
-// Whether an occurrence is spare: it runs a spare action, or posts to that action's own list.
-fn is_spare(site: &Site, relay: u32, plan: &Plan, occurrence: Occurrence) -> bool {
+/// Whether an occurrence is spare: it runs a spare action, or posts to that action's own list.
+pub fn is_spare(site: &Site, relay: u32, plan: &Plan, occurrence: Occurrence) -> bool {
     match occurrence {
         Occurrence::Run(action) => site.is_spare(relay, action),
         Occurrence::Post(list) => match plan.own_action(list) {
@@ -158,14 +192,17 @@ fn is_spare(site: &Site, relay: u32, plan: &Plan, occurrence: Occurrence) -> boo
     }
 }
 
-// Whether a finding of this kind is about an occurrence. None is about a spare one.
-fn is_about(site: &Site, relay: u32, plan: &Plan, kind: Kind, occurrence: Occurrence) -> bool {
+// Whether a finding is about an occurrence. None is about a spare one.
+fn is_about(site: &Site, plan: &Plan, finding: &Finding, occurrence: Occurrence) -> bool {
+    let relay = finding.input.relay;
     if is_spare(site, relay, plan, occurrence) {
         return false;
     }
     match occurrence {
-        Occurrence::Post(_) => matches!(kind, Kind::InnerQueue),
-        Occurrence::Run(action) => match kind {
+        Occurrence::Post(list) => {
+            matches!(finding.kind, Kind::InnerQueue) && may_lose(plan, list, finding.class)
+        }
+        Occurrence::Run(action) => match finding.kind {
             Kind::GivesUp => gives_up(plan, action),
             Kind::NoTarget => leads_nowhere(site, relay, plan, action),
             _ => false,
@@ -173,8 +210,8 @@ fn is_about(site: &Site, relay: u32, plan: &Plan, kind: Kind, occurrence: Occurr
     }
 }
 
-// What messages of the class may execute of a list, as bits.
-fn may_of(plan: &Plan, list: u32, class: Class) -> u64 {
+/// What messages of the class may execute of a list, as bits.
+pub fn may_of(plan: &Plan, list: u32, class: Class) -> u64 {
     if (list as usize) >= plan.list_names().len() {
         return 0;
     }
@@ -182,24 +219,39 @@ fn may_of(plan: &Plan, list: u32, class: Class) -> u64 {
     may
 }
 
-/// The first occurrence that a finding is about, of those that messages of its class may execute at its input.
-pub fn occurrence_meant(site: &Site, spot: Spot<'_>, finding: &Finding) -> Option<Occurrence> {
-    let mut left = may_of(spot.plan, spot.input.list, finding.class);
-    for occurrence in occurrences_of(spot.plan, spot.input.list) {
-        if left % 2 == 1
-            && is_about(
-                site,
-                finding.input.relay,
-                spot.plan,
-                finding.kind,
-                *occurrence,
-            )
-        {
+// The first occurrence of a list that a finding is about, of those that messages of its class may execute.
+fn meant_in(site: &Site, plan: &Plan, finding: &Finding, list: u32) -> Option<Occurrence> {
+    let mut left = may_of(plan, list, finding.class);
+    for occurrence in occurrences_of(plan, list) {
+        if left % 2 == 1 && is_about(site, plan, finding, *occurrence) {
             return Some(*occurrence);
         }
         left /= 2;
     }
     None
+}
+
+/// The first occurrence that a finding is about, of the lists that messages of its class follow from its input on.
+pub fn occurrence_meant(
+    alloc: Global,
+    site: &Site,
+    spot: Spot<'_>,
+    finding: &Finding,
+) -> Result<Option<Occurrence>, AllocError> {
+    let relay = finding.input.relay;
+    for here in &followed(
+        alloc,
+        site,
+        relay,
+        spot.plan,
+        spot.input.list,
+        finding.class,
+    )? {
+        if let Some(occurrence) = meant_in(site, spot.plan, finding, here.list) {
+            return Ok(Some(occurrence));
+        }
+    }
+    Ok(None)
 }
 
 // ---- behind posts

@@ -26,6 +26,7 @@ mod explanation;
 mod file_writer;
 mod files;
 mod findings;
+mod followed;
 mod halt;
 mod host_device;
 mod left;

@@ -1,6 +1,7 @@
 //! Which object of which relay a finding is about.
 
-use crate::culprit::{Spot, action_by, occurrence_meant, owner_of};
+use crate::culprit::{Spot, action_by, occurrence_meant, owner_of, queue_for};
+use crate::followed::circle;
 use crate::places::Thing;
 use std::alloc::{AllocError, Global};
 use sy_checker::finding::{Finding, Kind, WayRow};
@@ -25,46 +26,95 @@ pub fn relay_meant(finding: &Finding) -> u32 {
     }
 }
 
-// What is executed: an action, or what a message is posted to.
-fn thing_executed(plan: &Plan, occurrence: Option<Occurrence>) -> Option<Thing> {
+/// The object that a finding is about, and the queue that it speaks of.
+#[derive(Clone, Copy)]
+pub struct Meant {
+    pub thing: Thing,
+    pub queue: u32,
+}
+
+// What is executed: an action, or what a message is posted to, with its queue.
+fn executed(spot: Spot<'_>, occurrence: Option<Occurrence>) -> Option<Meant> {
     match occurrence {
-        Some(Occurrence::Run(action)) => Some(Thing::Action(action)),
-        Some(Occurrence::Post(list)) => Some(owner_of(plan, list)),
+        Some(Occurrence::Run(action)) => of_input(spot, Thing::Action(action)),
+        Some(Occurrence::Post(list)) => Some(of_list(spot.plan, list)),
         None => None,
     }
 }
 
-// The last forward of a way.
-fn thing_forwarding(
-    alloc: Global,
-    site: &Site,
-    finding: &Finding,
-) -> Result<Option<Thing>, AllocError> {
-    let Some(row) = last_of(finding.way.as_slice()) else {
-        return Ok(None);
-    };
-    match action_by(alloc, site, finding.class, row, finding.input)? {
-        Some(action) => Ok(Some(Thing::Action(action))),
-        None => Ok(None),
+// What has the queue of a list.
+fn of_list(plan: &Plan, list: u32) -> Meant {
+    Meant {
+        thing: owner_of(plan, list),
+        queue: queue_for(plan, list),
     }
 }
 
-/// The object.
-pub fn thing_meant(
+// An object, with the queue of the finding's input.
+fn of_input(spot: Spot<'_>, thing: Thing) -> Option<Meant> {
+    Some(Meant {
+        thing,
+        queue: spot.input.queue,
+    })
+}
+
+// What has the list where a circle of posts begins and ends.
+fn circling(
     alloc: Global,
     site: &Site,
     spot: Spot<'_>,
     finding: &Finding,
-) -> Result<Option<Thing>, AllocError> {
+) -> Result<Option<Meant>, AllocError> {
+    let relay = finding.input.relay;
+    match circle(
+        alloc,
+        site,
+        relay,
+        spot.plan,
+        spot.input.list,
+        finding.class,
+    )? {
+        Some(lists) => match lists.last() {
+            Some(list) => Ok(Some(of_list(spot.plan, *list))),
+            None => Ok(None),
+        },
+        None => Ok(None),
+    }
+}
+
+// The last forward of a way.
+fn forwarding(
+    alloc: Global,
+    site: &Site,
+    spot: Spot<'_>,
+    finding: &Finding,
+) -> Result<Option<Meant>, AllocError> {
+    let Some(row) = last_of(finding.way.as_slice()) else {
+        return Ok(None);
+    };
+    match action_by(alloc, site, finding.class, row, finding.input)? {
+        Some(action) => Ok(of_input(spot, Thing::Action(action))),
+        None => Ok(None),
+    }
+}
+
+/// The object, and the queue.
+pub fn meant(
+    alloc: Global,
+    site: &Site,
+    spot: Spot<'_>,
+    finding: &Finding,
+) -> Result<Option<Meant>, AllocError> {
     match finding.kind {
-        Kind::NotFull | Kind::Unmet(_) => Ok(Some(Thing::Input(finding.input.input))),
+        Kind::NotFull | Kind::Unmet(_) => Ok(of_input(spot, Thing::Input(finding.input.input))),
         Kind::MarkOff | Kind::MarkAboveSize | Kind::Discards => {
-            Ok(Some(owner_of(spot.plan, spot.input.list)))
+            Ok(of_input(spot, owner_of(spot.plan, spot.input.list)))
         }
         Kind::InnerQueue | Kind::GivesUp | Kind::NoTarget => {
-            let occurrence = occurrence_meant(site, spot, finding);
-            Ok(thing_executed(spot.plan, occurrence))
+            let occurrence = occurrence_meant(alloc, site, spot, finding)?;
+            Ok(executed(spot, occurrence))
         }
-        Kind::Loop => thing_forwarding(alloc, site, finding),
+        Kind::Loop => forwarding(alloc, site, spot, finding),
+        Kind::InnerLoop => circling(alloc, site, spot, finding),
     }
 }

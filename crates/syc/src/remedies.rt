@@ -1,6 +1,6 @@
 //! The lines of an explanation that say why messages are lost, and what would change that.
 
-use crate::culprit::{Spot, free_feeder};
+use crate::culprit::{Spot, free_feeder, name_of_list};
 use crate::places::Thing;
 use crate::spares::may_be_spare;
 use crate::texts::{Part, action_name, relay_name};
@@ -62,17 +62,20 @@ pub fn put_not_full(words: &mut Words, spot: Spot<'_>, queue: QueueParameters) {
     words.say("change: flowControl=\"full\" there\n");
 }
 
-/// Why a queue without a full-delay mark does.
-pub fn put_mark_off(words: &mut Words, queue: QueueParameters) {
+fn put_why_mark_off(words: &mut Words, queue: QueueParameters) {
     words.say("why: its queue.fullDelayMark is 0, which is off");
     put_wait(words, queue);
+}
+
+/// Why a queue without a full-delay mark does.
+pub fn put_mark_off(words: &mut Words, queue: QueueParameters) {
+    put_why_mark_off(words, queue);
     words.say("change: ");
     put_right_mark(words, queue);
     words.say("\n");
 }
 
-/// Why a queue does that is smaller than its full-delay mark.
-pub fn put_mark_above_size(words: &mut Words, queue: QueueParameters) {
+fn put_why_mark_above_size(words: &mut Words, queue: QueueParameters) {
     words.put(&[
         Part::Text(b"why: its queue.fullDelayMark is "),
         Part::Number(u64::from(queue.full_delay_mark)),
@@ -80,6 +83,11 @@ pub fn put_mark_above_size(words: &mut Words, queue: QueueParameters) {
         Part::Number(u64::from(queue.size)),
     ]);
     put_wait(words, queue);
+}
+
+/// Why a queue does that is smaller than its full-delay mark.
+pub fn put_mark_above_size(words: &mut Words, queue: QueueParameters) {
+    put_why_mark_above_size(words, queue);
     words.say("change: ");
     put_right_mark(words, queue);
     words.say("\n");
@@ -119,11 +127,11 @@ fn put_growth(words: &mut Words, queue: QueueParameters) {
 }
 
 /// Why a queue that discards does.
-pub fn put_discarding(words: &mut Words, spot: Spot<'_>, queue: QueueParameters) {
+pub fn put_discarding(words: &mut Words, plan: &Plan, number: u32, queue: QueueParameters) {
     put_discards(words, queue);
     put_growth(words, queue);
     words.say("change: ");
-    if free_feeder(spot).is_none() && queue.discard_mark > 1 {
+    if free_feeder(plan, number).is_none() && queue.discard_mark > 1 {
         put_right_mark(words, queue);
         words.say(", or ");
     }
@@ -132,8 +140,8 @@ pub fn put_discarding(words: &mut Words, spot: Spot<'_>, queue: QueueParameters)
 
 // ---- actions
 
-// What else takes the finding away: that the action is spare, where nothing that is asked for hangs on it.
-fn put_spare(words: &mut Words, site: &Site, relay: u32, thing: Thing) {
+/// What else takes the finding away: that the action is spare, where nothing that is asked for hangs on it.
+pub fn put_spare(words: &mut Words, site: &Site, relay: u32, thing: Thing) {
     let Thing::Action(action) = thing else {
         return;
     };
@@ -154,15 +162,48 @@ fn put_spare(words: &mut Words, site: &Site, relay: u32, thing: Thing) {
     words.say("\n");
 }
 
-/// Why posts do.
-pub fn put_post(words: &mut Words, site: &Site, relay: u32, thing: Thing) {
-    words.put(&[
-        Part::Text(
-            b"why: messages are posted to its queue, and one that is posted while that is full is lost\n",
-        ),
-        Part::Text(b"change: without queue.type there, so that it has no queue of its own\n"),
-    ]);
-    put_spare(words, site, relay, thing);
+/// Whether a queue has a full-delay mark that is no more than its size.
+pub fn is_marked(queue: QueueParameters) -> bool {
+    queue.full_delay_mark > 0 && queue.full_delay_mark <= queue.size
+}
+
+// What else a queue needs in which posts wait: a mark, and that it discards nothing below that. Where an input that doesn't
+// wait feeds it, nothing but the severity keeps it from discarding.
+fn put_marks_needed(words: &mut Words, queue: QueueParameters, fed_freely: bool) {
+    let discards = has_discards(queue);
+    if !is_marked(queue) || discards && queue.discard_mark <= queue.full_delay_mark {
+        words.put(&[
+            Part::Text(b" queue.fullDelayMark=\""),
+            Part::Number(right_mark(queue)),
+            Part::Text(b"\""),
+        ]);
+    }
+    if discards && (fed_freely || queue.discard_mark == 1) {
+        words.say(" queue.discardSeverity=\"8\"");
+    }
+}
+
+/// Why posts do that wait, but for a full-delay mark that isn't above the queue's size.
+pub fn put_unmarked(words: &mut Words, queue: QueueParameters, fed_freely: bool) {
+    if queue.full_delay_mark == 0 {
+        put_why_mark_off(words, queue);
+    } else {
+        put_why_mark_above_size(words, queue);
+    }
+    words.say("change:");
+    put_marks_needed(words, queue, fed_freely);
+    words.say(" there\n");
+}
+
+/// Why posts do that don't wait.
+pub fn put_post(words: &mut Words, queue: QueueParameters, fed_freely: bool) {
+    words.say(
+        "why: messages are posted to its queue, and one that is posted while that is full is lost\n",
+    );
+    words.say("change: queue.workerFlow=\"full\"");
+    put_marks_needed(words, queue, fed_freely);
+    words.say(" there, by which a post waits for room,\n");
+    words.say("  or without queue.type there, so that it has no queue of its own\n");
 }
 
 fn retries(action: &Action) -> u64 {
@@ -266,6 +307,23 @@ pub fn put_loop(words: &mut Words, site: &Site, finding: &Finding) {
         Part::Text(b"; what goes round fills the queues there\n"),
         Part::Text(
             b"change: that forward, or another one of the loop, left out, or put behind a test that the class doesn't pass\n",
+        ),
+    ]);
+}
+
+/// Why a circle of posts does, given by its lists: the last one first, the one where it begins at the end.
+pub fn put_inner_loop(words: &mut Words, plan: &Plan, circle: &[u32]) {
+    words.say("why: by posts from queue to queue a message may come there once more: ");
+    for list in circle.iter().rev() {
+        words.put(&[Part::Text(name_of_list(plan, *list)), Part::Text(b", ")]);
+    }
+    if let Some(list) = circle.last() {
+        words.put(&[Part::Text(name_of_list(plan, *list))]);
+    }
+    words.put(&[
+        Part::Text(b"; once these queues are full, each waits for the next\n"),
+        Part::Text(
+            b"change: one of these posts left out, or put behind a test that the class doesn't pass\n",
         ),
     ]);
 }
