@@ -200,13 +200,18 @@ class Machine:
         self.end_first(worker)
         return True
 
+    def is_post_held(self, queue):
+        """Whether posts wait there, and its full-delay mark is reached."""
+        return queue.waits and 0 < queue.full <= len(self.queues[queue])
+
     def post(self, worker):
+        """What is discarded at the present length is lost; else the full-delay mark must not hold it, and there must be room."""
         target = self.first(worker, "post")
         if not target:
             return False
         message, waiting = worker.entries[0].message, self.queues[target.queue]
         is_lost = is_discarded(target.queue, len(waiting), message)
-        if not is_lost and len(waiting) >= target.queue.size:
+        if not is_lost and (self.is_post_held(target.queue) or len(waiting) >= target.queue.size):
             return False
         self.lines.append(f"post {worker.relay.name} {worker.number}\n")
         if is_lost:
@@ -218,9 +223,13 @@ class Machine:
         return True
 
     def post_lost(self, worker, cause):
-        """The target's queue is full, or there is no memory for the entry, which may be at any time."""
+        """The target's queue is full, and its full-delay mark doesn't hold the post; or there is no memory for the entry, which
+        may be at any time, but where posts wait."""
         target = self.first(worker, "post")
-        if not target or cause == "full" and len(self.queues[target.queue]) < target.queue.size:
+        if not target:
+            return False
+        is_full = len(self.queues[target.queue]) >= target.queue.size and not self.is_post_held(target.queue)
+        if target.queue.waits if cause == "memory" else not is_full:
             return False
         self.lines.append(f"postlost {worker.relay.name} {worker.number} {cause}\n")
         self.lose(worker.relay, worker.entries[0].message, "postlost", self.is_spared(worker, target))

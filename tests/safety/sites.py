@@ -15,14 +15,17 @@ def class_name(kind):
 # ---- Sites
 
 class Queue:
-    def __init__(self, size, batch, full, discard, severity, workers=1):
+    """A queue; whether posts into it wait at its full-delay mark."""
+
+    def __init__(self, size, batch, full, discard, severity, workers=1, waits=False):
         self.size, self.batch, self.workers = size, batch, workers
-        self.full, self.discard, self.severity = full, discard, severity
+        self.full, self.discard, self.severity, self.waits = full, discard, severity, waits
 
     def text(self):
         return (f'queue.type="LinkedList" queue.size="{self.size}" queue.dequeueBatchSize="{self.batch}" '
                 f'queue.fullDelayMark="{self.full}" queue.discardMark="{self.discard}" '
-                f'queue.discardSeverity="{self.severity}" queue.workerThreads="{self.workers}"')
+                f'queue.discardSeverity="{self.severity}" queue.workerThreads="{self.workers}"'
+                + ' queue.workerFlow="full"' * self.waits)
 
 
 class Action:

@@ -94,6 +94,23 @@ ok | class 32%0areach %[64]n%20%36%35%35%33%35%0arank Az09-_. 4294967295%0apath 
 62 Order in line 6 | class 1%0areach a 1%0arank a 0%0apath a 1 b c%0arank a 0%0a
 "#;
 
+// Lists that posts lead to, in either version.
+const INNERS: &str = r#"
+ok | class 32%0areach edge 6514%0arank edge 1%0ainner edge 2 0%0apath edge 6514 hub audit 0 0%0aclass 33%0a
+ok | class 32%0areach edge 6514%0arank edge 1%0ainner edge 4294967295 4294967295%0ainner hub 0 1%0apath edge 6514 hub audit%0a
+61 Line in line 5 | class 1%0areach a 1%0arank a 0%0ainner a 1%0a
+61 Line in line 5 | class 1%0areach a 1%0arank a 0%0ainner a 1 2 3%0a
+61 Line in line 5 | class 1%0areach a 1%0arank a 0%0aInner a 1 2%0a
+63 Number in line 5 | class 1%0areach a 1%0arank a 0%0ainner a 4294967296 0%0a
+63 Number in line 5 | class 1%0areach a 1%0arank a 0%0ainner a 0 01%0a
+63 Number in line 2 | inner a 0 4294967296%0a
+62 Order in line 2 | inner a 0 0%0a
+62 Order in line 4 | class 1%0areach a 1%0ainner a 1 0%0a
+62 Order in line 6 | class 1%0areach a 1%0arank a 0%0ainner a 1 0%0arank b 0%0a
+62 Order in line 6 | class 1%0areach a 1%0arank a 0%0ainner a 1 0%0aclass 2%0a
+62 Order in line 6 | class 1%0areach a 1%0arank a 0%0apath a 1 b c%0ainner a 1 0%0a
+"#;
+
 const HEADS: &str = r#"
 61 Line in line 1 |
 61 Line in line 1 | cert 1
@@ -134,6 +151,8 @@ ok | class 32%0areach edge 6514%0arank edge 1%0apath edge 6514 hub audit 0%0a
 fn texts_of_certificates(rt: HostRuntime) -> Result<(), Fail> {
     let judge = Certificates { memory: false };
     each_is_right(&rt, rt.alloc(), ("", "cert 1%0a~"), ROWS, &judge)?;
+    each_is_right(&rt, rt.alloc(), ("", "cert 1%0a~"), INNERS, &judge)?;
+    each_is_right(&rt, rt.alloc(), ("", "cert 2%0a~"), INNERS, &judge)?;
     each_is_right(&rt, rt.alloc(), ("", "~"), HEADS, &judge)?;
     each_is_right(&rt, rt.alloc(), ("", "cert 2%0a~"), BRANCHES, &judge)?;
     Ok(())

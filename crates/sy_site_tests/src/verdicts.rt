@@ -111,14 +111,25 @@ const ACCEPTED: &str = r#"
 8 classes | queue.fullDelayMark="90") { if prifilt("mail.*") then stop
 "#;
 
+// Posts into an action's queue wait.
+const WAITING: &str = r#"
+8 classes | queue.fullDelayMark="90") { action(type="omfile" file="f" action.resumeRetryCount="-1" queue.type="LinkedList" queue.workerFlow="full")
+8 classes | queue.fullDelayMark="90") { action(type="omfile" file="f" action.resumeRetryCount="-1" queue.type="LinkedList" queue.workerFlow="full" queue.discardSeverity="2" queue.discardMark="971")
+"#;
+
 const REFUSED: &str = r#"
 32 2 MarkOff at 0 by 0 | queue.fullDelayMark="0") {
 32 3 MarkAboveSize at 0 by 0 | queue.fullDelayMark="101") {
 34 4 Discards at 0 by 0 | queue.fullDelayMark="90" queue.discardSeverity="2" queue.discardMark="90") {
 32 5 InnerQueue at 0 by 0 | queue.fullDelayMark="90") { action(type="omfile" file="f" action.resumeRetryCount="-1" queue.type="LinkedList")
+32 5 InnerQueue at 0 by 0 | queue.fullDelayMark="90") { action(type="omfile" file="f" action.resumeRetryCount="-1" queue.type="LinkedList" queue.workerFlow="full" queue.fullDelayMark="0")
+32 5 InnerQueue at 0 by 0 | queue.fullDelayMark="90") { action(type="omfile" file="f" action.resumeRetryCount="-1" queue.type="LinkedList" queue.workerFlow="full" queue.size="100" queue.fullDelayMark="101")
+34 5 InnerQueue at 0 by 0 | queue.fullDelayMark="90") { action(type="omfile" file="f" action.resumeRetryCount="-1" queue.type="LinkedList" queue.workerFlow="full" queue.discardSeverity="2" queue.discardMark="970")
 32 6 GivesUp at 0 by 0 | queue.fullDelayMark="90") { action(type="omfile" file="f" action.resumeRetryCount="5")
+32 6 GivesUp at 0 by 0 | queue.fullDelayMark="90") { action(type="omfile" file="f" action.resumeRetryCount="5" queue.type="LinkedList" queue.workerFlow="full")
 32 7 NoTarget at 0 by 0 | queue.fullDelayMark="90") { action(type="omfwd" target="hub" port="6516" protocol="tcp" TCP_Framing="octet-counted" action.resumeRetryCount="-1")
 32 8 Loop at 0 by 1 | queue.fullDelayMark="90") { action(type="omfwd" target="edge" port="6514" protocol="tcp" TCP_Framing="octet-counted" action.resumeRetryCount="-1")
+32 10 InnerLoop at 0 by 0 | queue.fullDelayMark="90" queue.workerFlow="full") { call side } ruleset(name="side" queue.type="LinkedList" queue.workerFlow="full") { call out
 32 9 Unmet at 0 by 0 | queue.fullDelayMark="90") { if $msg contains "x" then stop
 39 9 Unmet at 0 by 0 | queue.fullDelayMark="90") { if prifilt("auth.=debug") then stop
 "#;
@@ -127,6 +138,7 @@ const REFUSED: &str = r#"
 fn verdicts_on_a_site(rt: HostRuntime) -> Result<(), Fail> {
     let judge = Checked { memory: false };
     each_is_right(&rt, rt.alloc(), ("48 rows", EDGE), ACCEPTED, &judge)?;
+    each_is_right(&rt, rt.alloc(), ("56 rows", EDGE), WAITING, &judge)?;
     each_is_right(&rt, rt.alloc(), ("", EDGE), REFUSED, &judge)?;
     Ok(())
 }

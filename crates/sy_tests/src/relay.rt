@@ -685,6 +685,31 @@ const POSTS_CALLS: &str = "
 | take/0/0/10=hand enter/0/0=in take/0/0/11=hand enter/0/0=in take/0/0/9=hand enter/0/0=in take/0/0/10=hand enter/0/0=in grab/0=4 post/0=put settle/0=ok post/0=lost job/0=run/1#2 settle/0=ok guarded_lost=0 post/0=put settle/0=ok in_queues=2 post/0=lost guarded_lost=0 job/0=run/1#4 posted=2 lost_post=2 posts_left=0
 ";
 
+// A queue whose posts wait at its full-delay mark; one where they don't, which is the same else; one where they do, and the mark is off.
+const WAITS: &str =
+    r#"module(load="imtcp") input(type="imtcp" port="1" flowControl="off") action(type="omfile" file="f" queue.type="LinkedList" queue.size="2" queue.fullDelayMark="1" queue.discardMark="1" queue.discardSeverity="2" queue.workerFlow="full") | ~"#;
+
+const WAITS_CALLS: &str = "
+// held at the mark, where it is lost for nothing, and put once there is room
+| %[2]take/0/0/8=hand enter/0/0=in %[1]grab/0=2 lost_full/0=87 lost_memory/0=87 post/0=put job/0=post/1#2 post/0=full lost_full/0=87 lost_memory/0=87 job/0=post/1#2 post/0=full in_queues=1 posts_left=1 grab/1=1 lost_full/0=87 lost_memory/0=87 post/0=put job/0=none in_queues=1 posted=2 lost_post=0 posts_left=0
+// discarded at the mark too
+| %[2]take/0/0/9=hand enter/0/0=in %[1]take/0/0/10=hand enter/0/0=in grab/0=3 post/0=put post/0=full grab/1=1 post/0=put post/0=lost job/0=none posted=2 lost_post=1 in_queues=1
+";
+
+const NEVER_WAITS: &str =
+    r#"module(load="imtcp") input(type="imtcp" port="1" flowControl="off") action(type="omfile" file="f" queue.type="LinkedList" queue.size="2" queue.fullDelayMark="1" queue.discardMark="1" queue.discardSeverity="2") | ~"#;
+
+const NEVER_WAITS_CALLS: &str = "
+| %[5]take/0/0/8=hand enter/0/0=in %[1]grab/0=5 post/0=put lost_full/0=87 lost_memory/0=ok post/0=put in_queues=2 post/0=full lost_full/0=ok lost_memory/0=ok job/0=none posted=2 lost_post=3
+";
+
+const WAITS_WITHOUT_A_MARK: &str =
+    r#"module(load="imtcp") input(type="imtcp" port="1" flowControl="off") action(type="omfile" file="f" queue.type="LinkedList" queue.size="2" queue.fullDelayMark="0" queue.workerFlow="full") | ~"#;
+
+const WAITS_WITHOUT_A_MARK_CALLS: &str = "
+| %[3]take/0/0/8=hand enter/0/0=in %[1]grab/0=3 %[2]lost_full/0=87 post/0=put %[1]in_queues=2 post/0=full lost_memory/0=87 lost_full/0=ok job/0=none posted=2 lost_post=1
+";
+
 // Queues: 0 the main one, 1 edge, 2 copy's, 3 store, 4 that of the action in it, 5 up, 6 that of the action in it, 7 alarm's.
 // Lists: 0 the default one, 1 edge, 2 local, 3 store, 4 up, and 5 to 8 those of the actions with queues.
 // Workers: 0 and 1 of queue 0, 2 of queue 1, 3 of queue 2, 4 and 5 of queue 3, 6, 7, 8, and 9 to 11 of queue 7.
@@ -715,12 +740,15 @@ grab/3=2 settle/3=ok failed/3=lost grab/3=2 out/3=#48 take/0/5/15=hand take/1/63
 taken=84 lost_in=6 posted=45 lost_post=16 grabbed=91 lost_out=1 in_hands=2 in_queues=30 posts_due=80 posts_left=19 guarded_lost=0 action/0=4/2/1/1 action/1=29/13/5/11 action/2=6/5/1/0 action/3=9/7/0/2 action/4=3/1/1/1 action/5=3/2/1/0 action/6=25/20/1/4
 ";
 
-static RUNS: [(&str, &str); 6] = [
+static RUNS: [(&str, &str); 9] = [
     (EDGE, EDGE_CALLS),
     (HUB, HUB_CALLS),
     (TRIES, TRIES_CALLS),
     (DISCARDS, DISCARDS_CALLS),
     (POSTS, POSTS_CALLS),
+    (WAITS, WAITS_CALLS),
+    (NEVER_WAITS, NEVER_WAITS_CALLS),
+    (WAITS_WITHOUT_A_MARK, WAITS_WITHOUT_A_MARK_CALLS),
     (EIGHT, EIGHT_CALLS),
 ];
 

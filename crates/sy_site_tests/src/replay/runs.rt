@@ -29,6 +29,17 @@ ruleset(name="out" queue.type="LinkedList" queue.size="100" queue.fullDelayMark=
 }
 "#;
 
+// Posts into that queue wait.
+const WAITING: &[u8] = br#"
+module(load="imtcp")
+input(type="imtcp" port="6514" flowControl="full" ruleset="out")
+ruleset(name="out" queue.type="LinkedList" queue.size="100" queue.fullDelayMark="90" queue.discardSeverity="8") {
+  action(name="up" type="omfwd" target="hub" port="6515" protocol="tcp" TCP_Framing="octet-counted"
+         action.resumeRetryCount="-1" queue.type="LinkedList" queue.workerFlow="full" queue.size="2"
+         queue.fullDelayMark="1")
+}
+"#;
+
 const RETRY: &[u8] = br#"
 module(load="imtcp")
 input(type="imtcp" port="6514" flowControl="full" ruleset="out")
@@ -65,6 +76,7 @@ struct Runs {
 fn edge_of(form: &str) -> &'static [u8] {
     match form {
         "linked" => LINKED,
+        "waiting" => WAITING,
         "retry" => RETRY,
         "marks" => MARKS,
         _ => PLAIN,
@@ -244,6 +256,21 @@ illegal 4 | %[1]`done edge 1
 illegal 4 | %[1]`fail edge 1 no
 "#;
 
+// Its worker has two of them, and posts the first one.
+const TWO_POSTS: &str =
+    "%[1]take edge 6514 0 new <34>1 - - - - - -`enter edge 6514 0`take edge 6514 0 new <34>1 - - - - - -`enter edge 6514 0`grab edge 1`post edge 1~";
+
+const WAITING_ROWS: &str = r#"
+// The full-delay mark holds the second post, and nothing loses it.
+illegal 7 | %[1]`post edge 1
+illegal 7 | %[1]`postlost edge 1 full
+illegal 7 | %[1]`postlost edge 1 memory
+messages 2 losses 0 | %[1]`grab edge 2`post edge 1
+// Nor where nothing holds it.
+illegal 8 | %[1]`grab edge 2`postlost edge 1 full
+illegal 8 | %[1]`grab edge 2`postlost edge 1 memory
+"#;
+
 const RETRY_ROWS: &str = r#"
 5 0 0 34 giveup;messages 1 losses 1 | %[1]`fail edge 1 no`giveup edge 1 no
 5 0 0 34 giveup;messages 1 losses 1 | %[1]`fail edge 1 no`giveup edge 1 yes`take hub 6515 0 link edge 0 0
@@ -268,9 +295,10 @@ illegal 8 | %[1]`take edge 6514 0 new <0>1 - - - - - -`expire edge 6514 0
 "#;
 
 // A form of the site, the front of each schedule, and the rows.
-static TABLES: [(&str, &str, &str); 4] = [
+static TABLES: [(&str, &str, &str); 5] = [
     ("plain", WAITS, PLAIN_ROWS),
     ("linked", WAITS, LINKED_ROWS),
+    ("waiting", TWO_POSTS, WAITING_ROWS),
     ("retry", WAITS, RETRY_ROWS),
     ("marks", THREE_WAIT, MARKS_ROWS),
 ];

@@ -93,6 +93,35 @@ const DIRECT: &str = r#"
 43 queue.type | queue.type="Direct"
 "#;
 
+// How posts wait, with a queue and without. None go to the main queue.
+const WITH_POSTS: &str = r#"
+| ruleset(name="r" ~) { }
+| ruleset(name="r" queue.type="LinkedList" ~) { }
+| action(type="omfile" file="f" ~)
+| action(type="omfile" file="f" queue.type="Direct" ~)
+| action(type="omfwd" target="h" protocol="tcp" TCP_Framing="octet-counted" queue.type="FixedArray" ~)
+"#;
+
+const WAITING: &str = r#"
+0 | queue.workerFlow="off"
+0 | queue.workerFlow="full"
+0 | QUEUE.workerflow="full"
+43 queue.workerFlow | queue.workerFlow="on"
+43 queue.workerFlow | queue.workerFlow="FULL"
+43 queue.workerFlow | queue.workerFlow=""
+41 queue.workerFlow | queue.workerFlow="off" queue.workerFlow="full"
+"#;
+
+const WITHOUT_POSTS: &str = r#"
+| main_queue(~)
+| module(load="imtcp") input(type="imtcp" port="1" ~)
+"#;
+
+const UNKNOWN: &str = r#"
+42 queue.workerFlow | queue.workerFlow="full"
+42 queue.workerFlow | queue.workerFlow="off"
+"#;
+
 // A port is none of the words, and an input must have one.
 const INPUT: &str = r#"
 | module(load="imtcp") input(type="imtcp" ~)
@@ -177,11 +206,13 @@ const NUMBERS: &str = r#"
 44 queue.timeoutWorkerThreadShutdown | queue.timeoutWorkerThreadShutdown="2147483648"
 "#;
 
-static PARAMETERS: [(&str, &str); 8] = [
+static PARAMETERS: [(&str, &str); 10] = [
     ("|~", WORDS),
     (SAVED, SAVING),
     (WITH_A_TYPE, TYPES),
     (NEVER_DIRECT, DIRECT),
+    (WITH_POSTS, WAITING),
+    (WITHOUT_POSTS, UNKNOWN),
     (INPUT, NO_PORTS),
     (WITH_A_PORT, PORTS),
     (ACTIONS, RETRIES),

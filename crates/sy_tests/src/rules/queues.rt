@@ -7,8 +7,8 @@ use std::test::Fail;
 use sy_rules::QueueParameters;
 
 // A queue is wanted by its number in the plan, and then its size, its batch, its full-delay, light-delay and discard
-// marks, its discard severity, its timeout of enqueueing and its workers, or `none`. These are usual for an object; a
-// row gives the numbers that are others, and `-` for those that are not.
+// marks, its discard severity, its timeout of enqueueing, its workers and 1 where posts into it wait, or `none`. These
+// are usual for an object; a row gives the numbers that are others, and `-` for those that are not.
 #[derive(Drop)]
 struct Queues;
 
@@ -24,6 +24,7 @@ fn is_queue(q: &QueueParameters, usual: &str, wanted: &str) -> bool {
         severity,
         q.timeout_enqueue,
         q.workers,
+        q.waits as u32,
     ];
     let mut usual = usual.split_whitespace();
     let mut wanted = wanted.split_whitespace();
@@ -59,10 +60,10 @@ impl Judge for Queues {
 }
 
 const OBJECTS: &str = r#"
-0 50000 1024 48500 35000 40000 8 2000 1 | main_queue(~)
-1 50000 1024 48500 35000 40000 8 2000 1 | ruleset(name="r" queue.type="LinkedList" ~) { }
-1 1000 128 970 700 800 8 2000 1 | action(type="omfile" file="f" queue.type="FixedArray" ~)
-1 1000 128 970 700 800 8 2000 1 | action(queue.type="LinkedList" type="omfwd" target="h" protocol="tcp" TCP_Framing="octet-counted" ~)
+0 50000 1024 48500 35000 40000 8 2000 1 0 | main_queue(~)
+1 50000 1024 48500 35000 40000 8 2000 1 0 | ruleset(name="r" queue.type="LinkedList" ~) { }
+1 1000 128 970 700 800 8 2000 1 0 | action(type="omfile" file="f" queue.type="FixedArray" ~)
+1 1000 128 970 700 800 8 2000 1 0 | action(queue.type="LinkedList" type="omfwd" target="h" protocol="tcp" TCP_Framing="octet-counted" ~)
 1 none | ruleset(name="r" ~) { }
 1 none | action(type="omfile" file="f" ~)
 1 none | action(type="omfile" file="f" queue.type="Direct" ~)
@@ -118,26 +119,43 @@ const NUMBERS: &str = r#"
 
 const OTHERS: &str = r#"
 // types of queues
-0 50000 1024 48500 35000 40000 8 2000 1 | main_queue(queue.type="FixedArray")
-0 50000 1024 48500 35000 40000 8 2000 1 | main_queue(queue.type="LinkedList")
-1 50000 1024 48500 35000 40000 8 2000 1 | ruleset(name="r" queue.type="FixedArray") { }
-1 1000 128 970 700 800 8 2000 1 | action(type="omfile" file="f" queue.type="LinkedList")
-1 1000 128 970 700 800 8 2000 1 | action(type="omfwd" target="h" protocol="tcp" TCP_Framing="octet-counted" queue.type="FixedArray")
+0 50000 1024 48500 35000 40000 8 2000 1 0 | main_queue(queue.type="FixedArray")
+0 50000 1024 48500 35000 40000 8 2000 1 0 | main_queue(queue.type="LinkedList")
+1 50000 1024 48500 35000 40000 8 2000 1 0 | ruleset(name="r" queue.type="FixedArray") { }
+1 1000 128 970 700 800 8 2000 1 0 | action(type="omfile" file="f" queue.type="LinkedList")
+1 1000 128 970 700 800 8 2000 1 0 | action(type="omfwd" target="h" protocol="tcp" TCP_Framing="octet-counted" queue.type="FixedArray")
 1 none | action(type="omfwd" target="h" protocol="tcp" TCP_Framing="octet-counted" queue.type="Direct")
 // queues in the order of their text
-0 50000 1024 48500 35000 40000 8 2000 1 |
+0 50000 1024 48500 35000 40000 8 2000 1 0 |
 1 none |
-0 50000 1024 48500 35000 40000 8 2000 1 | module(load="imtcp") input(type="imtcp" port="6514" flowControl="full" ruleset="out") ruleset(name="out" queue.type="LinkedList" queue.size="100" queue.fullDelayMark="90" queue.discardSeverity="8") { action(name="up" type="omfwd" target="hub" port="6515" protocol="tcp" TCP_Framing="octet-counted" action.resumeRetryCount="-1") }
-1 100 1024 90 70 80 8 2000 1 | module(load="imtcp") input(type="imtcp" port="6514" flowControl="full" ruleset="out") ruleset(name="out" queue.type="LinkedList" queue.size="100" queue.fullDelayMark="90" queue.discardSeverity="8") { action(name="up" type="omfwd" target="hub" port="6515" protocol="tcp" TCP_Framing="octet-counted" action.resumeRetryCount="-1") }
+0 50000 1024 48500 35000 40000 8 2000 1 0 | module(load="imtcp") input(type="imtcp" port="6514" flowControl="full" ruleset="out") ruleset(name="out" queue.type="LinkedList" queue.size="100" queue.fullDelayMark="90" queue.discardSeverity="8") { action(name="up" type="omfwd" target="hub" port="6515" protocol="tcp" TCP_Framing="octet-counted" action.resumeRetryCount="-1") }
+1 100 1024 90 70 80 8 2000 1 0 | module(load="imtcp") input(type="imtcp" port="6514" flowControl="full" ruleset="out") ruleset(name="out" queue.type="LinkedList" queue.size="100" queue.fullDelayMark="90" queue.discardSeverity="8") { action(name="up" type="omfwd" target="hub" port="6515" protocol="tcp" TCP_Framing="octet-counted" action.resumeRetryCount="-1") }
 2 none | module(load="imtcp") input(type="imtcp" port="6514" flowControl="full" ruleset="out") ruleset(name="out" queue.type="LinkedList" queue.size="100" queue.fullDelayMark="90" queue.discardSeverity="8") { action(name="up" type="omfwd" target="hub" port="6515" protocol="tcp" TCP_Framing="octet-counted" action.resumeRetryCount="-1") }
-0 101 1024 97 70 80 8 2000 3 | module(load="imtcp") main_queue(queue.size="101" queue.workerThreads="3") input(type="imtcp" port="1" ruleset="b") ruleset(name="a" queue.type="LinkedList" queue.size="1" queue.workerThreads="2") { action(name="x" type="omfile" file="x" queue.type="FixedArray" queue.size="7" action.resumeInterval="5" action.resumeRetryCount="3") } input(type="imtcp" port="2" flowControl="off" ruleset="a") ruleset(name="b" queue.type="LinkedList" queue.size="9") { call a } action(type="omfile" file="y")
-1 1 1024 0 0 0 8 2000 2 | module(load="imtcp") main_queue(queue.size="101" queue.workerThreads="3") input(type="imtcp" port="1" ruleset="b") ruleset(name="a" queue.type="LinkedList" queue.size="1" queue.workerThreads="2") { action(name="x" type="omfile" file="x" queue.type="FixedArray" queue.size="7" action.resumeInterval="5" action.resumeRetryCount="3") } input(type="imtcp" port="2" flowControl="off" ruleset="a") ruleset(name="b" queue.type="LinkedList" queue.size="9") { call a } action(type="omfile" file="y")
-2 7 128 6 4 5 8 2000 1 | module(load="imtcp") main_queue(queue.size="101" queue.workerThreads="3") input(type="imtcp" port="1" ruleset="b") ruleset(name="a" queue.type="LinkedList" queue.size="1" queue.workerThreads="2") { action(name="x" type="omfile" file="x" queue.type="FixedArray" queue.size="7" action.resumeInterval="5" action.resumeRetryCount="3") } input(type="imtcp" port="2" flowControl="off" ruleset="a") ruleset(name="b" queue.type="LinkedList" queue.size="9") { call a } action(type="omfile" file="y")
-3 9 1024 8 6 7 8 2000 1 | module(load="imtcp") main_queue(queue.size="101" queue.workerThreads="3") input(type="imtcp" port="1" ruleset="b") ruleset(name="a" queue.type="LinkedList" queue.size="1" queue.workerThreads="2") { action(name="x" type="omfile" file="x" queue.type="FixedArray" queue.size="7" action.resumeInterval="5" action.resumeRetryCount="3") } input(type="imtcp" port="2" flowControl="off" ruleset="a") ruleset(name="b" queue.type="LinkedList" queue.size="9") { call a } action(type="omfile" file="y")
+0 101 1024 97 70 80 8 2000 3 0 | module(load="imtcp") main_queue(queue.size="101" queue.workerThreads="3") input(type="imtcp" port="1" ruleset="b") ruleset(name="a" queue.type="LinkedList" queue.size="1" queue.workerThreads="2") { action(name="x" type="omfile" file="x" queue.type="FixedArray" queue.size="7" action.resumeInterval="5" action.resumeRetryCount="3") } input(type="imtcp" port="2" flowControl="off" ruleset="a") ruleset(name="b" queue.type="LinkedList" queue.size="9") { call a } action(type="omfile" file="y")
+1 1 1024 0 0 0 8 2000 2 0 | module(load="imtcp") main_queue(queue.size="101" queue.workerThreads="3") input(type="imtcp" port="1" ruleset="b") ruleset(name="a" queue.type="LinkedList" queue.size="1" queue.workerThreads="2") { action(name="x" type="omfile" file="x" queue.type="FixedArray" queue.size="7" action.resumeInterval="5" action.resumeRetryCount="3") } input(type="imtcp" port="2" flowControl="off" ruleset="a") ruleset(name="b" queue.type="LinkedList" queue.size="9") { call a } action(type="omfile" file="y")
+2 7 128 6 4 5 8 2000 1 0 | module(load="imtcp") main_queue(queue.size="101" queue.workerThreads="3") input(type="imtcp" port="1" ruleset="b") ruleset(name="a" queue.type="LinkedList" queue.size="1" queue.workerThreads="2") { action(name="x" type="omfile" file="x" queue.type="FixedArray" queue.size="7" action.resumeInterval="5" action.resumeRetryCount="3") } input(type="imtcp" port="2" flowControl="off" ruleset="a") ruleset(name="b" queue.type="LinkedList" queue.size="9") { call a } action(type="omfile" file="y")
+3 9 1024 8 6 7 8 2000 1 0 | module(load="imtcp") main_queue(queue.size="101" queue.workerThreads="3") input(type="imtcp" port="1" ruleset="b") ruleset(name="a" queue.type="LinkedList" queue.size="1" queue.workerThreads="2") { action(name="x" type="omfile" file="x" queue.type="FixedArray" queue.size="7" action.resumeInterval="5" action.resumeRetryCount="3") } input(type="imtcp" port="2" flowControl="off" ruleset="a") ruleset(name="b" queue.type="LinkedList" queue.size="9") { call a } action(type="omfile" file="y")
 4 none | module(load="imtcp") main_queue(queue.size="101" queue.workerThreads="3") input(type="imtcp" port="1" ruleset="b") ruleset(name="a" queue.type="LinkedList" queue.size="1" queue.workerThreads="2") { action(name="x" type="omfile" file="x" queue.type="FixedArray" queue.size="7" action.resumeInterval="5" action.resumeRetryCount="3") } input(type="imtcp" port="2" flowControl="off" ruleset="a") ruleset(name="b" queue.type="LinkedList" queue.size="9") { call a } action(type="omfile" file="y")
 "#;
 
-static QUEUES: [(&str, &str); 2] = [(OBJECTS, NUMBERS), (OTHERS, "|")];
+// Posts go to the queues of rulesets and actions.
+const WITH_POSTS: &str = r#"
+1 50000 1024 48500 35000 40000 8 2000 1 0 | ruleset(name="r" queue.type="LinkedList" ~) { }
+1 1000 128 970 700 800 8 2000 1 0 | action(type="omfile" file="f" queue.type="FixedArray" ~)
+1 1000 128 970 700 800 8 2000 1 0 | action(queue.type="LinkedList" type="omfwd" target="h" protocol="tcp" TCP_Framing="octet-counted" ~)
+1 none | ruleset(name="r" ~) { }
+1 none | action(type="omfile" file="f" ~)
+1 none | action(type="omfile" file="f" queue.type="Direct" ~)
+"#;
+
+const WAITING: &str = r#"
+- - - - - - - - 0 | queue.workerFlow="off"
+- - - - - - - - 1 | queue.workerFlow="full"
+- - - - - - - - 1 | Queue.WorkerFlow="full"
+10 - 9 7 8 - - - 1 | queue.workerFlow="full" queue.size="10"
+"#;
+
+static QUEUES: [(&str, &str); 3] = [(OBJECTS, NUMBERS), (WITH_POSTS, WAITING), (OTHERS, "|")];
 
 #[test]
 fn numbers_of_queues(rt: HostRuntime) -> Result<(), Fail> {
