@@ -1,16 +1,19 @@
 //! The nine steps of a whole relay: laws that every step keeps. The steps are definitions (`specs/relay`), which a set of relays is made of too.
 //! Each function does nothing; its contract is the law.
-ghost use Rattle.std.specs.Prelude.{◌≡◌, ◌≢◌, ◌⊎◌, ℕ, ◌+◌, ◌-◌, ◌<◌, ◌∷◌, Bool, List, [], Some, false, true, length};
+ghost use Rattle.std.specs.Prelude.{◌≡◌, ◌≢◌, ◌⊎◌, ℕ, ◌+◌, ◌-◌, ◌<◌, ◌≤◌, ◌∷◌, Bool, List, [], Some, false, true, length};
 ghost use Rattle.sy_chain.specs.Entries.{Entry};
 ghost use Rattle.sy_actions.specs.Devices.{Delivered, Refused};
 ghost use Rattle.sy_rules.specs.PlanValue.{Plan};
-ghost use Rattle.sy_rules.specs.Whole.{IsWhole};
+ghost use Rattle.sy_rules.specs.Whole.{IsWhole, queue_for};
 ghost use Rattle.sy_board.specs.relay.Cells.{Cell, IsShaped, RelayState, at, opening, waiting};
 ghost use Rattle.sy_board.specs.relay.Runs.{AreRuns};
 ghost use Rattle.sy_wire.specs.Messages.{Said};
+ghost use Rattle.sy_wire.specs.declared.class.Class.{Class};
 ghost use Rattle.sy_rules.specs.declared.lists.occurrence.Occurrence.TheVariants as occurrence;
 ghost use Rattle.sy_board.specs.relay.Steps.{Enters, Event, Expires, Fails, GivesUp, Grabs, IsOfInput, IsPosted, Job, LosesPost, Out, Posts, Settles, Step, is_post_held};
-ghost use Rattle.sy_board.specs.relay.Plans.{queue_of_worker};
+ghost use Rattle.sy_board.specs.relay.Feeders.{OnlyFullDelay};
+ghost use Rattle.sy_board.specs.relay.Plans.{parameters_at, queue_of_input, queue_of_worker};
+ghost use Rattle.sy_board.specs.relay.Spares.{Follows, MayDo, Scope};
 ghost use Rattle.sy_board.specs.relay.Boards.{BoardState, EnterIs, ExpireIs, FailIs, GrabIs, IsHeldBy, Made, PostIs, PostLostIs, SettleIs, TakeIs, is_no_memory};
 ghost use Rattle.sy_marks.specs.declared.marks.Hold.TheVariants as Hold;
 ghost use Rattle.sy_rules.specs.declared.lists.occurrence.Occurrence.{Occurrence};
@@ -20,7 +23,7 @@ ghost use Rattle.sy_board.specs.declared.relay.answers.Entry.TheVariants as Ente
 ghost use Rattle.sy_board.specs.declared.relay.answers.Retry.TheVariants as Retry;
 ghost use Rattle.sy_board.specs.declared.relay.answers.Posted.TheVariants as Posted;
 ghost use Rattle.sy_board.specs.relay.Patience.{IsPatient};
-ghost use Rattle.sy_board.specs.relay.Guards.{IsGuarding, IsWithinGuard, MayGuard};
+ghost use Rattle.sy_board.specs.relay.Guards.{IsGuarding, IsPairOf, IsWithinGuard, MayGuard};
 ghost use Rattle.sy_board.specs.relay.Totals.{GuardState, Laws, Totals, counted, guarded_losses, nothing_counted, total};
 ghost use Rattle.sy_board.specs.relay.Moves.{IsLeftAlone, added, came, over, removed, went, worker_of};
 
@@ -145,8 +148,8 @@ pub fn one_outcome()
         → Step plan old event one outs → Step plan old event other others → (one ≡ other) × (outs ≡ others) }
 {}
 
-/// Where a plan meets the condition of a guard, no step loses anything of its pairs but at or after spare actions, and the queue of each pair's
-/// input, where all its feeders are full-delay feeders, stays within its full-delay mark: before the first message each queue and each entry is as
+/// Where a plan meets the condition of a guard, no step loses anything of its pairs but at or after spare actions, and the queues of the pairs,
+/// where all their feeders are full-delay feeders, stay within their full-delay marks: before the first message each queue and each entry is as
 /// that asks, and each step keeps it. A guard without pairs asks nothing.
 pub fn nothing_guarded_is_lost()
     ensures opening { (plan : Plan) → (guard : GuardState) → IsGuarding plan guard (opening plan) }
@@ -156,6 +159,17 @@ pub fn nothing_guarded_is_lost()
     ensures within { (plan : Plan) → (guard : GuardState) → (state : RelayState) → MayGuard plan guard → IsGuarding plan guard state
         → IsWithinGuard plan guard state }
     ensures unasked { (plan : Plan) → (spares : List ℕ) → MayGuard plan (record { pairs = []; spares = spares }) }
+{}
+
+/// The queues of a pair are that of its input, and that of each list that a post leads its messages to which isn't spare.
+pub fn guarded_queues_stay_within_marks()
+    ensures inputs { (plan : Plan) → (guard : GuardState) → (state : RelayState) → IsWithinGuard plan guard state
+        → (input : ℕ) → (class : Class) → IsPairOf plan guard.pairs input class → OnlyFullDelay plan (queue_of_input plan input)
+        → waiting state (queue_of_input plan input) ≤ (parameters_at plan (queue_of_input plan input)).full_delay_mark }
+    ensures posts { (plan : Plan) → (guard : GuardState) → (state : RelayState) → IsWithinGuard plan guard state
+        → (input : ℕ) → (class : Class) → IsPairOf plan guard.pairs input class → (list number to : ℕ)
+        → Follows plan guard.spares class Scope.Firm input list → MayDo plan guard.spares class Scope.Firm list number (occurrence.Post to)
+        → OnlyFullDelay plan (queue_for plan to) → waiting state (queue_for plan to) ≤ (parameters_at plan (queue_for plan to)).full_delay_mark }
 {}
 
 /// The messages that a board gives at once are those of the worker's jobs, one after the other: the first is that of its job; and once this is

@@ -6,10 +6,12 @@ ghost use Rattle.std.specs.List.{Contains};
 ghost use Rattle.sy_wire.specs.Messages.{Said};
 ghost use Rattle.sy_chain.specs.Entries.{Entry};
 ghost use Rattle.sy_rules.specs.declared.lists.occurrence.Occurrence.TheVariants as occurrence;
-ghost use Rattle.sy_rules.specs.Whole.{body_at};
+ghost use Rattle.sy_rules.specs.Whole.{body_at, queue_for};
 ghost use Rattle.sy_rules.specs.lists.Work.{May};
 ghost use Rattle.sy_board.specs.relay.Cells.{Cell, at, hand};
 ghost use Rattle.sy_board.specs.relay.Guards.{MayGuard};
+ghost use Rattle.sy_board.specs.relay.Kinds.{MayLose};
+ghost use Rattle.sy_board.specs.relay.Plans.{post_flow, queue_of_input, queue_of_worker};
 ghost use Rattle.sy_board.specs.relay.Spares.{Scope};
 ghost use Rattle.sy_board.specs.relay.Totals.{GuardState};
 ghost use Rattle.sy_wire.specs.declared.class.Class.{Class};
@@ -78,6 +80,36 @@ pub fn confined_hands()
         → (entry.input ≡ input) × Reach site class Scope.Firm (record { relay = relay; input = input })
         × ((due : ℕ) → bit_at entry.due due ≡ 1
         → May (body_at (plan_at site relay) (list_of site (record { relay = relay; input = input }))) class due) }
+{}
+
+/// A confined copy in a queue is in its input's and follows that input's list; or it is in that of the list that it
+/// follows, where a post put it that its class may execute in a list that it may follow, that isn't spare, and that can't
+/// lose it.
+pub fn confined_queues()
+    ensures { (site : Site) → (class : Class) → (state : SiteState) → AreConfined site class state
+        → (relay queue : ℕ) → (entry : Entry) → Contains (at (state.relays relay) (Cell.Queue queue)) entry
+        → (copy : Copy) → IsFollowed site state class entry.tag copy → is_flagged_at site relay entry.list copy ≡ false
+        → ((queue_of_input (plan_at site relay) entry.input ≡ queue)
+        × (entry.list ≡ list_of site (record { relay = relay; input = entry.input })))
+        ⊎ ((queue_for (plan_at site relay) entry.list ≡ queue)
+        × ((before : ℕ) × (number : ℕ) × Follows site class Scope.Firm (record { relay = relay; input = entry.input }) before
+        × MayDo site class Scope.Firm relay before number (occurrence.Post entry.list))
+        × (MayLose (plan_at site relay) class (queue_for (plan_at site relay) entry.list)
+        (post_flow (plan_at site relay) (queue_for (plan_at site relay) entry.list)) → ⊥)) }
+{}
+
+/// A confined copy at a worker is so of a queue that the worker takes from.
+pub fn confined_workers()
+    ensures { (site : Site) → (class : Class) → (state : SiteState) → AreConfined site class state
+        → (relay worker : ℕ) → (entry : Entry) → Contains (at (state.relays relay) (Cell.Worker worker)) entry
+        → (copy : Copy) → IsFollowed site state class entry.tag copy → is_flagged_at site relay entry.list copy ≡ false
+        → ((queue_of_input (plan_at site relay) entry.input ≡ queue_of_worker (plan_at site relay) worker)
+        × (entry.list ≡ list_of site (record { relay = relay; input = entry.input })))
+        ⊎ ((queue_for (plan_at site relay) entry.list ≡ queue_of_worker (plan_at site relay) worker)
+        × ((before : ℕ) × (number : ℕ) × Follows site class Scope.Firm (record { relay = relay; input = entry.input }) before
+        × MayDo site class Scope.Firm relay before number (occurrence.Post entry.list))
+        × (MayLose (plan_at site relay) class (queue_for (plan_at site relay) entry.list)
+        (post_flow (plan_at site relay) (queue_for (plan_at site relay) entry.list)) → ⊥)) }
 {}
 
 /// A confined copy on the link of a forward is on its way to an input that its class reaches.

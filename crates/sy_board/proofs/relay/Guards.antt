@@ -20,7 +20,7 @@ use Rattle.sy_rules.specs.Whole.{body_at, queue_for}
 use Rattle.sy_rules.proofs.lemmas.lists.WorkLaws.{work_may}
 use Rattle.sy_board.specs.relay.Cells.{Cell, RelayState, at, hand, opening, waiting}
 use Rattle.sy_board.specs.relay.Feeders.{IsFedFreely, IsWithinMarks, OnlyFullDelay, feeder_flow}
-use Rattle.sy_board.specs.relay.Guards.{IsGuarding, IsOnItsWay, IsWithinGuard, MayGuard}
+use Rattle.sy_board.specs.relay.Guards.{IsGuarding, IsGuardedQueue, IsOnItsWay, IsPairOf, IsWithinGuard, MayGuard}
 use Rattle.sy_board.specs.relay.Kinds.{HoldsAt, Kind, MayLose, MayRun, queue_of}
 use Rattle.sy_board.specs.relay.Plans.{flow_at, input_at, marks_at, parameters_at, post_flow, queue_of_input}
 use Rattle.sy_board.specs.relay.Spares.{Follows, MayDo, Scope, is_spare_occurrence, is_spare_own, loses_spare, own, posted}
@@ -349,9 +349,19 @@ module _ (plan : Plan) (guard : GuardState) (may : MayGuard plan guard) where
         none_lost outs kept.1,
       )
 
+  -- the mark of each queue of a pair is there
+  guarded_mark : (input : ℕ) (class : Class) → IsPairOf plan guard.pairs input class → (queue : ℕ) → IsGuardedQueue plan spares input class queue
+      → 1 ≤ (parameters_at plan queue).full_delay_mark
+  guarded_mark input class pair queue (inl same) =
+      subst (λ q. 1 ≤ (parameters_at plan q).full_delay_mark) same (has_mark plan spares class input (may input class pair))
+  guarded_mark input class pair queue (inr there) =
+      let posted = there.1 in
+      let into = queue_for plan there.0 in
+      let clean = clean_posts plan spares class input (may input class pair) posted.from posted.number there.0 posted.follows posted.does in
+      subst (λ q. 1 ≤ (parameters_at plan q).full_delay_mark) posted.into (clean_mark plan class into (post_flow plan into) clean)
+
   pub within_guard : (state : RelayState) → IsGuarding plan guard state → IsWithinGuard plan guard state
-  within_guard state is input class pair only =
-      is.marks (queue_of_input plan input) only (has_mark plan spares class input (may input class pair))
+  within_guard state is input class pair queue guarded only = is.marks queue only (guarded_mark input class pair queue guarded)
 
 -- ---- before the first step
 

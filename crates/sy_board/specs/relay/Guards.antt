@@ -24,13 +24,6 @@ abbrev pub MayGuard : Plan → GuardState → Type 0
 MayGuard plan guard =
     (input : ℕ) (class : Class) → IsPairOf plan guard.pairs input class → (kind : Kind) → HoldsAt plan guard.spares class input kind → ⊥
 
--- The queue of each pair's input, where all its feeders are full-delay feeders, is no longer than its full-delay mark.
-abbrev pub IsWithinGuard : Plan → GuardState → RelayState → Type 0
-IsWithinGuard plan guard state = (input : ℕ) (class : Class) → IsPairOf plan guard.pairs input class → OnlyFullDelay plan (queue_of_input plan input)
-    → waiting state (queue_of_input plan input) ≤ (parameters_at plan (queue_of_input plan input)).full_delay_mark
-
--- ---- what each step keeps
-
 -- A post that isn't spare puts entries that follow this list into this queue: the post of a list that messages of the class may follow from the input on.
 pub record ArePosted (plan : Plan) (spares : List ℕ) (class : Class) (input list queue : ℕ) : Type 0 where
   pub from : ℕ
@@ -38,6 +31,19 @@ pub record ArePosted (plan : Plan) (spares : List ℕ) (class : Class) (input li
   pub number : ℕ
   pub does : MayDo plan spares class Scope.Firm from number (occurrence.Post list)
   pub into : queue_for plan list ≡ queue
+
+-- The queue of a pair's input, or one that such posts put its entries into.
+abbrev pub IsGuardedQueue : Plan → List ℕ → ℕ → Class → ℕ → Type 0
+IsGuardedQueue plan spares input class queue =
+    (queue_of_input plan input ≡ queue) ⊎ ((list : ℕ) × ArePosted plan spares class input list queue)
+
+-- Each queue of a pair, where all its feeders are full-delay feeders, is no longer than its full-delay mark.
+abbrev pub IsWithinGuard : Plan → GuardState → RelayState → Type 0
+IsWithinGuard plan guard state = (input : ℕ) (class : Class) → IsPairOf plan guard.pairs input class
+    → (queue : ℕ) → IsGuardedQueue plan guard.spares input class queue → OnlyFullDelay plan queue
+    → waiting state queue ≤ (parameters_at plan queue).full_delay_mark
+
+-- ---- what each step keeps
 
 -- where an entry may be: in a hand of its input; in its input's queue, or where such posts put it; and at a worker
 abbrev pub IsPlaceOf : Plan → List ℕ → Entry → Cell → Type 0

@@ -188,8 +188,8 @@ impl Board {
     }
 
     /// The totals. The laws of accounts hold for them and what the board holds, which has the places of its plan; and no job has failed more often
-    /// than it may be tried again. Nothing guarded was lost, and the queue of each guarded pair's input, where only full-delay feeders feed it, is
-    /// within its full-delay mark.
+    /// than it may be tried again. Nothing guarded was lost, and the queues of the guarded pairs, where only full-delay feeders feed them, are
+    /// within their full-delay marks.
     pub fn accounts(&self) -> &Accounts
         ensures value { result.now ≡ account_of self.now }
         ensures laws { Laws self.now.plan self.now.state self.now.totals }

@@ -34,6 +34,7 @@ plan = record pass.plan {
     discard_severity = 8;
     timeout_enqueue = 2000;
     workers = 1;
+    waits = false;
   } ∷ [];
 }
 
