@@ -1,5 +1,5 @@
 -- Inputs that are found, one after another.
-use Rattle.std.proofs.Common.{◌≡◌, ℕ, ◌<◌, ◌≤◌, ◌+◌, Bool, true, false, ◌&&◌, ◌==◌, List, [], ◌∷◌, ◌++◌, length, take, get_or, Option, Some, None, refl, sym, ap, subst, ◌∙◌, arith, inl, inr, eqb-true, eq-eqb, append-nil, append_assoc}
+use Rattle.std.proofs.Common.{◌≡◌, ℕ, ◌<◌, ◌≤◌, ◌+◌, Bool, true, false, ◌&&◌, ◌==◌, List, [], ◌∷◌, ◌++◌, length, take, get_or, refl, sym, ap, subst, ◌∙◌, arith, inl, inr, eqb-true, eq-eqb, append-nil, append_assoc}
 use Rattle.std.specs.Prelude.{Contains, ◌⊎◌, Result, Ok, Err, OnOk}
 use Rattle.std.specs.Cmp.{IsEquivalence}
 use Rattle.std.specs.List.{list_any}
@@ -10,15 +10,13 @@ use Rattle.std.proofs.lemmas.List.Elements.{Contains-append_left, Contains-push,
 use Rattle.std.proofs.lemmas.Map.Keys.{IsDistinct-push}
 use Rattle.std.proofs.lemmas.Map.Views.{Contains-from_any, list_any-from_Contains}
 use Rattle.sy_wire.specs.declared.class.Class.{Class}
-use Rattle.sy_rules.specs.declared.lists.occurrence.Occurrence.{Occurrence}
-use Rattle.sy_rules.specs.declared.lists.occurrence.Occurrence.TheVariants as occurrence
 use Rattle.sy_site.specs.declared.site.SiteInput.{SiteInput}
-use Rattle.sy_site.specs.Sites.{Site, target}
-use Rattle.sy_site.specs.machine.Reach.{list_of, occurrence_at}
+use Rattle.sy_site.specs.Sites.{Site}
+use Rattle.sy_site.specs.machine.Reach.{list_of}
 use Rattle.sy_checker.specs.declared.executed.Executed.{Executed}
 use Rattle.sy_checker.specs.declared.flows.Hop.{Hop}
-use Rattle.sy_checker.specs.Hops.{AreHops, HasHop, LeadsBy, MustForward}
-use Rattle.sy_checker.specs.Internal.{Adds, forward_in, forward_of, same_input}
+use Rattle.sy_checker.specs.Hops.{AreHops, HasHop, LeadsBy}
+use Rattle.sy_checker.specs.Internal.{Adds, same_input}
 use Rattle.sy_checker.specs.Search.{LeadsOn}
 
 -- ---- inputs are the same by their numbers
@@ -178,29 +176,3 @@ all_hops site class which from hops k old new are all added =
     (λ x has.
     (let sound = are.sound has.hop (subst (λ l. Contains l has.hop) (take_all k hops all) has.there) in
     record { number = has.hop.number; leads = subst (LeadsBy site class which from has.hop.number) has.leads sound.1 }))
-
--- ---- forwards
-
-one_value : {A : Type 0} {x y : A} → Some x ≡ Some y → x ≡ y
-one_value e = cc
-
-no_value : {A : Type 0} {x : A} → None ≡ Some x → ⊥
-no_value e = cc
-
-goes_by : (site : Site) (from : SiteInput) (number : ℕ) (to : SiteInput) (found : Option Occurrence)
-    → occurrence_at site from.relay (list_of site from) number ≡ found → forward_in site from.relay found ≡ Some to
-    → (action : ℕ) × (occurrence_at site from.relay (list_of site from) number ≡ Some (occurrence.Run action))
-    × (target site (record { relay = from.relay; action = action }) ≡ Some to)
-goes_by site from number to None is e = absurd (no_value e)
-goes_by site from number to (Some (occurrence.Run action)) is e = (action, is, e)
-goes_by site from number to (Some (occurrence.Post list)) is e = absurd (no_value e)
-
--- the action of a forward, and where it leads
-pub goes : (site : Site) (from : SiteInput) (number : ℕ) (to : SiteInput) → forward_of site from number ≡ Some to
-    → (action : ℕ) × (occurrence_at site from.relay (list_of site from) number ≡ Some (occurrence.Run action))
-    × (target site (record { relay = from.relay; action = action }) ≡ Some to)
-goes site from number to e = goes_by site from number to (occurrence_at site from.relay (list_of site from) number) refl e
-
-pub goes_so : (site : Site) (class : Class) (from : SiteInput) (number : ℕ) (to : SiteInput)
-    → MustForward site class from.relay (list_of site from) number to → forward_of site from number ≡ Some to
-goes_so site class from number to g = ap (forward_in site from.relay) g.does.found ∙ g.leads
