@@ -15,6 +15,7 @@ pub mod Unspared
 pub mod Members
 pub mod Gone
 pub mod Sorted
+pub mod Standing
 pub mod InnerLists
 pub mod Led
 pub mod InnersSorted

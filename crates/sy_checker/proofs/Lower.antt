@@ -92,11 +92,12 @@ module _ (site : Site) (part : List Wanted) (rows : List Row) (inner : InnerList
   pub lower_there : (number place : ℕ) → IsLower site part rows inner number → IsLowerAt site part rows inner number place
   lower_there number place all below e = all below (stands_by place below (slice_get part place) (slice_get rows place) refl refl e)
 
-  pub lower_all : (number most : ℕ) → length part ≤ most → ((place : ℕ) → place < most → IsLowerAt site part rows inner number place)
-      → IsLower site part rows inner number
-  lower_all number most all each below has =
-      let low = slice_get_within part has.place (wanted.Inner inner) has.is_wanted in
-      each has.place (omega (arith, low, all)) below (number_stands below has)
+  -- its row is wanted there alone
+  pub lower_one : (number place : ℕ) → ((other : ℕ) → slice_get part other ≡ Some (wanted.Inner inner) → other ≡ place)
+      → IsLowerAt site part rows inner number place → IsLower site part rows inner number
+  lower_one number place only at below has =
+      at below (subst (λ p. number_given site inner (slice_get part p) (slice_get rows p) ≡ Some below) (only has.place has.is_wanted)
+      (number_stands below has))
 
 -- ---- post after post
 

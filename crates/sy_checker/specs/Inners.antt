@@ -33,6 +33,21 @@ pub record IsInnerBefore (site : Site) (class : Class) (relay list : ℕ) (x : I
 abbrev pub AreInners : Site → Class → ℕ → ℕ → List InnerList → Type 0
 AreInners site class relay list inners = ListsAll (IsInnerBefore site class relay list) ComesBefore inners
 
+-- ---- where an inner row is wanted
+
+-- In the order of a class's rows this one stands before the inner row of the list.
+abbrev pub IsBeforeInner : InnerList → Wanted → Type 0
+IsBeforeInner inner (wanted.Class class) = Unit {0}
+IsBeforeInner inner (wanted.Reach input) = Unit {0}
+IsBeforeInner inner (wanted.Branch input) = Unit {0}
+IsBeforeInner inner (wanted.Rank relay) = Unit {0}
+IsBeforeInner inner (wanted.Inner of) = ComesBefore of inner
+IsBeforeInner inner (wanted.Path entry archive) = ⊥
+
+abbrev pub IsBeforeAt : InnerList → Option Wanted → Type 0
+IsBeforeAt inner None = ⊥
+IsBeforeAt inner (Some is) = IsBeforeInner inner is
+
 -- ---- numbers of rows
 
 -- the number that a row gives a list

@@ -1,15 +1,16 @@
 //! Numbers of lists: whether that of a list is above those of the lists that its posts lead to.
 
-ghost use Rattle.std.specs.Prelude.{◌≡◌, ◌<◌, Decides, length, slice_get};
+ghost use Rattle.std.specs.Prelude.{◌≡◌, ◌<◌, ℕ, Some, Decides, length, slice_get};
 ghost use Rattle.std.specs.Int.{bit_at};
 ghost use Rattle.sy_board.specs.relay.Spares.{Scope};
 ghost use Rattle.sy_site.specs.machine.Reach.{MayDo};
 ghost use Rattle.sy_checker.specs.declared.executed.Executed.TheVariants as executed;
-ghost use Rattle.sy_checker.specs.Fit.{IsNumbered};
+ghost use Rattle.sy_checker.specs.Fit.{AreWanted, ComesBefore, IsNumbered};
 ghost use Rattle.sy_checker.specs.Flows.{IsSet};
 ghost use Rattle.sy_checker.specs.Hops.{AreFlows};
 ghost use Rattle.sy_checker.specs.Inners as spec;
 ghost use Rattle.sy_checker.specs.Leads.{IsThere, same_list};
+ghost use Rattle.sy_checker.specs.declared.wanted.Wanted.TheVariants as wanted;
 
 use crate::executed::Executed;
 use crate::flows::{ClassFlows, set_at};
@@ -103,17 +104,70 @@ fn is_lower_at(
     }
 }
 
+// Whether a list comes before another in the order of the site.
+fn comes_before(one: InnerList, other: InnerList) -> bool
+    ensures { Decides result (ComesBefore one other) }
+{
+    one.relay < other.relay || (one.relay == other.relay && one.list < other.list)
+}
+
+// Whether a wanted row stands before the inner row of a list.
+fn is_before(is: Wanted, inner: InnerList) -> bool
+    ensures { Decides result (spec.IsBeforeInner inner is) }
+{
+    match is {
+        Wanted::Class(_) | Wanted::Reach(_) | Wanted::Branch(_) | Wanted::Rank(_) => true,
+        Wanted::Inner(of) => comes_before(of, inner),
+        Wanted::Path(_, _) => false,
+    }
+}
+
+// Whether a row is wanted at a place, and stands before the inner row of a list.
+fn is_before_at(part: &[Wanted], place: usize, inner: InnerList) -> bool
+    ensures { Decides result (spec.IsBeforeAt inner (slice_get part.now place)) }
+{
+    match part.get(place) {
+        Some(is) => is_before(*is, inner),
+        None => false,
+    }
+}
+
+// The one place where the inner row of a list may be wanted, found by halving: the first behind the rows that stand before
+// it.
+fn place_of(site: &Site, class: Class, part: &[Wanted], inner: InnerList) -> usize
+    requires wanted { AreWanted site.now class part.now }
+    ensures { (place : ℕ) → slice_get part.now place ≡ Some (wanted.Inner inner) → place ≡ result }
+{
+    let _ = site;
+    let _ = class;
+    let mut low = 0;
+    let mut high = part.len();
+    while low < high {
+        let middle = low + (high - low) / 2;
+        if is_before_at(part, middle, inner) {
+            low = middle + 1;
+        } else {
+            high = middle;
+        }
+    }
+    low
+}
+
 // Whether the number of a list is below a number, where its row stands.
-fn is_lower(site: &Site, part: &[Wanted], rows: &[Row], inner: InnerList, number: u32) -> bool
+fn is_lower(
+    site: &Site,
+    class: Class,
+    part: &[Wanted],
+    rows: &[Row],
+    inner: InnerList,
+    number: u32,
+) -> bool
+    requires wanted { AreWanted site.now class part.now }
     requires there { inner.relay < length site.now.relays }
     ensures { Decides result (spec.IsLower site.now part.now rows.now inner number) }
 {
-    for place in 0..part.len() {
-        if !is_lower_at(site, part, rows, place, inner, number) {
-            return false;
-        }
-    }
-    true
+    let place = place_of(site, class, part, inner);
+    is_lower_at(site, part, rows, place, inner, number)
 }
 
 // Whether that of the list is which an occurrence posts to, where this is the occurrence.
@@ -127,15 +181,17 @@ fn is_lower_post(
     post: u32,
     is: Occurrence,
 ) -> bool
+    requires wanted { AreWanted site.now class part.now }
     requires there { IsThere site.now inner }
     requires does { MayDo site.now class Scope.Firm inner.relay inner.list post is }
     ensures { Decides result (spec.IsLowerBy site.now class part.now rows.now inner number post) }
 {
-    let _ = class;
     let _ = post;
     let relay = inner.relay;
     match is {
-        Occurrence::Post(list) => is_lower(site, part, rows, InnerList { relay, list }, number),
+        Occurrence::Post(list) => {
+            is_lower(site, class, part, rows, InnerList { relay, list }, number)
+        }
         Occurrence::Run(_) => true,
     }
 }
@@ -151,6 +207,7 @@ fn is_lower_by(
     set: u64,
     post: u32,
 ) -> bool
+    requires wanted { AreWanted site.now class part.now }
     requires there { IsThere site.now inner }
     requires set { IsSet site.now class executed.Firm inner.relay inner.list set }
     requires member { bit_at set post ≡ 1 }
@@ -174,6 +231,7 @@ pub fn is_numbered(
     inner: InnerList,
     number: u32,
 ) -> bool
+    requires wanted { AreWanted site.now class part.now }
     requires there { IsThere site.now inner }
     requires flows { AreFlows site.now class flows.now }
     ensures { Decides result (IsNumbered site.now class part.now rows.now inner number) }

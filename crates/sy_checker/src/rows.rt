@@ -186,6 +186,7 @@ fn is_inner_row(
     inner: InnerList,
     row: &Row,
 ) -> bool
+    requires wanted { fit.AreWanted site.now class part.now }
     requires there { IsThere site.now inner }
     requires flows { AreFlows site.now class flows.now }
     ensures { Decides result (fit.IsInnerRow site.now class part.now rows.now inner row.now) }

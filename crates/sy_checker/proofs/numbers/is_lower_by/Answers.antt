@@ -4,6 +4,7 @@ use Rattle.sy_checker.proofs.numbers.is_lower_by.Goals as goal
 
 pub is_lower_post-requires : goal.is_lower_post-requires
 is_lower_post-requires c = record {
+  wanted = c.requires.wanted;
   there = c.requires.there;
   does = c.requires.set.sound c.args.post c.in-Some.it c.requires.member (sym c.occurrence_at.ensures ∙ c.in-Some.is);
 }

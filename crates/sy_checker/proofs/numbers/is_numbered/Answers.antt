@@ -13,7 +13,7 @@ loop-post-preserved c =
 
 pub is_lower_by-requires : goal.is_lower_by-requires
 is_lower_by-requires c =
-    record { there = c.requires.there; set = c.set_at-set.ensures; member = c.in-Some.ensures.some.member }
+    record { wanted = c.requires.wanted; there = c.requires.there; set = c.set_at-set.ensures; member = c.in-Some.ensures.some.member }
 
 pub returns-then-not-is_lower_by : goal.returns-then-not-is_lower_by
 returns-then-not-is_lower_by c = (

@@ -28,6 +28,7 @@ is_rank_row-requires c = record {
 
 pub is_inner_row-requires : goal.is_inner_row-requires
 is_inner_row-requires c = record {
+  wanted = c.requires.wanted;
   there = inner_there c.args.site.now c.is_lawful.ensures c.args.class c.args.part.now c.requires.wanted c.in-Inner.inner
       (subst (Contains c.args.part.now) c.in-Inner.is c.requires.member);
   flows = c.requires.flows;
