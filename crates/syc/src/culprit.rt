@@ -1,6 +1,6 @@
 //! What of a relay a finding is about: its input, the input's queue and what feeds it, an occurrence, an action.
 
-use crate::followed::followed;
+use crate::followed::lists_followed;
 use crate::places::Thing;
 use std::alloc::{AllocError, Global};
 use sy_checker::finding::{Finding, Kind, WayRow};
@@ -239,7 +239,7 @@ pub fn occurrence_meant(
     finding: &Finding,
 ) -> Result<Option<Occurrence>, AllocError> {
     let relay = finding.input.relay;
-    for here in &followed(
+    for here in &lists_followed(
         alloc,
         site,
         relay,

@@ -3,7 +3,7 @@
 use crate::culprit::{Feeder, Spot, free_feeder, free_input, name_of_list, queue_at, spot_at};
 use crate::files::Files;
 use crate::followed::circle;
-use crate::meant::{Meant, meant, relay_meant};
+use crate::meant::{Meant, find_meant, relay_meant};
 use crate::places::{Places, Thing, places_of};
 use crate::remedies::{
     is_marked, put_discarding, put_gives_up, put_inner_loop, put_loop, put_mark_above_size,
@@ -39,7 +39,7 @@ fn subject_of<'a>(
             thing,
             queue: number,
         },
-    ) = meant(alloc, site, spot, finding)?
+    ) = find_meant(alloc, site, spot, finding)?
     else {
         return Ok(None);
     };

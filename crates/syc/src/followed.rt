@@ -45,7 +45,7 @@ fn put_posted(
 
 /// A list, and those that posts lead messages of the class to from there on which may be executed and aren't spare, the
 /// nearest first.
-pub fn followed(
+pub fn lists_followed(
     alloc: Global,
     site: &Site,
     relay: u32,
@@ -124,7 +124,7 @@ fn circle_at(
     list: u32,
     class: Class,
 ) -> Result<Option<Vec<u32>>, AllocError> {
-    let lists = followed(alloc, site, relay, plan, list, class)?;
+    let lists = lists_followed(alloc, site, relay, plan, list, class)?;
     match posting(site, relay, plan, class, lists.as_slice(), list) {
         Some(place) => Ok(Some(way_back(alloc, lists.as_slice(), place)?)),
         None => Ok(None),
@@ -141,7 +141,7 @@ pub fn circle(
     list: u32,
     class: Class,
 ) -> Result<Option<Vec<u32>>, AllocError> {
-    let lists = followed(alloc, site, relay, plan, list, class)?;
+    let lists = lists_followed(alloc, site, relay, plan, list, class)?;
     for here in &lists {
         if let Some(found) = circle_at(alloc, site, relay, plan, here.list, class)? {
             return Ok(Some(found));

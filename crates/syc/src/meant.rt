@@ -99,7 +99,7 @@ fn forwarding(
 }
 
 /// The object, and the queue.
-pub fn meant(
+pub fn find_meant(
     alloc: Global,
     site: &Site,
     spot: Spot<'_>,
