@@ -12,7 +12,7 @@ use Rattle.sy_rules.specs.declared.lists.occurrence.Occurrence.TheVariants as oc
 use Rattle.sy_rules.specs.lists.Sets.{IsLowest}
 use Rattle.sy_rules.specs.lists.Work.{Due}
 use Rattle.sy_rules.specs.Whole.{body_at}
-use Rattle.sy_rules.specs.parameters.Objects.{number_of, queue_parameters}
+use Rattle.sy_rules.specs.parameters.Objects.{number_of, queue_parameters, word_of}
 use Rattle.sy_rules.specs.parameters.Rows.{own_rows, destination_rows, queue_head_rows, queue_rest_rows}
 use Rattle.sy_rules.specs.PassPlan as pass
 use Rattle.sy_rules.specs.PlanValue.{Plan}
@@ -36,7 +36,7 @@ use Rattle.syc.specs.internal.Ways.{IsEntry, IsReceiptOf, board_of, entry_of, id
 -- ---- the plan
 
 pub plan_is : pass.plan ≡ plan
-unfolding queue_parameters number_of own_rows destination_rows queue_head_rows queue_rest_rows
+unfolding queue_parameters number_of word_of own_rows destination_rows queue_head_rows queue_rest_rows
 plan_is = refl
 
 pub opens : {E : Type 0} (r : Result BoardState E) (p : Plan) → p ≡ pass.plan → IfOk r (λ b. b ≡ opened p None) → IfOk r (λ b. b ≡ idle 0)
