@@ -8,7 +8,7 @@ from program import hold
 
 ACCEPTED = re.compile(rb"accepted: \d+ protected classes\n")
 REFUSED = re.compile(rb"refused: [a-z0-9]+\.[a-z]+ at [A-Za-z0-9._-]+ \d+: \d+ [A-Z][A-Za-z]+( [A-Za-z0-9._-]+ [^\n]*)?\n(  [A-Za-z0-9._-]+ \d+ by \d+\n)*", re.DOTALL)
-WRONG_ROW = re.compile(rb"refused: certificate line \d+: (cert|class|reach|branch|rank|path)\n")
+WRONG_ROW = re.compile(rb"refused: certificate line \d+: (cert|class|reach|branch|rank|inner|path)\n")
 LOSS = re.compile(rb"loss line (\d+) message (\d+) at ([A-Za-z0-9._-]+) ([a-z0-9]+\.[a-z]+) (take|expire|grab|giveup|post|postlost)")
 EVENTS = re.compile(rb"events (\d+) messages (\d+) losses (\d+)")
 SEVERITIES = b"emerg alert crit err warning notice info debug".split()
@@ -56,17 +56,17 @@ def of_site(runner, random, files):
 
 
 def freed(certificate):
-    """A certificate without what may be chosen freely in it: the numbers of ranks, and the occurrences of paths."""
+    """A certificate without what may be chosen freely in it: the numbers of ranks and lists, and the occurrences of paths."""
     rows = []
     for row in certificate.split(b"\n"):
         words = row.split(b" ")
-        rows.append(b" ".join(words[:2] if words[0] == b"rank" else words[:5] if words[0] == b"path" else words))
+        rows.append(b" ".join(words[: {b"rank": 2, b"inner": 3, b"path": 5}.get(words[0])]))
     return rows
 
 
 def of_certificate(runner, random, files, text):
     """A mutant of a certificate that certify wrote, for its site: it is accepted only where it is fit, so far as may be said
-    without knowing the site: its rows are the certificate's, but for ranks, which fall along each path, and paths."""
+    without knowing the site: its rows are the certificate's, but for ranks, which fall along each path, numbers of lists, and paths."""
     runner.put(files)
     own = runner.run("certify", "site")
     runner.put({**files, "fuzz.cert": text})
@@ -87,7 +87,7 @@ def of_certificate(runner, random, files, text):
             ranks[words[1]] = int(words[2])
         if words[0] == b"path":
             hold(words[1] == words[3] or ranks[words[1]] > ranks[words[3]], "verify accepts ranks that don't fall along a path")
-            hold((words[1] == words[3]) == (len(words) == 5), "verify accepts a path without forwards between two relays, or one with some at home")
+            hold(words[1] == words[3] or len(words) > 5, "verify accepts a path without forwards between two relays")
 
 
 def protected(certificate):
