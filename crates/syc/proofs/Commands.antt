@@ -8,7 +8,7 @@ use Rattle.syc.specs.Outcomes.{FailsBy}
 use Rattle.syc.specs.Reports.{Streams}
 use Rattle.syc.specs.Replays.{ReplayIs}
 use Rattle.syc.specs.Verdicts.{DescribesKept, VerifyIs}
-use Rattle.syc.specs.Words.{AreAsking, AreAskingOf, AreNoCommandOf, ArePass, ArePassAlone, AreReplayOf, AreVerifyOf, IsSiteCommand, asking}
+use Rattle.syc.specs.Words.{AreAsking, AreAskingOf, AreNoBareCommandOf, ArePass, ArePassAlone, AreReplayOf, AreVerifyOf, IsSiteCommand, asking}
 use Rattle.syc.specs.declared.command.Asked.{Asked}
 use Rattle.syc.specs.declared.command.Asked.TheVariants as asked
 use Rattle.syc.specs.declared.command.SiteCommand.{SiteCommand}
@@ -17,7 +17,7 @@ use Rattle.syc.specs.internal.Commands.{Answers, AreNoCommand, Fails, IsSiteComm
 
 -- ---- words that differ
 
-first_same : {a b : List ℕ} {xs ys : List (List ℕ)} → a ∷ xs ≡ b ∷ ys → a ≡ b
+pub first_same : {a b : List ℕ} {xs ys : List (List ℕ)} → a ∷ xs ≡ b ∷ ys → a ≡ b
 first_same e = cc
 
 head_same : {m n : ℕ} {xs ys : List ℕ} → m ∷ xs ≡ n ∷ ys → m ≡ n
@@ -28,9 +28,6 @@ five_or_seven a b five seven same = omega (arith, five, seven, same)
 
 five_or_six : (a b : ℕ) → a ≡ 5 → b ≡ 6 → a ≡ b → ⊥
 five_or_six a b five six same = omega (arith, five, six, same)
-
-nine_or_five : (a b : ℕ) → a ≡ 9 → b ≡ 5 → a ≡ b → ⊥
-nine_or_five a b nine five same = omega (arith, nine, five, same)
 
 r_or_v : (a b : ℕ) → a ≡ 114 → b ≡ 118 → a ≡ b → ⊥
 r_or_v a b r v same = omega (arith, r, v, same)
@@ -44,22 +41,15 @@ check_or_replay e = five_or_six (length (codes "check")) (length (codes "replay"
 check_or_verify : codes "check" ≡ codes "verify" → ⊥
 check_or_verify e = five_or_six (length (codes "check")) (length (codes "verify")) refl refl (ap length e)
 
-replay_or_verify : codes "replay" ≡ codes "verify" → ⊥
+pub replay_or_verify : codes "replay" ≡ codes "verify" → ⊥
 replay_or_verify e = r_or_v 114 118 refl refl (head_same e)
 
--- the flags differ in length
-apart : codes "--explain" ≡ codes "--all" → ⊥
-apart e = nine_or_five (length (codes "--explain")) (length (codes "--all")) refl refl (ap length e)
-
--- none of the four
+-- neither of both
 pub none_asked : (words : List (List ℕ)) → ((site : List ℕ) → AreAsking asked.Check words site → ⊥)
-    → ((site : List ℕ) → AreAsking asked.Explain words site → ⊥) → ((site : List ℕ) → AreAsking asked.All words site → ⊥)
     → ((site : List ℕ) → AreAsking asked.Certify words site → ⊥)
     → (question : Asked) (site : List ℕ) → AreAsking question words site → ⊥
-none_asked words check explain all certify asked.Check site are = check site are
-none_asked words check explain all certify asked.Explain site are = explain site are
-none_asked words check explain all certify asked.All site are = all site are
-none_asked words check explain all certify asked.Certify site are = certify site are
+none_asked words check certify asked.Check site are = check site are
+none_asked words check certify asked.Certify site are = certify site are
 
 -- ---- lists of words that differ in length
 
@@ -75,49 +65,31 @@ two_three e = cc
 second_same : {a b c d : List ℕ} → a ∷ b ∷ [] ≡ c ∷ d ∷ [] → b ≡ d
 second_same e = cc
 
-others_same : {a b c d e f : List ℕ} → a ∷ b ∷ c ∷ [] ≡ d ∷ e ∷ f ∷ [] → (b ≡ e) × (c ≡ f)
+pub others_same : {a b c d e f : List ℕ} → a ∷ b ∷ c ∷ [] ≡ d ∷ e ∷ f ∷ [] → (b ≡ e) × (c ≡ f)
 others_same e = (cc, cc)
 
 -- What is asked, and of which site, is fixed by the words.
-one_question : (a b : Asked) (s t : List ℕ) → asking a ++ s ∷ [] ≡ asking b ++ t ∷ [] → (a ≡ b) × (s ≡ t)
+pub one_question : (a b : Asked) (s t : List ℕ) → asking a ++ s ∷ [] ≡ asking b ++ t ∷ [] → (a ≡ b) × (s ≡ t)
 one_question asked.Check asked.Check s t e = (refl, second_same e)
-one_question asked.Check asked.Explain s t e = absurd (two_three e)
-one_question asked.Check asked.All s t e = absurd (two_three e)
 one_question asked.Check asked.Certify s t e = absurd (check_or_certify (first_same e))
-one_question asked.Explain asked.Check s t e = absurd (two_three (sym e))
-one_question asked.Explain asked.Explain s t e = (refl, (others_same e).1)
-one_question asked.Explain asked.All s t e = absurd (apart (others_same e).0)
-one_question asked.Explain asked.Certify s t e = absurd (two_three (sym e))
-one_question asked.All asked.Check s t e = absurd (two_three (sym e))
-one_question asked.All asked.Explain s t e = absurd (apart (sym (others_same e).0))
-one_question asked.All asked.All s t e = (refl, (others_same e).1)
-one_question asked.All asked.Certify s t e = absurd (two_three (sym e))
 one_question asked.Certify asked.Check s t e = absurd (check_or_certify (first_same (sym e)))
-one_question asked.Certify asked.Explain s t e = absurd (two_three e)
-one_question asked.Certify asked.All s t e = absurd (two_three e)
 one_question asked.Certify asked.Certify s t e = (refl, second_same e)
 
 pass_no_question : (question : Asked) (word s : List ℕ) → word ∷ [] ≡ asking question ++ s ∷ [] → ⊥
 pass_no_question asked.Check word s e = one_two e
-pass_no_question asked.Explain word s e = one_three e
-pass_no_question asked.All word s e = one_three e
 pass_no_question asked.Certify word s e = one_two e
 
-replay_no_question : (question : Asked) (s a b : List ℕ) → asking question ++ s ∷ [] ≡ codes "replay" ∷ a ∷ b ∷ [] → ⊥
+pub replay_no_question : (question : Asked) (s a b : List ℕ) → asking question ++ s ∷ [] ≡ codes "replay" ∷ a ∷ b ∷ [] → ⊥
 replay_no_question asked.Check s a b e = two_three e
-replay_no_question asked.Explain s a b e = check_or_replay (first_same e)
-replay_no_question asked.All s a b e = check_or_replay (first_same e)
 replay_no_question asked.Certify s a b e = two_three e
 
-verify_no_question : (question : Asked) (s a b : List ℕ) → asking question ++ s ∷ [] ≡ codes "verify" ∷ a ∷ b ∷ [] → ⊥
+pub verify_no_question : (question : Asked) (s a b : List ℕ) → asking question ++ s ∷ [] ≡ codes "verify" ∷ a ∷ b ∷ [] → ⊥
 verify_no_question asked.Check s a b e = two_three e
-verify_no_question asked.Explain s a b e = check_or_verify (first_same e)
-verify_no_question asked.All s a b e = check_or_verify (first_same e)
 verify_no_question asked.Certify s a b e = two_three e
 
 -- ---- the words after the program's name
 
-rest_same : {w : List ℕ} {xs ys : List (List ℕ)} → w ∷ xs ≡ w ∷ ys → xs ≡ ys
+pub rest_same : {w : List ℕ} {xs ys : List (List ℕ)} → w ∷ xs ≡ w ∷ ys → xs ≡ ys
 rest_same e = cc
 
 module _ {X : Type 0} (now : X → List ℕ) (words items : List X) (after : List (List ℕ)) (same : words ≡ items) (is : map now items ≡ codes "syc" ∷ after) where
@@ -141,7 +113,7 @@ module _ {X : Type 0} (now : X → List ℕ) (words items : List X) (after : Lis
       record { words_are = behind _ h.words_are; site_plain = h.site_plain; certificate_plain = h.certificate_plain }
 
   -- no command with the program's name is none without it
-  pub none_without_name : AreNoCommand (map now words) → AreNoCommandOf after
+  pub none_without_name : AreNoCommand (map now words) → AreNoBareCommandOf after
   none_without_name none = record {
     no_pass = λ e. none.no_pass (before _ e);
     no_asking = λ question site h. none.over_no_site.no_asking question site (record { words_are = before _ h.words_are; site_plain = h.site_plain });
@@ -160,7 +132,7 @@ pass_is_apart after (of_site.Replay site events) pass h = one_three (sym pass �
 pass_is_apart after (of_site.Verify site certificate) pass h = one_three (sym pass ∙ h.words_are)
 
 -- and where words are no command they want nothing of a site
-pub none_of_site : (after : List (List ℕ)) (command : SiteCommand) → AreNoCommandOf after → IsSiteCommandOf after command → ⊥
+pub none_of_site : (after : List (List ℕ)) (command : SiteCommand) → AreNoBareCommandOf after → IsSiteCommandOf after command → ⊥
 none_of_site after (of_site.Ask question site) none h = none.no_asking question _ h
 none_of_site after (of_site.Replay site events) none h = none.no_replay _ _ h
 none_of_site after (of_site.Verify site certificate) none h = none.no_verify _ _ h
@@ -230,8 +202,6 @@ module _ (bytes_of : List ℕ → Option (List ℕ)) (status : ℕ) (after : Lis
   for_checked (of_site.Ask asked.Check name) h shows site text are known zero =
       let both = one_question asked.Check asked.Check _ _ (sym h.words_are ∙ are.words_are) in
       shows text (ap bytes_of both.1 ∙ known) zero
-  for_checked (of_site.Ask asked.Explain name) h shows site text are known zero = absurd (two_three (sym are.words_are ∙ h.words_are))
-  for_checked (of_site.Ask asked.All name) h shows site text are known zero = absurd (two_three (sym are.words_are ∙ h.words_are))
   for_checked (of_site.Ask asked.Certify name) h shows site text are known zero =
       absurd (check_or_certify (first_same (sym are.words_are ∙ h.words_are)))
   for_checked (of_site.Replay name events) h shows site text are known zero =
@@ -239,20 +209,12 @@ module _ (bytes_of : List ℕ → Option (List ℕ)) (status : ℕ) (after : Lis
   for_checked (of_site.Verify name certificate) h shows site text are known zero =
       absurd (verify_no_question asked.Check _ _ _ (sym are.words_are ∙ h.words_are))
 
--- what is known where the question is told by an equation
-abbrev pub ShowsIfChecked : (List ℕ → Option (List ℕ)) → SiteCommand → ℕ → Type 0
-ShowsIfChecked bytes_of (of_site.Ask question site) status =
-    (text : List ℕ) → bytes_of site.now ≡ Some text → question ≡ asked.Check → status ≡ 0 → DescribesKept bytes_of text
-ShowsIfChecked bytes_of command status = ShowsKept bytes_of command status
-
-pub shows_checked : (bytes_of : List ℕ → Option (List ℕ)) (command : SiteCommand) (status : ℕ)
-    → ShowsIfChecked bytes_of command status → ShowsKept bytes_of command status
-shows_checked bytes_of (of_site.Ask asked.Check site) status shows = λ text known zero. shows text known refl zero
-shows_checked bytes_of (of_site.Ask asked.Explain site) status shows = tt
-shows_checked bytes_of (of_site.Ask asked.All site) status shows = tt
-shows_checked bytes_of (of_site.Ask asked.Certify site) status shows = tt
-shows_checked bytes_of (of_site.Replay site events) status shows = shows
-shows_checked bytes_of (of_site.Verify site certificate) status shows = shows
+-- A check shows it, and another question nothing.
+pub shows_checked : (bytes_of : List ℕ → Option (List ℕ)) (question : Asked) (name : _) (status : ℕ)
+    → ((text : List ℕ) → bytes_of name.now ≡ Some text → question ≡ asked.Check → status ≡ 0 → DescribesKept bytes_of text)
+    → ShowsKept bytes_of (of_site.Ask question name) status
+shows_checked bytes_of asked.Check name status shows = λ text known zero. shows text known refl zero
+shows_checked bytes_of asked.Certify name status shows = tt
 
 -- So is what status 4 comes by.
 module _ (bytes_of : List ℕ → Option (List ℕ)) (MayFail PiecesFail : List ℕ → Type 0) (status : ℕ) (old new : Streams) (after : List (List ℕ)) where

@@ -102,7 +102,7 @@ fault_at (site_fault.Relay n name why) is = omega (arith, is)
 fault_at site_fault.NoMemory is = omega (arith, is)
 
 -- what is stopped for then
-stops_by : (P : Halt → Type 0) (why : Halt) → status_at why ≡ 4 → P why → P halt.ReadFailed ⊎ P halt.WriteFailed
+pub stops_by : (P : Halt → Type 0) (why : Halt) → status_at why ≡ 4 → P why → P halt.ReadFailed ⊎ P halt.WriteFailed
 stops_by P (halt.Site fault) four h = absurd (fault_at fault four)
 stops_by P (halt.Certificate fault) four h = absurd (omega (arith, four))
 stops_by P (halt.Line n) four h = absurd (omega (arith, four))
@@ -112,7 +112,7 @@ stops_by P halt.NoMemory four h = absurd (omega (arith, four))
 stops_by P halt.ReadFailed four h = inl h
 stops_by P halt.WriteFailed four h = inr h
 
-printing_fails : (text : List ℕ) (is_accepted : Bool) (status : ℕ) (old new : Streams) → Prints text is_accepted status old new → status ≡ 4
+pub printing_fails : (text : List ℕ) (is_accepted : Bool) (status : ℕ) (old new : Streams) → Prints text is_accepted status old new → status ≡ 4
     → Rose old.output.faults new.output.faults
 printing_fails text true status old new (inl printed) four = absurd (omega (arith, printed.0, four))
 printing_fails text false status old new (inl printed) four = absurd (omega (arith, printed.0, four))

@@ -110,6 +110,11 @@ pub record SaysSurvey (site : Site) (text : List ℕ) (is_accepted : Bool) : Typ
   pub is_tally : IsTally site groups text
   pub refused : is_accepted ≡ false
 
+-- It isn't sound; of the words on all that is found nothing is said.
+pub record SaysUnsound (site : Site) (is_accepted : Bool) : Type 0 where
+  pub unsound : IsSound site → ⊥
+  pub refused : is_accepted ≡ false
+
 -- that it keeps all
 pub record SaysKept (site : Site) (text : List ℕ) (is_accepted : Bool) : Type 0 where
   pub count : ℕ
@@ -141,6 +146,10 @@ SaysExplained site text is_accepted = SaysKept site text is_accepted ⊎ SaysFou
 abbrev pub SaysAll : Site → List ℕ → Bool → Type 0
 SaysAll site text is_accepted = SaysKept site text is_accepted ⊎ SaysSurvey site text is_accepted
 
+-- what a check that tells and explains all says
+abbrev pub SaysAllInWords : Site → List ℕ → Bool → Type 0
+SaysAllInWords site text is_accepted = SaysKept site text is_accepted ⊎ SaysUnsound site is_accepted
+
 -- what a making of its certificate says
 abbrev pub SaysCertified : Site → List ℕ → Bool → Type 0
 SaysCertified site text is_accepted = SaysFit site text is_accepted ⊎ SaysFound site text is_accepted
@@ -148,9 +157,18 @@ SaysCertified site text is_accepted = SaysFit site text is_accepted ⊎ SaysFoun
 -- what is said of a site, by what is asked
 abbrev pub Says : Asked → Site → List ℕ → Bool → Type 0
 Says asked.Check = SaysChecked
-Says asked.Explain = SaysExplained
-Says asked.All = SaysAll
 Says asked.Certify = SaysCertified
+
+-- a text of that site and that question has this verdict
+abbrev pub IsVerdict : Asked → Site → Bool → Type 0
+IsVerdict question site is_accepted = (bare : List ℕ) × Says question site bare is_accepted
+
+-- what a check with options says, but for a document
+abbrev pub SaysInWords : (is_explained tells_all : Bool) → Site → List ℕ → Bool → Type 0
+SaysInWords false false = SaysChecked
+SaysInWords true false = SaysExplained
+SaysInWords false true = SaysAll
+SaysInWords true true = SaysAllInWords
 
 -- ---- the commands
 

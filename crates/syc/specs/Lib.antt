@@ -13,5 +13,6 @@ pub mod Outcomes
 pub mod Checks
 pub mod Prepared
 pub mod Verdicts
+pub mod Optioned
 pub mod Examples
 pub mod internal

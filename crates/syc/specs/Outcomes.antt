@@ -28,6 +28,12 @@ AnswersOf Says bytes_of site_text status old new =
     × (text : List ℕ) × (is_accepted : Bool) × Says site text is_accepted × Prints text is_accepted status old new)
     ⊎ (HasNoAnswer bytes_of site_text status (Tells old new) × (new.output ≡ old.output))
 
+-- A status with which a command may end that answers so.
+pub record MayEnd (Is : ℕ → Streams → Streams → Type 0) (status : ℕ) : Type 0 where
+  pub old : Streams
+  pub new : Streams
+  pub is : Is status old new
+
 -- Status 4 has its cause: something may fail to be read, or a write or a flush failed.
 abbrev pub FailsBy : (MayFail : Type 0) → ℕ → Streams → Streams → Type 0
 FailsBy MayFail status old new = status ≡ 4 → MayFail ⊎ Rose old.output.faults new.output.faults

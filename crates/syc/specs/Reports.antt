@@ -48,6 +48,13 @@ Reported old new text =
 abbrev pub Tells : Streams → Streams → List ℕ → Type 0
 Tells old new line = Reported old.errors new.errors line
 
+-- The line was written first, and more may stand behind it.
+abbrev pub ReportedFirst : SinkState → SinkState → List ℕ → Type 0
+ReportedFirst old new line = (more : List ℕ) × Reported old new (line ++ more)
+
+abbrev pub TellsFirst : Streams → Streams → List ℕ → Type 0
+TellsFirst old new line = ReportedFirst old.errors new.errors line
+
 -- ---- the line on standard error
 
 -- %d10

@@ -2,6 +2,7 @@
 pub mod Commands
 pub mod Halts
 pub mod Listened
+pub mod Optioned
 pub mod Parts
 pub mod Served
 pub mod Stops

@@ -1,6 +1,8 @@
 //! Checking a site, with all that is found in it.
 ghost use Rattle.std.specs.Prelude.{◌≡◌, IfErr, IfOk, false};
 ghost use Rattle.sy_site.specs.machine.Soundness.{IsSound};
+ghost use Rattle.sy_checker.specs.Finding.{IsTrueRefusal};
+ghost use Rattle.syc.specs.declared.command.Asked.TheVariants as asked;
 ghost use Rattle.syc.specs.Checks as spec;
 ghost use Rattle.syc.specs.internal.Surveys as internal;
 
@@ -39,8 +41,10 @@ fn refused(alloc: Global, site: &Site) -> Result<Answer, AllocError>
 
 // What is said of a site that is refused.
 fn say_found(alloc: Global, site: &Site, why: Refusal) -> Result<Answer, Halt>
+    requires found { IsTrueRefusal site.now why }
     requires only { IsSound site.now → why ≡ Refusal.NoMemory }
     ensures ok { IfOk result (λ a. spec.SaysSurvey site.now a.text.items a.is_accepted) }
+    ensures verdict { IfOk result (λ a. spec.IsVerdict asked.Check site.now a.is_accepted) }
     ensures err { IfErr result (λ halt. halt ≡ Halt.NoMemory) }
 {
     match why {
@@ -56,6 +60,7 @@ fn say_found(alloc: Global, site: &Site, why: Refusal) -> Result<Answer, Halt>
 /// for all classes of which the same is found at the same input.
 pub fn say_all(alloc: Global, site: &Site) -> Result<Answer, Halt>
     ensures ok { IfOk result (λ a. spec.SaysAll site.now a.text.items a.is_accepted) }
+    ensures verdict { IfOk result (λ a. spec.IsVerdict asked.Check site.now a.is_accepted) }
     ensures err { IfErr result (λ halt. halt ≡ Halt.NoMemory) }
 {
     match say_kept(alloc, site) {

@@ -18,8 +18,8 @@ pub struct Answer {
     pub is_accepted: bool,
 }
 
-// Tells why a command stops, and answers the exit status.
-fn stop<W: Sink, E: Sink>(out: &mut Outputs<W, E>, halt: &Halt) -> u8
+/// Tells why a command stops, and answers the exit status.
+pub fn stop<W: Sink, E: Sink>(out: &mut Outputs<W, E>, halt: &Halt) -> u8
     ensures status { result ≡ status_at halt.now }
     ensures told { Tells out.old out.new (halt_report halt.now) }
     ensures same { out.new.output ≡ out.old.output }

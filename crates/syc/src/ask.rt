@@ -11,11 +11,9 @@ ghost use Rattle.syc.specs.Verdicts.{DescribesKept};
 ghost use Rattle.syc.specs.declared.command.Asked.TheVariants as any_asked;
 ghost use Rattle.syc.specs.internal.Halts.{IsNoSite, IsUnread};
 
-use crate::all::say_all;
 use crate::answer::{Answer, print};
 use crate::check::{say_certified, say_checked};
 use crate::command::Asked;
-use crate::explain::say_explained;
 use crate::files::Files;
 use crate::halt::Halt;
 use crate::outputs::Outputs;
@@ -25,21 +23,13 @@ use sy_site::Site;
 use sy_site::laws::one_site;
 use sy_wire::Sink;
 
-// What is said of a site; its files are read once more where that explains what is found.
-fn say<F: Files>(
-    alloc: Global,
-    files: &F,
-    name: &str,
-    site: &Site,
-    asked: Asked,
-) -> Result<Answer, Halt>
+// What is said of a site.
+fn say(alloc: Global, site: &Site, asked: Asked) -> Result<Answer, Halt>
     ensures ok { IfOk result (λ a. spec.Says asked site.now a.text.items a.is_accepted) }
     ensures err { IfErr result (λ halt. halt ≡ Halt.NoMemory) }
 {
     match asked {
         Asked::Check => say_checked(alloc, site),
-        Asked::Explain => say_explained(alloc, files, name, site),
-        Asked::All => say_all(alloc, site),
         Asked::Certify => say_certified(alloc, site),
     }
 }
@@ -54,7 +44,7 @@ fn answer_of<F: Files>(alloc: Global, files: &F, name: &str, asked: Asked) -> Re
         IsUnread (F.may_fail files.now) (name.now ∷ file_names text) halt) }
 {
     let site = read_site(alloc, files, name)?;
-    let answer = say(alloc, files, name, &site, asked)?;
+    let answer = say(alloc, &site, asked)?;
     Ok(answer)
 }
 

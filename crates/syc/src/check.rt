@@ -99,8 +99,8 @@ pub fn say_checked(alloc: Global, site: &Site) -> Result<Answer, Halt>
     }
 }
 
-// The text of a certificate.
-fn say_fit(alloc: Global, certificate: &Certificate) -> Result<Answer, Halt>
+/// The text of a certificate.
+pub fn say_fit(alloc: Global, certificate: &Certificate) -> Result<Answer, Halt>
     ensures text { IfOk result (λ a. spec.IsTextOf a.text.items certificate.now) }
     ensures accepted { IfOk result (λ a. a.is_accepted ≡ true) }
     ensures err { IfErr result (λ halt. halt ≡ Halt.NoMemory) }

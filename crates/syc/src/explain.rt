@@ -48,8 +48,8 @@ fn found_in_words<F: Files>(
     Ok(answer)
 }
 
-// What is said in words of a site that is refused.
-fn say_in_words<F: Files>(
+/// What is said in words of a site that is refused.
+pub fn say_in_words<F: Files>(
     alloc: Global,
     files: &F,
     name: &str,

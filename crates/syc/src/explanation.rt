@@ -1,34 +1,43 @@
-//! Findings in words: where what is found stands, why messages are lost by it, and what would change that.
+//! Notes of findings: where what is found stands, why messages are lost by it, and what would change that.
 
 use crate::culprit::{Feeder, Spot, free_feeder, free_input, name_of_list, queue_at, spot_at};
 use crate::files::Files;
 use crate::followed::circle;
 use crate::meant::{Meant, find_meant, relay_meant};
-use crate::places::{Places, Thing, places_of};
-use crate::remedies::{
-    is_marked, put_discarding, put_gives_up, put_inner_loop, put_loop, put_mark_above_size,
-    put_mark_off, put_no_target, put_not_full, put_post, put_spare, put_unmarked, put_unmet,
+use crate::note::{Note, put_note};
+use crate::outline::Object;
+use crate::places::{Places, Thing, objects_of, places_of, relay_file};
+use crate::queues::{
+    is_marked, put_discarding, put_mark_above_size, put_mark_off, put_not_full, put_post,
+    put_unmarked,
 };
+use crate::remedies::{put_gives_up, put_inner_loop, put_loop, put_no_target, put_spare};
+use crate::source::text_of;
+use crate::tally::names_of;
 use crate::texts::Part;
-use crate::things::put_where;
+use crate::things::{put_with_place, stands_at};
+use crate::unmet::put_unmet;
 use crate::words::Words;
 use std::alloc::{AllocError, Global};
 use sy_checker::finding::{Finding, Kind};
+use sy_checker::survey;
 use sy_rules::QueueParameters;
 use sy_site::Site;
 
-/// What a finding is about: its input, an object, and a queue, by its number too.
+/// What a finding is about: its input, an object with its file, and a queue, by its number too.
 #[derive(Clone, Copy)]
 struct Subject<'a> {
     spot: Spot<'a>,
     thing: Thing,
     number: u32,
     queue: QueueParameters,
+    places: Option<Places<'a>>,
 }
 
 fn subject_of<'a>(
     alloc: Global,
     site: &'a Site,
+    places: Option<Places<'a>>,
     finding: &Finding,
 ) -> Result<Option<Subject<'a>>, AllocError> {
     let Some(spot) = spot_at(site, finding.input) else {
@@ -51,27 +60,29 @@ fn subject_of<'a>(
         thing,
         number,
         queue,
+        places,
     }))
 }
 
+// The object that a finding is about, where it stands in the file.
+fn object_meant(subject: Subject<'_>) -> Option<Object<'_>> {
+    match subject.places {
+        Some(places) => places.object(subject.thing),
+        None => None,
+    }
+}
+
 // What feeds a queue that discards, and doesn't wait before.
-fn put_feeder(
-    words: &mut Words,
-    site: &Site,
-    relay: u32,
-    places: &Option<Places>,
-    subject: Subject<'_>,
-) {
+fn put_feeder(alloc: Global, words: &mut Words, site: &Site, relay: u32, subject: Subject<'_>) {
     match free_feeder(subject.spot.plan, subject.number) {
         Some(Feeder::Input(number)) => {
-            words.say("fed by: ");
-            put_where(words, site, relay, places, Thing::Input(number));
+            let thing = Thing::Input(number);
+            put_with_place(alloc, words, site, relay, subject.places, thing);
         }
         Some(Feeder::Post(list)) => {
             words.put(&[
-                Part::Text(b"fed by: what is posted to "),
+                Part::Text(b"what is posted to "),
                 Part::Text(name_of_list(subject.spot.plan, list)),
-                Part::Text(b"\n"),
             ]);
         }
         None => {}
@@ -88,122 +99,148 @@ fn tells_feeder(kind: Kind, queue: QueueParameters) -> bool {
     discards && queue.full_delay_mark < queue.discard_mark
 }
 
-// What else a finding is about: what feeds a queue that discards, or the archive that isn't led to.
-fn put_also(
-    words: &mut Words,
+// Of a queue that discards, what feeds it.
+fn put_fed_by(
+    alloc: Global,
+    note: &mut Note,
     site: &Site,
+    relay: u32,
     subject: Subject<'_>,
-    places: &Option<Places>,
-    others: &Option<Places>,
-    finding: &Finding,
-) {
-    if tells_feeder(finding.kind, subject.queue) {
-        put_feeder(words, site, finding.input.relay, places, subject);
+    kind: Kind,
+) -> Result<(), AllocError> {
+    if !tells_feeder(kind, subject.queue) {
+        return Ok(());
     }
-    match finding.kind {
-        Kind::Unmet(archive) => {
-            words.say("archive: ");
-            put_where(
-                words,
-                site,
-                archive.relay,
-                others,
-                Thing::Action(archive.action),
-            );
-        }
-        _ => {}
-    }
+    let mut text = Words::new(alloc);
+    put_feeder(alloc, &mut text, site, relay, subject);
+    note.put_line("fed by", text)
 }
 
 // Why a post loses messages.
-fn put_inner(words: &mut Words, site: &Site, subject: Subject<'_>, finding: &Finding) {
+fn put_inner(note: &mut Note, site: &Site, subject: Subject<'_>, finding: &Finding) {
     let (plan, queue) = (subject.spot.plan, subject.queue);
     let fed_freely = free_input(plan, subject.number).is_some();
     if !queue.waits {
-        put_post(words, queue, fed_freely);
+        put_post(note, queue, fed_freely);
     } else if !is_marked(queue) {
-        put_unmarked(words, queue, fed_freely);
+        put_unmarked(note, queue, fed_freely);
     } else {
-        put_discarding(words, plan, subject.number, queue);
+        put_discarding(note, plan, subject.number, queue);
     }
-    put_spare(words, site, finding.input.relay, subject.thing);
+    put_spare(note, site, finding.input.relay, subject.thing);
 }
 
-fn put_why(
-    words: &mut Words,
+// Why a circle of posts does.
+fn put_circle(
+    alloc: Global,
+    note: &mut Note,
     site: &Site,
     subject: Subject<'_>,
-    circle: &[u32],
     finding: &Finding,
-) {
+) -> Result<(), AllocError> {
+    let (relay, list, class) = (finding.input.relay, subject.spot.input.list, finding.class);
+    if let Some(lists) = circle(alloc, site, relay, subject.spot.plan, list, class)? {
+        put_inner_loop(note, subject.spot.plan, lists.as_slice());
+    }
+    Ok(())
+}
+
+// Why messages are lost by an action, or at a queue, and what would change that.
+fn put_reason(
+    alloc: Global,
+    note: &mut Note,
+    site: &Site,
+    site_text: &[u8],
+    subject: Subject<'_>,
+    finding: &Finding,
+) -> Result<(), AllocError> {
+    let (own, plan) = (finding.input.relay, subject.spot.plan);
     match finding.kind {
-        Kind::NotFull => put_not_full(words, subject.spot, subject.queue),
-        Kind::MarkOff => put_mark_off(words, subject.queue),
-        Kind::MarkAboveSize => put_mark_above_size(words, subject.queue),
-        Kind::Discards => put_discarding(words, subject.spot.plan, subject.number, subject.queue),
-        Kind::InnerQueue => put_inner(words, site, subject, finding),
-        Kind::GivesUp => put_gives_up(
-            words,
-            site,
-            finding.input.relay,
-            subject.spot.plan,
-            subject.thing,
-        ),
-        Kind::NoTarget => put_no_target(
-            words,
-            site,
-            finding.input.relay,
-            subject.spot.plan,
-            subject.thing,
-        ),
-        Kind::Loop => put_loop(words, site, finding),
-        Kind::InnerLoop => put_inner_loop(words, subject.spot.plan, circle),
-        Kind::Unmet(_) => put_unmet(words, site),
+        Kind::NotFull => put_not_full(note, subject.spot, subject.queue),
+        Kind::MarkOff => put_mark_off(note, subject.queue),
+        Kind::MarkAboveSize => put_mark_above_size(note, subject.queue),
+        Kind::Discards => put_discarding(note, plan, subject.number, subject.queue),
+        Kind::InnerQueue => put_inner(note, site, subject, finding),
+        Kind::GivesUp => {
+            put_gives_up(note, plan, subject.thing, object_meant(subject));
+            put_spare(note, site, own, subject.thing);
+        }
+        Kind::NoTarget => {
+            return put_no_target(alloc, note, site, site_text, own, plan, subject.thing);
+        }
+        Kind::Loop => put_loop(note, site, finding),
+        Kind::InnerLoop => return put_circle(alloc, note, site, subject, finding),
+        Kind::Unmet(_) => {}
     }
+    Ok(())
 }
 
-fn put_explanation(
-    words: &mut Words,
-    site: &Site,
-    places: &Option<Places>,
-    others: &Option<Places>,
-    subject: Subject<'_>,
-    circle: &[u32],
-    finding: &Finding,
-) {
-    words.say("where: ");
-    put_where(words, site, relay_meant(finding), places, subject.thing);
-    put_also(words, site, subject, places, others, finding);
-    put_why(words, site, subject, circle, finding);
-}
-
-// Where the objects stand of the relay of an archive that isn't led to.
-fn archive_places<F: Files>(
+// What is said of a finding of another kind than the ninth.
+fn put_finding<F: Files>(
     alloc: Global,
     files: &F,
     site_name: &str,
-    kind: Kind,
-) -> Result<Option<Places>, AllocError> {
-    match kind {
-        Kind::Unmet(archive) => places_of(alloc, files, site_name, archive.relay),
-        _ => Ok(None),
-    }
-}
-
-// The lists of the circle that a finding is about; none where it is of another kind.
-fn circle_meant(alloc: Global, site: &Site, finding: &Finding) -> Result<Vec<u32>, AllocError> {
-    let (relay, class) = (finding.input.relay, finding.class);
-    let (Kind::InnerLoop, Some(spot)) = (finding.kind, spot_at(site, finding.input)) else {
-        return Ok(Vec::new(alloc));
+    site: &Site,
+    note: &mut Note,
+    finding: &Finding,
+) -> Result<(), AllocError> {
+    let relay = relay_meant(finding);
+    let file = relay_file(alloc, files, site_name, relay)?;
+    let objects = objects_of(alloc, &file)?;
+    let places = places_of(&file, objects.as_slice());
+    let text = match text_of(files, site_name)? {
+        Some(text) => text,
+        None => Vec::new(alloc),
     };
-    match circle(alloc, site, relay, spot.plan, spot.input.list, class)? {
-        Some(lists) => Ok(lists),
-        None => Ok(Vec::new(alloc)),
+    match subject_of(alloc, site, places, finding)? {
+        Some(subject) => {
+            stands_at(alloc, note, site, relay, places, subject.thing);
+            put_reason(alloc, note, site, text.as_slice(), subject, finding)?;
+            put_fed_by(alloc, note, site, relay, subject, finding.kind)
+        }
+        None => Ok(()),
     }
 }
 
-/// A finding in words: where the object stands that it is about, which is read from the files once more, why messages
-/// are lost by it, and what would change that.
+/// The note of a finding, for which files are read once more. A loop that is found without a way is one of its input.
+pub fn note_of_finding<F: Files>(
+    alloc: Global,
+    files: &F,
+    site_name: &str,
+    site: &Site,
+    finding: &Finding,
+) -> Result<Note, AllocError> {
+    let mut note = Note::new(alloc);
+    match finding.kind {
+        Kind::Unmet(archive) => {
+            put_unmet(alloc, files, site_name, site, &mut note, finding, archive)?;
+        }
+        _ => put_finding(alloc, files, site_name, site, &mut note, finding)?,
+    }
+    note.finish()
+}
+
+// The classes of which the same is found at the same input, where they are several.
+fn put_group(
+    alloc: Global,
+    note: &mut Note,
+    site: &Site,
+    finding: &Finding,
+) -> Result<(), AllocError> {
+    let groups = survey(alloc, site)?;
+    for group in groups.as_slice() {
+        if group.input == finding.input && group.kind == finding.kind && group.classes.len() > 1 {
+            let names = names_of(alloc, group.classes.as_slice())?;
+            let mut text = Words::new(alloc);
+            text.put(&[Part::Text(names.as_slice())]);
+            note.put_line("classes", text)?;
+        }
+    }
+    Ok(())
+}
+
+/// A finding in words: where the object stands that it is about, of which classes it is found, why messages are lost by
+/// it, and what would change that.
 pub fn explanation<F: Files>(
     alloc: Global,
     files: &F,
@@ -211,21 +248,9 @@ pub fn explanation<F: Files>(
     site: &Site,
     finding: &Finding,
 ) -> Result<Vec<u8>, AllocError> {
-    let places = places_of(alloc, files, site_name, relay_meant(finding))?;
-    let others = archive_places(alloc, files, site_name, finding.kind)?;
-    let subject = subject_of(alloc, site, finding)?;
-    let circle = circle_meant(alloc, site, finding)?;
+    let mut note = note_of_finding(alloc, files, site_name, site, finding)?;
+    put_group(alloc, &mut note, site, finding)?;
     let mut words = Words::new(alloc);
-    if let Some(subject) = subject {
-        put_explanation(
-            &mut words,
-            site,
-            &places,
-            &others,
-            subject,
-            circle.as_slice(),
-            finding,
-        );
-    }
+    put_note(&mut words, &note);
     words.finish()
 }

@@ -1,8 +1,9 @@
 //! The files that a command reads.
 ghost use Rattle.std.specs.Prelude.{◌≡◌, List, ℕ, Option, None, Some, IfErr, IfOk, IfSome};
 
+use std::env;
 use std::fs::{self, File};
-use std::io::{Error, ErrorKind};
+use std::io::{Error, ErrorKind, Read};
 use sy_wire::{FromRead, Source};
 
 /// Why a file's bytes aren't there.
@@ -10,6 +11,15 @@ use sy_wire::{FromRead, Source};
 pub enum FileFault {
     Read,
     NoMemory,
+}
+
+/// Why the host doesn't give the bytes of a file.
+#[derive(Clone, Copy)]
+pub enum Reason {
+    Missing,
+    Denied,
+    Directory,
+    Other,
 }
 
 /// The files that a command may name.
@@ -31,6 +41,17 @@ pub trait Files {
     fn open(&self, name: &str) -> Result<Self::Opened, FileFault>
         ensures bytes { IfOk result (λ s. IfSome (bytes_of self.now name.now) (λ bytes. Self.Opened.remaining s ≡ Some bytes)) }
         ensures err { IfErr result (λ why. why ≡ FileFault.Read → may_fail self.now name.now) };
+
+    /// Why the file of that name can't be read, which is asked once more; nothing where it can be, or where that isn't
+    /// known.
+    fn reason(&self, _name: &str) -> Option<Reason> {
+        None
+    }
+
+    /// The directory in which names that aren't absolute are looked for, where it is known.
+    fn folder(&self) -> Option<String> {
+        None
+    }
 }
 
 /// The files of the host.
@@ -52,6 +73,15 @@ fn fault_of(error: &Error) -> FileFault {
     }
 }
 
+fn reason_of(error: &Error) -> Reason {
+    match error.kind() {
+        ErrorKind::NotFound | ErrorKind::NotADirectory => Reason::Missing,
+        ErrorKind::PermissionDenied => Reason::Denied,
+        ErrorKind::IsADirectory => Reason::Directory,
+        _ => Reason::Other,
+    }
+}
+
 impl Files for HostFiles<'_> {
     type Opened = FromRead<File>;
 
@@ -66,6 +96,24 @@ impl Files for HostFiles<'_> {
         match File::open(self.rt, name) {
             Ok(file) => Ok(FromRead::new(file)),
             Err(error) => Err(fault_of(&error)),
+        }
+    }
+
+    fn reason(&self, name: &str) -> Option<Reason> {
+        let mut file = match File::open(self.rt, name) {
+            Ok(file) => file,
+            Err(error) => return Some(reason_of(&error)),
+        };
+        match file.read(&mut [0; 1]) {
+            Ok(_) => None,
+            Err(error) => Some(reason_of(&error)),
+        }
+    }
+
+    fn folder(&self) -> Option<String> {
+        match env::current_dir(self.rt) {
+            Ok(folder) => Some(folder.into_string()),
+            Err(_) => None,
         }
     }
 }

@@ -82,19 +82,20 @@ fn circling(
     }
 }
 
-// The last forward of a way.
+// The last forward of a way; the input where the way isn't known.
 fn forwarding(
     alloc: Global,
     site: &Site,
     spot: Spot<'_>,
     finding: &Finding,
 ) -> Result<Option<Meant>, AllocError> {
+    let at_input = Thing::Input(finding.input.input);
     let Some(row) = last_of(finding.way.as_slice()) else {
-        return Ok(None);
+        return Ok(of_input(spot, at_input));
     };
     match action_by(alloc, site, finding.class, row, finding.input)? {
         Some(action) => Ok(of_input(spot, Thing::Action(action))),
-        None => Ok(None),
+        None => Ok(of_input(spot, at_input)),
     }
 }
 

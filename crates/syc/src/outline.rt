@@ -1,84 +1,135 @@
-//! Where the objects of a script stand.
+//! The objects of a script, in the order of the text.
 
 use std::alloc::{AllocError, Global};
-use sy_script::tree::{Block, Object, ObjectKind, Script, Stmt, Top};
+use sy_script::tree::{Block, ObjectKind, Param, Script, Stmt, Top};
 
-/// The places of the words of objects, each kind in the order of the text.
-#[derive(Drop)]
-pub struct Outline {
-    pub main_queue: Option<usize>,
-    pub inputs: Vec<usize>,
-    pub rulesets: Vec<usize>,
-    pub actions: Vec<usize>,
+/// What an object is, by its first word.
+#[derive(Clone, Copy, PartialEq, Eq)]
+pub enum ObjectWord {
+    Module,
+    Global,
+    MainQueue,
+    Input,
+    Ruleset,
+    Action,
 }
 
-fn put(places: &mut Vec<usize>, place: usize) -> Result<(), AllocError> {
-    places.push(place)?;
+/// An object: the place of its first word, and its parameters.
+#[derive(Clone, Copy)]
+pub struct Object<'s> {
+    pub word: ObjectWord,
+    pub start: usize,
+    pub params: &'s [Param],
+}
+
+fn put<'s>(
+    objects: &mut Vec<Object<'s>>,
+    word: ObjectWord,
+    start: usize,
+    params: &'s [Param],
+) -> Result<(), AllocError> {
+    objects.push(Object {
+        word,
+        start,
+        params,
+    })?;
     Ok(())
 }
 
 #[cycle(actions)]
-fn put_stmt(actions: &mut Vec<usize>, stmt: &Stmt) -> Result<(), AllocError> {
+fn put_stmt<'s>(objects: &mut Vec<Object<'s>>, stmt: &'s Stmt) -> Result<(), AllocError> {
     match stmt {
-        Stmt::Action(span, _) => put(actions, span.start),
+        Stmt::Action(span, params) => {
+            put(objects, ObjectWord::Action, span.start, params.as_slice())
+        }
         Stmt::Call(_) => Ok(()),
         Stmt::Stop(_) => Ok(()),
-        Stmt::If(_, done, None) => put_block(actions, done),
+        Stmt::If(_, done, None) => put_block(objects, done),
         Stmt::If(_, done, Some(otherwise)) => {
-            put_block(actions, done)?;
-            put_block(actions, otherwise)
+            put_block(objects, done)?;
+            put_block(objects, otherwise)
         }
     }
 }
 
 #[cycle(actions)]
-fn put_block(actions: &mut Vec<usize>, block: &Block) -> Result<(), AllocError> {
+fn put_block<'s>(objects: &mut Vec<Object<'s>>, block: &'s Block) -> Result<(), AllocError> {
     match block {
-        Block::Single(stmt) => put_stmt(actions, stmt.get()),
-        Block::Braced(body) => put_body(actions, body.as_slice()),
+        Block::Single(stmt) => put_stmt(objects, stmt.get()),
+        Block::Braced(body) => put_body(objects, body.as_slice()),
     }
 }
 
 #[cycle(actions)]
-fn put_body(actions: &mut Vec<usize>, body: &[Stmt]) -> Result<(), AllocError> {
+fn put_body<'s>(objects: &mut Vec<Object<'s>>, body: &'s [Stmt]) -> Result<(), AllocError> {
     for stmt in body {
-        put_stmt(actions, stmt)?;
+        put_stmt(objects, stmt)?;
     }
     Ok(())
 }
 
-fn put_object(found: &mut Outline, object: &Object) -> Result<(), AllocError> {
-    match object.kind {
-        ObjectKind::Input => put(&mut found.inputs, object.span.start),
-        ObjectKind::MainQueue => {
-            found.main_queue = Some(object.span.start);
-            Ok(())
-        }
-        ObjectKind::Module | ObjectKind::Global => Ok(()),
+fn word_of(kind: ObjectKind) -> ObjectWord {
+    match kind {
+        ObjectKind::Module => ObjectWord::Module,
+        ObjectKind::Global => ObjectWord::Global,
+        ObjectKind::MainQueue => ObjectWord::MainQueue,
+        ObjectKind::Input => ObjectWord::Input,
     }
 }
 
-fn put_top(found: &mut Outline, top: &Top) -> Result<(), AllocError> {
+fn put_top<'s>(objects: &mut Vec<Object<'s>>, top: &'s Top) -> Result<(), AllocError> {
     match top {
-        Top::Object(object) => put_object(found, object),
+        Top::Object(object) => put(
+            objects,
+            word_of(object.kind),
+            object.span.start,
+            object.params.as_slice(),
+        ),
         Top::Ruleset(ruleset) => {
-            put(&mut found.rulesets, ruleset.span.start)?;
-            put_body(&mut found.actions, ruleset.body.as_slice())
+            put(
+                objects,
+                ObjectWord::Ruleset,
+                ruleset.span.start,
+                ruleset.params.as_slice(),
+            )?;
+            put_body(objects, ruleset.body.as_slice())
         }
-        Top::Stmt(stmt) => put_stmt(&mut found.actions, stmt),
+        Top::Stmt(stmt) => put_stmt(objects, stmt),
     }
 }
 
 /// The objects of a script. It goes as deep as the script nests.
-pub fn outline_script(alloc: Global, script: &Script) -> Result<Outline, AllocError> {
-    let mut found = Outline {
-        main_queue: None,
-        inputs: Vec::new(alloc),
-        rulesets: Vec::new(alloc),
-        actions: Vec::new(alloc),
-    };
+pub fn outline_script<'s>(
+    alloc: Global,
+    script: &'s Script,
+) -> Result<Vec<Object<'s>>, AllocError> {
+    let mut objects = Vec::new(alloc);
     for top in script.tops.as_slice() {
-        put_top(&mut found, top)?;
+        put_top(&mut objects, top)?;
     }
-    Ok(found)
+    Ok(objects)
+}
+
+/// The object of a word by its number among those of that word, counted from 0.
+pub fn object_of<'s>(objects: &[Object<'s>], word: ObjectWord, number: u32) -> Option<Object<'s>> {
+    let mut left = number;
+    for object in objects {
+        if object.word == word {
+            if left == 0 {
+                return Some(*object);
+            }
+            left -= 1;
+        }
+    }
+    None
+}
+
+/// The value that the parameters give a name.
+pub fn value_of<'s>(params: &'s [Param], name: &[u8]) -> Option<&'s [u8]> {
+    for param in params {
+        if param.name.text.as_slice().eq_ignore_ascii_case(name) {
+            return Some(param.value.bytes.as_slice());
+        }
+    }
+    None
 }

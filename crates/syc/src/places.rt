@@ -1,17 +1,31 @@
 //! Where the objects of a relay stand: in which line of which file.
 
-use crate::files::{FileFault, Files};
-use crate::outline::{Outline, outline_script};
+use crate::files::Files;
+use crate::note::{Note, Place, Point, put_place};
+use crate::outline::{Object, ObjectWord, object_of, outline_script};
+use crate::source::{point_at, text_of, without_return, word_in};
+use crate::texts::Part;
+use crate::words::Words;
 use std::alloc::{AllocError, Global};
 use std::str;
+use sy_script::tree::Script;
 use sy_script::{FaultCode, read_script};
+use sy_site::{Site, SiteAction};
 
-/// The objects of a relay's file.
+/// A relay's file: its name as the site file writes it, its bytes, and its script, where it is one.
 #[derive(Drop)]
-pub struct Places {
-    pub file: String,
-    text: Vec<u8>,
-    outline: Outline,
+pub struct RelayFile {
+    pub name: String,
+    pub text: Vec<u8>,
+    pub script: Option<Script>,
+}
+
+/// A relay's file with its objects.
+#[derive(Clone, Copy)]
+pub struct Places<'a> {
+    pub file: &'a str,
+    pub text: &'a [u8],
+    pub objects: &'a [Object<'a>],
 }
 
 /// An object of a relay, by its number among those of its kind.
@@ -23,93 +37,95 @@ pub enum Thing {
     Action(u32),
 }
 
-fn number_at(places: &[usize], number: u32) -> Option<usize> {
-    match places.get(number as usize) {
-        Some(place) => Some(*place),
-        None => None,
-    }
-}
-
-// The line of a place in a text, counted from 1.
-fn line_at(text: &[u8], place: usize) -> u64 {
-    let mut line: u64 = 1;
-    for byte in text.iter().take(place) {
-        if *byte == b'\n' {
-            line = line.saturating_add(1);
-        }
-    }
-    line
-}
-
-impl Places {
-    fn place(&self, thing: Thing) -> Option<usize> {
+impl<'a> Places<'a> {
+    /// The object that a thing is, where it stands in the file.
+    pub fn object(&self, thing: Thing) -> Option<Object<'a>> {
         match thing {
-            Thing::MainQueue => self.outline.main_queue,
-            Thing::Ruleset(number) => number_at(self.outline.rulesets.as_slice(), number),
-            Thing::Input(number) => number_at(self.outline.inputs.as_slice(), number),
-            Thing::Action(number) => number_at(self.outline.actions.as_slice(), number),
+            Thing::MainQueue => object_of(self.objects, ObjectWord::MainQueue, 0),
+            Thing::Ruleset(number) => object_of(self.objects, ObjectWord::Ruleset, number),
+            Thing::Input(number) => object_of(self.objects, ObjectWord::Input, number),
+            Thing::Action(number) => object_of(self.objects, ObjectWord::Action, number),
         }
     }
 
-    /// The line in which an object's word stands.
-    pub fn line(&self, thing: Thing) -> Option<u64> {
-        match self.place(thing) {
-            Some(place) => Some(line_at(self.text.as_slice(), place)),
+    /// The point at which an object's word stands.
+    pub fn point(&self, thing: Thing) -> Option<Point> {
+        match self.object(thing) {
+            Some(object) => Some(point_at(self.text, object.start)),
             None => None,
         }
     }
-}
 
-// A file's bytes, where it can be read.
-fn text_of<F: Files>(files: &F, name: &str) -> Result<Option<Vec<u8>>, AllocError> {
-    match files.read(name) {
-        Ok(bytes) => Ok(Some(bytes)),
-        Err(FileFault::Read) => Ok(None),
-        Err(FileFault::NoMemory) => Err(AllocError),
+    /// Says that something stands at a place of the file.
+    pub fn stands_at(&self, alloc: Global, note: &mut Note, place: usize) {
+        let point = point_at(self.text, place);
+        note.stands_at(alloc, self.file.as_bytes(), Some(point));
+    }
+
+    /// Puts the file with a place of it, as `hub.conf:4:1`.
+    pub fn put_point(&self, alloc: Global, words: &mut Words, place: usize) {
+        let mut file = Words::new(alloc);
+        file.put(&[Part::Text(self.file.as_bytes())]);
+        let point = Some(point_at(self.text, place));
+        put_place(words, &Place { file, point });
     }
 }
 
-// A line without the one CR at its end, where it has one.
-fn without_return(line: &[u8]) -> &[u8] {
-    match line {
-        [front @ .., b'\r'] => front,
-        _ => line,
-    }
-}
-
-// The third word of a line of the site file, where it is a relay line.
-fn file_in(line: &[u8]) -> Option<&[u8]> {
-    let mut words = line
-        .split(|b| *b == b' ' || *b == b'\t')
-        .filter(|word| !word.is_empty());
-    if words.next()? != b"relay".as_slice() {
+/// The name of a relay's file in a line of the site file, with its place there, where that is a relay line.
+pub fn file_in(line: &[u8]) -> Option<(usize, &[u8])> {
+    let (_, first) = word_in(line, 0)?;
+    if first != b"relay".as_slice() {
         return None;
     }
-    let _ = words.next()?;
-    words.next()
+    word_in(line, 2)
 }
 
-// The name of a relay's file, in the text of the site file.
-fn file_of(text: &[u8], relay: u32) -> Option<&str> {
-    let mut left = relay;
+// Of the lines of a text that begin with a word the one of this number, counted from 0: its number among all lines, counted
+// from 1, and that line.
+fn line_of<'t>(text: &'t [u8], word: &[u8], number: u32) -> Option<(u64, &'t [u8])> {
+    let mut left = number;
+    let mut at: u64 = 1;
     for line in text.split(|b| *b == b'\n') {
-        if let Some(name) = file_in(without_return(line)) {
+        let line = without_return(line);
+        if matches!(word_in(line, 0), Some((_, first)) if first == word) {
             if left == 0 {
-                return str::from_utf8(name).ok();
+                return Some((at, line));
             }
             left -= 1;
         }
+        at = at.saturating_add(1);
     }
     None
 }
 
-// The objects of a text, where it is a script.
-fn outline_of(alloc: Global, text: &[u8]) -> Result<Option<Outline>, AllocError> {
+/// The number of the line of a relay in the text of the site file, counted from 1, and that line.
+pub fn relay_line(text: &[u8], relay: u32) -> Option<(u64, &[u8])> {
+    line_of(text, b"relay", relay)
+}
+
+/// The same of the line by which an action is spare.
+pub fn spare_line<'t>(text: &'t [u8], site: &Site, spare: SiteAction) -> Option<(u64, &'t [u8])> {
+    let mut number: u32 = 0;
+    for other in site.spares() {
+        if *other == spare {
+            return line_of(text, b"spare", number);
+        }
+        number = number.saturating_add(1);
+    }
+    None
+}
+
+// The name of a relay's file, in the text of the site file.
+fn file_of(text: &[u8], relay: u32) -> Option<&str> {
+    let (_, line) = relay_line(text, relay)?;
+    let (_, name) = file_in(line)?;
+    str::from_utf8(name).ok()
+}
+
+// The script that a text is, where it is one.
+fn script_of(alloc: Global, text: &[u8]) -> Result<Option<Script>, AllocError> {
     match read_script(alloc, text) {
-        Ok(script) => match outline_script(alloc, &script) {
-            Ok(found) => Ok(Some(found)),
-            Err(_) => Err(AllocError),
-        },
+        Ok(script) => Ok(Some(script)),
         Err(fault) => match fault.code {
             FaultCode::NoMemory => Err(AllocError),
             _ => Ok(None),
@@ -117,38 +133,57 @@ fn outline_of(alloc: Global, text: &[u8]) -> Result<Option<Outline>, AllocError>
     }
 }
 
-// The objects of a file.
-fn read_places<F: Files>(
+/// A relay's file by its name, where it can be read once more.
+pub fn read_relay_file<F: Files>(
     alloc: Global,
     files: &F,
     name: &str,
-) -> Result<Option<Places>, AllocError> {
+) -> Result<Option<RelayFile>, AllocError> {
     let Some(text) = text_of(files, name)? else {
         return Ok(None);
     };
-    let Some(outline) = outline_of(alloc, text.as_slice())? else {
-        return Ok(None);
-    };
-    let file = String::from_str(alloc, name)?;
-    Ok(Some(Places {
-        file,
-        text,
-        outline,
-    }))
+    let script = script_of(alloc, text.as_slice())?;
+    let name = String::from_str(alloc, name)?;
+    Ok(Some(RelayFile { name, text, script }))
 }
 
-/// The objects of a relay by its number, where its file can be found and read once more.
-pub fn places_of<F: Files>(
+/// The file of a relay by its number, where it can be found and read once more.
+pub fn relay_file<F: Files>(
     alloc: Global,
     files: &F,
     site_name: &str,
     relay: u32,
-) -> Result<Option<Places>, AllocError> {
+) -> Result<Option<RelayFile>, AllocError> {
     let Some(text) = text_of(files, site_name)? else {
         return Ok(None);
     };
     match file_of(text.as_slice(), relay) {
-        Some(name) => read_places(alloc, files, name),
+        Some(name) => read_relay_file(alloc, files, name),
         None => Ok(None),
+    }
+}
+
+/// The objects of a relay's file.
+pub fn objects_of(alloc: Global, file: &Option<RelayFile>) -> Result<Vec<Object<'_>>, AllocError> {
+    match file {
+        Some(
+            RelayFile {
+                script: Some(script),
+                ..
+            },
+        ) => outline_script(alloc, script),
+        _ => Ok(Vec::new(alloc)),
+    }
+}
+
+/// A relay's file with its objects, where it is a script.
+pub fn places_of<'a>(file: &'a Option<RelayFile>, objects: &'a [Object<'a>]) -> Option<Places<'a>> {
+    match file {
+        Some(file) if file.script.is_some() => Some(Places {
+            file: file.name.as_str(),
+            text: file.text.as_slice(),
+            objects,
+        }),
+        _ => None,
     }
 }

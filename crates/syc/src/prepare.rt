@@ -7,15 +7,16 @@ ghost use Rattle.syc.specs.SiteFiles.{IsSiteOf};
 
 use crate::answer::print;
 use crate::check::say_found;
-use crate::command::{all_words, refusal};
 use crate::files::Files;
 use crate::halt::{status_of, tell};
+use crate::options::all_words;
 use crate::outputs::Outputs;
 use crate::report::tell_texts;
-use crate::run::refuse;
 use crate::run_words::{RunWords, run_words};
+use crate::show::refuse;
 use crate::site::read_site;
 use crate::stop::out_of_memory;
+use crate::usage::refusal;
 use std::alloc::Global;
 use sy_board::Guard;
 use sy_checker::check_site;

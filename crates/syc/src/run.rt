@@ -4,61 +4,29 @@ ghost use Rattle.std.specs.Io.KnownBytes.{Keeps};
 ghost use Rattle.std.specs.List.{Any};
 ghost use Rattle.sy_site.specs.texts.Files.{file_names};
 ghost use Rattle.syc.specs.Checks.{AskedIs};
+ghost use Rattle.syc.specs.Optioned.{EndsAs, FailsAs};
 ghost use Rattle.syc.specs.Outcomes.{FailsBy, Shows};
-ghost use Rattle.syc.specs.Pass.{IsStatus, Leaves, NoneFailed, PassIs, counted};
+ghost use Rattle.syc.specs.Pass.{Leaves, NoneFailed, PassIs, counted};
 ghost use Rattle.syc.specs.Replays.{PiecesMayFail, ReplayIs};
 ghost use Rattle.syc.specs.Verdicts.{DescribesKept, VerifyIs};
-ghost use Rattle.syc.specs.Words.{AreAskingOf, AreNoCommandOf, ArePassAlone, AreReplayOf, AreVerifyOf};
+ghost use Rattle.syc.specs.Words.{AreAskingOf, AreNoCommandOf, AreOptioned, ArePassAlone, AreReplayOf, AreVerifyOf, OverSite as AnyOver};
 ghost use Rattle.syc.specs.declared.command.Asked.{Asked as AnyAsked};
 ghost use Rattle.syc.specs.declared.command.Asked.TheVariants as asked;
+ghost use Rattle.syc.specs.declared.options.Options.{Options as AnyOptions};
 ghost use Rattle.syc.specs.internal.Commands.{Answers, Fails, ShowsKept};
 
 use crate::ask::ask;
-use crate::command::{Command, SiteCommand, all_words, command_of};
+use crate::command::{Command, SiteCommand, command_of};
 use crate::files::Files;
-use crate::output::send;
+use crate::further::others;
+use crate::options::all_words;
 use crate::outputs::Outputs;
 use crate::pass::{READS, pass};
 use crate::replay::replay;
-use crate::stop::{out_of_memory, write_failed};
+use crate::stop::out_of_memory;
 use crate::verify::verify;
-use clap::Error;
-use clap::error::ErrorKind;
 use std::alloc::Global;
 use sy_wire::{Sink, Source};
-
-// Prints what clap answers in place of a command, and answers the exit status.
-fn show<W: Sink, E: Sink>(alloc: Global, out: &mut Outputs<W, E>, error: &Error) -> u8
-    ensures status { IsStatus result }
-    ensures none_failed { result ≢ 4 → out.new.output.faults ≡ out.old.output.faults }
-    ensures quiet { result ≡ 0 → Keeps out.old.errors.contents out.new.errors.contents }
-    ensures shown { Shows result out.old out.new }
-{
-    let Ok(text) = format!(in alloc; "{error}") else {
-        return out_of_memory(&mut out.errors);
-    };
-    if error.use_stderr() {
-        let _ = send(&mut out.errors, text.as_bytes());
-        return 2;
-    }
-    let Ok(()) = send(&mut out.writer, text.as_bytes()) else {
-        return write_failed(&mut out.errors);
-    };
-    0
-}
-
-/// Prints what is wrong with words that are no command, or that memory ran out, and answers the exit status.
-pub fn refuse<W: Sink, E: Sink>(alloc: Global, out: &mut Outputs<W, E>, error: &Error) -> u8
-    ensures status { result ≤ 4 }
-    ensures none_failed { result ≢ 4 → out.new.output.faults ≡ out.old.output.faults }
-    ensures quiet { result ≡ 0 → Keeps out.old.errors.contents out.new.errors.contents }
-    ensures shown { Shows result out.old out.new }
-{
-    match error.kind() {
-        ErrorKind::OutOfMemory => out_of_memory(&mut out.errors),
-        _ => show(alloc, out, error),
-    }
-}
 
 // Runs a command over a site, and answers the exit status.
 fn over_site<W: Sink, E: Sink, F: Files>(
@@ -105,6 +73,8 @@ pub fn run<R: Source, W: Sink, E: Sink, F: Files>(
         F.bytes_of files.now site ≡ Some text → result ≡ 0 → DescribesKept (F.bytes_of files.now) text }
     ensures verify_safe { (site certificate text : List ℕ) → AreVerifyOf (map string_bytes args.now) site certificate →
         F.bytes_of files.now site ≡ Some text → result ≡ 0 → DescribesKept (F.bytes_of files.now) text }
+    ensures check_safe { (site text : List ℕ) → AreAskingOf asked.Check (map string_bytes args.now) site →
+        F.bytes_of files.now site ≡ Some text → result ≡ 0 → DescribesKept (F.bytes_of files.now) text }
     ensures replay_fails { (site events text input : List ℕ) → AreReplayOf (map string_bytes args.now) site events →
         F.bytes_of files.now site ≡ Some text → F.bytes_of files.now events ≡ Some input →
         FailsBy (Any (F.may_fail files.now) (site ∷ events ∷ file_names text) ⊎ PiecesMayFail F.Opened.faults input)
@@ -115,6 +85,10 @@ pub fn run<R: Source, W: Sink, E: Sink, F: Files>(
     ensures verify_fails { (site certificate text : List ℕ) → AreVerifyOf (map string_bytes args.now) site certificate →
         F.bytes_of files.now site ≡ Some text →
         FailsBy (Any (F.may_fail files.now) (site ∷ certificate ∷ file_names text)) result out.old out.new }
+    ensures options_end { (options : AnyOptions) (command : AnyOver) → AreOptioned (map string_bytes args.now) options command →
+        EndsAs (F.bytes_of files.now) command result }
+    ensures options_fail { (options : AnyOptions) (command : AnyOver) → AreOptioned (map string_bytes args.now) options command →
+        FailsAs (F.bytes_of files.now) (F.may_fail files.now) (PiecesMayFail F.Opened.faults) command result out.old out.new }
     ensures other { AreNoCommandOf (map string_bytes args.now) → Shows result out.old out.new }
     ensures status { result ≤ 4 }
     ensures quiet { result ≡ 0 → Keeps out.old.errors.contents out.new.errors.contents }
@@ -128,9 +102,9 @@ pub fn run<R: Source, W: Sink, E: Sink, F: Files>(
     let Ok(words) = all_words(alloc, args) else {
         return out_of_memory(&mut out.errors);
     };
-    match command_of(alloc, words.as_slice()) {
+    match command_of(words.as_slice()) {
         Ok(Command::Pass) => pass(alloc, reader, out),
         Ok(Command::OverSite(command)) => over_site(alloc, command, files, out),
-        Err(error) => refuse(alloc, out, &error),
+        Err(_) => others(alloc, args, files, out),
     }
 }

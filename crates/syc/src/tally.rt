@@ -133,11 +133,17 @@ fn word_for(count: u64, one: &'static [u8], more: &'static [u8]) -> Part<'static
     Part::Text(if count == 1 { one } else { more })
 }
 
-// The names of classes, and how many there are where they are more than one.
-fn names_of(alloc: Global, classes: &[Class]) -> Result<Vec<u8>, AllocError> {
+/// Puts the names of classes.
+pub fn put_classes(alloc: Global, words: &mut Words, classes: &[Class]) -> Result<(), AllocError> {
     let sets = sets_of(alloc, classes)?;
+    put_sets(words, sets.as_slice());
+    Ok(())
+}
+
+/// The names of classes, and how many there are where they are more than one.
+pub fn names_of(alloc: Global, classes: &[Class]) -> Result<Vec<u8>, AllocError> {
     let mut words = Words::new(alloc);
-    put_sets(&mut words, sets.as_slice());
+    put_classes(alloc, &mut words, classes)?;
     if classes.len() > 1 {
         words.put(&[
             Part::Text(b" ("),
@@ -163,8 +169,8 @@ fn put_line(text: &mut Vec<u8>, site: &Site, group: &Group, names: &[u8]) -> Res
     text.extend_from_slice(b"\n")
 }
 
-// Puts it with the names of the group's classes.
-fn put_group(
+/// Puts the line of a group with the names of its classes behind a text.
+pub fn put_group(
     alloc: Global,
     text: &mut Vec<u8>,
     site: &Site,
@@ -215,8 +221,8 @@ fn named(groups: &[Group]) -> u32 {
     count
 }
 
-// How much is found.
-fn head_of(alloc: Global, groups: &[Group]) -> Result<Vec<u8>, AllocError> {
+/// How much is found.
+pub fn head_of(alloc: Global, groups: &[Group]) -> Result<Vec<u8>, AllocError> {
     let mut words = Words::new(alloc);
     let findings = groups.len() as u64;
     let classes = u64::from(named(groups));

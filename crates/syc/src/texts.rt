@@ -108,8 +108,8 @@ pub fn action_name(site: &Site, action: SiteAction) -> &[u8]
     }
 }
 
-// The port of an input.
-fn port_of(site: &Site, input: SiteInput) -> u16
+/// The port of an input.
+pub fn port_of(site: &Site, input: SiteInput) -> u16
     ensures { result ≡ port_of site.now input }
 {
     if input.relay >= site.relays() {

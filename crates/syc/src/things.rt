@@ -1,9 +1,11 @@
-//! The lines of an explanation that say where an object stands.
+//! Objects of relays, by the words for them, and where they stand.
 
 use crate::culprit::name_of_list;
+use crate::note::Note;
 use crate::places::{Places, Thing};
 use crate::texts::{Part, relay_name};
 use crate::words::Words;
+use std::alloc::Global;
 use sy_rules::Plan;
 use sy_site::Site;
 
@@ -29,35 +31,64 @@ fn parts_of(plan: &Plan, thing: Thing) -> [Part<'_>; 2] {
             Part::Text(b"ruleset "),
             Part::Text(name_of_list(plan, number.saturating_add(1))),
         ],
-        Thing::Input(number) => [Part::Text(b"the input at port "), port_part(plan, number)],
+        Thing::Input(number) => [Part::Text(b"input at port "), port_part(plan, number)],
         Thing::Action(number) => [Part::Text(b"action "), action_part(plan, number)],
     }
 }
 
-// The file, and the line where there is one: a main queue may have no object.
-fn put_place(words: &mut Words, places: &Places, thing: Thing) {
-    let file = Part::Text(places.file.as_str().as_bytes());
-    match places.line(thing) {
-        Some(line) => words.put(&[file, Part::Text(b" line "), Part::Number(line)]),
-        None => words.put(&[file, Part::Text(b", by defaults")]),
-    }
-}
-
-/// Puts the end of a line that says where an object stands, or of which relay it is, where that can't be found.
-pub fn put_where(
-    words: &mut Words,
-    site: &Site,
-    relay: u32,
-    places: &Option<Places>,
-    thing: Thing,
-) {
-    match places {
-        Some(places) => put_place(words, places, thing),
-        None => words.put(&[Part::Text(relay_name(site, relay))]),
-    }
-    words.say(": ");
+/// Puts an object of a relay, as `action up`.
+pub fn put_thing(words: &mut Words, site: &Site, relay: u32, thing: Thing) {
     if relay < site.relays() {
         words.put(&parts_of(site.plan(relay), thing));
     }
-    words.say("\n");
+}
+
+// The end of what is said of an object that stands in no line: a main queue may have none.
+fn said_by_defaults(places: Places<'_>, thing: Thing) -> &'static str {
+    match places.object(thing) {
+        Some(_) => "",
+        None => ", by defaults",
+    }
+}
+
+/// Says that a note is of an object of a relay, and where that stands, or of which relay it is, where that can't be found.
+pub fn stands_at(
+    alloc: Global,
+    note: &mut Note,
+    site: &Site,
+    relay: u32,
+    places: Option<Places<'_>>,
+    thing: Thing,
+) {
+    match places {
+        Some(places) => {
+            note.stands_at(alloc, places.file.as_bytes(), places.point(thing));
+            put_thing(&mut note.what, site, relay, thing);
+            note.what.say(said_by_defaults(places, thing));
+        }
+        None => {
+            note.what
+                .put(&[Part::Text(relay_name(site, relay)), Part::Text(b": ")]);
+            put_thing(&mut note.what, site, relay, thing);
+        }
+    }
+}
+
+/// Puts an object of a relay with its place, as `hub.conf:4:1: action audit`.
+pub fn put_with_place(
+    alloc: Global,
+    words: &mut Words,
+    site: &Site,
+    relay: u32,
+    places: Option<Places<'_>>,
+    thing: Thing,
+) {
+    if let Some(places) = places {
+        match places.object(thing) {
+            Some(object) => places.put_point(alloc, words, object.start),
+            None => words.put(&[Part::Text(places.file.as_bytes())]),
+        }
+        words.say(": ");
+    }
+    put_thing(words, site, relay, thing);
 }

@@ -14,6 +14,13 @@ use sy_cert::Certificate;
 use sy_checker::{CertFault, RowKind, verify};
 use sy_site::Site;
 
+/// The first line of a certificate that is wrong, and what is wanted there.
+#[derive(Clone, Copy)]
+pub struct WrongRow {
+    pub line: usize,
+    pub row: RowKind,
+}
+
 // That the first line of a certificate that is wrong is this one, and what is wanted there.
 fn refused(alloc: Global, line: usize, row: RowKind) -> Result<Answer, AllocError>
     ensures text { IfOk result (λ a. a.text.items ≡ spec.wrong_line line row) }
@@ -34,8 +41,8 @@ fn refused(alloc: Global, line: usize, row: RowKind) -> Result<Answer, AllocErro
     })
 }
 
-// How many classes a site keeps by a certificate that is fit for it, or what is wrong with that.
-fn count_kept(alloc: Global, site: &Site, certificate: &Certificate) -> Result<usize, CertFault>
+/// How many classes a site keeps by a certificate that is fit for it, or what is wrong with that.
+pub fn count_kept(alloc: Global, site: &Site, certificate: &Certificate) -> Result<usize, CertFault>
     ensures fit { OnOk result (IsFitFor site.now certificate.now) }
     ensures keeps { IfOk result (KeepsAll site.now) }
     ensures wrong { IfErr result (IsFault site.now certificate.now) }

@@ -38,8 +38,8 @@ fn certificate_of(alloc: Global, bytes: &[u8]) -> Result<Certificate, Halt>
     }
 }
 
-// The certificate in the file of this name.
-fn read_certificate<F: Files>(alloc: Global, files: &F, name: &str) -> Result<Certificate, Halt>
+/// The certificate in the file of this name.
+pub fn read_certificate<F: Files>(alloc: Global, files: &F, name: &str) -> Result<Certificate, Halt>
     ensures ok { IfOk result (λ c. IfSome (F.bytes_of files.now name.now) (λ bytes. IsTextOf bytes c)) }
     ensures err { IfErr result (λ why. IfSome (F.bytes_of files.now name.now) (λ bytes.
         internal.IsNoCertificate bytes why)) }
@@ -52,8 +52,8 @@ fn read_certificate<F: Files>(alloc: Global, files: &F, name: &str) -> Result<Ce
     }
 }
 
-// The verdict on the certificate in a file, for the site that another describes.
-fn judge<F: Files>(
+/// The verdict on the certificate in a file, for the site that another describes.
+pub fn judge<F: Files>(
     alloc: Global,
     files: &F,
     site_name: &str,

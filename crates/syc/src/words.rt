@@ -32,6 +32,21 @@ impl Words {
         self.put(&[Part::Text(words.as_bytes())]);
     }
 
+    /// Those that are there so far.
+    pub fn as_slice(&self) -> &[u8] {
+        self.text.as_slice()
+    }
+
+    /// Whether there are none.
+    pub fn is_empty(&self) -> bool {
+        self.text.is_empty()
+    }
+
+    /// Whether memory ran out, so that some were left out.
+    pub fn is_cut(&self) -> bool {
+        self.is_cut
+    }
+
     /// All of them, or that memory ran out.
     pub fn finish(self) -> Result<Vec<u8>, AllocError> {
         let Words { text, is_cut } = self;

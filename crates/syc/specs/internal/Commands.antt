@@ -3,15 +3,20 @@ use Rattle.std.specs.Prelude.{◌≡◌, ℕ, true, ◌⊎◌, List, ◌∷◌, 
 use Rattle.std.specs.List.{Any}
 use Rattle.sy_site.specs.texts.Files.{file_names}
 use Rattle.syc.specs.Checks.{AskedIs}
+use Rattle.syc.specs.Optioned.{EndsAs, FailsAs}
 use Rattle.syc.specs.Outcomes.{FailsBy}
 use Rattle.syc.specs.Reports.{Streams}
 use Rattle.syc.specs.Replays.{ReplayIs}
 use Rattle.syc.specs.Verdicts.{DescribesKept, VerifyIs}
-use Rattle.syc.specs.Words.{AreAsking, AreAskingOf, ArePass, AreReplay, AreReplayOf, AreRunArgs, AreRunOf, AreVerify, AreVerifyOf, RunOptions}
+use Rattle.syc.specs.Words.{AreAsking, AreAskingOf, AreGraphWords, AreOptioned, ArePass, AreReplay, AreReplayOf, AreRunArgs, AreRunOf, AreVerify, AreVerifyOf, HaveOptions, OverSite, RunOptions, allows, bare_of, is_any}
 use Rattle.syc.specs.declared.command.Asked.{Asked}
 use Rattle.syc.specs.declared.command.Asked.TheVariants as asked
 use Rattle.syc.specs.declared.command.SiteCommand.{SiteCommand}
 use Rattle.syc.specs.declared.command.SiteCommand.TheVariants as of_site
+use Rattle.syc.specs.declared.further.Further.{Further}
+use Rattle.syc.specs.declared.further.Further.TheVariants as further
+use Rattle.syc.specs.declared.options.GivenWords.{GivenWords}
+use Rattle.syc.specs.declared.options.Options.{Options}
 use Rattle.syc.specs.declared.run_words.Args.{Args}
 use Rattle.syc.specs.declared.run_words.RunWords.{RunWords}
 
@@ -43,7 +48,8 @@ Answers bytes_of (of_site.Verify site certificate) status old new =
     (site_text text : List ℕ) → bytes_of site.now ≡ Some site_text → bytes_of certificate.now ≡ Some text
     → VerifyIs bytes_of site_text text status old new
 
--- A check that ends with 0 shows that the site is kept; so does a verify, whatever the certificate's bytes are. Of the other commands nothing is said here.
+-- A check that ends with 0 shows that the site is kept, and so does a verify, whatever the certificate's bytes are. Of the other commands nothing is
+-- said here.
 abbrev pub ShowsKept : (List ℕ → Option (List ℕ)) → SiteCommand → ℕ → Type 0
 ShowsKept bytes_of (of_site.Verify site certificate) status = (text : List ℕ) → bytes_of site.now ≡ Some text → status ≡ 0 → DescribesKept bytes_of text
 ShowsKept bytes_of (of_site.Ask asked.Check site) status = (text : List ℕ) → bytes_of site.now ≡ Some text → status ≡ 0 → DescribesKept bytes_of text
@@ -74,3 +80,60 @@ abbrev pub AreArgs : List (List ℕ) → Args → Type 0
 AreArgs words found =
     AreRunArgs words (option_to_list (option_map (λ word. word.now) found.first) ++ option_to_list (option_map (λ word. word.now) found.second))
     (record { is_unchecked = found.is_unchecked; left = option_map (λ file. file.now) found.left; drain = found.drain })
+
+-- ---- options
+
+-- the same command by its words
+abbrev pub over : SiteCommand → OverSite
+over (of_site.Ask question site) = OverSite.Ask question site.now
+over (of_site.Replay site events) = OverSite.Replay site.now events.now
+over (of_site.Verify site certificate) = OverSite.Verify site.now certificate.now
+
+-- these words with the program's name before them, those that are no options, and the options among them
+pub record IsGiven (words : List (List ℕ)) (given : GivenWords) : Type 0 where
+  pub all : map (λ s. s.now) given.all.items ≡ codes "syc" ∷ words
+  pub bare : map (λ s. s.now) given.bare.items ≡ codes "syc" ∷ bare_of words
+  pub some : IfSome given.options (λ options. HaveOptions words options (bare_of words))
+  pub none : IfNone given.options ((options : Options) (bare : List (List ℕ)) → HaveOptions words options bare → ⊥)
+
+-- what words want that have options
+abbrev pub IsFurther : List (List ℕ) → Further → Type 0
+IsFurther words (further.WithOptions options command) = AreOptioned words options (over command)
+IsFurther words (further.Graph site) = AreGraphWords None words site.now
+IsFurther words (further.GraphOfClass site class) = AreGraphWords (Some class.now) words site.now
+
+-- the same with the program's name before them
+pub record IsNamed (words : List (List ℕ)) (found : Further) : Type 0 where
+  pub args : List (List ℕ)
+  pub words_are : words ≡ codes "syc" ∷ args
+  pub is : IsFurther args found
+
+-- the words that call for a command over a site, with the program's name before them
+abbrev pub CallNamed : OverSite → List (List ℕ) → Type 0
+CallNamed (OverSite.Ask question site) words = AreAsking question words site
+CallNamed (OverSite.Replay site events) words = AreReplay words site events
+CallNamed (OverSite.Verify site certificate) words = AreVerify words site certificate
+
+-- Bare words, with the program's name before them, call for a command over a site that takes these options, one at least.
+pub record TakesOptions (options : Options) (bare : List (List ℕ)) (command : OverSite) : Type 0 where
+  pub call : CallNamed command bare
+  pub some : is_any options ≡ true
+  pub allowed : allows options command ≡ true
+
+abbrev pub IsOptioned : Options → List (List ℕ) → Further → Type 0
+IsOptioned options bare (further.WithOptions given command) = (given ≡ options) × TakesOptions options bare (over command)
+IsOptioned options bare _ = ⊥
+
+-- They call for none.
+abbrev pub IsNotOptioned : Options → List (List ℕ) → Type 0
+IsNotOptioned options bare = (command : OverSite) → TakesOptions options bare command → ⊥
+
+-- how such a command ends; of a graph nothing is said here
+abbrev pub FurtherEnds : (List ℕ → Option (List ℕ)) → Further → ℕ → Type 0
+FurtherEnds bytes_of (further.WithOptions options command) status = EndsAs bytes_of (over command) status
+FurtherEnds bytes_of _ status = Unit {0}
+
+abbrev pub FurtherFails : (List ℕ → Option (List ℕ)) → (List ℕ → Type 0) → (List ℕ → Type 0) → Further → ℕ → Streams → Streams → Type 0
+FurtherFails bytes_of MayFail PiecesFail (further.WithOptions options command) status old new =
+    FailsAs bytes_of MayFail PiecesFail (over command) status old new
+FurtherFails bytes_of MayFail PiecesFail _ status old new = Unit {0}

@@ -14,7 +14,7 @@ use Rattle.syc.specs.Reports.{Torn, line_feed}
 use Rattle.syc.specs.SiteFiles.{IsSiteFault, IsSiteOf}
 use Rattle.syc.specs.declared.halt.Halt.{Halt}
 use Rattle.syc.specs.declared.halt.Halt.TheVariants as halt
-use Rattle.syc.specs.declared.replay.Course.{Course}
+use Rattle.syc.specs.declared.replaying.Course.{Course}
 use Rattle.syc.specs.declared.site.RelayFile.{RelayFile}
 
 -- the exit status

@@ -1,5 +1,4 @@
 use Rattle.syc.proofs.Commands.{shows_checked}
-use Rattle.syc.specs.declared.command.SiteCommand.TheVariants as of_site
 use Rattle.syc.proofs.run.over_site.Goals as goal
 
 pub returns-in-Replay-clause-answers : goal.returns-in-Replay-clause-answers
@@ -24,5 +23,4 @@ pub returns-in-Ask-clause-fails : goal.returns-in-Ask-clause-fails
 returns-in-Ask-clause-fails g c = rw c.in-Ask.is (λ text known. c.ask.ensures.fails text known)
 
 pub returns-in-Ask-clause-kept : goal.returns-in-Ask-clause-kept
-returns-in-Ask-clause-kept g c =
-    rw c.in-Ask.is (shows_checked (g.F.Files.bytes_of c.args.files.now) (of_site.Ask c.in-Ask.asked c.in-Ask.site) c.ask.result (λ text known is zero. c.ask.ensures.check_safe text known is zero))
+returns-in-Ask-clause-kept g c = rw c.in-Ask.is (shows_checked (g.F.Files.bytes_of c.args.files.now) _ _ c.ask.result c.ask.ensures.check_safe)

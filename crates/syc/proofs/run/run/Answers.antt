@@ -1,6 +1,8 @@
 use Rattle.syc.proofs.Commands.{asked_fails, for_asked, for_checked, for_kept, for_replay, for_verify, none_of_site, none_without_name, pass_alone, pass_asks_nothing, pass_is_apart, pass_no_replay, pass_no_verify, replay_fails, verify_fails, without_name}
 use Rattle.syc.proofs.Statuses.{nothing_passed}
+use Rattle.syc.proofs.Optioned.{calls, pass_has_none, site_has_none}
 use Rattle.syc.specs.declared.command.Asked.TheVariants as asked
+use Rattle.syc.specs.internal.Commands.{over}
 use Rattle.syc.proofs.run.run.Goals as goal
 
 pub returns-in_default-clause-pass : goal.returns-in_default-clause-pass
@@ -46,12 +48,27 @@ returns-in-Ok-Pass-clause-verify_fails g c =
 pub returns-in-Ok-Pass-clause-other : goal.returns-in-Ok-Pass-clause-other
 returns-in-Ok-Pass-clause-other g c =
     let alone = pass_alone _ _ _ _ c.as_slice.ensures.value c.in-Ok.ensures (rw c.in-Ok-Pass.field-0-is at c.in-Ok-Pass.ensures.ok) in
-    λ none. absurd (none.no_pass alone)
+    λ none. absurd (none.bare.no_pass alone)
 
 pub returns-in-Ok-Pass-clause-untouched : goal.returns-in-Ok-Pass-clause-untouched
 returns-in-Ok-Pass-clause-untouched g c =
     let alone = pass_alone _ _ _ _ c.as_slice.ensures.value c.in-Ok.ensures (rw c.in-Ok-Pass.field-0-is at c.in-Ok-Pass.ensures.ok) in
     λ no_pass. absurd (no_pass alone)
+
+pub returns-in-Ok-Pass-clause-check_safe : goal.returns-in-Ok-Pass-clause-check_safe
+returns-in-Ok-Pass-clause-check_safe g c =
+    let alone = pass_alone _ _ _ _ c.as_slice.ensures.value c.in-Ok.ensures (rw c.in-Ok-Pass.field-0-is at c.in-Ok-Pass.ensures.ok) in
+    λ site text are known zero. absurd (pass_asks_nothing _ alone asked.Check site are)
+
+pub returns-in-Ok-Pass-clause-options_end : goal.returns-in-Ok-Pass-clause-options_end
+returns-in-Ok-Pass-clause-options_end g c =
+    let alone = pass_alone _ _ _ _ c.as_slice.ensures.value c.in-Ok.ensures (rw c.in-Ok-Pass.field-0-is at c.in-Ok-Pass.ensures.ok) in
+    λ options command are. absurd (pass_has_none _ options command alone are)
+
+pub returns-in-Ok-Pass-clause-options_fail : goal.returns-in-Ok-Pass-clause-options_fail
+returns-in-Ok-Pass-clause-options_fail g c =
+    let alone = pass_alone _ _ _ _ c.as_slice.ensures.value c.in-Ok.ensures (rw c.in-Ok-Pass.field-0-is at c.in-Ok-Pass.ensures.ok) in
+    λ options command are. absurd (pass_has_none _ options command alone are)
 
 -- ---- a command over a site
 
@@ -106,7 +123,22 @@ returns-in-Ok-OverSite-clause-verify_fails g c =
 pub returns-in-Ok-OverSite-clause-other : goal.returns-in-Ok-OverSite-clause-other
 returns-in-Ok-OverSite-clause-other g c =
     let wanted = without_name _ _ _ _ c.as_slice.ensures.value c.in-Ok.ensures c.in-Ok-OverSite.command (rw c.in-Ok-OverSite.field-0-is at c.in-Ok-OverSite.ensures.ok) in
-    λ none. absurd (none_of_site _ c.in-Ok-OverSite.command none wanted)
+    λ none. absurd (none_of_site _ c.in-Ok-OverSite.command none.bare wanted)
+
+pub returns-in-Ok-OverSite-clause-check_safe : goal.returns-in-Ok-OverSite-clause-check_safe
+returns-in-Ok-OverSite-clause-check_safe g c =
+    let wanted = without_name _ _ _ _ c.as_slice.ensures.value c.in-Ok.ensures c.in-Ok-OverSite.command (rw c.in-Ok-OverSite.field-0-is at c.in-Ok-OverSite.ensures.ok) in
+    λ site text are known zero. for_checked _ _ _ c.in-Ok-OverSite.command wanted c.over_site.ensures.kept site text are known zero
+
+pub returns-in-Ok-OverSite-clause-options_end : goal.returns-in-Ok-OverSite-clause-options_end
+returns-in-Ok-OverSite-clause-options_end g c =
+    let wanted = without_name _ _ _ _ c.as_slice.ensures.value c.in-Ok.ensures c.in-Ok-OverSite.command (rw c.in-Ok-OverSite.field-0-is at c.in-Ok-OverSite.ensures.ok) in
+    λ options command are. absurd (site_has_none _ options (over c.in-Ok-OverSite.command) command (calls _ c.in-Ok-OverSite.command wanted) are)
+
+pub returns-in-Ok-OverSite-clause-options_fail : goal.returns-in-Ok-OverSite-clause-options_fail
+returns-in-Ok-OverSite-clause-options_fail g c =
+    let wanted = without_name _ _ _ _ c.as_slice.ensures.value c.in-Ok.ensures c.in-Ok-OverSite.command (rw c.in-Ok-OverSite.field-0-is at c.in-Ok-OverSite.ensures.ok) in
+    λ options command are. absurd (site_has_none _ options (over c.in-Ok-OverSite.command) command (calls _ c.in-Ok-OverSite.command wanted) are)
 
 -- ---- no command
 
@@ -155,17 +187,8 @@ returns-clause-leaves g c =
     let none = none_without_name _ _ _ _ c.as_slice.ensures.value c.in-Ok.ensures c.in-Err.ensures.err in
     λ pass. absurd (none.no_pass pass)
 
--- ---- that a check ends with 0 only where the site is kept
-
-pub returns-in-Ok-Pass-clause-check_safe : goal.returns-in-Ok-Pass-clause-check_safe
-returns-in-Ok-Pass-clause-check_safe g c =
-    let alone = pass_alone _ _ _ _ c.as_slice.ensures.value c.in-Ok.ensures (rw c.in-Ok-Pass.field-0-is at c.in-Ok-Pass.ensures.ok) in
-    λ site text are known zero. absurd (pass_asks_nothing _ alone asked.Check site are)
-
-pub returns-in-Ok-OverSite-clause-check_safe : goal.returns-in-Ok-OverSite-clause-check_safe
-returns-in-Ok-OverSite-clause-check_safe g c =
-    let wanted = without_name _ _ _ _ c.as_slice.ensures.value c.in-Ok.ensures c.in-Ok-OverSite.command (rw c.in-Ok-OverSite.field-0-is at c.in-Ok-OverSite.ensures.ok) in
-    λ site text are known zero. for_checked _ _ _ c.in-Ok-OverSite.command wanted c.over_site.ensures.kept site text are known zero
+pub returns-clause-other : goal.returns-clause-other
+returns-clause-other g c = λ none. c.others.ensures.other none.further
 
 pub returns-clause-check_safe : goal.returns-clause-check_safe
 returns-clause-check_safe g c =

@@ -1,0 +1,193 @@
+-- Which options stand among words, and which command is called for with them.
+use Rattle.std.proofs.Common.{◌≡◌, ◌+◌, ◌<◌, ℕ, Bool, List, [], ◌∷◌, ◌++◌, length, refl, sym, subst, ap, ◌∙◌, arith}
+use Rattle.std.specs.Prelude.{◌⊎◌, ◌||◌, Option, Some, None, true, false, codes}
+use Rattle.std.specs.Str.{bytes_eq}
+use Rattle.std.proofs.lemmas.Slice.Eq.{bytes_eq-Decides}
+use Rattle.syc.specs.Optioned.{EndsAs, FailsAs}
+use Rattle.syc.specs.Reports.{Streams}
+use Rattle.syc.specs.Words.{AreAsking, AreAskingOf, AreOptioned, AreReplay, ArePassAlone, AreVerify, CallFor, HaveOptions, IsSiteCommand, OverSite, allows, asking, bare_of, is_any, is_option, is_plain, once_if, times}
+use Rattle.syc.specs.declared.command.Asked.{Asked}
+use Rattle.syc.specs.declared.command.Asked.TheVariants as asked
+use Rattle.syc.specs.declared.command.SiteCommand.{SiteCommand}
+use Rattle.syc.specs.declared.command.SiteCommand.TheVariants as of_site
+use Rattle.syc.specs.declared.options.Options.{Options}
+use Rattle.syc.specs.internal.Commands.{AreNoSiteCommand, CallNamed, IsSiteCommandOf, TakesOptions, over}
+use Rattle.syc.proofs.Commands.{one_question, replay_no_question, replay_or_verify, rest_same, verify_no_question, first_same, others_same}
+
+-- ---- one word more
+
+front_by : (is_it : Bool) (word : List ℕ) (rest : List (List ℕ))
+    → (if is_it then rest else (word ∷ rest)) ≡ (if is_it then [] else (word ∷ [])) ++ rest
+front_by true word rest = refl
+front_by false word rest = refl
+
+-- what is left of words is what is left of the first of them, and then what is left of the others
+pub bare_front : (word : List ℕ) (rest : List (List ℕ)) → bare_of (word ∷ rest) ≡ bare_of (word ∷ []) ++ bare_of rest
+bare_front word rest = front_by (is_option word) word (bare_of rest)
+
+-- ---- each option once at most
+
+pub not_twice : (n : ℕ) (b : Bool) → 1 < n → n ≡ once_if b → ⊥
+not_twice n true more is = omega (arith, more, is)
+not_twice n false more is = omega (arith, more, is)
+
+same_flag : (a b : Bool) → once_if a ≡ once_if b → a ≡ b
+same_flag true true e = refl
+same_flag false false e = refl
+same_flag true false e = absurd (omega (arith, e))
+same_flag false true e = absurd (omega (arith, e))
+
+make : Bool → Bool → Bool → Options
+make explain all json = record { explain = explain; all = all; json = json }
+
+pub same_options : (words : List (List ℕ)) (a b : Options) (bare others : List (List ℕ)) → HaveOptions words a bare → HaveOptions words b others → a ≡ b
+same_options words a b bare others x y =
+    let explain = same_flag a.explain b.explain (sym x.explain ∙ y.explain) in
+    let all = same_flag a.all b.all (sym x.all ∙ y.all) in
+    let json = same_flag a.json b.json (sym x.json ∙ y.json) in
+    ap (λ e. make e a.all a.json) explain ∙ ap (λ l. make b.explain l a.json) all ∙ ap (λ j. make b.explain b.all j) json
+
+-- ---- one command
+
+same_ask : (a b : Asked) (s t : List ℕ) → (a ≡ b) × (s ≡ t) → OverSite.Ask a s ≡ OverSite.Ask b t
+same_ask a b s t e = ap (λ q. OverSite.Ask q s) e.0 ∙ ap (OverSite.Ask b) e.1
+
+-- the words fix what they call for
+pub same_call : (words : List (List ℕ)) (a b : OverSite) → CallNamed a words → CallNamed b words → a ≡ b
+same_call words (OverSite.Ask q s) (OverSite.Ask p t) x y = same_ask q p s t (one_question q p s t (rest_same (sym x.words_are ∙ y.words_are)))
+same_call words (OverSite.Ask q s) (OverSite.Replay t e) x y = absurd (replay_no_question q s t e (rest_same (sym x.words_are ∙ y.words_are)))
+same_call words (OverSite.Ask q s) (OverSite.Verify t c) x y = absurd (verify_no_question q s t c (rest_same (sym x.words_are ∙ y.words_are)))
+same_call words (OverSite.Replay s e) (OverSite.Ask p t) x y = absurd (replay_no_question p t s e (rest_same (sym y.words_are ∙ x.words_are)))
+same_call words (OverSite.Replay s e) (OverSite.Replay t f) x y =
+    let both = others_same (rest_same (sym x.words_are ∙ y.words_are)) in
+    ap (λ n. OverSite.Replay n e) both.0 ∙ ap (OverSite.Replay t) both.1
+same_call words (OverSite.Replay s e) (OverSite.Verify t c) x y = absurd (replay_or_verify (first_same (rest_same (sym x.words_are ∙ y.words_are))))
+same_call words (OverSite.Verify s c) (OverSite.Ask p t) x y = absurd (verify_no_question p t s c (rest_same (sym y.words_are ∙ x.words_are)))
+same_call words (OverSite.Verify s c) (OverSite.Replay t e) x y = absurd (replay_or_verify (first_same (rest_same (sym y.words_are ∙ x.words_are))))
+same_call words (OverSite.Verify s c) (OverSite.Verify t d) x y =
+    let both = others_same (rest_same (sym x.words_are ∙ y.words_are)) in
+    ap (λ n. OverSite.Verify n c) both.0 ∙ ap (OverSite.Verify t) both.1
+
+pub called : (words : List (List ℕ)) (command : SiteCommand) → IsSiteCommand words command → CallNamed (over command) words
+called words (of_site.Ask question site) h = h
+called words (of_site.Replay site events) h = h
+called words (of_site.Verify site certificate) h = h
+
+-- none is called for
+pub none_called : (words : List (List ℕ)) → AreNoSiteCommand words → (command : OverSite) → CallNamed command words → ⊥
+none_called words none (OverSite.Ask question site) h = none.no_asking question site h
+none_called words none (OverSite.Replay site events) h = none.no_replay site events h
+none_called words none (OverSite.Verify site certificate) h = none.no_verify site certificate h
+
+-- with and without the program's name
+named : (words bare : List (List ℕ)) → words ≡ codes "syc" ∷ bare → (command : OverSite) → CallFor command bare → CallNamed command words
+named words bare is (OverSite.Ask question site) h = record { words_are = is ∙ ap (λ w. codes "syc" ∷ w) h.words_are; site_plain = h.site_plain }
+named words bare is (OverSite.Replay site events) h =
+    record { words_are = is ∙ ap (λ w. codes "syc" ∷ w) h.words_are; site_plain = h.site_plain; events_plain = h.events_plain }
+named words bare is (OverSite.Verify site certificate) h =
+    record { words_are = is ∙ ap (λ w. codes "syc" ∷ w) h.words_are; site_plain = h.site_plain; certificate_plain = h.certificate_plain }
+
+unnamed : (words bare : List (List ℕ)) → words ≡ codes "syc" ∷ bare → (command : OverSite) → CallNamed command words → CallFor command bare
+unnamed words bare is (OverSite.Ask question site) h = record { words_are = rest_same (sym is ∙ h.words_are); site_plain = h.site_plain }
+unnamed words bare is (OverSite.Replay site events) h =
+    record { words_are = rest_same (sym is ∙ h.words_are); site_plain = h.site_plain; events_plain = h.events_plain }
+unnamed words bare is (OverSite.Verify site certificate) h =
+    record { words_are = rest_same (sym is ∙ h.words_are); site_plain = h.site_plain; certificate_plain = h.certificate_plain }
+
+-- ---- with options
+
+-- the words with options, from those without
+pub with_options : (words all : List (List ℕ)) (options : Options) (command : OverSite) → all ≡ codes "syc" ∷ bare_of words
+    → HaveOptions words options (bare_of words) → TakesOptions options all command → AreOptioned words options command
+with_options words all options command is have takes = record {
+  bare = bare_of words;
+  have = have;
+  some = takes.some;
+  allowed = takes.allowed;
+  call = unnamed all (bare_of words) is command takes.call;
+}
+
+-- and back
+pub without_options : (words all : List (List ℕ)) (options given : Options) (command : OverSite) → all ≡ codes "syc" ∷ bare_of words
+    → HaveOptions words given (bare_of words) → AreOptioned words options command → TakesOptions given all command
+without_options words all options given command is have are =
+    let same = same_options words options given are.bare (bare_of words) are.have have in
+    record {
+      call = named all are.bare (is ∙ ap (λ w. codes "syc" ∷ w) (sym are.have.bare_are)) command are.call;
+      some = subst (λ o. is_any o ≡ true) same are.some;
+      allowed = subst (λ o. allows o command ≡ true) same are.allowed;
+    }
+
+-- ---- bare words have no options
+
+decided : (b : Bool) → (b ≡ true → ⊥) → b ≡ false
+decided true no = absurd (no refl)
+decided false no = refl
+
+both_ways : {b : Bool} → b ≡ true → b ≡ false → ⊥
+both_ways yes no = cc
+
+-- a word that is no option is none of them
+apart : (word option : List ℕ) → is_plain word ≡ true → is_plain option ≡ false → once_if (bytes_eq word option) ≡ 0
+apart word option plain no =
+    ap once_if (decided (bytes_eq word option) (λ yes. both_ways (subst (λ w. is_plain w ≡ true) ((bytes_eq-Decides word option).0 yes) plain) no))
+
+both_zero : (m n : ℕ) → m ≡ 0 → n ≡ 0 → m + n ≡ 0
+both_zero m n first second = omega (arith, first, second)
+
+one_none : (option a : List ℕ) → is_plain option ≡ false → is_plain a ≡ true → times option (a ∷ []) ≡ 0
+one_none option a no plain = both_zero (once_if (bytes_eq a option)) 0 (apart a option plain no) refl
+
+two_none : (option a b : List ℕ) → is_plain option ≡ false → is_plain a ≡ true → is_plain b ≡ true → times option (a ∷ b ∷ []) ≡ 0
+two_none option a b no first second =
+    both_zero (once_if (bytes_eq a option)) (times option (b ∷ [])) (apart a option first no) (one_none option b no second)
+
+three_none : (option a b c : List ℕ) → is_plain option ≡ false → is_plain a ≡ true → is_plain b ≡ true → is_plain c ≡ true
+    → times option (a ∷ b ∷ c ∷ []) ≡ 0
+three_none option a b c no first second third =
+    both_zero (once_if (bytes_eq a option)) (times option (b ∷ c ∷ [])) (apart a option first no) (two_none option b c no second third)
+
+none_of_three : (a b c : Bool) → a ≡ false → b ≡ false → c ≡ false → (a || b || c) ≡ true → ⊥
+none_of_three false false false x y z e = both_ways e refl
+none_of_three true b c x y z e = both_ways refl x
+none_of_three false true c x y z e = both_ways refl y
+none_of_three false false true x y z e = both_ways refl z
+
+flag_of : (b : Bool) (n : ℕ) → n ≡ once_if b → n ≡ 0 → b ≡ false
+flag_of true n is zero = absurd (omega (arith, is, zero))
+flag_of false n is zero = refl
+
+no_any : (words bare : List (List ℕ)) (options : Options) → HaveOptions words options bare
+    → ((option : List ℕ) → is_plain option ≡ false → times option words ≡ 0) → is_any options ≡ true → ⊥
+no_any words bare options have none some =
+    none_of_three options.explain options.all options.json
+    (flag_of options.explain _ have.explain (none (codes "--explain") refl))
+    (flag_of options.all _ have.all (none (codes "--all") refl))
+    (flag_of options.json _ have.json (none (codes "--json") refl)) some
+
+on_words : (words others : List (List ℕ)) → words ≡ others → ((option : List ℕ) → is_plain option ≡ false → times option others ≡ 0)
+    → (option : List ℕ) → is_plain option ≡ false → times option words ≡ 0
+on_words words others is none option no = ap (times option) is ∙ none option no
+
+pub pass_has_none : (words : List (List ℕ)) (options : Options) (command : OverSite) → ArePassAlone words → AreOptioned words options command → ⊥
+pass_has_none words options command pass are =
+    no_any words are.bare options are.have (on_words words _ pass (λ option no. one_none option (codes "pass") no refl)) are.some
+
+plain_question : (question : Asked) → (s option : List ℕ) → is_plain option ≡ false → is_plain s ≡ true → times option (asking question ++ s ∷ []) ≡ 0
+plain_question asked.Check s option no plain = two_none option (codes "check") s no refl plain
+plain_question asked.Certify s option no plain = two_none option (codes "certify") s no refl plain
+
+pub site_has_none : (words : List (List ℕ)) (options : Options) (bare command : OverSite) → CallFor bare words → AreOptioned words options command → ⊥
+site_has_none words options (OverSite.Ask question site) command call are =
+    no_any words are.bare options are.have (on_words words _ call.words_are (λ option no. plain_question question site option no call.site_plain)) are.some
+site_has_none words options (OverSite.Replay site events) command call are =
+    no_any words are.bare options are.have
+    (on_words words _ call.words_are (λ option no. three_none option (codes "replay") site events no refl call.site_plain call.events_plain)) are.some
+site_has_none words options (OverSite.Verify site certificate) command call are =
+    no_any words are.bare options are.have
+    (on_words words _ call.words_are (λ option no. three_none option (codes "verify") site certificate no refl call.site_plain call.certificate_plain)) are.some
+
+pub calls : (words : List (List ℕ)) (command : SiteCommand) → IsSiteCommandOf words command → CallFor (over command) words
+calls words (of_site.Ask question site) h = h
+calls words (of_site.Replay site events) h = h
+calls words (of_site.Verify site certificate) h = h

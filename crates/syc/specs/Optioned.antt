@@ -1,0 +1,29 @@
+-- What a command over a site answers that has options (this profile's own).
+use Rattle.std.specs.Prelude.{◌≡◌, ℕ, List, ◌∷◌, ◌⊎◌, Option, Some}
+use Rattle.std.specs.List.{Any}
+use Rattle.sy_site.specs.texts.Files.{file_names}
+use Rattle.syc.specs.Checks.{AskedIs}
+use Rattle.syc.specs.Outcomes.{FailsBy, MayEnd}
+use Rattle.syc.specs.Replays.{ReplayIs}
+use Rattle.syc.specs.Reports.{Streams}
+use Rattle.syc.specs.Verdicts.{VerifyIs}
+use Rattle.syc.specs.Words.{OverSite}
+
+-- The exit status is one that the command without options answers over these files.
+abbrev pub EndsAs : (List ℕ → Option (List ℕ)) → OverSite → ℕ → Type 0
+EndsAs bytes_of (OverSite.Ask question site) status =
+    (text : List ℕ) → bytes_of site ≡ Some text → MayEnd (AskedIs question bytes_of text) status
+EndsAs bytes_of (OverSite.Replay site events) status =
+    (text input : List ℕ) → bytes_of site ≡ Some text → bytes_of events ≡ Some input → MayEnd (ReplayIs bytes_of text input) status
+EndsAs bytes_of (OverSite.Verify site certificate) status =
+    (site_text text : List ℕ) → bytes_of site ≡ Some site_text → bytes_of certificate ≡ Some text → MayEnd (VerifyIs bytes_of site_text text) status
+
+-- Status 4 has the same causes as there.
+abbrev pub FailsAs : (List ℕ → Option (List ℕ)) → (List ℕ → Type 0) → (List ℕ → Type 0) → OverSite → ℕ → Streams → Streams → Type 0
+FailsAs bytes_of MayFail PiecesFail (OverSite.Ask question site) status old new =
+    (text : List ℕ) → bytes_of site ≡ Some text → FailsBy (Any MayFail (site ∷ file_names text)) status old new
+FailsAs bytes_of MayFail PiecesFail (OverSite.Replay site events) status old new =
+    (text input : List ℕ) → bytes_of site ≡ Some text → bytes_of events ≡ Some input
+    → FailsBy (Any MayFail (site ∷ events ∷ file_names text) ⊎ PiecesFail input) status old new
+FailsAs bytes_of MayFail PiecesFail (OverSite.Verify site certificate) status old new =
+    (text : List ℕ) → bytes_of site ≡ Some text → FailsBy (Any MayFail (site ∷ certificate ∷ file_names text)) status old new

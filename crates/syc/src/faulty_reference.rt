@@ -1,0 +1,269 @@
+//! Notes of lines of a site file that name an input or an archive that isn't there, and of a site without any.
+
+use crate::faulty_site::{SiteLine, stands_at_word};
+use crate::files::Files;
+use crate::near::nearest;
+use crate::note::Note;
+use crate::outline::{Object, ObjectWord, value_of};
+use crate::places::{Places, RelayFile, file_in, objects_of, places_of, read_relay_file};
+use crate::source::{without_return, word_in};
+use crate::texts::Part;
+use crate::words::Words;
+use std::alloc::{AllocError, Global};
+use std::str;
+
+// The name of the file of the relay with this name.
+fn file_named<'t>(text: &'t [u8], relay: &[u8]) -> Option<&'t str> {
+    for line in text.split(|b| *b == b'\n') {
+        let line = without_return(line);
+        if let (Some((_, name)), Some((_, file))) = (word_in(line, 1), file_in(line)) {
+            if name == relay {
+                return str::from_utf8(file).ok();
+            }
+        }
+    }
+    None
+}
+
+// The file of the relay with this name, where it can be read.
+fn file_of<F: Files>(
+    alloc: Global,
+    files: &F,
+    text: &[u8],
+    relay: &[u8],
+) -> Result<Option<RelayFile>, AllocError> {
+    match file_named(text, relay) {
+        Some(name) => read_relay_file(alloc, files, name),
+        None => Ok(None),
+    }
+}
+
+// The number that digits write, so far as it fits.
+fn number(digits: &[u8]) -> u64 {
+    let mut number: u64 = 0;
+    for digit in digits {
+        number = number
+            .saturating_mul(10)
+            .saturating_add(u64::from(digit.saturating_sub(b'0')));
+    }
+    number
+}
+
+fn has_port(objects: &[Object<'_>], wanted: &[u8]) -> bool {
+    for object in objects {
+        if object.word == ObjectWord::Input {
+            if let Some(port) = value_of(object.params, b"port") {
+                if number(port) == number(wanted) {
+                    return true;
+                }
+            }
+        }
+    }
+    false
+}
+
+/// Says that a relay has no input of this port, and which it has, where that is so, and answers whether it is.
+pub fn put_no_port<F: Files>(
+    alloc: Global,
+    files: &F,
+    note: &mut Note,
+    site_text: &[u8],
+    relay: &[u8],
+    port: &[u8],
+) -> Result<bool, AllocError> {
+    let file = file_of(alloc, files, site_text, relay)?;
+    let objects = objects_of(alloc, &file)?;
+    if has_port(objects.as_slice(), port) {
+        return Ok(false);
+    }
+    note.why.put(&[Part::Text(relay), Part::Text(b" has no input of this port")]);
+    note.change.put(&[
+        Part::Text(b"a port of "),
+        Part::Text(relay),
+        Part::Text(b":"),
+    ]);
+    for object in objects.as_slice() {
+        if object.word == ObjectWord::Input {
+            if let Some(port) = value_of(object.params, b"port") {
+                note.change.put(&[Part::Text(b" "), Part::Text(port)]);
+            }
+        }
+    }
+    Ok(true)
+}
+
+/// Says of an entry line that its relay has no input of that port, and which ports there are.
+pub fn put_no_entry<F: Files>(
+    alloc: Global,
+    files: &F,
+    note: &mut Note,
+    at: SiteLine<'_>,
+) -> Result<(), AllocError> {
+    stands_at_word(alloc, note, at, 2);
+    if let (Some((_, relay)), Some((_, port))) = (word_in(at.line, 1), word_in(at.line, 2)) {
+        put_no_port(alloc, files, note, at.text, relay, port)?;
+    }
+    Ok(())
+}
+
+/// What a line names: an action that writes a file, or any action.
+#[derive(Clone, Copy)]
+enum Sought {
+    Archive,
+    Action,
+}
+
+fn is_sought(object: Object<'_>, sought: Sought) -> bool {
+    if object.word != ObjectWord::Action {
+        return false;
+    }
+    match sought {
+        Sought::Archive => value_of(object.params, b"type") == Some(b"omfile"),
+        Sought::Action => true,
+    }
+}
+
+// Puts the name of an action with its place; `action-N` by its number where it has none.
+fn put_found(
+    alloc: Global,
+    words: &mut Words,
+    places: Places<'_>,
+    object: Object<'_>,
+    number: u64,
+) {
+    match value_of(object.params, b"name") {
+        Some(name) => words.put(&[Part::Text(b" "), Part::Text(name)]),
+        None => words.put(&[Part::Text(b" action-"), Part::Number(number)]),
+    }
+    words.say(" (");
+    places.put_point(alloc, words, object.start);
+    words.say(")");
+}
+
+// The names of what is sought, of those with a name.
+fn names_of<'a>(
+    alloc: Global,
+    objects: &[Object<'a>],
+    sought: Sought,
+) -> Result<Vec<&'a [u8]>, AllocError> {
+    let mut names = Vec::new(alloc);
+    for object in objects {
+        if is_sought(*object, sought) {
+            if let Some(name) = value_of(object.params, b"name") {
+                names.push(name)?;
+            }
+        }
+    }
+    Ok(names)
+}
+
+// Puts what is sought in a file: the one that is likely meant, or all.
+fn put_all_found(
+    alloc: Global,
+    note: &mut Note,
+    places: Places<'_>,
+    wanted: &[u8],
+    sought: Sought,
+) -> Result<(), AllocError> {
+    let names = names_of(alloc, places.objects, sought)?;
+    let near = nearest(wanted, names.as_slice());
+    let mut number: u64 = 0;
+    for object in places.objects {
+        if object.word == ObjectWord::Action {
+            let is_meant = near.is_none() || value_of(object.params, b"name") == near;
+            if is_sought(*object, sought) && is_meant {
+                put_found(alloc, &mut note.change, places, *object, number);
+            }
+            number = number.saturating_add(1);
+        }
+    }
+    Ok(())
+}
+
+// Puts what a relay has of what is sought.
+fn put_choice<F: Files>(
+    alloc: Global,
+    files: &F,
+    note: &mut Note,
+    site_text: &[u8],
+    relay: &[u8],
+    wanted: &[u8],
+    sought: Sought,
+) -> Result<(), AllocError> {
+    let file = file_of(alloc, files, site_text, relay)?;
+    let objects = objects_of(alloc, &file)?;
+    note.change.put(&[Part::Text(b" of "), Part::Text(relay), Part::Text(b":")]);
+    if !objects
+        .as_slice()
+        .iter()
+        .any(|object| is_sought(*object, sought))
+    {
+        note.change.say(" it has none");
+    }
+    match places_of(&file, objects.as_slice()) {
+        Some(places) => put_all_found(alloc, note, places, wanted, sought),
+        None => Ok(()),
+    }
+}
+
+/// Says of a protect line that its relay has no archive of that name, and which there are.
+pub fn put_no_archive<F: Files>(
+    alloc: Global,
+    files: &F,
+    note: &mut Note,
+    at: SiteLine<'_>,
+) -> Result<(), AllocError> {
+    stands_at_word(alloc, note, at, 3);
+    let (Some((_, relay)), Some((_, wanted))) = (word_in(at.line, 2), word_in(at.line, 3)) else {
+        return Ok(());
+    };
+    note.why.put(&[
+        Part::Text(relay),
+        Part::Text(b" has no omfile action of this name"),
+    ]);
+    note.change.say("an omfile action");
+    put_choice(alloc, files, note, at.text, relay, wanted, Sought::Archive)
+}
+
+/// Says of a spare line that its relay has no action of that name, and which there are.
+pub fn put_no_action<F: Files>(
+    alloc: Global,
+    files: &F,
+    note: &mut Note,
+    at: SiteLine<'_>,
+) -> Result<(), AllocError> {
+    stands_at_word(alloc, note, at, 2);
+    let (Some((_, relay)), Some((_, wanted))) = (word_in(at.line, 1), word_in(at.line, 2)) else {
+        return Ok(());
+    };
+    note.why.put(&[
+        Part::Text(relay),
+        Part::Text(b" has no action of this name"),
+    ]);
+    note.change.say("an action");
+    put_choice(alloc, files, note, at.text, relay, wanted, Sought::Action)
+}
+
+// Whether a line begins with a word.
+fn has_line(text: &[u8], word: &[u8]) -> bool {
+    text.split(|b| *b == b'\n').any(|line| match word_in(line, 0) {
+        Some((_, first)) => first == word,
+        None => false,
+    })
+}
+
+/// Says of a site that protects nothing what it lacks.
+pub fn put_nothing_protected(alloc: Global, note: &mut Note, file: &str, text: &[u8]) {
+    note.stands_at(alloc, file.as_bytes(), None);
+    note.what.say("the site");
+    if !has_line(text, b"entry") {
+        note.why.say("no line names an entry");
+        note.change.say("entry RELAY PORT");
+    } else if !has_line(text, b"protect") {
+        note.why.say("no line protects a class");
+        note.change.say("protect SELECTOR RELAY ACTION");
+    } else {
+        note.why.say("no selector of a protect line has a class");
+        note.change.say("a selector with a class, as auth.*");
+    }
+}

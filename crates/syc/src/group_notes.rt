@@ -1,0 +1,33 @@
+//! What `--all` with `--explain` says of each finding.
+
+use crate::explanation::note_of_finding;
+use crate::files::Files;
+use crate::note::put_note;
+use crate::words::Words;
+use std::alloc::{AllocError, Global};
+use sy_checker::Group;
+use sy_checker::finding::Finding;
+use sy_script::Items;
+use sy_site::Site;
+
+/// The words on a group, behind its line: those on its first class.
+pub fn group_words<F: Files>(
+    alloc: Global,
+    files: &F,
+    site_name: &str,
+    site: &Site,
+    group: &Group,
+) -> Result<Vec<u8>, AllocError> {
+    let mut words = Words::new(alloc);
+    if let [class, ..] = group.classes.as_slice() {
+        let finding = Finding {
+            class: *class,
+            input: group.input,
+            way: Items::new(alloc),
+            kind: group.kind,
+        };
+        let note = note_of_finding(alloc, files, site_name, site, &finding)?;
+        put_note(&mut words, &note);
+    }
+    words.finish()
+}

@@ -1,0 +1,335 @@
+//! What clap says of the program and of each command: a help, the version, and what is wrong with other words.
+
+use crate::command::is_word;
+use clap::error::ErrorKind;
+use clap::{Arg, ArgAction, Command as Parser, Error};
+use std::alloc::{AllocError, Global};
+
+const ABOUT: &str = "A relay for syslog messages in octet-counted frames";
+
+const SITE: &str =
+    "The site file: it names the relays with their configurations, the entries, and what is protected";
+
+const EXPLAIN: &str =
+    "Explain what is found, or the fault: where it stands, why, and what to change";
+
+const ALL: &str = "List every finding, with the classes that it affects, in place of the first";
+
+const CLASS: &str = "Draw what the messages of this class may reach, as auth.crit";
+
+const LEFT: &str = "Write what the relay still holds at its end to this file, as frames";
+
+const DRAIN: &str =
+    "Wait until the relay holds nothing, before it ends, but so many seconds at most: 0 to 86400";
+
+const JSON: &str = "Print one JSON document in place of the text";
+
+const PASS_BEHIND: &str = "Exit status:
+  0  all messages were written
+  2  the input is faulty, or the command line is
+  3  out of memory
+  4  a read or a write failed
+
+Example:
+  syc pass <frames >lines";
+
+const CHECK_BEHIND: &str = "Exit status, with any of these options:
+  0  accepted: no message of a protected class is lost
+  1  refused: something is found
+  2  a file is faulty, or the command line is
+  3  out of memory
+  4  a read or a write failed
+
+Example:
+  syc check --explain site";
+
+const CERTIFY_BEHIND: &str = "Exit status, with any of these options:
+  0  accepted: the certificate is printed
+  1  refused: something is found, as by check
+  2  a file is faulty, or the command line is
+  3  out of memory
+  4  a read or a write failed
+
+Example:
+  syc certify site >cert";
+
+const VERIFY_BEHIND: &str = "Exit status, with any of these options:
+  0  accepted: the certificate shows that no message of a protected class is lost
+  1  refused: a row of the certificate is wrong or lacking
+  2  a file is faulty, or the command line is
+  3  out of memory
+  4  a read or a write failed
+
+Example:
+  syc verify site cert";
+
+const REPLAY_BEHIND: &str = "Exit status, with any of these options:
+  0  all events were made
+  1  an event is no step of the site, or finds a total full
+  2  a file is faulty, or the command line is
+  3  out of memory
+  4  a read or a write failed
+
+Example:
+  syc replay site events";
+
+const RUN_BEHIND: &str = "Exit status:
+  0  the relay ran until standard input ended
+  1  the site is refused
+  2  a file is faulty, the site has no such relay, or the command line is faulty
+  3  out of memory
+  4  a read or a write failed, or a port or a file can't be opened
+
+Lines on standard input:
+  status  prints the totals as they stand on standard error
+  reopen  opens the archives anew
+
+Example:
+  syc run site hub";
+
+const GRAPH_BEHIND: &str = "Exit status:
+  0  the graph was printed
+  2  a file is faulty, or the command line is
+  3  out of memory
+  4  a read or a write failed
+
+Example:
+  syc graph site | dot -Tsvg >site.svg";
+
+// The commands: the word of each, what it does, the names behind it and its options, each with what it means, and what
+// stands at the end of its help.
+static COMMANDS: [(&str, &str, &[(&str, &str)], &[(&str, &str)], &str); 7] = [
+    (
+        "pass",
+        "Read messages in octet-counted frames from standard input and write one line a message",
+        &[],
+        &[],
+        PASS_BEHIND,
+    ),
+    (
+        "check",
+        "Say whether a site keeps the messages of its protected classes",
+        &[("SITE", SITE)],
+        &[("explain", EXPLAIN), ("all", ALL), ("json", JSON)],
+        CHECK_BEHIND,
+    ),
+    (
+        "certify",
+        "Print a certificate of a site, for others to verify",
+        &[("SITE", SITE)],
+        &[("explain", EXPLAIN), ("json", JSON)],
+        CERTIFY_BEHIND,
+    ),
+    (
+        "verify",
+        "Say whether a certificate shows that a site keeps the messages of its protected classes",
+        &[
+            ("SITE", SITE),
+            ("CERT", "The certificate, as certify prints it"),
+        ],
+        &[("explain", EXPLAIN), ("json", JSON)],
+        VERIFY_BEHIND,
+    ),
+    (
+        "replay",
+        "Make the events of a file at the site of a site file, and print each loss",
+        &[("SITE", SITE), ("EVENTS", "The events, one a line")],
+        &[("explain", EXPLAIN), ("json", JSON)],
+        REPLAY_BEHIND,
+    ),
+    (
+        "run",
+        "Check a site, and run one of its relays until standard input ends",
+        &[
+            ("SITE", SITE),
+            ("RELAY", "The name of the relay that is run"),
+        ],
+        &[("unchecked", "Run it without a check")],
+        RUN_BEHIND,
+    ),
+    (
+        "graph",
+        "Print a site as a graph, for Graphviz",
+        &[("SITE", SITE)],
+        &[],
+        GRAPH_BEHIND,
+    ),
+];
+
+// A parser with the name of a file more. Here and below a parser that couldn't be made is passed on, since a `?` where
+// parsers are owned is dear to prove.
+fn with_name<'a>(
+    alloc: Global,
+    parser: Result<Parser<'a>, AllocError>,
+    name: &'a str,
+    help: &'a str,
+) -> Result<Parser<'a>, AllocError> {
+    match parser {
+        Ok(parser) => parser.arg(Arg::new(alloc, name).help(help).required(true)),
+        Err(why) => Err(why),
+    }
+}
+
+// Lets a parser go where memory ran out.
+fn no_parser<'a>(_parser: Parser<'a>) -> Result<Parser<'a>, AllocError> {
+    Err(AllocError)
+}
+
+// A parser with an option more.
+fn with_option<'a>(
+    alloc: Global,
+    parser: Result<Parser<'a>, AllocError>,
+    name: &'a str,
+    help: &'a str,
+) -> Result<Parser<'a>, AllocError> {
+    match parser {
+        Ok(parser) => {
+            let flag = Arg::new(alloc, name).long(name).help(help);
+            parser.arg(flag.action(ArgAction::SetTrue))
+        }
+        Err(why) => Err(why),
+    }
+}
+
+// A parser with an option more that has a value.
+fn with_value<'a>(
+    alloc: Global,
+    parser: Result<Parser<'a>, AllocError>,
+    name: &'a str,
+    value: &'a str,
+    help: &'a str,
+) -> Result<Parser<'a>, AllocError> {
+    match parser {
+        Ok(parser) => {
+            let option = Arg::new(alloc, name).long(name).value_name(value);
+            parser.arg(option.help(help).action(ArgAction::Set))
+        }
+        Err(why) => Err(why),
+    }
+}
+
+// A parser with the options of a command that have values.
+fn with_values<'a>(
+    alloc: Global,
+    parser: Result<Parser<'a>, AllocError>,
+    word: &'a str,
+) -> Result<Parser<'a>, AllocError> {
+    if is_word(word, "graph") {
+        return with_value(alloc, parser, "class", "CLASS", CLASS);
+    }
+    if is_word(word, "run") {
+        let parser = with_value(alloc, parser, "left", "FILE", LEFT);
+        return with_value(alloc, parser, "drain", "SECONDS", DRAIN);
+    }
+    parser
+}
+
+// A parser with the names behind a command's word.
+fn with_names<'a>(
+    alloc: Global,
+    parser: Result<Parser<'a>, AllocError>,
+    names: &'a [(&'a str, &'a str)],
+) -> Result<Parser<'a>, AllocError> {
+    let mut parser = parser;
+    for (name, help) in names {
+        parser = with_name(alloc, parser, name, help);
+    }
+    parser
+}
+
+// A parser with the options of a command.
+fn with_options<'a>(
+    alloc: Global,
+    parser: Result<Parser<'a>, AllocError>,
+    options: &'a [(&'a str, &'a str)],
+) -> Result<Parser<'a>, AllocError> {
+    let mut parser = parser;
+    for (name, help) in options {
+        parser = with_option(alloc, parser, name, help);
+    }
+    parser
+}
+
+// What clap knows of a command.
+fn parser_of<'a>(
+    alloc: Global,
+    word: &'a str,
+    about: &'a str,
+    behind: &'a str,
+    names: &'a [(&'a str, &'a str)],
+    options: &'a [(&'a str, &'a str)],
+) -> Result<Parser<'a>, AllocError> {
+    let parser = Ok(Parser::new(alloc, word).about(about).after_help(behind));
+    let parser = with_names(alloc, parser, names);
+    let parser = with_options(alloc, parser, options);
+    with_values(alloc, parser, word)
+}
+
+// A parser with one command more.
+fn with_command<'a>(
+    parser: Result<Parser<'a>, AllocError>,
+    command: Result<Parser<'a>, AllocError>,
+) -> Result<Parser<'a>, AllocError> {
+    match parser {
+        Ok(parser) => match command {
+            Ok(command) => parser.subcommand(command),
+            Err(_) => no_parser(parser),
+        },
+        Err(why) => Err(why),
+    }
+}
+
+// What clap knows of the program, but for its commands.
+fn bare_parser<'a>(alloc: Global) -> Parser<'a> {
+    Parser::new(alloc, "syc")
+        .version("0.1.0")
+        .about(ABOUT)
+        .subcommand_required(true)
+}
+
+// What clap knows of the program.
+fn whole_parser<'a>(alloc: Global) -> Result<Parser<'a>, AllocError> {
+    let mut parser = Ok(bare_parser(alloc));
+    for (word, about, names, options, behind) in &COMMANDS {
+        let command = parser_of(alloc, word, about, behind, names, options);
+        parser = with_command(parser, command);
+    }
+    parser
+}
+
+// Why words are refused that clap reads as a command: it reads `pass --` as `pass`, an option before the command's word
+// as one behind it, and the value of an option behind `=`.
+fn unread(words: &[&str]) -> &'static str {
+    for word in words {
+        if is_word(word, "--") {
+            return "unexpected argument '--' found: write the command's word, its options and its names, without '--'";
+        }
+        if is_word(word, "--drain") {
+            return "--drain takes decimal digits: 86400 seconds at most";
+        }
+    }
+    "these words are read in no other order or form: write the command's word first, and an option as syc --help has it"
+}
+
+// What clap answers for words that are no command as it is written here: a call for help or for the version, or what is
+// wrong with them.
+fn ask_clap<'a>(parser: &mut Parser<'a>, words: &'a [&'a str]) -> Error {
+    if let Err(error) = parser.try_get_matches_from_mut(words) {
+        return error;
+    }
+    match parser.error(ErrorKind::UnknownArgument, unread(words)) {
+        Ok(error) => error,
+        Err(why) => Error::from(why),
+    }
+}
+
+/// What clap answers for words that are no command.
+pub fn refusal(alloc: Global, words: &[&str]) -> Error {
+    match whole_parser(alloc) {
+        Ok(parser) => {
+            let mut parser = parser;
+            ask_clap(&mut parser, words)
+        }
+        Err(why) => Error::from(why),
+    }
+}

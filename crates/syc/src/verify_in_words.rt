@@ -1,0 +1,93 @@
+//! Verifying with options.
+ghost use Rattle.std.specs.Prelude.{◌≡◌, ◌≢◌, ◌≤◌, ◌∷◌, ℕ, List, Some, IfErr, IfOk};
+ghost use Rattle.std.specs.Io.KnownBytes.{Keeps};
+ghost use Rattle.std.specs.List.{Any};
+ghost use Rattle.sy_site.specs.texts.Files.{file_names};
+ghost use Rattle.syc.specs.Outcomes.{FailsBy, MayEnd};
+ghost use Rattle.syc.specs.Verdicts as spec;
+ghost use Rattle.syc.specs.internal.Halts.{IsUnread};
+ghost use Rattle.syc.specs.internal.Unverified as internal;
+
+use crate::answer::Answer;
+use crate::documents::document_of_verify;
+use crate::files::Files;
+use crate::halt::Halt;
+use crate::options::{Options, ReadNames};
+use crate::outputs::Outputs;
+use crate::site::read_site;
+use crate::verdict::verdict;
+use crate::verify::read_certificate;
+use crate::with_options::print_with_options;
+use std::alloc::Global;
+use sy_cert::Certificate;
+use sy_site::Site;
+use sy_wire::Sink;
+
+// The verdict on a certificate for a site, as a text or a document.
+fn say<F: Files>(
+    alloc: Global,
+    files: &F,
+    names: ReadNames<'_>,
+    options: Options,
+    site: &Site,
+    certificate: &Certificate,
+) -> Result<Answer, Halt>
+    ensures ok { IfOk result (λ a. (bare : List ℕ) × spec.SaysOf site.now certificate.now bare a.is_accepted) }
+    ensures err { IfErr result (λ why. why ≡ Halt.NoMemory) }
+{
+    if options.json {
+        document_of_verify(alloc, files, names, options, site, certificate)
+    } else {
+        verdict(alloc, site, certificate)
+    }
+}
+
+// The verdict on the certificate in a file, for the site that another describes.
+fn answer_of<F: Files>(
+    alloc: Global,
+    files: &F,
+    names: ReadNames<'_>,
+    options: Options,
+    certificate_name: &str,
+) -> Result<Answer, Halt>
+    ensures ok { IfOk result (λ a. (site text : List ℕ) → F.bytes_of files.now names.entry.site.now ≡ Some site →
+        F.bytes_of files.now certificate_name.now ≡ Some text →
+        (bare : List ℕ) × spec.SaysOfFiles (F.bytes_of files.now) site text bare a.is_accepted) }
+    ensures err { IfErr result (λ why. (site text : List ℕ) → F.bytes_of files.now names.entry.site.now ≡ Some site →
+        F.bytes_of files.now certificate_name.now ≡ Some text →
+        internal.HasNoVerdict (F.bytes_of files.now) site text why) }
+    ensures unread { IfErr result (λ why. (text : List ℕ) → F.bytes_of files.now names.entry.site.now ≡ Some text →
+        IsUnread (F.may_fail files.now) (names.entry.site.now ∷ certificate_name.now ∷ file_names text) why) }
+{
+    let site = read_site(alloc, files, names.site)?;
+    let certificate = read_certificate(alloc, files, certificate_name)?;
+    let answer = say(alloc, files, names, options, &site, &certificate)?;
+    Ok(answer)
+}
+
+/// Reads a site and then a certificate, and prints the verdict on it, with words for people behind a fault, or as a
+/// document. It answers the exit status, which is what it may be without options.
+pub fn verify_in_words<F: Files, W: Sink, E: Sink>(
+    alloc: Global,
+    files: &F,
+    options: Options,
+    site_name: &str,
+    certificate_name: &str,
+    out: &mut Outputs<W, E>,
+) -> u8
+    ensures ends { (site text : List ℕ) → F.bytes_of files.now site_name.now ≡ Some site →
+        F.bytes_of files.now certificate_name.now ≡ Some text →
+        MayEnd (spec.VerifyIs (F.bytes_of files.now) site text) result }
+    ensures fails { (text : List ℕ) → F.bytes_of files.now site_name.now ≡ Some text →
+        FailsBy (Any (F.may_fail files.now) (site_name.now ∷ certificate_name.now ∷ file_names text)) result out.old out.new }
+    ensures status { result ≤ 4 }
+    ensures none_failed { result ≢ 4 → out.new.output.faults ≡ out.old.output.faults }
+    ensures quiet { result ≡ 0 → Keeps out.old.errors.contents out.new.errors.contents }
+{
+    let names = ReadNames {
+        site: site_name,
+        second: Some(certificate_name),
+    };
+    let answer = answer_of(alloc, files, names, options, certificate_name);
+    print_with_options(alloc, files, "verify", names, options, answer, out)
+}
