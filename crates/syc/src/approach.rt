@@ -6,7 +6,10 @@ use sy_rules::{Occurrence, Plan};
 use sy_site::{Site, SiteAction, SiteInput};
 use sy_wire::Class;
 
-/// The most lists that are gone over: 513 of each of 64 relays.
+/// The most lists of a relay: the default ruleset's, those of 256 rulesets and those of 256 actions.
+const LISTS: usize = 513;
+
+/// The most lists that are gone over: those of each of 64 relays.
 const MOST: usize = 32_832;
 
 /// A list that messages may come to, by a forward or a post of another.
@@ -40,24 +43,42 @@ enum Choice {
     All,
 }
 
-fn is_met(steps: &[Step], relay: u32, list: u32) -> bool {
-    steps
-        .iter()
-        .any(|step| step.input.relay == relay && step.list == list)
+/// Steps, each to another list.
+#[derive(Drop)]
+struct Steps {
+    all: Vec<Step>,
+    // whether a list is among theirs, relay by relay
+    met: Vec<bool>,
 }
 
-// Puts a step behind the others, where its list isn't among them.
-fn put(steps: &mut Vec<Step>, step: Step) -> Result<(), AllocError> {
-    if is_met(steps.as_slice(), step.input.relay, step.list) {
-        return Ok(());
+impl Steps {
+    fn new(alloc: Global) -> Result<Steps, AllocError> {
+        Ok(Steps {
+            all: Vec::new(alloc),
+            met: vec![in alloc; false; MOST]?,
+        })
     }
-    steps.push(step)?;
-    Ok(())
+
+    // Puts a step behind the others, where its list isn't among theirs.
+    fn put(&mut self, step: Step) -> Result<(), AllocError> {
+        let place = (step.input.relay as usize)
+            .saturating_mul(LISTS)
+            .saturating_add(step.list as usize);
+        let Some(is_met) = self.met.get_mut(place) else {
+            return Ok(());
+        };
+        if *is_met {
+            return Ok(());
+        }
+        *is_met = true;
+        self.all.push(step)?;
+        Ok(())
+    }
 }
 
 // Puts the list to which an occurrence leads behind the others.
 fn put_led_to(
-    steps: &mut Vec<Step>,
+    steps: &mut Steps,
     site: &Site,
     at: usize,
     step: Step,
@@ -76,7 +97,7 @@ fn put_led_to(
             (input, spot.input.list)
         }
     };
-    put(steps, Step { input, list, from })
+    steps.put(Step { input, list, from })
 }
 
 fn plan_of(site: &Site, step: Step) -> Option<&Plan> {
@@ -105,7 +126,7 @@ fn bits_of(plan: &Plan, list: u32, choice: Choice) -> u64 {
 
 // Puts the lists to which a step leads behind the others.
 fn follow(
-    steps: &mut Vec<Step>,
+    steps: &mut Steps,
     site: &Site,
     at: usize,
     step: Step,
@@ -127,9 +148,9 @@ fn follow(
 }
 
 // Puts all lists to which such occurrences lead, from the steps that are there on.
-fn follow_all(steps: &mut Vec<Step>, site: &Site, choice: Choice) -> Result<(), AllocError> {
+fn follow_all(steps: &mut Steps, site: &Site, choice: Choice) -> Result<(), AllocError> {
     for at in 0..MOST {
-        match steps.as_slice().get(at).copied() {
+        match steps.all.get(at).copied() {
             Some(step) => follow(steps, site, at, step, choice)?,
             None => return Ok(()),
         }
@@ -219,14 +240,15 @@ pub fn approach_to(
     entry: SiteInput,
     archive: SiteAction,
 ) -> Result<Approach, AllocError> {
-    let mut steps = Vec::new(alloc);
+    let mut steps = Steps::new(alloc)?;
     if let Some(step) = first_step(site, entry) {
-        steps.push(step)?;
+        steps.put(step)?;
     }
     follow_all(&mut steps, site, Choice::Sure(class))?;
-    let sure = steps.len();
+    let sure = steps.all.len();
     follow_all(&mut steps, site, Choice::Asked)?;
     follow_all(&mut steps, site, Choice::All)?;
+    let Steps { all: steps, .. } = steps;
     let (last, occurrence) = match goal(site, steps.as_slice(), archive) {
         Some(goal) => breaks_off(steps.as_slice(), goal, sure, archive.action),
         None => (nearest_step(steps.as_slice(), sure, archive), None),

@@ -266,6 +266,25 @@ pub fn put_illegal<F: Files>(
     Ok(())
 }
 
+// Says of a line that has no row's shape what the lines of a certificate are.
+fn put_no_shape(note: &mut Note, at: OtherLine<'_>) {
+    if at.number == 1 {
+        note.why.say(
+            "the first line is cert 1, or cert 2 for a site file with policy 2, with an LF behind it",
+        );
+        note.change.say("cert 1 or cert 2");
+        return;
+    }
+    note.why.say(
+        "the line is no row with an LF behind it: class, reach, branch (in cert 2 alone), rank, inner, path",
+    );
+    if let Some((_, word)) = word_in(at.line, 0) {
+        if let Some(near) = nearest(word, &ROWS) {
+            note.change.put(&[Part::Text(near)]);
+        }
+    }
+}
+
 fn put_row(note: &mut Note, at: OtherLine<'_>, fault: TextFault) {
     match fault.code {
         FaultCode::Order => {
@@ -276,16 +295,7 @@ fn put_row(note: &mut Note, at: OtherLine<'_>, fault: TextFault) {
         FaultCode::Number => {
             note.why.say("a number of the line is out of its range, or has a leading zero");
         }
-        _ => {
-            note.why.say(
-                "the line is cert 1 or cert 2 (the first) or a row, each with an LF behind it: class, reach, branch (in cert 2 alone), rank, inner, path",
-            );
-            if let Some((_, word)) = word_in(at.line, 0) {
-                if let Some(near) = nearest(word, &ROWS) {
-                    note.change.put(&[Part::Text(near)]);
-                }
-            }
-        }
+        _ => put_no_shape(note, at),
     }
 }
 

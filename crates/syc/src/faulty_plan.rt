@@ -119,6 +119,11 @@ fn put_unknown_parameter(
     object: Object<'_>,
     name: &[u8],
 ) -> Result<(), AllocError> {
+    if object.word == ObjectWord::MainQueue && name.eq_ignore_ascii_case(b"queue.workerFlow") {
+        note.why.say("the main queue has no parameter queue.workerFlow: nothing is posted to it");
+        note.change.say("leave it out");
+        return Ok(());
+    }
     let is_of_queue = name.len() >= 6 && between(name, 0, 6).eq_ignore_ascii_case(b"queue.");
     note.why.say(if is_of_queue {
         "a queue"

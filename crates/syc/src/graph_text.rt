@@ -3,14 +3,10 @@
 use crate::graph_reach::How;
 use crate::tally::put_classes;
 use crate::texts::Part;
-use crate::words::Words;
+use crate::words::{DIGITS, Words};
 use std::alloc::{AllocError, Global};
 use std::str;
 use sy_wire::Class;
-
-const DIGITS: [&str; 16] = [
-    "0", "1", "2", "3", "4", "5", "6", "7", "8", "9", "a", "b", "c", "d", "e", "f",
-];
 
 /// The most bytes of names of classes at an arrow.
 const LONGEST: usize = 40;

@@ -26,7 +26,8 @@ pub struct Line {
     pub text: Words,
 }
 
-/// What is said of a finding or of a fault. No text of it has a line feed.
+/// What is said of a finding or of a fault. What files say may have any bytes; put as lines, a note has no control
+/// characters but tabs.
 #[derive(Drop)]
 pub struct Note {
     pub place: Option<Place>,
@@ -88,30 +89,25 @@ impl Note {
 
 /// Puts a place, as `edge.conf:3:44`.
 pub fn put_place(words: &mut Words, place: &Place) {
-    let file = Part::Text(place.file.as_slice());
-    match place.point {
-        Some(point) => words.put(&[
-            file,
+    words.put_in_line(place.file.as_slice());
+    if let Some(point) = place.point {
+        words.put(&[
             Part::Text(b":"),
             Part::Number(point.line),
             Part::Text(b":"),
             Part::Number(point.column),
-        ]),
-        None => words.put(&[file]),
+        ]);
     }
 }
 
 /// Puts a line of a word, or of some, and a text, where that isn't empty.
-pub fn put_line<'a>(words: &mut Words, word: &'a str, text: &'a [u8]) {
+pub fn put_line(words: &mut Words, word: &str, text: &[u8]) {
     if text.is_empty() {
         return;
     }
-    words.put(&[
-        Part::Text(word.as_bytes()),
-        Part::Text(b": "),
-        Part::Text(text),
-        Part::Text(b"\n"),
-    ]);
+    words.put(&[Part::Text(word.as_bytes()), Part::Text(b": ")]);
+    words.put_in_line(text);
+    words.say("\n");
 }
 
 fn put_where(words: &mut Words, note: &Note) {
@@ -122,7 +118,8 @@ fn put_where(words: &mut Words, note: &Note) {
             words.say(": ");
         }
     }
-    words.put(&[Part::Text(note.what.as_slice()), Part::Text(b"\n")]);
+    words.put_in_line(note.what.as_slice());
+    words.say("\n");
 }
 
 /// Puts a note as lines: where it stands, what else it is about, why, and what would change that.

@@ -117,7 +117,7 @@ static QUEUE_TYPE: [ParameterRow; 1] = [ParameterRow {
 
 static WORKER_FLOW: [ParameterRow; 1] = [ParameterRow {
     name: b"queue.workerFlow",
-    values: Values::OneOf(&[b"off", b"full"]),
+    values: Values::OneOf(&[b"full", b"off"]),
 }];
 
 static QUEUE: [ParameterRow; 15] = [

@@ -11,8 +11,8 @@ use crate::statements::statements_of;
 use crate::texts::{Part, action_name, relay_name};
 use crate::things::{put_thing, put_with_place, stands_at};
 use crate::wanted::{
-    Search, Wanted, put_moved, put_name, put_path, put_wanted, search_of, spare_at, target_of,
-    wanted_at,
+    Search, Wanted, archive_of, put_moved, put_name, put_path, put_wanted, search_of, spare_at,
+    target_of, wanted_at,
 };
 use crate::words::Words;
 use std::alloc::{AllocError, Global};
@@ -167,9 +167,10 @@ fn put_spare_line(
         Part::Text(b" "),
         Part::Text(action_name(search.site, spare)),
     ]);
-    note.why.say(" and leads on by action ");
+    note.why.say(" and goes on by action ");
     put_name(&mut note.why, search.site, spare.relay, spare.action);
-    note.why.say(" alone, which is spare: what is lost there or behind it is no loss");
+    note.why.say(" alone, which is spare, so that it may be lost there, or behind it, before ");
+    put_wanted(alloc, &mut note.why, search, archive_of(search));
     note.change.say("leave out that line");
 }
 

@@ -8,7 +8,7 @@ use std::alloc::{AllocError, Global};
 const ABOUT: &str = "A relay for syslog messages in octet-counted frames";
 
 const SITE: &str =
-    "The site file: it names the relays with their configurations, the entries, and what is protected";
+    "The site file: it names the relays with their configurations, the entries, what is protected, and which actions are spare";
 
 const EXPLAIN: &str =
     "Explain what is found, or the fault: where it stands, why, and what to change";
@@ -34,7 +34,7 @@ Example:
   syc pass <frames >lines";
 
 const CHECK_BEHIND: &str = "Exit status, with any of these options:
-  0  accepted: no message of a protected class is lost
+  0  accepted: no message of a protected class is lost, but at or behind a spare action
   1  refused: something is found
   2  a file is faulty, or the command line is
   3  out of memory
@@ -54,7 +54,7 @@ Example:
   syc certify site >cert";
 
 const VERIFY_BEHIND: &str = "Exit status, with any of these options:
-  0  accepted: the certificate shows that no message of a protected class is lost
+  0  accepted: the certificate shows that no message of a protected class is lost, but at or behind a spare action
   1  refused: a row of the certificate is wrong or lacking
   2  a file is faulty, or the command line is
   3  out of memory

@@ -71,11 +71,16 @@ pub fn wanted_at<'a>(search: Search<'a>, step: Step) -> Wanted<'a> {
                 ruleset: name_posted_to(plan, occurrence),
             }
         }
-        _ => Wanted {
-            relay: search.archive.relay,
-            thing: Thing::Action(search.archive.action),
-            ruleset: None,
-        },
+        _ => archive_of(search),
+    }
+}
+
+/// The archive.
+pub fn archive_of(search: Search<'_>) -> Wanted<'_> {
+    Wanted {
+        relay: search.archive.relay,
+        thing: Thing::Action(search.archive.action),
+        ruleset: None,
     }
 }
 

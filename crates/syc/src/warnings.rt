@@ -12,7 +12,6 @@ use crate::items::{Item, items_of};
 use crate::note::{Note, put_line, put_place};
 use crate::places::{RelayFile, relay_file, relay_line};
 use crate::source::text_of;
-use crate::texts::Part;
 use crate::unwise::warn_of_item;
 use crate::words::Words;
 use std::alloc::{AllocError, Global};
@@ -270,7 +269,8 @@ fn put_warning(words: &mut Words, warning: &Warning) {
         put_place(words, place);
         words.say(": ");
     }
-    words.put(&[Part::Text(note.what.as_slice()), Part::Text(b"\n")]);
+    words.put_in_line(note.what.as_slice());
+    words.say("\n");
     put_line(words, "why", note.why.as_slice());
     put_line(words, "change", note.change.as_slice());
 }
