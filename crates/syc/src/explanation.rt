@@ -73,11 +73,11 @@ fn object_meant(subject: Subject<'_>) -> Option<Object<'_>> {
 }
 
 // What feeds a queue that discards, and doesn't wait before.
-fn put_feeder(alloc: Global, words: &mut Words, site: &Site, relay: u32, subject: Subject<'_>) {
+fn put_feeder(words: &mut Words, site: &Site, relay: u32, subject: Subject<'_>) {
     match free_feeder(subject.spot.plan, subject.number) {
         Some(Feeder::Input(number)) => {
             let thing = Thing::Input(number);
-            put_with_place(alloc, words, site, relay, subject.places, thing);
+            put_with_place(words, site, relay, subject.places, thing);
         }
         Some(Feeder::Post(list)) => {
             words.put(&[
@@ -112,7 +112,7 @@ fn put_fed_by(
         return Ok(());
     }
     let mut text = Words::new(alloc);
-    put_feeder(alloc, &mut text, site, relay, subject);
+    put_feeder(&mut text, site, relay, subject);
     note.put_line("fed by", text)
 }
 
@@ -250,6 +250,7 @@ pub fn explanation<F: Files>(
 ) -> Result<Vec<u8>, AllocError> {
     let mut note = note_of_finding(alloc, files, site_name, site, finding)?;
     put_group(alloc, &mut note, site, finding)?;
+    let note = note.finish()?;
     let mut words = Words::new(alloc);
     put_note(&mut words, &note);
     words.finish()

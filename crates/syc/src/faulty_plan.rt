@@ -206,13 +206,13 @@ fn earlier<'a>(objects: &[Object<'a>], of: Object<'_>, name: &[u8]) -> Option<Ob
     None
 }
 
-fn put_duplicate(alloc: Global, note: &mut Note, places: Places<'_>, fault: &PlanFault) {
+fn put_duplicate(note: &mut Note, places: Places<'_>, fault: &PlanFault) {
     let word = fault.word.as_slice();
     if let Some((object, _)) = param_at(places.objects, fault.span.start) {
         if let Some(first) = first_param(object, word) {
             note.why
                 .put(&[Part::Text(word), Part::Text(b" is given already, at ")]);
-            places.put_point(alloc, &mut note.why, first.name.span.start);
+            places.put_point(&mut note.why, first.name.span.start);
         }
         note.change.say("one of the two");
         return;
@@ -222,7 +222,7 @@ fn put_duplicate(alloc: Global, note: &mut Note, places: Places<'_>, fault: &Pla
     if let Some(object) = object_at(places.objects, fault.span.start) {
         if let Some(first) = earlier(places.objects, object, b"name") {
             note.why.say(", at ");
-            places.put_point(alloc, &mut note.why, first.start);
+            places.put_point(&mut note.why, first.start);
         }
     }
     note.change.say("another name, or one of the two");
@@ -239,13 +239,13 @@ fn number(digits: &[u8]) -> u64 {
     number
 }
 
-fn put_same_port(alloc: Global, note: &mut Note, places: Places<'_>, fault: &PlanFault) {
+fn put_same_port(note: &mut Note, places: Places<'_>, fault: &PlanFault) {
     note.why.say("the input at ");
     for object in places.objects {
         if object.word == ObjectWord::Input && object.start < fault.span.start {
             if let Some(port) = value_of(object.params, b"port") {
                 if number(port) == number(fault.word.as_slice()) {
-                    places.put_point(alloc, &mut note.why, object.start);
+                    places.put_point(&mut note.why, object.start);
                     break;
                 }
             }
@@ -274,7 +274,7 @@ fn put_lists(note: &mut Note, fault: &PlanFault) {
 }
 
 // What is said of a fault that has no parameter of its own.
-fn put_other(alloc: Global, note: &mut Note, places: Places<'_>, fault: &PlanFault) {
+fn put_other(note: &mut Note, places: Places<'_>, fault: &PlanFault) {
     let word = fault.word.as_slice();
     match fault.code {
         FaultCode::Facility => put_facility(note, word),
@@ -284,7 +284,7 @@ fn put_other(alloc: Global, note: &mut Note, places: Places<'_>, fault: &PlanFau
         FaultCode::Missing => {
             put_missing(note, object_at(places.objects, fault.span.start), word);
         }
-        FaultCode::SamePort => put_same_port(alloc, note, places, fault),
+        FaultCode::SamePort => put_same_port(note, places, fault),
         FaultCode::NotLoaded => {
             note.why.say("imtcp is loaded nowhere in the file");
             note.change.say("module(load=\"imtcp\")");
@@ -322,7 +322,7 @@ pub fn put_plan_fault(
     match fault.code {
         FaultCode::Unknown => put_unknown(alloc, note, places, fault),
         FaultCode::Duplicate => {
-            put_duplicate(alloc, note, places, fault);
+            put_duplicate(note, places, fault);
             Ok(())
         }
         FaultCode::BadValue => {
@@ -334,7 +334,7 @@ pub fn put_plan_fault(
             Ok(())
         }
         _ => {
-            put_other(alloc, note, places, fault);
+            put_other(note, places, fault);
             Ok(())
         }
     }

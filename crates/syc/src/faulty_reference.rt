@@ -124,19 +124,13 @@ fn is_sought(object: Object<'_>, sought: Sought) -> bool {
 }
 
 // Puts the name of an action with its place; `action-N` by its number where it has none.
-fn put_found(
-    alloc: Global,
-    words: &mut Words,
-    places: Places<'_>,
-    object: Object<'_>,
-    number: u64,
-) {
+fn put_found(words: &mut Words, places: Places<'_>, object: Object<'_>, number: u64) {
     match value_of(object.params, b"name") {
         Some(name) => words.put(&[Part::Text(b" "), Part::Text(name)]),
         None => words.put(&[Part::Text(b" action-"), Part::Number(number)]),
     }
     words.say(" (");
-    places.put_point(alloc, words, object.start);
+    places.put_point(words, object.start);
     words.say(")");
 }
 
@@ -172,7 +166,7 @@ fn put_all_found(
         if object.word == ObjectWord::Action {
             let is_meant = near.is_none() || value_of(object.params, b"name") == near;
             if is_sought(*object, sought) && is_meant {
-                put_found(alloc, &mut note.change, places, *object, number);
+                put_found(&mut note.change, places, *object, number);
             }
             number = number.saturating_add(1);
         }

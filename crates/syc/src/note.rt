@@ -87,10 +87,10 @@ impl Note {
     }
 }
 
-/// Puts a place, as `edge.conf:3:44`.
-pub fn put_place(words: &mut Words, place: &Place) {
-    words.put_in_line(place.file.as_slice());
-    if let Some(point) = place.point {
+/// Puts a file, and the point there, as `edge.conf:3:44`.
+pub fn put_point(words: &mut Words, file: &[u8], point: Option<Point>) {
+    words.put_in_line(file);
+    if let Some(point) = point {
         words.put(&[
             Part::Text(b":"),
             Part::Number(point.line),
@@ -98,6 +98,11 @@ pub fn put_place(words: &mut Words, place: &Place) {
             Part::Number(point.column),
         ]);
     }
+}
+
+/// Puts a place.
+pub fn put_place(words: &mut Words, place: &Place) {
+    put_point(words, place.file.as_slice(), place.point);
 }
 
 /// Puts a line of a word, or of some, and a text, where that isn't empty.

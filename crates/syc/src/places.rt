@@ -1,10 +1,9 @@
 //! Where the objects of a relay stand: in which line of which file.
 
 use crate::files::Files;
-use crate::note::{Note, Place, Point, put_place};
+use crate::note::{Note, Point, put_point};
 use crate::outline::{Object, ObjectWord, object_of, outline_script};
 use crate::source::{point_at, text_of, without_return, word_in};
-use crate::texts::Part;
 use crate::words::Words;
 use std::alloc::{AllocError, Global};
 use std::str;
@@ -63,11 +62,9 @@ impl<'a> Places<'a> {
     }
 
     /// Puts the file with a place of it, as `hub.conf:4:1`.
-    pub fn put_point(&self, alloc: Global, words: &mut Words, place: usize) {
-        let mut file = Words::new(alloc);
-        file.put(&[Part::Text(self.file.as_bytes())]);
-        let point = Some(point_at(self.text, place));
-        put_place(words, &Place { file, point });
+    pub fn put_point(&self, words: &mut Words, place: usize) {
+        let point = point_at(self.text, place);
+        put_point(words, self.file.as_bytes(), Some(point));
     }
 }
 

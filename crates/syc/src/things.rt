@@ -76,7 +76,6 @@ pub fn stands_at(
 
 /// Puts an object of a relay with its place, as `hub.conf:4:1: action audit`.
 pub fn put_with_place(
-    alloc: Global,
     words: &mut Words,
     site: &Site,
     relay: u32,
@@ -85,7 +84,7 @@ pub fn put_with_place(
 ) {
     if let Some(places) = places {
         match places.object(thing) {
-            Some(object) => places.put_point(alloc, words, object.start),
+            Some(object) => places.put_point(words, object.start),
             None => words.put(&[Part::Text(places.file.as_bytes())]),
         }
         words.say(": ");

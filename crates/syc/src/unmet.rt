@@ -62,13 +62,13 @@ fn words_of_test(text: &[u8], place: usize) -> &[u8] {
     }
 }
 
-fn put_stop(alloc: Global, note: &mut Note, search: Search<'_>, of: Wanted<'_>, is_sure: bool) {
+fn put_stop(note: &mut Note, search: Search<'_>, of: Wanted<'_>, is_sure: bool) {
     if is_sure {
         note.why.say(" and is stopped here, before ");
     } else {
         note.why.say(" and may be stopped here, before ");
     }
-    put_wanted(alloc, &mut note.why, search, of);
+    put_wanted(&mut note.why, search, of);
     put_moved(&mut note.change, search, of);
     note.change.say(" before that stop");
     if !is_sure {
@@ -77,14 +77,14 @@ fn put_stop(alloc: Global, note: &mut Note, search: Search<'_>, of: Wanted<'_>, 
     }
 }
 
-fn put_test(alloc: Global, note: &mut Note, search: Search<'_>, of: Wanted<'_>, is_decided: bool) {
+fn put_test(note: &mut Note, search: Search<'_>, of: Wanted<'_>, is_decided: bool) {
     if is_decided {
         note.why
             .say(" and this test keeps every message of the class from ");
     } else {
         note.why.say(" and this test, which the class alone doesn't decide, may keep it from ");
     }
-    put_wanted(alloc, &mut note.why, search, of);
+    put_wanted(&mut note.why, search, of);
     put_moved(&mut note.change, search, of);
     note.change.say(" outside that test");
     if !is_decided {
@@ -94,11 +94,11 @@ fn put_test(alloc: Global, note: &mut Note, search: Search<'_>, of: Wanted<'_>, 
 }
 
 // Says what nothing there does: execute the archive, or forward to where it is executed.
-fn put_nothing(alloc: Global, note: &mut Note, search: Search<'_>, of: Wanted<'_>, relay: u32) {
+fn put_nothing(note: &mut Note, search: Search<'_>, of: Wanted<'_>, relay: u32) {
     let archive = search.archive;
     if relay == archive.relay {
         note.why.say(" and no statement there brings it to ");
-        put_wanted(alloc, &mut note.why, search, of);
+        put_wanted(&mut note.why, search, of);
         note.change.say("put ");
         put_thing(
             &mut note.change,
@@ -111,7 +111,7 @@ fn put_nothing(alloc: Global, note: &mut Note, search: Search<'_>, of: Wanted<'_
     }
     note.why
         .say(" and no forward there leads to an input that has ");
-    put_wanted(alloc, &mut note.why, search, of);
+    put_wanted(&mut note.why, search, of);
     note.change.put(&[
         Part::Text(b"a forward there to a port of "),
         Part::Text(relay_name(search.site, archive.relay)),
@@ -131,19 +131,19 @@ fn put_hindrance(
         Hindrance::Stop(place, is_sure) => {
             places.stands_at(alloc, note, place);
             note.what.say("stop");
-            put_stop(alloc, note, search, of, is_sure);
+            put_stop(note, search, of, is_sure);
         }
         Hindrance::Test(place) => {
             places.stands_at(alloc, note, place);
             note.what
                 .put(&[Part::Text(words_of_test(places.text, place))]);
-            put_test(alloc, note, search, of, false);
+            put_test(note, search, of, false);
         }
         Hindrance::Never(place) => {
             places.stands_at(alloc, note, place);
             note.what
                 .put(&[Part::Text(words_of_test(places.text, place))]);
-            put_test(alloc, note, search, of, true);
+            put_test(note, search, of, true);
         }
     }
 }
@@ -170,7 +170,7 @@ fn put_spare_line(
     note.why.say(" and goes on by action ");
     put_name(&mut note.why, search.site, spare.relay, spare.action);
     note.why.say(" alone, which is spare, so that it may be lost there, or behind it, before ");
-    put_wanted(alloc, &mut note.why, search, archive_of(search));
+    put_wanted(&mut note.why, search, archive_of(search));
     note.change.say("leave out that line");
 }
 
@@ -199,7 +199,7 @@ fn put_hindered<F: Files>(
         _ => {
             let thing = Thing::Input(step.input.input);
             stands_at(alloc, note, search.site, relay, places, thing);
-            put_nothing(alloc, note, search, of, relay);
+            put_nothing(note, search, of, relay);
         }
     }
     Ok(())
@@ -257,7 +257,6 @@ pub fn put_unmet<F: Files>(
     let approach = approach_to(alloc, site, finding.class, finding.input, archive)?;
     let mut text = Words::new(alloc);
     put_with_place(
-        alloc,
         &mut text,
         site,
         archive.relay,

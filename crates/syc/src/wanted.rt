@@ -7,7 +7,6 @@ use crate::places::{Places, Thing};
 use crate::texts::{Part, action_name, input_part};
 use crate::things::put_thing;
 use crate::words::Words;
-use std::alloc::Global;
 use sy_rules::{Occurrence, Plan};
 use sy_site::{Site, SiteAction};
 
@@ -122,7 +121,7 @@ fn is_archive(search: Search<'_>, of: Wanted<'_>) -> bool {
 }
 
 /// Puts an action or a ruleset; the archive with its file and line, as `action audit (hub.conf:4:3)`.
-pub fn put_wanted(alloc: Global, words: &mut Words, search: Search<'_>, of: Wanted<'_>) {
+pub fn put_wanted(words: &mut Words, search: Search<'_>, of: Wanted<'_>) {
     put_thing(words, search.site, of.relay, of.thing);
     if !is_archive(search, of) {
         return;
@@ -130,7 +129,7 @@ pub fn put_wanted(alloc: Global, words: &mut Words, search: Search<'_>, of: Want
     if let Some(places) = search.archive_places {
         if let Some(object) = places.object(of.thing) {
             words.say(" (");
-            places.put_point(alloc, words, object.start);
+            places.put_point(words, object.start);
             words.say(")");
         }
     }
