@@ -73,8 +73,6 @@ pub fn run<R: Source, W: Sink, E: Sink, F: Files>(
         F.bytes_of files.now site ≡ Some text → result ≡ 0 → DescribesKept (F.bytes_of files.now) text }
     ensures verify_safe { (site certificate text : List ℕ) → AreVerifyOf (map string_bytes args.now) site certificate →
         F.bytes_of files.now site ≡ Some text → result ≡ 0 → DescribesKept (F.bytes_of files.now) text }
-    ensures check_safe { (site text : List ℕ) → AreAskingOf asked.Check (map string_bytes args.now) site →
-        F.bytes_of files.now site ≡ Some text → result ≡ 0 → DescribesKept (F.bytes_of files.now) text }
     ensures replay_fails { (site events text input : List ℕ) → AreReplayOf (map string_bytes args.now) site events →
         F.bytes_of files.now site ≡ Some text → F.bytes_of files.now events ≡ Some input →
         FailsBy (Any (F.may_fail files.now) (site ∷ events ∷ file_names text) ⊎ PiecesMayFail F.Opened.faults input)
