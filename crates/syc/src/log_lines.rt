@@ -101,6 +101,23 @@ fn put_others(text: &mut Vec<u8>, others: u64) -> Result<(), AllocError> {
     put_parts(text, &parts)
 }
 
+fn put_peer<'a>(
+    text: &mut Vec<u8>,
+    name: &'a [u8],
+    peer: &'a [u8],
+    words: &'a [u8],
+) -> Result<(), AllocError> {
+    let parts = [
+        Part::Text(b"syc: "),
+        Part::Text(name),
+        Part::Text(b" peer "),
+        Part::Text(peer),
+        Part::Text(b": "),
+        Part::Text(words),
+    ];
+    put_parts(text, &parts)
+}
+
 /// A line about a connection of an input that ended with a fault or with frames that carried no message, and about how many others did.
 pub fn peer_line(
     alloc: Global,
@@ -111,15 +128,12 @@ pub fn peer_line(
 ) -> Result<Vec<u8>, AllocError> {
     let peer = end.peer.to_string(alloc)?;
     let mut text = Vec::new(alloc);
-    let parts = [
-        Part::Text(b"syc: "),
-        Part::Text(subject.name.as_slice()),
-        Part::Text(b" peer "),
-        Part::Text(peer.as_str().as_bytes()),
-        Part::Text(b": "),
-        Part::Text(words.as_bytes()),
-    ];
-    put_parts(&mut text, &parts)?;
+    put_peer(
+        &mut text,
+        subject.name.as_slice(),
+        peer.as_str().as_bytes(),
+        words.as_bytes(),
+    )?;
     put_unread(&mut text, end)?;
     put_others(&mut text, others)?;
     put(&mut text, "\n")?;
