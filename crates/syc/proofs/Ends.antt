@@ -4,18 +4,20 @@ use Rattle.std.specs.Prelude.{◌⊎◌, IfErr, IfOk, Option, Some, None, Result
 use Rattle.std.specs.List.{Any}
 use Rattle.sy_wire.specs.Streams.{Rose}
 use Rattle.sy_site.specs.Sites.{Site}
-use Rattle.syc.specs.Checks.{AskedIs, IsVerdict}
+use Rattle.syc.specs.Checks.{AskedIs, BeginsInWords, CheckedInWordsIs, IsVerdict}
 use Rattle.syc.specs.HaltTexts.{halt_report}
 use Rattle.syc.specs.Outcomes.{FailsBy, MayEnd, Prints, status_for}
-use Rattle.syc.specs.Reports.{SinkState, Streams, Tells, said, streams}
+use Rattle.syc.specs.Reports.{SinkState, Streams, Tells, TellsFirst, said, streams}
 use Rattle.syc.specs.SiteFiles.{HasNoAnswer, IsSiteOf}
 use Rattle.syc.specs.Verdicts.{SaysOfFiles, VerifyIs}
 use Rattle.syc.specs.declared.answer.Answer.{Answer}
 use Rattle.syc.specs.declared.command.Asked.{Asked}
+use Rattle.syc.specs.declared.command.Asked.TheVariants as asked
 use Rattle.syc.specs.declared.halt.Halt.{Halt}
 use Rattle.syc.specs.declared.halt.Halt.TheVariants as halt
+use Rattle.syc.specs.declared.options.Options.{Options}
 use Rattle.syc.specs.internal.Halts.{IsNoSite, IsUnread, status_at}
-use Rattle.syc.specs.internal.Optioned.{DocumentEnds, HaltEnds}
+use Rattle.syc.specs.internal.Optioned.{DocumentEnds, HaltEnds, StopsFirst}
 use Rattle.syc.specs.internal.Unverified.{HasNoVerdict}
 use Rattle.syc.proofs.Endings.{no_verdict, site_gone}
 use Rattle.syc.proofs.Unread.{printing_fails, stops_by}
@@ -94,16 +96,39 @@ err_map (Err why) f h = f why h
 -- what is asked of one site, with options
 pub asked_ends : (question : Asked) (bytes_of : List ℕ → Option (List ℕ)) (name text : List ℕ) (answer : Result Answer Halt) (status : ℕ)
     (old new : Streams)
-    → IfOk answer (λ a. (t : List ℕ) → bytes_of name ≡ Some t → (site : Site) × IsSiteOf bytes_of t site × IsVerdict question site a.is_accepted)
+    → (Words : Site → Answer → Type 0) → IfOk answer (λ a. (t : List ℕ) → bytes_of name ≡ Some t
+    → (site : Site) × IsSiteOf bytes_of t site × IsVerdict question site a.is_accepted × Words site a)
     → IfErr answer (λ why. (t : List ℕ) → bytes_of name ≡ Some t → IsNoSite bytes_of t why)
     → IfOk answer (λ a. Prints a.text.items a.is_accepted status old new)
     → IfErr answer (λ why. HaltEnds why status old.output.faults new.output.faults)
     → bytes_of name ≡ Some text → MayEnd (AskedIs question bytes_of text) status
-asked_ends question bytes_of name text answer status old new ok err printed stopped known =
+asked_ends question bytes_of name text answer status old new Words ok err printed stopped known =
     answered_by (MayEnd (AskedIs question bytes_of text)) (asked_no_memory question bytes_of text) (asked_failed question bytes_of text)
     answer status old new
     (ok_map answer (λ a h. let said = h text known in said_of question bytes_of text said.0 a.is_accepted said.1 said.2) ok)
     (err_map answer (λ why h. halted question bytes_of text why (h text known)) err) printed stopped
+
+-- ---- what a check says in words
+
+-- its words, where it is a check that prints no document
+abbrev pub WordsOf : Asked → Options → Site → Answer → Type 0
+WordsOf question options site a = question ≡ asked.Check → options.json ≡ false → BeginsInWords options site a.text.items a.is_accepted
+
+pub check_says : (question : Asked) (options : Options) (bytes_of : List ℕ → Option (List ℕ)) (name text : List ℕ) (answer : Result Answer Halt)
+    (status : ℕ) (old new : Streams)
+    → IfOk answer (λ a. (t : List ℕ) → bytes_of name ≡ Some t
+    → (site : Site) × IsSiteOf bytes_of t site × IsVerdict question site a.is_accepted × WordsOf question options site a)
+    → IfErr answer (λ why. (t : List ℕ) → bytes_of name ≡ Some t → IsNoSite bytes_of t why)
+    → IfOk answer (λ a. Prints a.text.items a.is_accepted status old new)
+    → (options.json ≡ false → IfErr answer (λ why. StopsFirst why status old new))
+    → question ≡ asked.Check → options.json ≡ false → bytes_of name ≡ Some text → CheckedInWordsIs options bytes_of text status old new
+check_says question options bytes_of name text (Ok a) status old new ok err printed told check words known =
+    let is = ok text known in
+    let begins = is.3 check words in
+    inl (is.0, is.1, begins.0, begins.1, a.is_accepted, begins.3, subst (λ t. Prints t a.is_accepted status old new) begins.2 printed)
+check_says question options bytes_of name text (Err why) status old new ok err printed told check words known =
+    let stops = told words in
+    inr (site_gone bytes_of text why status (TellsFirst old new) (err text known) stops.status_is stops.told, stops.same)
 
 -- ---- a verify
 

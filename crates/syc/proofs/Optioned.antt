@@ -1,17 +1,19 @@
 -- Which options stand among words, and which command is called for with them.
-use Rattle.std.proofs.Common.{◌≡◌, ◌+◌, ◌<◌, ℕ, Bool, List, [], ◌∷◌, ◌++◌, length, refl, sym, subst, ap, ◌∙◌, arith}
+use Rattle.std.proofs.Common.{◌≡◌, ◌+◌, ◌<◌, ℕ, Bool, List, [], ◌∷◌, ◌++◌, length, refl, sym, subst, ap, ◌∙◌, arith, inl, inr}
 use Rattle.std.specs.Prelude.{◌⊎◌, ◌||◌, Option, Some, None, true, false, codes}
 use Rattle.std.specs.Str.{bytes_eq}
 use Rattle.std.proofs.lemmas.Slice.Eq.{bytes_eq-Decides}
-use Rattle.syc.specs.Optioned.{EndsAs, FailsAs}
+use Rattle.syc.specs.Optioned.{EndsAs, FailsAs, SaysAs}
 use Rattle.syc.specs.Reports.{Streams}
-use Rattle.syc.specs.Words.{AreAsking, AreAskingOf, AreOptioned, AreReplay, ArePassAlone, AreVerify, CallFor, HaveOptions, IsSiteCommand, OverSite, allows, asking, bare_of, is_any, is_option, is_plain, once_if, times}
+use Rattle.syc.specs.Words.{AreAsking, AreAskingOf, AreGraphWords, AreNoFurtherOf, AreOptioned, AreReplay, ArePassAlone, AreVerify, CallFor, HaveOptions, IsSiteCommand, OverSite, allows, asking, bare_of, is_any, is_option, is_plain, once_if, times}
 use Rattle.syc.specs.declared.command.Asked.{Asked}
 use Rattle.syc.specs.declared.command.Asked.TheVariants as asked
 use Rattle.syc.specs.declared.command.SiteCommand.{SiteCommand}
 use Rattle.syc.specs.declared.command.SiteCommand.TheVariants as of_site
+use Rattle.syc.specs.declared.further.Further.{Further}
+use Rattle.syc.specs.declared.further.Further.TheVariants as further
 use Rattle.syc.specs.declared.options.Options.{Options}
-use Rattle.syc.specs.internal.Commands.{AreNoSiteCommand, CallNamed, IsSiteCommandOf, TakesOptions, over}
+use Rattle.syc.specs.internal.Commands.{AreNoSiteCommand, CallNamed, FurtherEnds, FurtherFails, FurtherSays, IsFurther, IsSiteCommandOf, TakesOptions, over}
 use Rattle.syc.proofs.Commands.{one_question, replay_no_question, replay_or_verify, rest_same, verify_no_question, first_same, others_same}
 
 -- ---- one word more
@@ -191,3 +193,73 @@ pub calls : (words : List (List ℕ)) (command : SiteCommand) → IsSiteCommandO
 calls words (of_site.Ask question site) h = h
 calls words (of_site.Replay site events) h = h
 calls words (of_site.Verify site certificate) h = h
+
+-- ---- what holds of a command with options holds of each that the words call for
+
+-- the words fix the options and the command
+pub one_optioned : (words : List (List ℕ)) (a b : Options) (c d : OverSite) → AreOptioned words a c → AreOptioned words b d → (a ≡ b) × (c ≡ d)
+one_optioned words a b c d x y =
+    let same = x.have.bare_are ∙ sym y.have.bare_are in
+    (same_options words a b x.bare y.bare x.have y.have,
+    same_call (codes "syc" ∷ x.bare) c d (named (codes "syc" ∷ x.bare) x.bare refl c x.call)
+    (named (codes "syc" ∷ x.bare) y.bare (ap (λ w. codes "syc" ∷ w) same) d y.call))
+
+graph_or_check : codes "graph" ≡ codes "check" → ⊥
+graph_or_check e = cc
+
+graph_or_certify : codes "graph" ≡ codes "certify" → ⊥
+graph_or_certify e = cc
+
+graph_or_replay : codes "graph" ≡ codes "replay" → ⊥
+graph_or_replay e = cc
+
+graph_or_verify : codes "graph" ≡ codes "verify" → ⊥
+graph_or_verify e = cc
+
+-- words that begin with that of a drawing call for no other command
+no_call : (bare rest : List (List ℕ)) (command : OverSite) → bare ≡ codes "graph" ∷ rest → CallFor command bare → ⊥
+no_call bare rest (OverSite.Ask asked.Check site) is h = graph_or_check (first_same (sym is ∙ h.words_are))
+no_call bare rest (OverSite.Ask asked.Certify site) is h = graph_or_certify (first_same (sym is ∙ h.words_are))
+no_call bare rest (OverSite.Replay site events) is h = graph_or_replay (first_same (sym is ∙ h.words_are))
+no_call bare rest (OverSite.Verify site certificate) is h = graph_or_verify (first_same (sym is ∙ h.words_are))
+
+begins_so : (words rest : List (List ℕ)) → words ≡ codes "graph" ∷ rest → (command : OverSite) (options : Options) → AreOptioned words options command → ⊥
+begins_so words rest is command options are = no_call are.bare (bare_of rest) command (are.have.bare_are ∙ ap bare_of is) are.call
+
+pub graph_has_none : (words : List (List ℕ)) (class : Option (List ℕ)) (site : List ℕ) → AreGraphWords class words site
+    → (options : Options) (command : OverSite) → AreOptioned words options command → ⊥
+graph_has_none words None site is options command are = begins_so words _ is command options are
+graph_has_none words (Some class) site (inl is) options command are = begins_so words _ is command options are
+graph_has_none words (Some class) site (inr is) options command are = begins_so words _ is command options are
+
+-- what holds of the command that was found holds of the one that the words call for
+pub for_further : (P : Options → OverSite → Type 0) (words : List (List ℕ)) (found : Further) → IsFurther words found
+    → ((options : Options) (command : SiteCommand) → found ≡ further.WithOptions options command → P options (over command))
+    → (options : Options) (command : OverSite) → AreOptioned words options command → P options command
+for_further P words (further.WithOptions given found) is holds options command are =
+    let both = one_optioned words given options (over found) command is are in
+    subst (λ c. P options c) both.1 (subst (λ o. P o (over found)) both.0 (holds given found refl))
+for_further P words (further.Graph site) is holds options command are = absurd (graph_has_none words None site.now is options command are)
+for_further P words (further.GraphOfClass site class) is holds options command are =
+    absurd (graph_has_none words (Some class.now) site.now is options command are)
+
+pub no_further : (words : List (List ℕ)) (found : Further) → IsFurther words found → AreNoFurtherOf words → ⊥
+no_further words (further.WithOptions given found) is none = none.no_optioned given (over found) is
+no_further words (further.Graph site) is none = none.no_graph None site.now is
+no_further words (further.GraphOfClass site class) is none = none.no_graph (Some class.now) site.now is
+
+module _ (bytes_of : List ℕ → Option (List ℕ)) (status : ℕ) (old new : Streams) (words : List (List ℕ)) (found : Further) (is : IsFurther words found) where
+  pub further_ends : FurtherEnds bytes_of found status
+      → (options : Options) (command : OverSite) → AreOptioned words options command → EndsAs bytes_of command status
+  further_ends ends = for_further (λ options command. EndsAs bytes_of command status) words found is
+      (λ options command e. subst (λ f. FurtherEnds bytes_of f status) e ends)
+
+  pub further_says : FurtherSays bytes_of found status old new
+      → (options : Options) (command : OverSite) → AreOptioned words options command → SaysAs bytes_of options command status old new
+  further_says says = for_further (λ options command. SaysAs bytes_of options command status old new) words found is
+      (λ options command e. subst (λ f. FurtherSays bytes_of f status old new) e says)
+
+  pub further_fails : (MayFail PiecesFail : List ℕ → Type 0) → FurtherFails bytes_of MayFail PiecesFail found status old new
+      → (options : Options) (command : OverSite) → AreOptioned words options command → FailsAs bytes_of MayFail PiecesFail command status old new
+  further_fails MayFail PiecesFail fails = for_further (λ options command. FailsAs bytes_of MayFail PiecesFail command status old new) words found is
+      (λ options command e. subst (λ f. FurtherFails bytes_of MayFail PiecesFail f status old new) e fails)

@@ -20,7 +20,8 @@ use Rattle.sy_checker.specs.declared.groups.Group.{Group}
 use Rattle.sy_checker.specs.Survey.{IsSurvey}
 use Rattle.syc.specs.declared.command.Asked.{Asked}
 use Rattle.syc.specs.declared.command.Asked.TheVariants as asked
-use Rattle.syc.specs.Outcomes.{AnswersOf}
+use Rattle.syc.specs.declared.options.Options.{Options}
+use Rattle.syc.specs.Outcomes.{AnswersFirstOf, AnswersOf}
 use Rattle.syc.specs.Reports.{Streams, line_feed}
 use Rattle.syc.specs.Texts.{class_text, input_text}
 
@@ -164,14 +165,25 @@ abbrev pub IsVerdict : Asked → Site → Bool → Type 0
 IsVerdict question site is_accepted = (bare : List ℕ) × Says question site bare is_accepted
 
 -- what a check with options says, but for a document
-abbrev pub SaysInWords : (is_explained tells_all : Bool) → Site → List ℕ → Bool → Type 0
-SaysInWords false false = SaysChecked
-SaysInWords true false = SaysExplained
-SaysInWords false true = SaysAll
-SaysInWords true true = SaysAllInWords
+abbrev pub SaysBy : (is_explained tells_all : Bool) → Site → List ℕ → Bool → Type 0
+SaysBy false false = SaysChecked
+SaysBy true false = SaysExplained
+SaysBy false true = SaysAll
+SaysBy true true = SaysAllInWords
+
+abbrev pub SaysInWords : Options → Site → List ℕ → Bool → Type 0
+SaysInWords options = SaysBy options.explain options.all
+
+-- The text begins with what a check with these options says.
+abbrev pub BeginsInWords : Options → Site → List ℕ → Bool → Type 0
+BeginsInWords options site text is_accepted = (said more : List ℕ) × (text ≡ said ++ more) × SaysInWords options site said is_accepted
 
 -- ---- the commands
 
 -- What a command over one site answers, with this site file.
 abbrev pub AskedIs : Asked → (List ℕ → Option (List ℕ)) → List ℕ → ℕ → Streams → Streams → Type 0
 AskedIs question = AnswersOf (Says question)
+
+-- what a check answers in words, with these options
+abbrev pub CheckedInWordsIs : Options → (List ℕ → Option (List ℕ)) → List ℕ → ℕ → Streams → Streams → Type 0
+CheckedInWordsIs options = AnswersFirstOf (SaysInWords options)

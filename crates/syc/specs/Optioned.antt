@@ -1,13 +1,15 @@
 -- What a command over a site answers that has options (this profile's own).
-use Rattle.std.specs.Prelude.{◌≡◌, ℕ, List, ◌∷◌, ◌⊎◌, Option, Some}
+use Rattle.std.specs.Prelude.{◌≡◌, ℕ, List, ◌∷◌, ◌⊎◌, Option, Some, false}
 use Rattle.std.specs.List.{Any}
 use Rattle.sy_site.specs.texts.Files.{file_names}
-use Rattle.syc.specs.Checks.{AskedIs}
+use Rattle.syc.specs.Checks.{AskedIs, CheckedInWordsIs}
 use Rattle.syc.specs.Outcomes.{FailsBy, MayEnd}
 use Rattle.syc.specs.Replays.{ReplayIs}
 use Rattle.syc.specs.Reports.{Streams}
 use Rattle.syc.specs.Verdicts.{VerifyIs}
 use Rattle.syc.specs.Words.{OverSite}
+use Rattle.syc.specs.declared.command.Asked.TheVariants as asked
+use Rattle.syc.specs.declared.options.Options.{Options}
 
 -- The exit status is one that the command without options answers over these files.
 abbrev pub EndsAs : (List ℕ → Option (List ℕ)) → OverSite → ℕ → Type 0
@@ -27,3 +29,9 @@ FailsAs bytes_of MayFail PiecesFail (OverSite.Replay site events) status old new
     → FailsBy (Any MayFail (site ∷ events ∷ file_names text) ⊎ PiecesFail input) status old new
 FailsAs bytes_of MayFail PiecesFail (OverSite.Verify site certificate) status old new =
     (text : List ℕ) → bytes_of site ≡ Some text → FailsBy (Any MayFail (site ∷ certificate ∷ file_names text)) status old new
+
+-- A check in words prints what it says of the site, and perhaps more behind that.
+abbrev pub SaysAs : (List ℕ → Option (List ℕ)) → Options → OverSite → ℕ → Streams → Streams → Type 0
+SaysAs bytes_of options (OverSite.Ask question site) status old new =
+    question ≡ asked.Check → options.json ≡ false → (text : List ℕ) → bytes_of site ≡ Some text → CheckedInWordsIs options bytes_of text status old new
+SaysAs bytes_of options _ status old new = Unit {0}

@@ -38,7 +38,7 @@ fn check_in_words<F: Files>(
     site: &Site,
     options: Options,
 ) -> Result<Answer, Halt>
-    ensures says { IfOk result (λ a. spec.SaysInWords options.explain options.all site.now a.text.items a.is_accepted) }
+    ensures says { IfOk result (λ a. spec.SaysInWords options site.now a.text.items a.is_accepted) }
     ensures verdict { IfOk result (λ a. spec.IsVerdict any_asked.Check site.now a.is_accepted) }
     ensures err { IfErr result (λ halt. halt ≡ Halt.NoMemory) }
 {
@@ -58,6 +58,7 @@ fn check_with_warnings<F: Files>(
     site: &Site,
     options: Options,
 ) -> Result<Answer, Halt>
+    ensures words { IfOk result (λ a. spec.BeginsInWords options site.now a.text.items a.is_accepted) }
     ensures verdict { IfOk result (λ a. spec.IsVerdict any_asked.Check site.now a.is_accepted) }
     ensures err { IfErr result (λ halt. halt ≡ Halt.NoMemory) }
 {
@@ -98,6 +99,8 @@ fn say_in_words<F: Files>(
     options: Options,
     asked: Asked,
 ) -> Result<Answer, Halt>
+    ensures words { asked ≡ any_asked.Check →
+        IfOk result (λ a. spec.BeginsInWords options site.now a.text.items a.is_accepted) }
     ensures verdict { IfOk result (λ a. spec.IsVerdict asked site.now a.is_accepted) }
     ensures err { IfErr result (λ halt. halt ≡ Halt.NoMemory) }
 {
@@ -134,6 +137,8 @@ fn say<F: Files>(
     options: Options,
     asked: Asked,
 ) -> Result<Answer, Halt>
+    ensures words { asked ≡ any_asked.Check → options.json ≡ false →
+        IfOk result (λ a. spec.BeginsInWords options site.now a.text.items a.is_accepted) }
     ensures verdict { IfOk result (λ a. spec.IsVerdict asked site.now a.is_accepted) }
     ensures err { IfErr result (λ halt. halt ≡ Halt.NoMemory) }
 {
@@ -153,7 +158,8 @@ fn answer_of<F: Files>(
     asked: Asked,
 ) -> Result<Answer, Halt>
     ensures ok { IfOk result (λ a. (text : List ℕ) → F.bytes_of files.now names.entry.site.now ≡ Some text →
-        (site : AnySite) × IsSiteOf (F.bytes_of files.now) text site × spec.IsVerdict asked site a.is_accepted) }
+        (site : AnySite) × IsSiteOf (F.bytes_of files.now) text site × spec.IsVerdict asked site a.is_accepted ×
+        (asked ≡ any_asked.Check → options.json ≡ false → spec.BeginsInWords options site a.text.items a.is_accepted)) }
     ensures err { IfErr result (λ halt. (text : List ℕ) → F.bytes_of files.now names.entry.site.now ≡ Some text →
         IsNoSite (F.bytes_of files.now) text halt) }
     ensures unread { IfErr result (λ halt. (text : List ℕ) → F.bytes_of files.now names.entry.site.now ≡ Some text →
@@ -184,6 +190,9 @@ pub fn ask_in_words<F: Files, W: Sink, E: Sink>(
 ) -> u8
     ensures ends { (text : List ℕ) → F.bytes_of files.now site.now ≡ Some text →
         MayEnd (spec.AskedIs asked (F.bytes_of files.now) text) result }
+    ensures says { asked ≡ any_asked.Check → options.json ≡ false → (text : List ℕ) →
+        F.bytes_of files.now site.now ≡ Some text →
+        spec.CheckedInWordsIs options (F.bytes_of files.now) text result out.old out.new }
     ensures fails { (text : List ℕ) → F.bytes_of files.now site.now ≡ Some text →
         FailsBy (Any (F.may_fail files.now) (site.now ∷ file_names text)) result out.old out.new }
     ensures status { result ≤ 4 }

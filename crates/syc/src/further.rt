@@ -1,14 +1,14 @@
 //! The commands with options: what stands anywhere among the words.
 ghost use Rattle.std.specs.Prelude.{◌≡◌, ◌≢◌, ◌≤◌, ◌∷◌, ℕ, List, IfNone, IfSome, codes, map, string_bytes};
 ghost use Rattle.std.specs.Io.KnownBytes.{Keeps};
-ghost use Rattle.syc.specs.Optioned.{EndsAs, FailsAs};
+ghost use Rattle.syc.specs.Optioned.{EndsAs, FailsAs, SaysAs};
 ghost use Rattle.syc.specs.Outcomes.{Shows};
 ghost use Rattle.syc.specs.Replays.{PiecesMayFail};
 ghost use Rattle.syc.specs.Words as spec;
 ghost use Rattle.syc.specs.Words.{AreNoFurtherOf, AreOptioned, OverSite as AnyOver};
 ghost use Rattle.syc.specs.declared.further.Further.TheVariants as further;
 ghost use Rattle.syc.specs.declared.options.Options.{Options as AnyOptions};
-ghost use Rattle.syc.specs.internal.Commands.{FurtherEnds, FurtherFails, IsFurther, IsGiven, IsNamed, IsNotOptioned, IsOptioned, over};
+ghost use Rattle.syc.specs.internal.Commands.{FurtherEnds, FurtherFails, FurtherSays, IsFurther, IsGiven, IsNamed, IsNotOptioned, IsOptioned, over};
 
 use crate::ask_in_words::ask_in_words;
 use crate::command::{Asked, SiteCommand, is_plain, is_word, site_command};
@@ -156,6 +156,7 @@ fn with_options<W: Sink, E: Sink, F: Files>(
     out: &mut Outputs<W, E>,
 ) -> u8
     ensures ends { EndsAs (F.bytes_of files.now) (over command.entry) result }
+    ensures says { SaysAs (F.bytes_of files.now) options (over command.entry) result out.old out.new }
     ensures fails { FailsAs (F.bytes_of files.now) (F.may_fail files.now) (PiecesMayFail F.Opened.faults)
         (over command.entry) result out.old out.new }
     ensures status { result ≤ 4 }
@@ -181,6 +182,7 @@ fn run_further<W: Sink, E: Sink, F: Files>(
     out: &mut Outputs<W, E>,
 ) -> u8
     ensures ends { FurtherEnds (F.bytes_of files.now) wanted.entry result }
+    ensures says { FurtherSays (F.bytes_of files.now) wanted.entry result out.old out.new }
     ensures fails { FurtherFails (F.bytes_of files.now) (F.may_fail files.now) (PiecesMayFail F.Opened.faults)
         wanted.entry result out.old out.new }
     ensures status { result ≤ 4 }
@@ -207,6 +209,8 @@ pub fn others<W: Sink, E: Sink, F: Files>(
     ensures quiet { result ≡ 0 → Keeps out.old.errors.contents out.new.errors.contents }
     ensures ends { (options : AnyOptions) (command : AnyOver) → AreOptioned (map string_bytes args.now) options command →
         EndsAs (F.bytes_of files.now) command result }
+    ensures says { (options : AnyOptions) (command : AnyOver) → AreOptioned (map string_bytes args.now) options command →
+        SaysAs (F.bytes_of files.now) options command result out.old out.new }
     ensures fails { (options : AnyOptions) (command : AnyOver) → AreOptioned (map string_bytes args.now) options command →
         FailsAs (F.bytes_of files.now) (F.may_fail files.now) (PiecesMayFail F.Opened.faults) command result out.old out.new }
     ensures other { AreNoFurtherOf (map string_bytes args.now) → Shows result out.old out.new }

@@ -4,7 +4,7 @@ ghost use Rattle.std.specs.Io.KnownBytes.{Keeps};
 ghost use Rattle.std.specs.List.{Any};
 ghost use Rattle.sy_site.specs.texts.Files.{file_names};
 ghost use Rattle.syc.specs.Checks.{AskedIs};
-ghost use Rattle.syc.specs.Optioned.{EndsAs, FailsAs};
+ghost use Rattle.syc.specs.Optioned.{EndsAs, FailsAs, SaysAs};
 ghost use Rattle.syc.specs.Outcomes.{FailsBy, Shows};
 ghost use Rattle.syc.specs.Pass.{Leaves, NoneFailed, PassIs, counted};
 ghost use Rattle.syc.specs.Replays.{PiecesMayFail, ReplayIs};
@@ -85,6 +85,8 @@ pub fn run<R: Source, W: Sink, E: Sink, F: Files>(
         FailsBy (Any (F.may_fail files.now) (site ∷ certificate ∷ file_names text)) result out.old out.new }
     ensures options_end { (options : AnyOptions) (command : AnyOver) → AreOptioned (map string_bytes args.now) options command →
         EndsAs (F.bytes_of files.now) command result }
+    ensures options_say { (options : AnyOptions) (command : AnyOver) → AreOptioned (map string_bytes args.now) options command →
+        SaysAs (F.bytes_of files.now) options command result out.old out.new }
     ensures options_fail { (options : AnyOptions) (command : AnyOver) → AreOptioned (map string_bytes args.now) options command →
         FailsAs (F.bytes_of files.now) (F.may_fail files.now) (PiecesMayFail F.Opened.faults) command result out.old out.new }
     ensures other { AreNoCommandOf (map string_bytes args.now) → Shows result out.old out.new }

@@ -1,5 +1,5 @@
 //! Warnings: what is lawful in a site and unwise. They change no verdict.
-ghost use Rattle.std.specs.Prelude.{◌≡◌, ◌++◌, IfErr, IfOk};
+ghost use Rattle.std.specs.Prelude.{◌≡◌, ◌++◌, ℕ, List, IfErr, IfOk};
 
 use crate::answer::Answer;
 use crate::cautions::unreached_relay;
@@ -317,6 +317,7 @@ fn with_lines_of<F: Files>(
     answer: Answer,
 ) -> Result<Answer, AllocError>
     ensures same { IfOk result (λ a. a.is_accepted ≡ answer.is_accepted) }
+    ensures more { IfOk result (λ a. (more : List ℕ) × (a.text.items ≡ answer.text.items ++ more)) }
 {
     let lines = lines_of(alloc, files, site_name, site)?;
     with_lines(answer, lines.as_slice())
@@ -331,6 +332,7 @@ pub fn with_warnings<F: Files>(
     answer: Answer,
 ) -> Result<Answer, Halt>
     ensures same { IfOk result (λ a. a.is_accepted ≡ answer.is_accepted) }
+    ensures more { IfOk result (λ a. (more : List ℕ) × (a.text.items ≡ answer.text.items ++ more)) }
     ensures err { IfErr result (λ halt. halt ≡ Halt.NoMemory) }
 {
     match with_lines_of(alloc, files, site_name, site, answer) {

@@ -1,11 +1,11 @@
 //! How a command over a site ends that has options: its first line is the same, and more may stand behind it.
-ghost use Rattle.std.specs.Prelude.{◌≡◌, ◌≢◌, ◌≤◌, IfErr, IfOk, IfSome};
+ghost use Rattle.std.specs.Prelude.{◌≡◌, ◌≢◌, ◌≤◌, IfErr, IfOk, IfSome, false};
 ghost use Rattle.std.specs.Io.KnownBytes.{Keeps};
 ghost use Rattle.syc.specs.HaltTexts.{halt_report};
 ghost use Rattle.syc.specs.Outcomes.{Prints};
 ghost use Rattle.syc.specs.Reports.{ReportedFirst, seen};
 ghost use Rattle.syc.specs.internal.Halts.{status_at};
-ghost use Rattle.syc.specs.internal.Optioned.{DocumentEnds, HaltEnds};
+ghost use Rattle.syc.specs.internal.Optioned.{DocumentEnds, HaltEnds, StopsFirst};
 
 use crate::all_faults::all_fault_words;
 use crate::answer::{Answer, print, stop};
@@ -118,6 +118,7 @@ fn stop_with_options<F: Files, W: Sink, E: Sink>(
     halt: Halt,
     out: &mut Outputs<W, E>,
 ) -> u8
+    ensures told { options.json ≡ false → StopsFirst halt result out.old out.new }
     ensures ends { HaltEnds halt result out.old.output.faults out.new.output.faults }
     ensures failed { result ≢ 0 }
     ensures status { result ≤ 4 }
@@ -141,6 +142,7 @@ pub fn print_with_options<F: Files, W: Sink, E: Sink>(
     out: &mut Outputs<W, E>,
 ) -> u8
     ensures printed { IfOk answer (λ a. Prints a.text.items a.is_accepted result out.old out.new) }
+    ensures told { options.json ≡ false → IfErr answer (λ halt. StopsFirst halt result out.old out.new) }
     ensures stopped { IfErr answer (λ halt. HaltEnds halt result out.old.output.faults out.new.output.faults) }
     ensures status { result ≤ 4 }
     ensures none_failed { result ≢ 4 → out.new.output.faults ≡ out.old.output.faults }

@@ -3,7 +3,7 @@ use Rattle.std.specs.Prelude.{◌≡◌, ℕ, true, ◌⊎◌, List, ◌∷◌, 
 use Rattle.std.specs.List.{Any}
 use Rattle.sy_site.specs.texts.Files.{file_names}
 use Rattle.syc.specs.Checks.{AskedIs}
-use Rattle.syc.specs.Optioned.{EndsAs, FailsAs}
+use Rattle.syc.specs.Optioned.{EndsAs, FailsAs, SaysAs}
 use Rattle.syc.specs.Outcomes.{FailsBy}
 use Rattle.syc.specs.Reports.{Streams}
 use Rattle.syc.specs.Replays.{ReplayIs}
@@ -137,3 +137,7 @@ abbrev pub FurtherFails : (List ℕ → Option (List ℕ)) → (List ℕ → Typ
 FurtherFails bytes_of MayFail PiecesFail (further.WithOptions options command) status old new =
     FailsAs bytes_of MayFail PiecesFail (over command) status old new
 FurtherFails bytes_of MayFail PiecesFail _ status old new = Unit {0}
+
+abbrev pub FurtherSays : (List ℕ → Option (List ℕ)) → Further → ℕ → Streams → Streams → Type 0
+FurtherSays bytes_of (further.WithOptions options command) status old new = SaysAs bytes_of options (over command) status old new
+FurtherSays bytes_of _ status old new = Unit {0}

@@ -1,13 +1,19 @@
 use Rattle.std.proofs.Common.{◌≡◌, ◌∷◌, Some}
 use Rattle.sy_site.specs.texts.Files.{file_names}
-use Rattle.syc.proofs.Ends.{asked_ends, fails_with}
+use Rattle.syc.proofs.Ends.{WordsOf, asked_ends, check_says, fails_with}
 use Rattle.syc.proofs.ask_in_words.ask_in_words.Goals as goal
 
 pub returns-clause-ends : goal.returns-clause-ends
 returns-clause-ends g c = λ text known.
     asked_ends c.args.asked (g.F.Files.bytes_of c.args.files.now) c.args.site.now text c.answer_of.result c.print_with_options.result
-    c.args.out.now c.print_with_options.new.out c.answer_of.ensures.ok c.answer_of.ensures.err
+    c.args.out.now c.print_with_options.new.out (WordsOf c.args.asked c.args.options) c.answer_of.ensures.ok c.answer_of.ensures.err
     c.print_with_options.ensures.printed c.print_with_options.ensures.stopped known
+
+pub returns-clause-says : goal.returns-clause-says
+returns-clause-says g c = λ check words text known.
+    check_says c.args.asked c.args.options (g.F.Files.bytes_of c.args.files.now) c.args.site.now text c.answer_of.result c.print_with_options.result
+    c.args.out.now c.print_with_options.new.out c.answer_of.ensures.ok c.answer_of.ensures.err
+    c.print_with_options.ensures.printed c.print_with_options.ensures.told check words known
 
 pub returns-clause-fails : goal.returns-clause-fails
 returns-clause-fails g c =

@@ -3,4 +3,4 @@ use Rattle.syc.specs.Words.{once_if, times}
 use Rattle.syc.proofs.options.is_given.Given as goal
 
 abbrev pub invariant-loop-arg : goal.invariant-loop-arg
-invariant-loop-arg l = once_if l.is_there + times l.option.now (map string_bytes (drop l.arg-index l.args)) ≡ times l.option.now (map string_bytes l.args)
+invariant-loop-arg l = once_if l.is_there + times l.option (map string_bytes (drop l.arg-index l.args)) ≡ times l.option (map string_bytes l.args)

@@ -65,6 +65,11 @@ returns-in-Ok-Pass-clause-options_end g c =
     let alone = pass_alone _ _ _ _ c.as_slice.ensures.value c.in-Ok.ensures (rw c.in-Ok-Pass.field-0-is at c.in-Ok-Pass.ensures.ok) in
     λ options command are. absurd (pass_has_none _ options command alone are)
 
+pub returns-in-Ok-Pass-clause-options_say : goal.returns-in-Ok-Pass-clause-options_say
+returns-in-Ok-Pass-clause-options_say g c =
+    let alone = pass_alone _ _ _ _ c.as_slice.ensures.value c.in-Ok.ensures (rw c.in-Ok-Pass.field-0-is at c.in-Ok-Pass.ensures.ok) in
+    λ options command are. absurd (pass_has_none _ options command alone are)
+
 pub returns-in-Ok-Pass-clause-options_fail : goal.returns-in-Ok-Pass-clause-options_fail
 returns-in-Ok-Pass-clause-options_fail g c =
     let alone = pass_alone _ _ _ _ c.as_slice.ensures.value c.in-Ok.ensures (rw c.in-Ok-Pass.field-0-is at c.in-Ok-Pass.ensures.ok) in
@@ -132,6 +137,11 @@ returns-in-Ok-OverSite-clause-check_safe g c =
 
 pub returns-in-Ok-OverSite-clause-options_end : goal.returns-in-Ok-OverSite-clause-options_end
 returns-in-Ok-OverSite-clause-options_end g c =
+    let wanted = without_name _ _ _ _ c.as_slice.ensures.value c.in-Ok.ensures c.in-Ok-OverSite.command (rw c.in-Ok-OverSite.field-0-is at c.in-Ok-OverSite.ensures.ok) in
+    λ options command are. absurd (site_has_none _ options (over c.in-Ok-OverSite.command) command (calls _ c.in-Ok-OverSite.command wanted) are)
+
+pub returns-in-Ok-OverSite-clause-options_say : goal.returns-in-Ok-OverSite-clause-options_say
+returns-in-Ok-OverSite-clause-options_say g c =
     let wanted = without_name _ _ _ _ c.as_slice.ensures.value c.in-Ok.ensures c.in-Ok-OverSite.command (rw c.in-Ok-OverSite.field-0-is at c.in-Ok-OverSite.ensures.ok) in
     λ options command are. absurd (site_has_none _ options (over c.in-Ok-OverSite.command) command (calls _ c.in-Ok-OverSite.command wanted) are)
 
