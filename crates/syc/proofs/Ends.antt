@@ -27,7 +27,7 @@ use Rattle.syc.proofs.Unread.{printing_fails, stops_by}
 abbrev pub nothing : SinkState
 nothing = record { contents = None; is_flushed = true; faults = 0 }
 
-abbrev still : Streams
+abbrev pub still : Streams
 still = streams nothing nothing
 
 prints : (text : List ℕ) (is_accepted : Bool) → Prints text is_accepted (status_for is_accepted) still still
@@ -37,10 +37,10 @@ tells : (line : List ℕ) → Tells still still line
 tells line = inl (tt, refl, refl)
 
 -- no memory, or a failed read
-no_memory : (bytes_of : List ℕ → Option (List ℕ)) (text : List ℕ) → HasNoAnswer bytes_of text 3 (Tells still still)
+pub no_memory : (bytes_of : List ℕ → Option (List ℕ)) (text : List ℕ) → HasNoAnswer bytes_of text 3 (Tells still still)
 no_memory bytes_of text = inr (inl (refl, tells (said (codes "no memory"))))
 
-failed : (bytes_of : List ℕ → Option (List ℕ)) (text : List ℕ) → HasNoAnswer bytes_of text 4 (Tells still still)
+pub failed : (bytes_of : List ℕ → Option (List ℕ)) (text : List ℕ) → HasNoAnswer bytes_of text 4 (Tells still still)
 failed bytes_of text = inr (inr (refl, tells (said (codes "read failed"))))
 
 -- ---- what is asked of one site
@@ -169,7 +169,7 @@ verify_ends bytes_of name other site text answer status old new ok err printed s
 
 -- ---- status 4
 
-halt_fails : (MayFail : Type 0) (Unread : Halt → Type 0) (why end : Halt) (status before after : ℕ) → (Unread halt.ReadFailed → MayFail)
+pub halt_fails : (MayFail : Type 0) (Unread : Halt → Type 0) (why end : Halt) (status before after : ℕ) → (Unread halt.ReadFailed → MayFail)
     → (Unread halt.WriteFailed → ⊥) → Unread why → status ≡ status_at end → DocumentEnds why end before after → status ≡ 4
     → MayFail ⊎ Rose before after
 halt_fails MayFail Unread why end status before after read written unread is (inl same) four =

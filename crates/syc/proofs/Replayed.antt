@@ -1,17 +1,20 @@
 -- Which exit statuses a replay may end with.
-use Rattle.std.proofs.Common.{◌≡◌, ℕ, List, inl, inr, refl, sym, subst}
-use Rattle.std.specs.Prelude.{◌⊎◌, Option, true}
+use Rattle.std.proofs.Common.{◌≡◌, ℕ, List, inl, inr, refl, sym, subst, ◌∙◌, arith}
+use Rattle.std.specs.Prelude.{◌⊎◌, ◌≢◌, Bool, Option, true}
 use Rattle.std.specs.Io.KnownBytes.{Keeps}
+use Rattle.std.proofs.KnownBytes.{Keeps-refl}
 use Rattle.sy_wire.specs.Streams.{Rose}
 use Rattle.syc.specs.HaltTexts.{halt_report}
 use Rattle.syc.specs.Outcomes.{MayEnd}
 use Rattle.syc.specs.Replays.{EndsReplay, ReplayIs}
 use Rattle.syc.specs.Reports.{SinkState, Streams, Tells, streams}
+use Rattle.syc.specs.SiteFiles.{HasNoAnswer}
 use Rattle.syc.specs.declared.halt.Halt.{Halt}
 use Rattle.syc.specs.declared.halt.Halt.TheVariants as halts
 use Rattle.syc.specs.internal.Halts.{Halted, IsCause, Replayed, status_at}
+use Rattle.syc.specs.internal.Optioned.{HaltEnds, in_memory}
 use Rattle.syc.proofs.Courses.{halted, halted_failing, replayed, rises_on}
-use Rattle.syc.proofs.Ends.{nothing}
+use Rattle.syc.proofs.Ends.{failed, halt_fails, halted_by, no_memory, nothing, still}
 
 module _ (bytes_of : List ℕ → Option (List ℕ)) (text events : List ℕ) (old new : SinkState) where
   told : (line : List ℕ) → Tells (streams old nothing) (streams new nothing) line
@@ -43,3 +46,108 @@ module _ (bytes_of : List ℕ → Option (List ℕ)) (text events : List ℕ) (o
       subst (λ h. MayEnd (ReplayIs bytes_of text events) (status_at h)) (sym failed.0)
       (ended 4 (halted_failing bytes_of text events why old new mid.contents mid.faults (Tells (streams old nothing) (streams new nothing))
       stopped kept rose (told (halt_report halts.WriteFailed))))
+
+  -- memory ran out, or reading or writing failed
+  gone : (status : ℕ) → HasNoAnswer bytes_of text status (Tells still still) → MayEnd (ReplayIs bytes_of text events) status
+  gone status none = record { old = still; new = still; is = inl (Keeps-refl nothing.contents, inl (none, refl, refl)) }
+
+module _ (bytes_of : List ℕ → Option (List ℕ)) (text events : List ℕ) where
+  pub replay_no_memory : MayEnd (ReplayIs bytes_of text events) 3
+  replay_no_memory = gone bytes_of text events nothing nothing 3 (no_memory bytes_of text)
+
+  replay_failed : MayEnd (ReplayIs bytes_of text events) 4
+  replay_failed = gone bytes_of text events nothing nothing 4 (failed bytes_of text)
+
+  -- the same of a replay that wrote to memory
+  in_memory_ends : (why : Halt) → MayEnd (ReplayIs bytes_of text events) (status_at why)
+      → MayEnd (ReplayIs bytes_of text events) (status_at (in_memory why))
+  in_memory_ends halts.WriteFailed may = replay_no_memory
+  in_memory_ends (halts.Site fault) may = may
+  in_memory_ends (halts.Certificate fault) may = may
+  in_memory_ends (halts.Line n) may = may
+  in_memory_ends (halts.Illegal n) may = may
+  in_memory_ends (halts.TotalsFull n) may = may
+  in_memory_ends halts.NoMemory may = may
+  in_memory_ends halts.ReadFailed may = may
+
+  -- what its document ends with
+  pub document_ends : (why : Halt) (before after status : ℕ) → MayEnd (ReplayIs bytes_of text events) (status_at why)
+      → HaltEnds (in_memory why) status before after → MayEnd (ReplayIs bytes_of text events) status
+  document_ends why before after status may ends =
+      halted_by (MayEnd (ReplayIs bytes_of text events)) replay_no_memory replay_failed (in_memory why) before after status (in_memory_ends why may) ends
+
+  pub whole_document_ends : (before after status : ℕ) → MayEnd (ReplayIs bytes_of text events) 0
+      → (status ≡ 0) ⊎ HaltEnds halts.NoMemory status before after → MayEnd (ReplayIs bytes_of text events) status
+  whole_document_ends before after status may (inl zero) = subst (MayEnd (ReplayIs bytes_of text events)) (sym zero) may
+  whole_document_ends before after status may (inr ends) =
+      halted_by (MayEnd (ReplayIs bytes_of text events)) replay_no_memory replay_failed halts.NoMemory before after status replay_no_memory ends
+
+-- ---- what was printed before a halt is handed on
+
+abbrev pub HandsOn : Halt → Halt → Bool → ℕ → ℕ → Type 0
+HandsOn why end flushed mid last =
+    ((end ≡ why) × (flushed ≡ true) × (last ≡ mid)) ⊎ ((end ≡ halts.WriteFailed) × ((why ≡ halts.WriteFailed) ⊎ Rose mid last))
+
+pub cause_on : (why end : Halt) (flushed : Bool) (before mid last : ℕ) → IsCause why before mid → (why ≡ halts.WriteFailed → last ≡ mid)
+    → HandsOn why end flushed mid last → IsCause end before last
+cause_on why end flushed before mid last cause untouched (inl same) =
+    subst (λ f. IsCause end before f) (sym same.2) (subst (λ h. IsCause h before mid) (sym same.0) cause)
+cause_on why end flushed before mid last cause untouched (inr failed) = subst (λ h. IsCause h before last) (sym failed.0) (elim failed.1 [
+      | inl is ↦ subst (Rose before) (sym (untouched is)) (subst (λ h. IsCause h before mid) is cause)
+      | inr rose ↦ rises_on why before mid last cause rose
+    ])
+
+write_or_read : halts.WriteFailed ≡ halts.ReadFailed → ⊥
+write_or_read e = cc
+
+pub read_on : (why end : Halt) (flushed : Bool) (mid last : ℕ) → HandsOn why end flushed mid last → end ≡ halts.ReadFailed → why ≡ halts.ReadFailed
+read_on why end flushed mid last (inl same) is = sym same.0 ∙ is
+read_on why end flushed mid last (inr failed) is = absurd (write_or_read (sym failed.0 ∙ is))
+
+-- ---- status 4 of a document
+
+-- a halt that is a failed read has this cause, and it is no failed write
+abbrev UnreadOr : Type 0 → Halt → Type 0
+UnreadOr MayFail why = (why ≡ halts.ReadFailed → MayFail) × (why ≡ halts.WriteFailed → ⊥)
+
+memory_or_read : halts.NoMemory ≡ halts.ReadFailed → ⊥
+memory_or_read e = cc
+
+memory_or_write : halts.NoMemory ≡ halts.WriteFailed → ⊥
+memory_or_write e = cc
+
+no_write : (why : Halt) → in_memory why ≡ halts.WriteFailed → ⊥
+no_write halts.WriteFailed e = cc
+no_write (halts.Site fault) e = cc
+no_write (halts.Certificate fault) e = cc
+no_write (halts.Line n) e = cc
+no_write (halts.Illegal n) e = cc
+no_write (halts.TotalsFull n) e = cc
+no_write halts.NoMemory e = cc
+no_write halts.ReadFailed e = cc
+
+still_read : (why : Halt) → in_memory why ≡ halts.ReadFailed → why ≡ halts.ReadFailed
+still_read halts.WriteFailed e = absurd (memory_or_read e)
+still_read (halts.Site fault) e = e
+still_read (halts.Certificate fault) e = e
+still_read (halts.Line n) e = e
+still_read (halts.Illegal n) e = e
+still_read (halts.TotalsFull n) e = e
+still_read halts.NoMemory e = e
+still_read halts.ReadFailed e = e
+
+pub document_fails : (MayFail : Type 0) (why : Halt) (status before after : ℕ) → (why ≡ halts.ReadFailed → MayFail)
+    → HaltEnds (in_memory why) status before after → status ≡ 4 → MayFail ⊎ Rose before after
+document_fails MayFail why status before after unread ends four =
+    halt_fails MayFail (UnreadOr MayFail) (in_memory why) ends.0 status before after (λ u. u.0 refl) (λ u. u.1 refl)
+    ((λ is. unread (still_read why is)), no_write why) ends.1 ends.2 four
+
+zero_or_four : (n : ℕ) → n ≡ 0 → n ≡ 4 → ⊥
+zero_or_four n zero four = omega (arith, zero, four)
+
+pub whole_document_fails : (MayFail : Type 0) (status before after : ℕ) → (status ≡ 0) ⊎ HaltEnds halts.NoMemory status before after → status ≡ 4
+    → MayFail ⊎ Rose before after
+whole_document_fails MayFail status before after (inl zero) four = absurd (zero_or_four status zero four)
+whole_document_fails MayFail status before after (inr ends) four =
+    halt_fails MayFail (UnreadOr MayFail) halts.NoMemory ends.0 status before after (λ u. u.0 refl) (λ u. u.1 refl)
+    ((λ is. absurd (memory_or_read is)), memory_or_write) ends.1 ends.2 four

@@ -67,19 +67,30 @@ fn has_queue(plan: &Plan, list: u32, queue: u32) -> bool {
 
 // The name of the list that has the queue of this number.
 fn list_name(plan: &Plan, queue: u32) -> &[u8] {
-    for list in 0..plan.list_names().len() as u32 {
+    let mut list: u32 = 0;
+    for _ in plan.list_names() {
         if has_queue(plan, list, queue) {
             return name_of_list(plan, list);
         }
+        list = list.saturating_add(1);
     }
     b""
 }
 
+fn queue_subject(alloc: Global, plan: &Plan, queue: u32) -> Result<Subject, AllocError> {
+    if queue == 0 {
+        return named(alloc, Kind::Queue, &[Part::Text(b"main queue")]);
+    }
+    let name = Part::Text(list_name(plan, queue));
+    named(alloc, Kind::Queue, &[Part::Text(b"queue of "), name])
+}
+
 fn put_queues(alloc: Global, subjects: &mut Vec<Subject>, plan: &Plan) -> Result<(), AllocError> {
-    subjects.push(named(alloc, Kind::Queue, &[Part::Text(b"main queue")])?)?;
-    for queue in 1..plan.queues().len() as u32 {
-        let name = Part::Text(list_name(plan, queue));
-        subjects.push(named(alloc, Kind::Queue, &[Part::Text(b"queue of "), name])?)?;
+    let mut queue: u32 = 0;
+    for _ in plan.queues() {
+        let subject = queue_subject(alloc, plan, queue)?;
+        subjects.push(subject)?;
+        queue = queue.saturating_add(1);
     }
     Ok(())
 }

@@ -28,7 +28,10 @@ impl Reason {
     /// Why a call of the host failed.
     pub fn of(error: &Error) -> Reason {
         if let Some(code) = error.raw_os_error() {
-            return Reason::Os(code as u32);
+            return match u32::try_from(code) {
+                Ok(code) => Reason::Os(code),
+                Err(_) => Reason::Write,
+            };
         }
         match error.kind() {
             ErrorKind::TimedOut => Reason::TimedOut,
@@ -80,19 +83,29 @@ impl Reason {
     /// Puts the reason behind a text: of a number of the host its words, or the number where it has none.
     pub fn put(self, alloc: Global, text: &mut Vec<u8>) -> Result<(), AllocError> {
         match self {
-            Reason::Os(code) => match Error::from_raw_os_error(code as i32).kind() {
-                ErrorKind::Uncategorized => {
-                    put_parts(
-                        text,
-                        &[Part::Text(b"error "), Part::Number(u64::from(code))],
-                    )
-                }
-                kind => {
-                    let words = kind.to_string(alloc)?;
-                    text.extend_from_slice(words.as_str().as_bytes())
-                }
-            },
+            Reason::Os(code) => put_host(alloc, text, code),
             _ => text.extend_from_slice(self.words().as_bytes()),
+        }
+    }
+}
+
+fn put_number(text: &mut Vec<u8>, code: u32) -> Result<(), AllocError> {
+    put_parts(
+        text,
+        &[Part::Text(b"error "), Part::Number(u64::from(code))],
+    )
+}
+
+// Puts the words of the host's error of that number, or the number where it has none.
+fn put_host(alloc: Global, text: &mut Vec<u8>, code: u32) -> Result<(), AllocError> {
+    let Ok(number) = i32::try_from(code) else {
+        return put_number(text, code);
+    };
+    match Error::from_raw_os_error(number).kind() {
+        ErrorKind::Uncategorized => put_number(text, code),
+        kind => {
+            let words = kind.to_string(alloc)?;
+            text.extend_from_slice(words.as_str().as_bytes())
         }
     }
 }
