@@ -73,10 +73,11 @@ pub fn stop_in_words<F: Files, E: Sink>(
         (seen E.contents E.is_flushed E.faults errors.old) (seen E.contents E.is_flushed E.faults errors.new)
         (halt_report halt.now) }
 {
-    match words_behind(alloc, files, names, options, halt) {
-        Ok(words) => tell_with(alloc, errors, halt, words.as_slice()),
-        Err(_) => tell(errors, halt),
-    }
+    let words = match words_behind(alloc, files, names, options, halt) {
+        Ok(words) => words,
+        Err(_) => Vec::new(alloc),
+    };
+    tell_with(alloc, errors, halt, words.as_slice());
     status_of(halt)
 }
 
