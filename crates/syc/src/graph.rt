@@ -8,7 +8,7 @@ use crate::graph_arrow::put_outside;
 use crate::graph_node::{Drawing, mark_of};
 use crate::graph_reach::reach_of;
 use crate::graph_relay::put_relay;
-use crate::graph_text::{HEAD, LEGEND, LEGEND_OF_ONE, put_name};
+use crate::graph_text::{AROUND, HEAD, LEGEND, LEGEND_OF_ONE, MARKS, put_name};
 use crate::halt::Halt;
 use crate::outputs::Outputs;
 use crate::report::tell_texts;
@@ -97,7 +97,7 @@ fn found(alloc: Global, site: &Site) -> Result<Option<Finding>, AllocError> {
     }
 }
 
-// The verdict, and what the lines mean.
+// The verdict, and the class where one was asked for.
 fn put_title(
     words: &mut Words,
     site: &Site,
@@ -114,20 +114,21 @@ fn put_title(
             Part::Text(b" protected classes"),
         ]),
     }
-    match class {
-        Some(class) => words.put(&[
-            Part::Text(b"\\n"),
-            Part::Class(class),
-            Part::Text(b": "),
-            Part::Text(LEGEND_OF_ONE.as_bytes()),
-        ]),
-        None => words.put(&[Part::Text(b"\\n"), Part::Text(LEGEND.as_bytes())]),
+    if let Some(class) = class {
+        words.put(&[Part::Text(b"\\nmessages of "), Part::Class(class)]);
     }
     words.say(if found.is_some() {
         "\";\n  fontcolor=\"#d93025\";\n"
     } else {
         "\";\n"
     });
+}
+
+// What the lines and the colours mean.
+fn put_legend(words: &mut Words, is_one: bool) {
+    words.say(AROUND);
+    words.say(if is_one { LEGEND_OF_ONE } else { LEGEND });
+    words.say(MARKS);
 }
 
 // ---- the drawing
@@ -163,8 +164,9 @@ fn draw(alloc: Global, site: &Site, class: Option<Class>) -> Result<Vec<u8>, All
     let mut words = Words::new(alloc);
     words.say(HEAD);
     put_title(&mut words, site, &found, protected.len(), class);
+    put_legend(&mut words, drawing.is_one);
     put_all(&mut words, drawing)?;
-    words.say("}\n");
+    words.say("  }\n}\n");
     words.finish()
 }
 

@@ -50,6 +50,21 @@ fn put_from_inputs(words: &mut Words, drawing: Drawing<'_>, relay: u32, plan: &P
     }
 }
 
+// Whether some messages of a list's queue go to another list: those in the main queue, each to the list of its input.
+fn is_parted(drawing: Drawing<'_>, relay: u32, plan: &Plan, list: u32) -> bool {
+    queue_for(plan, list) == 0
+        && (0..LISTS).any(|l| {
+            l != list && queue_for(plan, l) == 0 && !drawing.reach.at_list(relay, l).is_empty()
+        })
+}
+
+fn how_to_list(drawing: Drawing<'_>, relay: u32, plan: &Plan, list: u32) -> How {
+    match how_for(drawing.reach.at_list(relay, list)) {
+        How::Must if is_parted(drawing, relay, plan, list) => How::May,
+        how => how,
+    }
+}
+
 fn put_from_queues(words: &mut Words, drawing: Drawing<'_>, relay: u32, plan: &Plan) {
     for list in 0..LISTS {
         if is_drawn(plan, list) {
@@ -61,8 +76,8 @@ fn put_from_queues(words: &mut Words, drawing: Drawing<'_>, relay: u32, plan: &P
                 relay,
                 thing: Thing::List(list),
             };
-            let classes = drawing.reach.at_list(relay, list);
-            put_arrow(words, drawing, from, to, how_for(classes));
+            let how = how_to_list(drawing, relay, plan, list);
+            put_arrow(words, drawing, from, to, how);
             words.say("];\n");
         }
     }
@@ -171,7 +186,8 @@ fn put_label(words: &mut Words, drawing: Drawing<'_>, classes: &[Class]) -> Resu
     if classes.is_empty() || classes.len() == drawing.classes {
         return Ok(());
     }
-    words.say(", label=\"");
+    // (with a blank, so that the arrow doesn't touch it)
+    words.say(", label=\" ");
     put_class_names(drawing.alloc, words, classes)?;
     words.say("\"");
     Ok(())

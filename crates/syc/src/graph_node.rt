@@ -3,7 +3,7 @@
 use crate::culprit::{Spot, action_by, occurrence_meant, queue_for, spot_at};
 use crate::followed::circle;
 use crate::graph_reach::Reach;
-use crate::graph_text::{GREY, RED};
+use crate::graph_text::{GREY, RED_NODE};
 use crate::texts::Part;
 use crate::words::Words;
 use std::alloc::{AllocError, Global};
@@ -86,8 +86,7 @@ pub fn end_node(words: &mut Words, drawing: Drawing<'_>, node: Node, is_reached:
     if is_marked(drawing, node) {
         words.say("\\n");
         words.say(drawing.mark.kind);
-        words.say("\"");
-        words.say(RED);
+        words.say(RED_NODE);
     } else if is_reached {
         words.say("\"");
     } else {

@@ -2,7 +2,7 @@
 
 use crate::culprit::{name_of_list, queue_for};
 use crate::graph_arrow::put_inside;
-use crate::graph_node::{Drawing, Node, Thing, begin_node, end_node, is_entry, put_id};
+use crate::graph_node::{Drawing, Node, Thing, begin_node, end_node, is_entry, is_marked, put_id};
 use crate::graph_reach::{ACTIONS, INPUTS, LISTS};
 use crate::graph_text as style;
 use crate::graph_text::{put_class_names, put_name};
@@ -37,7 +37,7 @@ fn put_input(words: &mut Words, drawing: Drawing<'_>, at: SiteInput, input: Inpu
     words.put(&[Part::Number(u64::from(input.port)), Part::Text(b"\\n")]);
     words.say(flow_text(input.flow));
     end_node(words, drawing, node, !drawing.reach.at_input(at).is_empty());
-    if is_entry {
+    if is_entry && !is_marked(drawing, node) {
         words.say("    ");
         put_id(words, node);
         words.say(style::ENTRY);
@@ -175,6 +175,7 @@ fn put_action(
     begin_node(words, node);
     put_name(words, action.name.as_slice());
     match action.retry {
+        Some(0) => words.say("\\ntried once"),
         Some(count) => words.put(&[
             Part::Text(b"\\ngiven up after "),
             Part::Number(u64::from(count)),
@@ -251,7 +252,7 @@ fn put_file(
     put_kept(words, drawing.alloc, kept.as_slice())?;
     let classes = drawing.reach.at_action(archive.relay, archive.action);
     end_node(words, drawing, node, !classes.is_empty());
-    if !kept.is_empty() {
+    if !kept.is_empty() && !is_marked(drawing, node) {
         words.say("    ");
         put_id(words, node);
         words.say(style::ARCHIVE);

@@ -55,7 +55,7 @@ pub fn put_class_names(
 /// How an arrow is drawn.
 pub fn style_of(how: How, is_one: bool) -> &'static str {
     match how {
-        How::Never => "style=dotted",
+        How::Never => "style=dotted, color=\"#80868b\"",
         How::May if is_one => "style=dashed",
         How::May | How::Must => "style=solid",
     }
@@ -63,10 +63,14 @@ pub fn style_of(how: How, is_one: bool) -> &'static str {
 
 /// What the text of a drawing begins with.
 pub const HEAD: &str = "digraph site {
-  graph [rankdir=LR, ranksep=0.3, nodesep=0.2, fontname=\"Helvetica\", fontsize=14, labelloc=t];
+  graph [ranksep=0.3, nodesep=0.25, fontname=\"Helvetica\", fontsize=16, labelloc=t];
   node [height=0.3, margin=\"0.12,0.06\", fontname=\"Helvetica\", fontsize=12];
-  edge [arrowsize=0.7, fontname=\"Helvetica\", fontsize=11];
+  edge [arrowsize=0.7, fontname=\"Helvetica\", fontsize=10];
 ";
+
+/// Around all relays, so that what the lines mean stands below them.
+pub const AROUND: &str = "  subgraph cluster_site {
+    graph [label=\"";
 
 /// What the lines mean, of all protected classes and of one class.
 pub const LEGEND: &str =
@@ -75,17 +79,25 @@ pub const LEGEND: &str =
 pub const LEGEND_OF_ONE: &str =
     "solid: each message that comes so far goes there; dashed: some may; dotted: none does";
 
-/// The rest of the line of what a finding is about, and of what no message reaches.
+/// What the colours mean.
+pub const MARKS: &str = "\\nblue: an entry; green: an archive of a protect line; dashed box: a spare action\",
+    labelloc=b, fontsize=12, fontcolor=black, penwidth=0];
+";
+
+/// The rest of the line of an arrow and of a node that a finding is about, and of a node that no message reaches.
 pub const RED: &str = ", color=\"#d93025\", fontcolor=\"#d93025\", penwidth=2";
+
+pub const RED_NODE: &str =
+    "\", color=\"#d93025\", fontcolor=\"#b3261e\", penwidth=2, fillcolor=\"#fce8e6\"";
 
 pub const GREY: &str = "\", color=\"#bdc1c6\", fontcolor=\"#80868b\"";
 
 /// The styles of a relay's box and of its nodes.
 pub const BOX: &str =
-    "\", labeljust=l, fontsize=16, fontcolor=black, style=\"rounded,filled\", color=\"#dadce0\", fillcolor=\"#f8f9fa\"];\n";
+    "\", labelloc=t, labeljust=l, fontsize=18, penwidth=1, style=\"rounded,filled\", color=\"#dadce0\", fillcolor=\"#f8f9fa\"];\n";
 
 pub const INPUTS: &str =
-    "    node [shape=cds, margin=\"0.14,0.13\", style=filled, fillcolor=\"#e8f0fe\"];\n";
+    "    node [shape=invhouse, margin=\"0,0.02\", style=filled, fillcolor=\"#e8f0fe\"];\n";
 
 pub const QUEUES: &str =
     "    node [shape=box, margin=\"0.12,0.06\", style=filled, fillcolor=\"#fef7e0\"];\n";
