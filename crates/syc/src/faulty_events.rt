@@ -147,6 +147,38 @@ fn is_of_input(word: &[u8]) -> bool {
     matches!(word, b"take" | b"enter" | b"expire")
 }
 
+// Whether a word is the number of a hand.
+fn is_hand(word: &[u8]) -> bool {
+    match word {
+        [digit] => digit.is_ascii_digit(),
+        [b'1'..=b'5', digit] => digit.is_ascii_digit(),
+        [b'6', b'0'..=b'3'] => true,
+        _ => false,
+    }
+}
+
+// Says that an event of an input has no hand there, where that is so, and answers whether it is.
+fn put_hand(alloc: Global, note: &mut Note, at: OtherLine<'_>, word: &[u8]) -> bool {
+    if let Some((_, hand)) = word_in(at.line, 3) && is_hand(hand) {
+        return false;
+    }
+    stands_at_word(alloc, note, at, 3);
+    note.why.say("a hand is a number from 0 to 63");
+    note.change.say(shape_of(word));
+    true
+}
+
+// Which word is likely wrong: behind a hand what it takes, or the action; else the worker.
+fn doubtful(at: OtherLine<'_>, word: &[u8]) -> usize {
+    if !is_of_input(word) {
+        return 2;
+    }
+    match word_in(at.line, 4) {
+        Some((_, taken)) if taken == b"link".as_slice() => 6,
+        _ => 4,
+    }
+}
+
 // Says of a line that begins with an event's word what is wrong with it.
 fn put_event<F: Files>(
     alloc: Global,
@@ -162,10 +194,13 @@ fn put_event<F: Files>(
     if is_of_input(word) && put_port(alloc, files, note, at, site_text)? {
         return Ok(());
     }
+    if is_of_input(word) && put_hand(alloc, note, at, word) {
+        return Ok(());
+    }
     if word == b"take".as_slice() && put_raw(alloc, note, at)? {
         return Ok(());
     }
-    stands_at_word(alloc, note, at, 2);
+    stands_at_word(alloc, note, at, doubtful(at, word));
     note.why.say("the relay has no such port, hand, worker or action, or the line isn't ");
     note.why.say(shape_of(word));
     note.change.say(shape_of(word));

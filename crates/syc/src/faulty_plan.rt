@@ -172,6 +172,14 @@ fn example(values: Values) -> &'static [u8] {
     }
 }
 
+// A value that a missing parameter may have: the type of an action with a target is that of forwards.
+fn example_in(object: Object<'_>, name: &[u8], values: Values) -> &'static [u8] {
+    if name == b"type".as_slice() && first_param(object, b"target").is_some() {
+        return b"omfwd";
+    }
+    example(values)
+}
+
 fn put_missing(note: &mut Note, object: Option<Object<'_>>, name: &[u8]) {
     note.why.put(&[Part::Text(name), Part::Text(b" isn't given, and must be")]);
     let Some(object) = object else {
@@ -179,7 +187,7 @@ fn put_missing(note: &mut Note, object: Option<Object<'_>>, name: &[u8]) {
     };
     let tables = tables_of(object.word, value_of(object.params, b"type"));
     if let Some(row) = row_of(&tables, name) {
-        put_parameter(&mut note.change, row.name, example(row.values));
+        put_parameter(&mut note.change, row.name, example_in(object, row.name, row.values));
     }
 }
 

@@ -1,7 +1,7 @@
 //! Notes of the faults of a script: what was expected, and where what is open was opened.
 
 use crate::encoding::put_encoding;
-use crate::legacy::{put_left_out, put_selector_line, selector_line};
+use crate::legacy::{put_filter_line, put_left_out, put_selector_line, selector_line};
 use crate::near::nearest;
 use crate::note::{Note, Point};
 use crate::opened::{Open, Opening, open_at};
@@ -118,6 +118,17 @@ fn put_value(note: &mut Note, text: &[u8], place: usize, open: Open) {
     ]);
 }
 
+// Puts what is missing where = is expected: a quote before, where the string that begins here is what stood between two
+// values.
+fn put_no_equals(note: &mut Note, text: &[u8], place: usize, open: Open) {
+    let value = value_at(text, place);
+    if value.iter().any(|byte| *byte == b'=' || *byte == b'\n') {
+        note.change.say("\" where a value before it ends");
+    } else {
+        put_value(note, text, place, open);
+    }
+}
+
 // What is expected among parameters.
 fn put_in_parameters(note: &mut Note, text: &[u8], place: usize, open: Open, token: &[u8]) {
     match (open.before, token.first()) {
@@ -128,7 +139,7 @@ fn put_in_parameters(note: &mut Note, text: &[u8], place: usize, open: Open, tok
         (_, Some(b'}' | b'{')) | (_, None) => put_not_closed(note, text, open),
         (Some(byte), _) if is_word_byte(byte) => {
             put_expected(note, "= with a value in double quotes", token);
-            put_value(note, text, place, open);
+            put_no_equals(note, text, place, open);
         }
         (_, Some(byte)) if is_word_byte(*byte) => put_not_closed(note, text, open),
         _ => {
@@ -162,7 +173,20 @@ fn put_no_statement(note: &mut Note, token: &[u8]) {
         "an object, a statement or what goes on with the one before",
         token,
     );
+    match token {
+        b"{" => note.change.say("then before it, as in if .. then { .. }, or without it"),
+        b"}" => note.change.say("without it: no brace is open here, or a statement is missing before it"),
+        _ => put_statement(note, token),
+    }
+}
+
+// Puts the word that a statement is likely meant to begin with.
+fn put_statement(note: &mut Note, token: &[u8]) {
     match nearest(token, &STATEMENTS) {
+        // (the word itself is right)
+        Some(near) if near == token => note.change.say(
+            "what is missing before it, as { behind ruleset(..) or then behind a test; an object but action stands outside braces",
+        ),
         Some(near) => note.change.put(&[Part::Text(near)]),
         None => note.change.say(
             "an object (module, global, main_queue, input, ruleset, action), or call, stop, if .. then ..",
@@ -189,6 +213,9 @@ fn put_byte_fault(note: &mut Note, text: &[u8], place: usize) {
     if is_escaped && place > 0 {
         note.why.say("in a string \\ stands before \", ', \\, $, n, r or t alone");
         note.change.say("\\\\ for a \\ that stands for itself");
+        return;
+    }
+    if put_filter_line(note, text, place) {
         return;
     }
     note.why.say("the byte ");

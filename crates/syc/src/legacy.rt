@@ -34,13 +34,21 @@ fn is_selector(word: &[u8]) -> bool {
     is_all && word.contains(&b'.')
 }
 
+// Whether a word is what may stand behind a selector: a file, a host, or what a script has too.
+fn is_target(word: &[u8]) -> bool {
+    word.starts_with(b"action(")
+        || matches!(
+            word,
+            [b'/' | b'-' | b'@' | b'~' | b':' | b'*' | b'|', ..] | b"stop"
+        )
+}
+
 /// The line round a place, where it looks like a selector with a file, or with a host: `*.* /var/log/all.log`.
 pub fn selector_line(text: &[u8], place: usize) -> Option<&[u8]> {
     let (_, line) = line_around(text, place);
     let (_, selector) = word_in(line, 0)?;
-    let (_, file) = word_in(line, 1)?;
-    let first = file.first()?;
-    if is_selector(selector) && matches!(*first, b'/' | b'-' | b'@' | b'~' | b':' | b'*' | b'|') {
+    let (_, target) = word_in(line, 1)?;
+    if is_selector(selector) && is_target(target) {
         return Some(line);
     }
     None
@@ -67,7 +75,7 @@ fn put_action(note: &mut Note, target: &[u8]) {
         [b'@', ..] => note.change.say(
             "action(type=\"omfwd\" target=\"RELAY\" port=\"PORT\" protocol=\"tcp\" TCP_Framing=\"octet-counted\")",
         ),
-        b"~" => note.change.say("stop"),
+        b"~" | b"stop" => note.change.say("stop"),
         _ => note.change.say("action(..)"),
     }
 }
@@ -87,6 +95,29 @@ pub fn put_selector_line(note: &mut Note, line: &[u8]) {
         put_action(note, target);
     }
     put_page(note);
+}
+
+/// Says of a line of an older format that begins with & or : what to write instead, and answers whether it is one.
+pub fn put_filter_line(note: &mut Note, text: &[u8], place: usize) -> bool {
+    let (start, line) = line_around(text, place);
+    let (why, change): (&str, &str) = match line.first() {
+        Some(b'&') => (
+            "lines that begin with & are left out of this profile",
+            "both actions behind one test, as if .. then { .. }",
+        ),
+        Some(b':') => (
+            "lines that begin with : are left out of this profile",
+            "a test of a property, as if $msg contains \"x\" then ..",
+        ),
+        _ => return false,
+    };
+    if start != place {
+        return false;
+    }
+    note.why.say(why);
+    note.change.say(change);
+    put_page(note);
+    true
 }
 
 // Puts an object with one parameter.
