@@ -159,7 +159,9 @@ fn is_hand(word: &[u8]) -> bool {
 
 // Says that an event of an input has no hand there, where that is so, and answers whether it is.
 fn put_hand(alloc: Global, note: &mut Note, at: OtherLine<'_>, word: &[u8]) -> bool {
-    if let Some((_, hand)) = word_in(at.line, 3) && is_hand(hand) {
+    if let Some((_, hand)) = word_in(at.line, 3)
+        && is_hand(hand)
+    {
         return false;
     }
     stands_at_word(alloc, note, at, 3);

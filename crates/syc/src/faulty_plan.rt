@@ -187,7 +187,11 @@ fn put_missing(note: &mut Note, object: Option<Object<'_>>, name: &[u8]) {
     };
     let tables = tables_of(object.word, value_of(object.params, b"type"));
     if let Some(row) = row_of(&tables, name) {
-        put_parameter(&mut note.change, row.name, example_in(object, row.name, row.values));
+        put_parameter(
+            &mut note.change,
+            row.name,
+            example_in(object, row.name, row.values),
+        );
     }
 }
 

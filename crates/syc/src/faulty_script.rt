@@ -174,8 +174,12 @@ fn put_no_statement(note: &mut Note, token: &[u8]) {
         token,
     );
     match token {
-        b"{" => note.change.say("then before it, as in if .. then { .. }, or without it"),
-        b"}" => note.change.say("without it: no brace is open here, or a statement is missing before it"),
+        b"{" => note
+            .change
+            .say("then before it, as in if .. then { .. }, or without it"),
+        b"}" => note.change.say(
+            "without it: no brace is open here, or a statement is missing before it",
+        ),
         _ => put_statement(note, token),
     }
 }

@@ -123,7 +123,8 @@ fn put_shape(note: &mut Note, object: Object<'_>, param: &Param) {
         Some(Values::OneOf(_)) if name.eq_ignore_ascii_case(b"load") => put_module(note, value),
         Some(Values::OneOf(allowed)) => put_no_word(note, name, value, allowed),
         Some(Values::NumberOrMinusOne(_)) => {
-            note.why.say(" is neither -1 nor a number of 1 to 10 digits");
+            note.why
+                .say(" is neither -1 nor a number of 1 to 10 digits");
             put_parameter(&mut note.change, name, b"-1");
         }
         Some(_) => put_no_number(note, name, value),

@@ -80,7 +80,8 @@ pub const LEGEND_OF_ONE: &str =
     "solid: each message that comes so far goes there; dashed: some may; dotted: none does";
 
 /// What the colours mean.
-pub const MARKS: &str = "\\nblue: an entry; green: an archive of a protect line; dashed box: a spare action\",
+pub const MARKS: &str =
+    "\\nblue: an entry; green: an archive of a protect line; dashed box: a spare action\",
     labelloc=b, fontsize=12, fontcolor=black, penwidth=0];
 ";
 
