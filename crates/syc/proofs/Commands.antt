@@ -1,5 +1,5 @@
 -- Which command the words are.
-use Rattle.std.proofs.Common.{◌≡◌, ℕ, List, [], ◌∷◌, ◌++◌, length, map, refl, sym, subst, ap, ◌∙◌, arith}
+use Rattle.std.proofs.Common.{◌≡◌, ℕ, List, [], ◌∷◌, ◌++◌, length, map, refl, sym, subst, ap, ◌∙◌, arith, Bor}
 use Rattle.std.specs.List.{Any}
 use Rattle.std.specs.Prelude.{◌⊎◌, Option, Some, codes}
 use Rattle.sy_site.specs.texts.Files.{file_names}
@@ -20,7 +20,7 @@ use Rattle.syc.specs.internal.Commands.{Answers, AreNoCommand, Fails, IsSiteComm
 pub first_same : {a b : List ℕ} {xs ys : List (List ℕ)} → a ∷ xs ≡ b ∷ ys → a ≡ b
 first_same e = cc
 
-head_same : {m n : ℕ} {xs ys : List ℕ} → m ∷ xs ≡ n ∷ ys → m ≡ n
+pub head_same : {m n : ℕ} {xs ys : List ℕ} → m ∷ xs ≡ n ∷ ys → m ≡ n
 head_same e = cc
 
 five_or_seven : (a b : ℕ) → a ≡ 5 → b ≡ 7 → a ≡ b → ⊥
@@ -210,7 +210,7 @@ module _ (bytes_of : List ℕ → Option (List ℕ)) (status : ℕ) (after : Lis
       absurd (verify_no_question asked.Check _ _ _ (sym are.words_are ∙ h.words_are))
 
 -- A check shows it, and another question nothing.
-pub shows_checked : (bytes_of : List ℕ → Option (List ℕ)) (question : Asked) (name : _) (status : ℕ)
+pub shows_checked : (bytes_of : List ℕ → Option (List ℕ)) (question : Asked) (name : Bor (List ℕ)) (status : ℕ)
     → ((text : List ℕ) → bytes_of name.now ≡ Some text → question ≡ asked.Check → status ≡ 0 → DescribesKept bytes_of text)
     → ShowsKept bytes_of (of_site.Ask question name) status
 shows_checked bytes_of asked.Check name status shows = λ text known zero. shows text known refl zero

@@ -1,6 +1,6 @@
 -- Which options stand among words, and which command is called for with them.
 use Rattle.std.proofs.Common.{◌≡◌, ◌+◌, ◌<◌, ℕ, Bool, List, [], ◌∷◌, ◌++◌, length, refl, sym, subst, ap, ◌∙◌, arith, inl, inr}
-use Rattle.std.specs.Prelude.{◌⊎◌, ◌||◌, Option, Some, None, true, false, codes}
+use Rattle.std.specs.Prelude.{◌⊎◌, ◌||◌, Option, Some, None, IfNone, true, false, codes, if◌then◌else◌}
 use Rattle.std.specs.Str.{bytes_eq}
 use Rattle.std.proofs.lemmas.Slice.Eq.{bytes_eq-Decides}
 use Rattle.syc.specs.Optioned.{EndsAs, FailsAs, SaysAs}
@@ -14,7 +14,7 @@ use Rattle.syc.specs.declared.further.Further.{Further}
 use Rattle.syc.specs.declared.further.Further.TheVariants as further
 use Rattle.syc.specs.declared.options.Options.{Options}
 use Rattle.syc.specs.internal.Commands.{AreNoSiteCommand, CallNamed, FurtherEnds, FurtherFails, FurtherSays, IsFurther, IsSiteCommandOf, TakesOptions, over}
-use Rattle.syc.proofs.Commands.{one_question, replay_no_question, replay_or_verify, rest_same, verify_no_question, first_same, others_same}
+use Rattle.syc.proofs.Commands.{one_question, replay_no_question, replay_or_verify, rest_same, verify_no_question, first_same, head_same, others_same}
 
 -- ---- one word more
 
@@ -43,6 +43,7 @@ make : Bool → Bool → Bool → Options
 make explain all json = record { explain = explain; all = all; json = json }
 
 pub same_options : (words : List (List ℕ)) (a b : Options) (bare others : List (List ℕ)) → HaveOptions words a bare → HaveOptions words b others → a ≡ b
+unfolding make
 same_options words a b bare others x y =
     let explain = same_flag a.explain b.explain (sym x.explain ∙ y.explain) in
     let all = same_flag a.all b.all (sym x.all ∙ y.all) in
@@ -123,31 +124,31 @@ without_options words all options given command is have are =
 -- ---- bare words have no options
 
 decided : (b : Bool) → (b ≡ true → ⊥) → b ≡ false
-decided true no = absurd (no refl)
-decided false no = refl
+decided true isnt = absurd (isnt refl)
+decided false isnt = refl
 
 both_ways : {b : Bool} → b ≡ true → b ≡ false → ⊥
-both_ways yes no = cc
+both_ways is isnt = cc
 
 -- a word that is no option is none of them
 apart : (word option : List ℕ) → is_plain word ≡ true → is_plain option ≡ false → once_if (bytes_eq word option) ≡ 0
-apart word option plain no =
-    ap once_if (decided (bytes_eq word option) (λ yes. both_ways (subst (λ w. is_plain w ≡ true) ((bytes_eq-Decides word option).0 yes) plain) no))
+apart word option plain isnt =
+    ap once_if (decided (bytes_eq word option) (λ same. both_ways (subst (λ w. is_plain w ≡ true) ((bytes_eq-Decides word option).0 same) plain) isnt))
 
 both_zero : (m n : ℕ) → m ≡ 0 → n ≡ 0 → m + n ≡ 0
 both_zero m n first second = omega (arith, first, second)
 
 one_none : (option a : List ℕ) → is_plain option ≡ false → is_plain a ≡ true → times option (a ∷ []) ≡ 0
-one_none option a no plain = both_zero (once_if (bytes_eq a option)) 0 (apart a option plain no) refl
+one_none option a isnt plain = both_zero (once_if (bytes_eq a option)) 0 (apart a option plain isnt) refl
 
 two_none : (option a b : List ℕ) → is_plain option ≡ false → is_plain a ≡ true → is_plain b ≡ true → times option (a ∷ b ∷ []) ≡ 0
-two_none option a b no first second =
-    both_zero (once_if (bytes_eq a option)) (times option (b ∷ [])) (apart a option first no) (one_none option b no second)
+two_none option a b isnt first second =
+    both_zero (once_if (bytes_eq a option)) (times option (b ∷ [])) (apart a option first isnt) (one_none option b isnt second)
 
 three_none : (option a b c : List ℕ) → is_plain option ≡ false → is_plain a ≡ true → is_plain b ≡ true → is_plain c ≡ true
     → times option (a ∷ b ∷ c ∷ []) ≡ 0
-three_none option a b c no first second third =
-    both_zero (once_if (bytes_eq a option)) (times option (b ∷ c ∷ [])) (apart a option first no) (two_none option b c no second third)
+three_none option a b c isnt first second third =
+    both_zero (once_if (bytes_eq a option)) (times option (b ∷ c ∷ [])) (apart a option first isnt) (two_none option b c isnt second third)
 
 none_of_three : (a b c : Bool) → a ≡ false → b ≡ false → c ≡ false → (a || b || c) ≡ true → ⊥
 none_of_three false false false x y z e = both_ways e refl
@@ -169,25 +170,25 @@ no_any words bare options have none some =
 
 on_words : (words others : List (List ℕ)) → words ≡ others → ((option : List ℕ) → is_plain option ≡ false → times option others ≡ 0)
     → (option : List ℕ) → is_plain option ≡ false → times option words ≡ 0
-on_words words others is none option no = ap (times option) is ∙ none option no
+on_words words others is none option isnt = ap (times option) is ∙ none option isnt
 
 pub pass_has_none : (words : List (List ℕ)) (options : Options) (command : OverSite) → ArePassAlone words → AreOptioned words options command → ⊥
 pass_has_none words options command pass are =
-    no_any words are.bare options are.have (on_words words _ pass (λ option no. one_none option (codes "pass") no refl)) are.some
+    no_any words are.bare options are.have (on_words words _ pass (λ option isnt. one_none option (codes "pass") isnt refl)) are.some
 
 plain_question : (question : Asked) → (s option : List ℕ) → is_plain option ≡ false → is_plain s ≡ true → times option (asking question ++ s ∷ []) ≡ 0
-plain_question asked.Check s option no plain = two_none option (codes "check") s no refl plain
-plain_question asked.Certify s option no plain = two_none option (codes "certify") s no refl plain
+plain_question asked.Check s option isnt plain = two_none option (codes "check") s isnt refl plain
+plain_question asked.Certify s option isnt plain = two_none option (codes "certify") s isnt refl plain
 
 pub site_has_none : (words : List (List ℕ)) (options : Options) (bare command : OverSite) → CallFor bare words → AreOptioned words options command → ⊥
 site_has_none words options (OverSite.Ask question site) command call are =
-    no_any words are.bare options are.have (on_words words _ call.words_are (λ option no. plain_question question site option no call.site_plain)) are.some
+    no_any words are.bare options are.have (on_words words _ call.words_are (λ option isnt. plain_question question site option isnt call.site_plain)) are.some
 site_has_none words options (OverSite.Replay site events) command call are =
     no_any words are.bare options are.have
-    (on_words words _ call.words_are (λ option no. three_none option (codes "replay") site events no refl call.site_plain call.events_plain)) are.some
+    (on_words words _ call.words_are (λ option isnt. three_none option (codes "replay") site events isnt refl call.site_plain call.events_plain)) are.some
 site_has_none words options (OverSite.Verify site certificate) command call are =
     no_any words are.bare options are.have
-    (on_words words _ call.words_are (λ option no. three_none option (codes "verify") site certificate no refl call.site_plain call.certificate_plain)) are.some
+    (on_words words _ call.words_are (λ option isnt. three_none option (codes "verify") site certificate isnt refl call.site_plain call.certificate_plain)) are.some
 
 pub calls : (words : List (List ℕ)) (command : SiteCommand) → IsSiteCommandOf words command → CallFor (over command) words
 calls words (of_site.Ask question site) h = h
@@ -204,17 +205,26 @@ one_optioned words a b c d x y =
     same_call (codes "syc" ∷ x.bare) c d (named (codes "syc" ∷ x.bare) x.bare refl c x.call)
     (named (codes "syc" ∷ x.bare) y.bare (ap (λ w. codes "syc" ∷ w) same) d y.call))
 
+g_or_c : (a b : ℕ) → a ≡ 103 → b ≡ 99 → a ≡ b → ⊥
+g_or_c a b g c same = omega (arith, g, c, same)
+
+g_or_r : (a b : ℕ) → a ≡ 103 → b ≡ 114 → a ≡ b → ⊥
+g_or_r a b g r same = omega (arith, g, r, same)
+
+g_or_v : (a b : ℕ) → a ≡ 103 → b ≡ 118 → a ≡ b → ⊥
+g_or_v a b g v same = omega (arith, g, v, same)
+
 graph_or_check : codes "graph" ≡ codes "check" → ⊥
-graph_or_check e = cc
+graph_or_check e = g_or_c 103 99 refl refl (head_same e)
 
 graph_or_certify : codes "graph" ≡ codes "certify" → ⊥
-graph_or_certify e = cc
+graph_or_certify e = g_or_c 103 99 refl refl (head_same e)
 
 graph_or_replay : codes "graph" ≡ codes "replay" → ⊥
-graph_or_replay e = cc
+graph_or_replay e = g_or_r 103 114 refl refl (head_same e)
 
 graph_or_verify : codes "graph" ≡ codes "verify" → ⊥
-graph_or_verify e = cc
+graph_or_verify e = g_or_v 103 118 refl refl (head_same e)
 
 -- words that begin with that of a drawing call for no other command
 no_call : (bare rest : List (List ℕ)) (command : OverSite) → bare ≡ codes "graph" ∷ rest → CallFor command bare → ⊥
@@ -263,3 +273,7 @@ module _ (bytes_of : List ℕ → Option (List ℕ)) (status : ℕ) (old new : S
       → (options : Options) (command : OverSite) → AreOptioned words options command → FailsAs bytes_of MayFail PiecesFail command status old new
   further_fails MayFail PiecesFail fails = for_further (λ options command. FailsAs bytes_of MayFail PiecesFail command status old new) words found is
       (λ options command e. subst (λ f. FurtherFails bytes_of MayFail PiecesFail f status old new) e fails)
+
+pub none_on : {X P Q : Type 0} (r : Option X) → IfNone r P → (P → Q) → IfNone r Q
+none_on (Some x) h f = tt
+none_on None h f = f h

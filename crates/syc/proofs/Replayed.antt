@@ -5,7 +5,7 @@ use Rattle.std.specs.Io.KnownBytes.{Keeps}
 use Rattle.std.proofs.KnownBytes.{Keeps-refl}
 use Rattle.sy_wire.specs.Streams.{Rose}
 use Rattle.syc.specs.HaltTexts.{halt_report}
-use Rattle.syc.specs.Outcomes.{MayEnd}
+use Rattle.syc.specs.Outcomes.{MayEnd, Prints}
 use Rattle.syc.specs.Replays.{EndsReplay, ReplayIs}
 use Rattle.syc.specs.Reports.{SinkState, Streams, Tells, streams}
 use Rattle.syc.specs.SiteFiles.{HasNoAnswer}
@@ -151,3 +151,8 @@ whole_document_fails MayFail status before after (inl zero) four = absurd (zero_
 whole_document_fails MayFail status before after (inr ends) four =
     halt_fails MayFail (UnreadOr MayFail) halts.NoMemory ends.0 status before after (λ u. u.0 refl) (λ u. u.1 refl)
     ((λ is. absurd (memory_or_read is)), memory_or_write) ends.1 ends.2 four
+
+pub printed_ends : (text : List ℕ) (status : ℕ) (old new : Streams) → Prints text true status old new
+    → (status ≡ 0) ⊎ HaltEnds halts.NoMemory status old.output.faults new.output.faults
+printed_ends text status old new (inl printed) = inl printed.0
+printed_ends text status old new (inr torn) = inr (halts.WriteFailed, torn.0, inr (inr (refl, torn.2)))

@@ -6,6 +6,7 @@ use Rattle.sy_cert.specs.CertificateValue.{Certificate}
 use Rattle.sy_checker.specs.Finding.{IsTrueFinding}
 use Rattle.sy_checker.specs.Fit.{IsFitFor, IsWrongFor}
 use Rattle.sy_checker.specs.declared.finding.Finding.{Finding}
+use Rattle.sy_checker.specs.declared.verifying.CertFault.{CertFault}
 use Rattle.sy_checker.specs.declared.wanted.RowKind.{RowKind}
 use Rattle.syc.specs.Checks.{IsTextOf, IsVerdict, KeepsAll, SaysCertified, SaysChecked, SaysExplained, SaysFoundInWords, accepted_line, finding_text}
 use Rattle.syc.specs.Verdicts.{SaysOf, wrong_line}
@@ -77,3 +78,6 @@ pub wrong_said : (site : Site) (certificate : Certificate) (line : ℕ) (row : R
 wrong_said site certificate line row (Ok a) wrong unfit refused =
     (wrong_line line row, inr (record { line = line; row = row; wrong = wrong; unfit = unfit; text_is = refl; refused = refused }))
 wrong_said site certificate line row (Err why) wrong unfit refused = tt
+
+pub wrong_or_memory : {line : ℕ} {row : RowKind} → CertFault.Wrong line row ≡ CertFault.NoMemory → ⊥
+wrong_or_memory e = cc

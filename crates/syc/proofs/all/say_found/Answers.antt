@@ -1,11 +1,9 @@
-use Rattle.std.proofs.Common.{rules, ◌≡◌, IfErr, IfOk, false, ℕ, ◌+◌, ◌-◌, ◌*◌, ◌<◌, ◌≤◌, length, ◌/◌, ◌%◌, Bool, true, nat_eq, nat_lt, List, [], ◌∷◌, ◌++◌, slice_index_or, slice_set, bit_and, bit_or, Fits, w8, w32, w64, Bor, MutBor}
-use Rattle.sy_site.specs.machine.Soundness.{IsSound}
+use Rattle.std.proofs.Common.{subst}
 use Rattle.sy_checker.specs.Finding.{IsTrueRefusal}
-use Rattle.syc.specs.declared.command.Asked.TheVariants as asked
-use Rattle.syc.specs.Checks as spec
-use Rattle.syc.specs.internal.Surveys as internal
+use Rattle.syc.proofs.Said.{found_checked}
 use Rattle.syc.proofs.all.say_found.Goals as goal
 
--- src/all.rt:49:1
 pub returns-in-Ok-clause-verdict : goal.returns-in-Ok-clause-verdict
-returns-in-Ok-clause-verdict c = ?
+returns-in-Ok-clause-verdict c =
+    found_checked c.args.site.now c.in-Finding.field-0 c.in-Ok.answer.is_accepted
+    (subst (IsTrueRefusal c.args.site.now) c.in-Finding.is c.requires.found) c.in-Ok.ensures.ok.refused

@@ -1,16 +1,4 @@
-use Rattle.std.proofs.Common.{rules, ◌≡◌, ◌≢◌, ◌≤◌, ◌∷◌, ℕ, List, Some, IfErr, IfOk, false, ◌+◌, ◌-◌, ◌*◌, ◌<◌, length, ◌/◌, ◌%◌, Bool, true, nat_eq, nat_lt, [], ◌++◌, slice_index_or, slice_set, bit_and, bit_or, Fits, w8, w32, w64, Bor, MutBor}
-use Rattle.std.specs.Io.KnownBytes.{Keeps}
-use Rattle.std.specs.List.{Any}
-use Rattle.sy_site.specs.Sites.{Site as AnySite}
-use Rattle.sy_site.specs.texts.Files.{file_names}
-use Rattle.sy_checker.specs.Finding.{IsTrueRefusal}
-use Rattle.syc.specs.Checks as spec
-use Rattle.syc.specs.Outcomes.{FailsBy, MayEnd}
-use Rattle.syc.specs.SiteFiles.{IsSiteOf}
-use Rattle.syc.specs.declared.command.Asked.TheVariants as any_asked
-use Rattle.syc.specs.internal.Halts.{IsNoSite, IsUnread}
 use Rattle.syc.proofs.ask_in_words.say_document.Goals as goal
 
--- src/ask_in_words.rt:114:1
 pub returns-in-Check-clause-verdict : goal.returns-in-Check-clause-verdict
-returns-in-Check-clause-verdict g c = ?
+returns-in-Check-clause-verdict g c = rw c.in-Check.is c.document_of_check.ensures.ok

@@ -1,20 +1,7 @@
-use Rattle.std.proofs.Common.{rules, ◌≡◌, ◌≢◌, ◌≤◌, ◌∷◌, ℕ, List, Some, IfErr, IfOk, false, ◌+◌, ◌-◌, ◌*◌, ◌<◌, length, ◌/◌, ◌%◌, Bool, true, nat_eq, nat_lt, [], ◌++◌, slice_index_or, slice_set, bit_and, bit_or, Fits, w8, w32, w64, Bor, MutBor}
-use Rattle.std.specs.Io.KnownBytes.{Keeps}
-use Rattle.std.specs.List.{Any}
-use Rattle.sy_site.specs.Sites.{Site as AnySite}
-use Rattle.sy_site.specs.texts.Files.{file_names}
-use Rattle.sy_checker.specs.Finding.{IsTrueRefusal}
-use Rattle.syc.specs.Checks as spec
-use Rattle.syc.specs.Outcomes.{FailsBy, MayEnd}
-use Rattle.syc.specs.SiteFiles.{IsSiteOf}
-use Rattle.syc.specs.declared.command.Asked.TheVariants as any_asked
-use Rattle.syc.specs.internal.Halts.{IsNoSite, IsUnread}
 use Rattle.syc.proofs.ask_in_words.say_in_words.Goals as goal
 
--- src/ask_in_words.rt:94:1
 pub returns-in-Check-clause-verdict : goal.returns-in-Check-clause-verdict
-returns-in-Check-clause-verdict g c = ?
+returns-in-Check-clause-verdict g c = rw c.in-Check.is c.check_with_warnings.ensures.verdict
 
--- src/ask_in_words.rt:94:1
 pub returns-in-Certify-clause-verdict : goal.returns-in-Certify-clause-verdict
-returns-in-Certify-clause-verdict g c = ?
+returns-in-Certify-clause-verdict g c = rw c.in-Certify.is c.certify_in_words.ensures.verdict

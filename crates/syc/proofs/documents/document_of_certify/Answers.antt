@@ -1,12 +1,14 @@
-use Rattle.std.proofs.Common.{rules, ◌≡◌, ℕ, List, IfErr, IfOk, true, ◌+◌, ◌-◌, ◌*◌, ◌<◌, ◌≤◌, length, ◌/◌, ◌%◌, Bool, false, nat_eq, nat_lt, [], ◌∷◌, ◌++◌, slice_index_or, slice_set, bit_and, bit_or, Fits, w8, w32, w64, Bor, MutBor}
-use Rattle.syc.specs.Checks as spec
-use Rattle.syc.specs.Verdicts.{SaysOf}
+use Rattle.std.proofs.Common.{subst}
+use Rattle.sy_checker.specs.Finding.{IsTrueRefusal}
+use Rattle.syc.proofs.Said.{fit_certified, refused_certified}
 use Rattle.syc.proofs.documents.document_of_certify.Goals as goal
 
--- src/documents.rt:78:1
 pub returns-in-Ok-clause-ok : goal.returns-in-Ok-clause-ok
-returns-in-Ok-clause-ok g c = ?
+returns-in-Ok-clause-ok g c =
+    fit_certified c.args.site.now c.in-Ok.certificate c.document_of_fit.result c.in-Ok.ensures.fit
+    c.document_of_fit.ensures.text c.document_of_fit.ensures.accepted
 
--- src/documents.rt:78:1
 pub returns-in-Err-Finding-clause-ok : goal.returns-in-Err-Finding-clause-ok
-returns-in-Err-Finding-clause-ok g c = ?
+returns-in-Err-Finding-clause-ok g c =
+    refused_certified c.args.site.now c.in-Err-Finding.finding c.with_document.result
+    (subst (IsTrueRefusal c.args.site.now) c.in-Err-Finding.field-0-is c.in-Err-Finding.ensures.found) c.with_document.ensures.ok

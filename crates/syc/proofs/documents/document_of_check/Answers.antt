@@ -1,8 +1,9 @@
-use Rattle.std.proofs.Common.{rules, ◌≡◌, ℕ, List, IfErr, IfOk, true, ◌+◌, ◌-◌, ◌*◌, ◌<◌, ◌≤◌, length, ◌/◌, ◌%◌, Bool, false, nat_eq, nat_lt, [], ◌∷◌, ◌++◌, slice_index_or, slice_set, bit_and, bit_or, Fits, w8, w32, w64, Bor, MutBor}
-use Rattle.syc.specs.Checks as spec
-use Rattle.syc.specs.Verdicts.{SaysOf}
+use Rattle.std.proofs.Common.{subst}
+use Rattle.sy_checker.specs.Finding.{IsTrueRefusal}
+use Rattle.syc.proofs.Said.{refused_checked}
 use Rattle.syc.proofs.documents.document_of_check.Goals as goal
 
--- src/documents.rt:40:1
 pub returns-in-Err-Finding-clause-ok : goal.returns-in-Err-Finding-clause-ok
-returns-in-Err-Finding-clause-ok g c = ?
+returns-in-Err-Finding-clause-ok g c =
+    refused_checked c.args.site.now c.in-Err-Finding.finding c.with_document-in-Err-Finding.result
+    (subst (IsTrueRefusal c.args.site.now) c.in-Err-Finding.field-0-is c.in-Err-Finding.ensures.found) c.with_document-in-Err-Finding.ensures.ok

@@ -1,16 +1,10 @@
-use Rattle.std.proofs.Common.{rules, ◌≡◌, ◌≢◌, ◌≤◌, ◌∷◌, ℕ, List, IfNone, IfSome, codes, map, string_bytes, ◌+◌, ◌-◌, ◌*◌, ◌<◌, length, ◌/◌, ◌%◌, Bool, true, false, nat_eq, nat_lt, [], ◌++◌, slice_index_or, slice_set, bit_and, bit_or, Fits, w8, w32, w64, Bor, MutBor}
-use Rattle.std.specs.Io.KnownBytes.{Keeps}
-use Rattle.syc.specs.Optioned.{EndsAs, FailsAs, SaysAs}
-use Rattle.syc.specs.Outcomes.{Shows}
-use Rattle.syc.specs.Replays.{PiecesMayFail}
-use Rattle.syc.specs.Words as spec
-use Rattle.syc.specs.Words.{AreNoFurtherOf, AreOptioned}
-use Rattle.syc.specs.Words.{OverSite as AnyOver}
-use Rattle.syc.specs.declared.further.Further.TheVariants as further
-use Rattle.syc.specs.declared.options.Options.{Options as AnyOptions}
-use Rattle.syc.specs.internal.Commands.{FurtherEnds, FurtherFails, FurtherSays, IsFurther, IsGiven, IsNamed, IsNotOptioned, IsOptioned, over}
+use Rattle.std.proofs.Common.{◌∙◌, IfSome, ap, map, subst}
+use Rattle.syc.specs.Words.{HaveOptions, bare_of}
+use Rattle.syc.proofs.Optioned.{none_on, without_options}
 use Rattle.syc.proofs.further.optioned.Goals as goal
 
--- src/further.rt:75:1
 pub returns-in-Some-clause-none : goal.returns-in-Some-clause-none
-returns-in-Some-clause-none c = ?
+returns-in-Some-clause-none c = none_on c.with_these.result c.with_these.ensures.none (λ none words given options command are.
+    none command (without_options words _ options c.in-Some.options command
+    (ap (map (λ s. s.now)) c.as_slice.ensures.value ∙ given.bare)
+    (subst (λ r. IfSome r (λ o. HaveOptions words o (bare_of words))) c.in-Some.is given.some) are))

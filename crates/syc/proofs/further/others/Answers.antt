@@ -1,40 +1,31 @@
-use Rattle.std.proofs.Common.{rules, ◌≡◌, ◌≢◌, ◌≤◌, ◌∷◌, ℕ, List, IfNone, IfSome, codes, map, string_bytes, ◌+◌, ◌-◌, ◌*◌, ◌<◌, length, ◌/◌, ◌%◌, Bool, true, false, nat_eq, nat_lt, [], ◌++◌, slice_index_or, slice_set, bit_and, bit_or, Fits, w8, w32, w64, Bor, MutBor}
-use Rattle.std.specs.Io.KnownBytes.{Keeps}
-use Rattle.syc.specs.Optioned.{EndsAs, FailsAs, SaysAs}
-use Rattle.syc.specs.Outcomes.{Shows}
-use Rattle.syc.specs.Replays.{PiecesMayFail}
-use Rattle.syc.specs.Words as spec
-use Rattle.syc.specs.Words.{AreNoFurtherOf, AreOptioned}
-use Rattle.syc.specs.Words.{OverSite as AnyOver}
-use Rattle.syc.specs.declared.further.Further.TheVariants as further
-use Rattle.syc.specs.declared.options.Options.{Options as AnyOptions}
-use Rattle.syc.specs.internal.Commands.{FurtherEnds, FurtherFails, FurtherSays, IsFurther, IsGiven, IsNamed, IsNotOptioned, IsOptioned, over}
+use Rattle.std.proofs.Common.{ℕ, refl, subst, sym}
+use Rattle.syc.specs.Optioned.{EndsAs}
+use Rattle.syc.proofs.NoMemory.{memory_ends, memory_says}
+use Rattle.syc.proofs.Optioned.{further_ends, further_says, no_further}
 use Rattle.syc.proofs.further.others.Goals as goal
 
--- src/further.rt:219:9
 pub returns-in_default-clause-ends : goal.returns-in_default-clause-ends
-returns-in_default-clause-ends g c = ?
+returns-in_default-clause-ends g c = λ options command are.
+    let bytes_of = g.F.Files.bytes_of c.args.files.now in
+    subst (λ (n : ℕ). EndsAs bytes_of command n) (sym c.out_of_memory.ensures.status) (memory_ends bytes_of command)
 
--- src/further.rt:219:9
 pub returns-in_default-clause-says : goal.returns-in_default-clause-says
-returns-in_default-clause-says g c = ?
+returns-in_default-clause-says g c = rw (← c.out.view_is) (λ options command are.
+    rw c.out_of_memory.ensures.status (memory_says _ _ _ c.out_of_memory.ensures.reported refl options command))
 
--- src/further.rt:217:1
 pub returns-in-Some-clause-ends : goal.returns-in-Some-clause-ends
-returns-in-Some-clause-ends g c = ?
+returns-in-Some-clause-ends g c =
+    further_ends _ _ c.args.out.now c.run_further.new.out _ c.in-Some.wanted (c.in-Some.ensures.some _ c.in-Ok.ensures) c.run_further.ensures.ends
 
--- src/further.rt:217:1
 pub returns-in-Some-clause-says : goal.returns-in-Some-clause-says
-returns-in-Some-clause-says g c = ?
+returns-in-Some-clause-says g c =
+    further_says _ _ c.args.out.now c.run_further.new.out _ c.in-Some.wanted (c.in-Some.ensures.some _ c.in-Ok.ensures) c.run_further.ensures.says
 
--- src/further.rt:217:1
 pub returns-in-Some-clause-other : goal.returns-in-Some-clause-other
-returns-in-Some-clause-other g c = ?
+returns-in-Some-clause-other g c = λ none. absurd (no_further _ c.in-Some.wanted (c.in-Some.ensures.some _ c.in-Ok.ensures) none)
 
--- src/further.rt:201:1
 pub returns-clause-ends : goal.returns-clause-ends
-returns-clause-ends g c = ?
+returns-clause-ends g c = λ options command are. absurd (c.in-None.ensures.none _ c.in-Ok.ensures options command are)
 
--- src/further.rt:201:1
 pub returns-clause-says : goal.returns-clause-says
-returns-clause-says g c = ?
+returns-clause-says g c = λ options command are. absurd (c.in-None.ensures.none _ c.in-Ok.ensures options command are)

@@ -1,23 +1,24 @@
-use Rattle.std.proofs.Common.{rules, ◌≡◌, ◌≢◌, ◌≤◌, ◌∷◌, ◌⊎◌, ℕ, List, Some, IfErr, OnOk, true, ◌+◌, ◌-◌, ◌*◌, ◌<◌, length, ◌/◌, ◌%◌, Bool, false, nat_eq, nat_lt, [], ◌++◌, slice_index_or, slice_set, bit_and, bit_or, Fits, w8, w32, w64, Bor, MutBor}
-use Rattle.std.specs.Io.KnownBytes.{Keeps}
-use Rattle.std.specs.List.{Any}
-use Rattle.sy_wire.specs.Streams.{Rose}
-use Rattle.sy_site.specs.texts.Files.{file_names}
-use Rattle.syc.specs.Outcomes.{FailsBy, MayEnd}
-use Rattle.syc.specs.Replays.{PiecesMayFail, ReplayIs}
-use Rattle.syc.specs.internal.Halts.{IsCause, status_at}
+use Rattle.std.proofs.Common.{subst}
 use Rattle.syc.specs.internal.Optioned.{HaltEnds}
-use Rattle.syc.specs.internal.Optioned.{in_memory as halt_in_memory}
+use Rattle.syc.proofs.Replayed.{document_ends, document_fails, whole_document_ends}
 use Rattle.syc.proofs.replay_in_words.replay_for_document.Goals as goal
 
--- src/replay_in_words.rt:150:1
 pub returns-in-Ok-clause-ends : goal.returns-in-Ok-clause-ends
-returns-in-Ok-clause-ends g c = ?
+returns-in-Ok-clause-ends g c = λ text events known read.
+    whole_document_ends (g.F.Files.bytes_of c.args.files.now) text events c.args.out.now.output.faults c.print_document.new.out.output.faults
+    c.print_document.result (c.in-Ok.ensures.done text events known read) c.print_document.ensures.ends
 
--- src/replay_in_words.rt:132:1
 pub returns-clause-ends : goal.returns-clause-ends
-returns-clause-ends g c = ?
+returns-clause-ends g c = λ text events known read.
+    let before = c.args.out.now.output.faults in
+    let after = c.stop_with_document.new.out.output.faults in
+    document_ends (g.F.Files.bytes_of c.args.files.now) text events c.in-Err.halt before after c.stop_with_document.result
+    (c.in-Err.ensures.halted text events known read)
+    (subst (λ h. HaltEnds h c.stop_with_document.result before after) c.in_memory-halt.ensures c.stop_with_document.ensures.ends)
 
--- src/replay_in_words.rt:132:1
 pub returns-clause-fails : goal.returns-clause-fails
-returns-clause-fails g c = ?
+returns-clause-fails g c = λ text events known read.
+    let before = c.args.out.now.output.faults in
+    let after = c.stop_with_document.new.out.output.faults in
+    document_fails _ c.in-Err.halt c.stop_with_document.result before after (λ is. c.in-Err.ensures.unread is text events known read)
+    (subst (λ h. HaltEnds h c.stop_with_document.result before after) c.in_memory-halt.ensures c.stop_with_document.ensures.ends)

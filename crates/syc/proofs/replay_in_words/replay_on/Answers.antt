@@ -1,23 +1,25 @@
-use Rattle.std.proofs.Common.{rules, ◌≡◌, ◌≢◌, ◌≤◌, ◌∷◌, ◌⊎◌, ℕ, List, Some, IfErr, OnOk, true, ◌+◌, ◌-◌, ◌*◌, ◌<◌, length, ◌/◌, ◌%◌, Bool, false, nat_eq, nat_lt, [], ◌++◌, slice_index_or, slice_set, bit_and, bit_or, Fits, w8, w32, w64, Bor, MutBor}
-use Rattle.std.specs.Io.KnownBytes.{Keeps}
-use Rattle.std.specs.List.{Any}
-use Rattle.sy_wire.specs.Streams.{Rose}
-use Rattle.sy_site.specs.texts.Files.{file_names}
-use Rattle.syc.specs.Outcomes.{FailsBy, MayEnd}
-use Rattle.syc.specs.Replays.{PiecesMayFail, ReplayIs}
-use Rattle.syc.specs.internal.Halts.{IsCause, status_at}
-use Rattle.syc.specs.internal.Optioned.{HaltEnds}
-use Rattle.syc.specs.internal.Optioned.{in_memory as halt_in_memory}
+use Rattle.std.proofs.Common.{ap}
+use Rattle.syc.specs.Reports.{seen}
+use Rattle.syc.proofs.Replayed.{may_finish, may_halt, read_on}
 use Rattle.syc.proofs.replay_in_words.replay_on.Goals as goal
 
--- src/replay_in_words.rt:42:1
 pub returns-in-Ok-clause-done : goal.returns-in-Ok-clause-done
-returns-in-Ok-clause-done g c = ?
+returns-in-Ok-clause-done g c = λ text events known read.
+    may_finish (g.F.Files.bytes_of c.args.files.now) text events
+    (seen g.W.Sink.contents g.W.Sink.is_flushed g.W.Sink.faults c.args.writer.now)
+    (seen g.W.Sink.contents g.W.Sink.is_flushed g.W.Sink.faults c.replay_files.new.writer)
+    (c.in-Ok.ensures.ok text events known read) c.in-Ok.ensures.flushed
 
--- src/replay_in_words.rt:42:1
 pub returns-in-Err-clause-halted : goal.returns-in-Err-clause-halted
-returns-in-Err-clause-halted g c = ?
+returns-in-Err-clause-halted g c = λ text events known read.
+    may_halt (g.F.Files.bytes_of c.args.files.now) text events
+    (seen g.W.Sink.contents g.W.Sink.is_flushed g.W.Sink.faults c.args.writer.now)
+    (seen g.W.Sink.contents g.W.Sink.is_flushed g.W.Sink.faults c.hand_on.new.writer) c.in-Err.halt c.hand_on.result
+    (seen g.W.Sink.contents g.W.Sink.is_flushed g.W.Sink.faults c.replay_files.new.writer)
+    (c.in-Err.ensures.err text events known read) c.in-Err.ensures.cause (λ is. ap g.W.Sink.faults (c.hand_on.ensures.untouched is))
+    c.hand_on.ensures.kept c.hand_on.ensures.status
 
--- src/replay_in_words.rt:42:1
 pub returns-in-Err-clause-unread : goal.returns-in-Err-clause-unread
-returns-in-Err-clause-unread g c = ?
+returns-in-Err-clause-unread g c = λ is.
+    c.in-Err.ensures.unread (read_on c.in-Err.halt c.hand_on.result (g.W.Sink.is_flushed c.hand_on.new.writer)
+    (g.W.Sink.faults c.replay_files.new.writer) (g.W.Sink.faults c.hand_on.new.writer) c.hand_on.ensures.status is)

@@ -1,3 +1,6 @@
+use Rattle.std.proofs.Common.{ℕ, refl, subst, sym}
+use Rattle.syc.specs.Optioned.{EndsAs}
+use Rattle.syc.proofs.NoMemory.{memory_ends, memory_says}
 use Rattle.syc.proofs.Commands.{asked_fails, for_asked, for_checked, for_kept, for_replay, for_verify, none_of_site, none_without_name, pass_alone, pass_asks_nothing, pass_is_apart, pass_no_replay, pass_no_verify, replay_fails, verify_fails, without_name}
 use Rattle.syc.proofs.Statuses.{nothing_passed}
 use Rattle.syc.proofs.Optioned.{calls, pass_has_none, site_has_none}
@@ -7,6 +10,15 @@ use Rattle.syc.proofs.run.run.Goals as goal
 
 pub returns-in_default-clause-pass : goal.returns-in_default-clause-pass
 returns-in_default-clause-pass g c = rw (← c.out.view_is) (λ words_are input known. rw c.out_of_memory.ensures.status (nothing_passed input _ _ c.out_of_memory.ensures.reported))
+
+pub returns-in_default-clause-options_end : goal.returns-in_default-clause-options_end
+returns-in_default-clause-options_end g c = λ options command are.
+    let bytes_of = g.F.Files.bytes_of c.args.files.now in
+    subst (λ (n : ℕ). EndsAs bytes_of command n) (sym c.out_of_memory.ensures.status) (memory_ends bytes_of command)
+
+pub returns-in_default-clause-options_say : goal.returns-in_default-clause-options_say
+returns-in_default-clause-options_say g c = rw (← c.out.view_is) (λ options command are.
+    rw c.out_of_memory.ensures.status (memory_says _ _ _ c.out_of_memory.ensures.reported refl options command))
 
 -- ---- a pass
 

@@ -6,7 +6,7 @@ use Rattle.syc.proofs.verify_in_words.verify_in_words.Goals as goal
 pub returns-clause-ends : goal.returns-clause-ends
 returns-clause-ends g c = λ site text is_site is_text.
     verify_ends (g.F.Files.bytes_of c.args.files.now) c.args.site_name.now c.args.certificate_name.now site text
-    c.answer_of.result c.print_with_options.result c.args.out.now c.print_with_options.new.out c.answer_of.ensures.ok c.answer_of.ensures.err
+    c.answer_of-answer.result c.print_with_options.result c.args.out.now c.print_with_options.new.out c.answer_of-answer.ensures.ok c.answer_of-answer.ensures.err
     c.print_with_options.ensures.printed c.print_with_options.ensures.stopped is_site is_text
 
 pub returns-clause-fails : goal.returns-clause-fails
@@ -14,5 +14,5 @@ returns-clause-fails g c =
     let site = c.args.site_name.now in
     fails_with (g.F.Files.may_fail c.args.files.now) (λ text. g.F.Files.bytes_of c.args.files.now site ≡ Some text)
     (λ text. site ∷ c.args.certificate_name.now ∷ file_names text)
-    c.answer_of.result c.print_with_options.result c.args.out.now c.print_with_options.new.out
-    c.print_with_options.ensures.printed c.print_with_options.ensures.stopped c.answer_of.ensures.unread
+    c.answer_of-answer.result c.print_with_options.result c.args.out.now c.print_with_options.new.out
+    c.print_with_options.ensures.printed c.print_with_options.ensures.stopped c.answer_of-answer.ensures.unread
