@@ -1,10 +1,168 @@
 //! What `--all` says of a fault, behind its first line: the other faults of the site file and of the files of its relays.
 
+use crate::all_of_file::{FileSpot, all_of_file};
+use crate::all_of_site::{SiteHunt, find_lines, find_references, leave_out, word_of};
 use crate::fault_notes::fault_words;
+use crate::faulty_files::put_unread_relay;
 use crate::files::Files;
 use crate::halt::Halt;
+use crate::note::Note;
 use crate::options::ReadNames;
+use crate::places::file_in;
+use crate::source::{text_of, without_return};
+use crate::texts::Part;
+use crate::told::{ToldFault, put_told, without};
+use crate::words::Words;
 use std::alloc::{AllocError, Global};
+use sy_site::{SiteFault, file_names};
+
+/// A relay's file, so far as others may speak of it: its text without what is faulty, or nothing.
+#[derive(Drop)]
+struct JudgedFile {
+    name: String,
+    text: Option<Vec<u8>>,
+}
+
+// The first line of a site file that names a file: its number, and the relay's name.
+fn line_naming<'t>(text: &'t [u8], file: &str) -> Option<(usize, &'t [u8])> {
+    let mut number: usize = 1;
+    for line in text.split(|b| *b == b'\n') {
+        let line = without_return(line);
+        if matches!(file_in(line), Some((_, name)) if name == file.as_bytes()) {
+            return Some((number, word_of(line, 1)));
+        }
+        number = number.saturating_add(1);
+    }
+    None
+}
+
+// Finds that a relay's file can't be read.
+fn find_unread<F: Files>(
+    alloc: Global,
+    files: &F,
+    site_name: &str,
+    spot: FileSpot<'_>,
+) -> Result<ToldFault, AllocError> {
+    let mut note = Note::new(alloc);
+    let site = (site_name, spot.line as u64, spot.relay);
+    put_unread_relay(alloc, &mut note, files, site, spot.name);
+    let note = note.finish()?;
+    Ok(ToldFault::new(spot.number, 0, Halt::ReadFailed, note))
+}
+
+// Finds the faults of a relay's file, and answers what others may speak of.
+fn find_in_file<F: Files>(
+    alloc: Global,
+    files: &F,
+    hunt: &mut SiteHunt<'_>,
+    number: u64,
+    name: &str,
+) -> Result<Option<Vec<u8>>, AllocError> {
+    let Some((line, relay)) = line_naming(hunt.draft.text(), name) else {
+        return Ok(None);
+    };
+    let spot = FileSpot {
+        number,
+        name,
+        line,
+        relay,
+    };
+    let Some(text) = text_of(files, name)? else {
+        let unread = find_unread(alloc, files, hunt.name, spot)?;
+        hunt.found.push(unread)?;
+        return Ok(None);
+    };
+    let (found, left) = all_of_file(alloc, spot, text)?;
+    for fault in found {
+        hunt.found.push(fault)?;
+    }
+    Ok(left)
+}
+
+// Finds the faults of the relays' files.
+fn find_in_files<F: Files>(
+    alloc: Global,
+    files: &F,
+    hunt: &mut SiteHunt<'_>,
+    names: Vec<String>,
+) -> Result<Vec<JudgedFile>, AllocError> {
+    let mut judged = Vec::new(alloc);
+    let mut number: u64 = 1;
+    for name in names {
+        let text = find_in_file(alloc, files, hunt, number, name.as_str())?;
+        judged.push(JudgedFile { name, text })?;
+        number = number.saturating_add(1);
+    }
+    Ok(judged)
+}
+
+// The files as they are judged with the site file: of those that too little is known of nothing, and no line that names
+// their relays.
+fn given_files<'a>(
+    alloc: Global,
+    hunt: &mut SiteHunt<'_>,
+    judged: &'a [JudgedFile],
+) -> Result<Vec<(&'a str, &'a [u8])>, AllocError> {
+    let mut given: Vec<(&'a str, &'a [u8])> = Vec::new(alloc);
+    for file in judged {
+        match &file.text {
+            Some(text) => given.push((file.name.as_str(), text.as_slice()))?,
+            None => {
+                leave_out(alloc, &mut hunt.draft, file.name.as_bytes())?;
+                given.push((file.name.as_str(), &[]))?;
+            }
+        }
+    }
+    Ok(given)
+}
+
+// Finds the faults of a site file and of its relays' files.
+fn find_all<F: Files>(
+    alloc: Global,
+    files: &F,
+    hunt: &mut SiteHunt<'_>,
+) -> Result<(), AllocError> {
+    if !find_lines(alloc, files, hunt)? {
+        return Ok(());
+    }
+    let names = match file_names(alloc, hunt.draft.text()) {
+        Ok(names) => names,
+        Err(SiteFault::NoMemory) => return Err(AllocError),
+        Err(_) => return Ok(()),
+    };
+    let judged = find_in_files(alloc, files, hunt, names)?;
+    let given = given_files(alloc, hunt, judged.as_slice())?;
+    find_references(alloc, files, hunt, given.as_slice())
+}
+
+// Whether there may be more to find than why a command stopped.
+fn has_others(halt: &Halt) -> bool {
+    match halt {
+        Halt::Site(SiteFault::NoMemory) => false,
+        Halt::Site(_) | Halt::ReadFailed => true,
+        _ => false,
+    }
+}
+
+/// The faults beside the one by which a command stopped, in the order of files and places: the site file's, then those of
+/// each relay's file. Each of them is one that the reader has at that place.
+pub fn other_faults<F: Files>(
+    alloc: Global,
+    files: &F,
+    site_name: &str,
+    halt: &Halt,
+) -> Result<Vec<ToldFault>, AllocError> {
+    if !has_others(halt) {
+        return Ok(Vec::new(alloc));
+    }
+    let Some(text) = text_of(files, site_name)? else {
+        return Ok(Vec::new(alloc));
+    };
+    let mut hunt = SiteHunt::new(alloc, site_name, text)?;
+    find_all(alloc, files, &mut hunt)?;
+    let SiteHunt { found, .. } = hunt;
+    without(alloc, found, halt)
+}
 
 /// The lines behind the first one on standard error: of that fault, where it is to be explained, and of the others.
 pub fn all_fault_words<F: Files>(
@@ -14,8 +172,14 @@ pub fn all_fault_words<F: Files>(
     is_explained: bool,
     halt: &Halt,
 ) -> Result<Vec<u8>, AllocError> {
+    let mut words = Words::new(alloc);
     if is_explained {
-        return fault_words(alloc, files, names, halt);
+        let first = fault_words(alloc, files, names, halt)?;
+        words.put(&[Part::Text(first.as_slice())]);
     }
-    Ok(Vec::new(alloc))
+    let others = other_faults(alloc, files, names.site, halt)?;
+    for fault in others.as_slice() {
+        put_told(alloc, &mut words, fault, is_explained)?;
+    }
+    words.finish()
 }

@@ -57,8 +57,8 @@ fn line_of(fault: &SiteFault) -> u64 {
     }
 }
 
-// Of a site file, whose text this is.
-fn put_site_fault<F: Files>(
+/// Puts what is known of a fault of a site file, whose text this is.
+pub fn put_site_fault<F: Files>(
     alloc: Global,
     files: &F,
     note: &mut Note,
@@ -149,7 +149,7 @@ pub fn note_of_fault<F: Files>(
 ) -> Result<Option<Note>, AllocError> {
     let mut note = Note::new(alloc);
     put_halt(alloc, files, &mut note, names, halt)?;
-    if note.place.is_none() && note.what.is_empty() {
+    if note.is_silent() {
         return Ok(None);
     }
     match note.finish() {

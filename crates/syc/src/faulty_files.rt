@@ -73,6 +73,20 @@ fn put_relay<F: Files>(
     put_reason(note, files, name, reason, "in that line");
 }
 
+/// Says of the file of this name, which a line of the site file gives a relay, why it can't be read: the site file's name,
+/// that line's number and the relay's name are given.
+pub fn put_unread_relay<F: Files>(
+    alloc: Global,
+    note: &mut Note,
+    files: &F,
+    site: (&str, u64, &[u8]),
+    name: &str,
+) {
+    if let Some(reason) = files.reason(name) {
+        put_relay(alloc, note, files, site, name, reason);
+    }
+}
+
 // Says of the first relay's file that can't be read why it can't, and answers whether there is one.
 fn put_relays<F: Files>(
     alloc: Global,

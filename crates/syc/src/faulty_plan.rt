@@ -66,8 +66,8 @@ pub fn param_at<'a>(objects: &[Object<'a>], place: usize) -> Option<(Object<'a>,
     None
 }
 
-// The object at a place.
-fn object_at<'a>(objects: &[Object<'a>], place: usize) -> Option<Object<'a>> {
+/// The object at a place.
+pub fn object_at<'a>(objects: &[Object<'a>], place: usize) -> Option<Object<'a>> {
     for object in objects {
         if object.start == place {
             return Some(*object);
@@ -163,8 +163,8 @@ fn put_unknown(
 
 // ---- what is lacking, or there twice
 
-// A value that a parameter may have, to show how it is written.
-fn example(values: Values) -> &'static [u8] {
+/// A value that a parameter may have, to show how it is written.
+pub fn example(values: Values) -> &'static [u8] {
     match values {
         Values::OneOf([first, ..]) => first,
         Values::Number(_, _) => b"6514",

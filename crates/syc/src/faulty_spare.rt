@@ -14,8 +14,8 @@ fn is_skipped(line: &[u8]) -> bool {
     }
 }
 
-// The number of the first line of a text that isn't skipped, and that line.
-fn first_line(text: &[u8]) -> Option<(u64, &[u8])> {
+/// The number of the first line of a text that isn't skipped, and that line.
+pub fn first_line(text: &[u8]) -> Option<(u64, &[u8])> {
     let mut number: u64 = 1;
     for line in text.split(|b| *b == b'\n') {
         let line = without_return(line);
@@ -27,8 +27,8 @@ fn first_line(text: &[u8]) -> Option<(u64, &[u8])> {
     None
 }
 
-// Whether a line is `policy 2`.
-fn sets_policy(line: &[u8]) -> bool {
+/// Whether a line is `policy 2`.
+pub fn sets_policy(line: &[u8]) -> bool {
     matches!(word_in(line, 0), Some((_, b"policy")))
         && matches!(word_in(line, 1), Some((_, b"2")))
         && word_in(line, 2).is_none()

@@ -1,5 +1,6 @@
 //! The JSON documents of the commands over a site: what a command says with `--json` in place of its text.
 
+use crate::all_faults::other_faults;
 use crate::described::{
     all_findings, class_names, first_finding, spare_elements, warning_elements,
 };
@@ -8,7 +9,7 @@ use crate::files::Files;
 use crate::halt::{Halt, status_of};
 use crate::members::{Elements, Members};
 use crate::options::{Options, ReadNames};
-use crate::reported::{Replayed, losses_in, put_fault};
+use crate::reported::{Replayed, losses_in, put_fault, put_noted};
 use crate::verdict::WrongRow;
 use crate::warnings::warnings_of;
 use std::alloc::{AllocError, Global};
@@ -223,6 +224,21 @@ fn faults_of<F: Files>(
     })
 }
 
+// Puts the other faults behind the one by which a command stopped.
+fn put_others<F: Files>(
+    alloc: Global,
+    files: &F,
+    names: ReadNames<'_>,
+    faults: &mut Elements,
+    halt: &Halt,
+) -> Result<(), AllocError> {
+    let others = other_faults(alloc, files, names.site, halt)?;
+    for fault in others.as_slice() {
+        put_noted(alloc, faults, &fault.halt, &fault.note)?;
+    }
+    Ok(())
+}
+
 fn status_for(halt: Option<&Halt>) -> u8 {
     match halt {
         Some(halt) => status_of(halt),
@@ -265,10 +281,13 @@ pub fn fault_document<F: Files>(
     files: &F,
     command: &str,
     names: ReadNames<'_>,
-    _options: Options,
+    options: Options,
     halt: &Halt,
 ) -> Result<Vec<u8>, AllocError> {
-    let parts = faults_of(alloc, files, names, Some(halt))?;
+    let mut parts = faults_of(alloc, files, names, Some(halt))?;
+    if options.all {
+        put_others(alloc, files, names, &mut parts.faults, halt)?;
+    }
     let counts = counts_of(alloc, &parts);
     let mut document = document_of(alloc, command, status_of(halt));
     document.null("verdict");

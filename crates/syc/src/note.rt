@@ -78,6 +78,11 @@ impl Note {
             || self.lines.as_slice().iter().any(|line| line.text.is_cut())
     }
 
+    /// Whether it says neither where something stands nor what it is.
+    pub fn is_silent(&self) -> bool {
+        self.place.is_none() && self.what.is_empty()
+    }
+
     /// The note, or that memory ran out.
     pub fn finish(self) -> Result<Note, AllocError> {
         if self.is_cut() {

@@ -41,12 +41,13 @@ struct Scan {
     word: (usize, usize),
 }
 
-fn is_word_byte(byte: u8) -> bool {
+/// Whether a byte is one of words.
+pub fn is_word_byte(byte: u8) -> bool {
     byte.is_ascii_alphanumeric() || byte == b'_' || byte == b'.' || byte == b'-'
 }
 
-// How many bytes a comment or a string at a place has, where one begins there.
-fn skipped(rest: &[u8]) -> usize {
+/// How many bytes a comment or a string at a place has, where one begins there.
+pub fn skipped(rest: &[u8]) -> usize {
     match rest {
         [b'#', ..] => up_to(rest, b"\n"),
         [b'/', b'*', ..] => up_to(rest, b"*/").saturating_add(1),

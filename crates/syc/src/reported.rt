@@ -62,6 +62,27 @@ fn note_of<F: Files>(
     }
 }
 
+/// Puts a fault behind the others, with its note.
+pub fn put_noted(
+    alloc: Global,
+    faults: &mut Elements,
+    halt: &Halt,
+    note: &Note,
+) -> Result<(), AllocError> {
+    let mut told = Gathered::new(alloc);
+    tell(&mut told, halt);
+    if !told.is_whole() {
+        return Err(AllocError);
+    }
+    let line = bare_line(told.text());
+    let mut members = Members::new(alloc);
+    put_kind(&mut members, name_in(line));
+    members.text("text", line);
+    put_note(alloc, &mut members, note);
+    faults.object(members);
+    Ok(())
+}
+
 /// Puts the fault behind the others by which a command stopped.
 pub fn put_fault<F: Files>(
     alloc: Global,
@@ -70,19 +91,8 @@ pub fn put_fault<F: Files>(
     faults: &mut Elements,
     halt: &Halt,
 ) -> Result<(), AllocError> {
-    let mut told = Gathered::new(alloc);
-    tell(&mut told, halt);
-    if !told.is_whole() {
-        return Err(AllocError);
-    }
-    let line = bare_line(told.text());
     let note = note_of(alloc, files, names, halt)?;
-    let mut members = Members::new(alloc);
-    put_kind(&mut members, name_in(line));
-    members.text("text", line);
-    put_note(alloc, &mut members, &note);
-    faults.object(members);
-    Ok(())
+    put_noted(alloc, faults, halt, &note)
 }
 
 /// The words of a line, one behind the other.

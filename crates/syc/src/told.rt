@@ -1,0 +1,76 @@
+//! Faults with what is known of them, for those who are told all.
+
+use crate::gathered::Gathered;
+use crate::halt::{Halt, tell};
+use crate::note::{Note, put_note};
+use crate::words::Words;
+use crate::texts::Part;
+use std::alloc::{AllocError, Global};
+
+/// The most places that a file has; those of the next file come behind them.
+const PLACES: u64 = 4_294_967_296;
+
+/// A fault, and where it comes among the others.
+#[derive(Drop)]
+pub struct ToldFault {
+    key: u64,
+    pub halt: Halt,
+    pub note: Note,
+}
+
+impl ToldFault {
+    /// A fault at a place of a file, both by their numbers: the site file is 0, and its places are lines.
+    pub fn new(file: u64, place: u64, halt: Halt, note: Note) -> ToldFault {
+        ToldFault {
+            key: file.saturating_mul(PLACES).saturating_add(place),
+            halt,
+            note,
+        }
+    }
+}
+
+// The line of a fault.
+fn line_of(alloc: Global, halt: &Halt) -> Result<Gathered, AllocError> {
+    let mut line = Gathered::new(alloc);
+    tell(&mut line, halt);
+    if line.is_whole() {
+        return Ok(line);
+    }
+    Err(AllocError)
+}
+
+/// Puts the line of a fault and, where it is to be explained, its note.
+pub fn put_told(
+    alloc: Global,
+    words: &mut Words,
+    fault: &ToldFault,
+    is_explained: bool,
+) -> Result<(), AllocError> {
+    let line = line_of(alloc, &fault.halt)?;
+    words.put(&[Part::Text(line.text())]);
+    if is_explained && !fault.note.is_silent() {
+        put_note(words, &fault.note);
+    }
+    Ok(())
+}
+
+/// The faults without the first one of the same line as another, in the order of files and places.
+pub fn without(
+    alloc: Global,
+    found: Vec<ToldFault>,
+    halt: &Halt,
+) -> Result<Vec<ToldFault>, AllocError> {
+    let first = line_of(alloc, halt)?;
+    let mut others = Vec::new(alloc);
+    let mut is_met = false;
+    for fault in found {
+        let is_first = !is_met && line_of(alloc, &fault.halt)?.text() == first.text();
+        if is_first {
+            is_met = true;
+        } else {
+            others.push(fault)?;
+        }
+    }
+    others.sort_by_key(|fault| fault.key)?;
+    Ok(others)
+}
