@@ -109,13 +109,14 @@ class Runner:
         self.slowest, self.largest = max(self.slowest, seconds), max(self.largest, used.ru_maxrss)
         hold(seconds < SECONDS, f"`{call}` took {seconds:.2f} s of processor time")
         hold(used.ru_maxrss < MEMORY, f"`{call}` took {used.ru_maxrss} KiB")
-        # (with --explain more lines may stand behind the first one)
-        is_unread = re.fullmatch(rb"syc: read failed\n" + (rb".*" if "--explain" in words else rb""), ended.said, re.DOTALL)
+        # (with --explain and --all more lines may stand behind the first one)
+        has_more = "--explain" in words or "--all" in words
+        is_unread = re.fullmatch(rb"syc: read failed\n" + (rb".*" if has_more else rb""), ended.said, re.DOTALL)
         hold(ended.status in (0, 1, 2) or ended.status == 4 and is_unread, f"`{call}` ended with {ended.status}, {ended.said[:200]!r}")
         if ended.status == 0 or ended.status == 1 and words[0] != "replay":
             hold(ended.said == b"", f"`{call}` ended with {ended.status} and said {ended.said[:200]!r}")
         else:
             # (notes may follow where an explanation is asked for)
-            form = SAID["pass" if words[0] == "pass" else "site"] + (b".*" if "--explain" in words else b"")
+            form = SAID["pass" if words[0] == "pass" else "site"] + (b".*" if has_more else b"")
             hold(re.fullmatch(form, ended.said, re.DOTALL), f"`{call}` ended with {ended.status} and said {ended.said[:200]!r}")
         return ended

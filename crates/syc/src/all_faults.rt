@@ -117,11 +117,7 @@ fn given_files<'a>(
 }
 
 // Finds the faults of a site file and of its relays' files.
-fn find_all<F: Files>(
-    alloc: Global,
-    files: &F,
-    hunt: &mut SiteHunt<'_>,
-) -> Result<(), AllocError> {
+fn find_all<F: Files>(alloc: Global, files: &F, hunt: &mut SiteHunt<'_>) -> Result<(), AllocError> {
     if !find_lines(alloc, files, hunt)? {
         return Ok(());
     }

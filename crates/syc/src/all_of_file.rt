@@ -67,7 +67,8 @@ fn put(
     let relay = Items::from_slice(alloc, spot.relay)?;
     let halt = Halt::Site(SiteFault::Relay(spot.line, relay, why));
     let note = note.finish()?;
-    hunt.found.push(ToldFault::new(spot.number, place as u64, halt, note))?;
+    hunt.found
+        .push(ToldFault::new(spot.number, place as u64, halt, note))?;
     Ok(())
 }
 
@@ -79,6 +80,15 @@ fn script_follows(hunt: &Hunt<'_>, fault: &ScriptFault, place: usize) -> bool {
     hunt.last.is_some() && (is_brace || fault.code == ScriptCode::Unclosed)
 }
 
+// Notes that a file was left out in which rulesets and modules may stand.
+fn note_include(hunt: &mut Hunt<'_>, fault: &ScriptFault) {
+    let word = fault.word.as_slice();
+    if word.eq_ignore_ascii_case(b"include") || word.eq_ignore_ascii_case(b"$IncludeConfig") {
+        hunt.mended.is_name_lost = true;
+        hunt.mended.is_load_meant = true;
+    }
+}
+
 // Whether nothing is told of a fault, nor of what is behind it: it stands where something was mended.
 fn is_lost(hunt: &Hunt<'_>, fault: &ScriptFault, place: usize) -> bool {
     let is_behind = match hunt.last {
@@ -88,11 +98,7 @@ fn is_lost(hunt: &Hunt<'_>, fault: &ScriptFault, place: usize) -> bool {
     is_behind || place > hunt.mended.draft.size() || hunt.mended.draft.is_cut_at(place)
 }
 
-fn step_script(
-    alloc: Global,
-    hunt: &mut Hunt<'_>,
-    fault: ScriptFault,
-) -> Result<Step, AllocError> {
+fn step_script(alloc: Global, hunt: &mut Hunt<'_>, fault: ScriptFault) -> Result<Step, AllocError> {
     let start = place_of_line(hunt.mended.draft.text(), fault.line as u64);
     let place = start.saturating_add(fault.column.saturating_sub(1));
     if is_lost(hunt, &fault, place) {
@@ -101,10 +107,17 @@ fn step_script(
     let is_told = !script_follows(hunt, &fault, place);
     let mut note = Note::new(alloc);
     if is_told {
-        put_script_fault(alloc, &mut note, hunt.spot.name, hunt.mended.draft.text(), &fault);
+        put_script_fault(
+            alloc,
+            &mut note,
+            hunt.spot.name,
+            hunt.mended.draft.text(),
+            &fault,
+        );
     }
     hunt.last = Some(place);
     hunt.mended.is_firm = false;
+    note_include(hunt, &fault);
     let Mended { draft, cuts, .. } = &mut hunt.mended;
     let goes_on = mend_script(alloc, draft, &fault, place, cuts)?;
     if is_told {
@@ -133,11 +146,7 @@ fn plan_note(
 }
 
 // Puts a parameter that an object misses behind further ones, with a value that it may have.
-fn put_further(
-    further: &mut Vec<u8>,
-    object: Object<'_>,
-    name: &[u8],
-) -> Result<(), AllocError> {
+fn put_further(further: &mut Vec<u8>, object: Object<'_>, name: &[u8]) -> Result<(), AllocError> {
     let tables = tables_of(object.word, value_of(object.params, b"type"));
     if let Some(row) = row_of(&tables, name) {
         further.extend_from_slice(b" ")?;
@@ -240,7 +249,7 @@ fn step_plan(
 
 // ---- all of them
 
-fn step(alloc: Global, hunt: &mut Hunt<'_>) -> Result<Step, AllocError> {
+fn judge_once(alloc: Global, hunt: &mut Hunt<'_>) -> Result<Step, AllocError> {
     match read_script(alloc, hunt.mended.draft.text()) {
         Ok(script) => match Plan::load(alloc, &script) {
             Ok(_) => Ok(Step::Clean),
@@ -259,7 +268,7 @@ fn step(alloc: Global, hunt: &mut Hunt<'_>) -> Result<Step, AllocError> {
 // Goes from fault to fault, and answers whether the file is a plan then.
 fn go(alloc: Global, hunt: &mut Hunt<'_>) -> Result<bool, AllocError> {
     for _ in 0..MOST_READS {
-        match step(alloc, hunt)? {
+        match judge_once(alloc, hunt)? {
             Step::Clean => return Ok(true),
             Step::End => return Ok(false),
             Step::GoOn => {}

@@ -100,9 +100,17 @@ fn put<F: Files>(
     fault: SiteFault,
 ) -> Result<(), AllocError> {
     let mut note = Note::new(alloc);
-    put_site_fault(alloc, files, &mut note, hunt.name, hunt.draft.text(), &fault)?;
+    put_site_fault(
+        alloc,
+        files,
+        &mut note,
+        hunt.name,
+        hunt.draft.text(),
+        &fault,
+    )?;
     let note = note.finish()?;
-    hunt.found.push(ToldFault::new(0, line as u64, Halt::Site(fault), note))?;
+    hunt.found
+        .push(ToldFault::new(0, line as u64, Halt::Site(fault), note))?;
     Ok(())
 }
 
@@ -150,7 +158,11 @@ fn cut_faulty(alloc: Global, hunt: &mut SiteHunt<'_>, number: usize) -> Result<b
     }
     hunt.is_policy_open = hunt.is_policy_open || (is_first(text, number) && !is_known(word));
     let same = lines_of(alloc, text, 1, [word, word])?;
-    let earlier = same.as_slice().iter().filter(|other| **other < number).count();
+    let earlier = same
+        .as_slice()
+        .iter()
+        .filter(|other| **other < number)
+        .count();
     if is_known(word) && earlier >= most_of(word) {
         let lines = lines_of(alloc, text, number, [word, word])?;
         cut_lines(&mut hunt.draft, lines.as_slice())?;
@@ -171,7 +183,14 @@ fn meet_line<F: Files>(
     let is_utf16 = text.starts_with(&[0xff, 0xfe]) || text.starts_with(&[0xfe, 0xff]);
     let ends = text.len() > MOST_BYTES || is_utf16;
     let mut told = Note::new(alloc);
-    put_site_fault(alloc, files, &mut told, hunt.name, text, &SiteFault::Line(number))?;
+    put_site_fault(
+        alloc,
+        files,
+        &mut told,
+        hunt.name,
+        text,
+        &SiteFault::Line(number),
+    )?;
     let is_told = if ends || (number == 1 && cut_mark(&mut hunt.draft)?) {
         false
     } else {
@@ -180,7 +199,8 @@ fn meet_line<F: Files>(
     if !is_told {
         let halt = Halt::Site(SiteFault::Line(number));
         let note = told.finish()?;
-        hunt.found.push(ToldFault::new(0, number as u64, halt, note))?;
+        hunt.found
+            .push(ToldFault::new(0, number as u64, halt, note))?;
     }
     Ok(!ends)
 }
@@ -224,7 +244,11 @@ pub fn find_lines<F: Files>(
 
 // The number of the word in a line that names a relay.
 fn place_of_relay(line: &[u8]) -> usize {
-    if word_of(line, 0) == b"protect".as_slice() { 2 } else { 1 }
+    if word_of(line, 0) == b"protect".as_slice() {
+        2
+    } else {
+        1
+    }
 }
 
 // The names of the relays of a file.
@@ -240,11 +264,7 @@ fn relays_of<'t>(alloc: Global, text: &'t [u8], file: &[u8]) -> Result<Vec<&'t [
 }
 
 // The numbers of the lines that name one of some relays, but for those that set these up.
-fn lines_naming(
-    alloc: Global,
-    text: &[u8],
-    relays: &[&[u8]],
-) -> Result<Vec<usize>, AllocError> {
+fn lines_naming(alloc: Global, text: &[u8], relays: &[&[u8]]) -> Result<Vec<usize>, AllocError> {
     let mut numbers = Vec::new(alloc);
     let mut number: usize = 1;
     for line in text.split(|b| *b == b'\n') {
@@ -332,7 +352,10 @@ fn most_reads(given: &[(&str, &[u8])]) -> usize {
     for (_, bytes) in given {
         size = size.saturating_add(bytes.len());
     }
-    (MOST_READ / size).min(MOST_FAULTS)
+    match MOST_READ.checked_div(size) {
+        Some(count) => count.min(MOST_FAULTS),
+        None => 0,
+    }
 }
 
 /// Finds the faults of lines that name what isn't there, in a site whose relays have these files.

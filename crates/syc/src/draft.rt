@@ -89,7 +89,11 @@ impl Draft {
 
     /// Takes a part away for other bytes, and answers whether they have room in its first line.
     pub fn replace(&mut self, start: usize, end: usize, bytes: &[u8]) -> Result<bool, AllocError> {
-        let room = between(self.text.as_slice(), start, start.saturating_add(bytes.len()));
+        let room = between(
+            self.text.as_slice(),
+            start,
+            start.saturating_add(bytes.len()),
+        );
         let has_room = bytes.len() <= end.saturating_sub(start)
             && room.len() == bytes.len()
             && !room.contains(&b'\n');
@@ -123,7 +127,10 @@ impl Draft {
 
     /// Whether a place lies in what was taken away.
     pub fn is_cut_at(&self, place: usize) -> bool {
-        self.cuts.as_slice().iter().any(|(start, end)| *start <= place && place < *end)
+        self.cuts
+            .as_slice()
+            .iter()
+            .any(|(start, end)| *start <= place && place < *end)
     }
 
     /// Whether these bytes stood in a part that was taken away.

@@ -21,6 +21,7 @@ mod carry;
 mod cautions;
 mod check;
 mod command;
+mod comparisons;
 mod connections;
 mod connector;
 mod control;

@@ -4,9 +4,7 @@ use crate::draft::Draft;
 use crate::legacy::selector_line;
 use crate::mending_parameters::{CutParameter, mend_parameters};
 use crate::opened::{Opening, open_at};
-use crate::pieces::{
-    Mark, Piece, before, closed_at, is_sign, is_word, piece_at, pieces_of,
-};
+use crate::pieces::{Mark, Piece, before, closed_at, is_sign, is_word, piece_at, pieces_of};
 use crate::source::{behind, between, find, word_in};
 use std::alloc::{AllocError, Global};
 use sy_script::{FaultCode, ScriptFault};
@@ -16,9 +14,6 @@ static OBJECTS: [&[u8]; 5] = [b"module", b"global", b"main_queue", b"input", b"r
 
 /// The words that statements begin with.
 static STATEMENTS: [&[u8]; 4] = [b"action", b"call", b"stop", b"if"];
-
-/// A test that is always read.
-const TEST: &[u8] = b"$msg==\"\"";
 
 fn is_any(text: &[u8], piece: Option<&Piece>, words: &[&[u8]]) -> bool {
     words.iter().any(|word| is_word(text, piece, word))
@@ -251,20 +246,21 @@ fn test_before(text: &[u8], pieces: &[Piece], at: usize) -> Option<usize> {
     None
 }
 
-// What stands behind a test: the piece `then`, or a brace without that.
+// What stands behind a test: the piece `then`, or where that is lacking a brace or a statement.
 fn test_behind<'p>(text: &[u8], pieces: &'p [Piece], at: usize) -> Option<&'p Piece> {
     for piece in behind_pieces(pieces, at) {
-        if is_word(text, Some(piece), b"then") || piece.mark == Mark::Sign(b'{') {
+        let is_end = is_word(text, Some(piece), b"then") || begins_statement(text, Some(piece));
+        if is_end || piece.mark == Mark::Sign(b'{') {
             return Some(piece);
         }
-        if begins_statement(text, Some(piece)) || piece.mark == Mark::Sign(b'}') {
+        if piece.mark == Mark::Sign(b'}') {
             return None;
         }
     }
     None
 }
 
-// Puts another test in the place of one.
+// Puts another test in the place of one, with a `then` where that is lacking.
 fn mend_test(
     draft: &mut Draft,
     pieces: &[Piece],
@@ -272,8 +268,10 @@ fn mend_test(
     start: usize,
 ) -> Result<bool, AllocError> {
     match test_behind(draft.text(), pieces, at) {
-        Some(end) if end.mark == Mark::Word => draft.replace(start, end.start, TEST),
-        Some(end) => draft.replace(start, end.start, b"$msg==\"\"then"),
+        Some(end) if is_word(draft.text(), Some(end), b"then") => {
+            draft.replace(start, end.start, b"$msg==\"\"")
+        }
+        Some(end) => draft.replace(start, end.start, b"$msg==\"\"then "),
         None => Ok(false),
     }
 }

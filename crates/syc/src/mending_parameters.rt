@@ -41,11 +41,7 @@ fn last_of_unclosed(text: &[u8], pieces: &[Piece], first: usize, at: usize) -> O
 }
 
 // Closes an object behind its last piece where there is a blank, and else takes it away.
-fn close(
-    draft: &mut Draft,
-    head: &Piece,
-    last: Option<&Piece>,
-) -> Result<bool, AllocError> {
+fn close(draft: &mut Draft, head: &Piece, last: Option<&Piece>) -> Result<bool, AllocError> {
     let Some(last) = last else {
         return Ok(false);
     };
@@ -81,7 +77,14 @@ fn cut_commas(draft: &mut Draft, pieces: &[Piece], at: usize) -> Result<(), Allo
 
 // Where what stands in the place of a value ends.
 fn value_end(text: &[u8], piece: Option<&Piece>, place: usize) -> usize {
-    if let Some(Piece { mark: Mark::Text, end, .. }) = piece {
+    if let Some(
+        Piece {
+            mark: Mark::Text,
+            end,
+            ..
+        },
+    ) = piece
+    {
         return *end;
     }
     let mut end = place;

@@ -1,5 +1,6 @@
 //! Goes on behind a fault of a plan: as little is taken away, or put behind the text, as lets the rest be judged.
 
+use crate::comparisons::comparison_at;
 use crate::draft::Draft;
 use crate::faulty_plan::{object_at, param_at};
 use crate::mending_parameters::CutParameter;
@@ -7,13 +8,9 @@ use crate::near::nearest;
 use crate::outline::{Object, ObjectWord};
 use crate::pieces::{closed_at, is_sign, piece_at, pieces_of};
 use crate::source::between;
-use crate::statements::{Row, statements_of};
 use std::alloc::{AllocError, Global};
 use sy_rules::{FaultCode, PlanFault};
-use sy_script::tree::{Comparison, ExprTree, Operand, Param, Script};
-
-/// The most parts of a test that are gone over.
-const MOST_PARTS: usize = 100_000;
+use sy_script::tree::{Param, Script};
 
 /// A relay's file of which faulty parts are taken away, and what is known of them.
 #[derive(Drop)]
@@ -23,19 +20,27 @@ pub struct Mended {
     pub cuts: Vec<CutParameter>,
     /// Whether nothing was taken away that another file may speak of.
     pub is_firm: bool,
-    /// Whether a ruleset went whose name isn't known.
+    /// Whether a ruleset may have gone whose name isn't known.
     pub is_name_lost: bool,
-    /// Whether a module went that is likely meant to be imtcp.
+    /// Whether a module may have gone that loads imtcp, or is likely meant to.
     pub is_load_meant: bool,
 }
 
 // ---- faults that follow from what was taken away
 
+// Whether a name may be meant to be another, as `fil` or `dynaFile` to be `file`.
+fn may_mean(name: &[u8], other: &[u8]) -> bool {
+    let meant: [&[u8]; 1] = [other];
+    let end = between(name, name.len().saturating_sub(other.len()), name.len());
+    end.eq_ignore_ascii_case(other) || nearest(name, &meant).is_some()
+}
+
+// Whether a parameter of an object went that has this name, or may be meant to have it.
 fn is_cut(mended: &Mended, object: usize, name: &[u8]) -> bool {
     let given = mended.draft.given();
     mended.cuts.as_slice().iter().any(|cut| {
         let (start, end) = cut.name;
-        cut.object == object && between(given, start, end).eq_ignore_ascii_case(name)
+        cut.object == object && may_mean(between(given, start, end), name)
     })
 }
 
@@ -62,8 +67,7 @@ pub fn follows(mended: &Mended, objects: &[Object<'_>], fault: &PlanFault) -> bo
         },
         FaultCode::NotLoaded => mended.is_load_meant || mended.draft.held(b"imtcp"),
         FaultCode::Duplicate => {
-            mended.draft.is_made(word)
-                || (!mended.draft.is_whole() && word.starts_with(b"action-"))
+            mended.draft.is_made(word) || (!mended.draft.is_whole() && word.starts_with(b"action-"))
         }
         _ => false,
     }
@@ -139,7 +143,9 @@ fn rename(alloc: Global, mended: &mut Mended, object: Object<'_>) -> Result<bool
     mended.is_firm = false;
     for param in object.params {
         let (start, end) = (param.value.span.start, param.value.span.end);
-        if param.name.text.as_slice().eq_ignore_ascii_case(b"name") && end > start.saturating_add(2) {
+        if param.name.text.as_slice().eq_ignore_ascii_case(b"name")
+            && end > start.saturating_add(2)
+        {
             let byte = mended.draft.made_byte();
             for place in start.saturating_add(1)..end.saturating_sub(1) {
                 mended.draft.write(place, &[byte]);
@@ -175,13 +181,15 @@ fn cut_param(
         let is_near = nearest(param.value.bytes.as_slice(), &meant).is_some();
         mended.is_load_meant = mended.is_load_meant || is_near;
     }
-    if matches!(code, FaultCode::BadValue | FaultCode::Range) {
+    if code != FaultCode::Duplicate {
         mended.cuts.push(CutParameter {
             object: object.start,
             name: (param.name.span.start, param.name.span.end),
         })?;
     }
-    mended.draft.cut(param.name.span.start, param.value.span.end)?;
+    mended
+        .draft
+        .cut(param.name.span.start, param.value.span.end)?;
     Ok(true)
 }
 
@@ -218,76 +226,6 @@ fn stop_call(mended: &mut Mended, start: usize, end: usize) -> Result<bool, Allo
 
 // ---- tests
 
-// The place behind a comparison.
-fn comparison_end(comparison: &Comparison) -> usize {
-    match &comparison.operand {
-        Operand::Number(word) => word.span.end,
-        Operand::Text(text) => text.span.end,
-    }
-}
-
-// Puts the parts of a test on those that are still to be gone over; of a comparison at this place it answers where it
-// begins and ends.
-fn open_test<'s>(
-    left: &mut Vec<&'s ExprTree>,
-    test: &'s ExprTree,
-    place: usize,
-) -> Result<Option<(usize, usize)>, AllocError> {
-    match test {
-        ExprTree::Or(parts) | ExprTree::And(parts) => {
-            for part in parts.as_slice() {
-                left.push(part)?;
-            }
-        }
-        ExprTree::Not(inner) | ExprTree::Group(inner) => left.push(inner.get())?,
-        ExprTree::Prifilt(_) => {}
-        ExprTree::Compare(comparison) => {
-            let start = comparison.property.span.start;
-            let end = comparison_end(comparison);
-            if start <= place && place < end {
-                return Ok(Some((start, end)));
-            }
-        }
-    }
-    Ok(None)
-}
-
-// Where the comparison begins and ends that stands at a place in a test.
-fn comparison_in(
-    alloc: Global,
-    test: &ExprTree,
-    place: usize,
-) -> Result<Option<(usize, usize)>, AllocError> {
-    let mut left = Vec::new(alloc);
-    left.push(test)?;
-    for _ in 0..MOST_PARTS {
-        let Some(part) = left.pop() else {
-            return Ok(None);
-        };
-        if let Some(found) = open_test(&mut left, part, place)? {
-            return Ok(Some(found));
-        }
-    }
-    Ok(None)
-}
-
-// The same in a script.
-fn comparison_at(
-    alloc: Global,
-    script: &Script,
-    place: usize,
-) -> Result<Option<(usize, usize)>, AllocError> {
-    let statements = statements_of(alloc, script)?;
-    for row in statements.rows.as_slice() {
-        if let Row::If(test, _, _) = row {
-            if let Some(found) = comparison_in(alloc, test, place)? {
-                return Ok(Some(found));
-            }
-        }
-    }
-    Ok(None)
-}
-
 // Puts another test in the place of a comparison, or another selector in that of one.
 fn mend_test(
     alloc: Global,
@@ -302,7 +240,9 @@ fn mend_test(
                 None => Ok(false),
             }
         }
-        _ => mended.draft.replace(fault.span.start, fault.span.end, b"\"*.*\""),
+        _ => mended
+            .draft
+            .replace(fault.span.start, fault.span.end, b"\"*.*\""),
     }
 }
 

@@ -3,8 +3,8 @@
 use crate::gathered::Gathered;
 use crate::halt::{Halt, tell};
 use crate::note::{Note, put_note};
-use crate::words::Words;
 use crate::texts::Part;
+use crate::words::Words;
 use std::alloc::{AllocError, Global};
 
 /// The most places that a file has; those of the next file come behind them.

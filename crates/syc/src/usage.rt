@@ -13,7 +13,8 @@ const SITE: &str =
 const EXPLAIN: &str =
     "Explain what is found, or the fault: where it stands, why, and what to change";
 
-const ALL: &str = "List every finding, with the classes that it affects, in place of the first";
+const ALL: &str =
+    "List every finding, with the classes that it affects, and every fault, in place of the first";
 
 const CLASS: &str = "Draw what the messages of this class may reach, as auth.crit";
 
