@@ -11,7 +11,7 @@ use crate::options::ReadNames;
 use crate::places::file_in;
 use crate::source::{text_of, without_return};
 use crate::texts::Part;
-use crate::told::{ToldFault, put_told, without};
+use crate::told_faults::{ToldFault, put_told, without};
 use crate::words::Words;
 use std::alloc::{AllocError, Global};
 use sy_site::{SiteFault, file_names};

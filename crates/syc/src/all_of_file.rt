@@ -11,7 +11,7 @@ use crate::outline::{Object, ObjectWord, outline_script, value_of};
 use crate::parameter_rows::{row_of, tables_of};
 use crate::places::Places;
 use crate::source::place_of_line;
-use crate::told::ToldFault;
+use crate::told_faults::ToldFault;
 use std::alloc::{AllocError, Global};
 use sy_rules::{FaultCode as PlanCode, Plan, PlanFault};
 use sy_script::tree::Script;
@@ -158,6 +158,25 @@ fn put_further(further: &mut Vec<u8>, object: Object<'_>, name: &[u8]) -> Result
     Ok(())
 }
 
+// A fault, where something is missing by it.
+fn if_missing(fault: PlanFault) -> Option<PlanFault> {
+    match fault.code {
+        PlanCode::Missing => Some(fault),
+        _ => None,
+    }
+}
+
+// What is missing in a text with one object.
+fn missing_in(alloc: Global, text: &[u8]) -> Option<PlanFault> {
+    match read_script(alloc, text) {
+        Ok(script) => match Plan::load(alloc, &script) {
+            Ok(_plan) => None,
+            Err(fault) => if_missing(fault),
+        },
+        Err(_fault) => None,
+    }
+}
+
 // What else an object misses, with these further parameters.
 fn next_missing(
     alloc: Global,
@@ -165,15 +184,9 @@ fn next_missing(
     object: Object<'_>,
     further: &[u8],
 ) -> Result<Option<PlanFault>, AllocError> {
-    let Some(alone) = object_with(alloc, hunt.mended.draft.text(), object, further)? else {
-        return Ok(None);
-    };
-    let Ok(script) = read_script(alloc, alone.as_slice()) else {
-        return Ok(None);
-    };
-    match Plan::load(alloc, &script) {
-        Err(fault) if fault.code == PlanCode::Missing => Ok(Some(fault)),
-        _ => Ok(None),
+    match object_with(alloc, hunt.mended.draft.text(), object, further)? {
+        Some(alone) => Ok(missing_in(alloc, alone.as_slice())),
+        None => Ok(None),
     }
 }
 

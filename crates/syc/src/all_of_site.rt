@@ -8,7 +8,7 @@ use crate::halt::Halt;
 use crate::note::Note;
 use crate::places::file_in;
 use crate::source::{line_at, place_of_line, without_return, word_in};
-use crate::told::ToldFault;
+use crate::told_faults::ToldFault;
 use std::alloc::{AllocError, Global};
 use sy_site::{Site, SiteFault};
 
@@ -270,7 +270,8 @@ fn lines_naming(alloc: Global, text: &[u8], relays: &[&[u8]]) -> Result<Vec<usiz
     for line in text.split(|b| *b == b'\n') {
         let line = without_return(line);
         let is_other = word_of(line, 0) != b"relay".as_slice();
-        if is_other && relays.contains(&word_of(line, place_of_relay(line))) {
+        let name = word_of(line, place_of_relay(line));
+        if is_other && relays.iter().any(|relay| *relay == name) {
             numbers.push(number)?;
         }
         number = number.saturating_add(1);

@@ -121,7 +121,7 @@ mod tally_in_words;
 mod telling;
 mod texts;
 mod things;
-mod told;
+mod told_faults;
 mod totals;
 mod unmet;
 mod unwise;
