@@ -140,24 +140,38 @@ fn has_others(halt: &Halt) -> bool {
     }
 }
 
+// The lines by which a fault is known among others of the same line: of a failed read, which names no file.
+fn note_to_know<F: Files>(
+    alloc: Global,
+    files: &F,
+    names: ReadNames<'_>,
+    halt: &Halt,
+) -> Result<Vec<u8>, AllocError> {
+    match halt {
+        Halt::ReadFailed => fault_words(alloc, files, names, halt),
+        _ => Ok(Vec::new(alloc)),
+    }
+}
+
 /// The faults beside the one by which a command stopped, in the order of files and places: the site file's, then those of
 /// each relay's file. Each of them is one that the reader has at that place.
 pub fn other_faults<F: Files>(
     alloc: Global,
     files: &F,
-    site_name: &str,
+    names: ReadNames<'_>,
     halt: &Halt,
 ) -> Result<Vec<ToldFault>, AllocError> {
     if !has_others(halt) {
         return Ok(Vec::new(alloc));
     }
-    let Some(text) = text_of(files, site_name)? else {
+    let Some(text) = text_of(files, names.site)? else {
         return Ok(Vec::new(alloc));
     };
-    let mut hunt = SiteHunt::new(alloc, site_name, text)?;
+    let mut hunt = SiteHunt::new(alloc, names.site, text)?;
     find_all(alloc, files, &mut hunt)?;
     let SiteHunt { found, .. } = hunt;
-    without(alloc, found, halt)
+    let note = note_to_know(alloc, files, names, halt)?;
+    without(alloc, found, halt, note.as_slice())
 }
 
 /// The lines behind the first one on standard error: of that fault, where it is to be explained, and of the others.
@@ -173,7 +187,7 @@ pub fn all_fault_words<F: Files>(
         let first = fault_words(alloc, files, names, halt)?;
         words.put(&[Part::Text(first.as_slice())]);
     }
-    let others = other_faults(alloc, files, names.site, halt)?;
+    let others = other_faults(alloc, files, names, halt)?;
     for fault in others.as_slice() {
         put_told(alloc, &mut words, fault, is_explained)?;
     }

@@ -232,7 +232,7 @@ fn put_others<F: Files>(
     faults: &mut Elements,
     halt: &Halt,
 ) -> Result<(), AllocError> {
-    let others = other_faults(alloc, files, names.site, halt)?;
+    let others = other_faults(alloc, files, names, halt)?;
     for fault in others.as_slice() {
         put_noted(alloc, faults, &fault.halt, &fault.note)?;
     }

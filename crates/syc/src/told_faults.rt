@@ -54,18 +54,35 @@ pub fn put_told(
     Ok(())
 }
 
-/// The faults without the first one of the same line as another, in the order of files and places.
+// The lines of a note, empty where that says nothing.
+fn words_of(alloc: Global, note: &Note) -> Result<Vec<u8>, AllocError> {
+    let mut words = Words::new(alloc);
+    if !note.is_silent() {
+        put_note(&mut words, note);
+    }
+    words.finish()
+}
+
+// Whether a fault has this line, and this note where one is given.
+fn is_same(alloc: Global, fault: &ToldFault, line: &[u8], note: &[u8]) -> Result<bool, AllocError> {
+    let told = line_of(alloc, &fault.halt)?;
+    let words = words_of(alloc, &fault.note)?;
+    Ok(told.text() == line && (note.is_empty() || words.as_slice() == note))
+}
+
+/// The faults without the first one that is the same as another, in the order of files and places. It is known by its
+/// line, and by the lines of its note where these are given.
 pub fn without(
     alloc: Global,
     found: Vec<ToldFault>,
     halt: &Halt,
+    note: &[u8],
 ) -> Result<Vec<ToldFault>, AllocError> {
     let first = line_of(alloc, halt)?;
     let mut others = Vec::new(alloc);
     let mut is_met = false;
     for fault in found {
-        let is_first = !is_met && line_of(alloc, &fault.halt)?.text() == first.text();
-        if is_first {
+        if !is_met && is_same(alloc, &fault, first.text(), note)? {
             is_met = true;
         } else {
             others.push(fault)?;
