@@ -200,10 +200,11 @@ calls words (of_site.Verify site certificate) h = h
 -- the words fix the options and the command
 pub one_optioned : (words : List (List ℕ)) (a b : Options) (c d : OverSite) → AreOptioned words a c → AreOptioned words b d → (a ≡ b) × (c ≡ d)
 one_optioned words a b c d x y =
-    let same = x.have.bare_are ∙ sym y.have.bare_are in
-    (same_options words a b x.bare y.bare x.have y.have,
-    same_call (codes "syc" ∷ x.bare) c d (named (codes "syc" ∷ x.bare) x.bare refl c x.call)
-    (named (codes "syc" ∷ x.bare) y.bare (ap (λ w. codes "syc" ∷ w) same) d y.call))
+    let same = x.have.bare_are ∙ sym y.have.bare_are in (
+      same_options words a b x.bare y.bare x.have y.have,
+      same_call (codes "syc" ∷ x.bare) c d (named (codes "syc" ∷ x.bare) x.bare refl c x.call)
+          (named (codes "syc" ∷ x.bare) y.bare (ap (λ w. codes "syc" ∷ w) same) d y.call),
+    )
 
 g_or_c : (a b : ℕ) → a ≡ 103 → b ≡ 99 → a ≡ b → ⊥
 g_or_c a b g c same = omega (arith, g, c, same)

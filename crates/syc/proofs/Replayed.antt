@@ -93,9 +93,9 @@ pub cause_on : (why end : Halt) (flushed : Bool) (before mid last : ℕ) → IsC
 cause_on why end flushed before mid last cause untouched (inl same) =
     subst (λ f. IsCause end before f) (sym same.2) (subst (λ h. IsCause h before mid) (sym same.0) cause)
 cause_on why end flushed before mid last cause untouched (inr failed) = subst (λ h. IsCause h before last) (sym failed.0) (elim failed.1 [
-      | inl is ↦ subst (Rose before) (sym (untouched is)) (subst (λ h. IsCause h before mid) is cause)
-      | inr rose ↦ rises_on why before mid last cause rose
-    ])
+  | inl is ↦ subst (Rose before) (sym (untouched is)) (subst (λ h. IsCause h before mid) is cause)
+  | inr rose ↦ rises_on why before mid last cause rose
+])
 
 write_or_read : halts.WriteFailed ≡ halts.ReadFailed → ⊥
 write_or_read e = cc
