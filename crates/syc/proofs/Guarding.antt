@@ -7,7 +7,7 @@ use Rattle.sy_board.specs.relay.Guards.{MayGuard}
 use Rattle.sy_board.specs.relay.Totals.{GuardState}
 use Rattle.sy_site.specs.Sites.{Relay, Site, actions_at, plan_at, plan_in}
 use Rattle.sy_site.specs.machine.Soundness.{IsSound}
-use Rattle.sy_checker.specs.Acceptance.{Acceptance, IsGuardAt, IsOf, plans_of}
+use Rattle.sy_checker.specs.Acceptance.{Acceptance, IsGuardAt, IsOf}
 use Rattle.syc.specs.Prepared.{HasGuard}
 
 there : (relays : List Relay) (relay : ℕ) → relay < length relays → Some (plan_in (slice_get relays relay)) ≡ option_map (λ (r : Relay). r.plan) (slice_get relays relay)

@@ -1,5 +1,5 @@
 -- Each exit status of a command over a site.
-use Rattle.std.proofs.Common.{◌≡◌, ℕ, ◌≤◌, arith}
+use Rattle.std.proofs.Common.{◌≤◌, arith}
 use Rattle.sy_site.specs.declared.fault.SiteFault.TheVariants as site_fault
 use Rattle.syc.specs.declared.halt.Halt.{Halt}
 use Rattle.syc.specs.declared.halt.Halt.TheVariants as halt

@@ -1,9 +1,9 @@
 -- The relay of a name.
 use Rattle.std.proofs.Common.{◌≡◌, ℕ, ◌<◌, List, length}
 use Rattle.std.proofs.lemmas.List.Quantifiers.{position-Some}
-use Rattle.std.specs.Prelude.{Option, Some, None, option_map, slice_get}
+use Rattle.std.specs.Prelude.{Option, Some, None, option_map}
 use Rattle.std.specs.Str.{bytes_eq}
-use Rattle.sy_site.specs.Sites.{Relay, Site, no_plan, relay_named}
+use Rattle.sy_site.specs.Sites.{Relay, no_plan, relay_named}
 use Rattle.syc.specs.Outlets.{address_in}
 
 -- it is there

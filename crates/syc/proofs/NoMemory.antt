@@ -1,6 +1,6 @@
 -- A command with options that finds no memory for its words.
 use Rattle.std.proofs.Common.{◌≡◌, ℕ, List, [], inl, inr, refl, sym, subst}
-use Rattle.std.specs.Prelude.{Option, Some, codes}
+use Rattle.std.specs.Prelude.{Option, codes}
 use Rattle.std.proofs.lemmas.List.{append-nil}
 use Rattle.syc.specs.Optioned.{EndsAs, SaysAs}
 use Rattle.syc.specs.Reports.{Reported, ReportedFirst, SinkState, Streams, Tells, said}

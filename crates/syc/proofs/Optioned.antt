@@ -1,11 +1,11 @@
 -- Which options stand among words, and which command is called for with them.
-use Rattle.std.proofs.Common.{◌≡◌, ◌+◌, ◌<◌, ℕ, Bool, List, [], ◌∷◌, ◌++◌, length, refl, sym, subst, ap, ◌∙◌, arith, inl, inr}
-use Rattle.std.specs.Prelude.{◌⊎◌, ◌||◌, Option, Some, None, IfNone, true, false, codes, if◌then◌else◌}
+use Rattle.std.proofs.Common.{◌≡◌, ◌+◌, ◌<◌, ℕ, Bool, List, [], ◌∷◌, ◌++◌, refl, sym, subst, ap, ◌∙◌, arith, inl, inr}
+use Rattle.std.specs.Prelude.{◌||◌, Option, Some, None, IfNone, true, false, codes, if◌then◌else◌}
 use Rattle.std.specs.Str.{bytes_eq}
 use Rattle.std.proofs.lemmas.Slice.Eq.{bytes_eq-Decides}
 use Rattle.syc.specs.Optioned.{EndsAs, FailsAs, SaysAs}
 use Rattle.syc.specs.Reports.{Streams}
-use Rattle.syc.specs.Words.{AreAsking, AreAskingOf, AreGraphWords, AreNoFurtherOf, AreOptioned, AreReplay, ArePassAlone, AreVerify, CallFor, HaveOptions, IsSiteCommand, OverSite, allows, asking, bare_of, is_any, is_option, is_plain, once_if, times}
+use Rattle.syc.specs.Words.{AreGraphWords, AreNoFurtherOf, AreOptioned, ArePassAlone, CallFor, HaveOptions, IsSiteCommand, OverSite, allows, asking, bare_of, is_any, is_option, is_plain, once_if, times}
 use Rattle.syc.specs.declared.command.Asked.{Asked}
 use Rattle.syc.specs.declared.command.Asked.TheVariants as asked
 use Rattle.syc.specs.declared.command.SiteCommand.{SiteCommand}

@@ -1,6 +1,6 @@
 -- Which exit statuses a replay may end with.
 use Rattle.std.proofs.Common.{◌≡◌, ℕ, List, inl, inr, refl, sym, subst, ◌∙◌, arith}
-use Rattle.std.specs.Prelude.{◌⊎◌, ◌≢◌, Bool, Option, true}
+use Rattle.std.specs.Prelude.{◌⊎◌, Bool, Option, true}
 use Rattle.std.specs.Io.KnownBytes.{Keeps}
 use Rattle.std.proofs.KnownBytes.{Keeps-refl}
 use Rattle.sy_wire.specs.Streams.{Rose}

@@ -1,5 +1,5 @@
 -- The words of the command that runs a relay.
-use Rattle.std.proofs.Common.{◌≡◌, ◌<◌, ◌≤◌, ◌^◌, ℕ, suc, ◌+◌, ◌*◌, Bool, true, false, List, [], ◌∷◌, ◌++◌, option_to_list, is_some, length, refl, ap, subst, ◌∙◌, pow-suc, arith}
+use Rattle.std.proofs.Common.{◌≡◌, ◌<◌, ◌≤◌, ◌^◌, ℕ, suc, ◌+◌, ◌*◌, true, false, List, [], ◌∷◌, ◌++◌, option_to_list, is_some, length, refl, ap, subst, ◌∙◌, pow-suc, arith}
 use Rattle.std.specs.Prelude.{Option, None, Some, option_map}
 use Rattle.std.proofs.lemmas.List.{append-nil}
 use Rattle.syc.specs.Words.{AreRunArgs, RunOptions, is_plain}

@@ -1,4 +1,4 @@
-use Rattle.syc.proofs.Ready.{board_in_hand, board_queued, board_ready, enter_refused, grab_refused, made_of}
+use Rattle.syc.proofs.Ready.{board_in_hand, board_queued, board_ready, grab_refused, made_of}
 use Rattle.syc.proofs.carry.put.Goals as goal
 
 pub take-requires-clause-made : goal.take-requires-clause-made

@@ -1,4 +1,4 @@
-use Rattle.std.proofs.Common.{◌≡◌, ◌<◌, ◌≤◌, ◌^◌, ℕ, suc, true, ◌+◌, ◌*◌, ◌&&◌, ap, sym, ◌∙◌, drop, get_or, arith}
+use Rattle.std.proofs.Common.{◌≡◌, true, ◌+◌, ◌&&◌, ap, sym, ◌∙◌, drop, get_or, arith}
 use Rattle.std.specs.Char.{is_ascii_digit}
 use Rattle.std.specs.List.{list_all}
 use Rattle.std.proofs.lemmas.List.{at_drop_more}
