@@ -1,12 +1,13 @@
 -- How a command over a site answers where it has nothing to print.
 use Rattle.std.proofs.Common.{◌≡◌, ℕ, Bool, List, inl, inr, sym, subst}
-use Rattle.std.specs.Prelude.{IfErr, IfOk, Option, Some, Result, Ok, Err}
+use Rattle.std.specs.Prelude.{IfErr, IfOk, Option, Some, Result, Ok, Err, ◌⊎◌}
 use Rattle.sy_site.specs.Sites.{Site}
 use Rattle.syc.specs.HaltTexts.{halt_report}
 use Rattle.syc.specs.Outcomes.{AnswersOf, Prints}
 use Rattle.syc.specs.Reports.{Streams, Tells}
 use Rattle.syc.specs.SiteFiles.{HasNoAnswer, IsSiteOf}
-use Rattle.syc.specs.Verdicts.{SaysOfFiles, VerifyIs}
+use Rattle.sy_cert.specs.declared.fault.TextFault.{TextFault}
+use Rattle.syc.specs.Verdicts.{IsFaultyCertificate, SaysOfFiles, VerifyIs}
 use Rattle.syc.specs.declared.answer.Answer.{Answer}
 use Rattle.syc.specs.declared.halt.Halt.{Halt}
 use Rattle.syc.specs.declared.halt.Halt.TheVariants as halt
@@ -34,22 +35,30 @@ answered Says bytes_of name text (Ok a) status old new ok err printed stopped kn
 answered Says bytes_of name text (Err why) status old new ok err printed stopped known =
     inr (site_gone bytes_of text why status (Tells old new) (err text known) stopped.0 stopped.2, stopped.1)
 
-module _ (bytes_of : List ℕ → Option (List ℕ)) (site text : List ℕ) (old new : Streams) (status : ℕ) (same : new.output ≡ old.output) where
-  gone : (why : Halt) → IsNoSite bytes_of site why → status ≡ status_at why → Tells old new (halt_report why)
-      → VerifyIs bytes_of site text status old new
-  gone why none is told = inr (same, inr (site_gone bytes_of site why status (Tells old new) none is told))
+-- no verdict on a certificate, which is told
+module _ (bytes_of : List ℕ → Option (List ℕ)) (site text : List ℕ) (status : ℕ) (IsReported : List ℕ → Type 0) where
+  abbrev NoVerdict : Type 0
+  NoVerdict =
+      ((status ≡ 2) × (fault : TextFault) × IsFaultyCertificate bytes_of site text fault × IsReported (halt_report (halt.Certificate fault)))
+      ⊎ HasNoAnswer bytes_of site status IsReported
 
-  -- no verdict on a certificate, which is told
-  pub no_verdict : (why : Halt) → HasNoVerdict bytes_of site text why → status ≡ status_at why → Tells old new (halt_report why)
-      → VerifyIs bytes_of site text status old new
-  no_verdict (halt.Certificate fault) none is told = inr (same, inl (is, fault, none, told))
-  no_verdict (halt.Site fault) none is told = gone (halt.Site fault) none is told
-  no_verdict (halt.Line n) none is told = gone (halt.Line n) none is told
-  no_verdict (halt.Illegal n) none is told = gone (halt.Illegal n) none is told
-  no_verdict (halt.TotalsFull n) none is told = gone (halt.TotalsFull n) none is told
-  no_verdict halt.NoMemory none is told = gone halt.NoMemory none is told
-  no_verdict halt.ReadFailed none is told = gone halt.ReadFailed none is told
-  no_verdict halt.WriteFailed none is told = gone halt.WriteFailed none is told
+  gone : (why : Halt) → IsNoSite bytes_of site why → status ≡ status_at why → IsReported (halt_report why) → NoVerdict
+  gone why none is told = inr (site_gone bytes_of site why status IsReported none is told)
+
+  pub no_verdict_told : (why : Halt) → HasNoVerdict bytes_of site text why → status ≡ status_at why → IsReported (halt_report why) → NoVerdict
+  no_verdict_told (halt.Certificate fault) none is told = inl (is, fault, none, told)
+  no_verdict_told (halt.Site fault) none is told = gone (halt.Site fault) none is told
+  no_verdict_told (halt.Line n) none is told = gone (halt.Line n) none is told
+  no_verdict_told (halt.Illegal n) none is told = gone (halt.Illegal n) none is told
+  no_verdict_told (halt.TotalsFull n) none is told = gone (halt.TotalsFull n) none is told
+  no_verdict_told halt.NoMemory none is told = gone halt.NoMemory none is told
+  no_verdict_told halt.ReadFailed none is told = gone halt.ReadFailed none is told
+  no_verdict_told halt.WriteFailed none is told = gone halt.WriteFailed none is told
+
+pub no_verdict : (bytes_of : List ℕ → Option (List ℕ)) (site text : List ℕ) (old new : Streams) (status : ℕ) → new.output ≡ old.output → (why : Halt)
+    → HasNoVerdict bytes_of site text why → status ≡ status_at why → Tells old new (halt_report why) → VerifyIs bytes_of site text status old new
+no_verdict bytes_of site text old new status same why none is told =
+    inr (same, no_verdict_told bytes_of site text status (Tells old new) why none is told)
 
 -- where the site isn't read there is no verdict
 pub site_unread : (bytes_of : List ℕ → Option (List ℕ)) (site text : List ℕ) (why : Halt)

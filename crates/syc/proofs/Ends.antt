@@ -4,22 +4,21 @@ use Rattle.std.specs.Prelude.{◌⊎◌, IfErr, IfOk, Option, Some, None, Result
 use Rattle.std.specs.List.{Any}
 use Rattle.sy_wire.specs.Streams.{Rose}
 use Rattle.sy_site.specs.Sites.{Site}
-use Rattle.syc.specs.Checks.{AskedIs, BeginsInWords, CheckedInWordsIs, IsVerdict}
+use Rattle.syc.specs.Checks.{AskedInWordsIs, AskedIs, IsVerdict, SaysWith}
 use Rattle.syc.specs.HaltTexts.{halt_report}
 use Rattle.syc.specs.Outcomes.{FailsBy, MayEnd, Prints, status_for}
 use Rattle.syc.specs.Reports.{SinkState, Streams, Tells, TellsFirst, said, streams}
 use Rattle.syc.specs.SiteFiles.{HasNoAnswer, IsSiteOf}
-use Rattle.syc.specs.Verdicts.{SaysOfFiles, VerifyIs}
+use Rattle.syc.specs.Verdicts.{SaysOfFiles, VerifyInWordsIs, VerifyIs}
 use Rattle.syc.specs.declared.answer.Answer.{Answer}
 use Rattle.syc.specs.declared.command.Asked.{Asked}
-use Rattle.syc.specs.declared.command.Asked.TheVariants as asked
 use Rattle.syc.specs.declared.halt.Halt.{Halt}
 use Rattle.syc.specs.declared.halt.Halt.TheVariants as halt
 use Rattle.syc.specs.declared.options.Options.{Options}
 use Rattle.syc.specs.internal.Halts.{IsNoSite, IsUnread, status_at}
 use Rattle.syc.specs.internal.Optioned.{DocumentEnds, HaltEnds, StopsFirst}
 use Rattle.syc.specs.internal.Unverified.{HasNoVerdict}
-use Rattle.syc.proofs.Endings.{no_verdict, site_gone}
+use Rattle.syc.proofs.Endings.{no_verdict, no_verdict_told, site_gone}
 use Rattle.syc.proofs.Unread.{printing_fails, stops_by}
 
 -- ---- streams that tell nothing
@@ -108,25 +107,24 @@ asked_ends question bytes_of name text answer status old new Words ok err printe
     (ok_map answer (λ a h. let said = h text known in said_of question bytes_of text said.0 a.is_accepted said.1 said.2) ok)
     (err_map answer (λ why h. halted question bytes_of text why (h text known)) err) printed stopped
 
--- ---- what a check says in words
+-- ---- what is said of one site in words
 
--- its words, where it is a check that prints no document
+-- its words, where no document is wanted
 abbrev pub WordsOf : Asked → Options → Site → Answer → Type 0
-WordsOf question options site a = question ≡ asked.Check → options.json ≡ false → BeginsInWords options site a.text.items a.is_accepted
+WordsOf question options site a = options.json ≡ false → SaysWith question options site a.text.items a.is_accepted
 
-pub check_says : (question : Asked) (options : Options) (bytes_of : List ℕ → Option (List ℕ)) (name text : List ℕ) (answer : Result Answer Halt)
+pub asked_says : (question : Asked) (options : Options) (bytes_of : List ℕ → Option (List ℕ)) (name text : List ℕ) (answer : Result Answer Halt)
     (status : ℕ) (old new : Streams)
     → IfOk answer (λ a. (t : List ℕ) → bytes_of name ≡ Some t
     → (site : Site) × IsSiteOf bytes_of t site × IsVerdict question site a.is_accepted × WordsOf question options site a)
     → IfErr answer (λ why. (t : List ℕ) → bytes_of name ≡ Some t → IsNoSite bytes_of t why)
     → IfOk answer (λ a. Prints a.text.items a.is_accepted status old new)
     → (options.json ≡ false → IfErr answer (λ why. StopsFirst why status old new))
-    → question ≡ asked.Check → options.json ≡ false → bytes_of name ≡ Some text → CheckedInWordsIs options bytes_of text status old new
-check_says question options bytes_of name text (Ok a) status old new ok err printed told check words known =
+    → options.json ≡ false → bytes_of name ≡ Some text → AskedInWordsIs question options bytes_of text status old new
+asked_says question options bytes_of name text (Ok a) status old new ok err printed told words known =
     let is = ok text known in
-    let begins = is.3 check words in
-    inl (is.0, is.1, begins.0, begins.1, a.is_accepted, begins.3, subst (λ t. Prints t a.is_accepted status old new) begins.2 printed)
-check_says question options bytes_of name text (Err why) status old new ok err printed told check words known =
+    inl (is.0, is.1, a.text.items, a.is_accepted, is.3 words, printed)
+asked_says question options bytes_of name text (Err why) status old new ok err printed told words known =
     let stops = told words in
     inr (site_gone bytes_of text why status (TellsFirst old new) (err text known) stops.status_is stops.told, stops.same)
 
@@ -166,6 +164,19 @@ verify_ends bytes_of name other site text answer status old new ok err printed s
     answer status old new
     (ok_map answer (λ a h. let said = h site text is_site is_text in verify_said bytes_of site text said.0 a.is_accepted said.1) ok)
     (err_map answer (λ why h. verify_halted bytes_of site text why (h site text is_site is_text)) err) printed stopped
+
+-- what a verify says in words
+pub verify_says : (options : Options) (bytes_of : List ℕ → Option (List ℕ)) (name other site text : List ℕ) (answer : Result Answer Halt) (status : ℕ)
+    (old new : Streams)
+    → IfOk answer (λ a. (s t : List ℕ) → bytes_of name ≡ Some s → bytes_of other ≡ Some t → SaysOfFiles bytes_of s t a.text.items a.is_accepted)
+    → IfErr answer (λ why. (s t : List ℕ) → bytes_of name ≡ Some s → bytes_of other ≡ Some t → HasNoVerdict bytes_of s t why)
+    → IfOk answer (λ a. Prints a.text.items a.is_accepted status old new)
+    → IfErr answer (λ why. StopsFirst why status old new)
+    → bytes_of name ≡ Some site → bytes_of other ≡ Some text → VerifyInWordsIs bytes_of site text status old new
+verify_says options bytes_of name other site text (Ok a) status old new ok err printed stops is_site is_text =
+    inl (a.text.items, a.is_accepted, ok site text is_site is_text, printed)
+verify_says options bytes_of name other site text (Err why) status old new ok err printed stops is_site is_text =
+    inr (stops.same, no_verdict_told bytes_of site text status (TellsFirst old new) why (err site text is_site is_text) stops.status_is stops.told)
 
 -- ---- status 4
 

@@ -57,27 +57,27 @@ module _ (one : (text : List ℕ) (files : List File) (a b : Site) → Describes
   described site is =
       subst (λ files. Describes SITE.now files site) (given_are is.given (is.are_given.names ∙ names_are) is.are_given.bytes) is.describes
 
-  the_site : (site : Site) → IsSiteOf bytes_of SITE.now site → IsTheSite site
+  pub the_site : (site : Site) → IsSiteOf bytes_of SITE.now site → IsTheSite site
   the_site site is =
       let describes = described site is in
       record { describes = describes; alone = λ other other_is. one SITE.now relay_files other site other_is describes }
 
-  eight_kept : (site : Site) (count : ℕ) → IsSiteOf bytes_of SITE.now site → KeepsAll site count → count ≡ 8
+  pub eight_kept : (site : Site) (count : ℕ) → IsSiteOf bytes_of SITE.now site → KeepsAll site count → count ≡ 8
   eight_kept site count is keeps = sym keeps.count_is ∙ eight site keeps.classes (described site is) keeps.are_protected
 
   -- ---- what was printed
 
-  printed_whole : (text : List ℕ) (status : ℕ) (old new : Streams) → Prints text true status old new → status ≡ 0 → Printed text old new
+  pub printed_whole : (text : List ℕ) (status : ℕ) (old new : Streams) → Prints text true status old new → status ≡ 0 → Printed text old new
   printed_whole text status old new (inl printed) ends = record { wrote = printed.1; flushed = printed.2; quiet = printed.4 }
   printed_whole text status old new (inr torn) ends = absurd (omega (arith, torn.0, ends))
 
-  not_refused : (text : List ℕ) (is_accepted : Bool) (status : ℕ) (old new : Streams) → is_accepted ≡ false → Prints text is_accepted status old new
+  pub not_refused : (text : List ℕ) (is_accepted : Bool) (status : ℕ) (old new : Streams) → is_accepted ≡ false → Prints text is_accepted status old new
       → status ≡ 0 → ⊥
   not_refused text true status old new refused printed ends = cc
   not_refused text false status old new refused (inl printed) ends = omega (arith, printed.0, ends)
   not_refused text false status old new refused (inr torn) ends = omega (arith, torn.0, ends)
 
-  some_answer : (status : ℕ) (IsReported : List ℕ → Type 0) → HasNoAnswer bytes_of SITE.now status IsReported → status ≡ 0 → ⊥
+  pub some_answer : (status : ℕ) (IsReported : List ℕ → Type 0) → HasNoAnswer bytes_of SITE.now status IsReported → status ≡ 0 → ⊥
   some_answer status IsReported (inl faulty) ends = omega (arith, faulty.0, ends)
   some_answer status IsReported (inr (inl no_memory)) ends = omega (arith, no_memory.0, ends)
   some_answer status IsReported (inr (inr unread)) ends = omega (arith, unread.0, ends)
@@ -132,7 +132,7 @@ module _ (one : (text : List ℕ) (files : List File) (a b : Site) → Describes
 
   -- ---- a replay
 
-  whole_replay : (site : Site) (out : List ℕ) (ending : Ending) (status : ℕ) (old new : SinkState)
+  pub whole_replay : (site : Site) (out : List ℕ) (ending : Ending) (status : ℕ) (old new : SinkState)
       → Replays site 1 0 (opened site) (lines_of EVENTS.now) out ending → replays.IsLeft ending old new → status ≡ replays.status_of ending → status ≡ 0
       → Replays site 1 0 (opened site) (lines_of EVENTS.now) out Ending.Done × (new.is_flushed ≡ true)
   whole_replay site out Ending.Done status old new replays left is ends = (replays, left.1)

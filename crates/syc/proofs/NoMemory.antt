@@ -1,10 +1,14 @@
 -- A command with options that finds no memory for its words.
-use Rattle.std.proofs.Common.{◌≡◌, ℕ, List, [], inl, inr, refl, sym, subst}
+use Rattle.std.proofs.Common.{◌≡◌, ℕ, List, [], inl, inr, refl, sym, subst, ap, arith}
 use Rattle.std.specs.Prelude.{Option, codes}
+use Rattle.std.specs.Io.KnownBytes.{Keeps}
+use Rattle.std.proofs.KnownBytes.{Keeps-refl}
 use Rattle.std.proofs.lemmas.List.{append-nil}
-use Rattle.syc.specs.Optioned.{EndsAs, SaysAs}
+use Rattle.syc.specs.Graphs.{GraphIs}
+use Rattle.syc.specs.Optioned.{EndsAs, KeepsAs, SaysAs}
 use Rattle.syc.specs.Reports.{Reported, ReportedFirst, SinkState, Streams, Tells, said}
 use Rattle.syc.specs.Words.{OverSite}
+use Rattle.syc.specs.declared.command.Asked.TheVariants as asked
 use Rattle.syc.specs.declared.options.Options.{Options}
 use Rattle.syc.proofs.Ends.{asked_no_memory, verify_no_memory}
 use Rattle.syc.proofs.Replayed.{replay_no_memory}
@@ -19,7 +23,25 @@ first old new line told = ([], subst (Reported old new) (sym (append-nil line)) 
 
 pub memory_says : (bytes_of : List ℕ → Option (List ℕ)) (old new : Streams) → Tells old new (said (codes "no memory")) → new.output ≡ old.output
     → (options : Options) (command : OverSite) → SaysAs bytes_of options command 3 old new
-memory_says bytes_of old new told same options (OverSite.Ask question site) = λ check words text known.
+memory_says bytes_of old new told same options (OverSite.Ask question site) = λ words text known.
     inr (inr (inl (refl, first old.errors new.errors _ told)), same)
-memory_says bytes_of old new told same options (OverSite.Replay site events) = tt
-memory_says bytes_of old new told same options (OverSite.Verify site certificate) = tt
+memory_says bytes_of old new told same options (OverSite.Replay site events) = λ words text input known read.
+    inl (
+      subst (Keeps old.output.contents) (sym (ap (λ s. s.contents) same)) (Keeps-refl old.output.contents),
+      inr (inl (refl, same, first old.errors new.errors _ told)),
+    )
+memory_says bytes_of old new told same options (OverSite.Verify site certificate) = λ words site_text text known read.
+    inr (same, inr (inr (inl (refl, first old.errors new.errors _ told))))
+
+pub memory_draws : (bytes_of : List ℕ → Option (List ℕ)) (class : Option (List ℕ)) (text : List ℕ) (old new : Streams)
+    → Tells old new (said (codes "no memory")) → new.output ≡ old.output → GraphIs class bytes_of text 3 old new
+memory_draws bytes_of class text old new told same = inl (inr (inr (inl (refl, told)), same))
+
+three_or_zero : (n : ℕ) → n ≡ 3 → n ≡ 0 → ⊥
+three_or_zero n three zero = omega (arith, three, zero)
+
+pub memory_keeps : (bytes_of : List ℕ → Option (List ℕ)) (status : ℕ) → status ≡ 3 → (command : OverSite) → KeepsAs bytes_of command status
+memory_keeps bytes_of status three (OverSite.Ask asked.Check site) = λ text known zero. absurd (three_or_zero status three zero)
+memory_keeps bytes_of status three (OverSite.Ask asked.Certify site) = tt
+memory_keeps bytes_of status three (OverSite.Replay site events) = tt
+memory_keeps bytes_of status three (OverSite.Verify site certificate) = λ text known zero. absurd (three_or_zero status three zero)

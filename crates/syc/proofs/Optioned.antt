@@ -3,7 +3,8 @@ use Rattle.std.proofs.Common.{◌≡◌, ◌+◌, ◌<◌, ℕ, Bool, List, [], 
 use Rattle.std.specs.Prelude.{◌||◌, Option, Some, None, IfNone, true, false, codes, if◌then◌else◌}
 use Rattle.std.specs.Str.{bytes_eq}
 use Rattle.std.proofs.lemmas.Slice.Eq.{bytes_eq-Decides}
-use Rattle.syc.specs.Optioned.{EndsAs, FailsAs, SaysAs}
+use Rattle.syc.specs.Graphs.{GraphIs}
+use Rattle.syc.specs.Optioned.{EndsAs, FailsAs, KeepsAs, SaysAs}
 use Rattle.syc.specs.Reports.{Streams}
 use Rattle.syc.specs.Words.{AreGraphWords, AreNoFurtherOf, AreOptioned, ArePassAlone, CallFor, HaveOptions, IsSiteCommand, OverSite, allows, asking, bare_of, is_any, is_option, is_plain, once_if, times}
 use Rattle.syc.specs.declared.command.Asked.{Asked}
@@ -13,7 +14,7 @@ use Rattle.syc.specs.declared.command.SiteCommand.TheVariants as of_site
 use Rattle.syc.specs.declared.further.Further.{Further}
 use Rattle.syc.specs.declared.further.Further.TheVariants as further
 use Rattle.syc.specs.declared.options.Options.{Options}
-use Rattle.syc.specs.internal.Commands.{AreNoSiteCommand, CallNamed, FurtherEnds, FurtherFails, FurtherSays, IsFurther, IsSiteCommandOf, TakesOptions, over}
+use Rattle.syc.specs.internal.Commands.{AreNoSiteCommand, CallNamed, FurtherDraws, FurtherEnds, FurtherFails, FurtherKeeps, FurtherSays, IsFurther, IsSiteCommandOf, TakesOptions, over}
 use Rattle.syc.proofs.Commands.{one_question, replay_no_question, replay_or_verify, rest_same, verify_no_question, first_same, head_same, others_same}
 
 -- ---- one word more
@@ -239,9 +240,67 @@ begins_so words rest is command options are = no_call are.bare (bare_of rest) co
 
 pub graph_has_none : (words : List (List ℕ)) (class : Option (List ℕ)) (site : List ℕ) → AreGraphWords class words site
     → (options : Options) (command : OverSite) → AreOptioned words options command → ⊥
-graph_has_none words None site is options command are = begins_so words _ is command options are
-graph_has_none words (Some class) site (inl is) options command are = begins_so words _ is command options are
-graph_has_none words (Some class) site (inr is) options command are = begins_so words _ is command options are
+graph_has_none words None site is options command are = begins_so words _ is.0 command options are
+graph_has_none words (Some class) site (inl is, plain, other) options command are = begins_so words _ is command options are
+graph_has_none words (Some class) site (inr is, plain, other) options command are = begins_so words _ is command options are
+
+-- nor do those of another command call for a drawing
+drawing_begins : (words : List (List ℕ)) (class : Option (List ℕ)) (site : List ℕ) → AreGraphWords class words site
+    → (rest : List (List ℕ)) × (words ≡ codes "graph" ∷ rest)
+drawing_begins words None site is = (_, is.0)
+drawing_begins words (Some class) site (inl is, plain, other) = (_, is)
+drawing_begins words (Some class) site (inr is, plain, other) = (_, is)
+
+pub site_no_graph : (words : List (List ℕ)) (command : OverSite) → CallFor command words → (class : Option (List ℕ)) (site : List ℕ)
+    → AreGraphWords class words site → ⊥
+site_no_graph words command call class site are =
+    let begins = drawing_begins words class site are in
+    no_call words begins.0 command begins.1 call
+
+g_or_p : (a b : ℕ) → a ≡ 103 → b ≡ 112 → a ≡ b → ⊥
+g_or_p a b g p same = omega (arith, g, p, same)
+
+graph_or_pass : codes "graph" ≡ codes "pass" → ⊥
+graph_or_pass e = g_or_p 103 112 refl refl (head_same e)
+
+pub pass_no_graph : (words : List (List ℕ)) → ArePassAlone words → (class : Option (List ℕ)) (site : List ℕ) → AreGraphWords class words site → ⊥
+pass_no_graph words pass class site are =
+    let begins = drawing_begins words class site are in
+    graph_or_pass (first_same (sym begins.1 ∙ pass))
+
+-- ---- what a drawing is of
+
+option_is_plain : is_plain (codes "--class") ≡ true → ⊥
+option_is_plain e = cc
+
+one_name : {a b c : List ℕ} → a ∷ b ∷ [] ≡ a ∷ c ∷ [] → b ≡ c
+one_name e = cc
+
+one_or_three : {a b c d e f : List ℕ} → a ∷ b ∷ [] ≡ c ∷ d ∷ e ∷ f ∷ [] → ⊥
+one_or_three same = cc
+
+second_same : {a b c d e f g h : List ℕ} → a ∷ b ∷ c ∷ d ∷ [] ≡ e ∷ f ∷ g ∷ h ∷ [] → b ≡ f
+second_same e = cc
+
+third_same : {a b c d e f g h : List ℕ} → a ∷ b ∷ c ∷ d ∷ [] ≡ e ∷ f ∷ g ∷ h ∷ [] → c ≡ g
+third_same e = cc
+
+fourth_same : {a b c d e f g h : List ℕ} → a ∷ b ∷ c ∷ d ∷ [] ≡ e ∷ f ∷ g ∷ h ∷ [] → d ≡ h
+fourth_same e = cc
+
+-- the words fix the class and the site
+pub one_drawing : (words : List (List ℕ)) (a b : Option (List ℕ)) (s t : List ℕ) → AreGraphWords a words s → AreGraphWords b words t → (a ≡ b) × (s ≡ t)
+one_drawing words None None s t x y = (refl, one_name (sym x.0 ∙ y.0))
+one_drawing words None (Some c) s t x (inl y, plain, other) = absurd (one_or_three (sym x.0 ∙ y))
+one_drawing words None (Some c) s t x (inr y, plain, other) = absurd (one_or_three (sym x.0 ∙ y))
+one_drawing words (Some c) None s t (inl x, plain, other) y = absurd (one_or_three (sym y.0 ∙ x))
+one_drawing words (Some c) None s t (inr x, plain, other) y = absurd (one_or_three (sym y.0 ∙ x))
+one_drawing words (Some c) (Some d) s t (inl x, p, v) (inl y, q, w) = (ap Some (third_same (sym x ∙ y)), fourth_same (sym x ∙ y))
+one_drawing words (Some c) (Some d) s t (inr x, p, v) (inr y, q, w) = (ap Some (fourth_same (sym x ∙ y)), second_same (sym x ∙ y))
+one_drawing words (Some c) (Some d) s t (inl x, p, v) (inr y, q, w) =
+    absurd (option_is_plain (subst (λ w. is_plain w ≡ true) (sym (second_same (sym x ∙ y))) q))
+one_drawing words (Some c) (Some d) s t (inr x, p, v) (inl y, q, w) =
+    absurd (option_is_plain (subst (λ w. is_plain w ≡ true) (second_same (sym x ∙ y)) p))
 
 -- what holds of the command that was found holds of the one that the words call for
 pub for_further : (P : Options → OverSite → Type 0) (words : List (List ℕ)) (found : Further) → IsFurther words found
@@ -269,6 +328,30 @@ module _ (bytes_of : List ℕ → Option (List ℕ)) (status : ℕ) (old new : S
       → (options : Options) (command : OverSite) → AreOptioned words options command → SaysAs bytes_of options command status old new
   further_says says = for_further (λ options command. SaysAs bytes_of options command status old new) words found is
       (λ options command e. subst (λ f. FurtherSays bytes_of f status old new) e says)
+
+  pub further_keeps : FurtherKeeps bytes_of found status
+      → (options : Options) (command : OverSite) → AreOptioned words options command → KeepsAs bytes_of command status
+  further_keeps keeps = for_further (λ options command. KeepsAs bytes_of command status) words found is
+      (λ options command e. subst (λ f. FurtherKeeps bytes_of f status) e keeps)
+
+  drawn_as : (found_class class : Option (List ℕ)) (found_site site text : List ℕ) → AreGraphWords found_class words found_site
+      → ((t : List ℕ) → bytes_of found_site ≡ Some t → GraphIs found_class bytes_of t status old new) → AreGraphWords class words site
+      → bytes_of site ≡ Some text → GraphIs class bytes_of text status old new
+  drawn_as found_class class found_site site text found_is draws are known =
+      let same = one_drawing words found_class class found_site site found_is are in
+      subst (λ c. GraphIs c bytes_of text status old new) same.0 (draws text (subst (λ s. bytes_of s ≡ Some text) (sym same.1) known))
+
+  draws_found : (f : Further) → IsFurther words f → FurtherDraws bytes_of f status old new → (class : Option (List ℕ)) (site text : List ℕ)
+      → AreGraphWords class words site → bytes_of site ≡ Some text → GraphIs class bytes_of text status old new
+  draws_found (further.WithOptions options command) are_optioned draws class site text are known =
+      absurd (graph_has_none words class site are options (over command) are_optioned)
+  draws_found (further.Graph s) found_is draws class site text are known = drawn_as None class s.now site text found_is draws are known
+  draws_found (further.GraphOfClass s c) found_is draws class site text are known = drawn_as (Some c.now) class s.now site text found_is draws are known
+
+  pub further_draws : FurtherDraws bytes_of found status old new
+      → (class : Option (List ℕ)) (site text : List ℕ) → AreGraphWords class words site → bytes_of site ≡ Some text
+      → GraphIs class bytes_of text status old new
+  further_draws draws = draws_found found is draws
 
   pub further_fails : (MayFail PiecesFail : List ℕ → Type 0) → FurtherFails bytes_of MayFail PiecesFail found status old new
       → (options : Options) (command : OverSite) → AreOptioned words options command → FailsAs bytes_of MayFail PiecesFail command status old new

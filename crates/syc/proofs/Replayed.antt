@@ -6,15 +6,55 @@ use Rattle.std.proofs.KnownBytes.{Keeps-refl}
 use Rattle.sy_wire.specs.Streams.{Rose}
 use Rattle.syc.specs.HaltTexts.{halt_report}
 use Rattle.syc.specs.Outcomes.{MayEnd, Prints}
-use Rattle.syc.specs.Replays.{EndsReplay, ReplayIs}
+use Rattle.syc.specs.Replays.{Ending, EndsReplay, IsTold, ReplayIs}
 use Rattle.syc.specs.Reports.{SinkState, Streams, Tells, streams}
 use Rattle.syc.specs.SiteFiles.{HasNoAnswer}
 use Rattle.syc.specs.declared.halt.Halt.{Halt}
 use Rattle.syc.specs.declared.halt.Halt.TheVariants as halts
-use Rattle.syc.specs.internal.Halts.{Halted, IsCause, Replayed, status_at}
+use Rattle.syc.specs.internal.Halts.{Halted, HandedOn, IsCause, Replayed, status_at}
 use Rattle.syc.specs.internal.Optioned.{HaltEnds, in_memory}
 use Rattle.syc.proofs.Courses.{halted, halted_failing, replayed, rises_on}
 use Rattle.syc.proofs.Ends.{failed, halt_fails, halted_by, no_memory, nothing, still}
+
+-- ---- what is told otherwise
+
+module _ (P Q : List ℕ → Type 0) (on : (line : List ℕ) → P line → Q line) where
+  told_on : (ending : Ending) → IsTold P ending → IsTold Q ending
+  told_on Ending.Done h = tt
+  told_on (Ending.Faulty n) h = on _ h
+  told_on (Ending.Illegal n) h = on _ h
+  told_on (Ending.Full n) h = on _ h
+  told_on Ending.NoMemory h = on _ h
+  told_on Ending.ReadFailed h = on _ h
+  told_on Ending.WriteFailed h = on _ h
+
+  pub no_answer_telling : (bytes_of : List ℕ → Option (List ℕ)) (text : List ℕ) (status : ℕ) → HasNoAnswer bytes_of text status P
+      → HasNoAnswer bytes_of text status Q
+  no_answer_telling bytes_of text status (inl fault) = inl (fault.0, fault.1, fault.2, on _ fault.3)
+  no_answer_telling bytes_of text status (inr (inl memory)) = inr (inl (memory.0, on _ memory.1))
+  no_answer_telling bytes_of text status (inr (inr unread)) = inr (inr (unread.0, on _ unread.1))
+
+ends_telling : (bytes_of : List ℕ → Option (List ℕ)) (text events : List ℕ) (status : ℕ) (old new : SinkState) (P Q : List ℕ → Type 0)
+    → ((line : List ℕ) → P line → Q line) → EndsReplay bytes_of text events status old new P → EndsReplay bytes_of text events status old new Q
+ends_telling bytes_of text events status old new P Q on (inl (kept, inl none)) =
+    inl (kept, inl (no_answer_telling P Q on bytes_of text status none.0, none.1, none.2))
+ends_telling bytes_of text events status old new P Q on (inl (kept, inr (inl memory))) = inl (kept, inr (inl (memory.0, memory.1, on _ memory.2)))
+ends_telling bytes_of text events status old new P Q on (inl (kept, inr (inr torn))) = inl (kept, inr (inr (torn.0, torn.1, on _ torn.2)))
+ends_telling bytes_of text events status old new P Q on (inr (site, is, done)) = inr (
+  site,
+  is,
+  record {
+    out = done.out;
+    ending = done.ending;
+    replays = done.replays;
+    wrote = done.wrote;
+    status_is = done.status_is;
+    left = done.left;
+    told = told_on P Q on done.ending done.told;
+  },
+)
+
+-- ---- how a replay ends
 
 module _ (bytes_of : List ℕ → Option (List ℕ)) (text events : List ℕ) (old new : SinkState) where
   told : (line : List ℕ) → Tells (streams old nothing) (streams new nothing) line
@@ -29,23 +69,43 @@ module _ (bytes_of : List ℕ → Option (List ℕ)) (text events : List ℕ) (o
   may_finish done flushed = ended 0 (replayed bytes_of text events old new (Tells (streams old nothing) (streams new nothing)) done flushed)
 
   -- It stopped, and what was printed was handed on, or that failed.
-  pub may_halt : (why end : Halt) (mid : SinkState) → Halted bytes_of text events why old.contents old.faults mid.contents mid.faults
+  pub handed_on : (why end : Halt) (mid : SinkState) → Halted bytes_of text events why old.contents old.faults mid.contents mid.faults
       → IsCause why old.faults mid.faults → (why ≡ halts.WriteFailed → new.faults ≡ mid.faults) → Keeps mid.contents new.contents
       → ((end ≡ why) × (new.is_flushed ≡ true) × (new.faults ≡ mid.faults))
       ⊎ ((end ≡ halts.WriteFailed) × ((why ≡ halts.WriteFailed) ⊎ Rose mid.faults new.faults))
-      → MayEnd (ReplayIs bytes_of text events) (status_at end)
-  may_halt why end mid stopped cause untouched kept (inl same) =
-      subst (λ h. MayEnd (ReplayIs bytes_of text events) (status_at h)) (sym same.0)
-      (ended (status_at why) (halted bytes_of text events why old new mid.contents (Tells (streams old nothing) (streams new nothing))
-      (subst (λ f. Halted bytes_of text events why old.contents old.faults mid.contents f) (sym same.2) stopped) kept same.1 (told (halt_report why))))
-  may_halt why end mid stopped cause untouched kept (inr failed) =
+      → HandedOn bytes_of text events end old new
+  handed_on why end mid stopped cause untouched kept (inl same) = inl (
+    mid.contents,
+    subst (λ h. Halted bytes_of text events h old.contents old.faults mid.contents new.faults) (sym same.0)
+        (subst (λ f. Halted bytes_of text events why old.contents old.faults mid.contents f) (sym same.2) stopped),
+    kept,
+    same.1,
+  )
+  handed_on why end mid stopped cause untouched kept (inr failed) =
       let rose : Rose old.faults new.faults = elim failed.1 [
         | inl is ↦ subst (Rose old.faults) (sym (untouched is)) (subst (λ h. IsCause h old.faults mid.faults) is cause)
         | inr rose ↦ rises_on why old.faults mid.faults new.faults cause rose
       ] in
-      subst (λ h. MayEnd (ReplayIs bytes_of text events) (status_at h)) (sym failed.0)
-      (ended 4 (halted_failing bytes_of text events why old new mid.contents mid.faults (Tells (streams old nothing) (streams new nothing))
-      stopped kept rose (told (halt_report halts.WriteFailed))))
+      inr (failed.0, why, mid.contents, mid.faults, stopped, kept, rose)
+
+  -- what it answers, once that is told
+  pub halted_told : (why : Halt) (IsReported : List ℕ → Type 0) → HandedOn bytes_of text events why old new → IsReported (halt_report why)
+      → EndsReplay bytes_of text events (status_at why) old new IsReported
+  halted_told why IsReported (inl whole) told =
+      halted bytes_of text events why old new whole.0 IsReported whole.1 whole.2 whole.3 told
+  halted_told why IsReported (inr failed) told =
+      subst (λ h. EndsReplay bytes_of text events (status_at h) old new IsReported) (sym failed.0)
+      (halted_failing bytes_of text events failed.1 old new failed.2 failed.3 IsReported failed.4 failed.5 failed.6
+      (subst (λ h. IsReported (halt_report h)) failed.0 told))
+
+  pub may_halt : (why : Halt) → HandedOn bytes_of text events why old new → MayEnd (ReplayIs bytes_of text events) (status_at why)
+  may_halt why stopped = ended (status_at why) (halted_told why (Tells (streams old nothing) (streams new nothing)) stopped (told (halt_report why)))
+
+  -- The same status may be answered, whatever is told.
+  pub may_end_so : (status : ℕ) (IsReported : List ℕ → Type 0) → EndsReplay bytes_of text events status old new IsReported
+      → MayEnd (ReplayIs bytes_of text events) status
+  may_end_so status IsReported ends =
+      ended status (ends_telling bytes_of text events status old new IsReported (Tells (streams old nothing) (streams new nothing)) (λ line h. told line) ends)
 
   -- memory ran out, or reading or writing failed
   gone : (status : ℕ) → HasNoAnswer bytes_of text status (Tells still still) → MayEnd (ReplayIs bytes_of text events) status

@@ -8,7 +8,7 @@ use Rattle.sy_checker.specs.Fit.{IsFitFor, IsWrongFor}
 use Rattle.sy_checker.specs.declared.finding.Finding.{Finding}
 use Rattle.sy_checker.specs.declared.verifying.CertFault.{CertFault}
 use Rattle.sy_checker.specs.declared.wanted.RowKind.{RowKind}
-use Rattle.syc.specs.Checks.{IsTextOf, IsVerdict, KeepsAll, SaysCertified, SaysChecked, SaysExplained, SaysFoundInWords, accepted_line, finding_text}
+use Rattle.syc.specs.Checks.{IsTextOf, IsVerdict, KeepsAll, SaysCertified, SaysCertifiedInWords, SaysChecked, SaysExplained, SaysFoundInWords, accepted_line, finding_text}
 use Rattle.syc.specs.Verdicts.{SaysOf, wrong_line}
 use Rattle.syc.specs.declared.answer.Answer.{Answer}
 use Rattle.syc.specs.declared.command.Asked.TheVariants as asked
@@ -43,6 +43,11 @@ pub found_said : (site : Site) (r : Result Answer Halt) → IfOk r (λ a. SaysFo
 found_said site (Ok a) says = found_certified site says.found a.is_accepted says.is_true says.refused
 found_said site (Err why) says = tt
 
+pub found_in_words : (site : Site) (r : Result Answer Halt) → IfOk r (λ a. SaysFoundInWords site a.text.items a.is_accepted)
+    → IfOk r (λ a. SaysCertifiedInWords site a.text.items a.is_accepted)
+found_in_words site (Ok a) says = inr says
+found_in_words site (Err why) says = tt
+
 pub explained_said : (site : Site) (r : Result Answer Halt) → IfOk r (λ a. SaysExplained site a.text.items a.is_accepted)
     → IfOk r (λ a. IsVerdict asked.Check site a.is_accepted)
 explained_said site (Ok a) (inl kept) = (a.text.items, inl kept)
@@ -64,6 +69,13 @@ pub fit_said : (site : Site) (certificate : Certificate) (r : Result Answer Halt
 fit_said site certificate (Ok a) fit text accepted =
     (a.text.items, inl (record { certificate = certificate; fit = fit; is_text = text; accepted = accepted }))
 fit_said site certificate (Err why) fit text accepted = tt
+
+pub fit_in_words : (site : Site) (certificate : Certificate) (r : Result Answer Halt) → IsFitFor site certificate
+    → IfOk r (λ a. IsTextOf a.text.items certificate) → IfOk r (λ a. a.is_accepted ≡ true)
+    → IfOk r (λ a. SaysCertifiedInWords site a.text.items a.is_accepted)
+fit_in_words site certificate (Ok a) fit text accepted =
+    inl (record { certificate = certificate; fit = fit; is_text = text; accepted = accepted })
+fit_in_words site certificate (Err why) fit text accepted = tt
 
 -- ---- the verdict on a certificate
 

@@ -5,14 +5,17 @@ use Rattle.sy_cert.specs.CertificateValue.{Certificate}
 use Rattle.sy_site.specs.Sites.{Site}
 use Rattle.sy_site.specs.texts.Describes.{Describes, File}
 use Rattle.sy_site.specs.texts.Files.{file_names}
-use Rattle.syc.specs.Checks.{AskedIs, KeepsAll, SaysChecked}
+use Rattle.syc.specs.Checks.{AskedIs, IsVerdict, KeepsAll, SaysChecked}
 use Rattle.syc.specs.Outcomes.{Prints}
 use Rattle.syc.specs.Reports.{Streams}
 use Rattle.syc.specs.SiteFiles.{AreGiven, AreTold, IsSiteOf}
 use Rattle.syc.specs.Verdicts.{DescribesKept, SaysOf}
 use Rattle.syc.specs.declared.answer.Answer.{Answer}
+use Rattle.syc.specs.declared.command.Asked.{Asked}
 use Rattle.syc.specs.declared.command.Asked.TheVariants as asked
 use Rattle.syc.specs.declared.halt.Halt.{Halt}
+use Rattle.syc.specs.internal.Optioned.{HaltEnds}
+use Rattle.syc.proofs.Courses.{status_fails}
 
 -- ---- one site
 
@@ -100,6 +103,34 @@ no_zero : (status : ℕ) → status ≡ 0 → (status ≡ 2) ⊎ (status ≡ 3) 
 no_zero status zero (inl is) = omega (arith, zero, is)
 no_zero status zero (inr (inl is)) = omega (arith, zero, is)
 no_zero status zero (inr (inr is)) = omega (arith, zero, is)
+
+-- a halt is none
+ends_otherwise : (why : Halt) (status before after : ℕ) → HaltEnds why status before after → status ≢ 0
+ends_otherwise why status before after (end, is, ends) zero = status_fails end (sym is ∙ zero)
+
+pub halted_otherwise : (answer : Result Answer Halt) (status before after : ℕ) → IfErr answer (λ why. HaltEnds why status before after)
+    → IfErr answer (λ _. status ≢ 0)
+halted_otherwise (Ok a) status before after stopped = tt
+halted_otherwise (Err why) status before after stopped = ends_otherwise why status before after stopped
+
+verdict_count : (site : Site) (is_accepted : Bool) → IsVerdict asked.Check site is_accepted → is_accepted ≡ true → (count : ℕ) × KeepsAll site count
+verdict_count site is_accepted (printed, says) accepts = checked_count site printed is_accepted says accepts
+
+-- So does a check with options.
+pub kept_in_words : ((text : List ℕ) (files : List File) (a b : Site) → Describes text files a → Describes text files b → a ≡ b)
+    → (bytes_of : List ℕ → Option (List ℕ)) (question : Asked) (name text : List ℕ) (Words : Site → Answer → Type 0) (answer : Result Answer Halt) (status : ℕ)
+    (old new : Streams)
+    → IfOk answer (λ a. (t : List ℕ) → bytes_of name ≡ Some t
+    → (site : Site) × IsSiteOf bytes_of t site × IsVerdict question site a.is_accepted × Words site a)
+    → IfOk answer (λ a. Prints a.text.items a.is_accepted status old new)
+    → IfErr answer (λ why. HaltEnds why status old.output.faults new.output.faults)
+    → bytes_of name ≡ Some text → question ≡ asked.Check → status ≡ 0 → DescribesKept bytes_of text
+kept_in_words one bytes_of question name text Words (Ok a) status old new ok printed stopped known check zero =
+    let is = ok text known in
+    let kept = verdict_count is.0 a.is_accepted (subst (λ q. IsVerdict q is.0 a.is_accepted) check is.2)
+    (zero_is_accepted a.text.items a.is_accepted status old new printed zero) in
+    record { site = is.0; is_site = is.1; count = kept.0; keeps = kept.1; alone = one_of_files bytes_of one text is.0 is.1 }
+kept_in_words one bytes_of question name text Words (Err why) status old new ok printed stopped known check zero = absurd (ends_otherwise why status _ _ stopped zero)
 
 -- So does a check.
 pub checked_by_zero : ((text : List ℕ) (files : List File) (a b : Site) → Describes text files a → Describes text files b → a ≡ b)

@@ -59,6 +59,16 @@ AreLines site [] text = text ≡ []
 AreLines site (group ∷ groups) text =
     (names : List ℕ) × (rest : List ℕ) × (text ≡ names ++ group_text site group ++ rest) × AreLines site groups rest
 
+-- the same with words for people behind each line, of which nothing is said
+abbrev pub AreLinesInWords : Site → List Group → List ℕ → Type 0
+AreLinesInWords site [] text = text ≡ []
+AreLinesInWords site (group ∷ groups) text =
+    (names words rest : List ℕ) × (text ≡ names ++ group_text site group ++ words ++ rest) × AreLinesInWords site groups rest
+
+-- such a line, with words behind it, is put behind a text
+abbrev pub PutsLineInWords : Site → Group → List ℕ → List ℕ → Type 0
+PutsLineInWords site group old new = (names words : List ℕ) × (new ≡ old ++ names ++ group_text site group ++ words)
+
 --   RELAY PORT by N
 abbrev pub way_line : Site → WayRow → List ℕ
 way_line site row = codes "  " ++ input_text site row.input ++ codes " by " ++ decimal row.number ++ line_feed ∷ []
@@ -111,9 +121,19 @@ pub record SaysSurvey (site : Site) (text : List ℕ) (is_accepted : Bool) : Typ
   pub is_tally : IsTally site groups text
   pub refused : is_accepted ≡ false
 
--- It isn't sound; of the words on all that is found nothing is said.
-pub record SaysUnsound (site : Site) (is_accepted : Bool) : Type 0 where
+-- words, and then a line for each group, with words behind it
+pub record IsTallyInWords (site : Site) (groups : List Group) (text : List ℕ) : Type 0 where
+  pub head : List ℕ
+  pub lines : List ℕ
+  pub text_is : text ≡ head ++ lines
+  pub are_lines : AreLinesInWords site groups lines
+
+-- It isn't sound, and this is all that is found in it, with words on each.
+pub record SaysSurveyInWords (site : Site) (text : List ℕ) (is_accepted : Bool) : Type 0 where
+  pub groups : List Group
+  pub is_survey : IsSurvey site groups
   pub unsound : IsSound site → ⊥
+  pub is_tally : IsTallyInWords site groups text
   pub refused : is_accepted ≡ false
 
 -- that it keeps all
@@ -149,7 +169,7 @@ SaysAll site text is_accepted = SaysKept site text is_accepted ⊎ SaysSurvey si
 
 -- what a check that tells and explains all says
 abbrev pub SaysAllInWords : Site → List ℕ → Bool → Type 0
-SaysAllInWords site text is_accepted = SaysKept site text is_accepted ⊎ SaysUnsound site is_accepted
+SaysAllInWords site text is_accepted = SaysKept site text is_accepted ⊎ SaysSurveyInWords site text is_accepted
 
 -- what a making of its certificate says
 abbrev pub SaysCertified : Site → List ℕ → Bool → Type 0
@@ -174,9 +194,19 @@ SaysBy true true = SaysAllInWords
 abbrev pub SaysInWords : Options → Site → List ℕ → Bool → Type 0
 SaysInWords options = SaysBy options.explain options.all
 
--- The text begins with what a check with these options says.
+-- The text is what a check with these options says, and more for people behind it where it explains.
 abbrev pub BeginsInWords : Options → Site → List ℕ → Bool → Type 0
-BeginsInWords options site text is_accepted = (said more : List ℕ) × (text ≡ said ++ more) × SaysInWords options site said is_accepted
+BeginsInWords options site text is_accepted =
+    (said more : List ℕ) × (text ≡ said ++ more) × (options.explain ≡ false → more ≡ []) × SaysInWords options site said is_accepted
+
+-- what a making of its certificate says that explains
+abbrev pub SaysCertifiedInWords : Site → List ℕ → Bool → Type 0
+SaysCertifiedInWords site text is_accepted = SaysFit site text is_accepted ⊎ SaysFoundInWords site text is_accepted
+
+-- what is said of a site with options, but for a document, by what is asked
+abbrev pub SaysWith : Asked → Options → Site → List ℕ → Bool → Type 0
+SaysWith asked.Check options = BeginsInWords options
+SaysWith asked.Certify options = SaysCertifiedInWords
 
 -- ---- the commands
 
@@ -184,6 +214,6 @@ BeginsInWords options site text is_accepted = (said more : List ℕ) × (text �
 abbrev pub AskedIs : Asked → (List ℕ → Option (List ℕ)) → List ℕ → ℕ → Streams → Streams → Type 0
 AskedIs question = AnswersOf (Says question)
 
--- what a check answers in words, with these options
-abbrev pub CheckedInWordsIs : Options → (List ℕ → Option (List ℕ)) → List ℕ → ℕ → Streams → Streams → Type 0
-CheckedInWordsIs options = AnswersFirstOf (SaysInWords options)
+-- the same with options, but for a document
+abbrev pub AskedInWordsIs : Asked → Options → (List ℕ → Option (List ℕ)) → List ℕ → ℕ → Streams → Streams → Type 0
+AskedInWordsIs question options = AnswersFirstOf (SaysWith question options)

@@ -11,6 +11,7 @@ pub mod SiteFiles
 pub mod Memory
 pub mod Outcomes
 pub mod Checks
+pub mod Graphs
 pub mod Prepared
 pub mod Verdicts
 pub mod Optioned

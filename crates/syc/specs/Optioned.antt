@@ -2,11 +2,11 @@
 use Rattle.std.specs.Prelude.{◌≡◌, ℕ, List, ◌∷◌, ◌⊎◌, Option, Some, false}
 use Rattle.std.specs.List.{Any}
 use Rattle.sy_site.specs.texts.Files.{file_names}
-use Rattle.syc.specs.Checks.{AskedIs, CheckedInWordsIs}
+use Rattle.syc.specs.Checks.{AskedInWordsIs, AskedIs}
 use Rattle.syc.specs.Outcomes.{FailsBy, MayEnd}
-use Rattle.syc.specs.Replays.{ReplayIs}
+use Rattle.syc.specs.Replays.{ReplayInWordsIs, ReplayIs}
 use Rattle.syc.specs.Reports.{Streams}
-use Rattle.syc.specs.Verdicts.{VerifyIs}
+use Rattle.syc.specs.Verdicts.{DescribesKept, VerifyInWordsIs, VerifyIs}
 use Rattle.syc.specs.Words.{OverSite}
 use Rattle.syc.specs.declared.command.Asked.TheVariants as asked
 use Rattle.syc.specs.declared.options.Options.{Options}
@@ -30,8 +30,19 @@ FailsAs bytes_of MayFail PiecesFail (OverSite.Replay site events) status old new
 FailsAs bytes_of MayFail PiecesFail (OverSite.Verify site certificate) status old new =
     (text : List ℕ) → bytes_of site ≡ Some text → FailsBy (Any MayFail (site ∷ certificate ∷ file_names text)) status old new
 
--- A check in words prints what it says of the site, and perhaps more behind that.
+-- Where no document is wanted it answers the same, with words for people behind what is found in a site, and behind the line that says why it stopped.
 abbrev pub SaysAs : (List ℕ → Option (List ℕ)) → Options → OverSite → ℕ → Streams → Streams → Type 0
 SaysAs bytes_of options (OverSite.Ask question site) status old new =
-    question ≡ asked.Check → options.json ≡ false → (text : List ℕ) → bytes_of site ≡ Some text → CheckedInWordsIs options bytes_of text status old new
-SaysAs bytes_of options _ status old new = Unit {0}
+    options.json ≡ false → (text : List ℕ) → bytes_of site ≡ Some text → AskedInWordsIs question options bytes_of text status old new
+SaysAs bytes_of options (OverSite.Replay site events) status old new =
+    options.json ≡ false → (text input : List ℕ) → bytes_of site ≡ Some text → bytes_of events ≡ Some input → ReplayInWordsIs bytes_of text input status old new
+SaysAs bytes_of options (OverSite.Verify site certificate) status old new =
+    options.json ≡ false → (site_text text : List ℕ) → bytes_of site ≡ Some site_text → bytes_of certificate ≡ Some text
+    → VerifyInWordsIs bytes_of site_text text status old new
+
+-- A check that ends with 0 shows that the site is kept, and so does a verify, whatever the certificate's bytes are. Of the other commands nothing is
+-- said here.
+abbrev pub KeepsAs : (List ℕ → Option (List ℕ)) → OverSite → ℕ → Type 0
+KeepsAs bytes_of (OverSite.Verify site certificate) status = (text : List ℕ) → bytes_of site ≡ Some text → status ≡ 0 → DescribesKept bytes_of text
+KeepsAs bytes_of (OverSite.Ask asked.Check site) status = (text : List ℕ) → bytes_of site ≡ Some text → status ≡ 0 → DescribesKept bytes_of text
+KeepsAs bytes_of _ status = Unit {0}

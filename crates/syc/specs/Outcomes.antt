@@ -1,5 +1,5 @@
 -- How a command over a site ends that prints one text (this profile's own).
-use Rattle.std.specs.Prelude.{◌≡◌, ℕ, Bool, true, false, ◌⊎◌, List, ◌++◌, Option, codes}
+use Rattle.std.specs.Prelude.{◌≡◌, ℕ, Bool, true, false, ◌⊎◌, List, Option, codes}
 use Rattle.std.specs.Io.KnownBytes.{Appends}
 use Rattle.sy_wire.specs.Streams.{Rose}
 use Rattle.sy_site.specs.Sites.{Site}
@@ -28,11 +28,11 @@ AnswersOf Says bytes_of site_text status old new =
     × (text : List ℕ) × (is_accepted : Bool) × Says site text is_accepted × Prints text is_accepted status old new)
     ⊎ (HasNoAnswer bytes_of site_text status (Tells old new) × (new.output ≡ old.output))
 
--- The same where more may stand behind that text, and behind the line that says why there is none.
+-- The same where more may stand behind the line that says why there is none.
 abbrev pub AnswersFirstOf : (Site → List ℕ → Bool → Type 0) → (List ℕ → Option (List ℕ)) → List ℕ → ℕ → Streams → Streams → Type 0
 AnswersFirstOf Says bytes_of site_text status old new =
     ((site : Site) × IsSiteOf bytes_of site_text site
-    × (text more : List ℕ) × (is_accepted : Bool) × Says site text is_accepted × Prints (text ++ more) is_accepted status old new)
+    × (text : List ℕ) × (is_accepted : Bool) × Says site text is_accepted × Prints text is_accepted status old new)
     ⊎ (HasNoAnswer bytes_of site_text status (TellsFirst old new) × (new.output ≡ old.output))
 
 -- A status with which a command may end that answers so.

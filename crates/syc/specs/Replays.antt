@@ -16,7 +16,7 @@ use Rattle.sy_replay.specs.States.{Applies, Contents, IsIllegalAt, holding, stat
 use Rattle.sy_replay.specs.declared.event.Illegal.TheVariants as illegal
 use Rattle.syc.specs.HaltTexts.{in_line}
 use Rattle.syc.specs.Pass.{READS}
-use Rattle.syc.specs.Reports.{SinkState, Streams, Tells, line_feed, said}
+use Rattle.syc.specs.Reports.{SinkState, Streams, Tells, TellsFirst, line_feed, said}
 use Rattle.syc.specs.SiteFiles.{HasNoAnswer, IsSiteOf}
 use Rattle.syc.specs.Texts.{class_text}
 
@@ -180,3 +180,7 @@ EndsReplay bytes_of site_text events status old new IsReported =
 -- the same of the two streams
 abbrev pub ReplayIs : (List ℕ → Option (List ℕ)) → (site events : List ℕ) → ℕ → Streams → Streams → Type 0
 ReplayIs bytes_of site_text events status old new = EndsReplay bytes_of site_text events status old.output new.output (Tells old new)
+
+-- The same in words: more may stand behind the line that says why it stopped.
+abbrev pub ReplayInWordsIs : (List ℕ → Option (List ℕ)) → (site events : List ℕ) → ℕ → Streams → Streams → Type 0
+ReplayInWordsIs bytes_of site_text events status old new = EndsReplay bytes_of site_text events status old.output new.output (TellsFirst old new)

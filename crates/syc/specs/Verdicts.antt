@@ -12,7 +12,7 @@ use Rattle.sy_checker.specs.declared.wanted.RowKind.{RowKind}
 use Rattle.syc.specs.Checks.{IsTextOf, KeepsAll, accepted_line}
 use Rattle.syc.specs.HaltTexts.{halt_report}
 use Rattle.syc.specs.Outcomes.{Prints}
-use Rattle.syc.specs.Reports.{Streams, Tells, line_feed}
+use Rattle.syc.specs.Reports.{Streams, Tells, TellsFirst, line_feed}
 use Rattle.syc.specs.SiteFiles.{AreTold, HasNoAnswer, IsSiteOf}
 use Rattle.syc.specs.declared.halt.Halt.TheVariants as halt
 
@@ -69,11 +69,19 @@ pub record DescribesKept (bytes_of : List ℕ → Option (List ℕ)) (site_text 
 
 -- ---- the command
 
--- What a verify of these files answers: a verdict; or the certificate's text has a fault, which is told; or there is no site, no memory or no file, which
--- is told. Where there is no verdict, standard output is as before.
-abbrev pub VerifyIs : (List ℕ → Option (List ℕ)) → (site_text certificate : List ℕ) → ℕ → Streams → Streams → Type 0
-VerifyIs bytes_of site_text certificate status old new =
+-- What a verify of these files answers, where a line is told so: a verdict; or the certificate's text has a fault, which is told; or there is no site, no
+-- memory or no file, which is told. Where there is no verdict, standard output is as before.
+abbrev pub VerifiesTelling : (List ℕ → Type 0) → (List ℕ → Option (List ℕ)) → (site_text certificate : List ℕ) → ℕ → Streams → Streams → Type 0
+VerifiesTelling IsReported bytes_of site_text certificate status old new =
     ((printed : List ℕ) × (is_accepted : Bool) × SaysOfFiles bytes_of site_text certificate printed is_accepted × Prints printed is_accepted status old new)
     ⊎ ((new.output ≡ old.output) × (
-    ((status ≡ 2) × (fault : TextFault) × IsFaultyCertificate bytes_of site_text certificate fault × Tells old new (halt_report (halt.Certificate fault)))
-    ⊎ HasNoAnswer bytes_of site_text status (Tells old new)))
+    ((status ≡ 2) × (fault : TextFault) × IsFaultyCertificate bytes_of site_text certificate fault × IsReported (halt_report (halt.Certificate fault)))
+    ⊎ HasNoAnswer bytes_of site_text status IsReported))
+
+-- what it answers without options
+abbrev pub VerifyIs : (List ℕ → Option (List ℕ)) → (site_text certificate : List ℕ) → ℕ → Streams → Streams → Type 0
+VerifyIs bytes_of site_text certificate status old new = VerifiesTelling (Tells old new) bytes_of site_text certificate status old new
+
+-- The same in words: more may stand behind the line that says why there is no verdict.
+abbrev pub VerifyInWordsIs : (List ℕ → Option (List ℕ)) → (site_text certificate : List ℕ) → ℕ → Streams → Streams → Type 0
+VerifyInWordsIs bytes_of site_text certificate status old new = VerifiesTelling (TellsFirst old new) bytes_of site_text certificate status old new

@@ -4,6 +4,7 @@ ghost use Rattle.sy_site.specs.machine.Soundness.{IsSound};
 ghost use Rattle.sy_checker.specs.Finding.{IsTrueRefusal};
 ghost use Rattle.syc.specs.declared.command.Asked.TheVariants as asked;
 ghost use Rattle.syc.specs.Checks as spec;
+ghost use Rattle.syc.specs.internal.Surveys as internal;
 
 use crate::answer::Answer;
 use crate::check::say_kept;
@@ -21,7 +22,9 @@ fn tally_in_words_of<F: Files>(
     files: &F,
     name: &str,
     site: &Site,
-) -> Result<Vec<u8>, AllocError> {
+) -> Result<Vec<u8>, AllocError>
+    ensures { IfOk result (λ text. internal.IsSurveyedInWords site.now text.items) }
+{
     match survey(alloc, site) {
         Ok(groups) => tally_in_words(alloc, files, name, site, groups.as_slice()),
         Err(why) => Err(why),
@@ -36,7 +39,7 @@ fn refused_in_words<F: Files>(
     site: &Site,
 ) -> Result<Answer, AllocError>
     requires unsound { IsSound site.now → ⊥ }
-    ensures ok { IfOk result (λ a. spec.SaysUnsound site.now a.is_accepted) }
+    ensures ok { IfOk result (λ a. spec.SaysSurveyInWords site.now a.text.items a.is_accepted) }
 {
     match tally_in_words_of(alloc, files, name, site) {
         Ok(text) => Ok(Answer {
@@ -57,7 +60,7 @@ fn say_found_in_words<F: Files>(
 ) -> Result<Answer, Halt>
     requires found { IsTrueRefusal site.now why }
     requires only { IsSound site.now → why ≡ Refusal.NoMemory }
-    ensures ok { IfOk result (λ a. spec.SaysUnsound site.now a.is_accepted) }
+    ensures ok { IfOk result (λ a. spec.SaysSurveyInWords site.now a.text.items a.is_accepted) }
     ensures verdict { IfOk result (λ a. spec.IsVerdict asked.Check site.now a.is_accepted) }
     ensures err { IfErr result (λ halt. halt ≡ Halt.NoMemory) }
 {

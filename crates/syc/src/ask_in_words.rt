@@ -8,6 +8,7 @@ ghost use Rattle.sy_checker.specs.Finding.{IsTrueRefusal};
 ghost use Rattle.syc.specs.Checks as spec;
 ghost use Rattle.syc.specs.Outcomes.{FailsBy, MayEnd};
 ghost use Rattle.syc.specs.SiteFiles.{IsSiteOf};
+ghost use Rattle.syc.specs.Verdicts.{DescribesKept};
 ghost use Rattle.syc.specs.declared.command.Asked.TheVariants as any_asked;
 ghost use Rattle.syc.specs.internal.Halts.{IsNoSite, IsUnread};
 
@@ -28,6 +29,7 @@ use crate::with_options::print_with_options;
 use std::alloc::Global;
 use sy_checker::certify as make_certificate;
 use sy_site::Site;
+use sy_site::laws::one_site;
 use sy_wire::Sink;
 
 // What a check says of a site.
@@ -81,6 +83,7 @@ fn certify_in_words<F: Files>(
     name: &str,
     site: &Site,
 ) -> Result<Answer, Halt>
+    ensures words { IfOk result (λ a. spec.SaysCertifiedInWords site.now a.text.items a.is_accepted) }
     ensures verdict { IfOk result (λ a. spec.IsVerdict any_asked.Certify site.now a.is_accepted) }
     ensures err { IfErr result (λ halt. halt ≡ Halt.NoMemory) }
 {
@@ -99,8 +102,7 @@ fn say_in_words<F: Files>(
     options: Options,
     asked: Asked,
 ) -> Result<Answer, Halt>
-    ensures words { asked ≡ any_asked.Check →
-        IfOk result (λ a. spec.BeginsInWords options site.now a.text.items a.is_accepted) }
+    ensures words { IfOk result (λ a. spec.SaysWith asked options site.now a.text.items a.is_accepted) }
     ensures verdict { IfOk result (λ a. spec.IsVerdict asked site.now a.is_accepted) }
     ensures err { IfErr result (λ halt. halt ≡ Halt.NoMemory) }
 {
@@ -137,8 +139,8 @@ fn say<F: Files>(
     options: Options,
     asked: Asked,
 ) -> Result<Answer, Halt>
-    ensures words { asked ≡ any_asked.Check → options.json ≡ false →
-        IfOk result (λ a. spec.BeginsInWords options site.now a.text.items a.is_accepted) }
+    ensures words { options.json ≡ false →
+        IfOk result (λ a. spec.SaysWith asked options site.now a.text.items a.is_accepted) }
     ensures verdict { IfOk result (λ a. spec.IsVerdict asked site.now a.is_accepted) }
     ensures err { IfErr result (λ halt. halt ≡ Halt.NoMemory) }
 {
@@ -159,7 +161,7 @@ fn answer_of<F: Files>(
 ) -> Result<Answer, Halt>
     ensures ok { IfOk result (λ a. (text : List ℕ) → F.bytes_of files.now names.entry.site.now ≡ Some text →
         (site : AnySite) × IsSiteOf (F.bytes_of files.now) text site × spec.IsVerdict asked site a.is_accepted ×
-        (asked ≡ any_asked.Check → options.json ≡ false → spec.BeginsInWords options site a.text.items a.is_accepted)) }
+        (options.json ≡ false → spec.SaysWith asked options site a.text.items a.is_accepted)) }
     ensures err { IfErr result (λ halt. (text : List ℕ) → F.bytes_of files.now names.entry.site.now ≡ Some text →
         IsNoSite (F.bytes_of files.now) text halt) }
     ensures unread { IfErr result (λ halt. (text : List ℕ) → F.bytes_of files.now names.entry.site.now ≡ Some text →
@@ -190,15 +192,17 @@ pub fn ask_in_words<F: Files, W: Sink, E: Sink>(
 ) -> u8
     ensures ends { (text : List ℕ) → F.bytes_of files.now site.now ≡ Some text →
         MayEnd (spec.AskedIs asked (F.bytes_of files.now) text) result }
-    ensures says { asked ≡ any_asked.Check → options.json ≡ false → (text : List ℕ) →
-        F.bytes_of files.now site.now ≡ Some text →
-        spec.CheckedInWordsIs options (F.bytes_of files.now) text result out.old out.new }
+    ensures says { options.json ≡ false → (text : List ℕ) → F.bytes_of files.now site.now ≡ Some text →
+        spec.AskedInWordsIs asked options (F.bytes_of files.now) text result out.old out.new }
+    ensures check_safe { (text : List ℕ) → F.bytes_of files.now site.now ≡ Some text → asked ≡ any_asked.Check →
+        result ≡ 0 → DescribesKept (F.bytes_of files.now) text }
     ensures fails { (text : List ℕ) → F.bytes_of files.now site.now ≡ Some text →
         FailsBy (Any (F.may_fail files.now) (site.now ∷ file_names text)) result out.old out.new }
     ensures status { result ≤ 4 }
     ensures none_failed { result ≢ 4 → out.new.output.faults ≡ out.old.output.faults }
     ensures quiet { result ≡ 0 → Keeps out.old.errors.contents out.new.errors.contents }
 {
+    one_site();
     let names = ReadNames { site, second: None };
     let answer = answer_of(alloc, files, names, options, asked);
     print_with_options(alloc, files, word_of(asked), names, options, answer, out)

@@ -1,14 +1,15 @@
 //! The commands with options: what stands anywhere among the words.
-ghost use Rattle.std.specs.Prelude.{◌≡◌, ◌≢◌, ◌≤◌, ◌∷◌, ℕ, List, IfNone, IfSome, codes, map, string_bytes};
+ghost use Rattle.std.specs.Prelude.{◌≡◌, ◌≢◌, ◌≤◌, ◌∷◌, ℕ, List, IfNone, IfSome, Option, Some, codes, map, string_bytes, true};
 ghost use Rattle.std.specs.Io.KnownBytes.{Keeps};
-ghost use Rattle.syc.specs.Optioned.{EndsAs, FailsAs, SaysAs};
+ghost use Rattle.syc.specs.Graphs.{GraphIs};
+ghost use Rattle.syc.specs.Optioned.{EndsAs, FailsAs, KeepsAs, SaysAs};
 ghost use Rattle.syc.specs.Outcomes.{Shows};
 ghost use Rattle.syc.specs.Replays.{PiecesMayFail};
 ghost use Rattle.syc.specs.Words as spec;
-ghost use Rattle.syc.specs.Words.{AreNoFurtherOf, AreOptioned, OverSite as AnyOver};
+ghost use Rattle.syc.specs.Words.{AreGraphWords, AreNoFurtherOf, AreOptioned, OverSite as AnyOver};
 ghost use Rattle.syc.specs.declared.further.Further.TheVariants as further;
 ghost use Rattle.syc.specs.declared.options.Options.{Options as AnyOptions};
-ghost use Rattle.syc.specs.internal.Commands.{FurtherEnds, FurtherFails, FurtherSays, IsFurther, IsGiven, IsNamed, IsNotOptioned, IsOptioned, over};
+ghost use Rattle.syc.specs.internal.Commands.{AreNoGraph, FurtherDraws, FurtherEnds, FurtherFails, FurtherKeeps, FurtherSays, IsFurther, IsGiven, IsNamed, IsNotOptioned, IsOptioned, over};
 
 use crate::ask_in_words::ask_in_words;
 use crate::command::{Asked, SiteCommand, is_plain, is_word, site_command};
@@ -85,7 +86,9 @@ fn optioned<'a>(given: &GivenWords<'a>) -> Option<Further<'a>>
 
 // A graph of a class, where both names are no options.
 fn of_class<'a>(site: &'a str, class: &'a str) -> Option<Further<'a>>
-    ensures { IfSome result (λ found. found ≡ further.GraphOfClass site.entry class.entry) }
+    ensures some { IfSome result (λ found. (found ≡ further.GraphOfClass site.entry class.entry)
+        × (spec.is_plain site.now ≡ true) × (spec.is_plain class.now ≡ true)) }
+    ensures none { IfNone result (spec.is_plain site.now ≡ true → spec.is_plain class.now ≡ true → ⊥) }
 {
     if is_plain(site) && is_plain(class) {
         Some(Further::GraphOfClass(site, class))
@@ -96,7 +99,8 @@ fn of_class<'a>(site: &'a str, class: &'a str) -> Option<Further<'a>>
 
 // What stands behind `graph`: the name of the site file, and a class before or behind it.
 fn drawn<'a>(words: &[&'a str]) -> Option<Further<'a>>
-    ensures { IfSome result (IsFurther (codes "graph" ∷ map (λ s. s.now) words.now)) }
+    ensures some { IfSome result (IsFurther (codes "graph" ∷ map (λ s. s.now) words.now)) }
+    ensures none { IfNone result (AreNoGraph (codes "graph" ∷ map (λ s. s.now) words.now)) }
 {
     match words {
         [site] => {
@@ -121,7 +125,8 @@ fn drawn<'a>(words: &[&'a str]) -> Option<Further<'a>>
 
 // The graph that the words want, the program's name being the first of them.
 fn graphed<'a>(words: &[&'a str]) -> Option<Further<'a>>
-    ensures { IfSome result (IsNamed (map (λ s. s.now) words.now)) }
+    ensures some { IfSome result (IsNamed (map (λ s. s.now) words.now)) }
+    ensures none { IfNone result ((args : List (List ℕ)) → map (λ s. s.now) words.now ≡ codes "syc" ∷ args → AreNoGraph args) }
 {
     match words {
         [program, command, rest @ ..] => {
@@ -138,8 +143,7 @@ fn graphed<'a>(words: &[&'a str]) -> Option<Further<'a>>
 // What the words want, where they have options.
 fn wanted_of<'a>(given: &GivenWords<'a>) -> Option<Further<'a>>
     ensures some { IfSome result (λ found. (words : List (List ℕ)) → IsGiven words given.now → IsFurther words found) }
-    ensures none { IfNone result ((words : List (List ℕ)) → IsGiven words given.now →
-        (options : AnyOptions) (command : AnyOver) → AreOptioned words options command → ⊥) }
+    ensures none { IfNone result ((words : List (List ℕ)) → IsGiven words given.now → AreNoFurtherOf words) }
 {
     match optioned(given) {
         Some(found) => Some(found),
@@ -157,6 +161,7 @@ fn with_options<W: Sink, E: Sink, F: Files>(
 ) -> u8
     ensures ends { EndsAs (F.bytes_of files.now) (over command.entry) result }
     ensures says { SaysAs (F.bytes_of files.now) options (over command.entry) result out.old out.new }
+    ensures keeps { KeepsAs (F.bytes_of files.now) (over command.entry) result }
     ensures fails { FailsAs (F.bytes_of files.now) (F.may_fail files.now) (PiecesMayFail F.Opened.faults)
         (over command.entry) result out.old out.new }
     ensures status { result ≤ 4 }
@@ -183,6 +188,8 @@ fn run_further<W: Sink, E: Sink, F: Files>(
 ) -> u8
     ensures ends { FurtherEnds (F.bytes_of files.now) wanted.entry result }
     ensures says { FurtherSays (F.bytes_of files.now) wanted.entry result out.old out.new }
+    ensures keeps { FurtherKeeps (F.bytes_of files.now) wanted.entry result }
+    ensures draws { FurtherDraws (F.bytes_of files.now) wanted.entry result out.old out.new }
     ensures fails { FurtherFails (F.bytes_of files.now) (F.may_fail files.now) (PiecesMayFail F.Opened.faults)
         wanted.entry result out.old out.new }
     ensures status { result ≤ 4 }
@@ -211,6 +218,10 @@ pub fn others<W: Sink, E: Sink, F: Files>(
         EndsAs (F.bytes_of files.now) command result }
     ensures says { (options : AnyOptions) (command : AnyOver) → AreOptioned (map string_bytes args.now) options command →
         SaysAs (F.bytes_of files.now) options command result out.old out.new }
+    ensures keeps { (options : AnyOptions) (command : AnyOver) → AreOptioned (map string_bytes args.now) options command →
+        KeepsAs (F.bytes_of files.now) command result }
+    ensures draws { (class : Option (List ℕ)) (site text : List ℕ) → AreGraphWords class (map string_bytes args.now) site →
+        F.bytes_of files.now site ≡ Some text → GraphIs class (F.bytes_of files.now) text result out.old out.new }
     ensures fails { (options : AnyOptions) (command : AnyOver) → AreOptioned (map string_bytes args.now) options command →
         FailsAs (F.bytes_of files.now) (F.may_fail files.now) (PiecesMayFail F.Opened.faults) command result out.old out.new }
     ensures other { AreNoFurtherOf (map string_bytes args.now) → Shows result out.old out.new }

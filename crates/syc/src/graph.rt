@@ -1,10 +1,18 @@
 //! A site drawn, as a text that Graphviz reads.
-ghost use Rattle.std.specs.Prelude.{◌≡◌, ◌≢◌, ◌≤◌};
+ghost use Rattle.std.specs.Prelude.{◌≡◌, ◌≢◌, ◌≤◌, ◌⊎◌, ℕ, List, Some, IfErr, IfOk, codes, option_map, true};
 ghost use Rattle.std.specs.Io.KnownBytes.{Keeps};
+ghost use Rattle.sy_site.specs.Sites.{Site as AnySite};
+ghost use Rattle.syc.specs.Graphs.{GraphIs};
+ghost use Rattle.syc.specs.Outcomes.{AnswersOf};
+ghost use Rattle.syc.specs.Reports.{Tells, said};
+ghost use Rattle.syc.specs.SiteFiles.{IsSiteOf};
+ghost use Rattle.syc.specs.internal.Halts.{IsNoSite};
 
 use crate::answer::{Answer, print};
+use crate::executed::protected_classes;
 use crate::files::Files;
 use crate::graph_arrow::put_outside;
+use crate::graph_class::{class_named, one_of};
 use crate::graph_node::{Drawing, mark_of};
 use crate::graph_reach::reach_of;
 use crate::graph_relay::put_relay;
@@ -21,51 +29,6 @@ use sy_checker::check_site;
 use sy_checker::finding::{Finding, Kind, Refusal};
 use sy_site::Site;
 use sy_wire::{Class, Sink};
-
-/// How many classes there are.
-const CLASSES: u8 = 192;
-
-// ---- classes
-
-// The name of a class.
-fn name_of(alloc: Global, class: Class) -> Result<Vec<u8>, AllocError> {
-    let mut words = Words::new(alloc);
-    words.put(&[Part::Class(class)]);
-    words.finish()
-}
-
-// The class of this name.
-fn class_named(alloc: Global, name: &str) -> Result<Option<Class>, AllocError> {
-    for number in 0..CLASSES {
-        let class = Class::of_number(number);
-        let known = name_of(alloc, class)?;
-        if known.as_slice() == name.as_bytes() {
-            return Ok(Some(class));
-        }
-    }
-    Ok(None)
-}
-
-// The protected classes of a site.
-fn protected(alloc: Global, site: &Site) -> Result<Vec<Class>, AllocError> {
-    let mut classes = Vec::new(alloc);
-    for number in 0..CLASSES {
-        let class = Class::of_number(number);
-        if site.protections().iter().any(|p| p.selector.matches(class)) {
-            classes.push(class)?;
-        }
-    }
-    Ok(classes)
-}
-
-// A class by itself, where there is one.
-fn one_of(alloc: Global, class: Option<Class>) -> Result<Vec<Class>, AllocError> {
-    let mut classes = Vec::new(alloc);
-    if let Some(class) = class {
-        classes.push(class)?;
-    }
-    Ok(classes)
-}
 
 // ---- the title
 
@@ -145,7 +108,7 @@ fn put_all(words: &mut Words, drawing: Drawing<'_>) -> Result<(), AllocError> {
 
 fn draw(alloc: Global, site: &Site, class: Option<Class>) -> Result<Vec<u8>, AllocError> {
     let found = found(alloc, site)?;
-    let protected = protected(alloc, site)?;
+    let protected = protected_classes(alloc, site)?;
     let one = one_of(alloc, class)?;
     let classes = match class {
         Some(_) => one.as_slice(),
@@ -170,12 +133,18 @@ fn draw(alloc: Global, site: &Site, class: Option<Class>) -> Result<Vec<u8>, All
     words.finish()
 }
 
+// A drawing of the site that the file of this name describes.
 fn drawing_of<F: Files>(
     alloc: Global,
     files: &F,
     name: &str,
     class: Option<Class>,
-) -> Result<Answer, Halt> {
+) -> Result<Answer, Halt>
+    ensures ok { IfOk result (λ a. (text : List ℕ) → F.bytes_of files.now name.now ≡ Some text →
+        (site : AnySite) × IsSiteOf (F.bytes_of files.now) text site × (a.is_accepted ≡ true)) }
+    ensures err { IfErr result (λ halt. (text : List ℕ) → F.bytes_of files.now name.now ≡ Some text →
+        IsNoSite (F.bytes_of files.now) text halt) }
+{
     let site = read_site(alloc, files, name)?;
     match draw(alloc, &site, class) {
         Ok(text) => Ok(Answer {
@@ -186,19 +155,45 @@ fn drawing_of<F: Files>(
     }
 }
 
-// Tells that a word is no class, and answers the exit status.
-fn no_class<E: Sink>(errors: &mut E, word: &str) -> u8
-    ensures { result ≡ 2 }
+// Prints a drawing, and answers the exit status.
+fn print_drawing<F: Files, W: Sink, E: Sink>(
+    alloc: Global,
+    files: &F,
+    site: &str,
+    class: Option<Class>,
+    out: &mut Outputs<W, E>,
+) -> u8
+    ensures draws { (text : List ℕ) → F.bytes_of files.now site.now ≡ Some text →
+        AnswersOf (λ site text is_accepted. is_accepted ≡ true) (F.bytes_of files.now) text result out.old out.new }
+    ensures status { result ≤ 4 }
+    ensures none_failed { result ≢ 4 → out.new.output.faults ≡ out.old.output.faults }
+    ensures quiet { result ≡ 0 → Keeps out.old.errors.contents out.new.errors.contents }
 {
-    tell_texts(
-        errors,
-        &[
-            b"syc: no class ",
-            word.as_bytes(),
-            b": a class is FACILITY.SEVERITY, as auth.crit\n",
-        ],
-    );
-    2
+    print(drawing_of(alloc, files, site, class), out)
+}
+
+// The line that says that a word is no class.
+fn line_of(alloc: Global, word: &str) -> Result<Vec<u8>, AllocError> {
+    let mut line = Words::new(alloc);
+    line.say("syc: no class ");
+    line.put_in_line(word.as_bytes());
+    line.say(": a class is FACILITY.SEVERITY, as auth.crit\n");
+    line.finish()
+}
+
+// Tells that a word is no class, and answers the exit status.
+fn no_class<W: Sink, E: Sink>(alloc: Global, out: &mut Outputs<W, E>, word: &str) -> u8
+    ensures told { ((result ≡ 2) × (line : List ℕ) × Tells out.old out.new line)
+        ⊎ ((result ≡ 3) × Tells out.old out.new (said (codes "no memory"))) }
+    ensures same { out.new.output ≡ out.old.output }
+{
+    match line_of(alloc, word) {
+        Ok(line) => {
+            tell_texts(&mut out.errors, &[line.as_slice()]);
+            2
+        }
+        Err(_) => out_of_memory(&mut out.errors),
+    }
 }
 
 /// Prints a site as a graph for Graphviz: of all its protected classes, or of one class. It answers the exit status: 0
@@ -211,16 +206,18 @@ pub fn graph<F: Files, W: Sink, E: Sink>(
     class: Option<&str>,
     out: &mut Outputs<W, E>,
 ) -> u8
+    ensures draws { (text : List ℕ) → F.bytes_of files.now site.now ≡ Some text →
+        GraphIs (option_map (λ word. word.now) class.entry) (F.bytes_of files.now) text result out.old out.new }
     ensures status { result ≤ 4 }
     ensures none_failed { result ≢ 4 → out.new.output.faults ≡ out.old.output.faults }
     ensures quiet { result ≡ 0 → Keeps out.old.errors.contents out.new.errors.contents }
 {
     let Some(word) = class else {
-        return print(drawing_of(alloc, files, site, None), out);
+        return print_drawing(alloc, files, site, None, out);
     };
     match class_named(alloc, word) {
-        Ok(Some(class)) => print(drawing_of(alloc, files, site, Some(class)), out),
-        Ok(None) => no_class(&mut out.errors, word),
+        Ok(Some(class)) => print_drawing(alloc, files, site, Some(class), out),
+        Ok(None) => no_class(alloc, out, word),
         Err(_) => out_of_memory(&mut out.errors),
     }
 }

@@ -55,6 +55,7 @@ mod further;
 mod gathered;
 mod graph;
 mod graph_arrow;
+mod graph_class;
 mod graph_node;
 mod graph_reach;
 mod graph_relay;

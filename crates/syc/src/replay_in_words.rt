@@ -1,12 +1,14 @@
 //! A replay with options.
-ghost use Rattle.std.specs.Prelude.{◌≡◌, ◌≢◌, ◌≤◌, ◌∷◌, ◌⊎◌, ℕ, List, Some, IfErr, OnOk, true};
+ghost use Rattle.std.specs.Prelude.{◌≡◌, ◌≢◌, ◌≤◌, ◌∷◌, ◌⊎◌, ℕ, List, Some, IfErr, OnOk, false, true};
 ghost use Rattle.std.specs.Io.KnownBytes.{Keeps};
 ghost use Rattle.std.specs.List.{Any};
 ghost use Rattle.sy_wire.specs.Streams.{Rose};
 ghost use Rattle.sy_site.specs.texts.Files.{file_names};
+ghost use Rattle.syc.specs.HaltTexts.{halt_report};
 ghost use Rattle.syc.specs.Outcomes.{FailsBy, MayEnd};
-ghost use Rattle.syc.specs.Replays.{PiecesMayFail, ReplayIs};
-ghost use Rattle.syc.specs.internal.Halts.{IsCause, status_at};
+ghost use Rattle.syc.specs.Replays.{PiecesMayFail, ReplayInWordsIs, ReplayIs};
+ghost use Rattle.syc.specs.Reports.{TellsFirst, seen};
+ghost use Rattle.syc.specs.internal.Halts.{HandedOn, IsCause, Replayed, status_at};
 ghost use Rattle.syc.specs.internal.Optioned.{HaltEnds, in_memory as halt_in_memory};
 
 use crate::answer::{Answer, print, stop};
@@ -48,10 +50,13 @@ fn replay_on<F: Files, W: Sink>(
 ) -> Result<(), Halt>
     ensures done { OnOk result ((text events : List ℕ)
         → F.bytes_of files.now site_name.now ≡ Some text → F.bytes_of files.now events_name.now ≡ Some events
-        → MayEnd (ReplayIs (F.bytes_of files.now) text events) 0) }
+        → Replayed (F.bytes_of files.now) text events
+        (W.contents writer.old) (W.faults writer.old) (W.contents writer.new) (W.faults writer.new)) }
+    ensures flushed { OnOk result (W.is_flushed writer.new ≡ true) }
     ensures halted { IfErr result (λ why. (text events : List ℕ)
         → F.bytes_of files.now site_name.now ≡ Some text → F.bytes_of files.now events_name.now ≡ Some events
-        → MayEnd (ReplayIs (F.bytes_of files.now) text events) (status_at why)) }
+        → HandedOn (F.bytes_of files.now) text events why
+        (seen W.contents W.is_flushed W.faults writer.old) (seen W.contents W.is_flushed W.faults writer.new)) }
     ensures same { OnOk result (W.faults writer.new ≡ W.faults writer.old) }
     ensures cause { IfErr result (λ why. IsCause why (W.faults writer.old) (W.faults writer.new)) }
     ensures unread { IfErr result (λ why. why ≡ Halt.ReadFailed → (text events : List ℕ)
@@ -64,6 +69,23 @@ fn replay_on<F: Files, W: Sink>(
     }
 }
 
+// Tells why a replay stopped, with words for people behind that, and answers the exit status.
+fn tell_halt<F: Files, W: Sink, E: Sink>(
+    alloc: Global,
+    files: &F,
+    options: Options,
+    names: ReadNames<'_>,
+    halt: &Halt,
+    out: &mut Outputs<W, E>,
+) -> u8
+    ensures status { result ≡ status_at halt.now }
+    ensures told { TellsFirst out.old out.new (halt_report halt.now) }
+    ensures same { out.new.output ≡ out.old.output }
+    ensures failed { result ≢ 0 }
+{
+    stop_in_words(alloc, files, names, options, halt, &mut out.errors)
+}
+
 // Replays, with words for people behind a fault.
 fn replay_told<F: Files, W: Sink, E: Sink>(
     alloc: Global,
@@ -73,9 +95,9 @@ fn replay_told<F: Files, W: Sink, E: Sink>(
     events_name: &str,
     out: &mut Outputs<W, E>,
 ) -> u8
-    ensures ends { (text events : List ℕ)
+    ensures says { (text events : List ℕ)
         → F.bytes_of files.now site_name.now ≡ Some text → F.bytes_of files.now events_name.now ≡ Some events
-        → MayEnd (ReplayIs (F.bytes_of files.now) text events) result }
+        → ReplayInWordsIs (F.bytes_of files.now) text events result out.old out.new }
     ensures fails { (text events : List ℕ)
         → F.bytes_of files.now site_name.now ≡ Some text → F.bytes_of files.now events_name.now ≡ Some events
         → FailsBy (Any (F.may_fail files.now) (site_name.now ∷ events_name.now ∷ file_names text) ⊎ PiecesMayFail F.Opened.faults events)
@@ -91,7 +113,7 @@ fn replay_told<F: Files, W: Sink, E: Sink>(
                 site: site_name,
                 second: Some(events_name),
             };
-            stop_in_words(alloc, files, names, options, &halt, &mut out.errors)
+            tell_halt(alloc, files, options, names, &halt, out)
         }
     }
 }
@@ -179,6 +201,9 @@ pub fn replay_in_words<F: Files, W: Sink, E: Sink>(
     ensures ends { (text events : List ℕ)
         → F.bytes_of files.now site_name.now ≡ Some text → F.bytes_of files.now events_name.now ≡ Some events
         → MayEnd (ReplayIs (F.bytes_of files.now) text events) result }
+    ensures says { options.json ≡ false → (text events : List ℕ)
+        → F.bytes_of files.now site_name.now ≡ Some text → F.bytes_of files.now events_name.now ≡ Some events
+        → ReplayInWordsIs (F.bytes_of files.now) text events result out.old out.new }
     ensures fails { (text events : List ℕ)
         → F.bytes_of files.now site_name.now ≡ Some text → F.bytes_of files.now events_name.now ≡ Some events
         → FailsBy (Any (F.may_fail files.now) (site_name.now ∷ events_name.now ∷ file_names text) ⊎ PiecesMayFail F.Opened.faults events)

@@ -1,15 +1,16 @@
 //! The commands.
-ghost use Rattle.std.specs.Prelude.{◌≡◌, ◌≢◌, ◌≤◌, ◌+◌, ◌∷◌, ◌⊎◌, ℕ, List, Some, map, string_bytes};
+ghost use Rattle.std.specs.Prelude.{◌≡◌, ◌≢◌, ◌≤◌, ◌+◌, ◌∷◌, ◌⊎◌, ℕ, List, Option, Some, map, string_bytes};
 ghost use Rattle.std.specs.Io.KnownBytes.{Keeps};
 ghost use Rattle.std.specs.List.{Any};
 ghost use Rattle.sy_site.specs.texts.Files.{file_names};
 ghost use Rattle.syc.specs.Checks.{AskedIs};
-ghost use Rattle.syc.specs.Optioned.{EndsAs, FailsAs, SaysAs};
+ghost use Rattle.syc.specs.Graphs.{GraphIs};
+ghost use Rattle.syc.specs.Optioned.{EndsAs, FailsAs, KeepsAs, SaysAs};
 ghost use Rattle.syc.specs.Outcomes.{FailsBy, Shows};
 ghost use Rattle.syc.specs.Pass.{Leaves, NoneFailed, PassIs, counted};
 ghost use Rattle.syc.specs.Replays.{PiecesMayFail, ReplayIs};
 ghost use Rattle.syc.specs.Verdicts.{DescribesKept, VerifyIs};
-ghost use Rattle.syc.specs.Words.{AreAskingOf, AreNoCommandOf, AreOptioned, ArePassAlone, AreReplayOf, AreVerifyOf, OverSite as AnyOver};
+ghost use Rattle.syc.specs.Words.{AreAskingOf, AreGraphWords, AreNoCommandOf, AreOptioned, ArePassAlone, AreReplayOf, AreVerifyOf, OverSite as AnyOver};
 ghost use Rattle.syc.specs.declared.command.Asked.{Asked as AnyAsked};
 ghost use Rattle.syc.specs.declared.command.Asked.TheVariants as asked;
 ghost use Rattle.syc.specs.declared.options.Options.{Options as AnyOptions};
@@ -87,8 +88,12 @@ pub fn run<R: Source, W: Sink, E: Sink, F: Files>(
         EndsAs (F.bytes_of files.now) command result }
     ensures options_say { (options : AnyOptions) (command : AnyOver) → AreOptioned (map string_bytes args.now) options command →
         SaysAs (F.bytes_of files.now) options command result out.old out.new }
+    ensures options_safe { (options : AnyOptions) (command : AnyOver) → AreOptioned (map string_bytes args.now) options command →
+        KeepsAs (F.bytes_of files.now) command result }
     ensures options_fail { (options : AnyOptions) (command : AnyOver) → AreOptioned (map string_bytes args.now) options command →
         FailsAs (F.bytes_of files.now) (F.may_fail files.now) (PiecesMayFail F.Opened.faults) command result out.old out.new }
+    ensures graph { (class : Option (List ℕ)) (site text : List ℕ) → AreGraphWords class (map string_bytes args.now) site →
+        F.bytes_of files.now site ≡ Some text → GraphIs class (F.bytes_of files.now) text result out.old out.new }
     ensures other { AreNoCommandOf (map string_bytes args.now) → Shows result out.old out.new }
     ensures status { result ≤ 4 }
     ensures quiet { result ≡ 0 → Keeps out.old.errors.contents out.new.errors.contents }

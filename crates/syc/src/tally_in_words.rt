@@ -1,4 +1,6 @@
 //! All that is found in a site, as a text with words on each finding.
+ghost use Rattle.std.specs.Prelude.{IfOk, OnOk};
+ghost use Rattle.syc.specs.Checks as spec;
 
 use crate::files::Files;
 use crate::group_notes::group_words;
@@ -15,10 +17,13 @@ fn put_in_words<F: Files>(
     name: &str,
     site: &Site,
     group: &Group,
-) -> Result<(), AllocError> {
+) -> Result<(), AllocError>
+    ensures { OnOk result (spec.PutsLineInWords site.now group.now text.old.items text.new.items) }
+{
     let words = group_words(alloc, files, name, site, group)?;
     put_group(alloc, text, site, group)?;
-    text.extend_from_slice(words.as_slice())
+    text.extend_from_slice(words.as_slice())?;
+    Ok(())
 }
 
 // A line for each group, with words behind it.
@@ -28,7 +33,9 @@ fn lines_of<F: Files>(
     name: &str,
     site: &Site,
     groups: &[Group],
-) -> Result<Vec<u8>, AllocError> {
+) -> Result<Vec<u8>, AllocError>
+    ensures { IfOk result (λ text. spec.AreLinesInWords site.now groups.now text.items) }
+{
     let mut text = Vec::new(alloc);
     for group in groups {
         put_in_words(alloc, &mut text, files, name, site, group)?;
@@ -43,7 +50,9 @@ pub fn tally_in_words<F: Files>(
     name: &str,
     site: &Site,
     groups: &[Group],
-) -> Result<Vec<u8>, AllocError> {
+) -> Result<Vec<u8>, AllocError>
+    ensures { IfOk result (λ text. spec.IsTallyInWords site.now groups.now text.items) }
+{
     let mut text = head_of(alloc, groups)?;
     let lines = lines_of(alloc, files, name, site, groups)?;
     text.extend_from_slice(lines.as_slice())?;

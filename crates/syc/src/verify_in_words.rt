@@ -1,5 +1,5 @@
 //! Verifying with options.
-ghost use Rattle.std.specs.Prelude.{◌≡◌, ◌≢◌, ◌≤◌, ◌∷◌, ℕ, List, Some, IfErr, IfOk};
+ghost use Rattle.std.specs.Prelude.{◌≡◌, ◌≢◌, ◌≤◌, ◌∷◌, ℕ, List, Some, IfErr, IfOk, false, true};
 ghost use Rattle.std.specs.Io.KnownBytes.{Keeps};
 ghost use Rattle.std.specs.List.{Any};
 ghost use Rattle.sy_site.specs.texts.Files.{file_names};
@@ -21,6 +21,7 @@ use crate::with_options::print_with_options;
 use std::alloc::Global;
 use sy_cert::Certificate;
 use sy_site::Site;
+use sy_site::laws::one_site;
 use sy_wire::Sink;
 
 // The verdict on a certificate for a site, as a text or a document.
@@ -33,6 +34,8 @@ fn say<F: Files>(
     certificate: &Certificate,
 ) -> Result<Answer, Halt>
     ensures ok { IfOk result (λ a. (bare : List ℕ) × spec.SaysOf site.now certificate.now bare a.is_accepted) }
+    ensures words { options.json ≡ false →
+        IfOk result (λ a. spec.SaysOf site.now certificate.now a.text.items a.is_accepted) }
     ensures err { IfErr result (λ why. why ≡ Halt.NoMemory) }
 {
     if options.json {
@@ -53,12 +56,18 @@ fn answer_of<F: Files>(
     ensures ok { IfOk result (λ a. (site text : List ℕ) → F.bytes_of files.now names.entry.site.now ≡ Some site →
         F.bytes_of files.now certificate_name.now ≡ Some text →
         (bare : List ℕ) × spec.SaysOfFiles (F.bytes_of files.now) site text bare a.is_accepted) }
+    ensures words { options.json ≡ false → IfOk result (λ a. (site text : List ℕ) →
+        F.bytes_of files.now names.entry.site.now ≡ Some site → F.bytes_of files.now certificate_name.now ≡ Some text →
+        spec.SaysOfFiles (F.bytes_of files.now) site text a.text.items a.is_accepted) }
     ensures err { IfErr result (λ why. (site text : List ℕ) → F.bytes_of files.now names.entry.site.now ≡ Some site →
         F.bytes_of files.now certificate_name.now ≡ Some text →
         internal.HasNoVerdict (F.bytes_of files.now) site text why) }
     ensures unread { IfErr result (λ why. (text : List ℕ) → F.bytes_of files.now names.entry.site.now ≡ Some text →
         IsUnread (F.may_fail files.now) (names.entry.site.now ∷ certificate_name.now ∷ file_names text) why) }
+    ensures kept { IfOk result (λ a. (text : List ℕ) → F.bytes_of files.now names.entry.site.now ≡ Some text →
+        a.is_accepted ≡ true → spec.DescribesKept (F.bytes_of files.now) text) }
 {
+    one_site();
     let site = read_site(alloc, files, names.site)?;
     let certificate = read_certificate(alloc, files, certificate_name)?;
     let answer = say(alloc, files, names, options, &site, &certificate)?;
@@ -78,6 +87,11 @@ pub fn verify_in_words<F: Files, W: Sink, E: Sink>(
     ensures ends { (site text : List ℕ) → F.bytes_of files.now site_name.now ≡ Some site →
         F.bytes_of files.now certificate_name.now ≡ Some text →
         MayEnd (spec.VerifyIs (F.bytes_of files.now) site text) result }
+    ensures says { options.json ≡ false → (site text : List ℕ) → F.bytes_of files.now site_name.now ≡ Some site →
+        F.bytes_of files.now certificate_name.now ≡ Some text →
+        spec.VerifyInWordsIs (F.bytes_of files.now) site text result out.old out.new }
+    ensures verify_safe { (text : List ℕ) → F.bytes_of files.now site_name.now ≡ Some text → result ≡ 0 →
+        spec.DescribesKept (F.bytes_of files.now) text }
     ensures fails { (text : List ℕ) → F.bytes_of files.now site_name.now ≡ Some text →
         FailsBy (Any (F.may_fail files.now) (site_name.now ∷ certificate_name.now ∷ file_names text)) result out.old out.new }
     ensures status { result ≤ 4 }

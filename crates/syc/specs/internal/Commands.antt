@@ -3,7 +3,8 @@ use Rattle.std.specs.Prelude.{◌≡◌, ℕ, true, ◌⊎◌, List, ◌∷◌, 
 use Rattle.std.specs.List.{Any}
 use Rattle.sy_site.specs.texts.Files.{file_names}
 use Rattle.syc.specs.Checks.{AskedIs}
-use Rattle.syc.specs.Optioned.{EndsAs, FailsAs, SaysAs}
+use Rattle.syc.specs.Optioned.{EndsAs, FailsAs, KeepsAs, SaysAs}
+use Rattle.syc.specs.Graphs.{GraphIs}
 use Rattle.syc.specs.Outcomes.{FailsBy}
 use Rattle.syc.specs.Reports.{Streams}
 use Rattle.syc.specs.Replays.{ReplayIs}
@@ -102,6 +103,10 @@ IsFurther words (further.WithOptions options command) = AreOptioned words option
 IsFurther words (further.Graph site) = AreGraphWords None words site.now
 IsFurther words (further.GraphOfClass site class) = AreGraphWords (Some class.now) words site.now
 
+-- no words of a drawing
+abbrev pub AreNoGraph : List (List ℕ) → Type 0
+AreNoGraph words = (class : Option (List ℕ)) (site : List ℕ) → AreGraphWords class words site → ⊥
+
 -- the same with the program's name before them
 pub record IsNamed (words : List (List ℕ)) (found : Further) : Type 0 where
   pub args : List (List ℕ)
@@ -138,6 +143,17 @@ FurtherFails bytes_of MayFail PiecesFail (further.WithOptions options command) s
     FailsAs bytes_of MayFail PiecesFail (over command) status old new
 FurtherFails bytes_of MayFail PiecesFail _ status old new = Unit {0}
 
+abbrev pub FurtherKeeps : (List ℕ → Option (List ℕ)) → Further → ℕ → Type 0
+FurtherKeeps bytes_of (further.WithOptions options command) status = KeepsAs bytes_of (over command) status
+FurtherKeeps bytes_of _ status = Unit {0}
+
 abbrev pub FurtherSays : (List ℕ → Option (List ℕ)) → Further → ℕ → Streams → Streams → Type 0
 FurtherSays bytes_of (further.WithOptions options command) status old new = SaysAs bytes_of options (over command) status old new
 FurtherSays bytes_of _ status old new = Unit {0}
+
+-- what a drawing answers
+abbrev pub FurtherDraws : (List ℕ → Option (List ℕ)) → Further → ℕ → Streams → Streams → Type 0
+FurtherDraws bytes_of (further.Graph site) status old new = (text : List ℕ) → bytes_of site.now ≡ Some text → GraphIs None bytes_of text status old new
+FurtherDraws bytes_of (further.GraphOfClass site class) status old new =
+    (text : List ℕ) → bytes_of site.now ≡ Some text → GraphIs (Some class.now) bytes_of text status old new
+FurtherDraws bytes_of _ status old new = Unit {0}

@@ -10,7 +10,7 @@ use Rattle.sy_replay.specs.States.{Contents, state_in}
 use Rattle.sy_replay.specs.declared.event.Illegal.{Illegal}
 use Rattle.sy_replay.specs.declared.event.Illegal.TheVariants as illegal
 use Rattle.syc.specs.Replays.{Ending, Replays, lines_of, loss_line, opened}
-use Rattle.syc.specs.Reports.{Torn, line_feed}
+use Rattle.syc.specs.Reports.{SinkState, Torn, line_feed}
 use Rattle.syc.specs.SiteFiles.{IsSiteFault, IsSiteOf}
 use Rattle.syc.specs.declared.halt.Halt.{Halt}
 use Rattle.syc.specs.declared.halt.Halt.TheVariants as halt
@@ -177,6 +177,14 @@ abbrev pub Halted : (List ℕ → Option (List ℕ)) → (text events : List ℕ
 Halted bytes_of text events why old before new after =
     (IsNoSite bytes_of text why × Keeps old new × (after ≡ before))
     ⊎ ((site : Site) × IsSiteOf bytes_of text site × Stops site (start site (lines_of events) old before) why new after)
+
+-- The replay stopped for this, and what it printed before was handed on; or a write or a flush failed, for which it stopped.
+abbrev pub HandedOn : (List ℕ → Option (List ℕ)) → (text events : List ℕ) → Halt → SinkState → SinkState → Type 0
+HandedOn bytes_of text events why old new =
+    ((mid : Option (List ℕ)) × Halted bytes_of text events why old.contents old.faults mid new.faults
+    × Keeps mid new.contents × (new.is_flushed ≡ true))
+    ⊎ ((why ≡ halt.WriteFailed) × (first : Halt) × (mid : Option (List ℕ)) × (faults : ℕ)
+    × Halted bytes_of text events first old.contents old.faults mid faults × Keeps mid new.contents × Rose old.faults new.faults)
 
 -- A failed write has its cause, and at any other halt none failed.
 abbrev pub IsCause : Halt → ℕ → ℕ → Type 0

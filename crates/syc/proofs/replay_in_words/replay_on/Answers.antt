@@ -1,18 +1,11 @@
 use Rattle.std.proofs.Common.{ap}
 use Rattle.syc.specs.Reports.{seen}
-use Rattle.syc.proofs.Replayed.{may_finish, may_halt, read_on}
+use Rattle.syc.proofs.Replayed.{handed_on, read_on}
 use Rattle.syc.proofs.replay_in_words.replay_on.Goals as goal
-
-pub returns-in-Ok-clause-done : goal.returns-in-Ok-clause-done
-returns-in-Ok-clause-done g c = λ text events known read.
-    may_finish (g.F.Files.bytes_of c.args.files.now) text events
-    (seen g.W.Sink.contents g.W.Sink.is_flushed g.W.Sink.faults c.args.writer.now)
-    (seen g.W.Sink.contents g.W.Sink.is_flushed g.W.Sink.faults c.replay_files.new.writer)
-    (c.in-Ok.ensures.ok text events known read) c.in-Ok.ensures.flushed
 
 pub returns-in-Err-clause-halted : goal.returns-in-Err-clause-halted
 returns-in-Err-clause-halted g c = λ text events known read.
-    may_halt (g.F.Files.bytes_of c.args.files.now) text events
+    handed_on (g.F.Files.bytes_of c.args.files.now) text events
     (seen g.W.Sink.contents g.W.Sink.is_flushed g.W.Sink.faults c.args.writer.now)
     (seen g.W.Sink.contents g.W.Sink.is_flushed g.W.Sink.faults c.hand_on.new.writer) c.in-Err.halt c.hand_on.result
     (seen g.W.Sink.contents g.W.Sink.is_flushed g.W.Sink.faults c.replay_files.new.writer)

@@ -1,9 +1,9 @@
 use Rattle.std.proofs.Common.{ℕ, refl, subst, sym}
 use Rattle.syc.specs.Optioned.{EndsAs}
-use Rattle.syc.proofs.NoMemory.{memory_ends, memory_says}
+use Rattle.syc.proofs.NoMemory.{memory_draws, memory_ends, memory_keeps, memory_says}
 use Rattle.syc.proofs.Commands.{asked_fails, for_asked, for_checked, for_kept, for_replay, for_verify, none_of_site, none_without_name, pass_alone, pass_asks_nothing, pass_is_apart, pass_no_replay, pass_no_verify, replay_fails, verify_fails, without_name}
 use Rattle.syc.proofs.Statuses.{nothing_passed}
-use Rattle.syc.proofs.Optioned.{calls, pass_has_none, site_has_none}
+use Rattle.syc.proofs.Optioned.{calls, pass_has_none, pass_no_graph, site_has_none, site_no_graph}
 use Rattle.syc.specs.declared.command.Asked.TheVariants as asked
 use Rattle.syc.specs.internal.Commands.{over}
 use Rattle.syc.proofs.run.run.Goals as goal
@@ -19,6 +19,14 @@ returns-in_default-clause-options_end g c = λ options command are.
 pub returns-in_default-clause-options_say : goal.returns-in_default-clause-options_say
 returns-in_default-clause-options_say g c = rw (← c.out.view_is) (λ options command are.
     rw c.out_of_memory.ensures.status (memory_says _ _ _ c.out_of_memory.ensures.reported refl options command))
+
+pub returns-in_default-clause-options_safe : goal.returns-in_default-clause-options_safe
+returns-in_default-clause-options_safe g c = λ options command are.
+    memory_keeps (g.F.Files.bytes_of c.args.files.now) c.out_of_memory.result c.out_of_memory.ensures.status command
+
+pub returns-in_default-clause-graph : goal.returns-in_default-clause-graph
+returns-in_default-clause-graph g c = rw (← c.out.view_is) (λ class site text are known.
+    rw c.out_of_memory.ensures.status (memory_draws _ class text _ _ c.out_of_memory.ensures.reported refl))
 
 -- ---- a pass
 
@@ -82,10 +90,20 @@ returns-in-Ok-Pass-clause-options_say g c =
     let alone = pass_alone _ _ _ _ c.as_slice.ensures.value c.in-Ok.ensures (rw c.in-Ok-Pass.field-0-is at c.in-Ok-Pass.ensures.ok) in
     λ options command are. absurd (pass_has_none _ options command alone are)
 
+pub returns-in-Ok-Pass-clause-options_safe : goal.returns-in-Ok-Pass-clause-options_safe
+returns-in-Ok-Pass-clause-options_safe g c =
+    let alone = pass_alone _ _ _ _ c.as_slice.ensures.value c.in-Ok.ensures (rw c.in-Ok-Pass.field-0-is at c.in-Ok-Pass.ensures.ok) in
+    λ options command are. absurd (pass_has_none _ options command alone are)
+
 pub returns-in-Ok-Pass-clause-options_fail : goal.returns-in-Ok-Pass-clause-options_fail
 returns-in-Ok-Pass-clause-options_fail g c =
     let alone = pass_alone _ _ _ _ c.as_slice.ensures.value c.in-Ok.ensures (rw c.in-Ok-Pass.field-0-is at c.in-Ok-Pass.ensures.ok) in
     λ options command are. absurd (pass_has_none _ options command alone are)
+
+pub returns-in-Ok-Pass-clause-graph : goal.returns-in-Ok-Pass-clause-graph
+returns-in-Ok-Pass-clause-graph g c =
+    let alone = pass_alone _ _ _ _ c.as_slice.ensures.value c.in-Ok.ensures (rw c.in-Ok-Pass.field-0-is at c.in-Ok-Pass.ensures.ok) in
+    λ class site text are known. absurd (pass_no_graph _ alone class site are)
 
 -- ---- a command over a site
 
@@ -157,10 +175,20 @@ returns-in-Ok-OverSite-clause-options_say g c =
     let wanted = without_name _ _ _ _ c.as_slice.ensures.value c.in-Ok.ensures c.in-Ok-OverSite.command (rw c.in-Ok-OverSite.field-0-is at c.in-Ok-OverSite.ensures.ok) in
     λ options command are. absurd (site_has_none _ options (over c.in-Ok-OverSite.command) command (calls _ c.in-Ok-OverSite.command wanted) are)
 
+pub returns-in-Ok-OverSite-clause-options_safe : goal.returns-in-Ok-OverSite-clause-options_safe
+returns-in-Ok-OverSite-clause-options_safe g c =
+    let wanted = without_name _ _ _ _ c.as_slice.ensures.value c.in-Ok.ensures c.in-Ok-OverSite.command (rw c.in-Ok-OverSite.field-0-is at c.in-Ok-OverSite.ensures.ok) in
+    λ options command are. absurd (site_has_none _ options (over c.in-Ok-OverSite.command) command (calls _ c.in-Ok-OverSite.command wanted) are)
+
 pub returns-in-Ok-OverSite-clause-options_fail : goal.returns-in-Ok-OverSite-clause-options_fail
 returns-in-Ok-OverSite-clause-options_fail g c =
     let wanted = without_name _ _ _ _ c.as_slice.ensures.value c.in-Ok.ensures c.in-Ok-OverSite.command (rw c.in-Ok-OverSite.field-0-is at c.in-Ok-OverSite.ensures.ok) in
     λ options command are. absurd (site_has_none _ options (over c.in-Ok-OverSite.command) command (calls _ c.in-Ok-OverSite.command wanted) are)
+
+pub returns-in-Ok-OverSite-clause-graph : goal.returns-in-Ok-OverSite-clause-graph
+returns-in-Ok-OverSite-clause-graph g c =
+    let wanted = without_name _ _ _ _ c.as_slice.ensures.value c.in-Ok.ensures c.in-Ok-OverSite.command (rw c.in-Ok-OverSite.field-0-is at c.in-Ok-OverSite.ensures.ok) in
+    λ class site text are known. absurd (site_no_graph _ (over c.in-Ok-OverSite.command) (calls _ c.in-Ok-OverSite.command wanted) class site are)
 
 -- ---- no command
 

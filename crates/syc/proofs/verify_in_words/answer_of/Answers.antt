@@ -2,6 +2,7 @@ use Rattle.std.proofs.Common.{◌∷◌}
 use Rattle.sy_site.specs.texts.Files.{file_names}
 use Rattle.std.proofs.lemmas.Result.{err_from_is_err_and}
 use Rattle.syc.proofs.Endings.{certificate_unread, site_unread}
+use Rattle.syc.proofs.Told.{kept_site}
 use Rattle.syc.proofs.Unread.{unread_behind, unread_between, unread_first}
 use Rattle.syc.proofs.verify_in_words.answer_of.Goals as goal
 
@@ -16,6 +17,20 @@ returns-clause-ok g c = λ site text is_site is_text. (
     says = c.in_ok-answer.ensures.ok.1;
   },
 )
+
+pub returns-clause-words : goal.returns-clause-words
+returns-clause-words g c = λ words site text is_site is_text. record {
+  site = c.in_ok-site.site;
+  is_site = c.in_ok-site.ensures.ok site is_site;
+  certificate = c.in_ok-certificate.certificate;
+  is_text = rw is_text at c.in_ok-certificate.ensures.ok;
+  says = c.in_ok-answer.ensures.words words;
+}
+
+pub returns-clause-kept : goal.returns-clause-kept
+returns-clause-kept g c = λ text is_site accepts.
+    kept_site c.one_site.ensures (g.F.Files.bytes_of c.args.files.now) text c.in_ok-site.site c.in_ok-certificate.certificate
+    c.in_ok-answer.ensures.ok.0 c.in_ok-answer.answer.is_accepted (c.in_ok-site.ensures.ok text is_site) c.in_ok-answer.ensures.ok.1 accepts
 
 pub returns-in_err-site-clause-err : goal.returns-in_err-site-clause-err
 returns-in_err-site-clause-err g c =
