@@ -18,7 +18,7 @@ TABLE = re.compile(r"^static (\w+): .*?;\n", re.MULTILINE | re.DOTALL)
 # A file of lemmas where another one imports it.
 LEMMAS = re.compile(r"\bRattle\.(\w+\.proofs\.[\w.]*\w)")
 # One in so many edits of a recorded crate is tried again in each run; of those recorded with another kit, one in so many.
-SHARE, SHARE_OF_ANOTHER_KIT = 20, 5
+SHARE, SHARE_OF_ANOTHER_KIT = 50, 5
 # In so many states a crate's record is kept.
 STATES = 2
 
@@ -169,7 +169,7 @@ class Record:
         return not self.has(edit) and self.refused_elsewhere.get(edit.name) == self.sum_of(edit)
 
     def left(self, given):
-        """Of these edits those that aren't recorded, and some of the others: one in twenty, others in each state of the
+        """Of these edits those that aren't recorded, and some of the others: one in fifty, others in each state of the
         crate, and one at least; of those that were recorded with another kit more of them."""
         again = set()
         for has, share in ((self.has, SHARE), (self.has_elsewhere, SHARE_OF_ANOTHER_KIT)):
