@@ -1,7 +1,7 @@
 //! What `--all` says of a fault, behind its first line: the other faults of the site file and of the files of its relays.
 
 use crate::all_of_file::{FileSpot, all_of_file};
-use crate::all_of_site::{SiteHunt, find_lines, find_references, leave_out, word_of};
+use crate::all_of_site::{JudgedFile, SiteHunt, find_lines, find_references, leave_out, word_of};
 use crate::fault_notes::fault_words;
 use crate::faulty_files::put_unread_relay;
 use crate::files::Files;
@@ -9,19 +9,13 @@ use crate::halt::Halt;
 use crate::note::Note;
 use crate::options::ReadNames;
 use crate::places::file_in;
+use crate::site_texts::{RelayText, read_relay_text};
 use crate::source::{text_of, without_return};
 use crate::texts::Part;
 use crate::told_faults::{ToldFault, put_told, without};
 use crate::words::Words;
 use std::alloc::{AllocError, Global};
 use sy_site::{SiteFault, file_names};
-
-/// A relay's file, so far as others may speak of it: its text without what is faulty, or nothing.
-#[derive(Drop)]
-struct JudgedFile {
-    name: String,
-    text: Option<Vec<u8>>,
-}
 
 // The first line of a site file that names a file: its number, and the relay's name.
 fn line_naming<'t>(text: &'t [u8], file: &str) -> Option<(usize, &'t [u8])> {
@@ -51,12 +45,28 @@ fn find_unread<F: Files>(
 }
 
 // Finds the faults of a relay's file, and answers what others may speak of.
+fn find_in_text(
+    alloc: Global,
+    told: &mut Vec<ToldFault>,
+    spot: FileSpot<'_>,
+    read: &RelayText,
+) -> Result<Option<Vec<u8>>, AllocError> {
+    let text = Vec::from_slice(alloc, read.text.as_slice())?;
+    let (found, left) = all_of_file(alloc, spot, text)?;
+    for fault in found {
+        told.push(fault)?;
+    }
+    Ok(left)
+}
+
+// The same where it can be read; else that is found.
 fn find_in_file<F: Files>(
     alloc: Global,
     files: &F,
     hunt: &mut SiteHunt<'_>,
     number: u64,
     name: &str,
+    read: Option<&RelayText>,
 ) -> Result<Option<Vec<u8>>, AllocError> {
     let Some((line, relay)) = line_naming(hunt.draft.text(), name) else {
         return Ok(None);
@@ -67,16 +77,12 @@ fn find_in_file<F: Files>(
         line,
         relay,
     };
-    let Some(text) = text_of(files, name)? else {
+    let Some(read) = read else {
         let unread = find_unread(alloc, files, hunt.name, spot)?;
         hunt.found.push(unread)?;
         return Ok(None);
     };
-    let (found, left) = all_of_file(alloc, spot, text)?;
-    for fault in found {
-        hunt.found.push(fault)?;
-    }
-    Ok(left)
+    find_in_text(alloc, &mut hunt.found, spot, read)
 }
 
 // Finds the faults of the relays' files.
@@ -89,8 +95,9 @@ fn find_in_files<F: Files>(
     let mut judged = Vec::new(alloc);
     let mut number: u64 = 1;
     for name in names {
-        let text = find_in_file(alloc, files, hunt, number, name.as_str())?;
-        judged.push(JudgedFile { name, text })?;
+        let read = read_relay_text(alloc, files, Some(name.as_str()))?;
+        let text = find_in_file(alloc, files, hunt, number, name.as_str(), read.as_ref())?;
+        judged.push(JudgedFile { name, read, text })?;
         number = number.saturating_add(1);
     }
     Ok(judged)
@@ -118,7 +125,7 @@ fn given_files<'a>(
 
 // Finds the faults of a site file and of its relays' files.
 fn find_all<F: Files>(alloc: Global, files: &F, hunt: &mut SiteHunt<'_>) -> Result<(), AllocError> {
-    if !find_lines(alloc, files, hunt)? {
+    if !find_lines(alloc, hunt)? {
         return Ok(());
     }
     let names = match file_names(alloc, hunt.draft.text()) {
@@ -128,7 +135,7 @@ fn find_all<F: Files>(alloc: Global, files: &F, hunt: &mut SiteHunt<'_>) -> Resu
     };
     let judged = find_in_files(alloc, files, hunt, names)?;
     let given = given_files(alloc, hunt, judged.as_slice())?;
-    find_references(alloc, files, hunt, given.as_slice())
+    find_references(alloc, hunt, judged.as_slice(), given.as_slice())
 }
 
 // Whether there may be more to find than why a command stopped.

@@ -2,6 +2,7 @@
 
 use crate::files::{Files, Reason};
 use crate::note::{Note, Point};
+use crate::options::ReadNames;
 use crate::places::file_in;
 use crate::source::{text_of, without_return, word_in};
 use crate::texts::Part;
@@ -50,11 +51,15 @@ fn put_reason<F: Files>(note: &mut Note, files: &F, name: &str, reason: Reason, 
     }
 }
 
-// Says of a file that the command line names why it can't be read.
-fn put_named<F: Files>(note: &mut Note, files: &F, name: &str, reason: Reason) {
+// Says of a file that the command line names why it can't be read, where that is so, and answers whether it is.
+fn put_if_unread<F: Files>(note: &mut Note, files: &F, name: &str) -> bool {
+    let Some(reason) = files.reason(name) else {
+        return false;
+    };
     note.what.say("the command line: ");
     note.what.say(name);
     put_reason(note, files, name, reason, "on the command line");
+    true
 }
 
 // Says of a relay's file why it can't be read.
@@ -113,29 +118,21 @@ fn put_relays<F: Files>(
     Ok(false)
 }
 
-/// Says of a command that could not read a file which one that is, which line names it, and why it can't be read. The
-/// names are those of the command line, that of the site file first.
+/// Says of a command that could not read a file which one that is, which line names it, and why it can't be read.
 pub fn put_unread<F: Files>(
     alloc: Global,
     note: &mut Note,
     files: &F,
-    names: &[&str],
+    names: ReadNames<'_>,
 ) -> Result<(), AllocError> {
-    let Some(site_name) = names.first() else {
-        return Ok(());
-    };
-    if let Some(reason) = files.reason(site_name) {
-        put_named(note, files, site_name, reason);
+    if put_if_unread(note, files, names.site) {
         return Ok(());
     }
-    if put_relays(alloc, note, files, site_name)? {
+    if put_relays(alloc, note, files, names.site)? {
         return Ok(());
     }
-    for name in names {
-        if let Some(reason) = files.reason(name) {
-            put_named(note, files, name, reason);
-            return Ok(());
-        }
+    if let Some(second) = names.second {
+        put_if_unread(note, files, second);
     }
     Ok(())
 }
