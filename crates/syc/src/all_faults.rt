@@ -3,7 +3,7 @@
 use crate::all_of_file::{FileSpot, all_of_file};
 use crate::all_of_site::{JudgedFile, SiteHunt, find_lines, find_references, leave_out, word_of};
 use crate::fault_notes::fault_words;
-use crate::faulty_files::put_unread_relay;
+use crate::faulty_files::{Unread, put_unread_relay, unread};
 use crate::files::Files;
 use crate::halt::Halt;
 use crate::note::Note;
@@ -31,15 +31,17 @@ fn line_naming<'t>(text: &'t [u8], file: &str) -> Option<(usize, &'t [u8])> {
 }
 
 // Finds that a relay's file can't be read.
-fn find_unread<F: Files>(
+fn find_unread(
     alloc: Global,
-    files: &F,
     site_name: &str,
     spot: FileSpot<'_>,
+    unread: Option<&Unread>,
 ) -> Result<ToldFault, AllocError> {
     let mut note = Note::new(alloc);
-    let site = (site_name, spot.line as u64, spot.relay);
-    put_unread_relay(alloc, &mut note, files, site, spot.name);
+    if let Some(unread) = unread {
+        let site = (site_name, spot.line as u64, spot.relay);
+        put_unread_relay(alloc, &mut note, site, spot.name, unread);
+    }
     let note = note.finish()?;
     Ok(ToldFault::new(spot.number, 0, Halt::ReadFailed, note))
 }
@@ -59,14 +61,13 @@ fn find_in_text(
     Ok(left)
 }
 
-// The same where it can be read; else that is found.
-fn find_in_file<F: Files>(
+// The same where it could be read; else that is found.
+fn find_in_file(
     alloc: Global,
-    files: &F,
     hunt: &mut SiteHunt<'_>,
     number: u64,
     name: &str,
-    read: Option<&RelayText>,
+    read: Result<&RelayText, Option<&Unread>>,
 ) -> Result<Option<Vec<u8>>, AllocError> {
     let Some((line, relay)) = line_naming(hunt.draft.text(), name) else {
         return Ok(None);
@@ -77,16 +78,40 @@ fn find_in_file<F: Files>(
         line,
         relay,
     };
-    let Some(read) = read else {
-        let unread = find_unread(alloc, files, hunt.name, spot)?;
-        hunt.found.push(unread)?;
-        return Ok(None);
+    match read {
+        Ok(read) => find_in_text(alloc, &mut hunt.found, spot, read),
+        Err(why) => {
+            let unread = find_unread(alloc, hunt.name, spot, why)?;
+            hunt.found.push(unread)?;
+            Ok(None)
+        }
+    }
+}
+
+// Reads a relay's file, finds its faults, and answers how others may speak of it.
+fn judge_file<F: Files>(
+    alloc: Global,
+    files: &F,
+    hunt: &mut SiteHunt<'_>,
+    number: u64,
+    name: String,
+) -> Result<JudgedFile, AllocError> {
+    let read = read_relay_text(alloc, files, Some(name.as_str()))?;
+    let text = match &read {
+        Some(read) => find_in_file(alloc, hunt, number, name.as_str(), Ok(read)),
+        None => {
+            let why = unread(files, name.as_str());
+            find_in_file(alloc, hunt, number, name.as_str(), Err(why.as_ref()))
+        }
     };
-    find_in_text(alloc, &mut hunt.found, spot, read)
+    match text {
+        Ok(text) => Ok(JudgedFile { name, read, text }),
+        Err(why) => Err(why),
+    }
 }
 
 // Finds the faults of the relays' files.
-fn find_in_files<F: Files>(
+fn judge_files<F: Files>(
     alloc: Global,
     files: &F,
     hunt: &mut SiteHunt<'_>,
@@ -95,9 +120,7 @@ fn find_in_files<F: Files>(
     let mut judged = Vec::new(alloc);
     let mut number: u64 = 1;
     for name in names {
-        let read = read_relay_text(alloc, files, Some(name.as_str()))?;
-        let text = find_in_file(alloc, files, hunt, number, name.as_str(), read.as_ref())?;
-        judged.push(JudgedFile { name, read, text })?;
+        judged.push(judge_file(alloc, files, hunt, number, name)?)?;
         number = number.saturating_add(1);
     }
     Ok(judged)
@@ -133,7 +156,7 @@ fn find_all<F: Files>(alloc: Global, files: &F, hunt: &mut SiteHunt<'_>) -> Resu
         Err(SiteFault::NoMemory) => return Err(AllocError),
         Err(_) => return Ok(()),
     };
-    let judged = find_in_files(alloc, files, hunt, names)?;
+    let judged = judge_files(alloc, files, hunt, names)?;
     let given = given_files(alloc, hunt, judged.as_slice())?;
     find_references(alloc, hunt, judged.as_slice(), given.as_slice())
 }

@@ -137,6 +137,42 @@ fn put_site<F: Files>(
     }
 }
 
+// Of a certificate or an events file of that name and text.
+fn put_in_other(alloc: Global, note: &mut Note, file: &str, text: &[u8], halt: &Halt) {
+    match halt {
+        Halt::Certificate(fault) => put_no_row(alloc, note, file, text, *fault),
+        Halt::Illegal(number) => put_illegal(
+            alloc,
+            note,
+            file,
+            text,
+            *number,
+            "the event is no step of the site, as it stands after the events before",
+        ),
+        Halt::TotalsFull(number) => {
+            put_illegal(alloc, note, file, text, *number, "a total is full");
+        }
+        _ => {}
+    }
+}
+
+// Of the file beside a site's, where there is one that can be read.
+fn put_other<F: Files>(
+    alloc: Global,
+    files: &F,
+    note: &mut Note,
+    name: Option<&str>,
+    halt: &Halt,
+) -> Result<(), AllocError> {
+    let Some(name) = name else {
+        return Ok(());
+    };
+    if let Some(text) = text_of(files, name)? {
+        put_in_other(alloc, note, name, text.as_slice(), halt);
+    }
+    Ok(())
+}
+
 fn put_halt<F: Files>(
     alloc: Global,
     files: &F,
@@ -146,18 +182,9 @@ fn put_halt<F: Files>(
 ) -> Result<(), AllocError> {
     match halt {
         Halt::Site(fault) => put_site(alloc, files, note, names.site, fault),
-        Halt::Certificate(fault) => put_no_row(alloc, files, note, names, *fault),
         Halt::Line(number) => put_no_event(alloc, files, note, names, *number),
-        Halt::Illegal(number) => put_illegal(
-            alloc,
-            files,
-            note,
-            names,
-            *number,
-            "the event is no step of the site, as it stands after the events before",
-        ),
-        Halt::TotalsFull(number) => {
-            put_illegal(alloc, files, note, names, *number, "a total is full")
+        Halt::Certificate(_) | Halt::Illegal(_) | Halt::TotalsFull(_) => {
+            put_other(alloc, files, note, names.second, halt)
         }
         Halt::ReadFailed => put_unread(alloc, note, files, names),
         Halt::NoMemory | Halt::WriteFailed => Ok(()),

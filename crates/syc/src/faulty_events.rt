@@ -298,25 +298,18 @@ pub fn put_no_event<F: Files>(
     }
 }
 
-/// Says of an event that isn't made where it stands.
-pub fn put_illegal<F: Files>(
+/// Says of an event that isn't made where it stands, in the events file of that name and text.
+pub fn put_illegal(
     alloc: Global,
-    files: &F,
     note: &mut Note,
-    names: ReadNames<'_>,
+    file: &str,
+    text: &[u8],
     number: u64,
     why: &str,
-) -> Result<(), AllocError> {
-    let Some(file) = names.second else {
-        return Ok(());
-    };
-    let Some(text) = text_of(files, file)? else {
-        return Ok(());
-    };
-    let at = other_line(file, text.as_slice(), number);
+) {
+    let at = other_line(file, text, number);
     stands_at_word(alloc, note, at, 0);
     note.why.say(why);
-    Ok(())
 }
 
 // Says of a line that has no row's shape what the lines of a certificate are.
@@ -352,25 +345,12 @@ fn put_row(note: &mut Note, at: OtherLine<'_>, fault: TextFault) {
     }
 }
 
-/// Says of a line of a certificate why it is none.
-pub fn put_no_row<F: Files>(
-    alloc: Global,
-    files: &F,
-    note: &mut Note,
-    names: ReadNames<'_>,
-    fault: TextFault,
-) -> Result<(), AllocError> {
-    let Some(file) = names.second else {
-        return Ok(());
-    };
-    let Some(text) = text_of(files, file)? else {
-        return Ok(());
-    };
-    let at = other_line(file, text.as_slice(), fault.line as u64);
-    if put_bytes(alloc, note, at, text.as_slice()) {
-        return Ok(());
+/// Says of a line of a certificate, in the file of that name and text, why it is none.
+pub fn put_no_row(alloc: Global, note: &mut Note, file: &str, text: &[u8], fault: TextFault) {
+    let at = other_line(file, text, fault.line as u64);
+    if put_bytes(alloc, note, at, text) {
+        return;
     }
     stands_at_word(alloc, note, at, 0);
     put_row(note, at, fault);
-    Ok(())
 }
