@@ -3,7 +3,7 @@
 use crate::all_of_file::{FileSpot, all_of_file};
 use crate::all_of_site::{JudgedFile, SiteHunt, find_lines, find_references, leave_out, word_of};
 use crate::fault_notes::fault_words;
-use crate::faulty_files::{Unread, put_unread_relay, unread};
+use crate::faulty_files::{Unread, put_unread_relay, why_unread};
 use crate::files::Files;
 use crate::halt::Halt;
 use crate::note::Note;
@@ -100,7 +100,7 @@ fn judge_file<F: Files>(
     let text = match &read {
         Some(read) => find_in_file(alloc, hunt, number, name.as_str(), Ok(read)),
         None => {
-            let why = unread(files, name.as_str());
+            let why = why_unread(files, name.as_str());
             find_in_file(alloc, hunt, number, name.as_str(), Err(why.as_ref()))
         }
     };

@@ -25,7 +25,7 @@ fn folder_of<F: Files>(files: &F, name: &str) -> Option<String> {
 }
 
 /// Why the file of this name can't be read; nothing where it can be, or where that isn't known.
-pub fn unread<F: Files>(files: &F, name: &str) -> Option<Unread> {
+pub fn why_unread<F: Files>(files: &F, name: &str) -> Option<Unread> {
     match files.reason(name) {
         Some(Reason::Missing) => Some(Unread {
             reason: Reason::Missing,
@@ -112,7 +112,7 @@ fn put_relays<F: Files>(
     for line in text.split(|b| *b == b'\n') {
         let line = without_return(line);
         if let (Some(name), Some((_, relay))) = (file_name_in(line), word_in(line, 1)) {
-            if let Some(unread) = unread(files, name) {
+            if let Some(unread) = why_unread(files, name) {
                 put_unread_relay(alloc, note, (site_name, number, relay), name, &unread);
                 return true;
             }
@@ -129,7 +129,7 @@ pub fn put_unread<F: Files>(
     files: &F,
     names: ReadNames<'_>,
 ) -> Result<(), AllocError> {
-    if let Some(unread) = unread(files, names.site) {
+    if let Some(unread) = why_unread(files, names.site) {
         put_named(note, names.site, &unread);
         return Ok(());
     }
@@ -139,7 +139,7 @@ pub fn put_unread<F: Files>(
         }
     }
     if let Some(second) = names.second {
-        if let Some(unread) = unread(files, second) {
+        if let Some(unread) = why_unread(files, second) {
             put_named(note, second, &unread);
         }
     }

@@ -54,6 +54,17 @@ fn has_port(objects: &[Object<'_>], wanted: &[u8]) -> bool {
     false
 }
 
+// Puts the ports of inputs.
+fn put_ports(words: &mut Words, objects: &[Object<'_>]) {
+    for object in objects {
+        if object.word == ObjectWord::Input {
+            if let Some(port) = value_of(object.params, b"port") {
+                words.put(&[Part::Text(b" "), Part::Text(port)]);
+            }
+        }
+    }
+}
+
 /// Says that a relay with this file has no input of this port, and which it has, where that is so, and answers whether it
 /// is.
 pub fn put_no_port(
@@ -74,13 +85,7 @@ pub fn put_no_port(
         Part::Text(relay),
         Part::Text(b":"),
     ]);
-    for object in objects.as_slice() {
-        if object.word == ObjectWord::Input {
-            if let Some(port) = value_of(object.params, b"port") {
-                note.change.put(&[Part::Text(b" "), Part::Text(port)]);
-            }
-        }
-    }
+    put_ports(&mut note.change, objects.as_slice());
     Ok(true)
 }
 
