@@ -1,27 +1,21 @@
 //! What `--all` says of a fault, behind its first line: the other faults of the site file and of the files of its relays.
 
 use crate::all_of_file::{FileSpot, all_of_file};
-use crate::all_of_site::{SiteHunt, find_lines, find_references, leave_out, word_of};
+use crate::all_of_site::{JudgedFile, SiteHunt, find_lines, find_references, leave_out, word_of};
 use crate::fault_notes::fault_words;
-use crate::faulty_files::put_unread_relay;
+use crate::faulty_files::{Unread, put_unread_relay, why_unread};
 use crate::files::Files;
 use crate::halt::Halt;
 use crate::note::Note;
 use crate::options::ReadNames;
 use crate::places::file_in;
+use crate::site_texts::{RelayText, read_relay_text};
 use crate::source::{text_of, without_return};
 use crate::texts::Part;
 use crate::told_faults::{ToldFault, put_told, without};
 use crate::words::Words;
 use std::alloc::{AllocError, Global};
 use sy_site::{SiteFault, file_names};
-
-/// A relay's file, so far as others may speak of it: its text without what is faulty, or nothing.
-#[derive(Drop)]
-struct JudgedFile {
-    name: String,
-    text: Option<Vec<u8>>,
-}
 
 // The first line of a site file that names a file: its number, and the relay's name.
 fn line_naming<'t>(text: &'t [u8], file: &str) -> Option<(usize, &'t [u8])> {
@@ -37,26 +31,43 @@ fn line_naming<'t>(text: &'t [u8], file: &str) -> Option<(usize, &'t [u8])> {
 }
 
 // Finds that a relay's file can't be read.
-fn find_unread<F: Files>(
+fn find_unread(
     alloc: Global,
-    files: &F,
     site_name: &str,
     spot: FileSpot<'_>,
+    unread: Option<&Unread>,
 ) -> Result<ToldFault, AllocError> {
     let mut note = Note::new(alloc);
-    let site = (site_name, spot.line as u64, spot.relay);
-    put_unread_relay(alloc, &mut note, files, site, spot.name);
+    if let Some(unread) = unread {
+        let site = (site_name, spot.line as u64, spot.relay);
+        put_unread_relay(alloc, &mut note, site, spot.name, unread);
+    }
     let note = note.finish()?;
     Ok(ToldFault::new(spot.number, 0, Halt::ReadFailed, note))
 }
 
 // Finds the faults of a relay's file, and answers what others may speak of.
-fn find_in_file<F: Files>(
+fn find_in_text(
     alloc: Global,
-    files: &F,
+    told: &mut Vec<ToldFault>,
+    spot: FileSpot<'_>,
+    read: &RelayText,
+) -> Result<Option<Vec<u8>>, AllocError> {
+    let text = Vec::from_slice(alloc, read.text.as_slice())?;
+    let (found, left) = all_of_file(alloc, spot, text)?;
+    for fault in found {
+        told.push(fault)?;
+    }
+    Ok(left)
+}
+
+// The same where it could be read; else that is found.
+fn find_in_file(
+    alloc: Global,
     hunt: &mut SiteHunt<'_>,
     number: u64,
     name: &str,
+    read: Result<&RelayText, Option<&Unread>>,
 ) -> Result<Option<Vec<u8>>, AllocError> {
     let Some((line, relay)) = line_naming(hunt.draft.text(), name) else {
         return Ok(None);
@@ -67,20 +78,40 @@ fn find_in_file<F: Files>(
         line,
         relay,
     };
-    let Some(text) = text_of(files, name)? else {
-        let unread = find_unread(alloc, files, hunt.name, spot)?;
-        hunt.found.push(unread)?;
-        return Ok(None);
-    };
-    let (found, left) = all_of_file(alloc, spot, text)?;
-    for fault in found {
-        hunt.found.push(fault)?;
+    match read {
+        Ok(read) => find_in_text(alloc, &mut hunt.found, spot, read),
+        Err(why) => {
+            let unread = find_unread(alloc, hunt.name, spot, why)?;
+            hunt.found.push(unread)?;
+            Ok(None)
+        }
     }
-    Ok(left)
+}
+
+// Reads a relay's file, finds its faults, and answers how others may speak of it.
+fn judge_file<F: Files>(
+    alloc: Global,
+    files: &F,
+    hunt: &mut SiteHunt<'_>,
+    number: u64,
+    name: String,
+) -> Result<JudgedFile, AllocError> {
+    let read = read_relay_text(alloc, files, Some(name.as_str()))?;
+    let text = match &read {
+        Some(read) => find_in_file(alloc, hunt, number, name.as_str(), Ok(read)),
+        None => {
+            let why = why_unread(files, name.as_str());
+            find_in_file(alloc, hunt, number, name.as_str(), Err(why.as_ref()))
+        }
+    };
+    match text {
+        Ok(text) => Ok(JudgedFile { name, read, text }),
+        Err(why) => Err(why),
+    }
 }
 
 // Finds the faults of the relays' files.
-fn find_in_files<F: Files>(
+fn judge_files<F: Files>(
     alloc: Global,
     files: &F,
     hunt: &mut SiteHunt<'_>,
@@ -89,8 +120,7 @@ fn find_in_files<F: Files>(
     let mut judged = Vec::new(alloc);
     let mut number: u64 = 1;
     for name in names {
-        let text = find_in_file(alloc, files, hunt, number, name.as_str())?;
-        judged.push(JudgedFile { name, text })?;
+        judged.push(judge_file(alloc, files, hunt, number, name)?)?;
         number = number.saturating_add(1);
     }
     Ok(judged)
@@ -118,7 +148,7 @@ fn given_files<'a>(
 
 // Finds the faults of a site file and of its relays' files.
 fn find_all<F: Files>(alloc: Global, files: &F, hunt: &mut SiteHunt<'_>) -> Result<(), AllocError> {
-    if !find_lines(alloc, files, hunt)? {
+    if !find_lines(alloc, hunt)? {
         return Ok(());
     }
     let names = match file_names(alloc, hunt.draft.text()) {
@@ -126,9 +156,9 @@ fn find_all<F: Files>(alloc: Global, files: &F, hunt: &mut SiteHunt<'_>) -> Resu
         Err(SiteFault::NoMemory) => return Err(AllocError),
         Err(_) => return Ok(()),
     };
-    let judged = find_in_files(alloc, files, hunt, names)?;
+    let judged = judge_files(alloc, files, hunt, names)?;
     let given = given_files(alloc, hunt, judged.as_slice())?;
-    find_references(alloc, files, hunt, given.as_slice())
+    find_references(alloc, hunt, judged.as_slice(), given.as_slice())
 }
 
 // Whether there may be more to find than why a command stopped.

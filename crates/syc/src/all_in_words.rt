@@ -10,6 +10,7 @@ use crate::answer::Answer;
 use crate::check::say_kept;
 use crate::files::Files;
 use crate::halt::Halt;
+use crate::site_texts::read_site_texts;
 use crate::tally_in_words::tally_in_words;
 use std::alloc::{AllocError, Global};
 use sy_checker::finding::Refusal;
@@ -25,8 +26,9 @@ fn tally_in_words_of<F: Files>(
 ) -> Result<Vec<u8>, AllocError>
     ensures { IfOk result (λ text. internal.IsSurveyedInWords site.now text.items) }
 {
+    let texts = read_site_texts(alloc, files, name)?;
     match survey(alloc, site) {
-        Ok(groups) => tally_in_words(alloc, files, name, site, groups.as_slice()),
+        Ok(groups) => tally_in_words(alloc, &texts, site, groups.as_slice()),
         Err(why) => Err(why),
     }
 }

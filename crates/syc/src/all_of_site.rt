@@ -1,12 +1,13 @@
 //! All faults of the lines of a site file that can be found without guessing.
 
 use crate::draft::Draft;
-use crate::fault_note::put_site_fault;
+use crate::fault_note::{faulty_line, file_meant, put_site_fault};
+use crate::faulty_site::SiteLine;
 use crate::faulty_spare::{first_line, sets_policy};
-use crate::files::Files;
 use crate::halt::Halt;
 use crate::note::Note;
 use crate::places::file_in;
+use crate::site_texts::RelayText;
 use crate::source::{line_at, place_of_line, without_return, word_in};
 use crate::told_faults::ToldFault;
 use std::alloc::{AllocError, Global};
@@ -41,6 +42,14 @@ impl<'a> SiteHunt<'a> {
             is_policy_open: false,
         })
     }
+}
+
+/// A relay's file: as it could be read, and its text so far as others may speak of it, which is without what is faulty.
+#[derive(Drop)]
+pub struct JudgedFile {
+    pub name: String,
+    pub read: Option<RelayText>,
+    pub text: Option<Vec<u8>>,
 }
 
 /// A word of a line, empty where there is none.
@@ -91,24 +100,43 @@ fn cut_lines(draft: &mut Draft, numbers: &[usize]) -> Result<(), AllocError> {
     Ok(())
 }
 
-// Puts a fault of a line behind the others.
-fn put<F: Files>(
+// The file that is spoken of with a fault of a line, as it was read.
+fn file_with<'a>(
+    judged: &'a [JudgedFile],
+    at: SiteLine<'_>,
+    fault: &SiteFault,
+) -> Option<&'a RelayText> {
+    let name = file_meant(at, fault)?;
+    for file in judged {
+        if file.name.as_str() == name {
+            return file.read.as_ref();
+        }
+    }
+    None
+}
+
+// The note of a fault of a line. The files are those that it may speak of.
+fn note_of(
     alloc: Global,
-    files: &F,
+    hunt: &SiteHunt<'_>,
+    judged: &[JudgedFile],
+    fault: &SiteFault,
+) -> Result<Note, AllocError> {
+    let at = faulty_line(hunt.name, hunt.draft.text(), fault);
+    let mut note = Note::new(alloc);
+    put_site_fault(alloc, &mut note, at, file_with(judged, at, fault), fault)?;
+    note.finish()
+}
+
+// Puts a fault of a line behind the others.
+fn put(
+    alloc: Global,
     hunt: &mut SiteHunt<'_>,
+    judged: &[JudgedFile],
     line: usize,
     fault: SiteFault,
 ) -> Result<(), AllocError> {
-    let mut note = Note::new(alloc);
-    put_site_fault(
-        alloc,
-        files,
-        &mut note,
-        hunt.name,
-        hunt.draft.text(),
-        &fault,
-    )?;
-    let note = note.finish()?;
+    let note = note_of(alloc, hunt, judged, &fault)?;
     hunt.found
         .push(ToldFault::new(0, line as u64, Halt::Site(fault), note))?;
     Ok(())
@@ -173,24 +201,11 @@ fn cut_faulty(alloc: Global, hunt: &mut SiteHunt<'_>, number: usize) -> Result<b
 }
 
 // Tells of a line that is none, and takes it away. It answers whether the reading goes on.
-fn meet_line<F: Files>(
-    alloc: Global,
-    files: &F,
-    hunt: &mut SiteHunt<'_>,
-    number: usize,
-) -> Result<bool, AllocError> {
+fn meet_line(alloc: Global, hunt: &mut SiteHunt<'_>, number: usize) -> Result<bool, AllocError> {
     let text = hunt.draft.text();
     let is_utf16 = text.starts_with(&[0xff, 0xfe]) || text.starts_with(&[0xfe, 0xff]);
     let ends = text.len() > MOST_BYTES || is_utf16;
-    let mut told = Note::new(alloc);
-    put_site_fault(
-        alloc,
-        files,
-        &mut told,
-        hunt.name,
-        text,
-        &SiteFault::Line(number),
-    )?;
+    let told = note_of(alloc, hunt, &[], &SiteFault::Line(number))?;
     let is_told = if ends || (number == 1 && cut_mark(&mut hunt.draft)?) {
         false
     } else {
@@ -198,23 +213,18 @@ fn meet_line<F: Files>(
     };
     if !is_told {
         let halt = Halt::Site(SiteFault::Line(number));
-        let note = told.finish()?;
         hunt.found
-            .push(ToldFault::new(0, number as u64, halt, note))?;
+            .push(ToldFault::new(0, number as u64, halt, told))?;
     }
     Ok(!ends)
 }
 
 // Judges the lines once. It answers whether there may be more to find.
-fn judge_lines<F: Files>(
-    alloc: Global,
-    files: &F,
-    hunt: &mut SiteHunt<'_>,
-) -> Result<bool, AllocError> {
+fn judge_lines(alloc: Global, hunt: &mut SiteHunt<'_>) -> Result<bool, AllocError> {
     match Site::read(alloc, hunt.draft.text(), &[]) {
-        Err(SiteFault::Line(number)) => meet_line(alloc, files, hunt, number),
+        Err(SiteFault::Line(number)) => meet_line(alloc, hunt, number),
         Err(SiteFault::Duplicate(number)) => {
-            put(alloc, files, hunt, number, SiteFault::Duplicate(number))?;
+            put(alloc, hunt, &[], number, SiteFault::Duplicate(number))?;
             cut_line(&mut hunt.draft, number)?;
             Ok(true)
         }
@@ -224,13 +234,9 @@ fn judge_lines<F: Files>(
 }
 
 /// Finds the faults of lines by themselves, and answers whether all lines that are left have none.
-pub fn find_lines<F: Files>(
-    alloc: Global,
-    files: &F,
-    hunt: &mut SiteHunt<'_>,
-) -> Result<bool, AllocError> {
+pub fn find_lines(alloc: Global, hunt: &mut SiteHunt<'_>) -> Result<bool, AllocError> {
     for _ in 0..MOST_FAULTS.saturating_add(2) {
-        if !judge_lines(alloc, files, hunt)? {
+        if !judge_lines(alloc, hunt)? {
             return Ok(hunt.draft.text().len() <= MOST_BYTES);
         }
         if hunt.found.len() >= MOST_FAULTS {
@@ -304,26 +310,26 @@ fn is_named_before(hunt: &SiteHunt<'_>, line: &[u8], is_relay: bool) -> bool {
 }
 
 // Tells of a line that names what isn't there, and takes it away.
-fn meet_reference<F: Files>(
+fn meet_reference(
     alloc: Global,
-    files: &F,
     hunt: &mut SiteHunt<'_>,
+    judged: &[JudgedFile],
     number: usize,
     fault: SiteFault,
 ) -> Result<(), AllocError> {
     let line = line_of(hunt.draft.text(), number);
     let is_relay = matches!(fault, SiteFault::Line(_));
     if !is_named_before(hunt, line, is_relay) {
-        put(alloc, files, hunt, number, fault)?;
+        put(alloc, hunt, judged, number, fault)?;
     }
     cut_line(&mut hunt.draft, number)
 }
 
 // Judges once what the lines name. It answers whether there may be more to find.
-fn judge_references<F: Files>(
+fn judge_references(
     alloc: Global,
-    files: &F,
     hunt: &mut SiteHunt<'_>,
+    judged: &[JudgedFile],
     given: &[(&str, &[u8])],
 ) -> Result<bool, AllocError> {
     let Err(fault) = Site::read(alloc, hunt.draft.text(), given) else {
@@ -335,11 +341,11 @@ fn judge_references<F: Files>(
         | SiteFault::NoSuchArchive(number)
         | SiteFault::NoSuchAction(number)
         | SiteFault::SpareArchive(number) => {
-            meet_reference(alloc, files, hunt, number, fault)?;
+            meet_reference(alloc, hunt, judged, number, fault)?;
             Ok(true)
         }
         SiteFault::NothingProtected if hunt.draft.is_whole() => {
-            put(alloc, files, hunt, 1, SiteFault::NothingProtected)?;
+            put(alloc, hunt, judged, 1, SiteFault::NothingProtected)?;
             Ok(false)
         }
         SiteFault::NoMemory => Err(AllocError),
@@ -359,15 +365,16 @@ fn most_reads(given: &[(&str, &[u8])]) -> usize {
     }
 }
 
-/// Finds the faults of lines that name what isn't there, in a site whose relays have these files.
-pub fn find_references<F: Files>(
+/// Finds the faults of lines that name what isn't there, in a site whose relays have these files: as they were read, and
+/// as they are given to the reader.
+pub fn find_references(
     alloc: Global,
-    files: &F,
     hunt: &mut SiteHunt<'_>,
+    judged: &[JudgedFile],
     given: &[(&str, &[u8])],
 ) -> Result<(), AllocError> {
     for _ in 0..most_reads(given) {
-        if !judge_references(alloc, files, hunt, given)? {
+        if !judge_references(alloc, hunt, judged, given)? {
             return Ok(());
         }
     }

@@ -2,10 +2,10 @@
 
 use crate::culprit::{name_of_list, spot_at};
 use crate::explanation::note_of_finding;
-use crate::files::Files;
 use crate::followed::circle;
 use crate::members::{Elements, Members};
 use crate::note::{Note, Place};
+use crate::site_texts::SiteTexts;
 use crate::texts::{Part, action_name, port_of, put_parts, relay_name};
 use crate::warnings::Warning;
 use memchr::memchr;
@@ -164,15 +164,14 @@ fn put_circle(
 }
 
 // A finding of these classes.
-fn finding_of<F: Files>(
+fn finding_of(
     alloc: Global,
-    files: &F,
-    site_name: &str,
+    texts: &SiteTexts<'_>,
     site: &Site,
     finding: &Finding,
     classes: &[Class],
 ) -> Result<Members, AllocError> {
-    let note = note_of_finding(alloc, files, site_name, site, finding)?;
+    let note = note_of_finding(alloc, texts, site, finding)?;
     let names = class_names(alloc, classes)?;
     let mut members = Members::new(alloc);
     put_kind(&mut members, finding.kind.words().as_bytes());
@@ -186,14 +185,13 @@ fn finding_of<F: Files>(
 }
 
 /// The first finding of a site, of its one class.
-pub fn first_finding<F: Files>(
+pub fn first_finding(
     alloc: Global,
-    files: &F,
-    site_name: &str,
+    texts: &SiteTexts<'_>,
     site: &Site,
     finding: &Finding,
 ) -> Result<Elements, AllocError> {
-    let members = finding_of(alloc, files, site_name, site, finding, &[finding.class])?;
+    let members = finding_of(alloc, texts, site, finding, &[finding.class])?;
     let mut found = Elements::new(alloc);
     found.object(members);
     Ok(found)
@@ -213,10 +211,9 @@ fn finding_of_group(alloc: Global, group: &Group) -> Option<Finding> {
 }
 
 /// All findings of a site, each of all its classes.
-pub fn all_findings<F: Files>(
+pub fn all_findings(
     alloc: Global,
-    files: &F,
-    site_name: &str,
+    texts: &SiteTexts<'_>,
     site: &Site,
     groups: &[Group],
 ) -> Result<Elements, AllocError> {
@@ -224,7 +221,7 @@ pub fn all_findings<F: Files>(
     for group in groups {
         if let Some(finding) = finding_of_group(alloc, group) {
             let classes = group.classes.as_slice();
-            let members = finding_of(alloc, files, site_name, site, &finding, classes)?;
+            let members = finding_of(alloc, texts, site, &finding, classes)?;
             found.object(members);
         }
     }

@@ -9,6 +9,7 @@ use crate::explanation::explanation;
 use crate::files::Files;
 use crate::findings::put_finding;
 use crate::halt::Halt;
+use crate::site_texts::read_site_texts;
 use std::alloc::{AllocError, Global};
 use sy_checker::finding::{Finding, Refusal};
 use sy_site::Site;
@@ -32,7 +33,21 @@ fn refused_in_words(
     })
 }
 
-// The same, with an explanation, for which files are read once more.
+// The explanation of what is found, for which files are read once more.
+fn words_on<F: Files>(
+    alloc: Global,
+    files: &F,
+    name: &str,
+    site: &Site,
+    finding: &Finding,
+) -> Result<Vec<u8>, AllocError> {
+    match read_site_texts(alloc, files, name) {
+        Ok(texts) => explanation(alloc, &texts, site, finding),
+        Err(why) => Err(why),
+    }
+}
+
+// What is found in a site, with its explanation.
 fn found_in_words<F: Files>(
     alloc: Global,
     files: &F,
@@ -43,7 +58,7 @@ fn found_in_words<F: Files>(
     requires found { IsTrueFinding site.now finding.now }
     ensures ok { IfOk result (λ a. spec.SaysFoundInWords site.now a.text.items a.is_accepted) }
 {
-    let words = explanation(alloc, files, name, site, finding)?;
+    let words = words_on(alloc, files, name, site, finding)?;
     let answer = refused_in_words(alloc, site, finding, words.as_slice())?;
     Ok(answer)
 }

@@ -1,18 +1,17 @@
 //! Notes of findings: where what is found stands, why messages are lost by it, and what would change that.
 
 use crate::culprit::{Feeder, Spot, free_feeder, free_input, name_of_list, queue_at, spot_at};
-use crate::files::Files;
 use crate::followed::circle;
 use crate::meant::{Meant, find_meant, relay_meant};
 use crate::note::{Note, put_note};
 use crate::outline::Object;
-use crate::places::{Places, Thing, objects_of, places_of, relay_file};
+use crate::places::{Places, Thing, objects_of, places_of};
 use crate::queues::{
     is_marked, put_discarding, put_mark_above_size, put_mark_off, put_not_full, put_post,
     put_unmarked,
 };
 use crate::remedies::{put_gives_up, put_inner_loop, put_loop, put_no_target, put_spare};
-use crate::source::text_of;
+use crate::site_texts::{SiteTexts, relay_file};
 use crate::tally::names_of;
 use crate::texts::Part;
 use crate::things::{put_with_place, stands_at};
@@ -176,47 +175,43 @@ fn put_reason(
 }
 
 // What is said of a finding of another kind than the ninth.
-fn put_finding<F: Files>(
+fn put_finding(
     alloc: Global,
-    files: &F,
-    site_name: &str,
+    texts: &SiteTexts<'_>,
     site: &Site,
     note: &mut Note,
     finding: &Finding,
 ) -> Result<(), AllocError> {
     let relay = relay_meant(finding);
-    let file = relay_file(alloc, files, site_name, relay)?;
+    let file = relay_file(alloc, texts.relay_text(relay))?;
     let objects = objects_of(alloc, &file)?;
     let places = places_of(&file, objects.as_slice());
-    let text = match text_of(files, site_name)? {
+    let text: &[u8] = match texts.text() {
         Some(text) => text,
-        None => Vec::new(alloc),
+        None => &[],
     };
     match subject_of(alloc, site, places, finding)? {
         Some(subject) => {
             stands_at(alloc, note, site, relay, places, subject.thing);
-            put_reason(alloc, note, site, text.as_slice(), subject, finding)?;
+            put_reason(alloc, note, site, text, subject, finding)?;
             put_fed_by(alloc, note, site, relay, subject, finding.kind)
         }
         None => Ok(()),
     }
 }
 
-/// The note of a finding, for which files are read once more. A loop that is found without a way is one of its input.
-pub fn note_of_finding<F: Files>(
+/// The note of a finding. A loop that is found without a way is one of its input.
+pub fn note_of_finding(
     alloc: Global,
-    files: &F,
-    site_name: &str,
+    texts: &SiteTexts<'_>,
     site: &Site,
     finding: &Finding,
 ) -> Result<Note, AllocError> {
     let mut note = Note::new(alloc);
     match finding.kind {
-        Kind::Unmet(archive) => {
-            put_unmet(alloc, files, site_name, site, &mut note, finding, archive)?;
-        }
-        _ => put_finding(alloc, files, site_name, site, &mut note, finding)?,
-    }
+        Kind::Unmet(archive) => put_unmet(alloc, texts, site, &mut note, finding, archive),
+        _ => put_finding(alloc, texts, site, &mut note, finding),
+    }?;
     note.finish()
 }
 
@@ -241,14 +236,13 @@ fn put_group(
 
 /// A finding in words: where the object stands that it is about, of which classes it is found, why messages are lost by
 /// it, and what would change that.
-pub fn explanation<F: Files>(
+pub fn explanation(
     alloc: Global,
-    files: &F,
-    site_name: &str,
+    texts: &SiteTexts<'_>,
     site: &Site,
     finding: &Finding,
 ) -> Result<Vec<u8>, AllocError> {
-    let mut note = note_of_finding(alloc, files, site_name, site, finding)?;
+    let mut note = note_of_finding(alloc, texts, site, finding)?;
     put_group(alloc, &mut note, site, finding)?;
     let note = note.finish()?;
     let mut words = Words::new(alloc);

@@ -3,42 +3,53 @@
 use crate::faulty_events::{put_illegal, put_no_event, put_no_row};
 use crate::faulty_files::put_unread;
 use crate::faulty_plan::put_plan_fault;
-use crate::faulty_reference::{put_no_action, put_no_archive, put_no_entry, put_nothing_protected};
+use crate::faulty_reference::{
+    file_of_word, put_no_action, put_no_archive, put_no_entry, put_nothing_protected,
+};
 use crate::faulty_script::put_script_fault;
-use crate::faulty_site::{put_duplicate_line, put_faulty_line, site_line, stands_at_word};
+use crate::faulty_site::{
+    SiteLine, put_duplicate_line, put_faulty_line, site_line, stands_at_word,
+};
 use crate::faulty_spare::put_spare_archive;
 use crate::files::Files;
 use crate::halt::Halt;
 use crate::note::Note;
-use crate::places::{file_in, objects_of, places_of, read_relay_file};
+use crate::options::ReadNames;
+use crate::places::{file_name_in, objects_of, places_of};
+use crate::site_texts::{RelayText, read_relay_text, relay_file};
 use crate::source::text_of;
 use std::alloc::{AllocError, Global};
-use std::str;
+use sy_rules::PlanFault;
 use sy_site::{RelayFault, SiteFault};
 
-// Of a relay's file, which a line of the site file names.
-fn put_relay_fault<F: Files>(
+// Of the plan of a relay's file.
+fn put_fault_of_plan(
     alloc: Global,
-    files: &F,
     note: &mut Note,
-    name: &[u8],
+    text: &RelayText,
+    fault: &PlanFault,
+) -> Result<(), AllocError> {
+    let file = relay_file(alloc, Some(text))?;
+    let objects = objects_of(alloc, &file)?;
+    match places_of(&file, objects.as_slice()) {
+        Some(places) => put_plan_fault(alloc, note, places, fault),
+        None => Ok(()),
+    }
+}
+
+// Of a relay's file.
+fn put_relay_fault(
+    alloc: Global,
+    note: &mut Note,
+    file: &RelayText,
     why: &RelayFault,
 ) -> Result<(), AllocError> {
-    let Ok(name) = str::from_utf8(name) else {
-        return Ok(());
-    };
-    let file = read_relay_file(alloc, files, name)?;
-    let objects = objects_of(alloc, &file)?;
-    match (why, &file) {
-        (RelayFault::Script(fault), Some(file)) => {
-            put_script_fault(alloc, note, name, file.text.as_slice(), fault);
+    match why {
+        RelayFault::Script(fault) => {
+            put_script_fault(alloc, note, file.name.as_str(), file.text.as_slice(), fault);
             Ok(())
         }
-        (RelayFault::Plan(fault), Some(_)) => match places_of(&file, objects.as_slice()) {
-            Some(places) => put_plan_fault(alloc, note, places, fault),
-            None => Ok(()),
-        },
-        _ => Ok(()),
+        RelayFault::Plan(fault) => put_fault_of_plan(alloc, note, file, fault),
     }
 }
 
@@ -57,16 +68,29 @@ fn line_of(fault: &SiteFault) -> u64 {
     }
 }
 
-/// Puts what is known of a fault of a site file, whose text this is.
-pub fn put_site_fault<F: Files>(
+/// The line of a site file in which a fault is.
+pub fn faulty_line<'a>(site_name: &'a str, text: &'a [u8], fault: &SiteFault) -> SiteLine<'a> {
+    site_line(site_name, text, line_of(fault))
+}
+
+/// The name of the relay's file that is spoken of with a fault of a line.
+pub fn file_meant<'a>(at: SiteLine<'a>, fault: &SiteFault) -> Option<&'a str> {
+    match fault {
+        SiteFault::NoSuchEntry(_) | SiteFault::NoSuchAction(_) => file_of_word(at, 1),
+        SiteFault::NoSuchArchive(_) => file_of_word(at, 2),
+        SiteFault::Relay(_, _, _) => file_name_in(at.line),
+        _ => None,
+    }
+}
+
+/// Puts what is known of a fault of a line of a site file. The file is the one that is spoken of with it.
+pub fn put_site_fault(
     alloc: Global,
-    files: &F,
     note: &mut Note,
-    site_name: &str,
-    text: &[u8],
+    at: SiteLine<'_>,
+    file: Option<&RelayText>,
     fault: &SiteFault,
 ) -> Result<(), AllocError> {
-    let at = site_line(site_name, text, line_of(fault));
     match fault {
         SiteFault::Line(_) => put_faulty_line(alloc, note, at),
         SiteFault::Duplicate(_) => {
@@ -77,19 +101,19 @@ pub fn put_site_fault<F: Files>(
             stands_at_word(alloc, note, at, 2);
             Ok(())
         }
-        SiteFault::NoSuchEntry(_) => put_no_entry(alloc, files, note, at),
-        SiteFault::NoSuchArchive(_) => put_no_archive(alloc, files, note, at),
-        SiteFault::NoSuchAction(_) => put_no_action(alloc, files, note, at),
+        SiteFault::NoSuchEntry(_) => put_no_entry(alloc, note, at, file),
+        SiteFault::NoSuchArchive(_) => put_no_archive(alloc, note, at, file),
+        SiteFault::NoSuchAction(_) => put_no_action(alloc, note, at, file),
         SiteFault::SpareArchive(_) => {
             put_spare_archive(alloc, note, at);
             Ok(())
         }
         SiteFault::NothingProtected => {
-            put_nothing_protected(alloc, note, site_name, text);
+            put_nothing_protected(alloc, note, at.file, at.text);
             Ok(())
         }
-        SiteFault::Relay(_, _, why) => match file_in(at.line) {
-            Some((_, name)) => put_relay_fault(alloc, files, note, name, why),
+        SiteFault::Relay(_, _, why) => match file {
+            Some(file) => put_relay_fault(alloc, note, file, why),
             None => Ok(()),
         },
         SiteFault::NoMemory => Ok(()),
@@ -100,39 +124,67 @@ fn put_site<F: Files>(
     alloc: Global,
     files: &F,
     note: &mut Note,
-    names: &[&str],
+    site_name: &str,
     fault: &SiteFault,
 ) -> Result<(), AllocError> {
-    let Some(site_name) = names.first() else {
+    let Some(text) = text_of(files, site_name)? else {
         return Ok(());
     };
-    match text_of(files, site_name)? {
-        Some(text) => put_site_fault(alloc, files, note, site_name, text.as_slice(), fault),
-        None => Ok(()),
+    let at = faulty_line(site_name, text.as_slice(), fault);
+    match read_relay_text(alloc, files, file_meant(at, fault)) {
+        Ok(file) => put_site_fault(alloc, note, at, file.as_ref(), fault),
+        Err(why) => Err(why),
     }
+}
+
+// Of a certificate or an events file of that name and text.
+fn put_in_other(alloc: Global, note: &mut Note, file: &str, text: &[u8], halt: &Halt) {
+    match halt {
+        Halt::Certificate(fault) => put_no_row(alloc, note, file, text, *fault),
+        Halt::Illegal(number) => put_illegal(
+            alloc,
+            note,
+            file,
+            text,
+            *number,
+            "the event is no step of the site, as it stands after the events before",
+        ),
+        Halt::TotalsFull(number) => {
+            put_illegal(alloc, note, file, text, *number, "a total is full");
+        }
+        _ => {}
+    }
+}
+
+// Of the file beside a site's, where there is one that can be read.
+fn put_other<F: Files>(
+    alloc: Global,
+    files: &F,
+    note: &mut Note,
+    name: Option<&str>,
+    halt: &Halt,
+) -> Result<(), AllocError> {
+    let Some(name) = name else {
+        return Ok(());
+    };
+    if let Some(text) = text_of(files, name)? {
+        put_in_other(alloc, note, name, text.as_slice(), halt);
+    }
+    Ok(())
 }
 
 fn put_halt<F: Files>(
     alloc: Global,
     files: &F,
     note: &mut Note,
-    names: &[&str],
+    names: ReadNames<'_>,
     halt: &Halt,
 ) -> Result<(), AllocError> {
     match halt {
-        Halt::Site(fault) => put_site(alloc, files, note, names, fault),
-        Halt::Certificate(fault) => put_no_row(alloc, files, note, names, *fault),
+        Halt::Site(fault) => put_site(alloc, files, note, names.site, fault),
         Halt::Line(number) => put_no_event(alloc, files, note, names, *number),
-        Halt::Illegal(number) => put_illegal(
-            alloc,
-            files,
-            note,
-            names,
-            *number,
-            "the event is no step of the site, as it stands after the events before",
-        ),
-        Halt::TotalsFull(number) => {
-            put_illegal(alloc, files, note, names, *number, "a total is full")
+        Halt::Certificate(_) | Halt::Illegal(_) | Halt::TotalsFull(_) => {
+            put_other(alloc, files, note, names.second, halt)
         }
         Halt::ReadFailed => put_unread(alloc, note, files, names),
         Halt::NoMemory | Halt::WriteFailed => Ok(()),
@@ -140,11 +192,11 @@ fn put_halt<F: Files>(
 }
 
 /// The note of why a command over a site stopped, where something is known beyond its first line. Files are read once
-/// more for it. The names are those of the command line: that of the site file, and of the file beside it.
+/// more for it.
 pub fn note_of_fault<F: Files>(
     alloc: Global,
     files: &F,
-    names: &[&str],
+    names: ReadNames<'_>,
     halt: &Halt,
 ) -> Result<Option<Note>, AllocError> {
     let mut note = Note::new(alloc);

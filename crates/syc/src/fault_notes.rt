@@ -8,17 +8,13 @@ use crate::options::ReadNames;
 use crate::words::Words;
 use std::alloc::{AllocError, Global};
 
-// The note of a fault, where something is known beyond its first line.
-fn note_of<F: Files>(
-    alloc: Global,
-    files: &F,
-    names: ReadNames<'_>,
-    halt: &Halt,
-) -> Result<Option<Note>, AllocError> {
-    match names.second {
-        Some(second) => note_of_fault(alloc, files, &[names.site, second], halt),
-        None => note_of_fault(alloc, files, &[names.site], halt),
+// The lines of a note, where there is one.
+fn words_of(alloc: Global, note: Option<Note>) -> Result<Vec<u8>, AllocError> {
+    let mut words = Words::new(alloc);
+    if let Some(note) = note {
+        put_note(&mut words, &note);
     }
+    words.finish()
 }
 
 /// The lines behind the first one on standard error, of a command that stopped: where the fault stands, why it is one, and
@@ -29,9 +25,8 @@ pub fn fault_words<F: Files>(
     names: ReadNames<'_>,
     halt: &Halt,
 ) -> Result<Vec<u8>, AllocError> {
-    let mut words = Words::new(alloc);
-    if let Some(note) = note_of(alloc, files, names, halt)? {
-        put_note(&mut words, &note);
+    match note_of_fault(alloc, files, names, halt) {
+        Ok(note) => words_of(alloc, note),
+        Err(why) => Err(why),
     }
-    words.finish()
 }

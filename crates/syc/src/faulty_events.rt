@@ -1,11 +1,13 @@
 //! Notes of the lines of an events file, and of a certificate.
 
 use crate::encoding::{put_encoding, put_return};
-use crate::faulty_reference::put_no_port;
+use crate::faulty_reference::{file_named, put_no_port};
 use crate::faulty_site::relay_names;
 use crate::files::Files;
 use crate::near::nearest;
 use crate::note::{Note, Point};
+use crate::options::ReadNames;
+use crate::site_texts::{RelayText, read_relay_text};
 use crate::source::{behind, line_at, text_of, word_in};
 use crate::texts::Part;
 use std::alloc::{AllocError, Global};
@@ -125,17 +127,16 @@ fn shape_of(word: &[u8]) -> &'static str {
 }
 
 // Says that the relay has no input of the port that a line gives, where that is so, and answers whether it is.
-fn put_port<F: Files>(
+fn put_port(
     alloc: Global,
-    files: &F,
     note: &mut Note,
     at: OtherLine<'_>,
-    site_text: &[u8],
+    file: Option<&RelayText>,
 ) -> Result<bool, AllocError> {
     let (Some((_, relay)), Some((_, port))) = (word_in(at.line, 1), word_in(at.line, 2)) else {
         return Ok(false);
     };
-    if !put_no_port(alloc, files, note, site_text, relay, port)? {
+    if !put_no_port(alloc, note, file, relay, port)? {
         return Ok(false);
     }
     stands_at_word(alloc, note, at, 2);
@@ -182,18 +183,18 @@ fn doubtful(at: OtherLine<'_>, word: &[u8]) -> usize {
 }
 
 // Says of a line that begins with an event's word what is wrong with it.
-fn put_event<F: Files>(
+fn put_event(
     alloc: Global,
-    files: &F,
     note: &mut Note,
     at: OtherLine<'_>,
     word: &[u8],
     site_text: &[u8],
+    file: Option<&RelayText>,
 ) -> Result<(), AllocError> {
     if put_relay(alloc, note, at, site_text)? {
         return Ok(());
     }
-    if is_of_input(word) && put_port(alloc, files, note, at, site_text)? {
+    if is_of_input(word) && put_port(alloc, note, at, file)? {
         return Ok(());
     }
     if is_of_input(word) && put_hand(alloc, note, at, word) {
@@ -210,19 +211,19 @@ fn put_event<F: Files>(
 }
 
 // Says of a line which of its causes it is.
-fn put_line<F: Files>(
+fn put_line(
     alloc: Global,
-    files: &F,
     note: &mut Note,
     at: OtherLine<'_>,
     site_text: &[u8],
+    file: Option<&RelayText>,
 ) -> Result<(), AllocError> {
     let word: &[u8] = match word_in(at.line, 0) {
         Some((_, word)) => word,
         None => &[],
     };
     if EVENTS.iter().any(|known| *known == word) {
-        return put_event(alloc, files, note, at, word, site_text);
+        return put_event(alloc, note, at, word, site_text, file);
     }
     stands_at_word(alloc, note, at, 0);
     note.why.say(
@@ -257,21 +258,32 @@ fn other_line<'a>(file: &'a str, text: &'a [u8], number: u64) -> OtherLine<'a> {
     OtherLine { file, number, line }
 }
 
+// The name of the file of the relay that an event of an input is at.
+fn file_meant<'t>(at: OtherLine<'_>, site_text: &'t [u8]) -> Option<&'t str> {
+    let (_, word) = word_in(at.line, 0)?;
+    let (_, relay) = word_in(at.line, 1)?;
+    if is_of_input(word) {
+        file_named(site_text, relay)
+    } else {
+        None
+    }
+}
+
 /// Says of a line of an events file that is no event which of its causes it is.
 pub fn put_no_event<F: Files>(
     alloc: Global,
     files: &F,
     note: &mut Note,
-    names: &[&str],
+    names: ReadNames<'_>,
     number: u64,
 ) -> Result<(), AllocError> {
-    let [site_name, file] = names else {
+    let Some(file) = names.second else {
         return Ok(());
     };
     let Some(text) = text_of(files, file)? else {
         return Ok(());
     };
-    let Some(site_text) = text_of(files, site_name)? else {
+    let Some(site_text) = text_of(files, names.site)? else {
         return Ok(());
     };
     let at = other_line(file, text.as_slice(), number);
@@ -279,28 +291,25 @@ pub fn put_no_event<F: Files>(
     if !is_raw && put_bytes(alloc, note, at, text.as_slice()) {
         return Ok(());
     }
-    put_line(alloc, files, note, at, site_text.as_slice())
+    let site_text = site_text.as_slice();
+    match read_relay_text(alloc, files, file_meant(at, site_text)) {
+        Ok(relay) => put_line(alloc, note, at, site_text, relay.as_ref()),
+        Err(why) => Err(why),
+    }
 }
 
-/// Says of an event that isn't made where it stands.
-pub fn put_illegal<F: Files>(
+/// Says of an event that isn't made where it stands, in the events file of that name and text.
+pub fn put_illegal(
     alloc: Global,
-    files: &F,
     note: &mut Note,
-    names: &[&str],
+    file: &str,
+    text: &[u8],
     number: u64,
     why: &str,
-) -> Result<(), AllocError> {
-    let [_, file] = names else {
-        return Ok(());
-    };
-    let Some(text) = text_of(files, file)? else {
-        return Ok(());
-    };
-    let at = other_line(file, text.as_slice(), number);
+) {
+    let at = other_line(file, text, number);
     stands_at_word(alloc, note, at, 0);
     note.why.say(why);
-    Ok(())
 }
 
 // Says of a line that has no row's shape what the lines of a certificate are.
@@ -336,25 +345,12 @@ fn put_row(note: &mut Note, at: OtherLine<'_>, fault: TextFault) {
     }
 }
 
-/// Says of a line of a certificate why it is none.
-pub fn put_no_row<F: Files>(
-    alloc: Global,
-    files: &F,
-    note: &mut Note,
-    names: &[&str],
-    fault: TextFault,
-) -> Result<(), AllocError> {
-    let [_, file] = names else {
-        return Ok(());
-    };
-    let Some(text) = text_of(files, file)? else {
-        return Ok(());
-    };
-    let at = other_line(file, text.as_slice(), fault.line as u64);
-    if put_bytes(alloc, note, at, text.as_slice()) {
-        return Ok(());
+/// Says of a line of a certificate, in the file of that name and text, why it is none.
+pub fn put_no_row(alloc: Global, note: &mut Note, file: &str, text: &[u8], fault: TextFault) {
+    let at = other_line(file, text, fault.line as u64);
+    if put_bytes(alloc, note, at, text) {
+        return;
     }
     stands_at_word(alloc, note, at, 0);
     put_row(note, at, fault);
-    Ok(())
 }

@@ -2,19 +2,46 @@
 
 use crate::files::{Files, Reason};
 use crate::note::{Note, Point};
-use crate::places::file_in;
+use crate::options::ReadNames;
+use crate::places::file_name_in;
 use crate::source::{text_of, without_return, word_in};
 use crate::texts::Part;
 use crate::words::Words;
 use std::alloc::{AllocError, Global};
-use std::str;
 
-// Puts where a name that isn't absolute was looked for.
-fn put_folder<F: Files>(words: &mut Words, files: &F, name: &str) {
+/// Why a file can't be read and, where it isn't there, the directory in which its name was looked for.
+#[derive(Drop)]
+pub struct Unread {
+    reason: Reason,
+    folder: Option<String>,
+}
+
+// The directory in which a name is looked for: none where the name is absolute.
+fn folder_of<F: Files>(files: &F, name: &str) -> Option<String> {
     if name.as_bytes().first() == Some(&b'/') {
-        return;
+        return None;
     }
-    if let Some(folder) = files.folder() {
+    files.folder()
+}
+
+/// Why the file of this name can't be read; nothing where it can be, or where that isn't known.
+pub fn why_unread<F: Files>(files: &F, name: &str) -> Option<Unread> {
+    match files.reason(name) {
+        Some(Reason::Missing) => Some(Unread {
+            reason: Reason::Missing,
+            folder: folder_of(files, name),
+        }),
+        Some(reason) => Some(Unread {
+            reason,
+            folder: None,
+        }),
+        None => None,
+    }
+}
+
+// Puts where a name was looked for.
+fn put_folder(words: &mut Words, unread: &Unread) {
+    if let Some(folder) = &unread.folder {
         words.put(&[
             Part::Text(b" (looked for in "),
             Part::Text(folder.as_bytes()),
@@ -24,12 +51,12 @@ fn put_folder<F: Files>(words: &mut Words, files: &F, name: &str) {
 }
 
 // Says why a file can't be read.
-fn put_reason<F: Files>(note: &mut Note, files: &F, name: &str, reason: Reason, where_it_is: &str) {
+fn put_reason(note: &mut Note, name: &str, unread: &Unread, where_it_is: &str) {
     note.why.say(name);
-    match reason {
+    match unread.reason {
         Reason::Missing => {
             note.why.say(": no such file");
-            put_folder(&mut note.why, files, name);
+            put_folder(&mut note.why, unread);
             note.change.say("the name ");
             note.change.say(where_it_is);
             note.change.say(", or the directory that syc is started in");
@@ -51,40 +78,26 @@ fn put_reason<F: Files>(note: &mut Note, files: &F, name: &str, reason: Reason, 
 }
 
 // Says of a file that the command line names why it can't be read.
-fn put_named<F: Files>(note: &mut Note, files: &F, name: &str, reason: Reason) {
+fn put_named(note: &mut Note, name: &str, unread: &Unread) {
     note.what.say("the command line: ");
     note.what.say(name);
-    put_reason(note, files, name, reason, "on the command line");
+    put_reason(note, name, unread, "on the command line");
 }
 
-// Says of a relay's file why it can't be read.
-fn put_relay<F: Files>(
+/// Says of the file of this name, which a line of the site file gives a relay, why it can't be read: the site file's name,
+/// that line's number and the relay's name are given.
+pub fn put_unread_relay(
     alloc: Global,
     note: &mut Note,
-    files: &F,
     site: (&str, u64, &[u8]),
     name: &str,
-    reason: Reason,
+    unread: &Unread,
 ) {
     let (file, line, relay) = site;
     let point = Point { line, column: 1 };
     note.stands_at(alloc, file.as_bytes(), Some(point));
     note.what.put(&[Part::Text(b"relay "), Part::Text(relay)]);
-    put_reason(note, files, name, reason, "in that line");
-}
-
-/// Says of the file of this name, which a line of the site file gives a relay, why it can't be read: the site file's name,
-/// that line's number and the relay's name are given.
-pub fn put_unread_relay<F: Files>(
-    alloc: Global,
-    note: &mut Note,
-    files: &F,
-    site: (&str, u64, &[u8]),
-    name: &str,
-) {
-    if let Some(reason) = files.reason(name) {
-        put_relay(alloc, note, files, site, name, reason);
-    }
+    put_reason(note, name, unread, "in that line");
 }
 
 // Says of the first relay's file that can't be read why it can't, and answers whether there is one.
@@ -93,48 +106,41 @@ fn put_relays<F: Files>(
     note: &mut Note,
     files: &F,
     site_name: &str,
-) -> Result<bool, AllocError> {
-    let Some(text) = text_of(files, site_name)? else {
-        return Ok(false);
-    };
+    text: &[u8],
+) -> bool {
     let mut number: u64 = 1;
-    for line in text.as_slice().split(|b| *b == b'\n') {
+    for line in text.split(|b| *b == b'\n') {
         let line = without_return(line);
-        if let (Some((_, file)), Some((_, relay))) = (file_in(line), word_in(line, 1)) {
-            if let Ok(name) = str::from_utf8(file) {
-                if let Some(reason) = files.reason(name) {
-                    put_relay(alloc, note, files, (site_name, number, relay), name, reason);
-                    return Ok(true);
-                }
+        if let (Some(name), Some((_, relay))) = (file_name_in(line), word_in(line, 1)) {
+            if let Some(unread) = why_unread(files, name) {
+                put_unread_relay(alloc, note, (site_name, number, relay), name, &unread);
+                return true;
             }
         }
         number = number.saturating_add(1);
     }
-    Ok(false)
+    false
 }
 
-/// Says of a command that could not read a file which one that is, which line names it, and why it can't be read. The
-/// names are those of the command line, that of the site file first.
+/// Says of a command that could not read a file which one that is, which line names it, and why it can't be read.
 pub fn put_unread<F: Files>(
     alloc: Global,
     note: &mut Note,
     files: &F,
-    names: &[&str],
+    names: ReadNames<'_>,
 ) -> Result<(), AllocError> {
-    let Some(site_name) = names.first() else {
-        return Ok(());
-    };
-    if let Some(reason) = files.reason(site_name) {
-        put_named(note, files, site_name, reason);
+    if let Some(unread) = why_unread(files, names.site) {
+        put_named(note, names.site, &unread);
         return Ok(());
     }
-    if put_relays(alloc, note, files, site_name)? {
-        return Ok(());
-    }
-    for name in names {
-        if let Some(reason) = files.reason(name) {
-            put_named(note, files, name, reason);
+    if let Some(text) = text_of(files, names.site)? {
+        if put_relays(alloc, note, files, names.site, text.as_slice()) {
             return Ok(());
+        }
+    }
+    if let Some(second) = names.second {
+        if let Some(unread) = why_unread(files, second) {
+            put_named(note, second, &unread);
         }
     }
     Ok(())

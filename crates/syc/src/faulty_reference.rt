@@ -1,41 +1,33 @@
 //! Notes of lines of a site file that name an input or an archive that isn't there, and of a site without any.
 
 use crate::faulty_site::{SiteLine, stands_at_word};
-use crate::files::Files;
 use crate::near::nearest;
 use crate::note::Note;
 use crate::outline::{Object, ObjectWord, value_of};
-use crate::places::{Places, RelayFile, file_in, objects_of, places_of, read_relay_file};
+use crate::places::{Places, file_in, file_name_in, objects_of, places_of};
+use crate::site_texts::{RelayText, relay_file};
 use crate::source::{without_return, word_in};
 use crate::texts::Part;
 use crate::words::Words;
 use std::alloc::{AllocError, Global};
-use std::str;
 
-// The name of the file of the relay with this name.
-fn file_named<'t>(text: &'t [u8], relay: &[u8]) -> Option<&'t str> {
+/// The name of the file of the relay with this name.
+pub fn file_named<'t>(text: &'t [u8], relay: &[u8]) -> Option<&'t str> {
     for line in text.split(|b| *b == b'\n') {
         let line = without_return(line);
-        if let (Some((_, name)), Some((_, file))) = (word_in(line, 1), file_in(line)) {
+        if let (Some((_, name)), Some(_)) = (word_in(line, 1), file_in(line)) {
             if name == relay {
-                return str::from_utf8(file).ok();
+                return file_name_in(line);
             }
         }
     }
     None
 }
 
-// The file of the relay with this name, where it can be read.
-fn file_of<F: Files>(
-    alloc: Global,
-    files: &F,
-    text: &[u8],
-    relay: &[u8],
-) -> Result<Option<RelayFile>, AllocError> {
-    match file_named(text, relay) {
-        Some(name) => read_relay_file(alloc, files, name),
-        None => Ok(None),
-    }
+/// The name of the file of the relay that a word of the line names.
+pub fn file_of_word<'a>(at: SiteLine<'a>, number: usize) -> Option<&'a str> {
+    let (_, relay) = word_in(at.line, number)?;
+    file_named(at.text, relay)
 }
 
 // The number that digits write, so far as it fits.
@@ -62,16 +54,27 @@ fn has_port(objects: &[Object<'_>], wanted: &[u8]) -> bool {
     false
 }
 
-/// Says that a relay has no input of this port, and which it has, where that is so, and answers whether it is.
-pub fn put_no_port<F: Files>(
+// Puts the ports of inputs.
+fn put_ports(words: &mut Words, objects: &[Object<'_>]) {
+    for object in objects {
+        if object.word == ObjectWord::Input {
+            if let Some(port) = value_of(object.params, b"port") {
+                words.put(&[Part::Text(b" "), Part::Text(port)]);
+            }
+        }
+    }
+}
+
+/// Says that a relay with this file has no input of this port, and which it has, where that is so, and answers whether it
+/// is.
+pub fn put_no_port(
     alloc: Global,
-    files: &F,
     note: &mut Note,
-    site_text: &[u8],
+    file: Option<&RelayText>,
     relay: &[u8],
     port: &[u8],
 ) -> Result<bool, AllocError> {
-    let file = file_of(alloc, files, site_text, relay)?;
+    let file = relay_file(alloc, file)?;
     let objects = objects_of(alloc, &file)?;
     if has_port(objects.as_slice(), port) {
         return Ok(false);
@@ -82,28 +85,25 @@ pub fn put_no_port<F: Files>(
         Part::Text(relay),
         Part::Text(b":"),
     ]);
-    for object in objects.as_slice() {
-        if object.word == ObjectWord::Input {
-            if let Some(port) = value_of(object.params, b"port") {
-                note.change.put(&[Part::Text(b" "), Part::Text(port)]);
-            }
-        }
-    }
+    put_ports(&mut note.change, objects.as_slice());
     Ok(true)
 }
 
 /// Says of an entry line that its relay has no input of that port, and which ports there are.
-pub fn put_no_entry<F: Files>(
+pub fn put_no_entry(
     alloc: Global,
-    files: &F,
     note: &mut Note,
     at: SiteLine<'_>,
+    file: Option<&RelayText>,
 ) -> Result<(), AllocError> {
     stands_at_word(alloc, note, at, 2);
-    if let (Some((_, relay)), Some((_, port))) = (word_in(at.line, 1), word_in(at.line, 2)) {
-        put_no_port(alloc, files, note, at.text, relay, port)?;
+    let (Some((_, relay)), Some((_, port))) = (word_in(at.line, 1), word_in(at.line, 2)) else {
+        return Ok(());
+    };
+    match put_no_port(alloc, note, file, relay, port) {
+        Ok(_) => Ok(()),
+        Err(why) => Err(why),
     }
-    Ok(())
 }
 
 /// What a line names: an action that writes a file, or any action.
@@ -174,17 +174,16 @@ fn put_all_found(
     Ok(())
 }
 
-// Puts what a relay has of what is sought.
-fn put_choice<F: Files>(
+// Puts what a relay with this file has of what is sought.
+fn put_choice(
     alloc: Global,
-    files: &F,
     note: &mut Note,
-    site_text: &[u8],
+    file: Option<&RelayText>,
     relay: &[u8],
     wanted: &[u8],
     sought: Sought,
 ) -> Result<(), AllocError> {
-    let file = file_of(alloc, files, site_text, relay)?;
+    let file = relay_file(alloc, file)?;
     let objects = objects_of(alloc, &file)?;
     note.change.put(&[Part::Text(b" of "), Part::Text(relay), Part::Text(b":")]);
     if !objects
@@ -201,11 +200,11 @@ fn put_choice<F: Files>(
 }
 
 /// Says of a protect line that its relay has no archive of that name, and which there are.
-pub fn put_no_archive<F: Files>(
+pub fn put_no_archive(
     alloc: Global,
-    files: &F,
     note: &mut Note,
     at: SiteLine<'_>,
+    file: Option<&RelayText>,
 ) -> Result<(), AllocError> {
     stands_at_word(alloc, note, at, 3);
     let (Some((_, relay)), Some((_, wanted))) = (word_in(at.line, 2), word_in(at.line, 3)) else {
@@ -216,15 +215,15 @@ pub fn put_no_archive<F: Files>(
         Part::Text(b" has no omfile action of this name"),
     ]);
     note.change.say("an omfile action");
-    put_choice(alloc, files, note, at.text, relay, wanted, Sought::Archive)
+    put_choice(alloc, note, file, relay, wanted, Sought::Archive)
 }
 
 /// Says of a spare line that its relay has no action of that name, and which there are.
-pub fn put_no_action<F: Files>(
+pub fn put_no_action(
     alloc: Global,
-    files: &F,
     note: &mut Note,
     at: SiteLine<'_>,
+    file: Option<&RelayText>,
 ) -> Result<(), AllocError> {
     stands_at_word(alloc, note, at, 2);
     let (Some((_, relay)), Some((_, wanted))) = (word_in(at.line, 1), word_in(at.line, 2)) else {
@@ -235,7 +234,7 @@ pub fn put_no_action<F: Files>(
         Part::Text(b" has no action of this name"),
     ]);
     note.change.say("an action");
-    put_choice(alloc, files, note, at.text, relay, wanted, Sought::Action)
+    put_choice(alloc, note, file, relay, wanted, Sought::Action)
 }
 
 // Whether a line begins with a word.

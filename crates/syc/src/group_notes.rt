@@ -1,8 +1,8 @@
 //! What `--all` with `--explain` says of each finding.
 
 use crate::explanation::note_of_finding;
-use crate::files::Files;
 use crate::note::put_note;
+use crate::site_texts::SiteTexts;
 use crate::words::Words;
 use std::alloc::{AllocError, Global};
 use sy_checker::Group;
@@ -11,10 +11,9 @@ use sy_script::Items;
 use sy_site::Site;
 
 /// The words on a group, behind its line: those on its first class.
-pub fn group_words<F: Files>(
+pub fn group_words(
     alloc: Global,
-    files: &F,
-    site_name: &str,
+    texts: &SiteTexts<'_>,
     site: &Site,
     group: &Group,
 ) -> Result<Vec<u8>, AllocError> {
@@ -26,7 +25,7 @@ pub fn group_words<F: Files>(
             way: Items::new(alloc),
             kind: group.kind,
         };
-        let note = note_of_finding(alloc, files, site_name, site, &finding)?;
+        let note = note_of_finding(alloc, texts, site, &finding)?;
         put_note(&mut words, &note);
     }
     words.finish()

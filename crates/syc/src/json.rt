@@ -9,7 +9,8 @@ use crate::files::Files;
 use crate::halt::{Halt, status_of};
 use crate::members::{Elements, Members};
 use crate::options::{Options, ReadNames};
-use crate::reported::{Replayed, losses_in, put_fault, put_noted};
+use crate::reported::{Replayed, fault_element, losses_in, with_others};
+use crate::site_texts::{SiteTexts, read_site_texts};
 use crate::verdict::WrongRow;
 use crate::warnings::warnings_of;
 use std::alloc::{AllocError, Global};
@@ -80,17 +81,16 @@ fn put_parts(document: &mut Members, parts: Parts) {
 }
 
 // A document of a site that could be read, with what is found in it.
-fn judged<F: Files>(
+fn judged(
     alloc: Global,
-    files: &F,
-    names: ReadNames<'_>,
+    texts: &SiteTexts<'_>,
     site: &Site,
     findings: Elements,
     mut document: Members,
 ) -> Result<Members, AllocError> {
     let classes = protected_classes(alloc, site)?;
     let protected = class_names(alloc, classes.as_slice())?;
-    let warnings = warnings_of(alloc, files, names.site, site)?;
+    let warnings = warnings_of(alloc, texts, site)?;
     let parts = Parts {
         policy: Some(u64::from(site.policy())),
         spare: Some(spare_elements(alloc, site)),
@@ -106,38 +106,36 @@ fn judged<F: Files>(
 }
 
 // What is found: with `--all` all of it.
-fn findings_of<F: Files>(
+fn findings_of(
     alloc: Global,
-    files: &F,
-    names: ReadNames<'_>,
+    texts: &SiteTexts<'_>,
     options: Options,
     site: &Site,
     finding: &Finding,
 ) -> Result<Elements, AllocError> {
     if options.all {
         let groups = survey(alloc, site)?;
-        return all_findings(alloc, files, names.site, site, groups.as_slice());
+        return all_findings(alloc, texts, site, groups.as_slice());
     }
-    first_finding(alloc, files, names.site, site, finding)
+    first_finding(alloc, texts, site, finding)
 }
 
 // The document of a verdict on a site.
-fn verdict_of<F: Files>(
+fn verdict_of(
     alloc: Global,
-    files: &F,
-    names: ReadNames<'_>,
+    texts: &SiteTexts<'_>,
     options: Options,
     site: &Site,
     command: &str,
     found: Option<&Finding>,
 ) -> Result<Members, AllocError> {
     let findings = match found {
-        Some(finding) => findings_of(alloc, files, names, options, site, finding),
+        Some(finding) => findings_of(alloc, texts, options, site, finding),
         None => Ok(Elements::new(alloc)),
     }?;
     let mut document = document_of(alloc, command, u8::from(found.is_some()));
     put_verdict(&mut document, found.is_none());
-    judged(alloc, files, names, site, findings, document)
+    judged(alloc, texts, site, findings, document)
 }
 
 /// What a check says of a site: that it is accepted, or what is found first. With `--all` the document has all that is
@@ -150,7 +148,30 @@ pub fn check_document<F: Files>(
     site: &Site,
     found: Option<&Finding>,
 ) -> Result<Vec<u8>, AllocError> {
-    let document = verdict_of(alloc, files, names, options, site, "check", found)?;
+    let texts = read_site_texts(alloc, files, names.site)?;
+    match verdict_of(alloc, &texts, options, site, "check", found) {
+        Ok(document) => document.finish(),
+        Err(why) => Err(why),
+    }
+}
+
+// The document of the making of a certificate.
+fn document_of_made(
+    alloc: Global,
+    texts: &SiteTexts<'_>,
+    options: Options,
+    site: &Site,
+    made: Result<&[u8], &Finding>,
+) -> Result<Vec<u8>, AllocError> {
+    let found = match made {
+        Ok(_) => None,
+        Err(finding) => Some(finding),
+    };
+    let mut document = verdict_of(alloc, texts, options, site, "certify", found)?;
+    match made {
+        Ok(text) => document.text("certificate", text),
+        Err(_) => document.null("certificate"),
+    }
     document.finish()
 }
 
@@ -163,16 +184,10 @@ pub fn certify_document<F: Files>(
     site: &Site,
     made: Result<&[u8], &Finding>,
 ) -> Result<Vec<u8>, AllocError> {
-    let found = match made {
-        Ok(_) => None,
-        Err(finding) => Some(finding),
-    };
-    let mut document = verdict_of(alloc, files, names, options, site, "certify", found)?;
-    match made {
-        Ok(text) => document.text("certificate", text),
-        Err(_) => document.null("certificate"),
+    match read_site_texts(alloc, files, names.site) {
+        Ok(texts) => document_of_made(alloc, &texts, options, site, made),
+        Err(why) => Err(why),
     }
-    document.finish()
 }
 
 // The first wrong row of a certificate.
@@ -181,6 +196,26 @@ fn wrong_row(alloc: Global, wrong: WrongRow) -> Members {
     row.number("line", wrong.line as u64);
     row.text("row", wrong.row.words().as_bytes());
     row
+}
+
+// The document of a verdict on a certificate.
+fn document_of_verdict(
+    alloc: Global,
+    texts: &SiteTexts<'_>,
+    site: &Site,
+    wrong: Option<WrongRow>,
+) -> Result<Vec<u8>, AllocError> {
+    let mut document = document_of(alloc, "verify", u8::from(wrong.is_some()));
+    put_verdict(&mut document, wrong.is_none());
+    match wrong {
+        Some(wrong) => document.object("wrong", wrong_row(alloc, wrong)),
+        None => document.null("wrong"),
+    }
+    let findings = Elements::new(alloc);
+    match judged(alloc, texts, site, findings, document) {
+        Ok(document) => document.finish(),
+        Err(why) => Err(why),
+    }
 }
 
 /// What a verify says of a certificate for a site: that it is accepted, or its first wrong row.
@@ -192,51 +227,53 @@ pub fn verify_document<F: Files>(
     site: &Site,
     wrong: Option<WrongRow>,
 ) -> Result<Vec<u8>, AllocError> {
-    let mut document = document_of(alloc, "verify", u8::from(wrong.is_some()));
-    put_verdict(&mut document, wrong.is_none());
-    match wrong {
-        Some(wrong) => document.object("wrong", wrong_row(alloc, wrong)),
-        None => document.null("wrong"),
+    match read_site_texts(alloc, files, names.site) {
+        Ok(texts) => document_of_verdict(alloc, &texts, site, wrong),
+        Err(why) => Err(why),
     }
-    let findings = Elements::new(alloc);
-    let document = judged(alloc, files, names, site, findings, document)?;
-    document.finish()
 }
 
 // Why a command stopped.
-fn faults_of<F: Files>(
+fn first_fault<F: Files>(
     alloc: Global,
     files: &F,
     names: ReadNames<'_>,
     halt: Option<&Halt>,
-) -> Result<Parts, AllocError> {
-    let mut faults = Elements::new(alloc);
-    if let Some(halt) = halt {
-        put_fault(alloc, files, names, &mut faults, halt)?;
+) -> Result<Elements, AllocError> {
+    match halt {
+        Some(halt) => fault_element(alloc, files, names, halt),
+        None => Ok(Elements::new(alloc)),
     }
-    Ok(Parts {
+}
+
+// What a document has where nothing of a site is told but faults.
+fn parts_of_faults(alloc: Global, faults: Elements) -> Parts {
+    Parts {
         policy: None,
         spare: None,
         protected: None,
         findings: Elements::new(alloc),
         warnings: Elements::new(alloc),
         faults,
-    })
+    }
 }
 
-// Puts the other faults behind the one by which a command stopped.
-fn put_others<F: Files>(
+// The fault by which a command stopped and, where all are told, the others behind it.
+fn faults_of<F: Files>(
     alloc: Global,
     files: &F,
     names: ReadNames<'_>,
-    faults: &mut Elements,
     halt: &Halt,
-) -> Result<(), AllocError> {
-    let others = other_faults(alloc, files, names, halt)?;
-    for fault in others.as_slice() {
-        put_noted(alloc, faults, &fault.halt, &fault.note)?;
+    tells_all: bool,
+) -> Result<Elements, AllocError> {
+    let faults = fault_element(alloc, files, names, halt)?;
+    if !tells_all {
+        return Ok(faults);
     }
-    Ok(())
+    match other_faults(alloc, files, names, halt) {
+        Ok(others) => with_others(alloc, faults, others.as_slice()),
+        Err(why) => Err(why),
+    }
 }
 
 fn status_for(halt: Option<&Halt>) -> u8 {
@@ -244,6 +281,31 @@ fn status_for(halt: Option<&Halt>) -> u8 {
         Some(halt) => status_of(halt),
         None => 0,
     }
+}
+
+// The document of a replay that printed these lines and stopped by these faults.
+fn document_of_replay(
+    alloc: Global,
+    lines: &[u8],
+    status: u8,
+    faults: Elements,
+) -> Result<Vec<u8>, AllocError> {
+    let parts = parts_of_faults(alloc, faults);
+    let Replayed {
+        losses,
+        events,
+        messages,
+    } = losses_in(alloc, lines);
+    let mut counts = counts_of(alloc, &parts);
+    counts.number_if_any("events", events);
+    counts.number_if_any("messages", messages);
+    counts.number("losses", losses.len());
+    let mut document = document_of(alloc, "replay", status);
+    document.null("verdict");
+    document.object("counts", counts);
+    document.array("losses", losses);
+    put_parts(&mut document, parts);
+    document.finish()
 }
 
 /// What a replay says, whose lines are these: one for each loss and, where all events were made, the last one; and why it
@@ -256,20 +318,24 @@ pub fn replay_document<F: Files>(
     lines: &[u8],
     halt: Option<&Halt>,
 ) -> Result<Vec<u8>, AllocError> {
-    let parts = faults_of(alloc, files, names, halt)?;
-    let Replayed {
-        losses,
-        events,
-        messages,
-    } = losses_in(alloc, lines);
-    let mut counts = counts_of(alloc, &parts);
-    counts.number_if_any("events", events);
-    counts.number_if_any("messages", messages);
-    counts.number("losses", losses.len());
-    let mut document = document_of(alloc, "replay", status_for(halt));
+    match first_fault(alloc, files, names, halt) {
+        Ok(faults) => document_of_replay(alloc, lines, status_for(halt), faults),
+        Err(why) => Err(why),
+    }
+}
+
+// The document of a command that stopped by these faults.
+fn document_of_faults(
+    alloc: Global,
+    command: &str,
+    status: u8,
+    faults: Elements,
+) -> Result<Vec<u8>, AllocError> {
+    let parts = parts_of_faults(alloc, faults);
+    let counts = counts_of(alloc, &parts);
+    let mut document = document_of(alloc, command, status);
     document.null("verdict");
     document.object("counts", counts);
-    document.array("losses", losses);
     put_parts(&mut document, parts);
     document.finish()
 }
@@ -284,14 +350,8 @@ pub fn fault_document<F: Files>(
     options: Options,
     halt: &Halt,
 ) -> Result<Vec<u8>, AllocError> {
-    let mut parts = faults_of(alloc, files, names, Some(halt))?;
-    if options.all {
-        put_others(alloc, files, names, &mut parts.faults, halt)?;
+    match faults_of(alloc, files, names, halt, options.all) {
+        Ok(faults) => document_of_faults(alloc, command, status_of(halt), faults),
+        Err(why) => Err(why),
     }
-    let counts = counts_of(alloc, &parts);
-    let mut document = document_of(alloc, command, status_of(halt));
-    document.null("verdict");
-    document.object("counts", counts);
-    put_parts(&mut document, parts);
-    document.finish()
 }

@@ -110,6 +110,7 @@ mod serve;
 mod serving;
 mod show;
 mod site;
+mod site_texts;
 mod source;
 mod spares;
 mod spell;

@@ -1,23 +1,13 @@
 //! Where the objects of a relay stand: in which line of which file.
 
-use crate::files::Files;
 use crate::note::{Note, Point, put_point};
 use crate::outline::{Object, ObjectWord, object_of, outline_script};
-use crate::source::{point_at, text_of, without_return, word_in};
+use crate::site_texts::RelayFile;
+use crate::source::{point_at, without_return, word_in};
 use crate::words::Words;
 use std::alloc::{AllocError, Global};
 use std::str;
-use sy_script::tree::Script;
-use sy_script::{FaultCode, read_script};
 use sy_site::{Site, SiteAction};
-
-/// A relay's file: its name as the site file writes it, its bytes, and its script, where it is one.
-#[derive(Drop)]
-pub struct RelayFile {
-    pub name: String,
-    pub text: Vec<u8>,
-    pub script: Option<Script>,
-}
 
 /// A relay's file with its objects.
 #[derive(Clone, Copy)]
@@ -68,13 +58,24 @@ impl<'a> Places<'a> {
     }
 }
 
+/// Whether a line of the site file is a relay line.
+pub fn is_relay_line(line: &[u8]) -> bool {
+    matches!(word_in(line, 0), Some((_, first)) if first == b"relay".as_slice())
+}
+
 /// The name of a relay's file in a line of the site file, with its place there, where that is a relay line.
 pub fn file_in(line: &[u8]) -> Option<(usize, &[u8])> {
-    let (_, first) = word_in(line, 0)?;
-    if first != b"relay".as_slice() {
-        return None;
+    if is_relay_line(line) {
+        word_in(line, 2)
+    } else {
+        None
     }
-    word_in(line, 2)
+}
+
+/// The same name as a text.
+pub fn file_name_in(line: &[u8]) -> Option<&str> {
+    let (_, name) = file_in(line)?;
+    str::from_utf8(name).ok()
 }
 
 // Of the lines of a text that begin with a word the one of this number, counted from 0: its number among all lines, counted
@@ -112,56 +113,11 @@ pub fn spare_line<'t>(text: &'t [u8], site: &Site, spare: SiteAction) -> Option<
     None
 }
 
-// The name of a relay's file, in the text of the site file.
-fn file_of(text: &[u8], relay: u32) -> Option<&str> {
-    let (_, line) = relay_line(text, relay)?;
-    let (_, name) = file_in(line)?;
-    str::from_utf8(name).ok()
-}
-
-// The script that a text is, where it is one.
-fn script_of(alloc: Global, text: &[u8]) -> Result<Option<Script>, AllocError> {
-    match read_script(alloc, text) {
-        Ok(script) => Ok(Some(script)),
-        Err(fault) => match fault.code {
-            FaultCode::NoMemory => Err(AllocError),
-            _ => Ok(None),
-        },
-    }
-}
-
-/// A relay's file by its name, where it can be read once more.
-pub fn read_relay_file<F: Files>(
-    alloc: Global,
-    files: &F,
-    name: &str,
-) -> Result<Option<RelayFile>, AllocError> {
-    let Some(text) = text_of(files, name)? else {
-        return Ok(None);
-    };
-    let script = script_of(alloc, text.as_slice())?;
-    let name = String::from_str(alloc, name)?;
-    Ok(Some(RelayFile { name, text, script }))
-}
-
-/// The file of a relay by its number, where it can be found and read once more.
-pub fn relay_file<F: Files>(
-    alloc: Global,
-    files: &F,
-    site_name: &str,
-    relay: u32,
-) -> Result<Option<RelayFile>, AllocError> {
-    let Some(text) = text_of(files, site_name)? else {
-        return Ok(None);
-    };
-    match file_of(text.as_slice(), relay) {
-        Some(name) => read_relay_file(alloc, files, name),
-        None => Ok(None),
-    }
-}
-
 /// The objects of a relay's file.
-pub fn objects_of(alloc: Global, file: &Option<RelayFile>) -> Result<Vec<Object<'_>>, AllocError> {
+pub fn objects_of<'a>(
+    alloc: Global,
+    file: &'a Option<RelayFile<'_>>,
+) -> Result<Vec<Object<'a>>, AllocError> {
     match file {
         Some(
             RelayFile {
@@ -174,11 +130,14 @@ pub fn objects_of(alloc: Global, file: &Option<RelayFile>) -> Result<Vec<Object<
 }
 
 /// A relay's file with its objects, where it is a script.
-pub fn places_of<'a>(file: &'a Option<RelayFile>, objects: &'a [Object<'a>]) -> Option<Places<'a>> {
+pub fn places_of<'a>(
+    file: &'a Option<RelayFile<'_>>,
+    objects: &'a [Object<'a>],
+) -> Option<Places<'a>> {
     match file {
         Some(file) if file.script.is_some() => Some(Places {
-            file: file.name.as_str(),
-            text: file.text.as_slice(),
+            file: file.name,
+            text: file.text,
             objects,
         }),
         _ => None,

@@ -8,6 +8,7 @@ use crate::halt::{Halt, tell};
 use crate::members::{Elements, Members};
 use crate::note::Note;
 use crate::options::ReadNames;
+use crate::told_faults::ToldFault;
 use std::alloc::{AllocError, Global};
 
 // A line without the program's name before it and its LF.
@@ -44,26 +45,8 @@ fn name_in(line: &[u8]) -> &[u8] {
     }
 }
 
-// The note of a fault, with nothing in it where no more is known than its line.
-fn note_of<F: Files>(
-    alloc: Global,
-    files: &F,
-    names: ReadNames<'_>,
-    halt: &Halt,
-) -> Result<Note, AllocError> {
-    let found = match names.second {
-        Some(second) => note_of_fault(alloc, files, &[names.site, second], halt),
-        None => note_of_fault(alloc, files, &[names.site], halt),
-    };
-    match found {
-        Ok(Some(note)) => Ok(note),
-        Ok(None) => Ok(Note::new(alloc)),
-        Err(why) => Err(why),
-    }
-}
-
-/// Puts a fault behind the others, with its note.
-pub fn put_noted(
+// Puts a fault behind the others, with its note.
+fn put_noted(
     alloc: Global,
     faults: &mut Elements,
     halt: &Halt,
@@ -83,16 +66,42 @@ pub fn put_noted(
     Ok(())
 }
 
-/// Puts the fault behind the others by which a command stopped.
-pub fn put_fault<F: Files>(
+// A fault by itself, with nothing of a note where no more is known than its line.
+fn noted(alloc: Global, halt: &Halt, note: Option<Note>) -> Result<Elements, AllocError> {
+    let note = match note {
+        Some(note) => note,
+        None => Note::new(alloc),
+    };
+    let mut faults = Elements::new(alloc);
+    match put_noted(alloc, &mut faults, halt, &note) {
+        Ok(()) => Ok(faults),
+        Err(why) => Err(why),
+    }
+}
+
+/// The fault by which a command stopped.
+pub fn fault_element<F: Files>(
     alloc: Global,
     files: &F,
     names: ReadNames<'_>,
-    faults: &mut Elements,
     halt: &Halt,
-) -> Result<(), AllocError> {
-    let note = note_of(alloc, files, names, halt)?;
-    put_noted(alloc, faults, halt, &note)
+) -> Result<Elements, AllocError> {
+    match note_of_fault(alloc, files, names, halt) {
+        Ok(note) => noted(alloc, halt, note),
+        Err(why) => Err(why),
+    }
+}
+
+/// Faults with others behind them.
+pub fn with_others(
+    alloc: Global,
+    mut faults: Elements,
+    others: &[ToldFault],
+) -> Result<Elements, AllocError> {
+    for fault in others {
+        put_noted(alloc, &mut faults, &fault.halt, &fault.note)?;
+    }
+    Ok(faults)
 }
 
 /// The words of a line, one behind the other.

@@ -2,35 +2,33 @@
 ghost use Rattle.std.specs.Prelude.{IfOk, OnOk};
 ghost use Rattle.syc.specs.Checks as spec;
 
-use crate::files::Files;
 use crate::group_notes::group_words;
+use crate::site_texts::SiteTexts;
 use crate::tally::{head_of, put_group};
 use std::alloc::{AllocError, Global};
 use sy_checker::Group;
 use sy_site::Site;
 
 // Puts the line of a group, and words on it.
-fn put_in_words<F: Files>(
+fn put_in_words(
     alloc: Global,
     text: &mut Vec<u8>,
-    files: &F,
-    name: &str,
+    texts: &SiteTexts<'_>,
     site: &Site,
     group: &Group,
 ) -> Result<(), AllocError>
     ensures { OnOk result (spec.PutsLineInWords site.now group.now text.old.items text.new.items) }
 {
-    let words = group_words(alloc, files, name, site, group)?;
+    let words = group_words(alloc, texts, site, group)?;
     put_group(alloc, text, site, group)?;
     text.extend_from_slice(words.as_slice())?;
     Ok(())
 }
 
 // A line for each group, with words behind it.
-fn lines_of<F: Files>(
+fn lines_of(
     alloc: Global,
-    files: &F,
-    name: &str,
+    texts: &SiteTexts<'_>,
     site: &Site,
     groups: &[Group],
 ) -> Result<Vec<u8>, AllocError>
@@ -38,23 +36,22 @@ fn lines_of<F: Files>(
 {
     let mut text = Vec::new(alloc);
     for group in groups {
-        put_in_words(alloc, &mut text, files, name, site, group)?;
+        put_in_words(alloc, &mut text, texts, site, group)?;
     }
     Ok(text)
 }
 
 /// How much is found, and a line for each group with words on it.
-pub fn tally_in_words<F: Files>(
+pub fn tally_in_words(
     alloc: Global,
-    files: &F,
-    name: &str,
+    texts: &SiteTexts<'_>,
     site: &Site,
     groups: &[Group],
 ) -> Result<Vec<u8>, AllocError>
     ensures { IfOk result (λ text. spec.IsTallyInWords site.now groups.now text.items) }
 {
     let mut text = head_of(alloc, groups)?;
-    let lines = lines_of(alloc, files, name, site, groups)?;
+    let lines = lines_of(alloc, texts, site, groups)?;
     text.extend_from_slice(lines.as_slice())?;
     Ok(text)
 }

@@ -2,11 +2,11 @@
 //! there.
 
 use crate::approach::{Step, approach_to, steps_back};
-use crate::files::Files;
 use crate::keeping_off::{Hindrance, Target, find_hindrance};
 use crate::note::{Note, Point};
-use crate::places::{Places, RelayFile, Thing, objects_of, places_of, relay_file, spare_line};
-use crate::source::{between, find, text_of};
+use crate::places::{Places, Thing, objects_of, places_of, spare_line};
+use crate::site_texts::{RelayFile, SiteTexts, relay_file};
+use crate::source::{between, find};
 use crate::statements::statements_of;
 use crate::texts::{Part, action_name, relay_name};
 use crate::things::{put_thing, put_with_place, stands_at};
@@ -23,7 +23,7 @@ use sy_site::{Site, SiteAction};
 fn hindrance_in(
     alloc: Global,
     site: &Site,
-    file: &Option<RelayFile>,
+    file: &Option<RelayFile<'_>>,
     target: Option<Target<'_>>,
     finding: &Finding,
     step: Step,
@@ -175,17 +175,16 @@ fn put_spare_line(
 }
 
 // Says what keeps messages off at a step.
-fn put_hindered<F: Files>(
+fn put_hindered(
     alloc: Global,
-    files: &F,
-    site_name: &str,
+    texts: &SiteTexts<'_>,
     note: &mut Note,
     search: Search<'_>,
     finding: &Finding,
     step: Step,
 ) -> Result<(), AllocError> {
     let relay = step.input.relay;
-    let file = relay_file(alloc, files, site_name, relay)?;
+    let file = relay_file(alloc, texts.relay_text(relay))?;
     let objects = objects_of(alloc, &file)?;
     let places = places_of(&file, objects.as_slice());
     let of = wanted_at(search, step);
@@ -206,29 +205,27 @@ fn put_hindered<F: Files>(
 }
 
 // Says what keeps messages off at a step: that what leads on is spare, or a statement.
-fn put_culprit<F: Files>(
+fn put_culprit(
     alloc: Global,
-    files: &F,
-    site_name: &str,
+    texts: &SiteTexts<'_>,
     note: &mut Note,
     search: Search<'_>,
     finding: &Finding,
     step: Step,
 ) -> Result<(), AllocError> {
-    match (spare_at(search, step), text_of(files, site_name)?) {
+    match (spare_at(search, step), texts.text()) {
         (Some(spare), Some(text)) => {
-            put_spare_line(alloc, note, search, site_name, text.as_slice(), spare);
+            put_spare_line(alloc, note, search, texts.name, text, spare);
             Ok(())
         }
-        _ => put_hindered(alloc, files, site_name, note, search, finding, step),
+        _ => put_hindered(alloc, texts, note, search, finding, step),
     }
 }
 
 // Says what keeps messages off, where the way to the archive breaks off.
-fn put_search<F: Files>(
+fn put_search(
     alloc: Global,
-    files: &F,
-    site_name: &str,
+    texts: &SiteTexts<'_>,
     note: &mut Note,
     search: Search<'_>,
     finding: &Finding,
@@ -238,20 +235,19 @@ fn put_search<F: Files>(
         return Ok(());
     };
     put_path(&mut note.why, search.site, back.as_slice());
-    put_culprit(alloc, files, site_name, note, search, finding, last)
+    put_culprit(alloc, texts, note, search, finding, last)
 }
 
 /// Says of an archive that an entry doesn't lead to what keeps messages of the class from it.
-pub fn put_unmet<F: Files>(
+pub fn put_unmet(
     alloc: Global,
-    files: &F,
-    site_name: &str,
+    texts: &SiteTexts<'_>,
     site: &Site,
     note: &mut Note,
     finding: &Finding,
     archive: SiteAction,
 ) -> Result<(), AllocError> {
-    let file = relay_file(alloc, files, site_name, archive.relay)?;
+    let file = relay_file(alloc, texts.relay_text(archive.relay))?;
     let objects = objects_of(alloc, &file)?;
     let places = places_of(&file, objects.as_slice());
     let approach = approach_to(alloc, site, finding.class, finding.input, archive)?;
@@ -265,5 +261,5 @@ pub fn put_unmet<F: Files>(
     );
     note.put_line("archive", text)?;
     let search = search_of(site, &approach, archive, places);
-    put_search(alloc, files, site_name, note, search, finding)
+    put_search(alloc, texts, note, search, finding)
 }

@@ -10,8 +10,8 @@ use crate::files::Files;
 use crate::halt::Halt;
 use crate::items::{Item, items_of};
 use crate::note::{Note, put_line, put_place};
-use crate::places::{RelayFile, relay_file, relay_line};
-use crate::source::text_of;
+use crate::places::relay_line;
+use crate::site_texts::{RelayFile, SiteTexts, read_site_texts, relay_file};
 use crate::unwise::warn_of_item;
 use crate::words::Words;
 use std::alloc::{AllocError, Global};
@@ -159,7 +159,7 @@ fn warn_of_script(
     site: &Site,
     relay: u32,
     reached: &Reached,
-    file: &RelayFile,
+    file: &RelayFile<'_>,
     script: &Script,
 ) -> Result<(), AllocError> {
     if relay >= site.relays() {
@@ -175,8 +175,8 @@ fn warn_of_script(
         site,
         relay,
         plan,
-        file: file.name.as_str(),
-        text: file.text.as_slice(),
+        file: file.name,
+        text: file.text,
         items: items.as_slice(),
         executed: &executed,
         kept: &kept,
@@ -207,16 +207,15 @@ fn warn_of_relay(
     }
 }
 
-// Warns of a relay, and of what stands in its file where that can be read once more.
-fn warn_of_file<F: Files>(
-    files: &F,
+// Warns of what stands in the file of a relay, where that can be read once more.
+fn warn_of_file(
     warnings: &mut Warnings,
+    texts: &SiteTexts<'_>,
     site: &Site,
     relay: u32,
     reached: &Reached,
-    site_name: &str,
 ) -> Result<(), AllocError> {
-    match relay_file(warnings.alloc, files, site_name, relay)? {
+    match relay_file(warnings.alloc, texts.relay_text(relay))? {
         Some(file) => match &file.script {
             Some(script) => warn_of_script(warnings, site, relay, reached, &file, script),
             None => Ok(()),
@@ -225,11 +224,10 @@ fn warn_of_file<F: Files>(
     }
 }
 
-fn warn_of_site<F: Files>(
-    files: &F,
+fn warn_of_site(
     warnings: &mut Warnings,
+    texts: &SiteTexts<'_>,
     site: &Site,
-    site_name: &str,
     text: &[u8],
 ) -> Result<(), AllocError> {
     let reached = reached_of(warnings.alloc, site)?;
@@ -237,17 +235,16 @@ fn warn_of_site<F: Files>(
         if warnings.is_full() {
             return Ok(());
         }
-        warn_of_relay(warnings, site, relay, &reached, site_name, text);
-        warn_of_file(files, warnings, site, relay, &reached, site_name)?;
+        warn_of_relay(warnings, site, relay, &reached, texts.name, text);
+        warn_of_file(warnings, texts, site, relay, &reached)?;
     }
     Ok(())
 }
 
-/// What is unwise in a site, relay by relay, and for each in the order of its file, which is read once more.
-pub fn warnings_of<F: Files>(
+/// What is unwise in a site, relay by relay, and for each in the order of its file.
+pub fn warnings_of(
     alloc: Global,
-    files: &F,
-    site_name: &str,
+    texts: &SiteTexts<'_>,
     site: &Site,
 ) -> Result<Vec<Warning>, AllocError> {
     let mut warnings = Warnings {
@@ -255,8 +252,8 @@ pub fn warnings_of<F: Files>(
         list: Vec::new(alloc),
         is_cut: false,
     };
-    if let Some(text) = text_of(files, site_name)? {
-        warn_of_site(files, &mut warnings, site, site_name, text.as_slice())?;
+    if let Some(text) = texts.text() {
+        warn_of_site(&mut warnings, texts, site, text)?;
     }
     warnings.finish()
 }
@@ -282,17 +279,25 @@ fn put_warnings(words: &mut Words, warnings: &[Warning]) {
     }
 }
 
-// The lines of the warnings of a site.
+// The lines of the warnings of a site with these texts.
+fn lines_from(alloc: Global, texts: &SiteTexts<'_>, site: &Site) -> Result<Vec<u8>, AllocError> {
+    let warnings = warnings_of(alloc, texts, site)?;
+    let mut words = Words::new(alloc);
+    put_warnings(&mut words, warnings.as_slice());
+    words.finish()
+}
+
+// The lines of the warnings of a site, whose files are read once more.
 fn lines_of<F: Files>(
     alloc: Global,
     files: &F,
     site_name: &str,
     site: &Site,
 ) -> Result<Vec<u8>, AllocError> {
-    let warnings = warnings_of(alloc, files, site_name, site)?;
-    let mut words = Words::new(alloc);
-    put_warnings(&mut words, warnings.as_slice());
-    words.finish()
+    match read_site_texts(alloc, files, site_name) {
+        Ok(texts) => lines_from(alloc, &texts, site),
+        Err(why) => Err(why),
+    }
 }
 
 // An answer with these lines behind its text.

@@ -2,7 +2,7 @@ use Rattle.std.proofs.Common.{◌++◌, ap, ◌∙◌}
 use Rattle.syc.proofs.tally_in_words.tally_in_words.Goals as goal
 
 pub returns : goal.returns
-returns g c = record {
+returns c = record {
   head = c.in_ok-text.text.items;
   lines = c.in_ok-lines.lines.items;
   text_is = c.in_ok-extend_from_slice.ensures.items ∙ ap (λ l. c.in_ok-text.text.items ++ l) c.as_slice.ensures.value;
