@@ -6,6 +6,7 @@ use Rattle.std.proofs.KnownBytes.{Keeps-refl}
 use Rattle.std.proofs.lemmas.List.{append-nil}
 use Rattle.syc.specs.Graphs.{GraphIs}
 use Rattle.syc.specs.Optioned.{EndsAs, KeepsAs, SaysAs}
+use Rattle.syc.specs.Outcomes.{FailsBy}
 use Rattle.syc.specs.Reports.{Reported, ReportedFirst, SinkState, Streams, Tells, said}
 use Rattle.syc.specs.Words.{OverSite}
 use Rattle.syc.specs.declared.command.Asked.TheVariants as asked
@@ -32,6 +33,12 @@ memory_says bytes_of old new told same options (OverSite.Replay site events) = �
     )
 memory_says bytes_of old new told same options (OverSite.Verify site certificate) = λ words site_text text known read.
     inr (same, inr (inr (inl (refl, first old.errors new.errors _ told))))
+
+three_or_four : (n : ℕ) → n ≡ 3 → n ≡ 4 → ⊥
+three_or_four n three four = omega (arith, three, four)
+
+pub memory_fails : (MayFail : Type 0) (status : ℕ) (old new : Streams) → status ≡ 3 → FailsBy MayFail status old new
+memory_fails MayFail status old new three four = absurd (three_or_four status three four)
 
 pub memory_draws : (bytes_of : List ℕ → Option (List ℕ)) (class : Option (List ℕ)) (text : List ℕ) (old new : Streams)
     → Tells old new (said (codes "no memory")) → new.output ≡ old.output → GraphIs class bytes_of text 3 old new

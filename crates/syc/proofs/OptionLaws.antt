@@ -11,20 +11,30 @@ use Rattle.sy_site.specs.texts.Describes.{Describes, File}
 use Rattle.sy_site.specs.texts.Files.{file_names}
 use Rattle.sy_wire.specs.Streams.{Rose}
 use Rattle.sy_wire.specs.declared.class.Class.{Class}
-use Rattle.syc.specs.Checks.{AskedInWordsIs, BeginsInWords, KeepsAll, SaysBy, accepted_line}
+use Rattle.sy_site.specs.declared.fault.SiteFault.{SiteFault}
+use Rattle.sy_cert.specs.declared.fault.TextFault.{TextFault}
+use Rattle.sy_checker.specs.Finding.{IsTrueFinding}
+use Rattle.sy_checker.specs.Survey.{IsSurvey}
+use Rattle.sy_checker.specs.declared.finding.Finding.{Finding}
+use Rattle.sy_checker.specs.declared.groups.Group.{Group}
+use Rattle.syc.specs.Checks.{AreLinesInWords, AskedInWordsIs, BeginsInWords, IsTally, IsTallyInWords, KeepsAll, SaysBy, SaysCertifiedInWords, accepted_line, finding_text, group_text}
 use Rattle.syc.specs.Examples.{IsAccepted, IsCertified, IsReplayed, IsTheSite, IsVerified, Printed, bytes_of}
-use Rattle.syc.specs.Graphs.{GraphIs, IsNoClass, TellsNoClass}
+use Rattle.syc.specs.Graphs.{GraphIs, IsClass, IsNoClass, TellsNoClass}
+use Rattle.syc.specs.HaltTexts.{halt_report, site_report}
 use Rattle.syc.specs.Optioned.{EndsAs, FailsAs, KeepsAs, SaysAs}
 use Rattle.syc.specs.Outcomes.{Prints}
 use Rattle.syc.specs.Replays.{ReplayInWordsIs}
 use Rattle.syc.specs.Reports.{Streams, Tells, TellsFirst}
 use Rattle.syc.specs.Texts.{class_text}
-use Rattle.syc.specs.Verdicts.{DescribesKept, VerifyInWordsIs}
+use Rattle.syc.specs.SiteFiles.{HasNoAnswer, IsSiteFault}
+use Rattle.syc.specs.Verdicts.{DescribesKept, IsFaultyCertificate, VerifyInWordsIs}
 use Rattle.syc.specs.Words.{AreGraphWords, AreOptioned, CallFor, HaveOptions, OverSite, allows, bare_of, once_if}
+use Rattle.syc.specs.declared.command.Asked.{Asked}
 use Rattle.syc.specs.declared.command.Asked.TheVariants as asked
 use Rattle.syc.specs.declared.examples.TheConstants.{CERTIFICATE, EVENTS, SITE}
+use Rattle.syc.specs.declared.halt.Halt.TheVariants as halt
 use Rattle.syc.specs.declared.options.Options.{Options}
-use Rattle.syc.proofs.ExampleEndings.{certified, checked, eight_kept, not_refused, printed_whole, some_answer, the_site, verified, whole_replay}
+use Rattle.syc.proofs.ExampleEndings.{certified, checked, eight_kept, not_refused, printed_whole, replayed, some_answer, the_site, verified, whole_replay}
 
 -- ---- the words
 
@@ -132,6 +142,34 @@ refused_unsound true site said (inl kept) sound = true_or_false kept.accepted re
 refused_unsound false site said (inr found) sound = found.unsound sound
 refused_unsound true site said (inr found) sound = found.unsound sound
 
+-- with all of them, each in a line
+all_told : (site : Site) (text : List ℕ) → SaysBy false true site text false → (groups : List Group) × IsSurvey site groups × IsTally site groups text
+all_told site text (inl kept) = absurd (true_or_false kept.accepted refl)
+all_told site text (inr found) = (found.groups, found.is_survey, found.is_tally)
+
+all_told_in_words : (site : Site) (text : List ℕ) → SaysBy true true site text false
+    → (groups : List Group) × IsSurvey site groups × IsTallyInWords site groups text
+all_told_in_words site text (inl kept) = absurd (true_or_false kept.accepted refl)
+all_told_in_words site text (inr found) = (found.groups, found.is_survey, found.is_tally)
+
+-- a line for one group, with words behind it
+one_in_words : (site : Site) (group : Group) (text : List ℕ) → AreLinesInWords site (group ∷ []) text
+    → (names words : List ℕ) × (text ≡ names ++ group_text site group ++ words)
+one_in_words site group text (names, words, rest, is, none) =
+    (names, words, is ∙ ap (λ r. names ++ group_text site group ++ words ++ r) none ∙ append-nil (names ++ group_text site group ++ words))
+
+-- one finding is told that is true, with nothing but words behind it
+abbrev IsToldOf : Site → List ℕ → Type 0
+IsToldOf site text = (found : Finding) × IsTrueFinding site found × (words : List ℕ) × (text ≡ finding_text site found ++ words)
+
+explained_told : (site : Site) (text : List ℕ) → SaysBy true false site text false → IsToldOf site text
+explained_told site text (inl kept) = absurd (true_or_false kept.accepted refl)
+explained_told site text (inr found) = (found.found, found.is_true, found.words, found.text_is)
+
+certified_told : (site : Site) (text : List ℕ) → SaysCertifiedInWords site text false → IsToldOf site text
+certified_told site text (inl fit) = absurd (true_or_false fit.accepted refl)
+certified_told site text (inr found) = (found.found, found.is_true, found.words, found.text_is)
+
 -- the one site that the texts describe keeps all messages of eight classes, which was printed, with more behind it
 record IsAcceptedInWords (more : List ℕ) (old new : Streams) : Type 0 where
   site : Site
@@ -166,6 +204,9 @@ module _ (one : (text : List ℕ) (files : List File) (a b : Site) → Describes
 
   check_explained : SaysAs bytes_of explaining (OverSite.Ask asked.Check (codes "site")) status old new → (more : List ℕ) × IsAcceptedInWords more old new
   check_explained says = let found = checked_in_words explaining (says refl SITE.now refl) in (found.0, found.2)
+
+  check_both : SaysAs bytes_of both (OverSite.Ask asked.Check (codes "site")) status old new → (more : List ℕ) × IsAcceptedInWords more old new
+  check_both says = let found = checked_in_words both (says refl SITE.now refl) in (found.0, found.2)
 
   -- Nothing stands behind it where nothing is explained.
   check_all : SaysAs bytes_of telling_all (OverSite.Ask asked.Check (codes "site")) status old new → IsAccepted old new
@@ -214,7 +255,7 @@ module _ (one : (text : List ℕ) (files : List File) (a b : Site) → Describes
     site,
     the_site one site is,
     text,
-    printed_whole one text status old new (subst (λ b. Prints text b status old new) accepts printed) ends,
+    printed_whole one text status old new (subst (λ b. Prints text b status old new) accepts.0 printed) ends,
   )
   drawn class (inl (inr none)) = absurd (some_answer one status (Tells old new) none.0 ends)
   drawn class (inr (word, is, isnt, two, same, line, told)) = absurd (omega (arith, two, ends))
@@ -223,6 +264,21 @@ module _ (one : (text : List ℕ) (files : List File) (a b : Site) → Describes
 check_ends : ((text : List ℕ) (files : List File) (a b : Site) → Describes text files a → Describes text files b → a ≡ b)
     → EndsAs bytes_of (OverSite.Ask asked.Check (codes "site")) 0 → (old new : Streams) × IsAccepted old new
 check_ends one ends = let may = ends SITE.now refl in (may.old, may.new, checked one 0 may.old may.new may.is refl)
+
+certify_ends : ((text : List ℕ) (files : List File) (a b : Site) → Describes text files a → Describes text files b → a ≡ b)
+    → ((site : Site) (rows : List Row) → IsFit site rows → IsSound site)
+    → EndsAs bytes_of (OverSite.Ask asked.Certify (codes "site")) 0 → (old new : Streams) × IsCertified old new
+certify_ends one fit_is_sound ends = let may = ends SITE.now refl in (may.old, may.new, certified one fit_is_sound 0 may.old may.new may.is refl)
+
+verify_ends : ((text : List ℕ) (files : List File) (a b : Site) → Describes text files a → Describes text files b → a ≡ b)
+    → EndsAs bytes_of (OverSite.Verify (codes "site") (codes "cert")) 0 → (old new : Streams) × IsAccepted old new
+verify_ends one ends =
+    let may = ends SITE.now CERTIFICATE.now refl refl in
+    (may.old, may.new, (verified one 0 may.old may.new may.is refl).0)
+
+replay_ends : ((text : List ℕ) (files : List File) (a b : Site) → Describes text files a → Describes text files b → a ≡ b)
+    → EndsAs bytes_of (OverSite.Replay (codes "site") (codes "events")) 0 → (old new : Streams) × IsReplayed old new
+replay_ends one ends = let may = ends SITE.now EVENTS.now refl refl in (may.old, may.new, replayed one 0 may.old may.new may.is refl)
 
 -- With status 0 the site is kept, whatever is told of it.
 check_keeps : KeepsAs bytes_of (OverSite.Ask asked.Check (codes "site")) 0 → DescribesKept bytes_of SITE.now
@@ -240,12 +296,58 @@ auth_crit = record { facility = 4; severity = 2; facility_in_range = omega arith
 auth_crit_is_one : IsNoClass (class_text auth_crit) → ⊥
 auth_crit_is_one none = none auth_crit refl
 
+known_is_told : (status : ℕ) (old new : Streams) → TellsNoClass (Some (class_text auth_crit)) status old new → ⊥
+known_is_told status old new tells = auth_crit_is_one (subst IsNoClass (sym (same_some tells.1)) tells.2)
+  where
+    same_some : {v w : List ℕ} → Some v ≡ Some w → v ≡ w
+    same_some e = cc
+
+-- What is drawn is a class.
+drawn_is_class : (word : List ℕ) (old new : Streams) → GraphIs (Some word) bytes_of SITE.now 0 old new → IsClass word
+drawn_is_class word old new (inl (inl (site, is, text, is_accepted, says, printed))) = says.1
+drawn_is_class word old new (inl (inr (inl faulty, same))) = absurd (omega (arith, faulty.0))
+drawn_is_class word old new (inl (inr (inr (inl memory), same))) = absurd (omega (arith, memory.0))
+drawn_is_class word old new (inl (inr (inr (inr unread), same))) = absurd (omega (arith, unread.0))
+drawn_is_class word old new (inr tells) = absurd (zero_or_two tells.3)
+  where
+    zero_or_two : 0 ≡ 2 → ⊥
+    zero_or_two e = omega (arith, e)
+
 -- Nor is a drawing of all classes.
 all_are_drawn : (status : ℕ) (old new : Streams) → TellsNoClass None status old new → ⊥
 all_are_drawn status old new tells = none_or_some tells.1
   where
     none_or_some : {w : List ℕ} → None ≡ Some w → ⊥
     none_or_some e = cc
+
+-- ---- faults
+
+printed_at_two : (text : List ℕ) (is_accepted : Bool) (old new : Streams) → Prints text is_accepted 2 old new → ⊥
+printed_at_two text true old new (inl printed) = omega (arith, printed.0)
+printed_at_two text false old new (inl printed) = omega (arith, printed.0)
+printed_at_two text is_accepted old new (inr torn) = omega (arith, torn.0)
+
+-- A fault of the site file is there, its line stands first, and nothing is printed.
+fault_told : (bytes_of : List ℕ → Option (List ℕ)) (text : List ℕ) (old new : Streams) → HasNoAnswer bytes_of text 2 (TellsFirst old new)
+    → (fault : SiteFault) × IsSiteFault bytes_of text fault × TellsFirst old new (site_report fault)
+fault_told bytes_of text old new (inl faulty) = (faulty.1, faulty.2, faulty.3)
+fault_told bytes_of text old new (inr (inl memory)) = absurd (omega (arith, memory.0))
+fault_told bytes_of text old new (inr (inr unread)) = absurd (omega (arith, unread.0))
+
+ask_faulty : (question : Asked) (options : Options) (bytes_of : List ℕ → Option (List ℕ)) (text : List ℕ) (old new : Streams)
+    → AskedInWordsIs question options bytes_of text 2 old new
+    → (new.output ≡ old.output) × (fault : SiteFault) × IsSiteFault bytes_of text fault × TellsFirst old new (site_report fault)
+ask_faulty question options bytes_of text old new (inl (site, is, printed, is_accepted, says, prints)) =
+    absurd (printed_at_two printed is_accepted old new prints)
+ask_faulty question options bytes_of text old new (inr (none, same)) = (same, fault_told bytes_of text old new none)
+
+verify_faulty : (bytes_of : List ℕ → Option (List ℕ)) (text certificate : List ℕ) (old new : Streams) → VerifyInWordsIs bytes_of text certificate 2 old new
+    → (new.output ≡ old.output) × (((fault : TextFault) × IsFaultyCertificate bytes_of text certificate fault
+    × TellsFirst old new (halt_report (halt.Certificate fault)))
+    ⊎ ((fault : SiteFault) × IsSiteFault bytes_of text fault × TellsFirst old new (site_report fault)))
+verify_faulty bytes_of text certificate old new (inl (printed, is_accepted, says, prints)) = absurd (printed_at_two printed is_accepted old new prints)
+verify_faulty bytes_of text certificate old new (inr (same, inl faulty)) = (same, inl (faulty.1, faulty.2, faulty.3))
+verify_faulty bytes_of text certificate old new (inr (same, inr none)) = (same, inr (fault_told bytes_of text old new none))
 
 -- ---- status 4
 
@@ -257,5 +359,20 @@ check_fails : (old new : Streams) → FailsAs bytes_of (λ _. ⊥) (λ _. ⊥) (
     → Rose old.output.faults new.output.faults
 check_fails old new fails = elim (fails SITE.now refl refl) [
   | inl read ↦ absurd (failing_reads (codes "site" ∷ file_names SITE.now) read)
+  | inr rose ↦ rose
+]
+
+verify_fails : (old new : Streams) → FailsAs bytes_of (λ _. ⊥) (λ _. ⊥) (OverSite.Verify (codes "site") (codes "cert")) 4 old new
+    → Rose old.output.faults new.output.faults
+verify_fails old new fails = elim (fails SITE.now refl refl) [
+  | inl read ↦ absurd (failing_reads (codes "site" ∷ codes "cert" ∷ file_names SITE.now) read)
+  | inr rose ↦ rose
+]
+
+replay_fails : (old new : Streams) → FailsAs bytes_of (λ _. ⊥) (λ _. ⊥) (OverSite.Replay (codes "site") (codes "events")) 4 old new
+    → Rose old.output.faults new.output.faults
+replay_fails old new fails = elim (fails SITE.now EVENTS.now refl refl refl) [
+  | inl (inl read) ↦ absurd (failing_reads (codes "site" ∷ codes "events" ∷ file_names SITE.now) read)
+  | inl (inr pieces) ↦ absurd pieces
   | inr rose ↦ rose
 ]

@@ -3,7 +3,6 @@ use Rattle.std.proofs.Common.{◌≡◌, ◌+◌, ◌<◌, ℕ, Bool, List, [], 
 use Rattle.std.specs.Prelude.{◌||◌, Option, Some, None, IfNone, true, false, codes, if◌then◌else◌}
 use Rattle.std.specs.Str.{bytes_eq}
 use Rattle.std.proofs.lemmas.Slice.Eq.{bytes_eq-Decides}
-use Rattle.syc.specs.Graphs.{GraphIs}
 use Rattle.syc.specs.Optioned.{EndsAs, FailsAs, KeepsAs, SaysAs}
 use Rattle.syc.specs.Reports.{Streams}
 use Rattle.syc.specs.Words.{AreGraphWords, AreNoFurtherOf, AreOptioned, ArePassAlone, CallFor, HaveOptions, IsSiteCommand, OverSite, allows, asking, bare_of, is_any, is_option, is_plain, once_if, times}
@@ -14,7 +13,7 @@ use Rattle.syc.specs.declared.command.SiteCommand.TheVariants as of_site
 use Rattle.syc.specs.declared.further.Further.{Further}
 use Rattle.syc.specs.declared.further.Further.TheVariants as further
 use Rattle.syc.specs.declared.options.Options.{Options}
-use Rattle.syc.specs.internal.Commands.{AreNoSiteCommand, CallNamed, FurtherDraws, FurtherEnds, FurtherFails, FurtherKeeps, FurtherSays, IsFurther, IsSiteCommandOf, TakesOptions, over}
+use Rattle.syc.specs.internal.Commands.{AreNoSiteCommand, CallNamed, Draws, FurtherDraws, FurtherEnds, FurtherFails, FurtherKeeps, FurtherSays, IsFurther, IsSiteCommandOf, TakesOptions, over}
 use Rattle.syc.proofs.Commands.{one_question, replay_no_question, replay_or_verify, rest_same, verify_no_question, first_same, head_same, others_same}
 
 -- ---- one word more
@@ -334,29 +333,32 @@ module _ (bytes_of : List ℕ → Option (List ℕ)) (status : ℕ) (old new : S
   further_keeps keeps = for_further (λ options command. KeepsAs bytes_of command status) words found is
       (λ options command e. subst (λ f. FurtherKeeps bytes_of f status) e keeps)
 
+  pub further_fails : (MayFail PiecesFail : List ℕ → Type 0) → FurtherFails bytes_of MayFail PiecesFail found status old new
+      → (options : Options) (command : OverSite) → AreOptioned words options command → FailsAs bytes_of MayFail PiecesFail command status old new
+  further_fails MayFail PiecesFail fails = for_further (λ options command. FailsAs bytes_of MayFail PiecesFail command status old new) words found is
+      (λ options command e. subst (λ f. FurtherFails bytes_of MayFail PiecesFail f status old new) e fails)
+
+module _ (bytes_of : List ℕ → Option (List ℕ)) (MayFail : List ℕ → Type 0) (status : ℕ) (old new : Streams) (words : List (List ℕ)) (found : Further)
+    (is : IsFurther words found) where
   drawn_as : (found_class class : Option (List ℕ)) (found_site site text : List ℕ) → AreGraphWords found_class words found_site
-      → ((t : List ℕ) → bytes_of found_site ≡ Some t → GraphIs found_class bytes_of t status old new) → AreGraphWords class words site
-      → bytes_of site ≡ Some text → GraphIs class bytes_of text status old new
+      → ((t : List ℕ) → bytes_of found_site ≡ Some t → Draws found_class bytes_of MayFail found_site t status old new) → AreGraphWords class words site
+      → bytes_of site ≡ Some text → Draws class bytes_of MayFail site text status old new
   drawn_as found_class class found_site site text found_is draws are known =
       let same = one_drawing words found_class class found_site site found_is are in
-      subst (λ c. GraphIs c bytes_of text status old new) same.0 (draws text (subst (λ s. bytes_of s ≡ Some text) (sym same.1) known))
+      subst (λ c. Draws c bytes_of MayFail site text status old new) same.0
+      (subst (λ s. Draws found_class bytes_of MayFail s text status old new) same.1 (draws text (subst (λ s. bytes_of s ≡ Some text) (sym same.1) known)))
 
-  draws_found : (f : Further) → IsFurther words f → FurtherDraws bytes_of f status old new → (class : Option (List ℕ)) (site text : List ℕ)
-      → AreGraphWords class words site → bytes_of site ≡ Some text → GraphIs class bytes_of text status old new
+  draws_found : (f : Further) → IsFurther words f → FurtherDraws bytes_of MayFail f status old new → (class : Option (List ℕ)) (site text : List ℕ)
+      → AreGraphWords class words site → bytes_of site ≡ Some text → Draws class bytes_of MayFail site text status old new
   draws_found (further.WithOptions options command) are_optioned draws class site text are known =
       absurd (graph_has_none words class site are options (over command) are_optioned)
   draws_found (further.Graph s) found_is draws class site text are known = drawn_as None class s.now site text found_is draws are known
   draws_found (further.GraphOfClass s c) found_is draws class site text are known = drawn_as (Some c.now) class s.now site text found_is draws are known
 
-  pub further_draws : FurtherDraws bytes_of found status old new
+  pub further_draws : FurtherDraws bytes_of MayFail found status old new
       → (class : Option (List ℕ)) (site text : List ℕ) → AreGraphWords class words site → bytes_of site ≡ Some text
-      → GraphIs class bytes_of text status old new
+      → Draws class bytes_of MayFail site text status old new
   further_draws draws = draws_found found is draws
-
-  pub further_fails : (MayFail PiecesFail : List ℕ → Type 0) → FurtherFails bytes_of MayFail PiecesFail found status old new
-      → (options : Options) (command : OverSite) → AreOptioned words options command → FailsAs bytes_of MayFail PiecesFail command status old new
-  further_fails MayFail PiecesFail fails = for_further (λ options command. FailsAs bytes_of MayFail PiecesFail command status old new) words found is
-      (λ options command e. subst (λ f. FurtherFails bytes_of MayFail PiecesFail f status old new) e fails)
 
 pub none_on : {X P Q : Type 0} (r : Option X) → IfNone r P → (P → Q) → IfNone r Q
 none_on (Some x) h f = tt

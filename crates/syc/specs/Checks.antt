@@ -21,7 +21,7 @@ use Rattle.sy_checker.specs.Survey.{IsSurvey}
 use Rattle.syc.specs.declared.command.Asked.{Asked}
 use Rattle.syc.specs.declared.command.Asked.TheVariants as asked
 use Rattle.syc.specs.declared.options.Options.{Options}
-use Rattle.syc.specs.Outcomes.{AnswersFirstOf, AnswersOf}
+use Rattle.syc.specs.Outcomes.{AnswersTellingFirst, AnswersOf}
 use Rattle.syc.specs.Reports.{Streams, line_feed}
 use Rattle.syc.specs.Texts.{class_text, input_text}
 
@@ -216,4 +216,4 @@ AskedIs question = AnswersOf (Says question)
 
 -- the same with options, but for a document
 abbrev pub AskedInWordsIs : Asked → Options → (List ℕ → Option (List ℕ)) → List ℕ → ℕ → Streams → Streams → Type 0
-AskedInWordsIs question options = AnswersFirstOf (SaysWith question options)
+AskedInWordsIs question options = AnswersTellingFirst (SaysWith question options)

@@ -1,21 +1,34 @@
 -- What a drawing of a site answers (this profile's own).
-use Rattle.std.specs.Prelude.{◌≡◌, ℕ, true, ◌⊎◌, List, Option, Some}
+use Rattle.std.specs.Prelude.{◌≡◌, ℕ, Bool, true, ◌⊎◌, List, [], ◌∷◌, Option, Some, IfSome, codes}
+use Rattle.sy_site.specs.Sites.{Site}
 use Rattle.sy_wire.specs.declared.class.Class.{Class}
 use Rattle.syc.specs.Outcomes.{AnswersOf}
-use Rattle.syc.specs.Reports.{Streams, Tells}
+use Rattle.syc.specs.Reports.{Streams, Tells, joined}
 use Rattle.syc.specs.Texts.{class_text}
 
--- no class has this name
+-- a class is printed so
+abbrev pub IsClass : List ℕ → Type 0
+IsClass word = (class : Class) × (class_text class ≡ word)
+
+-- no class is printed so
 abbrev pub IsNoClass : List ℕ → Type 0
 IsNoClass word = (class : Class) → class_text class ≡ word → ⊥
 
--- A word is no class, which is told. Of the words that tell it nothing is said here.
+-- A text for Graphviz is printed of a site, accepted or refused; where one class is asked for, it is one. Of the text nothing is said here.
+abbrev pub SaysDrawn : Option (List ℕ) → Site → List ℕ → Bool → Type 0
+SaysDrawn class site text is_accepted = (is_accepted ≡ true) × IfSome class IsClass
+
+-- the line that says that a word is no class, however the word is shown
+abbrev pub no_class_report : List ℕ → List ℕ
+no_class_report shown = joined (codes "syc: no class " ∷ shown ∷ codes ": a class is FACILITY.SEVERITY, as auth.crit\n" ∷ [])
+
+-- A word is no class, which is told.
 abbrev pub TellsNoClass : Option (List ℕ) → ℕ → Streams → Streams → Type 0
 TellsNoClass class status old new =
-    (word : List ℕ) × (class ≡ Some word) × IsNoClass word × (status ≡ 2) × (new.output ≡ old.output) × (line : List ℕ) × Tells old new line
+    (word : List ℕ) × (class ≡ Some word) × IsNoClass word × (status ≡ 2) × (new.output ≡ old.output)
+    × (shown : List ℕ) × Tells old new (no_class_report shown)
 
--- A text for Graphviz is printed, be the site accepted or refused, of which nothing is said here; or there is no site, which is told; or the class that is
--- asked for is none.
+-- Such a text is printed; or there is no site, which is told; or what is asked for is no class.
 abbrev pub GraphIs : Option (List ℕ) → (List ℕ → Option (List ℕ)) → List ℕ → ℕ → Streams → Streams → Type 0
 GraphIs class bytes_of site_text status old new =
-    AnswersOf (λ site text is_accepted. is_accepted ≡ true) bytes_of site_text status old new ⊎ TellsNoClass class status old new
+    AnswersOf (SaysDrawn class) bytes_of site_text status old new ⊎ TellsNoClass class status old new

@@ -29,8 +29,8 @@ AnswersOf Says bytes_of site_text status old new =
     ⊎ (HasNoAnswer bytes_of site_text status (Tells old new) × (new.output ≡ old.output))
 
 -- The same where more may stand behind the line that says why there is none.
-abbrev pub AnswersFirstOf : (Site → List ℕ → Bool → Type 0) → (List ℕ → Option (List ℕ)) → List ℕ → ℕ → Streams → Streams → Type 0
-AnswersFirstOf Says bytes_of site_text status old new =
+abbrev pub AnswersTellingFirst : (Site → List ℕ → Bool → Type 0) → (List ℕ → Option (List ℕ)) → List ℕ → ℕ → Streams → Streams → Type 0
+AnswersTellingFirst Says bytes_of site_text status old new =
     ((site : Site) × IsSiteOf bytes_of site_text site
     × (text : List ℕ) × (is_accepted : Bool) × Says site text is_accepted × Prints text is_accepted status old new)
     ⊎ (HasNoAnswer bytes_of site_text status (TellsFirst old new) × (new.output ≡ old.output))

@@ -1,7 +1,6 @@
 //! The commands with options: what stands anywhere among the words.
 ghost use Rattle.std.specs.Prelude.{◌≡◌, ◌≢◌, ◌≤◌, ◌∷◌, ℕ, List, IfNone, IfSome, Option, Some, codes, map, string_bytes, true};
 ghost use Rattle.std.specs.Io.KnownBytes.{Keeps};
-ghost use Rattle.syc.specs.Graphs.{GraphIs};
 ghost use Rattle.syc.specs.Optioned.{EndsAs, FailsAs, KeepsAs, SaysAs};
 ghost use Rattle.syc.specs.Outcomes.{Shows};
 ghost use Rattle.syc.specs.Replays.{PiecesMayFail};
@@ -9,7 +8,7 @@ ghost use Rattle.syc.specs.Words as spec;
 ghost use Rattle.syc.specs.Words.{AreGraphWords, AreNoFurtherOf, AreOptioned, OverSite as AnyOver};
 ghost use Rattle.syc.specs.declared.further.Further.TheVariants as further;
 ghost use Rattle.syc.specs.declared.options.Options.{Options as AnyOptions};
-ghost use Rattle.syc.specs.internal.Commands.{AreNoGraph, FurtherDraws, FurtherEnds, FurtherFails, FurtherKeeps, FurtherSays, IsFurther, IsGiven, IsNamed, IsNotOptioned, IsOptioned, over};
+ghost use Rattle.syc.specs.internal.Commands.{AreNoGraph, Draws, FurtherDraws, FurtherEnds, FurtherFails, FurtherKeeps, FurtherSays, IsFurther, IsGiven, IsNamed, IsNotOptioned, IsOptioned, over};
 
 use crate::ask_in_words::ask_in_words;
 use crate::command::{Asked, SiteCommand, is_plain, is_word, site_command};
@@ -189,7 +188,7 @@ fn run_further<W: Sink, E: Sink, F: Files>(
     ensures ends { FurtherEnds (F.bytes_of files.now) wanted.entry result }
     ensures says { FurtherSays (F.bytes_of files.now) wanted.entry result out.old out.new }
     ensures keeps { FurtherKeeps (F.bytes_of files.now) wanted.entry result }
-    ensures draws { FurtherDraws (F.bytes_of files.now) wanted.entry result out.old out.new }
+    ensures draws { FurtherDraws (F.bytes_of files.now) (F.may_fail files.now) wanted.entry result out.old out.new }
     ensures fails { FurtherFails (F.bytes_of files.now) (F.may_fail files.now) (PiecesMayFail F.Opened.faults)
         wanted.entry result out.old out.new }
     ensures status { result ≤ 4 }
@@ -221,7 +220,8 @@ pub fn others<W: Sink, E: Sink, F: Files>(
     ensures keeps { (options : AnyOptions) (command : AnyOver) → AreOptioned (map string_bytes args.now) options command →
         KeepsAs (F.bytes_of files.now) command result }
     ensures draws { (class : Option (List ℕ)) (site text : List ℕ) → AreGraphWords class (map string_bytes args.now) site →
-        F.bytes_of files.now site ≡ Some text → GraphIs class (F.bytes_of files.now) text result out.old out.new }
+        F.bytes_of files.now site ≡ Some text →
+        Draws class (F.bytes_of files.now) (F.may_fail files.now) site text result out.old out.new }
     ensures fails { (options : AnyOptions) (command : AnyOver) → AreOptioned (map string_bytes args.now) options command →
         FailsAs (F.bytes_of files.now) (F.may_fail files.now) (PiecesMayFail F.Opened.faults) command result out.old out.new }
     ensures other { AreNoFurtherOf (map string_bytes args.now) → Shows result out.old out.new }

@@ -1,12 +1,14 @@
 //! A site drawn, as a text that Graphviz reads.
-ghost use Rattle.std.specs.Prelude.{◌≡◌, ◌≢◌, ◌≤◌, ◌⊎◌, ℕ, List, Some, IfErr, IfOk, codes, option_map, true};
+ghost use Rattle.std.specs.Prelude.{◌≡◌, ◌≢◌, ◌≤◌, ◌∷◌, ◌⊎◌, ℕ, List, Some, IfErr, IfOk, codes, option_map, true};
 ghost use Rattle.std.specs.Io.KnownBytes.{Keeps};
+ghost use Rattle.std.specs.List.{Any};
 ghost use Rattle.sy_site.specs.Sites.{Site as AnySite};
-ghost use Rattle.syc.specs.Graphs.{GraphIs};
-ghost use Rattle.syc.specs.Outcomes.{AnswersOf};
+ghost use Rattle.sy_site.specs.texts.Files.{file_names};
+ghost use Rattle.syc.specs.Graphs.{GraphIs, no_class_report};
+ghost use Rattle.syc.specs.Outcomes.{AnswersOf, FailsBy};
 ghost use Rattle.syc.specs.Reports.{Tells, said};
 ghost use Rattle.syc.specs.SiteFiles.{IsSiteOf};
-ghost use Rattle.syc.specs.internal.Halts.{IsNoSite};
+ghost use Rattle.syc.specs.internal.Halts.{IsNoSite, IsUnread};
 
 use crate::answer::{Answer, print};
 use crate::executed::protected_classes;
@@ -142,6 +144,8 @@ fn drawing_of<F: Files>(
 ) -> Result<Answer, Halt>
     ensures ok { IfOk result (λ a. (text : List ℕ) → F.bytes_of files.now name.now ≡ Some text →
         (site : AnySite) × IsSiteOf (F.bytes_of files.now) text site × (a.is_accepted ≡ true)) }
+    ensures unread { IfErr result (λ halt. (text : List ℕ) → F.bytes_of files.now name.now ≡ Some text →
+        IsUnread (F.may_fail files.now) (name.now ∷ file_names text) halt) }
     ensures err { IfErr result (λ halt. (text : List ℕ) → F.bytes_of files.now name.now ≡ Some text →
         IsNoSite (F.bytes_of files.now) text halt) }
 {
@@ -165,6 +169,8 @@ fn print_drawing<F: Files, W: Sink, E: Sink>(
 ) -> u8
     ensures draws { (text : List ℕ) → F.bytes_of files.now site.now ≡ Some text →
         AnswersOf (λ site text is_accepted. is_accepted ≡ true) (F.bytes_of files.now) text result out.old out.new }
+    ensures fails { (text : List ℕ) → F.bytes_of files.now site.now ≡ Some text →
+        FailsBy (Any (F.may_fail files.now) (site.now ∷ file_names text)) result out.old out.new }
     ensures status { result ≤ 4 }
     ensures none_failed { result ≢ 4 → out.new.output.faults ≡ out.old.output.faults }
     ensures quiet { result ≡ 0 → Keeps out.old.errors.contents out.new.errors.contents }
@@ -172,24 +178,29 @@ fn print_drawing<F: Files, W: Sink, E: Sink>(
     print(drawing_of(alloc, files, site, class), out)
 }
 
-// The line that says that a word is no class.
-fn line_of(alloc: Global, word: &str) -> Result<Vec<u8>, AllocError> {
-    let mut line = Words::new(alloc);
-    line.say("syc: no class ");
-    line.put_in_line(word.as_bytes());
-    line.say(": a class is FACILITY.SEVERITY, as auth.crit\n");
-    line.finish()
+// A word as it is told, without control characters.
+fn shown(alloc: Global, word: &str) -> Result<Vec<u8>, AllocError> {
+    let mut words = Words::new(alloc);
+    words.put_in_line(word.as_bytes());
+    words.finish()
 }
 
 // Tells that a word is no class, and answers the exit status.
 fn no_class<W: Sink, E: Sink>(alloc: Global, out: &mut Outputs<W, E>, word: &str) -> u8
-    ensures told { ((result ≡ 2) × (line : List ℕ) × Tells out.old out.new line)
+    ensures told { ((result ≡ 2) × (shown : List ℕ) × Tells out.old out.new (no_class_report shown))
         ⊎ ((result ≡ 3) × Tells out.old out.new (said (codes "no memory"))) }
     ensures same { out.new.output ≡ out.old.output }
 {
-    match line_of(alloc, word) {
-        Ok(line) => {
-            tell_texts(&mut out.errors, &[line.as_slice()]);
+    match shown(alloc, word) {
+        Ok(shown) => {
+            tell_texts(
+                &mut out.errors,
+                &[
+                    b"syc: no class ",
+                    shown.as_slice(),
+                    b": a class is FACILITY.SEVERITY, as auth.crit\n",
+                ],
+            );
             2
         }
         Err(_) => out_of_memory(&mut out.errors),
@@ -208,6 +219,8 @@ pub fn graph<F: Files, W: Sink, E: Sink>(
 ) -> u8
     ensures draws { (text : List ℕ) → F.bytes_of files.now site.now ≡ Some text →
         GraphIs (option_map (λ word. word.now) class.entry) (F.bytes_of files.now) text result out.old out.new }
+    ensures fails { (text : List ℕ) → F.bytes_of files.now site.now ≡ Some text →
+        FailsBy (Any (F.may_fail files.now) (site.now ∷ file_names text)) result out.old out.new }
     ensures status { result ≤ 4 }
     ensures none_failed { result ≢ 4 → out.new.output.faults ≡ out.old.output.faults }
     ensures quiet { result ≡ 0 → Keeps out.old.errors.contents out.new.errors.contents }

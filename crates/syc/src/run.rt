@@ -94,6 +94,9 @@ pub fn run<R: Source, W: Sink, E: Sink, F: Files>(
         FailsAs (F.bytes_of files.now) (F.may_fail files.now) (PiecesMayFail F.Opened.faults) command result out.old out.new }
     ensures graph { (class : Option (List ℕ)) (site text : List ℕ) → AreGraphWords class (map string_bytes args.now) site →
         F.bytes_of files.now site ≡ Some text → GraphIs class (F.bytes_of files.now) text result out.old out.new }
+    ensures graph_fails { (class : Option (List ℕ)) (site text : List ℕ) → AreGraphWords class (map string_bytes args.now) site →
+        F.bytes_of files.now site ≡ Some text →
+        FailsBy (Any (F.may_fail files.now) (site ∷ file_names text)) result out.old out.new }
     ensures other { AreNoCommandOf (map string_bytes args.now) → Shows result out.old out.new }
     ensures status { result ≤ 4 }
     ensures quiet { result ≡ 0 → Keeps out.old.errors.contents out.new.errors.contents }

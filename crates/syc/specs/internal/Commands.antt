@@ -151,9 +151,14 @@ abbrev pub FurtherSays : (List ℕ → Option (List ℕ)) → Further → ℕ �
 FurtherSays bytes_of (further.WithOptions options command) status old new = SaysAs bytes_of options (over command) status old new
 FurtherSays bytes_of _ status old new = Unit {0}
 
--- what a drawing answers
-abbrev pub FurtherDraws : (List ℕ → Option (List ℕ)) → Further → ℕ → Streams → Streams → Type 0
-FurtherDraws bytes_of (further.Graph site) status old new = (text : List ℕ) → bytes_of site.now ≡ Some text → GraphIs None bytes_of text status old new
-FurtherDraws bytes_of (further.GraphOfClass site class) status old new =
-    (text : List ℕ) → bytes_of site.now ≡ Some text → GraphIs (Some class.now) bytes_of text status old new
-FurtherDraws bytes_of _ status old new = Unit {0}
+-- what a drawing answers, and why it ends with 4
+abbrev pub Draws : Option (List ℕ) → (List ℕ → Option (List ℕ)) → (List ℕ → Type 0) → (site : List ℕ) → List ℕ → ℕ → Streams → Streams → Type 0
+Draws class bytes_of MayFail site text status old new =
+    GraphIs class bytes_of text status old new × FailsBy (Any MayFail (site ∷ file_names text)) status old new
+
+abbrev pub FurtherDraws : (List ℕ → Option (List ℕ)) → (List ℕ → Type 0) → Further → ℕ → Streams → Streams → Type 0
+FurtherDraws bytes_of MayFail (further.Graph site) status old new =
+    (text : List ℕ) → bytes_of site.now ≡ Some text → Draws None bytes_of MayFail site.now text status old new
+FurtherDraws bytes_of MayFail (further.GraphOfClass site class) status old new =
+    (text : List ℕ) → bytes_of site.now ≡ Some text → Draws (Some class.now) bytes_of MayFail site.now text status old new
+FurtherDraws bytes_of MayFail _ status old new = Unit {0}

@@ -1,6 +1,6 @@
 use Rattle.std.proofs.Common.{ℕ, refl, subst, sym}
 use Rattle.syc.specs.Optioned.{EndsAs}
-use Rattle.syc.proofs.NoMemory.{memory_draws, memory_ends, memory_keeps, memory_says}
+use Rattle.syc.proofs.NoMemory.{memory_draws, memory_ends, memory_fails, memory_keeps, memory_says}
 use Rattle.syc.proofs.Optioned.{further_draws, further_ends, further_keeps, further_says, no_further}
 use Rattle.syc.proofs.further.others.Goals as goal
 
@@ -43,11 +43,11 @@ returns-clause-keeps g c = λ options command are. absurd ((c.in-None.ensures.no
 
 pub returns-in_default-clause-draws : goal.returns-in_default-clause-draws
 returns-in_default-clause-draws g c = rw (← c.out.view_is) (λ class site text are known.
-    rw c.out_of_memory.ensures.status (memory_draws _ class text _ _ c.out_of_memory.ensures.reported refl))
+    rw c.out_of_memory.ensures.status (memory_draws _ class text _ _ c.out_of_memory.ensures.reported refl, memory_fails _ 3 _ _ refl))
 
 pub returns-in-Some-clause-draws : goal.returns-in-Some-clause-draws
 returns-in-Some-clause-draws g c =
-    further_draws _ _ c.args.out.now c.run_further.new.out _ c.in-Some.wanted (c.in-Some.ensures.some _ c.in-Ok.ensures) c.run_further.ensures.draws
+    further_draws _ _ _ c.args.out.now c.run_further.new.out _ c.in-Some.wanted (c.in-Some.ensures.some _ c.in-Ok.ensures) c.run_further.ensures.draws
 
 pub returns-clause-draws : goal.returns-clause-draws
 returns-clause-draws g c = λ class site text are known. absurd ((c.in-None.ensures.none _ c.in-Ok.ensures).no_graph class site are)

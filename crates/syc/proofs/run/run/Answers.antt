@@ -1,6 +1,6 @@
 use Rattle.std.proofs.Common.{ℕ, refl, subst, sym}
 use Rattle.syc.specs.Optioned.{EndsAs}
-use Rattle.syc.proofs.NoMemory.{memory_draws, memory_ends, memory_keeps, memory_says}
+use Rattle.syc.proofs.NoMemory.{memory_draws, memory_ends, memory_fails, memory_keeps, memory_says}
 use Rattle.syc.proofs.Commands.{asked_fails, for_asked, for_checked, for_kept, for_replay, for_verify, none_of_site, none_without_name, pass_alone, pass_asks_nothing, pass_is_apart, pass_no_replay, pass_no_verify, replay_fails, verify_fails, without_name}
 use Rattle.syc.proofs.Statuses.{nothing_passed}
 use Rattle.syc.proofs.Optioned.{calls, pass_has_none, pass_no_graph, site_has_none, site_no_graph}
@@ -27,6 +27,9 @@ returns-in_default-clause-options_safe g c = λ options command are.
 pub returns-in_default-clause-graph : goal.returns-in_default-clause-graph
 returns-in_default-clause-graph g c = rw (← c.out.view_is) (λ class site text are known.
     rw c.out_of_memory.ensures.status (memory_draws _ class text _ _ c.out_of_memory.ensures.reported refl))
+
+pub returns-in_default-clause-graph_fails : goal.returns-in_default-clause-graph_fails
+returns-in_default-clause-graph_fails g c = λ class site text are known. memory_fails _ c.out_of_memory.result _ _ c.out_of_memory.ensures.status
 
 -- ---- a pass
 
@@ -102,6 +105,11 @@ returns-in-Ok-Pass-clause-options_fail g c =
 
 pub returns-in-Ok-Pass-clause-graph : goal.returns-in-Ok-Pass-clause-graph
 returns-in-Ok-Pass-clause-graph g c =
+    let alone = pass_alone _ _ _ _ c.as_slice.ensures.value c.in-Ok.ensures (rw c.in-Ok-Pass.field-0-is at c.in-Ok-Pass.ensures.ok) in
+    λ class site text are known. absurd (pass_no_graph _ alone class site are)
+
+pub returns-in-Ok-Pass-clause-graph_fails : goal.returns-in-Ok-Pass-clause-graph_fails
+returns-in-Ok-Pass-clause-graph_fails g c =
     let alone = pass_alone _ _ _ _ c.as_slice.ensures.value c.in-Ok.ensures (rw c.in-Ok-Pass.field-0-is at c.in-Ok-Pass.ensures.ok) in
     λ class site text are known. absurd (pass_no_graph _ alone class site are)
 
@@ -190,6 +198,11 @@ returns-in-Ok-OverSite-clause-graph g c =
     let wanted = without_name _ _ _ _ c.as_slice.ensures.value c.in-Ok.ensures c.in-Ok-OverSite.command (rw c.in-Ok-OverSite.field-0-is at c.in-Ok-OverSite.ensures.ok) in
     λ class site text are known. absurd (site_no_graph _ (over c.in-Ok-OverSite.command) (calls _ c.in-Ok-OverSite.command wanted) class site are)
 
+pub returns-in-Ok-OverSite-clause-graph_fails : goal.returns-in-Ok-OverSite-clause-graph_fails
+returns-in-Ok-OverSite-clause-graph_fails g c =
+    let wanted = without_name _ _ _ _ c.as_slice.ensures.value c.in-Ok.ensures c.in-Ok-OverSite.command (rw c.in-Ok-OverSite.field-0-is at c.in-Ok-OverSite.ensures.ok) in
+    λ class site text are known. absurd (site_no_graph _ (over c.in-Ok-OverSite.command) (calls _ c.in-Ok-OverSite.command wanted) class site are)
+
 -- ---- no command
 
 pub returns-clause-pass : goal.returns-clause-pass
@@ -244,3 +257,9 @@ pub returns-clause-check_safe : goal.returns-clause-check_safe
 returns-clause-check_safe g c =
     let none = none_without_name _ _ _ _ c.as_slice.ensures.value c.in-Ok.ensures c.in-Err.ensures.err in
     λ site text are known zero. absurd (none.no_asking asked.Check site are)
+
+pub returns-clause-graph : goal.returns-clause-graph
+returns-clause-graph g c = λ class site text are known. (c.others.ensures.draws class site text are known).0
+
+pub returns-clause-graph_fails : goal.returns-clause-graph_fails
+returns-clause-graph_fails g c = λ class site text are known. (c.others.ensures.draws class site text are known).1
