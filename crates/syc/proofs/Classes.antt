@@ -1,6 +1,6 @@
 -- Classes by their names.
 use Rattle.std.proofs.Common.{◌≡◌, ℕ, ◌<◌, ◌≤◌, ◌+◌, ◌*◌, List, ◌++◌, sym, ap, ◌∙◌, arith, inl, inr}
-use Rattle.std.specs.Prelude.{IfSome, Option, codes, true, ◌⊎◌}
+use Rattle.std.specs.Prelude.{IfSome, Option, codes, true}
 use Rattle.std.proofs.lemmas.Bool.{cases_eq}
 use Rattle.sy_select.specs.Names.{facility_text, severity_text}
 use Rattle.sy_wire.specs.declared.class.Class.{Class}
@@ -8,7 +8,6 @@ use Rattle.syc.specs.Graphs.{GraphIs, IsClass, IsNoClass}
 use Rattle.syc.specs.Outcomes.{AnswersOf, FailsBy}
 use Rattle.syc.specs.Reports.{Streams}
 use Rattle.syc.specs.Texts.{class_text}
-use Rattle.syc.proofs.NoMemory.{memory_fails}
 
 abbrev number_of : Class → ℕ
 number_of class = 8 * class.facility + class.severity
@@ -58,7 +57,5 @@ drawn class bytes_of text status old new is (inr none) = inl (inr none)
 two_or_four : (n : ℕ) → n ≡ 2 → n ≡ 4 → ⊥
 two_or_four n two four = omega (arith, two, four)
 
-pub no_class_fails : (MayFail Told Memory : Type 0) (status : ℕ) (old new : Streams) → ((status ≡ 2) × Told) ⊎ ((status ≡ 3) × Memory)
-    → FailsBy MayFail status old new
-no_class_fails MayFail Told Memory status old new (inl told) = λ four. absurd (two_or_four status told.0 four)
-no_class_fails MayFail Told Memory status old new (inr memory) = memory_fails MayFail status old new memory.0
+pub two_fails : (MayFail : Type 0) (status : ℕ) (old new : Streams) → status ≡ 2 → FailsBy MayFail status old new
+two_fails MayFail status old new two four = absurd (two_or_four status two four)

@@ -34,11 +34,14 @@ memory_says bytes_of old new told same options (OverSite.Replay site events) = �
 memory_says bytes_of old new told same options (OverSite.Verify site certificate) = λ words site_text text known read.
     inr (same, inr (inr (inl (refl, first old.errors new.errors _ told))))
 
-three_or_four : (n : ℕ) → n ≡ 3 → n ≡ 4 → ⊥
+pub three_or_four : (n : ℕ) → n ≡ 3 → n ≡ 4 → ⊥
 three_or_four n three four = omega (arith, three, four)
 
 pub memory_fails : (MayFail : Type 0) (status : ℕ) (old new : Streams) → status ≡ 3 → FailsBy MayFail status old new
 memory_fails MayFail status old new three four = absurd (three_or_four status three four)
+
+pub three_fails : {A : Type 0} → ◌≡◌ {A = ℕ} 3 4 → A
+three_fails same = absurd (three_or_four 3 refl same)
 
 pub memory_draws : (bytes_of : List ℕ → Option (List ℕ)) (class : Option (List ℕ)) (text : List ℕ) (old new : Streams)
     → Tells old new (said (codes "no memory")) → new.output ≡ old.output → GraphIs class bytes_of text 3 old new

@@ -310,7 +310,7 @@ drawn_is_class word old new (inl (inr (inr (inl memory), same))) = absurd (omega
 drawn_is_class word old new (inl (inr (inr (inr unread), same))) = absurd (omega (arith, unread.0))
 drawn_is_class word old new (inr tells) = absurd (zero_or_two tells.3)
   where
-    zero_or_two : 0 ≡ 2 → ⊥
+    zero_or_two : ◌≡◌ {A = ℕ} 0 2 → ⊥
     zero_or_two e = omega (arith, e)
 
 -- Nor is a drawing of all classes.
@@ -339,7 +339,8 @@ ask_faulty : (question : Asked) (options : Options) (bytes_of : List ℕ → Opt
     → (new.output ≡ old.output) × (fault : SiteFault) × IsSiteFault bytes_of text fault × TellsFirst old new (site_report fault)
 ask_faulty question options bytes_of text old new (inl (site, is, printed, is_accepted, says, prints)) =
     absurd (printed_at_two printed is_accepted old new prints)
-ask_faulty question options bytes_of text old new (inr (none, same)) = (same, fault_told bytes_of text old new none)
+ask_faulty question options bytes_of text old new (inr (none, same)) =
+    let told = fault_told bytes_of text old new none in (same, told.0, told.1, told.2)
 
 verify_faulty : (bytes_of : List ℕ → Option (List ℕ)) (text certificate : List ℕ) (old new : Streams) → VerifyInWordsIs bytes_of text certificate 2 old new
     → (new.output ≡ old.output) × (((fault : TextFault) × IsFaultyCertificate bytes_of text certificate fault

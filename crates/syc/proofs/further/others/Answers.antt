@@ -1,6 +1,6 @@
 use Rattle.std.proofs.Common.{ℕ, refl, subst, sym}
 use Rattle.syc.specs.Optioned.{EndsAs}
-use Rattle.syc.proofs.NoMemory.{memory_draws, memory_ends, memory_fails, memory_keeps, memory_says}
+use Rattle.syc.proofs.NoMemory.{memory_draws, memory_ends, memory_keeps, memory_says, three_fails}
 use Rattle.syc.proofs.Optioned.{further_draws, further_ends, further_keeps, further_says, no_further}
 use Rattle.syc.proofs.further.others.Goals as goal
 
@@ -43,7 +43,7 @@ returns-clause-keeps g c = λ options command are. absurd ((c.in-None.ensures.no
 
 pub returns-in_default-clause-draws : goal.returns-in_default-clause-draws
 returns-in_default-clause-draws g c = rw (← c.out.view_is) (λ class site text are known.
-    rw c.out_of_memory.ensures.status (memory_draws _ class text _ _ c.out_of_memory.ensures.reported refl, memory_fails _ 3 _ _ refl))
+    rw c.out_of_memory.ensures.status (memory_draws _ class text _ _ c.out_of_memory.ensures.reported refl, three_fails))
 
 pub returns-in-Some-clause-draws : goal.returns-in-Some-clause-draws
 returns-in-Some-clause-draws g c =

@@ -1,6 +1,6 @@
 use Rattle.std.proofs.Common.{ℕ, refl, subst, sym}
 use Rattle.syc.specs.Optioned.{EndsAs}
-use Rattle.syc.proofs.NoMemory.{memory_draws, memory_ends, memory_fails, memory_keeps, memory_says}
+use Rattle.syc.proofs.NoMemory.{memory_draws, memory_ends, memory_keeps, memory_says, three_or_four}
 use Rattle.syc.proofs.Commands.{asked_fails, for_asked, for_checked, for_kept, for_replay, for_verify, none_of_site, none_without_name, pass_alone, pass_asks_nothing, pass_is_apart, pass_no_replay, pass_no_verify, replay_fails, verify_fails, without_name}
 use Rattle.syc.proofs.Statuses.{nothing_passed}
 use Rattle.syc.proofs.Optioned.{calls, pass_has_none, pass_no_graph, site_has_none, site_no_graph}
@@ -29,7 +29,8 @@ returns-in_default-clause-graph g c = rw (← c.out.view_is) (λ class site text
     rw c.out_of_memory.ensures.status (memory_draws _ class text _ _ c.out_of_memory.ensures.reported refl))
 
 pub returns-in_default-clause-graph_fails : goal.returns-in_default-clause-graph_fails
-returns-in_default-clause-graph_fails g c = λ class site text are known. memory_fails _ c.out_of_memory.result _ _ c.out_of_memory.ensures.status
+returns-in_default-clause-graph_fails g c = λ class site text are known four.
+    absurd (three_or_four c.out_of_memory.result c.out_of_memory.ensures.status four)
 
 -- ---- a pass
 
