@@ -113,11 +113,13 @@ def reset_at_once(room):
     relay, port = room.hub()
     for _ in range(300):
         Sender(port).reset()
+    relay.rests(port)
     send_all(port, messages(5))
     room.holds("audit.log", messages(5))
     relay.rests(port)
     same("totals", relay.stop(), totals(5, 0, 0, ("audit", 5, 5, 0, 0)))
-    same("faults", set(relay.faults()) <= {f"syc: 71 Read at {port}"}, True)
+    # (where the relay is slower than they come, more are open at once than there are hands)
+    same("faults", set(relay.faults()) <= {f"syc: 71 Read at {port}", f"syc: 73 Hands at {port}"}, True)
 
 
 @test
