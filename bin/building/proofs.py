@@ -9,7 +9,7 @@ from concurrent.futures import FIRST_COMPLETED, ThreadPoolExecutor, wait
 from building.common import TOP, Failed, alone, below, crates_of, keeps_proofs, kit_name, lanes, needed_kit, rooms, run, say
 from building.programs import Program, tell_sums
 
-MEASURED = "55 minutes on two processors, with the proofs of the tests beside it,"
+MEASURED = "77 minutes on two processors, with the proofs of the tests beside it,"
 OF_A_PROOF = 3_000_000_000  # bytes of memory, about
 
 
