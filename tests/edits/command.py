@@ -81,7 +81,10 @@ def try_one(top, crate, wanted, share, flags):
     controls, lacking = controls_of(top, crate.name)
     record = records.Record(top, crate.name, [it.name for it in crate.below()])
     given = record.left(good) if flags["uses records"] else good
-    tried, cost = paths.try_crate(crate, given, controls, share) if given or controls else ([], "no check")
+    # (in a run of the gate a second look fails nothing, so it is had at what was never looked at alone)
+    seen = list(filter(record.knows, given)) if flags["-k"] else []
+    is_tried = given or controls and not good
+    tried, cost = paths.try_crate(crate, given, controls, share, seen) if is_tried else ([], "no check")
     if flags["-r"]:
         refused = {it.label for it in tried if it.is_well}
         record.write(given, [it for it in given if it.label in refused])

@@ -106,11 +106,11 @@ def offered(lines, folder):
 
 
 class Trial(rounds.Trial):
-    """A trial that also tells which refusals may be for want of an answer."""
+    """A trial that also tells which refusals may be for want of an answer, but for those of edits that were seen."""
 
-    def __init__(self, *given):
+    def __init__(self, *given, seen=()):
         super().__init__(*given)
-        self.lines, self.refused = [], []
+        self.lines, self.refused, self.seen = [], [], {it.name for it in seen}
 
     def check(self, sources, functions, gone=()):
         said, self.lines = super().check(sources, functions, gone)
@@ -118,7 +118,7 @@ class Trial(rounds.Trial):
 
     def settle(self, edit, of_it):
         super().settle(edit, of_it)
-        if self.found[edit.name].is_well and edit not in self.controls:
+        if self.found[edit.name].is_well and edit not in self.controls and edit.name not in self.seen:
             self.refused.append(refusal_of(edit, of_it, self.lines, self.prefix(edit.function)))
 
     def prefix(self, function):
@@ -244,8 +244,8 @@ def is_of_lemmas(module):
     return ".proofs." in module and not module.endswith((".Common", ".Goals", ".Given"))
 
 
-def try_crate(crate, given, controls, jobs=lambda: 1):
-    """As that of `rounds`; of each refusal that may be for want of an answer, that it may."""
+def try_crate(crate, given, controls, jobs=lambda: 1, seen=()):
+    """As that of `rounds`; of each refusal that may be for want of an answer, that it may, but for those that were seen."""
     with tempfile.TemporaryDirectory(prefix="syc-edits-") as room:
-        trial = Trial(crate, given, controls, jobs, room)
+        trial = Trial(crate, given, controls, jobs, room, seen=seen)
         return trial.run(), f"{trial.checks} checks, {trial.seconds:.0f} processor seconds"

@@ -17,8 +17,11 @@ OF_A_FUNCTION = {"Answers.antt", "Invariants.antt", "Proof.antt"}
 TABLE = re.compile(r"^static (\w+): .*?;\n", re.MULTILINE | re.DOTALL)
 # A file of lemmas where another one imports it.
 LEMMAS = re.compile(r"\bRattle\.(\w+\.proofs\.[\w.]*\w)")
-# One in so many edits of a recorded crate is tried again in each run; of those recorded with another kit, one in so many.
-SHARE, SHARE_OF_ANOTHER_KIT = 50, 5
+# One in so many edits of a recorded crate is tried again where it is its turn; of those recorded with another kit, one in
+# so many in each run.
+SHARE, SHARE_OF_ANOTHER_KIT = 30, 5
+# It is the turn of one crate in so many.
+TURNS = 4
 # In so many states a crate's record is kept.
 STATES = 2
 
@@ -125,6 +128,21 @@ def parts_of(top, crate, below):
     return [*parts, *lemmas]
 
 
+@functools.lru_cache(maxsize=None)
+def crates_due(top):
+    """The crates whose recorded edits are tried again in this state of the repository: one in four of those that have
+    edits, others in each state."""
+    names = sorted(it for it in os.listdir(f"{top}/crates") if os.path.isdir(f"{top}/crates/{it}/must-fail"))
+    state = digest(it for name in names for it in [*own_parts(top, name), *edits_in(top, name)])
+    return set(sorted(names, key=lambda it: digest([(it, state)]))[: (len(names) + TURNS - 1) // TURNS])
+
+
+def edits_in(top, crate):
+    """The texts of a crate's edits."""
+    for path, file in files_below(f"{top}/crates/{crate}/must-fail"):
+        yield f"{crate}/must-fail/{path}", text_of(file)
+
+
 class Record:
     """Which edits of a crate were refused when all that this rests on was as it is now: of each the sum of its text. The
     file keeps the last states, each with the kit that it was recorded with; what was refused with another kit, where all
@@ -132,6 +150,7 @@ class Record:
 
     def __init__(self, top, crate, below):
         self.folder, self.crate, self.file = f"{top}/crates/{crate}/must-fail", crate, f"{top}/tests/edits/refused/{crate}"
+        self.is_due = crate in crates_due(top)
         self.kit, self.logic = toolchain_here()
         self.parts = parts_of(top, crate, below)
         self.sum, self.states = self.sum_with(self.kit), self.read()
@@ -169,13 +188,18 @@ class Record:
         return not self.has(edit) and self.refused_elsewhere.get(edit.name) == self.sum_of(edit)
 
     def left(self, given):
-        """Of these edits those that aren't recorded, and some of the others: one in fifty, others in each state of the
-        crate, and one at least; of those that were recorded with another kit more of them."""
+        """Of these edits those that aren't recorded, and some of the others: where it is the crate's turn one in thirty,
+        others in each state of the crate, and one at least; of those that were recorded with another kit more of them,
+        in each run."""
         again = set()
-        for has, share in ((self.has, SHARE), (self.has_elsewhere, SHARE_OF_ANOTHER_KIT)):
+        for has, share in ((self.has, SHARE if self.is_due else 0), (self.has_elsewhere, SHARE_OF_ANOTHER_KIT)):
             recorded = sorted(filter(has, given), key=lambda it: digest([(it.label, self.sum)]))
-            again |= {it.name for it in recorded[: (len(recorded) + share - 1) // share]}
-        return [it for it in given if it.name in again or not (self.has(it) or self.has_elsewhere(it))]
+            again |= {it.name for it in recorded[: share and (len(recorded) + share - 1) // share]}
+        return [it for it in given if it.name in again or not self.knows(it)]
+
+    def knows(self, edit):
+        """Whether an edit is recorded as refused, with this kit or another one."""
+        return self.has(edit) or self.has_elsewhere(edit)
 
     def write(self, given, refused):
         """Writes that these edits were refused, of those given; what was recorded of others in this state stays."""
