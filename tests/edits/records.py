@@ -129,18 +129,40 @@ def parts_of(top, crate, below):
 
 
 @functools.lru_cache(maxsize=None)
-def crates_due(top):
-    """The crates whose recorded edits are tried again in this state of the repository: one in four of those that have
-    edits, others in each state."""
+def turns(top):
+    """What recorded things are tried again in this state of the repository: the crates whose edits are, one in four of
+    those that have edits, others in each state; and whether the runner itself is, in one state of four."""
     names = sorted(it for it in os.listdir(f"{top}/crates") if os.path.isdir(f"{top}/crates/{it}/must-fail"))
     state = digest(it for name in names for it in [*own_parts(top, name), *edits_in(top, name)])
-    return set(sorted(names, key=lambda it: digest([(it, state)]))[: (len(names) + TURNS - 1) // TURNS])
+    due = set(sorted(names, key=lambda it: digest([(it, state)]))[: (len(names) + TURNS - 1) // TURNS])
+    return due, int(digest([("", state)]), 16) % TURNS == 0
 
 
 def edits_in(top, crate):
     """The texts of a crate's edits."""
     for path, file in files_below(f"{top}/crates/{crate}/must-fail"):
         yield f"{crate}/must-fail/{path}", text_of(file)
+
+
+class RecordOfRunner:
+    """Whether the runner said what it must of edits that are known, when its texts and the toolchain were as they are
+    now: the file has the sum of these."""
+
+    def __init__(self, top):
+        self.file, self.is_due = f"{top}/tests/edits/passed", turns(top)[1]
+        names = sorted(it for it in os.listdir(HERE) if it.endswith(".py") or it == "selftest")
+        kit = " ".join(toolchain_here())
+        self.sum = digest([("kit", kit), *((it, text_of(f"{HERE}/{it}")) for it in names)])
+
+    def has(self):
+        try:
+            return text_of(self.file) == f"{self.sum}\n"
+        except FileNotFoundError:
+            return False
+
+    def write(self):
+        with open(self.file, "w", encoding="utf-8") as it:
+            it.write(f"{self.sum}\n")
 
 
 class Record:
@@ -150,7 +172,7 @@ class Record:
 
     def __init__(self, top, crate, below):
         self.folder, self.crate, self.file = f"{top}/crates/{crate}/must-fail", crate, f"{top}/tests/edits/refused/{crate}"
-        self.is_due = crate in crates_due(top)
+        self.is_due = crate in turns(top)[0]
         self.kit, self.logic = toolchain_here()
         self.parts = parts_of(top, crate, below)
         self.sum, self.states = self.sum_with(self.kit), self.read()
