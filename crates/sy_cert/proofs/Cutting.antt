@@ -5,7 +5,7 @@ use Rattle.std.proofs.lemmas.List.Splits.{slice_split-cons_yes}
 use Rattle.std.specs.List.{slice_split}
 use Rattle.memchr.specs.Find.{IsFirstByte, is_byte}
 use Rattle.sy_cert.specs.Faults.{Lacks, words_in}
-use Rattle.sy_cert.specs.Reading.{IsCut}
+use Rattle.sy_cert.specs.internal.Reading.{IsCut}
 
 is_false : (b : Bool) → (b ≡ true → ⊥) → b ≡ false
 is_false true never = absurd (never refl)

@@ -5,7 +5,7 @@ use Rattle.sy_cert.specs.declared.fault.FaultCode.{FaultCode}
 use Rattle.sy_cert.specs.declared.fault.FaultCode.TheVariants as code
 use Rattle.sy_cert.specs.declared.row.Row.{Row}
 use Rattle.sy_cert.specs.Faults.{BeginsWith, HasFault, IsRefused, Lacks, words_in}
-use Rattle.sy_cert.specs.Reading.{IsCut, IsNotTaken}
+use Rattle.sy_cert.specs.internal.Reading.{IsCut, IsNotTaken}
 use Rattle.std.proofs.lemmas.List.{append-nil}
 use Rattle.sy_cert.specs.Rows.{IsCertificate, last_kind, text}
 use Rattle.sy_cert.proofs.Uniqueness.{no_fault, one_text}

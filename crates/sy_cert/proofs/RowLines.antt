@@ -11,7 +11,7 @@ use Rattle.sy_cert.specs.declared.kinds.Kind.{Kind}
 use Rattle.sy_cert.specs.declared.row.Row.{Row}
 use Rattle.sy_cert.specs.declared.row.Row.TheVariants as row
 use Rattle.sy_cert.specs.Faults.{HasShape, IsClassLine, IsInnerLine, IsPathLine, IsRelayLine, words_in}
-use Rattle.sy_cert.specs.Reading.{AreUnread, IsNotTaken, IsUnread}
+use Rattle.sy_cert.specs.internal.Reading.{AreUnread, IsNotTaken, IsUnread}
 use Rattle.sy_cert.specs.Rows.{AreOccurrences, IsPort, IsRow, kind, last_from, words}
 
 -- ---- words by their places

@@ -14,7 +14,7 @@ use Rattle.sy_cert.specs.declared.kinds.Kind.TheVariants as kinds
 use Rattle.sy_cert.specs.declared.row.Row.{Row}
 use Rattle.sy_cert.specs.declared.row.Row.TheVariants as row
 use Rattle.sy_cert.specs.Faults.{BeginsWith, HasShape, Lacks, is_numeral, words_in}
-use Rattle.sy_cert.specs.Reading.{IsCut, IsTaken}
+use Rattle.sy_cert.specs.internal.Reading.{IsCut, IsTaken}
 use Rattle.sy_cert.specs.Rows.{AreOccurrences, IsRow, IsVersion, further, has_bytes, head, is_action, is_action_byte, is_name, is_name_byte, line, lines, spaced, text, words}
 use Rattle.sy_cert.proofs.Cutting.{split_last, split_part}
 use Rattle.sy_cert.proofs.Numbers.{own}

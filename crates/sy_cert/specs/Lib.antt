@@ -1,4 +1,4 @@
 pub mod Rows
 pub mod Faults
 pub mod CertificateValue
-pub mod Reading
+pub mod internal

@@ -5,7 +5,7 @@ ghost use Rattle.std.specs.List.{list_all};
 ghost use Rattle.std.specs.Option.{option_copied};
 ghost use Rattle.sy_cert.specs.Rows as rows;
 ghost use Rattle.sy_cert.specs.Faults as faults;
-ghost use Rattle.sy_cert.specs.Reading.{words_left};
+ghost use Rattle.sy_cert.specs.internal.Reading.{words_left};
 
 use crate::words::{is_action, is_name, is_numeral, next_word};
 

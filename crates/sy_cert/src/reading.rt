@@ -6,7 +6,7 @@ ghost use Rattle.std.specs.Option.{option_copied};
 ghost use Rattle.sy_cert.specs.Faults.{words_in};
 ghost use Rattle.sy_cert.specs.Rows.{AreOccurrences, IsPort, last_kind};
 ghost use Rattle.sy_cert.specs.declared.row.Row.TheVariants as row;
-ghost use Rattle.sy_cert.specs.Reading.{AreUnread, IsNotTaken, IsRowOf, IsTaken, IsUnread, words_left};
+ghost use Rattle.sy_cert.specs.internal.Reading.{AreUnread, IsNotTaken, IsRowOf, IsTaken, IsUnread, words_left};
 
 use crate::certificate::Certificate;
 use crate::fault::FaultCode;

@@ -10,7 +10,7 @@ use mathlib.Core.Bool.{Bool, true, false, not, false≢true}
 use Rattle.std.specs.Prelude.{Option, None, Some, is_some, IfNone, IfSome, IsTrue, ◌↔◌}
 use denote.RawPtr.{Ptr, InBlock, null_ptr, count_of, Testable}
 use Rattle.sy_chain.proofs.Cuts.{take_map, drop_map}
-use Rattle.sy_chain.specs.Linked.{Placed, Leads, AreLinked, last_place, with_last_next, place_of, next_of, elems}
+use Rattle.sy_chain.specs.internal.Linked.{Placed, Leads, AreLinked, last_place, with_last_next, place_of, next_of, elems}
 
 before : (n : ℕ) → 0 < n → suc (n - 1) ≡ n
 before n p = omega arith

@@ -4,8 +4,8 @@
 //! [`LinkedBlocks`](crate::linked::LinkedBlocks), whose code is safe.
 ghost use Rattle.std.specs.Prelude.{◌≡◌, ◌<◌, List, [], ◌∷◌, ◌++◌, drop, length, take};
 ghost use denote.RawPtr.{null_ptr};
-ghost use Rattle.sy_chain.specs.Linked.{Placed, IsStart, Leads, last_place, next_of, place_of, with_last_next};
-ghost use Rattle.sy_chain.specs.Ownership.{blocks_own};
+ghost use Rattle.sy_chain.specs.internal.Linked.{Placed, IsStart, Leads, last_place, next_of, place_of, with_last_next};
+ghost use Rattle.sy_chain.specs.internal.Ownership.{blocks_own};
 
 use crate::raw_box::RawBox;
 use std::alloc::Global;

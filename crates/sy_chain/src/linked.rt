@@ -20,7 +20,7 @@ pub struct LinkedBlocks<T> {
 
 impl<T> Model for LinkedBlocks<T> {
     ghost use Rattle.std.specs.Prelude.{List};
-    ghost use Rattle.sy_chain.specs.Linked.{AreLinked, elems};
+    ghost use Rattle.sy_chain.specs.internal.Linked.{AreLinked, elems};
 
     ghost Value = { List T };
 

@@ -21,14 +21,14 @@ use Rattle.sy_checker.specs.declared.flows.RelayFlows.{RelayFlows}
 use Rattle.sy_checker.specs.declared.flows.SiteFlows.{SiteFlows}
 use Rattle.sy_checker.specs.declared.flows.SiteHops.{SiteHops}
 use Rattle.sy_checker.specs.declared.reach.Origin.{Origin}
-use Rattle.sy_checker.specs.Course.{AreAlike, AreCourses, AreSame, IsCourse, IsCourseAt, IsSameAt}
-use Rattle.sy_checker.specs.Flows.{AreEach, AreSiteFlows, Does, IsFlow, is_used}
+use Rattle.sy_checker.specs.internal.Course.{AreAlike, AreCourses, AreSame, IsCourse, IsCourseAt, IsSameAt}
+use Rattle.sy_checker.specs.internal.Flows.{AreEach, AreSiteFlows, Does, IsFlow, is_used}
 use Rattle.sy_checker.specs.declared.wanted.InnerList.{InnerList}
 use Rattle.sy_checker.specs.Fit.{IsInner}
-use Rattle.sy_checker.specs.Hops.{AreHops, AreSiteHops, Leads, LeadsBy, LeadsByPosts}
-use Rattle.sy_checker.specs.Inner.{AreNumbers, number_at}
-use Rattle.sy_checker.specs.Loops.{rank_at}
-use Rattle.sy_checker.specs.Search.{IsOrigin, IsSpread}
+use Rattle.sy_checker.specs.internal.Hops.{AreHops, AreSiteHops, Leads, LeadsBy, LeadsByPosts}
+use Rattle.sy_checker.specs.internal.Inner.{AreNumbers, number_at}
+use Rattle.sy_checker.specs.internal.Loops.{rank_at}
+use Rattle.sy_checker.specs.internal.Search.{IsOrigin, IsSpread}
 use Rattle.sy_checker.proofs.Followed.{posts_used}
 use Rattle.sy_checker.proofs.Gone.{stands_in}
 use Rattle.sy_checker.proofs.Led.{leads_as}

@@ -15,8 +15,8 @@ use Rattle.sy_site.specs.machine.Reach.{LeadsTo, Reach, Reaches, entry, list_of,
 use Rattle.sy_site.specs.machine.Soundness.{IsSound, IsSoundFor}
 use Rattle.sy_site.proofs.machine.Spares.{reach_every, reaches_every}
 use Rattle.sy_site.proofs.machine.Ways.{way_to}
-use Rattle.sy_checker.specs.Loops.{IsTrail, relays_of}
-use Rattle.sy_checker.specs.Leads.{list_at}
+use Rattle.sy_checker.specs.internal.Loops.{IsTrail, relays_of}
+use Rattle.sy_checker.specs.internal.Leads.{list_at}
 use Rattle.sy_checker.proofs.Leading.{next_of}
 use Rattle.sy_checker.proofs.LeadsDecided.{leads_or_not}
 use Rattle.sy_checker.proofs.Led.{list_there}

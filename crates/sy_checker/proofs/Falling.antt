@@ -17,8 +17,8 @@ use Rattle.sy_site.specs.machine.Reach.{PostsOn, Reach, list_of}
 use Rattle.sy_site.specs.declared.site.SiteInput.{SiteInput}
 use Rattle.sy_checker.specs.declared.wanted.InnerList.{InnerList}
 use Rattle.sy_checker.specs.Fit.{IsInner}
-use Rattle.sy_checker.specs.Hops.{AreApart}
-use Rattle.sy_checker.specs.Inner.{AreNumbers, PostsTo}
+use Rattle.sy_checker.specs.internal.Hops.{AreApart}
+use Rattle.sy_checker.specs.internal.Inner.{AreNumbers, PostsTo}
 use Rattle.sy_checker.proofs.InnerLists.{inner_on, last_post, on, on_follows, posts_join}
 use Rattle.sy_checker.proofs.InnersDecided.{next, next_has, next_is}
 use Rattle.sy_checker.proofs.Listing.{In}

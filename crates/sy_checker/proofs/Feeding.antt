@@ -15,9 +15,9 @@ use Rattle.sy_rules.specs.Whole.{body_in, queue_for}
 use Rattle.sy_rules.specs.lists.Body.{occurrences}
 use Rattle.sy_board.specs.relay.Plans.{flow_of, occurrences_at, parameters_at, post_flow}
 use Rattle.sy_site.specs.Sites.{Site, plan_at}
-use Rattle.sy_site.specs.machine.Findings.{IsFedFreely}
+use Rattle.sy_site.specs.internal.Findings.{IsFedFreely}
 use Rattle.sy_board.specs.relay.Feeders.{Feeder, Feeds, IsFullDelay}
-use Rattle.sy_checker.specs.Risks.{HasPost, is_free, is_full_delay, posts_into}
+use Rattle.sy_checker.specs.internal.Risks.{HasPost, is_free, is_full_delay, posts_into}
 
 -- ---- some of a list
 

@@ -17,7 +17,7 @@ use Rattle.sy_site.specs.machine.Reach.{occurrence_at}
 use Rattle.sy_checker.specs.declared.executed.Executed.{Executed}
 use Rattle.sy_checker.specs.declared.executed.Executed.TheVariants as executed
 use Rattle.sy_checker.specs.declared.flows.ListFlows.{ListFlows}
-use Rattle.sy_checker.specs.Flows.{IsFirm, IsFlow, IsSet, set_of}
+use Rattle.sy_checker.specs.internal.Flows.{IsFirm, IsFlow, IsSet, set_of}
 
 -- ---- the actions of a relay
 

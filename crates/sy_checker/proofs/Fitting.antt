@@ -18,10 +18,10 @@ use Rattle.sy_site.specs.machine.Soundness.{AreRanks, IsSound}
 use Rattle.sy_board.proofs.relay.Keeps.{Each, each_append}
 use Rattle.sy_site.proofs.machine.NoFinding.{no_finding}
 use Rattle.sy_checker.specs.Fit.{AreFit, AreRight, AreWanted, ComesBefore, IsFit, IsInner, ListsAll, StandsBefore, action_name, name_of, paths, port_of}
-use Rattle.sy_checker.specs.Internal.{AreProtectedBelow, AreRelays, AreRest, AreSorted, IsRest, same_input}
-use Rattle.sy_checker.specs.Made.{IsMade, IsMadeAt}
+use Rattle.sy_checker.specs.internal.Found.{AreProtectedBelow, AreRelays, AreRest, AreSorted, IsRest, same_input}
+use Rattle.sy_checker.specs.internal.Made.{IsMade, IsMadeAt}
 use Rattle.sy_checker.specs.declared.wanted.InnerList.{InnerList}
-use Rattle.sy_checker.specs.Inners.{AreInners}
+use Rattle.sy_checker.specs.internal.Inners.{AreInners}
 use Rattle.sy_checker.specs.declared.wanted.Wanted.{Wanted}
 use Rattle.sy_checker.specs.declared.wanted.Wanted.TheVariants as wanted
 use Rattle.sy_checker.proofs.Complete.{reached_list}

@@ -2,7 +2,7 @@
 use Rattle.std.proofs.Common.{◌≡◌, ℕ, ◌+◌, List, [], ◌∷◌, ◌++◌, Some, refl, sym, subst, ◌∙◌, arith, inl, inr}
 use Rattle.std.proofs.lemmas.List.{length-append}
 use Rattle.std.proofs.lemmas.Option.{slice_get_within}
-use Rattle.sy_checker.specs.Flows.{AreEach}
+use Rattle.sy_checker.specs.internal.Flows.{AreEach}
 use Rattle.sy_checker.proofs.Rooted.{stood}
 
 module _ {A : Type 0} (P : ℕ → A → Type 0) where

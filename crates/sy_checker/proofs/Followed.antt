@@ -8,7 +8,7 @@ use Rattle.sy_site.specs.declared.site.SiteInput.{SiteInput}
 use Rattle.sy_site.specs.Sites.{Site, plan_at}
 use Rattle.sy_site.specs.machine.Lawful.{IsLawful}
 use Rattle.sy_site.specs.machine.Reach.{Follows, MayDo, PostsOn, list_of}
-use Rattle.sy_checker.specs.Flows.{is_used}
+use Rattle.sy_checker.specs.internal.Flows.{is_used}
 use Rattle.sy_checker.proofs.Used.{posted_there, posted_used}
 
 module _ (site : Site) (class : Class) (scope : Scope) where

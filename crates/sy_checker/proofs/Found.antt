@@ -15,9 +15,9 @@ use Rattle.sy_site.specs.Sites.{Site}
 use Rattle.sy_site.specs.machine.Reach.{list_of}
 use Rattle.sy_checker.specs.declared.executed.Executed.{Executed}
 use Rattle.sy_checker.specs.declared.flows.Hop.{Hop}
-use Rattle.sy_checker.specs.Hops.{AreHops, HasHop, LeadsBy}
-use Rattle.sy_checker.specs.Internal.{Adds, same_input}
-use Rattle.sy_checker.specs.Search.{LeadsOn}
+use Rattle.sy_checker.specs.internal.Hops.{AreHops, HasHop, LeadsBy}
+use Rattle.sy_checker.specs.internal.Found.{Adds, same_input}
+use Rattle.sy_checker.specs.internal.Search.{LeadsOn}
 
 -- ---- inputs are the same by their numbers
 

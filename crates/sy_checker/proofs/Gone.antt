@@ -16,10 +16,10 @@ use Rattle.sy_board.specs.relay.Spares.{Scope}
 use Rattle.sy_site.specs.machine.Reach.{Reach, Reaches, entry, list_of, onward}
 use Rattle.sy_checker.specs.declared.executed.Executed.{Executed}
 use Rattle.sy_checker.specs.declared.executed.Executed.TheVariants as executed
-use Rattle.sy_checker.specs.Hops.{Leads}
-use Rattle.sy_checker.specs.Internal.{Adds, same_input}
+use Rattle.sy_checker.specs.internal.Hops.{Leads}
+use Rattle.sy_checker.specs.internal.Found.{Adds, same_input}
 use Rattle.sy_checker.specs.declared.reach.Origin.{Origin}
-use Rattle.sy_checker.specs.Search.{AreRooted, IsOrigin, IsSpread, KeepsRoots, LeadsOn}
+use Rattle.sy_checker.specs.internal.Search.{AreRooted, IsOrigin, IsSpread, KeepsRoots, LeadsOn}
 use Rattle.sy_checker.proofs.FitIsSound.{at_place}
 use Rattle.sy_checker.proofs.Rooted.{origin_at, rooted_none, same_place}
 use Rattle.sy_checker.proofs.There.{lead_there, place_there, relay_there}

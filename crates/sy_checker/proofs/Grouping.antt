@@ -10,7 +10,8 @@ use Rattle.sy_wire.specs.declared.class.Class.{Class}
 use Rattle.sy_site.specs.declared.site.SiteInput.{SiteInput}
 use Rattle.sy_checker.specs.declared.finding.Kind.{Kind}
 use Rattle.sy_checker.specs.declared.groups.Group.{Group}
-use Rattle.sy_checker.specs.Survey.{AreGroups, IsAt, Names, Puts, subject}
+use Rattle.sy_checker.specs.Survey.{AreGroups, Names, subject}
+use Rattle.sy_checker.specs.internal.Survey.{IsAt, Puts}
 use Rattle.sy_checker.proofs.Ways.{one_value}
 
 -- ---- lists

@@ -13,7 +13,8 @@ use Rattle.sy_site.specs.declared.site.SiteInput.{SiteInput}
 use Rattle.sy_site.specs.Sites.{Relay, Site, actions_at, plan_at, plan_in, spares_at}
 use Rattle.sy_site.specs.machine.Reach.{Reach}
 use Rattle.sy_site.specs.machine.Soundness.{IsGuarded}
-use Rattle.sy_checker.specs.Acceptance.{Acceptance, AreGuardable, ArePairsAt, AreReached, IsGuardAt, IsOf}
+use Rattle.sy_checker.specs.Acceptance.{Acceptance, ArePairsAt, IsGuardAt, IsOf}
+use Rattle.sy_checker.specs.internal.Checking.{AreGuardable, AreReached}
 use Rattle.sy_checker.specs.Fit.{AreProtected}
 use Rattle.sy_checker.proofs.Comparing.{from_map}
 use Rattle.sy_checker.proofs.FitIsSound.{in_map}

@@ -9,8 +9,8 @@ use Rattle.sy_site.specs.Sites.{Site}
 use Rattle.sy_site.specs.machine.Reach.{list_of}
 use Rattle.sy_checker.specs.declared.executed.Executed.TheVariants as executed
 use Rattle.sy_checker.specs.declared.flows.Hop.{Hop}
-use Rattle.sy_checker.specs.Hops.{AreHops}
-use Rattle.sy_checker.specs.Loops.{IsHeight, IsHeightOf, rank_at}
+use Rattle.sy_checker.specs.internal.Hops.{AreHops}
+use Rattle.sy_checker.specs.internal.Loops.{IsHeight, IsHeightOf, rank_at}
 
 pub height_none : (ranks : List ℕ) (hops : List Hop) → IsHeightOf ranks (take 0 hops) 0
 height_none ranks hops = record {

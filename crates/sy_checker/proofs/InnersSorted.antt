@@ -12,9 +12,9 @@ use Rattle.sy_site.specs.machine.Lawful.{IsInput, IsLawful}
 use Rattle.sy_site.specs.machine.Reach.{PostsOn, Reach, list_of}
 use Rattle.sy_checker.specs.declared.wanted.InnerList.{InnerList}
 use Rattle.sy_checker.specs.Fit.{ComesBefore, IsInner, ListsAll}
-use Rattle.sy_checker.specs.Inners.{AreInners, AreReachedOf, IsInnerBefore, IsPosted}
-use Rattle.sy_checker.specs.Internal.{AreOf}
-use Rattle.sy_checker.specs.Leads.{IsThere}
+use Rattle.sy_checker.specs.internal.Inners.{AreInners, AreReachedOf, IsInnerBefore, IsPosted}
+use Rattle.sy_checker.specs.internal.Found.{AreOf}
+use Rattle.sy_checker.specs.internal.Leads.{IsThere}
 use Rattle.sy_checker.proofs.InnerLists.{last_post, on}
 use Rattle.sy_checker.proofs.Led.{inner_there}
 use Rattle.sy_checker.proofs.Sorted.{lists_as, lists_more, lists_none}

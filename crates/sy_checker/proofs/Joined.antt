@@ -7,7 +7,7 @@ use Rattle.sy_site.specs.declared.site.SiteInput.{SiteInput}
 use Rattle.sy_site.specs.Sites.{Site}
 use Rattle.sy_site.specs.machine.Reach.{Reach}
 use Rattle.sy_checker.specs.Fit.{AreWanted, ComesBefore, IsBranch, IsInner, IsReached, ListsAll, StandsBefore, paths}
-use Rattle.sy_checker.specs.Internal.{HasInput, IsRest}
+use Rattle.sy_checker.specs.internal.Found.{HasInput, IsRest}
 use Rattle.sy_checker.specs.declared.wanted.InnerList.{InnerList}
 use Rattle.sy_checker.specs.declared.wanted.Wanted.{Wanted}
 use Rattle.sy_checker.specs.declared.wanted.Wanted.TheVariants as wanted

@@ -24,7 +24,7 @@ use Rattle.sy_site.specs.declared.site.SiteInput.{SiteInput}
 use Rattle.sy_site.specs.Sites.{Site, does_spare, plan_at, target}
 use Rattle.sy_site.specs.machine.Lawful.{IsLawful}
 use Rattle.sy_site.specs.machine.Reach.{MayDo, MustDo, Reaches, forwards, occurrence_at, posts}
-use Rattle.sy_checker.specs.Hops.{AreApart}
+use Rattle.sy_checker.specs.internal.Hops.{AreApart}
 use Rattle.sy_checker.proofs.Listing.{In, and_first, and_second, both_true, flat, flat_has, flat_is, gather, gather_has, gather_is, in_list, of_list, put_has, put_is, put_keeps, put_one, some, some_has, some_is}
 use Rattle.sy_checker.proofs.Used.{list_of_found, posted_there}
 use Rattle.sy_checker.proofs.Walking.{apart_room, more_apart, none_apart}

@@ -17,7 +17,7 @@ use Rattle.sy_site.specs.machine.Lawful.{IsLawful}
 use Rattle.sy_site.specs.machine.Reach.{ListLeadsTo, MustDo, posts_on, writes}
 use Rattle.sy_site.specs.machine.Reach as sites
 use Rattle.sy_checker.specs.declared.wanted.InnerList.{InnerList}
-use Rattle.sy_checker.specs.Leads.{IsThere, MustLead, MustWriteAt, leads_on, list_at, same_list}
+use Rattle.sy_checker.specs.internal.Leads.{IsThere, MustLead, MustWriteAt, leads_on, list_at, same_list}
 use Rattle.sy_checker.proofs.Leading.{must_does, must_execute, must_has}
 use Rattle.sy_checker.proofs.Led.{few_lists, must_lead_there, not_in_lists, same_list_is, same_list_laws}
 use Rattle.sy_checker.proofs.Listing.{In, and_first, and_second, both_true, flat, flat_has, flat_is, in_list, of_list, put_has, put_is, put_keeps, put_one, some, some_has, some_is}

@@ -24,10 +24,10 @@ use Rattle.sy_checker.specs.declared.executed.Executed.TheVariants as executed
 use Rattle.sy_checker.specs.declared.lists.FoundLists.{FoundLists}
 use Rattle.sy_checker.specs.declared.lists.ListOrigin.{ListOrigin}
 use Rattle.sy_checker.specs.declared.wanted.InnerList.{InnerList}
-use Rattle.sy_checker.specs.Course.{AreAlike}
-use Rattle.sy_checker.specs.Flows.{IsSet}
-use Rattle.sy_checker.specs.Internal.{HasNoneFrom, IsNextIn}
-use Rattle.sy_checker.specs.Leads.{AreAllFound, AreFound, AreLeads, HasMore, IsLed, IsListOrigin, IsThere, MustLead, lead_in, lead_of, leads_on, list_at, same_list, target_list}
+use Rattle.sy_checker.specs.internal.Course.{AreAlike}
+use Rattle.sy_checker.specs.internal.Flows.{IsSet}
+use Rattle.sy_checker.specs.internal.Found.{HasNoneFrom, IsNextIn}
+use Rattle.sy_checker.specs.internal.Leads.{AreAllFound, AreFound, AreLeads, HasMore, IsLed, IsListOrigin, IsThere, MustLead, lead_in, lead_of, leads_on, list_at, same_list, target_list}
 use Rattle.sy_checker.proofs.FitIsSound.{at_place}
 use Rattle.sy_checker.proofs.Gone.{stands_in, whole_there}
 use Rattle.sy_checker.proofs.Rooted.{last_place, same_place, stood}

@@ -17,10 +17,10 @@ use Rattle.sy_checker.specs.declared.wanted.InnerList.{InnerList}
 use Rattle.sy_checker.specs.declared.wanted.Wanted.{Wanted}
 use Rattle.sy_checker.specs.declared.wanted.Wanted.TheVariants as wanted
 use Rattle.sy_checker.specs.Fit.{HasNumber, IsNumbered, name_of}
-use Rattle.sy_checker.specs.Flows.{IsSet}
-use Rattle.sy_checker.specs.Inners.{IsLower, IsLowerAt, IsLowerBy, number_given}
-use Rattle.sy_checker.specs.Internal.{HasNoneFrom, IsNextIn}
-use Rattle.sy_checker.specs.Leads.{same_list}
+use Rattle.sy_checker.specs.internal.Flows.{IsSet}
+use Rattle.sy_checker.specs.internal.Inners.{IsLower, IsLowerAt, IsLowerBy, number_given}
+use Rattle.sy_checker.specs.internal.Found.{HasNoneFrom, IsNextIn}
+use Rattle.sy_checker.specs.internal.Leads.{same_list}
 use Rattle.sy_checker.proofs.InnerLists.{on}
 use Rattle.sy_checker.proofs.Led.{same_list_is, same_list_laws}
 use Rattle.sy_checker.proofs.Listing.{and_first, and_second, both_true}

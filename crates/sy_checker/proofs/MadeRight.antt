@@ -3,9 +3,9 @@ use Rattle.std.proofs.Common.{ℕ, List, subst}
 use Rattle.sy_wire.specs.declared.class.Class.{Class}
 use Rattle.sy_cert.specs.declared.row.Row.{Row}
 use Rattle.sy_site.specs.Sites.{Site}
-use Rattle.sy_checker.specs.Certifying.{AreRowsOf}
+use Rattle.sy_checker.specs.internal.Certifying.{AreRowsOf}
 use Rattle.sy_checker.specs.Fit.{AreRight}
-use Rattle.sy_checker.specs.Verifying.{IsJudged}
+use Rattle.sy_checker.specs.internal.Verifying.{IsJudged}
 use Rattle.sy_checker.specs.declared.verifying.Judged.TheVariants as judged
 use Rattle.sy_checker.specs.declared.wanted.RowKind.{RowKind}
 use Rattle.sy_checker.proofs.Uniqueness.{one_wanted}

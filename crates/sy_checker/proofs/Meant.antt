@@ -11,7 +11,7 @@ use Rattle.sy_site.specs.declared.site.SiteInput.{SiteInput}
 use Rattle.sy_site.specs.Sites.{Relay, Site, archives, asks_for, plan_in}
 use Rattle.sy_site.specs.machine.Lawful.{IsArchive, IsInput, IsLawful}
 use Rattle.sy_checker.specs.Fit.{AreWanted}
-use Rattle.sy_checker.specs.Leads.{IsThere}
+use Rattle.sy_checker.specs.internal.Leads.{IsThere}
 use Rattle.sy_checker.specs.declared.wanted.InnerList.{InnerList}
 use Rattle.sy_checker.specs.declared.wanted.Wanted.{Wanted}
 use Rattle.sy_checker.specs.declared.wanted.Wanted.TheVariants as wanted

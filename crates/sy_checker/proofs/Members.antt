@@ -5,7 +5,7 @@ use Rattle.std.proofs.Math.Nat.{div-le_self}
 use Rattle.std.proofs.lemmas.Bool.{cases_eq, cases_lt}
 use Rattle.std.proofs.lemmas.Nat.{shr-shr}
 use Rattle.std.proofs.lemmas.Nat.Bits.{bit_at_above, bit_at-trailing_zeros, bit_at-zero}
-use Rattle.sy_checker.specs.Internal.{HasNoneFrom, IsNextIn}
+use Rattle.sy_checker.specs.internal.Found.{HasNoneFrom, IsNextIn}
 
 -- ---- the next one, as the code finds it
 

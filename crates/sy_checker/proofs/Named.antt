@@ -7,7 +7,7 @@ use Rattle.sy_wire.specs.declared.class.Class.{Class}
 use Rattle.sy_site.specs.declared.site.Protection.{Protection}
 use Rattle.sy_site.specs.declared.site.SiteAction.{SiteAction}
 use Rattle.sy_site.specs.Sites.{archives_from, asks_for, same_action}
-use Rattle.sy_checker.specs.Internal.{AddsArchive}
+use Rattle.sy_checker.specs.internal.Found.{AddsArchive}
 
 chosen : {A : Type 0} (b : Bool) (x y : A) → b ≡ true → x ≡ (if b then x else y)
 chosen true x y e = refl

@@ -5,7 +5,7 @@ use Rattle.std.proofs.lemmas.Bool.{cases_eq, false≢true}
 use Rattle.sy_wire.specs.declared.class.Class.{Class}
 use Rattle.sy_site.specs.Sites.{Site, is_protected}
 use Rattle.sy_checker.specs.Fit.{AreProtected, number_of}
-use Rattle.sy_checker.specs.Internal.{AreProtectedBelow}
+use Rattle.sy_checker.specs.internal.Found.{AreProtectedBelow}
 use Rattle.sy_checker.proofs.Judged.{one_class}
 use Rattle.sy_checker.proofs.Sorted.{lists_as, lists_more, lists_none}
 

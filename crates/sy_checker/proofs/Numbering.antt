@@ -21,10 +21,10 @@ use Rattle.sy_checker.specs.declared.inner.ListNumber.{ListNumber}
 use Rattle.sy_checker.specs.declared.inner.RelayNumbers.{RelayNumbers}
 use Rattle.sy_checker.specs.declared.wanted.InnerList.{InnerList}
 use Rattle.sy_checker.specs.Fit.{IsInner}
-use Rattle.sy_checker.specs.Flows.{AreEach, IsSet}
-use Rattle.sy_checker.specs.Hops.{AreApart}
-use Rattle.sy_checker.specs.Inner.{AreAllDone, AreDone, AreGreatest, AreNumbered, AreNumbers, AreOnWay, AreOpen, HasNoNumbers, HasNone, HasNumbers, IsAsked, IsAskedBy, IsDone, IsDoneBelow, IsHalted, IsOnWay, KeepsDone, KeepsNumbers, PostsFollow, PostsTo, ends, goes_on, number_at, number_in, number_of, ended_so}
-use Rattle.sy_checker.specs.Internal.{HasNoneFrom, IsNextIn}
+use Rattle.sy_checker.specs.internal.Flows.{AreEach, IsSet}
+use Rattle.sy_checker.specs.internal.Hops.{AreApart}
+use Rattle.sy_checker.specs.internal.Inner.{AreAllDone, AreDone, AreGreatest, AreNumbered, AreNumbers, AreOnWay, AreOpen, HasNoNumbers, HasNone, HasNumbers, IsAsked, IsAskedBy, IsDone, IsDoneBelow, IsHalted, IsOnWay, KeepsDone, KeepsNumbers, PostsFollow, PostsTo, ends, goes_on, number_at, number_in, number_of, ended_so}
+use Rattle.sy_checker.specs.internal.Found.{HasNoneFrom, IsNextIn}
 use Rattle.sy_checker.proofs.Comparing.{from_map}
 use Rattle.sy_checker.proofs.Followed.{followed_by, posts_then}
 use Rattle.sy_checker.proofs.Walking.{apart_few, more_apart, none_apart, one_value}

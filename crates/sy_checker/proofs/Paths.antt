@@ -19,10 +19,10 @@ use Rattle.sy_checker.specs.declared.executed.Executed.TheVariants as executed
 use Rattle.sy_checker.specs.declared.lists.ListOrigin.{ListOrigin}
 use Rattle.sy_checker.specs.declared.wanted.InnerList.{InnerList}
 use Rattle.sy_checker.specs.Fit.{IsPath, MustWrite}
-use Rattle.sy_checker.specs.Flows.{IsSet}
-use Rattle.sy_checker.specs.Internal.{HasNoneFrom, IsNextIn}
-use Rattle.sy_checker.specs.Leads.{AreFound, IsLead, IsLed, IsListOrigin, IsMustLead, IsThere, IsWayBetween, MustLead, MustWriteAt, Writes, lead_of, list_at}
-use Rattle.sy_checker.specs.Leads as spec
+use Rattle.sy_checker.specs.internal.Flows.{IsSet}
+use Rattle.sy_checker.specs.internal.Found.{HasNoneFrom, IsNextIn}
+use Rattle.sy_checker.specs.internal.Leads.{AreFound, IsLead, IsLed, IsListOrigin, IsMustLead, IsThere, IsWayBetween, MustLead, MustWriteAt, Writes, lead_of, list_at}
+use Rattle.sy_checker.specs.internal.Leads as spec
 use Rattle.sy_checker.proofs.Led.{it_leads, lead_so, must_lead_there, one_lead}
 
 no_value : {A : Type 0} {x : A} → None ≡ Some x → ⊥

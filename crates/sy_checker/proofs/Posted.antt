@@ -12,8 +12,8 @@ use Rattle.sy_site.specs.machine.Reach.{MayDo, PostsOn}
 use Rattle.sy_checker.specs.declared.executed.Executed.{Executed}
 use Rattle.sy_checker.specs.declared.executed.Executed.TheVariants as executed
 use Rattle.sy_checker.specs.declared.flows.Hop.{Hop}
-use Rattle.sy_checker.specs.Flows.{Does}
-use Rattle.sy_checker.specs.Hops.{AddsLists, AddsPosted, IsWalked, LeadsByPosts, follows_posts}
+use Rattle.sy_checker.specs.internal.Flows.{Does}
+use Rattle.sy_checker.specs.internal.Hops.{AddsLists, AddsPosted, IsWalked, LeadsByPosts, follows_posts}
 
 module _ (site : Site) (class : Class) (relay : ℕ) where
   pub post_leads : (which : Executed) → follows_posts which ≡ true → (list number inner : ℕ)

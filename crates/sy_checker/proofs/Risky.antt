@@ -19,10 +19,10 @@ use Rattle.sy_site.specs.machine.Findings.{HoldsAt, IsForward, IsInnerLoop, Kind
 use Rattle.sy_site.specs.machine.Reach.{Follows, MayDo, list_of}
 use Rattle.sy_checker.specs.declared.executed.Executed.TheVariants as executed
 use Rattle.sy_checker.specs.Fit.{IsClean}
-use Rattle.sy_checker.specs.Flows.{IsSet}
-use Rattle.sy_checker.specs.Internal.{HasNoneFrom, IsNextIn}
-use Rattle.sy_checker.specs.Hops.{AreLists}
-use Rattle.sy_checker.specs.Risks.{HasRisk, IsRisk, IsRisky, ListRisks, PostedRisks, is_forward, kind_of}
+use Rattle.sy_checker.specs.internal.Flows.{IsSet}
+use Rattle.sy_checker.specs.internal.Found.{HasNoneFrom, IsNextIn}
+use Rattle.sy_checker.specs.internal.Hops.{AreLists}
+use Rattle.sy_checker.specs.internal.Risks.{HasRisk, IsRisk, IsRisky, ListRisks, PostedRisks, is_forward, kind_of}
 use Rattle.sy_checker.specs.declared.kinds.Risk.{Risk}
 use Rattle.sy_checker.specs.declared.kinds.Risk.TheVariants as risks
 use Rattle.sy_checker.proofs.Followed.{followed_by, follows_posts}

@@ -11,9 +11,9 @@ use Rattle.sy_site.specs.machine.Reach.{list_of}
 use Rattle.sy_checker.specs.declared.executed.Executed.{Executed}
 use Rattle.sy_checker.specs.declared.flows.Hop.{Hop}
 use Rattle.sy_checker.specs.declared.reach.Origin.{Origin}
-use Rattle.sy_checker.specs.Hops.{AreHops}
-use Rattle.sy_checker.specs.Internal.{Adds}
-use Rattle.sy_checker.specs.Search.{AreRooted, GoBack, IsOrigin}
+use Rattle.sy_checker.specs.internal.Hops.{AreHops}
+use Rattle.sy_checker.specs.internal.Found.{Adds}
+use Rattle.sy_checker.specs.internal.Search.{AreRooted, GoBack, IsOrigin}
 
 one_value : {A : Type 0} {x y : A} → Some x ≡ Some y → x ≡ y
 one_value e = cc

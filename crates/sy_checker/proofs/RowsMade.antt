@@ -13,8 +13,8 @@ use Rattle.sy_checker.specs.declared.wanted.Wanted.{Wanted}
 use Rattle.sy_checker.specs.declared.wanted.Wanted.TheVariants as wanted
 use Rattle.sy_checker.specs.declared.wanted.InnerList.{InnerList}
 use Rattle.sy_checker.specs.Fit.{AreRight, AreWanted, IsAbove, IsInner, IsInnerRow, IsNumbered, IsRankRow, IsRight}
-use Rattle.sy_checker.specs.Inner.{AreNumbers}
-use Rattle.sy_checker.specs.Made.{IsMade, IsMadeAt}
+use Rattle.sy_checker.specs.internal.Inner.{AreNumbers}
+use Rattle.sy_checker.specs.internal.Made.{IsMade, IsMadeAt}
 use Rattle.sy_checker.proofs.Comparing.{meant}
 use Rattle.sy_checker.proofs.InnerLists.{on}
 

@@ -23,7 +23,7 @@ use Rattle.sy_site.specs.machine.Lawful.{IsInput, IsLawful}
 use Rattle.sy_board.specs.relay.Spares.{Scope}
 use Rattle.sy_site.specs.machine.Reach.{Reach, list_of, occurrence_at}
 use Rattle.sy_site.specs.machine.Reach as reach
-use Rattle.sy_checker.specs.Certifying.{AreShaped, IsInRange}
+use Rattle.sy_checker.specs.internal.Certifying.{AreShaped, IsInRange}
 use Rattle.sy_checker.specs.Fit.{AreFit, AreWanted, IsFit, IsPath, IsRight, action_name, name_of, paths, port_of}
 use Rattle.sy_checker.specs.declared.wanted.InnerList.{InnerList}
 use Rattle.sy_checker.specs.declared.wanted.Wanted.{Wanted}

@@ -13,7 +13,7 @@ use Rattle.sy_checker.specs.declared.wanted.InnerList.{InnerList}
 use Rattle.sy_checker.specs.declared.wanted.Wanted.{Wanted}
 use Rattle.sy_checker.specs.declared.wanted.Wanted.TheVariants as wanted
 use Rattle.sy_checker.specs.Fit.{AreWanted, ComesBefore, paths}
-use Rattle.sy_checker.specs.Inners.{IsBeforeAt, IsBeforeInner}
+use Rattle.sy_checker.specs.internal.Inners.{IsBeforeAt, IsBeforeInner}
 use Rattle.sy_checker.proofs.Comparing.{from_flat, from_map, no_value, one_value}
 
 -- of two wanted rows, of which the first stands earlier

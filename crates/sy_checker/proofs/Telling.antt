@@ -17,10 +17,11 @@ use Rattle.sy_site.proofs.machine.Ways.{reached_by, way_to}
 use Rattle.sy_checker.specs.declared.finding.Kind.{Kind}
 use Rattle.sy_checker.specs.declared.finding.Kind.TheVariants as kind
 use Rattle.sy_checker.specs.declared.groups.Group.{Group}
-use Rattle.sy_checker.specs.Leads.{IsLead}
+use Rattle.sy_checker.specs.internal.Leads.{IsLead}
 use Rattle.sy_checker.specs.Finding.{kind_of}
 use Rattle.sy_checker.specs.Fit.{IsPath}
-use Rattle.sy_checker.specs.Survey.{Among, AreHeld, HasRanks, IsHeld, IsNothing, IsSurvey, IsSurveyOf, IsThere, IsToldOf, IsUnmetBy, Names, Puts, Tells}
+use Rattle.sy_checker.specs.Survey.{HasRanks, IsSurvey, IsSurveyOf, IsThere, IsToldOf, Names}
+use Rattle.sy_checker.specs.internal.Survey.{Among, AreHeld, IsHeld, IsNothing, IsUnmetBy, Puts, Tells}
 use Rattle.sy_checker.proofs.Complete.{without_findings}
 use Rattle.sy_checker.proofs.Grouping.{none_there}
 

@@ -17,7 +17,7 @@ use Rattle.sy_board.specs.relay.Spares.{Scope}
 use Rattle.sy_site.specs.machine.Reach.{Reach, Reaches, entry, forwards, list_of, onward, posts}
 use Rattle.sy_checker.specs.declared.executed.Executed.{Executed}
 use Rattle.sy_checker.specs.declared.executed.Executed.TheVariants as executed
-use Rattle.sy_checker.specs.Hops.{Leads}
+use Rattle.sy_checker.specs.internal.Hops.{Leads}
 
 no_value : {A : Type 0} {x : A} → None ≡ Some x → ⊥
 no_value e = cc

@@ -10,7 +10,8 @@ use Rattle.sy_board.specs.relay.Spares.{Scope}
 use Rattle.sy_site.specs.machine.Reach.{Reach}
 use Rattle.sy_checker.specs.Fit.{AreFit, AreProtected, AreRight, AreWanted, AreWrong, ComesBefore, IsBranch, IsFit, IsFitFor, IsInner, IsReached, IsWrongAt, IsWrongFor, IsWrongIn, ListsAll, StandsBefore, number_of, paths, wanted_kind}
 use Rattle.sy_cert.specs.CertificateValue.{Certificate}
-use Rattle.sy_checker.specs.Verifying.{AreWrongRows, IsFault, IsFirstWrong}
+use Rattle.sy_checker.specs.Verifying.{IsFault}
+use Rattle.sy_checker.specs.internal.Verifying.{AreWrongRows, IsFirstWrong}
 use Rattle.sy_checker.specs.declared.verifying.CertFault.{CertFault}
 use Rattle.sy_checker.specs.declared.verifying.CertFault.TheVariants as faults
 use Rattle.sy_checker.specs.declared.wanted.InnerList.{InnerList}

@@ -16,8 +16,8 @@ use Rattle.sy_site.specs.declared.site.SiteInput.{SiteInput}
 use Rattle.sy_site.specs.Sites.{Relay, Site, plan_at, plan_in}
 use Rattle.sy_site.specs.machine.Lawful.{IsInput, IsLawful}
 use Rattle.sy_site.specs.machine.Reach.{list_of, occurrence_at}
-use Rattle.sy_checker.specs.Flows.{is_used}
-use Rattle.sy_checker.specs.Hops.{is_input_list}
+use Rattle.sy_checker.specs.internal.Flows.{is_used}
+use Rattle.sy_checker.specs.internal.Hops.{is_input_list}
 use Rattle.sy_checker.proofs.Feeding.{some_at}
 
 no_value : {A : Type 0} {x : A} → None ≡ Some x → ⊥

@@ -8,7 +8,7 @@ use Rattle.sy_wire.specs.declared.class.Class.{Class}
 use Rattle.sy_cert.specs.declared.row.Row.{Row}
 use Rattle.sy_site.specs.Sites.{Site}
 use Rattle.sy_checker.specs.Fit.{AreFit, AreProtected, AreRight, AreWanted, AreWrong, IsFit, IsRightAt, IsWrongAt, row_kind}
-use Rattle.sy_checker.specs.Verifying.{AreDone, IsJudged}
+use Rattle.sy_checker.specs.internal.Verifying.{AreDone, IsJudged}
 use Rattle.sy_checker.specs.declared.verifying.Judged.TheVariants as judged
 use Rattle.sy_checker.specs.declared.wanted.RowKind.{RowKind}
 use Rattle.sy_checker.specs.declared.wanted.Wanted.{Wanted}

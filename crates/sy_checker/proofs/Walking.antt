@@ -20,10 +20,10 @@ use Rattle.sy_site.specs.machine.Reach.{MayDo, Reaches, forwards, occurrence_at,
 use Rattle.sy_checker.specs.declared.executed.Executed.{Executed}
 use Rattle.sy_checker.specs.declared.executed.Executed.TheVariants as executed
 use Rattle.sy_checker.specs.declared.flows.Hop.{Hop}
-use Rattle.sy_checker.specs.Flows.{Does, IsSet}
+use Rattle.sy_checker.specs.internal.Flows.{Does, IsSet}
 use Rattle.sy_checker.specs.declared.flows.ListHops.{ListHops}
-use Rattle.sy_checker.specs.Hops.{AddsHop, AddsLeads, AddsPosted, AddsTarget, AreApart, AreListHops, HasHop, IsFollowed, IsWalked, IsWalkedBelow, Leads, LeadsAsWell, LeadsByPosts, WalksOn, follows_posts}
-use Rattle.sy_checker.specs.Internal.{HasNoneFrom, IsNextIn, same_input}
+use Rattle.sy_checker.specs.internal.Hops.{AddsHop, AddsLeads, AddsPosted, AddsTarget, AreApart, AreListHops, HasHop, IsFollowed, IsWalked, IsWalkedBelow, Leads, LeadsAsWell, LeadsByPosts, WalksOn, follows_posts}
+use Rattle.sy_checker.specs.internal.Found.{HasNoneFrom, IsNextIn, same_input}
 use Rattle.sy_checker.proofs.Found.{same_is}
 use Rattle.sy_checker.proofs.Posted.{lists_found}
 

@@ -14,11 +14,11 @@ use Rattle.sy_checker.specs.declared.finding.Kind.{Kind}
 use Rattle.sy_checker.specs.declared.finding.Kind.TheVariants as kind
 use Rattle.sy_checker.specs.declared.finding.WayRow.{WayRow}
 use Rattle.sy_checker.specs.declared.reach.Origin.{Origin}
-use Rattle.sy_checker.specs.Answer.{IsKindAt, IsRiskAt}
+use Rattle.sy_checker.specs.internal.Answer.{IsKindAt, IsRiskAt}
 use Rattle.sy_checker.specs.Finding.{kind_of, way_of}
 use Rattle.sy_checker.proofs.FitIsSound.{at_place}
 use Rattle.sy_checker.proofs.Risky.{all_clean}
-use Rattle.sy_checker.specs.Search.{AreRooted, IsLed, IsLedFrom, IsNumberTo, IsSpread}
+use Rattle.sy_checker.specs.internal.Search.{AreRooted, IsLed, IsLedFrom, IsNumberTo, IsSpread}
 
 pub one_value : {A : Type 0} {x y : A} → Some x ≡ Some y → x ≡ y
 one_value e = cc

@@ -1,15 +1,12 @@
 -- What is kept of a site whose certificate is fit (this profile's own).
-use Rattle.std.specs.Prelude.{◌≡◌, ℕ, ◌↔◌, Contains, List, Some, map, slice_get}
+use Rattle.std.specs.Prelude.{◌≡◌, ℕ, ◌↔◌, Contains, List, map}
 use Rattle.sy_wire.specs.declared.class.Class.{Class}
 use Rattle.sy_rules.specs.PlanValue.{Plan}
+use Rattle.sy_board.specs.relay.Totals.{GuardState}
 use Rattle.sy_site.specs.declared.site.SiteInput.{SiteInput}
 use Rattle.sy_site.specs.declared.site.SiteAction.{SiteAction}
 use Rattle.sy_site.specs.Sites.{Relay, Site, actions_at}
-use Rattle.sy_board.specs.relay.Spares.{Scope}
-use Rattle.sy_site.specs.machine.Reach.{Reach}
 use Rattle.sy_site.specs.machine.Soundness.{IsGuarded}
-use Rattle.sy_board.specs.relay.Guards.{MayGuard}
-use Rattle.sy_board.specs.relay.Totals.{GuardState}
 use Rattle.sy_checker.specs.Fit.{AreProtected}
 
 -- the plans of its relays, its protected classes, each input with each of them that reaches it without spare occurrences, and the spare actions
@@ -38,12 +35,3 @@ ArePairsAt pairs relay found = (input : ℕ) (class : Class)
 pub record IsGuardAt (accepted : Acceptance) (relay : ℕ) (guard : GuardState) : Type 0 where
   pub pairs : ArePairsAt accepted.pairs relay guard.pairs
   pub spares : guard.spares ≡ actions_at accepted.spares relay
-
--- the plan of each relay meets the condition of such a guard
-abbrev pub AreGuardable : Acceptance → Type 0
-AreGuardable accepted = (relay : ℕ) (plan : Plan) → Some plan ≡ slice_get accepted.plans relay → (guard : GuardState)
-    → IsGuardAt accepted relay guard → MayGuard plan guard
-
--- each input that one of these classes reaches without spare occurrences, with that class
-abbrev pub AreReached : Site → List Class → List (SiteInput × Class) → Type 0
-AreReached site classes pairs = (input : SiteInput) (class : Class) → Contains pairs (input, class) ↔ (Contains classes class × Reach site class Scope.Firm input)

@@ -1,9 +1,7 @@
 -- What is said of a site's texts that are checked.
-use Rattle.std.specs.Prelude.{◌≡◌, ◌⊎◌, ℕ, Contains, List}
-use Rattle.sy_wire.specs.declared.class.Class.{Class}
+use Rattle.std.specs.Prelude.{◌≡◌, ◌⊎◌, ℕ, List}
 use Rattle.sy_site.specs.Sites.{Site}
 use Rattle.sy_site.specs.declared.fault.SiteFault.TheVariants as site_fault
-use Rattle.sy_site.specs.machine.Soundness.{IsSoundFor}
 use Rattle.sy_site.specs.texts.Describes.{Describes, File}
 use Rattle.sy_site.specs.texts.HasFault.{HasFault}
 use Rattle.sy_checker.specs.Acceptance.{Acceptance, IsOf}
@@ -27,9 +25,3 @@ IsTrueFault text files (faults.Refused why) = (site : Site) × Describes text fi
 abbrev pub IsNoMemory : CheckFault → Type 0
 IsNoMemory (faults.Site why) = why ≡ site_fault.NoMemory
 IsNoMemory (faults.Refused why) = why ≡ refusal.NoMemory
-
--- ---- class by class
-
--- The site is sound for each of these classes.
-abbrev pub AreSound : Site → List Class → Type 0
-AreSound site classes = (class : Class) → Contains classes class → IsSoundFor site class

@@ -9,6 +9,7 @@ ghost use Rattle.sy_site.specs.machine.Soundness.{IsSound};
 ghost use Rattle.sy_site.specs.declared.site.SiteInput.{SiteInput as AnyInput};
 ghost use Rattle.sy_wire.specs.declared.class.Class.{Class as AnyClass};
 ghost use Rattle.sy_checker.specs.Acceptance as spec;
+ghost use Rattle.sy_checker.specs.internal.Checking as inside;
 ghost use Rattle.sy_checker.specs.Fit.{AreProtected};
 
 use crate::firm::actions_at;
@@ -37,6 +38,7 @@ impl Model for Accepted {
     ghost use Rattle.std.specs.Coded.{codes};
     ghost use Rattle.sy_rules.specs.internal.PlanCodes.{plan_code};
     ghost use Rattle.sy_checker.specs.Acceptance as spec;
+    ghost use Rattle.sy_checker.specs.internal.Checking as inside;
 
     ghost Value = { spec.Acceptance };
 
@@ -44,7 +46,7 @@ impl Model for Accepted {
 
     ghost view = { λ a. record { plans = map arc_value a.plans.items; classes = a.classes.items; pairs = a.pairs.items; spares = a.spares.items } };
 
-    ghost invariant = { λ a. spec.AreGuardable (record { plans = map arc_value a.plans.items; classes = a.classes.items; pairs = a.pairs.items; spares = a.spares.items }) };
+    ghost invariant = { λ a. inside.AreGuardable (record { plans = map arc_value a.plans.items; classes = a.classes.items; pairs = a.pairs.items; spares = a.spares.items }) };
 }
 
 // The plans of a site's relays.
@@ -124,7 +126,7 @@ impl Accepted {
         pairs: Vec<(SiteInput, Class)>,
     ) -> Result<Accepted, AllocError>
         requires protected { AreProtected site.now classes.items }
-        requires pairs { spec.AreReached site.now classes.items pairs.items }
+        requires pairs { inside.AreReached site.now classes.items pairs.items }
         requires sound { IsSound site.now }
         ensures { IfOk result (λ accepted. spec.IsOf site.now accepted) }
     {

@@ -6,12 +6,12 @@ ghost use Rattle.sy_cert.specs.declared.kinds.Kind.TheVariants as kinds;
 ghost use Rattle.sy_cert.specs.Rows.{IsRow, IsVersion, kind, last_kind, may_follow};
 ghost use Rattle.sy_site.specs.Sites as sites;
 ghost use Rattle.sy_site.specs.machine.Soundness.{IsSound};
-ghost use Rattle.sy_checker.specs.Certifying as spec;
+ghost use Rattle.sy_checker.specs.internal.Certifying as spec;
 ghost use Rattle.sy_checker.specs.Finding.{IsTrueRefusal};
 ghost use Rattle.sy_checker.specs.declared.finding.Refusal.TheVariants as refusal;
 ghost use Rattle.sy_checker.specs.Fit.{AreFit, IsFit, IsFitFor};
-ghost use Rattle.sy_checker.specs.Flows.{AreFirm};
-ghost use Rattle.sy_checker.specs.Course.{AreClean, AreCourses, IsCourse};
+ghost use Rattle.sy_checker.specs.internal.Flows.{AreFirm};
+ghost use Rattle.sy_checker.specs.internal.Course.{AreClean, AreCourses, IsCourse};
 
 use crate::classes::protected_classes;
 use crate::course::{Course, course_for};

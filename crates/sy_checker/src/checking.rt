@@ -3,20 +3,21 @@
 ghost use Rattle.std.specs.Prelude.{◌≡◌, ◌++◌, ◌∷◌, [], Contains, List, map, true, IfErr, IfOk, OnOk};
 ghost use Rattle.sy_wire.specs.declared.class.Class.{Class as AnyClass};
 ghost use Rattle.sy_site.specs.Sites as sites;
-ghost use Rattle.sy_site.specs.internal.Given.{file};
+ghost use Rattle.sy_site.specs.texts.Describes.{file, Describes};
 ghost use Rattle.sy_site.specs.machine.Safety.{AreSafe};
 ghost use Rattle.sy_site.specs.machine.Soundness.{IsSound, IsSoundFor};
 ghost use Rattle.sy_site.specs.machine.States.{SiteState};
 ghost use Rattle.sy_site.specs.machine.Steps.{Runs, SiteEvent};
-ghost use Rattle.sy_site.specs.texts.Describes.{Describes};
-ghost use Rattle.sy_checker.specs.Acceptance.{AreReached, IsOf};
+ghost use Rattle.sy_checker.specs.Acceptance.{IsOf};
+ghost use Rattle.sy_checker.specs.internal.Checking.{AreReached};
 ghost use Rattle.sy_checker.specs.Claims.{RanksStayFalling, StayConfined, StayWrittenOrHead};
-ghost use Rattle.sy_checker.specs.Certifying.{AreRowsOf};
+ghost use Rattle.sy_checker.specs.internal.Certifying.{AreRowsOf};
 ghost use Rattle.sy_checker.specs.Checking as spec;
+ghost use Rattle.sy_checker.specs.internal.Checking as inside;
 ghost use Rattle.sy_checker.specs.Finding.{IsTrueRefusal};
-ghost use Rattle.sy_checker.specs.Course.{AreClean, AreCourses, IsCourse, IsCourseAt};
-ghost use Rattle.sy_checker.specs.Met.{AreMet};
-ghost use Rattle.sy_checker.specs.Flows.{AreFirm};
+ghost use Rattle.sy_checker.specs.internal.Course.{AreClean, AreCourses, IsCourse, IsCourseAt};
+ghost use Rattle.sy_checker.specs.internal.Met.{AreMet};
+ghost use Rattle.sy_checker.specs.internal.Flows.{AreFirm};
 ghost use Rattle.sy_checker.specs.declared.finding.Refusal.TheVariants as refusal;
 
 use crate::accepted::{Accepted, put_pairs};
@@ -160,7 +161,7 @@ fn check_classes(
 ) -> Result<Vec<(SiteInput, Class)>, Refusal>
     requires protected { (class : AnyClass) → Contains classes.now class
         → sites.is_protected site.now class ≡ true }
-    ensures sound { OnOk result (spec.AreSound site.now classes.now) }
+    ensures sound { OnOk result (inside.AreSound site.now classes.now) }
     ensures pairs { IfOk result (λ pairs. AreReached site.now classes.now pairs.items) }
     ensures err { IfErr result (λ why. IsTrueRefusal site.now why) }
 {

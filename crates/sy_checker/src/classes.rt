@@ -3,7 +3,7 @@
 ghost use Rattle.std.specs.Prelude.{◌≡◌, ◌<◌, ◌+◌, IfOk, OnOk};
 ghost use Rattle.sy_site.specs.Sites as sites;
 ghost use Rattle.sy_checker.specs.Fit.{AreProtected};
-ghost use Rattle.sy_checker.specs.Internal.{AreProtectedBelow};
+ghost use Rattle.sy_checker.specs.internal.Found.{AreProtectedBelow};
 
 use std::alloc::{AllocError, Global};
 use sy_site::Site;

@@ -5,7 +5,7 @@ ghost use Rattle.std.specs.Int.{bit_at};
 ghost use Rattle.sy_board.specs.relay.Spares as relays;
 ghost use Rattle.sy_rules.specs.declared.lists.occurrence.Occurrence.{Occurrence as AnyOccurrence};
 ghost use Rattle.sy_site.specs.Sites as sites;
-ghost use Rattle.sy_checker.specs.Flows as spec;
+ghost use Rattle.sy_checker.specs.internal.Flows as spec;
 
 use std::alloc::{AllocError, Global};
 use sy_rules::laws::plans_are_whole;

@@ -3,7 +3,7 @@
 ghost use Rattle.std.specs.Prelude.{◌≡◌, ◌<◌, ◌==◌, true, IfOk, length};
 ghost use Rattle.std.specs.List.{list_any};
 ghost use Rattle.sy_site.specs.Sites.{plan_at};
-ghost use Rattle.sy_checker.specs.Flows as spec;
+ghost use Rattle.sy_checker.specs.internal.Flows as spec;
 
 use crate::executed::Executed;
 use crate::firm::SiteFirm;

@@ -2,6 +2,7 @@
 
 ghost use Rattle.std.specs.Prelude.{◌≡◌, ◌<◌, ◌++◌, ◌∷◌, [], Contains, Decides, IfNone, IfSome, OnOk, Some, slice_get};
 ghost use Rattle.sy_checker.specs.Survey as spec;
+ghost use Rattle.sy_checker.specs.internal.Survey as inside;
 ghost use Rattle.sy_checker.specs.declared.groups.Group.{Group as AnyGroup};
 
 use crate::finding::Kind;
@@ -33,7 +34,7 @@ fn is_of(group: &Group, input: SiteInput, kind: Kind) -> bool
 
 // The place of the first such group.
 fn first_of(groups: &[Group], input: SiteInput, kind: Kind) -> Option<usize>
-    ensures some { IfSome result (λ place. spec.IsAt groups.now place input kind) }
+    ensures some { IfSome result (λ place. inside.IsAt groups.now place input kind) }
     ensures none { IfNone result ((g : AnyGroup) → Contains groups.now g → spec.subject g ≡ (input, kind) → ⊥) }
 {
     for place in 0..groups.len() {
@@ -46,7 +47,7 @@ fn first_of(groups: &[Group], input: SiteInput, kind: Kind) -> Option<usize>
 
 // The place of such a group, which is likely this one.
 fn place_of(groups: &[Group], likely: usize, input: SiteInput, kind: Kind) -> Option<usize>
-    ensures some { IfSome result (λ place. spec.IsAt groups.now place input kind) }
+    ensures some { IfSome result (λ place. inside.IsAt groups.now place input kind) }
     ensures none { IfNone result ((g : AnyGroup) → Contains groups.now g → spec.subject g ≡ (input, kind) → ⊥) }
 {
     if likely >= groups.len() {
@@ -75,8 +76,8 @@ fn join(
     input: SiteInput,
     kind: Kind,
 ) -> Result<(), AllocError>
-    requires at { spec.IsAt groups.old.items place input kind }
-    ensures { OnOk result (spec.Puts class input kind groups.old.items groups.new.items) }
+    requires at { inside.IsAt groups.old.items place input kind }
+    ensures { OnOk result (inside.Puts class input kind groups.old.items groups.new.items) }
 {
     let _ = input;
     let _ = kind;
@@ -93,7 +94,7 @@ fn begin(
     kind: Kind,
 ) -> Result<(), AllocError>
     requires new { (g : AnyGroup) → Contains groups.old.items g → spec.subject g ≡ (input, kind) → ⊥ }
-    ensures { OnOk result (spec.Puts class input kind groups.old.items groups.new.items) }
+    ensures { OnOk result (inside.Puts class input kind groups.old.items groups.new.items) }
 {
     let mut classes = Vec::new(alloc);
     classes.push(class)?;
@@ -123,7 +124,7 @@ pub fn put(
     input: SiteInput,
     kind: Kind,
 ) -> Result<(), AllocError>
-    ensures { OnOk result (spec.Puts class input kind found.old.groups.items found.new.groups.items) }
+    ensures { OnOk result (inside.Puts class input kind found.old.groups.items found.new.groups.items) }
 {
     match place_of(found.groups.as_slice(), found.next, input, kind) {
         Some(place) => {

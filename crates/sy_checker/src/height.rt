@@ -2,8 +2,8 @@
 
 ghost use Rattle.std.specs.Prelude.{◌≡◌, ◌<◌, ℕ, set, max, length};
 ghost use Rattle.sy_site.specs.machine.Lawful.{IsInput};
-ghost use Rattle.sy_checker.specs.Loops as spec;
-ghost use Rattle.sy_checker.specs.Hops.{AreFlows};
+ghost use Rattle.sy_checker.specs.internal.Loops as spec;
+ghost use Rattle.sy_checker.specs.internal.Hops.{AreFlows};
 
 use crate::executed::Executed;
 use crate::flows::{ClassFlows, Hop};

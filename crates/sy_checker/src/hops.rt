@@ -7,8 +7,8 @@ ghost use Rattle.sy_site.specs.Sites.{plan_at};
 ghost use Rattle.sy_site.specs.machine.Lawful.{IsInput};
 ghost use Rattle.sy_site.specs.machine.Reach.{list_of, occurrence_at};
 ghost use Rattle.sy_rules.specs.declared.lists.occurrence.Occurrence.{Occurrence as AnyOccurrence};
-ghost use Rattle.sy_checker.specs.Flows.{AreSiteFlows, Does, is_used};
-ghost use Rattle.sy_checker.specs.Hops as spec;
+ghost use Rattle.sy_checker.specs.internal.Flows.{AreSiteFlows, Does, is_used};
+ghost use Rattle.sy_checker.specs.internal.Hops as spec;
 ghost use Rattle.sy_checker.specs.declared.executed.Executed.TheVariants as executed;
 
 use crate::executed::Executed;

@@ -12,9 +12,9 @@ ghost use Rattle.sy_site.specs.machine.Lawful.{IsInput};
 ghost use Rattle.sy_site.specs.machine.Reach.{MayDo, Reach};
 ghost use Rattle.sy_site.specs.machine.Reach as sites;
 ghost use Rattle.sy_board.specs.relay.Spares.{Scope};
-ghost use Rattle.sy_checker.specs.Flows.{AreEach, AreSiteFlows, is_used};
-ghost use Rattle.sy_checker.specs.Hops.{AreFlows};
-ghost use Rattle.sy_checker.specs.Inner as spec;
+ghost use Rattle.sy_checker.specs.internal.Flows.{AreEach, AreSiteFlows, is_used};
+ghost use Rattle.sy_checker.specs.internal.Hops.{AreFlows};
+ghost use Rattle.sy_checker.specs.internal.Inner as spec;
 
 use crate::executed::Executed;
 use crate::flows::{ClassFlows, SiteFlows, set_at};

@@ -7,8 +7,8 @@ ghost use Rattle.sy_site.specs.machine.Lawful.{IsInput};
 ghost use Rattle.sy_board.specs.relay.Spares.{Scope};
 ghost use Rattle.sy_site.specs.machine.Reach.{Reach};
 ghost use Rattle.sy_checker.specs.Fit.{ComesBefore, IsInner, ListsAll};
-ghost use Rattle.sy_checker.specs.Hops.{AreFlows};
-ghost use Rattle.sy_checker.specs.Inners as spec;
+ghost use Rattle.sy_checker.specs.internal.Hops.{AreFlows};
+ghost use Rattle.sy_checker.specs.internal.Inners as spec;
 
 use crate::flows::ClassFlows;
 use crate::hops::lists_at;

@@ -6,7 +6,7 @@ ghost use Rattle.sy_board.specs.relay.Plans as plans;
 ghost use Rattle.sy_site.specs.Sites.{plan_at};
 ghost use Rattle.sy_site.specs.machine.Lawful.{IsInput};
 ghost use Rattle.sy_site.specs.machine.Reach.{list_of};
-ghost use Rattle.sy_checker.specs.Internal as spec;
+ghost use Rattle.sy_checker.specs.internal.Found as spec;
 
 use sy_rules::Input;
 use sy_rules::laws::plans_are_whole;

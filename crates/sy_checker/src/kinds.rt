@@ -6,12 +6,13 @@ ghost use Rattle.sy_board.specs.relay.Kinds.{MayDiscard};
 ghost use Rattle.sy_board.specs.relay.Plans as plans;
 ghost use Rattle.sy_rules.specs.Whole as whole;
 ghost use Rattle.sy_site.specs.Sites.{plan_at};
-ghost use Rattle.sy_site.specs.machine.Findings.{HoldsAt, IsFedFreely, Kind, queue_of};
+ghost use Rattle.sy_site.specs.machine.Findings.{HoldsAt, Kind};
+ghost use Rattle.sy_site.specs.internal.Findings.{IsFedFreely, queue_of};
 ghost use Rattle.sy_site.specs.machine.Lawful.{IsInput};
 ghost use Rattle.sy_checker.specs.Fit.{IsClean};
-ghost use Rattle.sy_checker.specs.Risks as spec;
-ghost use Rattle.sy_checker.specs.Flows.{AreSiteFlows, is_used};
-ghost use Rattle.sy_checker.specs.Hops.{AreFlows};
+ghost use Rattle.sy_checker.specs.internal.Risks as spec;
+ghost use Rattle.sy_checker.specs.internal.Flows.{AreSiteFlows, is_used};
+ghost use Rattle.sy_checker.specs.internal.Hops.{AreFlows};
 
 use crate::executed::Executed;
 use crate::flows::{ClassFlows, SiteFlows, set_at};

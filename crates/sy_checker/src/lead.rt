@@ -4,9 +4,9 @@ ghost use Rattle.std.specs.List.{position};
 ghost use Rattle.std.specs.Prelude.{◌≡◌, ◌<◌, Contains, IfOk, Some, length, slice_get};
 ghost use Rattle.sy_site.specs.machine.Lawful.{IsInput};
 ghost use Rattle.sy_checker.specs.declared.wanted.InnerList.{InnerList as AnyList};
-ghost use Rattle.sy_checker.specs.Hops.{AreFlows};
-ghost use Rattle.sy_checker.specs.Internal.{same_input};
-ghost use Rattle.sy_checker.specs.Leads as spec;
+ghost use Rattle.sy_checker.specs.internal.Hops.{AreFlows};
+ghost use Rattle.sy_checker.specs.internal.Found.{same_input};
+ghost use Rattle.sy_checker.specs.internal.Leads as spec;
 
 use crate::flows::ClassFlows;
 use crate::lists::{FoundLists, lists_from};

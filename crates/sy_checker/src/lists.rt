@@ -5,8 +5,8 @@ ghost use Rattle.std.specs.List.{list_any};
 ghost use Rattle.sy_rules.specs.declared.lists.occurrence.Occurrence.{Occurrence as AnyOccurrence};
 ghost use Rattle.sy_site.specs.machine.Reach.{MustDo, occurrence_at};
 ghost use Rattle.sy_checker.specs.declared.wanted.InnerList.{InnerList as AnyList};
-ghost use Rattle.sy_checker.specs.Hops.{AreFlows};
-ghost use Rattle.sy_checker.specs.Leads as spec;
+ghost use Rattle.sy_checker.specs.internal.Hops.{AreFlows};
+ghost use Rattle.sy_checker.specs.internal.Leads as spec;
 
 use crate::executed::Executed;
 use crate::flows::{ClassFlows, set_at};

@@ -7,9 +7,9 @@ ghost use Rattle.sy_site.specs.declared.site.SiteInput.{SiteInput as AnyInput};
 ghost use Rattle.sy_board.specs.relay.Spares.{Scope};
 ghost use Rattle.sy_site.specs.machine.Reach.{Reach};
 ghost use Rattle.sy_site.specs.machine.Soundness.{AreRanks};
-ghost use Rattle.sy_checker.specs.Loops as spec;
+ghost use Rattle.sy_checker.specs.internal.Loops as spec;
 ghost use Rattle.sy_checker.specs.declared.finding.WayRow.{WayRow as AnyRow};
-ghost use Rattle.sy_checker.specs.Hops.{AreFlows};
+ghost use Rattle.sy_checker.specs.internal.Hops.{AreFlows};
 
 use crate::executed::Executed;
 use crate::finding::WayRow;

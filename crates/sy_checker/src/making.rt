@@ -13,10 +13,10 @@ ghost use Rattle.sy_site.specs.machine.Soundness.{AreRanks};
 ghost use Rattle.sy_checker.specs.declared.wanted.Wanted.{Wanted as AnyWanted};
 ghost use Rattle.sy_checker.specs.Finding.{IsTrueRefusal};
 ghost use Rattle.sy_checker.specs.Fit as fit;
-ghost use Rattle.sy_checker.specs.Made as spec;
-ghost use Rattle.sy_checker.specs.Hops.{AreFlows};
-ghost use Rattle.sy_checker.specs.Inner as numbering;
-ghost use Rattle.sy_checker.specs.Leads.{AreLeads};
+ghost use Rattle.sy_checker.specs.internal.Made as spec;
+ghost use Rattle.sy_checker.specs.internal.Hops.{AreFlows};
+ghost use Rattle.sy_checker.specs.internal.Inner as numbering;
+ghost use Rattle.sy_checker.specs.internal.Leads.{AreLeads};
 
 use crate::finding::Refusal;
 use crate::flows::ClassFlows;

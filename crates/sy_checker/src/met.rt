@@ -2,7 +2,7 @@
 
 ghost use Rattle.std.specs.Prelude.{◌≡◌, ◌++◌, OnOk, map};
 ghost use Rattle.std.specs.List.{list_all, list_any};
-ghost use Rattle.sy_checker.specs.Met as spec;
+ghost use Rattle.sy_checker.specs.internal.Met as spec;
 
 use std::alloc::AllocError;
 use sy_site::SiteAction;

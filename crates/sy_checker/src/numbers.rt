@@ -6,10 +6,10 @@ ghost use Rattle.sy_board.specs.relay.Spares.{Scope};
 ghost use Rattle.sy_site.specs.machine.Reach.{MayDo};
 ghost use Rattle.sy_checker.specs.declared.executed.Executed.TheVariants as executed;
 ghost use Rattle.sy_checker.specs.Fit.{AreWanted, ComesBefore, IsNumbered};
-ghost use Rattle.sy_checker.specs.Flows.{IsSet};
-ghost use Rattle.sy_checker.specs.Hops.{AreFlows};
-ghost use Rattle.sy_checker.specs.Inners as spec;
-ghost use Rattle.sy_checker.specs.Leads.{IsThere, same_list};
+ghost use Rattle.sy_checker.specs.internal.Flows.{IsSet};
+ghost use Rattle.sy_checker.specs.internal.Hops.{AreFlows};
+ghost use Rattle.sy_checker.specs.internal.Inners as spec;
+ghost use Rattle.sy_checker.specs.internal.Leads.{IsThere, same_list};
 ghost use Rattle.sy_checker.specs.declared.wanted.Wanted.TheVariants as wanted;
 
 use crate::executed::Executed;

@@ -2,7 +2,7 @@
 
 ghost use Rattle.std.specs.Prelude.{◌≡◌, Contains, Decides, IfNone, IfSome};
 ghost use Rattle.sy_checker.specs.Fit as fit;
-ghost use Rattle.sy_checker.specs.Hops.{AreFlows};
+ghost use Rattle.sy_checker.specs.internal.Hops.{AreFlows};
 
 use crate::flows::ClassFlows;
 use crate::rows::is_right;

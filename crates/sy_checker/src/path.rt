@@ -8,8 +8,8 @@ ghost use Rattle.sy_site.specs.Sites.{plan_at};
 ghost use Rattle.sy_site.specs.machine.Lawful.{IsInput};
 ghost use Rattle.sy_site.specs.machine.Reach.{list_of};
 ghost use Rattle.sy_checker.specs.Fit.{IsPath};
-ghost use Rattle.sy_checker.specs.Hops.{AreFlows};
-ghost use Rattle.sy_checker.specs.Leads as spec;
+ghost use Rattle.sy_checker.specs.internal.Hops.{AreFlows};
+ghost use Rattle.sy_checker.specs.internal.Leads as spec;
 
 use crate::executed::Executed;
 use crate::flows::{ClassFlows, set_at};

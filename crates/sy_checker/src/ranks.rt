@@ -4,8 +4,8 @@ ghost use Rattle.std.specs.Prelude.{◌≡◌, ◌<◌, Contains, Decides, IfSom
 ghost use Rattle.std.specs.Str.{bytes_eq};
 ghost use Rattle.sy_site.specs.machine.Lawful.{IsInput};
 ghost use Rattle.sy_checker.specs.Fit.{AreWanted, IsAbove, name_of};
-ghost use Rattle.sy_checker.specs.Ranked as spec;
-ghost use Rattle.sy_checker.specs.Hops.{AreFlows};
+ghost use Rattle.sy_checker.specs.internal.Ranked as spec;
+ghost use Rattle.sy_checker.specs.internal.Hops.{AreFlows};
 ghost use Rattle.sy_checker.specs.declared.flows.Hop.{Hop as AnyHop};
 
 use crate::executed::Executed;

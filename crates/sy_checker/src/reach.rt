@@ -10,9 +10,9 @@ ghost use Rattle.sy_board.specs.relay.Spares.{Scope};
 ghost use Rattle.sy_site.specs.machine.Reach.{Reach};
 ghost use Rattle.sy_checker.specs.declared.executed.Executed.{Executed as AnyExecuted};
 ghost use Rattle.sy_checker.specs.declared.executed.Executed.TheVariants as executed;
-ghost use Rattle.sy_checker.specs.Hops.{AreFlows, AreSiteHops};
-ghost use Rattle.sy_checker.specs.Internal.{Adds, same_input};
-ghost use Rattle.sy_checker.specs.Search.{IsOrigin, IsSpread, KeepsRoots, LeadsOn};
+ghost use Rattle.sy_checker.specs.internal.Hops.{AreFlows, AreSiteHops};
+ghost use Rattle.sy_checker.specs.internal.Found.{Adds, same_input};
+ghost use Rattle.sy_checker.specs.internal.Search.{IsOrigin, IsSpread, KeepsRoots, LeadsOn};
 
 use crate::executed::Executed;
 use crate::finding::WayRow;

@@ -4,9 +4,9 @@ ghost use Rattle.std.specs.Prelude.{◌≡◌, ◌<◌, Contains, Decides, lengt
 ghost use Rattle.std.specs.Str.{bytes_eq};
 ghost use Rattle.sy_site.specs.machine.Lawful.{IsInput};
 ghost use Rattle.sy_checker.specs.Fit as fit;
-ghost use Rattle.sy_checker.specs.Judging as spec;
-ghost use Rattle.sy_checker.specs.Hops.{AreFlows};
-ghost use Rattle.sy_checker.specs.Leads.{IsThere};
+ghost use Rattle.sy_checker.specs.internal.Judging as spec;
+ghost use Rattle.sy_checker.specs.internal.Hops.{AreFlows};
+ghost use Rattle.sy_checker.specs.internal.Leads.{IsThere};
 
 use crate::flows::ClassFlows;
 use crate::inputs::input_at;

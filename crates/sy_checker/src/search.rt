@@ -9,9 +9,9 @@ ghost use Rattle.sy_site.specs.machine.Reach.{Reach};
 ghost use Rattle.sy_checker.specs.declared.executed.Executed.TheVariants as executed;
 ghost use Rattle.sy_checker.specs.Finding.{IsTrueFinding, IsTrueRefusal};
 ghost use Rattle.sy_checker.specs.Fit.{IsClean};
-ghost use Rattle.sy_checker.specs.Search.{IsSpread};
-ghost use Rattle.sy_checker.specs.Answer as spec;
-ghost use Rattle.sy_checker.specs.Hops.{AreFlows};
+ghost use Rattle.sy_checker.specs.internal.Search.{IsSpread};
+ghost use Rattle.sy_checker.specs.internal.Answer as spec;
+ghost use Rattle.sy_checker.specs.internal.Hops.{AreFlows};
 
 use crate::finding::{Finding, Kind, Refusal};
 use crate::flows::ClassFlows;

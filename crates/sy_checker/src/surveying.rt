@@ -10,13 +10,14 @@ ghost use Rattle.sy_board.specs.relay.Spares.{Scope};
 ghost use Rattle.sy_site.specs.machine.Reach.{LeadsTo, Reach};
 ghost use Rattle.sy_site.specs.machine.Soundness.{IsSound};
 ghost use Rattle.sy_wire.specs.declared.class.Class.{Class as AnyClass};
-ghost use Rattle.sy_checker.specs.Leads.{AreLeads};
+ghost use Rattle.sy_checker.specs.internal.Leads.{AreLeads};
 ghost use Rattle.sy_checker.specs.Finding.{kind_of};
 ghost use Rattle.sy_checker.specs.Fit.{AreProtected};
-ghost use Rattle.sy_checker.specs.Flows.{AreFirm};
-ghost use Rattle.sy_checker.specs.Hops.{AreFlows};
-ghost use Rattle.sy_checker.specs.Loops.{HasNoRanks};
+ghost use Rattle.sy_checker.specs.internal.Flows.{AreFirm};
+ghost use Rattle.sy_checker.specs.internal.Hops.{AreFlows};
+ghost use Rattle.sy_checker.specs.internal.Loops.{HasNoRanks};
 ghost use Rattle.sy_checker.specs.Survey as spec;
+ghost use Rattle.sy_checker.specs.internal.Survey as inside;
 ghost use Rattle.sy_checker.specs.declared.finding.Kind.TheVariants as kinds;
 
 use crate::classes::protected_classes;
@@ -48,7 +49,7 @@ fn put_looped(
 ) -> Result<(), AllocError>
     requires protected { sites.is_protected site.now class ≡ true }
     requires none { HasNoRanks site.now class why }
-    ensures tells { OnOk result (spec.Tells site.now class spec.IsNothing
+    ensures tells { OnOk result (inside.Tells site.now class inside.IsNothing
         found.old.groups.items found.new.groups.items) }
     ensures told { OnOk result
         ((input : AnyInput) × spec.Names found.new.groups.items class input kinds.Loop) }
@@ -72,7 +73,7 @@ fn put_loop(
     requires protected { sites.is_protected site.now class ≡ true }
     requires flows { AreFlows site.now class flows.now }
     requires reached { (x : AnyInput) → Contains reached.now x ↔ Reach site.now class Scope.Every x }
-    ensures tells { OnOk result (spec.Tells site.now class spec.IsNothing
+    ensures tells { OnOk result (inside.Tells site.now class inside.IsNothing
         found.old.groups.items found.new.groups.items) }
     ensures ranked { OnOk result (spec.HasRanks site.now class
         ⊎ ((input : AnyInput) × spec.Names found.new.groups.items class input kinds.Loop)) }
@@ -118,7 +119,7 @@ fn put_unmet(
     requires leads { AreLeads site.now class leads.now }
     requires entry { Contains site.now.entries entry }
     requires named { Contains (sites.archives site.now class) archive }
-    ensures { OnOk result (spec.Tells site.now class (spec.IsUnmetBy site.now class entry archive)
+    ensures { OnOk result (inside.Tells site.now class (inside.IsUnmetBy site.now class entry archive)
         found.old.groups.items found.new.groups.items) }
 {
     if leads_to(alloc, site, class, flows, leads, entry, archive)? {
@@ -144,8 +145,8 @@ fn put_archives(
     requires leads { AreLeads site.now class leads.now }
     requires entry { Contains site.now.entries entry }
     requires named { (a : AnyAction) → Contains archives.now a → Contains (sites.archives site.now class) a }
-    ensures { OnOk result (spec.Tells site.now class
-        (λ i j. spec.Among archives.now (λ archive. spec.IsUnmetBy site.now class entry archive i j))
+    ensures { OnOk result (inside.Tells site.now class
+        (λ i j. inside.Among archives.now (λ archive. inside.IsUnmetBy site.now class entry archive i j))
         found.old.groups.items found.new.groups.items) }
 {
     for archive in archives {
@@ -170,8 +171,8 @@ fn put_entries(
     requires leads { AreLeads site.now class leads.now }
     requires entries { (x : AnyInput) → Contains entries.now x → Contains site.now.entries x }
     requires named { (a : AnyAction) → Contains archives.now a → Contains (sites.archives site.now class) a }
-    ensures { OnOk result (spec.Tells site.now class (λ i j. spec.Among entries.now (λ entry. spec.Among archives.now
-        (λ archive. spec.IsUnmetBy site.now class entry archive i j)))
+    ensures { OnOk result (inside.Tells site.now class (λ i j. inside.Among entries.now (λ entry. inside.Among archives.now
+        (λ archive. inside.IsUnmetBy site.now class entry archive i j)))
         found.old.groups.items found.new.groups.items) }
 {
     for entry in entries {
@@ -190,8 +191,8 @@ fn put_all_unmet(
 ) -> Result<(), AllocError>
     requires protected { sites.is_protected site.now class ≡ true }
     requires flows { AreFlows site.now class flows.now }
-    ensures { OnOk result (spec.Tells site.now class (λ i j. spec.Among site.now.entries (λ entry.
-        spec.Among (sites.archives site.now class) (λ archive. spec.IsUnmetBy site.now class entry archive i j)))
+    ensures { OnOk result (inside.Tells site.now class (λ i j. inside.Among site.now.entries (λ entry.
+        inside.Among (sites.archives site.now class) (λ archive. inside.IsUnmetBy site.now class entry archive i j)))
         found.old.groups.items found.new.groups.items) }
 {
     let leads = leads_of(alloc, site, class, flows)?;
@@ -220,7 +221,7 @@ fn put_reached(
 ) -> Result<(), AllocError>
     requires protected { sites.is_protected site.now class ≡ true }
     requires flows { AreFlows site.now class flows.now }
-    ensures tells { OnOk result (spec.Tells site.now class
+    ensures tells { OnOk result (inside.Tells site.now class
         (λ i j. Reach site.now class Scope.Firm i × HoldsAt site.now class i (kind_of j))
         found.old.groups.items found.new.groups.items) }
     ensures ranked { OnOk result (spec.HasRanks site.now class
@@ -246,7 +247,7 @@ fn put_all(
 ) -> Result<(), AllocError>
     requires protected { sites.is_protected site.now class ≡ true }
     requires firm { AreFirm site.now firm.now }
-    ensures tells { OnOk result (spec.Tells site.now class spec.IsNothing
+    ensures tells { OnOk result (inside.Tells site.now class inside.IsNothing
         found.old.groups.items found.new.groups.items) }
     ensures told { OnOk result (spec.IsToldOf site.now class found.new.groups.items) }
 {

@@ -6,8 +6,8 @@ ghost use Rattle.sy_site.specs.Sites as sites;
 ghost use Rattle.sy_site.specs.machine.Reach.{LeadsTo, list_of};
 ghost use Rattle.sy_checker.specs.Finding.{IsTrueFinding, IsTrueRefusal};
 ghost use Rattle.sy_checker.specs.Fit.{IsPath};
-ghost use Rattle.sy_checker.specs.Hops.{AreFlows};
-ghost use Rattle.sy_checker.specs.Leads.{AreLeads};
+ghost use Rattle.sy_checker.specs.internal.Hops.{AreFlows};
+ghost use Rattle.sy_checker.specs.internal.Leads.{AreLeads};
 
 use crate::finding::{Finding, Kind, Refusal};
 use crate::flows::ClassFlows;

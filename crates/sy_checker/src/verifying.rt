@@ -9,12 +9,14 @@ ghost use Rattle.sy_site.specs.machine.Safety.{AreSafe};
 ghost use Rattle.sy_site.specs.machine.Soundness.{IsSound};
 ghost use Rattle.sy_site.specs.machine.States.{SiteState};
 ghost use Rattle.sy_site.specs.machine.Steps.{Runs, SiteEvent};
-ghost use Rattle.sy_checker.specs.Acceptance.{AreReached, IsOf};
+ghost use Rattle.sy_checker.specs.Acceptance.{IsOf};
+ghost use Rattle.sy_checker.specs.internal.Checking.{AreReached};
 ghost use Rattle.sy_checker.specs.Claims.{RanksStayFalling, StayConfined, StayWrittenOrHead};
 ghost use Rattle.sy_checker.specs.Fit.{AreFit, IsFit, IsFitFor, IsWrongIn};
-ghost use Rattle.sy_checker.specs.Flows.{AreFirm};
-ghost use Rattle.sy_checker.specs.Hops.{AreFlows};
+ghost use Rattle.sy_checker.specs.internal.Flows.{AreFirm};
+ghost use Rattle.sy_checker.specs.internal.Hops.{AreFlows};
 ghost use Rattle.sy_checker.specs.Verifying as spec;
+ghost use Rattle.sy_checker.specs.internal.Verifying as inside;
 ghost use Rattle.sy_checker.specs.declared.verifying.CertFault.TheVariants as faults;
 
 use crate::accepted::{Accepted, put_pairs};
@@ -63,7 +65,7 @@ pub(crate) fn judge(
     requires flows { AreFlows site.now class flows.now }
     requires firm { (x : AnyInput) → Contains firm.now x ↔ Reach site.now class Scope.Firm x }
     requires every { (x : AnyInput) → Contains every.now x ↔ Reach site.now class Scope.Every x }
-    ensures { IfOk result (λ judged. spec.IsJudged site.now class rows.now judged) }
+    ensures { IfOk result (λ judged. inside.IsJudged site.now class rows.now judged) }
 {
     let part = wanted_rows(alloc, site, class, flows, firm, every)?;
     match first_wrong(site, class, flows, part.as_slice(), rows) {
@@ -86,7 +88,7 @@ fn judge_class(
     requires flows { AreFlows site.now class flows.now }
     requires firm { (x : AnyInput) → Contains firm.now x ↔ Reach site.now class Scope.Firm x }
     requires every { (x : AnyInput) → Contains every.now x ↔ Reach site.now class Scope.Every x }
-    ensures judged { IfOk result (λ judged. spec.IsJudged site.now class rows.now judged) }
+    ensures judged { IfOk result (λ judged. inside.IsJudged site.now class rows.now judged) }
     ensures pairs { OnOk result ((before : List AnyClass) → AreReached site.now before pairs.old.items
         → AreReached site.now (before ++ class ∷ []) pairs.new.items) }
 {
@@ -104,7 +106,7 @@ fn judge_next(
     pairs: &mut Vec<(SiteInput, Class)>,
 ) -> Result<Judged, AllocError>
     requires firm { AreFirm site.now firm.now }
-    ensures judged { IfOk result (λ judged. spec.IsJudged site.now class rows.now judged) }
+    ensures judged { IfOk result (λ judged. inside.IsJudged site.now class rows.now judged) }
     ensures pairs { OnOk result ((before : List AnyClass) → AreReached site.now before pairs.old.items
         → AreReached site.now (before ++ class ∷ []) pairs.new.items) }
 {
@@ -139,7 +141,7 @@ fn check_rows(
     requires none { pairs.old.items ≡ [] }
     ensures ok { OnOk result (AreFit site.now classes.now rows.now) }
     ensures pairs { OnOk result (AreReached site.now classes.now pairs.new.items) }
-    ensures err { IfErr result (λ fault. spec.IsFirstWrong site.now classes.now rows.now fault) }
+    ensures err { IfErr result (λ fault. inside.IsFirstWrong site.now classes.now rows.now fault) }
 {
     let mut done = 0;
     for class in classes {
@@ -166,7 +168,7 @@ fn check_rows(
 // Accepts rows that are fit for a site, and no others.
 fn verify_rows(alloc: Global, site: &Site, rows: &[Row]) -> Result<Accepted, CertFault>
     ensures fit { OnOk result (IsFit site.now rows.now) }
-    ensures wrong { IfErr result (λ fault. spec.AreWrongRows site.now rows.now fault) }
+    ensures wrong { IfErr result (λ fault. inside.AreWrongRows site.now rows.now fault) }
     ensures accepted { IfOk result (λ accepted. IsOf site.now accepted) }
 {
     site.is_lawful();

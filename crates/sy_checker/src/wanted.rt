@@ -7,8 +7,8 @@ ghost use Rattle.sy_site.specs.declared.site.SiteInput.{SiteInput as AnyInput};
 ghost use Rattle.sy_board.specs.relay.Spares.{Scope};
 ghost use Rattle.sy_site.specs.machine.Reach.{Reach};
 ghost use Rattle.sy_checker.specs.Fit.{AreWanted};
-ghost use Rattle.sy_checker.specs.Hops.{AreFlows};
-ghost use Rattle.sy_checker.specs.Internal.{AddsArchive};
+ghost use Rattle.sy_checker.specs.internal.Hops.{AreFlows};
+ghost use Rattle.sy_checker.specs.internal.Found.{AddsArchive};
 ghost use Rattle.sy_checker.specs.Verifying.{kind_words};
 ghost use Rattle.sy_checker.specs.declared.wanted.Wanted.TheVariants as spec;
 

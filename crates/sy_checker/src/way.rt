@@ -5,7 +5,7 @@ ghost use Rattle.sy_wire.specs.declared.class.Class.{Class as AnyClass};
 ghost use Rattle.sy_site.specs.Sites.{Site as AnySite};
 ghost use Rattle.sy_site.specs.declared.site.SiteInput.{SiteInput as AnyInput};
 ghost use Rattle.sy_checker.specs.declared.executed.Executed.{Executed as AnyExecuted};
-ghost use Rattle.sy_checker.specs.Search as spec;
+ghost use Rattle.sy_checker.specs.internal.Search as spec;
 
 use crate::finding::WayRow;
 use crate::reach::Found;

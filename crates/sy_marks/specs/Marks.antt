@@ -46,10 +46,6 @@ HoldIs hold.LightDelay f marks waiting =
 HoldIs hold.Clear f marks waiting =
     (is_delayed f marks waiting ≡ false) × (waiting < marks.size) × (is_slowed f marks waiting ≡ false)
 
--- the entry at a place, counted from 0 at the front
-abbrev pub IsEntryAt : List Entry → ℕ → Entry → Type 0
-IsEntryAt entries place e = slice_get entries place ≡ Some e
-
 -- ---- What becomes of an entry that is taken, where so many remain without it
 
 -- it is discarded at that length

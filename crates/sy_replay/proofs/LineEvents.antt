@@ -11,7 +11,7 @@ use Rattle.sy_replay.specs.declared.line.fault.EventFault.TheVariants as fault
 use Rattle.sy_replay.specs.declared.line.verb.Verb.{Verb}
 use Rattle.sy_replay.specs.declared.line.verb.Verb.TheVariants as verb
 use Rattle.sy_replay.specs.Lines.{BringsRaw, IsBehind, IsFrom, IsHand, IsNew, IsTake, IsWorker, StandsFor, TakesTo, IsPlace, input_named, number_of, word_of, words_in}
-use Rattle.sy_replay.specs.Reading.{IsHandRaw, IsNewRaw, NoEvent, WantsMemory}
+use Rattle.sy_replay.specs.internal.Reading.{IsHandRaw, IsNewRaw, NoEvent, WantsMemory}
 
 -- ---- first words
 

@@ -6,7 +6,7 @@ use Rattle.std.proofs.lemmas.List.Splits.{join_with_byte-slice_split, slice_spli
 use Rattle.std.specs.List.{join_with_byte, slice_split, onto_first}
 use Rattle.memchr.specs.Find.{IsFirstByte, is_byte}
 use Rattle.sy_replay.specs.Lines.{words_in}
-use Rattle.sy_replay.specs.Reading.{AreRaw}
+use Rattle.sy_replay.specs.internal.Reading.{AreRaw}
 
 is_false : (b : Bool) → (b ≡ true → ⊥) → b ≡ false
 is_false true never = absurd (never refl)

@@ -24,9 +24,11 @@ use Rattle.sy_site.specs.machine.States as states
 use Rattle.sy_replay.specs.declared.event.Loss.{Loss}
 use Rattle.sy_replay.specs.declared.event.Cause.TheVariants as lost_by_cause
 use Rattle.sy_replay.specs.declared.event.Illegal.TheVariants as illegal
-use Rattle.sy_replay.specs.Events.{Goes, IsIllegal, loss_of, losses_of}
-use Rattle.sy_replay.specs.Jobs.{Answer, Answers, Comes, IsPostJob, IsRunJob, event_of, is_taken, losses_by, outs_of, with_tag}
-use Rattle.sy_replay.specs.Parts.{Makes, MakesInside, items_of, lost_by, part, passed_by, tags_at}
+use Rattle.sy_replay.specs.Events.{loss_of, losses_of}
+use Rattle.sy_replay.specs.internal.Events.{Goes, IsIllegal}
+use Rattle.sy_replay.specs.internal.Jobs.{Answer, Answers, Comes, IsPostJob, IsRunJob, event_of, is_taken, losses_by, outs_of, with_tag}
+use Rattle.sy_replay.specs.Parts.{tags_at}
+use Rattle.sy_replay.specs.internal.Parts.{Makes, MakesInside, items_of, lost_by, part, passed_by}
 use Rattle.sy_replay.proofs.Refused.{nothing_grabbed, one_list}
 
 abbrev the_loss : ℕ → ℕ → ℕ → Cause → states.Loss

@@ -27,9 +27,9 @@ use Rattle.sy_board.proofs.relay.Excluded.{held_enters, held_expires}
 use Rattle.sy_board.proofs.relay.Outcomes.{jobs_same, one_taken}
 use Rattle.sy_replay.specs.declared.event.Illegal.{Illegal}
 use Rattle.sy_replay.specs.declared.event.Illegal.TheVariants as illegal
-use Rattle.sy_replay.specs.Events.{IsIllegal, illegal_of}
-use Rattle.sy_replay.specs.Parts.{IsNoTake}
-use Rattle.sy_replay.specs.Jobs.{Answer, IsNoAnswer, IsPostJob, IsRunJob, NoPostJob, NoRunJob}
+use Rattle.sy_replay.specs.internal.Events.{IsIllegal, illegal_of}
+use Rattle.sy_replay.specs.internal.Parts.{IsNoTake}
+use Rattle.sy_replay.specs.internal.Jobs.{Answer, IsNoAnswer, IsPostJob, IsRunJob, NoPostJob, NoRunJob}
 
 not_both : {A : Type 0} (xs : List A) (x : A) (ys : List A) → xs ≡ [] → xs ≡ x ∷ ys → ⊥
 not_both xs x ys none some = let e : [] ≡ x ∷ ys = sym none ∙ some in cc

@@ -10,7 +10,8 @@ use Rattle.sy_site.specs.machine.States.{SiteState, opening}
 use Rattle.sy_site.specs.machine.Steps.{SiteEvent, SiteStep, SiteSteps}
 use Rattle.sy_replay.specs.Held.{opened_part, opened_parts}
 use Rattle.sy_replay.specs.Parts.{PartState, tags_at}
-use Rattle.sy_replay.specs.States.{AreOf, HaveSamePlans, IsReached, passed_in, passed_of, plan_of, site_state, state_of}
+use Rattle.sy_replay.specs.States.{IsReached, passed_in, passed_of, site_state, state_of}
+use Rattle.sy_replay.specs.internal.States.{AreOf, HaveSamePlans, plan_of}
 
 steps_on : (site : Site) (s : SiteState) (es : List SiteEvent) (mid : SiteState) (e : SiteEvent) (new : SiteState) → SiteSteps site s es mid
     → SiteStep site mid e new → SiteSteps site s (es ++ e ∷ []) new

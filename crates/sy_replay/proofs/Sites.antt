@@ -21,9 +21,12 @@ use Rattle.sy_replay.specs.declared.event.Illegal.{Illegal}
 use Rattle.sy_replay.specs.declared.event.Illegal.TheVariants as illegal
 use Rattle.sy_replay.specs.declared.event.RelayEvent.{RelayEvent}
 use Rattle.sy_replay.specs.declared.event.RelayEvent.TheVariants as event
-use Rattle.sy_replay.specs.Events.{IsIllegal, step_of}
-use Rattle.sy_replay.specs.Parts.{Makes, PartState, TakesMessage, items_of, lost_by, part, passed_by, tags_at}
-use Rattle.sy_replay.specs.States.{Applies, AreOf, HasLists, HaveSamePlans, IsIllegalAt, board_of, boards_of, holding, passed_in, passed_of, plan_of, relays_of, site_state, state_of, with_board}
+use Rattle.sy_replay.specs.Events.{step_of}
+use Rattle.sy_replay.specs.internal.Events.{IsIllegal}
+use Rattle.sy_replay.specs.Parts.{PartState, tags_at}
+use Rattle.sy_replay.specs.internal.Parts.{Makes, TakesMessage, items_of, lost_by, part, passed_by}
+use Rattle.sy_replay.specs.States.{Applies, IsIllegalAt, board_of, boards_of, holding, passed_in, passed_of, relays_of, site_state, state_of, with_board}
+use Rattle.sy_replay.specs.internal.States.{AreOf, HasLists, HaveSamePlans, plan_of}
 use Rattle.sy_replay.proofs.Refused.{run_there}
 
 -- ---- lists

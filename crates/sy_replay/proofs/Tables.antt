@@ -6,7 +6,7 @@ use Rattle.std.specs.Global.{Vec}
 use Rattle.sy_site.specs.declared.site.SiteAction.{SiteAction}
 use Rattle.sy_site.specs.declared.site.SiteInput.{SiteInput}
 use Rattle.sy_site.specs.Sites.{Relay, Site, plan_at, plan_in, target, target_of}
-use Rattle.sy_replay.specs.Routes.{entry_in, first_of, row_of, rows_of, table_of, target_at}
+use Rattle.sy_replay.specs.internal.Routes.{entry_in, first_of, row_of, rows_of, table_of, target_at}
 
 pub one_more_of : {A : Type 0} (f : ℕ → A) (n : ℕ) → first_of f (n + 1) ≡ first_of f n ++ f n ∷ []
 one_more_of f n = ap (first_of f) (add-one n)

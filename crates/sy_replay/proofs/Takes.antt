@@ -18,9 +18,11 @@ use Rattle.sy_site.specs.machine.States.{Arrival, Copy, Loss, SiteState, off_lin
 use Rattle.sy_site.specs.machine.Steps.{SiteEvent, TakesCopy, TakesFrom}
 use Rattle.sy_replay.specs.declared.event.Illegal.{Illegal}
 use Rattle.sy_replay.specs.declared.event.Illegal.TheVariants as illegal
-use Rattle.sy_replay.specs.Parts.{IsNoTake, Makes, PartState, TakesMessageAt, items_of, lost_by, passed_by, tags_at}
-use Rattle.sy_replay.specs.States.{Applies, AreOf, Contents, IsIllegalAt, board_of, boards_of, holding, passed_in, passed_of, plan_of, relays_of, site_state, state_in, state_of}
-use Rattle.sy_replay.specs.Takes.{IsNoEntry, IsOnLink, IsOnNoLink, Leaves, TakesEntry, without}
+use Rattle.sy_replay.specs.Parts.{PartState, tags_at}
+use Rattle.sy_replay.specs.internal.Parts.{IsNoTake, Makes, TakesMessageAt, items_of, lost_by, passed_by}
+use Rattle.sy_replay.specs.States.{Applies, Contents, IsIllegalAt, board_of, boards_of, holding, passed_in, passed_of, relays_of, site_state, state_in, state_of}
+use Rattle.sy_replay.specs.internal.States.{AreOf, plan_of}
+use Rattle.sy_replay.specs.internal.Takes.{IsNoEntry, IsOnLink, IsOnNoLink, Leaves, TakesEntry, without}
 use Rattle.sy_replay.proofs.Sites.{boards_stepped, get_other, get_same, no_step, relays_set, same_or, state_with}
 
 -- ---- a relay's board takes an entry

@@ -1,20 +1,14 @@
 -- What events say of the site machine, and why one may be refused (this profile's own).
-use Rattle.std.specs.Prelude.{◌≡◌, List, map}
+use Rattle.std.specs.Prelude.{List, map}
 use Rattle.std.specs.Arc.{arc_value}
-use Rattle.sy_board.specs.declared.fault.BoardFault.{BoardFault}
-use Rattle.sy_board.specs.declared.fault.BoardFault.TheVariants as fault
-use Rattle.sy_board.specs.relay.Boards.{BoardState, IsTooFull, is_no_memory, stepped}
-use Rattle.sy_board.specs.relay.Cells.{RelayState}
+use Rattle.sy_board.specs.relay.Boards.{is_no_memory}
 use Rattle.sy_board.specs.relay.Steps as steps
-use Rattle.sy_board.specs.relay.Steps.{Out, Step}
 use Rattle.sy_site.specs.machine.States as states
 use Rattle.sy_site.specs.machine.Steps.{SiteEvent}
 use Rattle.sy_replay.specs.declared.event.Event as declared
 use Rattle.sy_replay.specs.declared.event.Event.TheVariants as an
 use Rattle.sy_replay.specs.declared.event.RelayEvent.{RelayEvent}
 use Rattle.sy_replay.specs.declared.event.RelayEvent.TheVariants as event
-use Rattle.sy_replay.specs.declared.event.Illegal.{Illegal}
-use Rattle.sy_replay.specs.declared.event.Illegal.TheVariants as illegal
 use Rattle.sy_replay.specs.declared.event.Cause.{Cause}
 use Rattle.sy_replay.specs.declared.event.Cause.TheVariants as cause
 use Rattle.sy_replay.specs.declared.event.Loss.{Loss}
@@ -50,21 +44,3 @@ loss_of l = record { copy = l.copy; relay = l.relay; list = l.list; cause = caus
 
 abbrev pub losses_of : List Loss → List states.Loss
 losses_of losses = map loss_of losses
-
--- ---- what a relay's board does
-
--- The board makes the step, which lets these out, and counts it.
-abbrev pub Goes : BoardState → steps.Event → BoardState → List Out → Type 0
-Goes old event new outs = Step old.plan old.state event new.state outs × (new ≡ stepped old event new.state outs)
-
--- Why an event isn't applied: it is no step; or it is one, and a total would pass its limit. That memory ran out says nothing.
-abbrev pub IsIllegal : Illegal → BoardState → steps.Event → Type 0
-IsIllegal illegal.NotAStep old event = (new : RelayState) (outs : List Out) → Step old.plan old.state event new outs → ⊥
-IsIllegal illegal.NoMemory old event = Unit {0}
-IsIllegal illegal.TotalsFull old event =
-    (new : RelayState) × (outs : List Out) × Step old.plan old.state event new outs × IsTooFull (stepped old event new outs)
-
--- what a board's refusal of a step means
-abbrev pub illegal_of : BoardFault → Illegal
-illegal_of fault.TotalsFull = illegal.TotalsFull
-illegal_of _ = illegal.NotAStep

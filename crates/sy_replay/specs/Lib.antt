@@ -1,10 +1,7 @@
 pub mod Events
 pub mod Flags
 pub mod Parts
-pub mod Jobs
 pub mod States
-pub mod Takes
 pub mod Held
 pub mod Lines
-pub mod Reading
-pub mod Routes
+pub mod internal

@@ -1,21 +1,16 @@
 -- The state of a replay as lists, and the state of the site that it is.
-use Rattle.std.specs.Prelude.{◌≡◌, ℕ, ◌==◌, if◌then◌else◌, List, [], Option, Some, None, length, slice_get}
-use Rattle.sy_rules.specs.PlanValue.{Plan}
+use Rattle.std.specs.Prelude.{◌≡◌, ℕ, ◌==◌, if◌then◌else◌, List, [], Option, Some, None, slice_get}
 use Rattle.sy_board.specs.relay.Boards.{BoardState, IsTooFull, opened, stepped}
 use Rattle.sy_board.specs.relay.Cells.{RelayState}
 use Rattle.sy_board.specs.relay.Cells as cells
 use Rattle.sy_board.specs.relay.Steps as steps
 use Rattle.sy_site.specs.declared.site.SiteAction.{SiteAction}
-use Rattle.sy_site.specs.Sites.{Site, no_plan, plan_at}
+use Rattle.sy_site.specs.Sites.{Site, no_plan}
 use Rattle.sy_site.specs.machine.States.{Arrival, Copy, Loss, SiteState}
 use Rattle.sy_site.specs.machine.Steps.{Runs, SiteEvent, SiteStep}
 use Rattle.sy_replay.specs.declared.event.Illegal.{Illegal}
 use Rattle.sy_replay.specs.declared.event.Illegal.TheVariants as illegal
 use Rattle.sy_replay.specs.Parts.{PartState, tags_at}
-
-abbrev pub plan_of : Option PartState → Plan
-plan_of None = no_plan
-plan_of (Some part) = part.board.plan
 
 -- what a relay holds; a relay that isn't there holds nothing
 abbrev pub state_of : Option PartState → RelayState
@@ -41,18 +36,6 @@ site_state parts copies losses arrivals = record {
   losses = losses;
   arrivals = arrivals;
 }
-
--- The relays are those of the site: each has its plan.
-abbrev pub AreOf : Site → List PartState → Type 0
-AreOf site parts = (r : ℕ) → plan_at site r ≡ plan_of (slice_get parts r)
-
--- Each relay has the plan that it had.
-abbrev pub HaveSamePlans : List PartState → List PartState → Type 0
-HaveSamePlans old new = (r : ℕ) → plan_of (slice_get new r) ≡ plan_of (slice_get old r)
-
--- a list for each action
-abbrev pub HasLists : PartState → Type 0
-HasLists part = length part.passed ≡ length part.board.plan.actions
 
 -- ---- what a site holds
 
@@ -112,17 +95,6 @@ IsIllegalAt illegal.NotAStep site old event = (new : SiteState) → SiteStep sit
 IsIllegalAt illegal.NoMemory site old event = Unit {0}
 IsIllegalAt illegal.TotalsFull site old event = (new : SiteState) × (step : SiteStep site (state_in old) event new)
     × IsTooFull (stepped_by site (state_in old) event new step (boards_of old.parts (relay_of event)))
-
--- ---- events inside relays
-
--- the site's step from these relays to those, whatever else the site holds
-abbrev pub StepsInside : List PartState → List Loss → SiteEvent → List PartState → List Loss → Type 0
-StepsInside parts before event new after = (site : Site) (copies : List Copy) (arrivals : List Arrival) → AreOf site parts
-    → Applies site (holding parts copies before arrivals) event (holding new copies after arrivals)
-
-abbrev pub IsNoneInside : Illegal → List PartState → List Loss → SiteEvent → Type 0
-IsNoneInside why parts losses event = (site : Site) (copies : List Copy) (arrivals : List Arrival) → AreOf site parts
-    → IsIllegalAt why site (holding parts copies losses arrivals) event
 
 -- ---- a replay
 

@@ -2,7 +2,7 @@
 ghost use Rattle.std.specs.Prelude.{◌≡◌, [], false, IfOk};
 ghost use Rattle.std.specs.Arc.{arc_value};
 ghost use Rattle.sy_site.specs.machine.States.{taken_by};
-ghost use Rattle.sy_replay.specs.Flags.{behind};
+ghost use Rattle.sy_replay.specs.internal.Events.{behind};
 
 use std::alloc::{AllocError, Global};
 use std::marker::Model;

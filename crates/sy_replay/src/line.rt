@@ -3,7 +3,7 @@
 ghost use Rattle.std.specs.Prelude.{◌≡◌, IfOk, IfErr};
 ghost use Rattle.std.specs.Option.{option_copied};
 ghost use Rattle.sy_replay.specs.Lines as spec;
-ghost use Rattle.sy_replay.specs.Reading.{NoEvent, WantsMemory, words_left};
+ghost use Rattle.sy_replay.specs.internal.Reading.{NoEvent, WantsMemory, words_left};
 
 pub mod fault;
 mod inside;

@@ -4,8 +4,8 @@ ghost use Rattle.std.specs.Arc.{arc_value};
 ghost use Rattle.sy_actions.specs.declared.device.DeviceFault.TheVariants.{CountFull};
 ghost use Rattle.sy_board.specs.relay.Plans.{parameters_at, queue_of_worker};
 ghost use Rattle.sy_board.specs.relay.Steps.{IsHand};
-ghost use Rattle.sy_replay.specs.Events as spec;
-ghost use Rattle.sy_replay.specs.Jobs.{IsPostJob, IsRunJob, NoPostJob, NoRunJob};
+ghost use Rattle.sy_replay.specs.internal.Events as spec;
+ghost use Rattle.sy_replay.specs.internal.Jobs.{IsPostJob, IsRunJob, NoPostJob, NoRunJob};
 
 use crate::event::Illegal;
 use std::sync::Arc;

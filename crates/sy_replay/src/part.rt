@@ -3,11 +3,14 @@ ghost use Rattle.std.specs.Prelude.{◌≡◌, ◌<◌, [], IfErr, IfOk, OnErr, 
 ghost use Rattle.std.specs.Arc.{arc_value};
 ghost use Rattle.sy_rules.specs.Whole.{IsWhole};
 ghost use Rattle.sy_site.specs.machine.Steps.{SiteEvent};
-ghost use Rattle.sy_replay.specs.Events.{IsIllegal, losses_of, step_of};
+ghost use Rattle.sy_replay.specs.Events.{losses_of, step_of};
+ghost use Rattle.sy_replay.specs.internal.Events.{IsIllegal};
 ghost use Rattle.sy_replay.specs.Held.{opened_part};
-ghost use Rattle.sy_replay.specs.Parts.{IsNoTake, Makes, TakesMessageAt, items_of, part, tags_at};
-ghost use Rattle.sy_replay.specs.States.{HasLists, HaveSamePlans, IsNoneInside, StepsInside, passed_of};
-ghost use Rattle.sy_replay.specs.Takes.{IsNoEntry, Leaves, TakesEntry, without};
+ghost use Rattle.sy_replay.specs.Parts.{tags_at};
+ghost use Rattle.sy_replay.specs.internal.Parts.{IsNoTake, Makes, TakesMessageAt, items_of, part};
+ghost use Rattle.sy_replay.specs.States.{passed_of};
+ghost use Rattle.sy_replay.specs.internal.States.{HasLists, HaveSamePlans, IsNoneInside, StepsInside};
+ghost use Rattle.sy_replay.specs.internal.Takes.{IsNoEntry, Leaves, TakesEntry, without};
 
 use crate::event::{Illegal, Loss, RelayEvent};
 use crate::steps::{hands, jobs, posts};
@@ -31,7 +34,8 @@ impl Model for Part {
     ghost use Rattle.std.specs.Prelude.{◌≡◌, length};
     ghost use Rattle.std.specs.Coded.{codes};
     ghost use Rattle.sy_rules.specs.internal.PlanCodes.{plan_code};
-    ghost use Rattle.sy_replay.specs.Parts.{PartState, items_of};
+    ghost use Rattle.sy_replay.specs.Parts.{PartState};
+    ghost use Rattle.sy_replay.specs.internal.Parts.{items_of};
 
     ghost Value = { PartState };
 

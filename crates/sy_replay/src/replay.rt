@@ -6,11 +6,12 @@ ghost use Rattle.sy_site.specs.machine.Naming.{IsTag};
 ghost use Rattle.sy_site.specs.machine.States.{opening};
 ghost use Rattle.sy_site.specs.machine.Steps.{SiteEvent};
 ghost use Rattle.sy_replay.specs.Events.{loss_of, losses_of, site_event};
-ghost use Rattle.sy_replay.specs.States.{Applies, AreOf, HaveSamePlans, IsIllegalAt, IsReached, state_at};
-ghost use Rattle.sy_replay.specs.Held.{IsNoStep, Steps, contents_of};
+ghost use Rattle.sy_replay.specs.States.{Applies, IsIllegalAt, IsReached, state_at};
+ghost use Rattle.sy_replay.specs.internal.States.{AreOf, HaveSamePlans};
+ghost use Rattle.sy_replay.specs.internal.Held.{IsNoStep, Steps, contents_of};
 ghost use Rattle.sy_replay.specs.Held as spec;
 ghost use Rattle.sy_replay.specs.Flags.{is_flagged_of};
-ghost use Rattle.sy_replay.specs.Takes.{IsOnLink, IsOnNoLink};
+ghost use Rattle.sy_replay.specs.internal.Takes.{IsOnLink, IsOnNoLink};
 
 use crate::copies::{Arrived, Copied};
 use crate::event::{Event, Illegal, Loss};
@@ -43,8 +44,9 @@ pub struct Replay<'a> {
 impl<'a> Model for Replay<'a> {
     ghost use Rattle.std.specs.Coded.{codes};
     ghost use Rattle.sy_rules.specs.internal.PlanCodes.{plan_code};
-    ghost use Rattle.sy_replay.specs.States.{AreOf, IsReached, ReplayState};
-    ghost use Rattle.sy_replay.specs.Held.{contents_of, state_held};
+    ghost use Rattle.sy_replay.specs.States.{IsReached, ReplayState};
+    ghost use Rattle.sy_replay.specs.internal.States.{AreOf};
+    ghost use Rattle.sy_replay.specs.internal.Held.{contents_of, state_held};
 
     ghost Value = { ReplayState };
 

@@ -3,7 +3,7 @@ ghost use Rattle.std.specs.Prelude.{◌≡◌, ◌<◌, IfOk, length};
 ghost use Rattle.sy_site.specs.Sites as sites;
 ghost use Rattle.sy_site.specs.machine.States as states;
 ghost use Rattle.sy_replay.specs.Events.{cause_of};
-ghost use Rattle.sy_replay.specs.Routes as spec;
+ghost use Rattle.sy_replay.specs.internal.Routes as spec;
 
 use crate::event::Cause;
 use std::alloc::{AllocError, Global};
@@ -23,7 +23,7 @@ impl<'a> Model for Routes<'a> {
     ghost use Rattle.std.specs.Coded.{codes};
     ghost use Rattle.sy_rules.specs.internal.PlanCodes.{plan_code};
     ghost use Rattle.sy_site.specs.Sites as sites;
-    ghost use Rattle.sy_replay.specs.Routes.{rows_of, table_of};
+    ghost use Rattle.sy_replay.specs.internal.Routes.{rows_of, table_of};
 
     ghost Value = { sites.Site };
 

@@ -65,9 +65,6 @@ fault c word = record { code = c; word = word; place = None }
 abbrev pub fault_of_part : Span → FaultCode → List ℕ → ItemFault
 fault_of_part span c word = record { code = c; word = word; place = Some span }
 
-abbrev pub memory_fault : ItemFault
-memory_fault = fault_of_part nowhere code.NoMemory []
-
 -- in the text, where the item stands here
 abbrev pub in_text : Span → ItemFault → PlanFault
 in_text item f = fault_at (unwrap_or f.place item) f.code f.word
@@ -86,7 +83,3 @@ first (f ∷ later) = Some f
 -- what is answered where these faults are there: the first, or that memory ran out
 abbrev pub IsAnswered : List PlanFault → PlanFault → Type 0
 IsAnswered faults answer = (answer ≡ no_memory) ⊎ (first faults ≡ Some answer)
-
--- the same of an item
-abbrev pub IsFound : List ItemFault → ItemFault → Type 0
-IsFound faults answer = (answer ≡ memory_fault) ⊎ (first faults ≡ Some answer)

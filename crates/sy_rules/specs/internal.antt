@@ -14,3 +14,6 @@ pub mod ClassFlows
 pub mod PlanCodes
 pub mod PlanInside
 pub mod Loading
+pub mod Checking
+pub mod Objects
+pub mod Texts

@@ -6,12 +6,12 @@ use Rattle.sy_chain.specs.Entries.{Entry}
 use Rattle.sy_wire.specs.Frames.{Held}
 use Rattle.sy_wire.specs.declared.framer.FrameFault.{FrameFault}
 use Rattle.sy_wire.specs.declared.framer.FrameFault.TheVariants as frame
-use Rattle.sy_runtime.specs.Connections.{Begins, Connects, Counts, EndsWith, GoesOnWith, Sorted, nothing_counted}
+use Rattle.sy_runtime.specs.Connections.{Begins, Connects, Counts, EndsWith, GoesOnWith, Sorted}
+use Rattle.sy_runtime.specs.internal.Turning.{nothing_counted, Goes, IsEarly, RoundIs, TurnIs, Turns, round_of}
 use Rattle.sy_runtime.specs.internal.Gathering.{GatherIs, IsAtFront}
 use Rattle.sy_runtime.specs.internal.Halting.{BatchIs, halted, halted_at}
 use Rattle.sy_runtime.specs.internal.Held.{Holds}
 use Rattle.sy_runtime.specs.internal.Reading.{MayGoOn, Serves}
-use Rattle.sy_runtime.specs.internal.Turning.{Goes, IsEarly, RoundIs, TurnIs, Turns, round_of}
 use Rattle.sy_runtime.specs.declared.connection_end.Finish.{Finish}
 use Rattle.sy_runtime.specs.declared.connection_end.Finish.TheVariants as finish
 use Rattle.sy_runtime.specs.declared.fault.RunFault.{RunFault}

@@ -18,10 +18,6 @@ pub record Counts : Type 0 where
   pub unread : ℕ
   pub took : ℕ
 
--- what it counted before the first frame
-abbrev pub nothing_counted : Counts
-nothing_counted = record { frames = 0; unread = 0; took = 0 }
-
 -- what two connections counted together
 abbrev pub counted_both : Counts → Counts → Counts
 counted_both one other = record {

@@ -1,6 +1,7 @@
 //! What a connection counts, and how it ends.
 ghost use Rattle.std.specs.Prelude.{◌≡◌, ◌+◌, ◌<◌, ◌^◌, false, IfErr, OnErr, OnOk};
-ghost use Rattle.sy_runtime.specs.Connections.{Overflows, counted_both, nothing_counted};
+ghost use Rattle.sy_runtime.specs.Connections.{Overflows, counted_both};
+ghost use Rattle.sy_runtime.specs.internal.Turning.{nothing_counted};
 
 use crate::fault::RunFault;
 use std::marker::Model;

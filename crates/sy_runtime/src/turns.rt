@@ -1,7 +1,7 @@
 //! The turns of a connection: a batch, and a read where no whole frame is left.
 ghost use Rattle.std.specs.Prelude.{◌≡◌, [], ℕ, List, Option, Err, IfSome, false};
-ghost use Rattle.sy_runtime.specs.Connections.{Begins, Connects, nothing_counted};
-ghost use Rattle.sy_runtime.specs.internal.Turning.{RoundIs, TurnIs, Turns, round_of};
+ghost use Rattle.sy_runtime.specs.Connections.{Begins, Connects};
+ghost use Rattle.sy_runtime.specs.internal.Turning.{nothing_counted, RoundIs, TurnIs, Turns, round_of};
 
 use crate::connection_end::{ConnEnd, Finish, Unread};
 use crate::fault::RunFault;

@@ -22,7 +22,8 @@ use Rattle.sy_script.specs.declared.tree.Top.{Top}
 use Rattle.sy_script.specs.declared.tree.Script.{Script}
 use Rattle.sy_script.specs.Terms.{max_depth}
 use Rattle.sy_script.specs.Grammar as g
-use Rattle.sy_script.specs.Depth.{greater, most, expr_step, expr_depth, block_step, stmt_step, block_depth, stmt_depth, top_depth, depth}
+use Rattle.sy_script.specs.Depth.{greater, most, expr_step, expr_depth, block_step, stmt_step, stmt_depth, top_depth, depth}
+use Rattle.sy_script.specs.internal.Depth.{block_depth}
 
 -- ---- the depth of each shape
 

@@ -6,7 +6,7 @@ use Rattle.sy_script.specs.declared.tree.ExprTree.TheOpen.{ExprTree-F}
 use Rattle.sy_script.specs.declared.tree.ExprTree.TheFolds.{fold-ExprTree}
 use Rattle.sy_script.specs.declared.tree.Block.{Block}
 use Rattle.sy_script.specs.declared.tree.Block.TheOpen.{Block-F, Stmt-F}
-use Rattle.sy_script.specs.declared.tree.Block.TheFolds.{fold-Block, fold-Stmt}
+use Rattle.sy_script.specs.declared.tree.Block.TheFolds.{fold-Stmt}
 use Rattle.sy_script.specs.declared.tree.Stmt.{Stmt}
 use Rattle.sy_script.specs.declared.tree.Top.{Top}
 use Rattle.sy_script.specs.declared.tree.Top.TheVariants as t
@@ -41,9 +41,6 @@ stmt_step (Stmt-F.Call name) = 0
 stmt_step (Stmt-F.Stop span) = 0
 stmt_step (Stmt-F.If test done None) = greater (expr_depth test) done
 stmt_step (Stmt-F.If test done (Some otherwise)) = greater (expr_depth test) (greater done otherwise)
-
-abbrev pub block_depth : Block → ℕ
-block_depth = fold-Block ℕ ℕ block_step stmt_step
 
 abbrev pub stmt_depth : Stmt → ℕ
 stmt_depth = fold-Stmt ℕ ℕ block_step stmt_step

@@ -5,3 +5,4 @@ pub mod Reading
 pub mod ReadingExpr
 pub mod ReadingStmt
 pub mod Answer
+pub mod Depth

@@ -5,3 +5,4 @@ pub mod SiteInside
 pub mod Classes
 pub mod Reading
 pub mod Relays
+pub mod Findings

@@ -4,9 +4,8 @@ use Rattle.std.specs.Io.KnownBytes.{Appends}
 use Rattle.sy_cert.specs.CertificateValue.{Certificate}
 use Rattle.sy_checker.specs.Fit.{IsFitFor}
 use Rattle.sy_site.specs.Sites.{Site}
-use Rattle.sy_site.specs.internal.Given.{file}
+use Rattle.sy_site.specs.texts.Describes.{file, Describes, File, file_named}
 use Rattle.sy_site.specs.machine.Soundness.{IsSound}
-use Rattle.sy_site.specs.texts.Describes.{Describes, File, file_named}
 use Rattle.syc.specs.Checks.{IsTextOf, KeepsAll, accepted_line}
 use Rattle.syc.specs.Replays.{Ending, Replays, lines_of, opened}
 use Rattle.syc.specs.Reports.{Streams}

@@ -1,7 +1,6 @@
 -- Files in memory (this profile's own).
 use Rattle.std.specs.Prelude.{ℕ, List, Option, map}
-use Rattle.sy_site.specs.internal.Given.{file}
-use Rattle.sy_site.specs.texts.Describes.{File, file_named}
+use Rattle.sy_site.specs.texts.Describes.{file, File, file_named}
 use Rattle.syc.specs.declared.memory.MemoryFiles.{MemoryFiles}
 
 -- the files that are given

@@ -1,8 +1,7 @@
 //! Files in memory.
 ghost use Rattle.std.specs.Prelude.{◌≡◌, IfErr, IfOk, IfSome, None, Some, map};
 ghost use Rattle.std.specs.Option.{option_copied};
-ghost use Rattle.sy_site.specs.internal.Given.{file};
-ghost use Rattle.sy_site.specs.texts.Describes.{file_named};
+ghost use Rattle.sy_site.specs.texts.Describes.{file, file_named};
 ghost use Rattle.syc.specs.Memory.{bytes_in};
 
 use crate::files::{FileFault, Files};

@@ -1,6 +1,6 @@
 //! A site, from the files that name it.
 ghost use Rattle.std.specs.Prelude.{◌≡◌, ◌⊎◌, ◌∷◌, [], ℕ, List, Some, IfErr, IfOk, IfSome, OnOk, map, string_bytes};
-ghost use Rattle.sy_site.specs.internal.Given.{file};
+ghost use Rattle.sy_site.specs.texts.Describes.{file};
 ghost use Rattle.sy_site.specs.texts.Files as texts;
 ghost use Rattle.syc.specs.SiteFiles.{AreGiven, IsSiteOf};
 ghost use Rattle.syc.specs.internal.Halts.{IsNoSite, IsReadHalt, IsUnread, file_of};

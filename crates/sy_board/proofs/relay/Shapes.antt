@@ -3,7 +3,6 @@ use Rattle.std.proofs.Common.{ℕ, List, sym, subst, ◌∙◌, ◌++◌, ◌∷
 use Rattle.sy_rules.specs.declared.lists.occurrence.Occurrence.{Occurrence}
 use Rattle.sy_rules.specs.Whole.{queue_for}
 use Rattle.sy_rules.specs.PlanValue.{Plan}
-use Rattle.sy_board.specs.relay.Plans.{}
 use Rattle.sy_board.specs.relay.Cells.{Cell, IsShaped, RelayState, at, put, hand}
 use Rattle.sy_board.specs.relay.Steps.{Event, Step, Out, Job, advanced, still}
 use Rattle.sy_board.proofs.relay.Put.{SameSizes, put_sizes, put_failures_sizes, same_sizes, both_sizes, if_elim}

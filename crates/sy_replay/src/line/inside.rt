@@ -6,7 +6,7 @@ ghost use Rattle.sy_board.specs.relay.Boards.{is_no_memory};
 ghost use Rattle.sy_site.specs.declared.site.SiteInput.{SiteInput as Entrance};
 ghost use Rattle.sy_replay.specs.Lines as spec;
 ghost use Rattle.sy_replay.specs.declared.line.verb.Verb.TheVariants as verbs;
-ghost use Rattle.sy_replay.specs.Reading.{NoEvent, words_left};
+ghost use Rattle.sy_replay.specs.internal.Reading.{NoEvent, words_left};
 
 use super::fault::EventFault;
 use super::parts::{hand_part, worker_part};

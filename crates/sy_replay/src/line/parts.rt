@@ -7,7 +7,7 @@ ghost use Rattle.sy_site.specs.declared.site.SiteAction.{SiteAction as Link};
 ghost use Rattle.sy_site.specs.declared.site.SiteInput.{SiteInput as Entrance};
 ghost use Rattle.sy_site.specs.Sites as sites;
 ghost use Rattle.sy_replay.specs.Lines as spec;
-ghost use Rattle.sy_replay.specs.Reading.{words_left};
+ghost use Rattle.sy_replay.specs.internal.Reading.{words_left};
 
 use super::words::{next_word, number, only_word};
 use sy_rules::Input;

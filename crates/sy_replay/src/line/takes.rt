@@ -5,7 +5,7 @@ ghost use Rattle.std.specs.Arc.{arc_value};
 ghost use Rattle.std.specs.Option.{option_copied};
 ghost use Rattle.sy_wire.specs.Messages.{IsMessage, Said};
 ghost use Rattle.sy_replay.specs.Lines as spec;
-ghost use Rattle.sy_replay.specs.Reading.{AreRaw, IsHandRaw, IsNewRaw, NoEvent, words_left};
+ghost use Rattle.sy_replay.specs.internal.Reading.{AreRaw, IsHandRaw, IsNewRaw, NoEvent, words_left};
 
 use super::fault::EventFault;
 use super::parts::{HandPart, hand_part, place_part};

@@ -6,8 +6,9 @@ ghost use Rattle.sy_board.specs.relay.Plans.{input_at};
 ghost use Rattle.sy_board.specs.relay.Steps.{Event, IsHand, IsOfInput};
 ghost use Rattle.sy_board.specs.relay.Steps as steps;
 ghost use Rattle.sy_site.specs.machine.States as states;
-ghost use Rattle.sy_replay.specs.Events.{IsIllegal, losses_of};
-ghost use Rattle.sy_replay.specs.Parts.{IsNoTake, MakesInside, TakesMessage, lost_by};
+ghost use Rattle.sy_replay.specs.Events.{losses_of};
+ghost use Rattle.sy_replay.specs.internal.Events.{IsIllegal};
+ghost use Rattle.sy_replay.specs.internal.Parts.{IsNoTake, MakesInside, TakesMessage, lost_by};
 
 use crate::event::{Cause, Illegal, Loss};
 use crate::making::{batch_of, has_hand, has_worker, illegal_of};

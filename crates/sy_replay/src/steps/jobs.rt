@@ -7,9 +7,10 @@ ghost use Rattle.sy_board.specs.relay.Cells.{failures_at};
 ghost use Rattle.sy_board.specs.relay.Plans.{retry_at};
 ghost use Rattle.sy_board.specs.relay.Steps.{Event, MayTry};
 ghost use Rattle.sy_site.specs.machine.States as states;
-ghost use Rattle.sy_replay.specs.Events.{IsIllegal, losses_of};
-ghost use Rattle.sy_replay.specs.Jobs.{Answer, Answers, Comes, IsNoAnswer, IsRunJob};
-ghost use Rattle.sy_replay.specs.Parts.{Makes, items_of, part};
+ghost use Rattle.sy_replay.specs.Events.{losses_of};
+ghost use Rattle.sy_replay.specs.internal.Events.{IsIllegal};
+ghost use Rattle.sy_replay.specs.internal.Jobs.{Answer, Answers, Comes, IsNoAnswer, IsRunJob};
+ghost use Rattle.sy_replay.specs.internal.Parts.{Makes, items_of, part};
 
 use crate::event::{Cause, Illegal, Loss};
 use crate::making::{Run, failure_of, has_worker, illegal_of, receipt_of, run_of};

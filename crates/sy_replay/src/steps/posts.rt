@@ -1,12 +1,12 @@
 //! The steps of a worker's job that is a post.
 ghost use Rattle.std.specs.Prelude.{◌≡◌, IfErr, IfOk, OnErr, OnOk};
 ghost use Rattle.std.specs.Arc.{arc_value};
-ghost use Rattle.sy_board.specs.relay.Boards.{IsForPost};
-ghost use Rattle.sy_replay.specs.Jobs.{IsPostJob};
-ghost use Rattle.sy_board.specs.relay.Boards.{is_no_memory};
+ghost use Rattle.sy_board.specs.relay.Boards.{IsForPost, is_no_memory};
+ghost use Rattle.sy_replay.specs.internal.Jobs.{IsPostJob};
 ghost use Rattle.sy_board.specs.relay.Steps.{Event};
-ghost use Rattle.sy_replay.specs.Events.{IsIllegal, losses_of};
-ghost use Rattle.sy_replay.specs.Parts.{MakesInside};
+ghost use Rattle.sy_replay.specs.Events.{losses_of};
+ghost use Rattle.sy_replay.specs.internal.Events.{IsIllegal};
+ghost use Rattle.sy_replay.specs.internal.Parts.{MakesInside};
 
 use crate::event::{Cause, Illegal, Loss};
 use crate::making::{Post, has_worker, illegal_of, post_of};

@@ -10,13 +10,12 @@ use Rattle.sy_select.specs.declared.fault.FaultCode.{FaultCode as SelectCode}
 use Rattle.sy_select.specs.declared.fault.FaultCode.TheVariants as select
 use Rattle.sy_select.specs.declared.fault.SelectFault.{SelectFault}
 use Rattle.sy_select.specs.Trees.{tree_faults}
-use Rattle.sy_rules.specs.Limits.{CALL_DEPTH}
+use Rattle.sy_rules.specs.Limits.{CALL_DEPTH, ACTIONS, INPUTS, OCCURRENCES, RULESETS, STATEMENTS, WORKERS}
 use Rattle.sy_rules.specs.declared.fault.FaultCode.{FaultCode}
 use Rattle.sy_rules.specs.declared.fault.FaultCode.TheVariants as code
 use Rattle.sy_rules.specs.declared.fault.PlanFault.{PlanFault}
 use Rattle.sy_rules.specs.declared.items.fault.ItemFault.{ItemFault}
 use Rattle.sy_rules.specs.declared.parameters.objects.InputParameters.{InputParameters}
-use Rattle.sy_rules.specs.Limits.{ACTIONS, INPUTS, OCCURRENCES, RULESETS, STATEMENTS, WORKERS}
 use Rattle.sy_rules.specs.Faults.{fault, fault_at, fault_of_part, in_text, nowhere, when}
 use Rattle.sy_rules.specs.parameters.Objects.{is_word, input_of, ruleset_of, kind_of_action, action_of}
 use Rattle.sy_rules.specs.items.ItemFaults.{object_faults}
@@ -105,11 +104,6 @@ faults_among all before (Item.Ruleset params) = ruleset_faults (ruleset_names_of
 faults_among all before (Item.Action params) = action_faults (action_names before) (action_name (length (actions_of before)) (action_of (kind_of_action params) params).name)
 faults_among all before (Item.Call name) = call_faults (ruleset_names_of all) name
 faults_among all before (Item.Test test) = map as_item_fault (tree_faults test)
-
--- those of the items after others: each item's own, then those among the others
-abbrev pub faults_after : List Item → List Item → List Item → List ItemFault
-faults_after all before [] = []
-faults_after all before (x ∷ later) = object_faults x ++ (faults_among all before x ++ faults_after all (before ++ x ∷ []) later)
 
 -- the same in the text, where each has its place
 abbrev pub faults_in_text : List Item → List Item → List Placed → List PlanFault

@@ -9,7 +9,8 @@ use Rattle.sy_rules.specs.declared.lists.statement.Statement.{Statement}
 use Rattle.sy_rules.specs.declared.lists.statement.Statement.TheVariants as statement
 use Rattle.sy_rules.specs.lists.Lines.{is_queued_ruleset}
 use Rattle.sy_rules.specs.parts.Plans.{names_of, place_of}
-use Rattle.sy_rules.specs.lists.Texts.{Text, Front, Part, front_of_block, actions, tests}
+use Rattle.sy_rules.specs.lists.Texts.{Text, Front, Part, actions, tests}
+use Rattle.sy_rules.specs.internal.Texts.{front_of_block}
 
 -- ---- single statements
 

@@ -1,5 +1,5 @@
 -- What is wrong with the objects of a script by themselves, in the order of the text.
-use Rattle.std.specs.Prelude.{◌≡◌, List, [], ◌∷◌}
+use Rattle.std.specs.Prelude.{List, []}
 use Rattle.sy_script.specs.declared.tree.ObjectKind.{ObjectKind}
 use Rattle.sy_script.specs.declared.tree.ObjectKind.TheVariants as object
 use Rattle.sy_rules.specs.declared.items.fault.ItemFault.{ItemFault}
@@ -22,8 +22,3 @@ object_faults (Item.Ruleset ps) = faults kind.Ruleset ps
 object_faults (Item.Action ps) = faults (kind_of_action ps) ps
 object_faults (Item.Call name) = []
 object_faults (Item.Test test) = []
-
--- nothing is wrong with any object by itself
-abbrev pub AreClean : List Item → Type 0
-AreClean [] = Unit {0}
-AreClean (x ∷ items) = (object_faults x ≡ []) × AreClean items

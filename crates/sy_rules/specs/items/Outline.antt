@@ -5,7 +5,7 @@ use Rattle.sy_script.specs.declared.tree.ObjectKind.{ObjectKind}
 use Rattle.sy_script.specs.declared.tree.ExprTree.{ExprTree}
 use Rattle.sy_script.specs.declared.tree.Block.{Block}
 use Rattle.sy_script.specs.declared.tree.Block.TheOpen.{Block-F, Stmt-F}
-use Rattle.sy_script.specs.declared.tree.Block.TheFolds.{fold-Block, fold-Stmt}
+use Rattle.sy_script.specs.declared.tree.Block.TheFolds.{fold-Stmt}
 use Rattle.sy_script.specs.declared.tree.Stmt.{Stmt}
 use Rattle.sy_script.specs.declared.tree.Top.{Top}
 use Rattle.sy_script.specs.declared.tree.Top.TheVariants as t
@@ -48,9 +48,6 @@ stmt_step (Stmt-F.Call name) = placed name.span (Item.Call name.text) ∷ []
 stmt_step (Stmt-F.Stop span) = []
 stmt_step (Stmt-F.If test done None) = placed nowhere (Item.Test test) ∷ done
 stmt_step (Stmt-F.If test done (Some otherwise)) = placed nowhere (Item.Test test) ∷ (done ++ otherwise)
-
-abbrev pub placed_in_block : Block → List Placed
-placed_in_block = fold-Block (List Placed) (List Placed) block_step stmt_step
 
 abbrev pub placed_in_stmt : Stmt → List Placed
 placed_in_stmt = fold-Stmt (List Placed) (List Placed) block_step stmt_step

@@ -9,7 +9,7 @@ use Rattle.sy_rules.specs.Limits.{CALL_DEPTH}
 use Rattle.sy_rules.specs.parts.Plans.{names_of, place_of}
 use Rattle.sy_rules.specs.lists.Body.{Body, ◌⧺◌}
 use Rattle.sy_rules.specs.lists.Texts as text
-use Rattle.sy_rules.specs.lists.Texts.{Text, Part, parts}
+use Rattle.sy_rules.specs.lists.Texts.{Text, Part}
 
 -- The statements of one list.
 pub data Lines : Type 0 where
@@ -89,12 +89,6 @@ lines file a t (Text.If test done otherwise rest) =
     (lines file a (t + 1) done)
     (lines file (a + length (text.actions done)) (t + 1 + length (text.tests done)) otherwise)
     (lines file (a + length (text.actions done) + length (text.actions otherwise)) (t + 1 + length (text.tests done) + length (text.tests otherwise)) rest)
-
--- ---- the lists of a file
-
-abbrev pub text_of : Part → Text
-text_of (Part.Inside t) = t
-text_of (Part.Outside t) = t
 
 -- the statements outside every ruleset, where so many actions and tests stand before
 abbrev pub outside : File → ℕ → ℕ → List Part → Lines

@@ -4,7 +4,7 @@ use Rattle.sy_script.specs.declared.tree.Param.{Param}
 use Rattle.sy_script.specs.declared.tree.ExprTree.{ExprTree}
 use Rattle.sy_script.specs.declared.tree.Block.{Block}
 use Rattle.sy_script.specs.declared.tree.Block.TheOpen.{Block-F, Stmt-F}
-use Rattle.sy_script.specs.declared.tree.Block.TheFolds.{fold-Block, fold-Stmt}
+use Rattle.sy_script.specs.declared.tree.Block.TheFolds.{fold-Stmt}
 use Rattle.sy_script.specs.declared.tree.Stmt.{Stmt}
 use Rattle.sy_script.specs.declared.tree.Top.{Top}
 use Rattle.sy_script.specs.declared.tree.Top.TheVariants as top
@@ -37,9 +37,6 @@ stmt_step (Stmt-F.Call name) rest = Text.Call name.text rest
 stmt_step (Stmt-F.Stop span) rest = Text.Stop rest
 stmt_step (Stmt-F.If test done None) rest = Text.If test (done Text.End) Text.End rest
 stmt_step (Stmt-F.If test done (Some otherwise)) rest = Text.If test (done Text.End) (otherwise Text.End) rest
-
-abbrev pub front_of_block : Block → Front
-front_of_block = fold-Block Front Front block_step stmt_step
 
 abbrev pub front_of_stmt : Stmt → Front
 front_of_stmt = fold-Stmt Front Front block_step stmt_step

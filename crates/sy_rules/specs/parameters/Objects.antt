@@ -1,5 +1,5 @@
 -- What an object says: the values of its parameters, as given or by their defaults.
-use Rattle.std.specs.Prelude.{ℕ, ◌*◌, ◌/◌, ◌≤◌, Bool, true, false, ◌||◌, if◌then◌else◌, List, [], Option, Some, None, unwrap_or, option_and_then, codes}
+use Rattle.std.specs.Prelude.{ℕ, ◌*◌, ◌/◌, ◌≤◌, Bool, false, ◌||◌, if◌then◌else◌, List, [], Option, Some, None, unwrap_or, option_and_then, codes}
 use Rattle.std.specs.Str.{bytes_eq}
 use Rattle.sy_script.specs.declared.tree.Param.{Param}
 use Rattle.sy_rules.specs.declared.parameters.kind.Kind.{Kind}
@@ -51,17 +51,6 @@ abbrev pub is_word : List ℕ → Option (List ℕ) → Bool
 is_word word None = false
 is_word word (Some found) = bytes_eq found word
 
--- ---- queues
-
--- the kinds of objects that may have a queue
-abbrev pub takes_queue : Kind → Bool
-takes_queue kind.MainQueue = true
-takes_queue kind.Ruleset = true
-takes_queue kind.Action = true
-takes_queue kind.Archive = true
-takes_queue kind.Forward = true
-takes_queue _ = false
-
 -- A queue is there where its type is one of a queue in memory: always of the main queue, else where queue.type says so.
 unfoldable pub has_queue : Kind → List Param → Bool
 has_queue k ps = is_word (codes "FixedArray") (word_of k ps (codes "queue.type")) || is_word (codes "LinkedList") (word_of k ps (codes "queue.type"))
@@ -100,10 +89,6 @@ pub record AreInRange (q : QueueParameters) : Type 0 where
 abbrev pub queue_of : Kind → List Param → Option QueueParameters
 queue_of k ps = if has_queue k ps then Some (queue_parameters k ps) else None
 
-abbrev pub IsQueueInRange : Option QueueParameters → Type 0
-IsQueueInRange None = Unit {0}
-IsQueueInRange (Some q) = AreInRange q
-
 -- ---- inputs
 
 abbrev pub flow_named : Option (List ℕ) → FlowControl
@@ -129,12 +114,6 @@ ruleset_of ps = record { name = text (given (codes "name") ps); queue = queue_of
 
 abbrev pub kind_named : Option (List ℕ) → Kind
 kind_named word = if is_word (codes "omfile") word then kind.Archive else if is_word (codes "omfwd") word then kind.Forward else kind.Action
-
-abbrev pub is_action : Kind → Bool
-is_action kind.Action = true
-is_action kind.Archive = true
-is_action kind.Forward = true
-is_action _ = false
 
 -- The kind of an action is that of the module which its type names.
 unfoldable pub kind_of_action : List Param → Kind

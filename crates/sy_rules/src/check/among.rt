@@ -4,7 +4,8 @@ ghost use Rattle.std.specs.Prelude.{◌≡◌, ◌++◌, ◌∷◌, [], map, len
 ghost use Rattle.std.specs.Fmt.{decimal};
 ghost use Rattle.std.specs.Option.{option_copied};
 ghost use Rattle.std.specs.Str.{bytes_eq};
-ghost use Rattle.sy_rules.specs.Faults.{IsFound, fault, when};
+ghost use Rattle.sy_rules.specs.Faults.{fault, when};
+ghost use Rattle.sy_rules.specs.internal.Checking.{IsFound};
 ghost use Rattle.sy_rules.specs.parameters.Objects.{input_of};
 ghost use Rattle.sy_rules.specs.parameters.Values.{faults};
 ghost use Rattle.sy_rules.specs.check.ScriptFaults as spec;

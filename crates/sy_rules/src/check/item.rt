@@ -1,7 +1,7 @@
 //! What is wrong with the items of a script by themselves.
 
 ghost use Rattle.std.specs.Prelude.{◌≡◌, [], OnOk, IfErr};
-ghost use Rattle.sy_rules.specs.Faults.{IsFound};
+ghost use Rattle.sy_rules.specs.internal.Checking.{IsFound};
 ghost use Rattle.sy_rules.specs.items.ItemFaults as spec;
 ghost use Rattle.sy_rules.specs.internal.ItemViews.{item};
 

@@ -1,11 +1,12 @@
 //! Single values of objects with which nothing is wrong, as they lie in the script.
 
 ghost use Rattle.std.specs.Prelude.{◌≡◌, ◌≤◌, [], codes, filter_map, map, true};
-ghost use Rattle.sy_rules.specs.items.ItemFaults.{AreClean};
+ghost use Rattle.sy_rules.specs.internal.Checking.{AreClean};
 ghost use Rattle.sy_rules.specs.internal.ItemViews.{item};
 ghost use Rattle.sy_rules.specs.parts.Plans as plans;
 ghost use Rattle.std.specs.Option.{option_copied};
 ghost use Rattle.sy_rules.specs.parameters.Objects as spec;
+ghost use Rattle.sy_rules.specs.internal.Objects as inside;
 ghost use Rattle.sy_rules.specs.parameters.Values as parameters;
 ghost use Rattle.sy_rules.specs.internal.Seen.{workers_in};
 
@@ -60,7 +61,7 @@ pub fn given_name(params: &[Param]) -> Option<&[u8]>
 
 /// How many workers the queue of an object has; none without a queue.
 pub fn workers_of(kind: Kind, params: &[Param]) -> u32
-    requires takes { spec.takes_queue kind ≡ true }
+    requires takes { inside.takes_queue kind ≡ true }
     requires clean { parameters.faults kind params.now ≡ [] }
     ensures value { result ≡ workers_in (spec.queue_of kind params.now) }
     ensures most { result ≤ 64 }

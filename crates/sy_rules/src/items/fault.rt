@@ -2,6 +2,7 @@
 
 ghost use Rattle.std.specs.Prelude.{◌≡◌, [], ◌∷◌};
 ghost use Rattle.sy_rules.specs.Faults as spec;
+ghost use Rattle.sy_rules.specs.internal.Checking as inside;
 
 use crate::fault::{FaultCode, NOWHERE, PlanFault};
 use std::alloc::Global;
@@ -19,7 +20,7 @@ pub struct ItemFault {
 impl ItemFault {
     /// The fault where memory runs out, which has no place in the text.
     pub fn no_memory(alloc: Global) -> ItemFault
-        ensures { result ≡ spec.memory_fault }
+        ensures { result ≡ inside.memory_fault }
     {
         ItemFault {
             code: FaultCode::NoMemory,
@@ -30,7 +31,7 @@ impl ItemFault {
 
     /// A fault with a copy of its word, or the one of memory where the copy finds none.
     pub fn new(alloc: Global, code: FaultCode, word: &[u8], place: Option<Span>) -> ItemFault
-        ensures { spec.IsFound (record { code = code; word = word.now; place = place } ∷ []) result }
+        ensures { inside.IsFound (record { code = code; word = word.now; place = place } ∷ []) result }
     {
         match Items::from_slice(alloc, word) {
             Ok(word) => ItemFault { code, word, place },

@@ -4,6 +4,7 @@ ghost use Rattle.std.specs.Prelude.{◌≡◌, ◌++◌, ◌∷◌, [], map, IfO
 ghost use Rattle.sy_rules.specs.internal.ItemViews as view;
 ghost use Rattle.sy_rules.specs.internal.ItemViews.{item, placed};
 ghost use Rattle.sy_rules.specs.items.Outline as spec;
+ghost use Rattle.sy_rules.specs.internal.Texts as inside;
 
 use crate::fault::NOWHERE;
 use std::alloc::{AllocError, Global};
@@ -67,7 +68,7 @@ fn put_stmt<'s>(found: &mut Vec<Item<'s>>, stmt: &'s Stmt) -> Result<(), AllocEr
 
 #[cycle(items)]
 fn put_block<'s>(found: &mut Vec<Item<'s>>, block: &'s Block) -> Result<(), AllocError>
-    ensures { OnOk result (map placed found.new.items ≡ map placed found.old.items ++ spec.placed_in_block block.now) }
+    ensures { OnOk result (map placed found.new.items ≡ map placed found.old.items ++ inside.placed_in_block block.now) }
 {
     match block {
         Block::Single(stmt) => put_stmt(found, stmt.get()),

@@ -2,6 +2,7 @@
 
 ghost use Rattle.std.specs.Prelude.{◌≡◌, ◌++◌, map, IfErr, OnOk, []};
 ghost use Rattle.sy_rules.specs.Faults as fault;
+ghost use Rattle.sy_rules.specs.internal.Checking as inside;
 ghost use Rattle.sy_rules.specs.parameters.Values as spec;
 ghost use Rattle.sy_rules.specs.parameters.Rows as table;
 ghost use Rattle.sy_rules.specs.internal.Views as view;
@@ -114,7 +115,7 @@ fn first_flaw<'p>(kind: Kind, params: &'p [Param]) -> Option<Flaw<'p>>
 /// Refuses an object for the first fault of its parameters.
 pub fn check(alloc: Global, kind: Kind, params: &[Param]) -> Result<(), ItemFault>
     ensures ok { OnOk result (spec.faults kind params.now ≡ []) }
-    ensures err { IfErr result (λ f. fault.IsFound (spec.faults kind params.now) f) }
+    ensures err { IfErr result (λ f. inside.IsFound (spec.faults kind params.now) f) }
 {
     match first_flaw(kind, params) {
         None => Ok(()),

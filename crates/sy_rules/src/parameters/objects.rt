@@ -4,6 +4,7 @@ ghost use Rattle.std.specs.Prelude.{◌≡◌, ◌≤◌, [], IfOk, IfErr, true}
 ghost use Rattle.std.specs.Option.{option_copied};
 ghost use Rattle.sy_rules.specs.Faults as fault;
 ghost use Rattle.sy_rules.specs.parameters.Objects as spec;
+ghost use Rattle.sy_rules.specs.internal.Objects as inside;
 ghost use Rattle.sy_rules.specs.parameters.Values.{faults, given};
 
 use crate::fault::PlanFault;
@@ -117,10 +118,10 @@ pub fn read_input(alloc: Global, params: &[Param]) -> Result<InputParameters, Pl
 
 /// The queue of a ruleset or an action with which nothing is wrong, where it has one.
 pub fn queue_of(kind: Kind, params: &[Param]) -> Option<QueueParameters>
-    requires takes { spec.takes_queue kind ≡ true }
+    requires takes { inside.takes_queue kind ≡ true }
     requires clean { faults kind params.now ≡ [] }
     ensures value { result ≡ spec.queue_of kind params.now }
-    ensures in_range { spec.IsQueueInRange result }
+    ensures in_range { inside.IsQueueInRange result }
 {
     if has_queue(kind, params) {
         Some(queue_parameters(kind, params))
@@ -134,7 +135,7 @@ pub fn queue_of(kind: Kind, params: &[Param]) -> Option<QueueParameters>
 pub fn read_ruleset(alloc: Global, params: &[Param]) -> Result<RulesetParameters, PlanFault>
     requires { faults Kind.Ruleset params.now ≡ [] }
     ensures value { IfOk result (λ r. r ≡ spec.ruleset_of params.now) }
-    ensures in_range { IfOk result (λ r. spec.IsQueueInRange r.queue) }
+    ensures in_range { IfOk result (λ r. inside.IsQueueInRange r.queue) }
     ensures err { IfErr result (λ f. f ≡ fault.no_memory) }
 {
     let queue = queue_of(Kind::Ruleset, params);
@@ -143,7 +144,7 @@ pub fn read_ruleset(alloc: Global, params: &[Param]) -> Result<RulesetParameters
 }
 
 fn retry_of(kind: Kind, params: &[Param]) -> Option<u32>
-    requires action { spec.is_action kind ≡ true }
+    requires action { inside.is_action kind ≡ true }
     requires clean { faults kind params.now ≡ [] }
     ensures { result ≡ spec.retry_of kind params.now }
 {
@@ -182,11 +183,11 @@ fn read_action_of(
     kind: Kind,
     params: &[Param],
 ) -> Result<ActionParameters, PlanFault>
-    requires action { spec.is_action kind ≡ true }
+    requires action { inside.is_action kind ≡ true }
     requires clean { faults kind params.now ≡ [] }
     ensures value { IfOk result (λ a. a ≡ spec.action_of kind params.now) }
     ensures port { IfOk result (λ a. spec.HasPort a.destination) }
-    ensures in_range { IfOk result (λ a. spec.IsQueueInRange a.queue) }
+    ensures in_range { IfOk result (λ a. inside.IsQueueInRange a.queue) }
     ensures err { IfErr result (λ f. f ≡ fault.no_memory) }
 {
     let queue = queue_of(kind, params);
@@ -207,7 +208,7 @@ fn read_action_of(
 #[tactic(auto, unfolding(crate::specs::parameters::Objects::kind_of_action))]
 pub fn kind_of_action(params: &[Param]) -> Kind
     ensures value { result ≡ spec.kind_of_action params.now }
-    ensures action { spec.is_action result ≡ true }
+    ensures action { inside.is_action result ≡ true }
 {
     let word = given(b"type", params);
     if is_word(b"omfile", word) {
@@ -224,7 +225,7 @@ pub fn read_action(alloc: Global, params: &[Param]) -> Result<ActionParameters, 
     requires { faults (spec.kind_of_action params.now) params.now ≡ [] }
     ensures value { IfOk result (λ a. a ≡ spec.action_of (spec.kind_of_action params.now) params.now) }
     ensures port { IfOk result (λ a. spec.HasPort a.destination) }
-    ensures in_range { IfOk result (λ a. spec.IsQueueInRange a.queue) }
+    ensures in_range { IfOk result (λ a. inside.IsQueueInRange a.queue) }
     ensures err { IfErr result (λ f. f ≡ fault.no_memory) }
 {
     let kind = kind_of_action(params);

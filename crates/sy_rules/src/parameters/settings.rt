@@ -3,6 +3,7 @@
 ghost use Rattle.std.specs.Prelude.{◌≡◌, ◌≤◌, [], true, IfOk, IfErr, OnOk, option_and_then, unwrap_or};
 ghost use Rattle.std.specs.Option.{option_copied};
 ghost use Rattle.sy_rules.specs.parameters.Objects as spec;
+ghost use Rattle.sy_rules.specs.internal.Objects as inside;
 ghost use Rattle.sy_rules.specs.parameters.Values.{faults};
 ghost use Rattle.sy_rules.specs.internal.Views as view;
 
@@ -123,7 +124,7 @@ pub fn has_queue(kind: Kind, params: &[Param]) -> bool
 /// The queue's parameters of an object with which nothing is wrong.
 #[tactic(auto, unfolding(crate::specs::parameters::Objects::queue_parameters))]
 pub fn queue_parameters(kind: Kind, params: &[Param]) -> QueueParameters
-    requires takes { spec.takes_queue kind ≡ true }
+    requires takes { inside.takes_queue kind ≡ true }
     requires clean { faults kind params.now ≡ [] }
     ensures value { result ≡ spec.queue_parameters kind params.now }
     ensures in_range { spec.AreInRange result }

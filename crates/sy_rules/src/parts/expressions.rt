@@ -2,7 +2,8 @@
 ghost use Rattle.std.specs.Prelude.{◌≡◌, [], map, IfOk, OnOk, IfErr};
 ghost use Rattle.sy_select.specs.Faults.{IsRefusal};
 ghost use Rattle.sy_select.specs.Trees.{IsExpr, tree_faults};
-ghost use Rattle.sy_rules.specs.items.Expressions.{faults_of_trees, trees_of};
+ghost use Rattle.sy_rules.specs.items.Expressions.{trees_of};
+ghost use Rattle.sy_rules.specs.internal.Checking.{faults_of_trees};
 ghost use Rattle.sy_rules.specs.internal.ItemViews.{item};
 ghost use Rattle.sy_rules.specs.PlanValue.{AreExprs};
 

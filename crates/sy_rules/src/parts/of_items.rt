@@ -4,9 +4,11 @@
 
 ghost use Rattle.std.specs.Prelude.{◌≡◌, ◌≤◌, ◌<◌, ◌+◌, ◌++◌, ◌∷◌, [], filter_map, is_some, length, map, replicate, slice_get, IfOk, IfErr, OnOk, List};
 ghost use Rattle.sy_rules.specs.Faults.{no_memory};
-ghost use Rattle.sy_rules.specs.items.ItemFaults.{AreClean, object_faults};
+ghost use Rattle.sy_rules.specs.items.ItemFaults.{object_faults};
+ghost use Rattle.sy_rules.specs.internal.Checking.{AreClean};
 ghost use Rattle.sy_rules.specs.internal.ItemViews.{item};
-ghost use Rattle.sy_rules.specs.parameters.Objects.{AreInRange, IsQueueInRange};
+ghost use Rattle.sy_rules.specs.parameters.Objects.{AreInRange};
+ghost use Rattle.sy_rules.specs.internal.Objects.{IsQueueInRange};
 ghost use Rattle.sy_rules.specs.items.Outline as outline;
 ghost use Rattle.sy_rules.specs.parameters.Values.{faults};
 ghost use Rattle.sy_rules.specs.parts.Plans as plans;

@@ -11,7 +11,7 @@ ghost use Rattle.sy_rules.specs.internal.TableSizes.{head};
 ghost use Rattle.sy_rules.specs.items.Outline.{items, placed_items};
 ghost use Rattle.sy_rules.specs.PlanValue.{AreExprs, lines_of, listed_from, test_of_item};
 ghost use Rattle.sy_rules.specs.check.ScriptFaults as spec;
-ghost use Rattle.sy_rules.specs.check.ScriptFaults.{faults_after};
+ghost use Rattle.sy_rules.specs.internal.Checking.{faults_after};
 ghost use Rattle.sy_rules.specs.lists.Body as body;
 ghost use Rattle.sy_rules.specs.internal.Tables.{lines_of_tables};
 

@@ -1,7 +1,7 @@
 -- What a connection holds after a batch, and after a turn.
 use Rattle.std.specs.Prelude.{◌≡◌, ℕ, Bool, List, [], Option, None, Some, Result, Ok, Err, false, ⊤}
-use Rattle.sy_chain.specs.Entries.{Entry}
 use Rattle.sy_wire.specs.Frames.{Held, IsOpen}
+use Rattle.sy_chain.specs.Entries.{Entry}
 use Rattle.sy_runtime.specs.Connections.{Begins, Connects, Counts}
 use Rattle.sy_runtime.specs.internal.Gathering.{IsAtFront}
 use Rattle.sy_runtime.specs.internal.Halting.{halted_at}
@@ -60,3 +60,7 @@ abbrev pub TurnIs :
     Option (Result Finish RunFault) → Option (List ℕ) → Option (List ℕ) → ℕ → ℕ → Counts → Held → Bool → List (Option Entry) → Type 0
 TurnIs None ahead ahead' failed failed' end held is_over batch = Turns ahead ahead' failed failed' end held is_over batch
 TurnIs (Some answer) ahead ahead' failed failed' end held is_over batch = Connects answer end ahead ahead' failed failed'
+
+-- what it counted before the first frame
+abbrev pub nothing_counted : Counts
+nothing_counted = record { frames = 0; unread = 0; took = 0 }

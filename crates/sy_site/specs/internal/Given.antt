@@ -2,13 +2,8 @@
 use Rattle.std.specs.Prelude.{ℕ, List}
 use Rattle.sy_site.specs.declared.texts.files.Refusal.{Refusal}
 use Rattle.sy_site.specs.declared.texts.files.Refusal.TheVariants as refusal
-use Rattle.sy_site.specs.texts.Describes.{File}
 use Rattle.sy_site.specs.texts.HasFault.{IsFileFault}
 
 abbrev pub IsRefused : List ℕ → Refusal → Type 0
 IsRefused bytes (refusal.Fault f) = IsFileFault bytes f
 IsRefused bytes refusal.NoMemory = Unit {0}
-
--- a name and bytes that are given, as a file
-abbrev pub file : List ℕ → List ℕ → File
-file name bytes = record { name = name; bytes = bytes }

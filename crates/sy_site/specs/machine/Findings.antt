@@ -4,9 +4,7 @@ use Rattle.std.specs.List.{Contains}
 use Rattle.sy_wire.specs.declared.class.Class.{Class}
 use Rattle.sy_rules.specs.declared.parameters.objects.Destination.{Destination}
 use Rattle.sy_rules.specs.declared.parameters.objects.Destination.TheVariants as destination
-use Rattle.sy_rules.specs.declared.parameters.settings.QueueParameters.{QueueParameters}
 use Rattle.sy_rules.specs.declared.parts.Action.{Action}
-use Rattle.sy_board.specs.relay.Feeders as feeders
 use Rattle.sy_board.specs.relay.Kinds as kinds
 use Rattle.sy_board.specs.relay.Spares.{Scope}
 use Rattle.sy_site.specs.Sites.{Site, SiteInput, SiteAction, archives, is_protected, plan_at, spares_at, target}
@@ -28,16 +26,6 @@ kind_number Kind.NoTarget = 7
 kind_number Kind.Loop = 8
 kind_number (Kind.Unmet archive) = 9
 kind_number Kind.InnerLoop = 10
-
--- ---- kinds 1 to 7, and 10: what may be wrong at one input
-
--- the parameters of the input's queue
-abbrev pub queue_of : Site → SiteInput → QueueParameters
-queue_of site input = kinds.queue_of (plan_at site input.relay) input.input
-
--- some feeder of the queue, of any class, isn't a full-delay feeder
-abbrev pub IsFedFreely : Site → ℕ → ℕ → Type 0
-IsFedFreely site relay queue = feeders.IsFedFreely (plan_at site relay) queue
 
 -- the condition of a kind that is one of the relay's plan and spare actions alone
 abbrev pub HoldsInPlan : Site → Class → SiteInput → kinds.Kind → Type 0

@@ -2,12 +2,12 @@
 use Rattle.std.specs.Prelude.{◌≡◌, ℕ, Bool, true, false, ◌&&◌, ◌<◌, ◌≤◌, List, [], ◌∷◌, ◌++◌, length, Contains, Option, Some, None, option_and_then, option_map, if◌then◌else◌, codes}
 use Rattle.std.specs.List.{position}
 use Rattle.std.specs.Str.{bytes_eq}
+use Rattle.sy_wire.specs.declared.class.Class.{Class}
 use Rattle.sy_script.specs.declared.tree.Script.{Script}
 use Rattle.sy_script.specs.Grammar.{IsScript}
 use Rattle.sy_rules.specs.declared.parameters.objects.Destination.{Destination}
 use Rattle.sy_rules.specs.declared.parameters.objects.Destination.TheVariants as destination
 use Rattle.sy_rules.specs.PlanValue.{IsPlan}
-use Rattle.sy_wire.specs.declared.class.Class.{Class}
 use Rattle.sy_site.specs.Sites.{Site, Relay, SiteInput, SiteAction, Protection, input_at_port, is_protected, plan_at, relay_named}
 use Rattle.sy_site.specs.texts.Lines.{is_skipped, word_lines}
 use Rattle.sy_site.specs.texts.Shapes.{Line, RelayLine, EntryLine, ProtectLine, SpareLine, IsLine, policy_line}
@@ -188,3 +188,7 @@ pub record Describes (text : List ℕ) (files : List File) (site : Site) : Type 
 -- some text and some files describe the site
 abbrev pub IsDescribed : Site → Type 0
 IsDescribed site = (text : List ℕ) × (files : List File) × Describes text files site
+
+-- a name and bytes that are given, as a file
+abbrev pub file : List ℕ → List ℕ → File
+file name bytes = record { name = name; bytes = bytes }

@@ -1,9 +1,8 @@
 //! The site that texts describe.
 
 ghost use Rattle.std.specs.Prelude.{◌≡◌, ◌⊎◌, map, IfOk, IfErr};
-ghost use Rattle.sy_site.specs.internal.Given.{file};
+ghost use Rattle.sy_site.specs.texts.Describes.{file, Describes};
 ghost use Rattle.sy_site.specs.Sites as spec;
-ghost use Rattle.sy_site.specs.texts.Describes.{Describes};
 ghost use Rattle.sy_site.specs.texts.HasFault.{HasFault};
 
 use super::Site;

@@ -8,8 +8,8 @@ ghost use Rattle.sy_script.specs.Faults.{Stands};
 ghost use Rattle.sy_rules.specs.check.FaultsThere.{HasFault};
 ghost use Rattle.sy_rules.specs.Faults.{no_memory};
 ghost use Rattle.sy_rules.specs.PlanValue.{IsPlan};
-ghost use Rattle.sy_site.specs.internal.Given.{IsRefused, file};
-ghost use Rattle.sy_site.specs.texts.Describes.{file_named};
+ghost use Rattle.sy_site.specs.internal.Given.{IsRefused};
+ghost use Rattle.sy_site.specs.texts.Describes.{file, file_named};
 
 use crate::fault::RelayFault;
 use std::alloc::Global;

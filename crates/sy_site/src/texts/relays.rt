@@ -2,11 +2,11 @@
 
 ghost use Rattle.std.specs.Prelude.{◌≡◌, ◌⊎◌, ◌∷◌, ◌++◌, [], All, List, ℕ, Some, map, IfOk, IfErr, OnOk};
 ghost use Rattle.std.specs.Arc.{arc_value};
-ghost use Rattle.sy_site.specs.internal.Given.{IsRefused, file};
+ghost use Rattle.sy_site.specs.internal.Given.{IsRefused};
+ghost use Rattle.sy_site.specs.texts.Describes.{file, File, file_named, relay_lines};
 ghost use Rattle.sy_site.specs.internal.Lines.{relay_line_of};
 ghost use Rattle.sy_site.specs.internal.Reading.{IsFound, line_given};
 ghost use Rattle.sy_site.specs.internal.Relays.{HasMore, IsRefusedRelay, IsWholeRelay};
-ghost use Rattle.sy_site.specs.texts.Describes.{File, file_named, relay_lines};
 ghost use Rattle.sy_site.specs.texts.HasFault.{HasFault};
 
 use crate::fault::SiteFault;

@@ -2,7 +2,7 @@ use Rattle.std.proofs.Common.{◌≡◌, ◌++◌, length, map}
 use Rattle.std.specs.Fmt.{decimal}
 use Rattle.std.specs.Option.{option_copied}
 use Rattle.sy_cert.specs.Rows.{AreOccurrences}
-use Rattle.sy_cert.specs.Reading.{words_left}
+use Rattle.sy_cert.specs.internal.Reading.{words_left}
 use Rattle.sy_cert.proofs.reading.occurrences.Given as goal
 
 -- what was read, and what is left to read

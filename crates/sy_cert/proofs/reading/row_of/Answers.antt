@@ -1,6 +1,6 @@
 use Rattle.std.proofs.Common.{sym, subst}
 use Rattle.std.specs.Prelude.{IfErr, codes}
-use Rattle.sy_cert.specs.Reading.{IsUnread}
+use Rattle.sy_cert.specs.internal.Reading.{IsUnread}
 use Rattle.sy_cert.proofs.RowLines.{begins}
 use Rattle.sy_cert.proofs.reading.row_of.Goals as goal
 

@@ -1,7 +1,7 @@
 use Rattle.std.proofs.Common.{subst}
 use Rattle.sy_cert.specs.Faults.{words_in}
 use Rattle.sy_cert.specs.Rows.{last_kind}
-use Rattle.sy_cert.specs.Reading.{IsUnread}
+use Rattle.sy_cert.specs.internal.Reading.{IsUnread}
 use Rattle.sy_cert.proofs.RowLines.{not_taken}
 use Rattle.sy_cert.proofs.reading.take_line.Goals as goal
 

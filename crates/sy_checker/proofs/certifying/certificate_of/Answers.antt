@@ -1,7 +1,7 @@
 use Rattle.std.proofs.Common.{◌∷◌, ◌++◌, [], ap, append-nil, append_assoc, subst, sym, ◌∙◌}
 use Rattle.sy_cert.specs.declared.kinds.Kind.TheVariants as kinds
 use Rattle.sy_cert.specs.Rows.{IsRow, last_kind}
-use Rattle.sy_checker.specs.Certifying.{AreShaped}
+use Rattle.sy_checker.specs.internal.Certifying.{AreShaped}
 use Rattle.sy_site.proofs.lemmas.sites.More.{nothing}
 use Rattle.sy_checker.proofs.Shaped.{last_more}
 use Rattle.sy_checker.proofs.certifying.certificate_of.Goals as goal

@@ -1,6 +1,6 @@
 use Rattle.std.proofs.Common.{◌≡◌, ◌++◌}
 use Rattle.sy_cert.specs.Rows.{last_kind}
-use Rattle.sy_checker.specs.Certifying.{AreShaped}
+use Rattle.sy_checker.specs.internal.Certifying.{AreShaped}
 use Rattle.sy_checker.proofs.certifying.certificate_of.Given as goal
 
 abbrev pub invariant-loop-row : goal.invariant-loop-row

@@ -1,8 +1,8 @@
 use Rattle.std.proofs.Common.{subst, sym}
 use Rattle.sy_site.specs.machine.Soundness.{AreRanks}
 use Rattle.sy_checker.specs.Fit.{AreWanted}
-use Rattle.sy_checker.specs.Inner.{AreNumbers, number_at}
-use Rattle.sy_checker.specs.Loops.{rank_at}
+use Rattle.sy_checker.specs.internal.Inner.{AreNumbers, number_at}
+use Rattle.sy_checker.specs.internal.Loops.{rank_at}
 use Rattle.sy_checker.proofs.certifying.rows_of_class.Goals as goal
 
 pub rows_for-requires-clause-wanted : goal.rows_for-requires-clause-wanted

@@ -2,7 +2,7 @@ use Rattle.std.proofs.Common.{◌∷◌, ◌++◌, [], subst, sym, take}
 use Rattle.std.specs.Prelude.{Contains}
 use Rattle.std.proofs.lemmas.List.{take_all}
 use Rattle.std.proofs.lemmas.List.Elements.{Contains-get_or}
-use Rattle.sy_checker.specs.Course.{AreCourses}
+use Rattle.sy_checker.specs.internal.Course.{AreCourses}
 use Rattle.sy_checker.specs.Fit.{AreFit}
 use Rattle.sy_checker.proofs.Alike.{no_courses}
 use Rattle.sy_checker.proofs.Guarded.{take_next}

@@ -1,5 +1,5 @@
 use Rattle.std.proofs.Common.{take}
-use Rattle.sy_checker.specs.Course.{AreCourses}
+use Rattle.sy_checker.specs.internal.Course.{AreCourses}
 use Rattle.sy_checker.specs.Fit.{AreFit}
 use Rattle.sy_checker.proofs.certifying.rows_of_classes.Given as goal
 

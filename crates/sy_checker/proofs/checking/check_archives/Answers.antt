@@ -1,5 +1,5 @@
 use Rattle.std.proofs.Common.{◌∙◌, subst, sym}
-use Rattle.sy_checker.specs.Met.{AreMet}
+use Rattle.sy_checker.specs.internal.Met.{AreMet}
 use Rattle.sy_checker.proofs.Shared.{more_met, sound_by}
 use Rattle.sy_checker.proofs.checking.check_archives.Goals as goal
 

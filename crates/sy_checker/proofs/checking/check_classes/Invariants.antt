@@ -1,8 +1,7 @@
 use Rattle.std.proofs.Common.{take}
-use Rattle.sy_checker.specs.Acceptance.{AreReached}
-use Rattle.sy_checker.specs.Checking.{AreSound}
-use Rattle.sy_checker.specs.Course.{AreCourses}
-use Rattle.sy_checker.specs.Met.{AreMet}
+use Rattle.sy_checker.specs.internal.Checking.{AreReached, AreSound}
+use Rattle.sy_checker.specs.internal.Course.{AreCourses}
+use Rattle.sy_checker.specs.internal.Met.{AreMet}
 use Rattle.sy_checker.proofs.checking.check_classes.Given as goal
 
 abbrev pub invariant-loop-class : goal.invariant-loop-class

@@ -1,5 +1,5 @@
 use Rattle.std.proofs.Common.{subst}
-use Rattle.sy_checker.specs.Verifying.{IsJudged}
+use Rattle.sy_checker.specs.internal.Verifying.{IsJudged}
 use Rattle.sy_checker.proofs.FitIsSound.{sound_for}
 use Rattle.sy_checker.proofs.MadeRight.{never_wrong}
 use Rattle.sy_checker.proofs.checking.judge_made.Goals as goal

@@ -1,5 +1,5 @@
 use Rattle.std.proofs.Common.{◌∷◌, ◌++◌, [], ap, subst, sym, ◌∙◌, map}
-use Rattle.sy_checker.specs.Acceptance.{AreReached}
+use Rattle.sy_checker.specs.internal.Checking.{AreReached}
 use Rattle.sy_checker.proofs.Guarded.{reached_more}
 use Rattle.sy_checker.proofs.checking.put_reached.Goals as goal
 

@@ -1,5 +1,5 @@
 use Rattle.std.proofs.Common.{subst, sym}
-use Rattle.sy_checker.specs.Internal.{AreProtectedBelow}
+use Rattle.sy_checker.specs.internal.Found.{AreProtectedBelow}
 use Rattle.sy_checker.proofs.Numbered.{classes_all, classes_first}
 use Rattle.sy_checker.proofs.classes.protected_classes.Goals as goal
 

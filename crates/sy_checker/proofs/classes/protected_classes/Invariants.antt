@@ -1,4 +1,4 @@
-use Rattle.sy_checker.specs.Internal.{AreProtectedBelow}
+use Rattle.sy_checker.specs.internal.Found.{AreProtectedBelow}
 use Rattle.sy_checker.proofs.classes.protected_classes.Given as goal
 
 abbrev pub invariant-loop-number : goal.invariant-loop-number

@@ -1,5 +1,5 @@
 use Rattle.std.proofs.Common.{◌+◌, ◌∙◌, subst, sym}
-use Rattle.sy_checker.specs.Internal.{AreProtectedBelow}
+use Rattle.sy_checker.specs.internal.Found.{AreProtectedBelow}
 use Rattle.sy_checker.proofs.Numbered.{class_put, class_skip}
 use Rattle.sy_checker.proofs.classes.put_class.Goals as goal
 

@@ -1,6 +1,6 @@
 use Rattle.std.proofs.Common.{subst, sym}
 use Rattle.std.specs.Prelude.{IfOk}
-use Rattle.sy_checker.specs.Course.{AreKept, IsCourseAt, IsSameAt}
+use Rattle.sy_checker.specs.internal.Course.{AreKept, IsCourseAt, IsSameAt}
 use Rattle.sy_checker.proofs.Alike.{same_course_at}
 use Rattle.sy_checker.proofs.Shared.{on_any}
 use Rattle.sy_checker.proofs.course.course_for.Goals as goal

@@ -1,5 +1,5 @@
 use Rattle.std.proofs.Common.{◌++◌, ◌∷◌, [], subst, sym}
-use Rattle.sy_checker.specs.Course.{AreCourses, AreKept, IsCourseAt}
+use Rattle.sy_checker.specs.internal.Course.{AreCourses, AreKept, IsCourseAt}
 use Rattle.sy_checker.proofs.Alike.{last_course, more_courses}
 use Rattle.sy_checker.proofs.Shared.{course_kept}
 use Rattle.sy_checker.proofs.course.more_course.Goals as goal

@@ -3,7 +3,7 @@ use Rattle.std.specs.Prelude.{◌↔◌, Contains}
 use Rattle.sy_board.specs.relay.Spares.{Scope}
 use Rattle.sy_site.specs.declared.site.SiteInput.{SiteInput}
 use Rattle.sy_site.specs.machine.Reach.{Reach}
-use Rattle.sy_checker.specs.Inner.{HasNoNumbers}
+use Rattle.sy_checker.specs.internal.Inner.{HasNoNumbers}
 use Rattle.sy_checker.proofs.course.numbers_for.Goals as goal
 
 pub numbers_of-requires : goal.numbers_of-requires

@@ -3,7 +3,7 @@ use Rattle.std.specs.Prelude.{slice_get}
 use Rattle.std.proofs.lemmas.Bool.{false≢true}
 use Rattle.std.proofs.lemmas.Option.{slice_get_read, slice_get_within}
 use Rattle.sy_checker.specs.declared.course.Course.{Course}
-use Rattle.sy_checker.specs.Course.{AreSame}
+use Rattle.sy_checker.specs.internal.Course.{AreSame}
 use Rattle.sy_checker.proofs.Alike.{one_value}
 use Rattle.sy_checker.proofs.Comparing.{more_below}
 use Rattle.sy_checker.proofs.course.same_at.Goals as goal

@@ -1,5 +1,5 @@
 use Rattle.std.proofs.Common.{subst}
-use Rattle.sy_checker.specs.Inner.{HasNoNumbers}
+use Rattle.sy_checker.specs.internal.Inner.{HasNoNumbers}
 use Rattle.sy_checker.proofs.course.unnumbered.Goals as goal
 
 pub finding_at-requires-clause-unclean : goal.finding_at-requires-clause-unclean

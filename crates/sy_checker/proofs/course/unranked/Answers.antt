@@ -2,7 +2,7 @@ use Rattle.std.proofs.Common.{◌≡◌, ◌∷◌, List, [], ap, refl, subst, s
 use Rattle.sy_site.specs.machine.Findings.{IsLoop}
 use Rattle.sy_checker.specs.declared.finding.WayRow.{WayRow}
 use Rattle.sy_checker.specs.Finding as finding
-use Rattle.sy_checker.specs.Loops.{HasNoRanks, way_of}
+use Rattle.sy_checker.specs.internal.Loops.{HasNoRanks, way_of}
 use Rattle.sy_checker.proofs.course.unranked.Goals as goal
 
 same_way : (rows : List WayRow) → finding.way_of rows ≡ way_of rows

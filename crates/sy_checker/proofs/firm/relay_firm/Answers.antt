@@ -1,5 +1,5 @@
 use Rattle.std.proofs.Common.{◌+◌, arith, subst, sym}
-use Rattle.sy_checker.specs.Flows.{AreEach, IsFirm}
+use Rattle.sy_checker.specs.internal.Flows.{AreEach, IsFirm}
 use Rattle.sy_checker.proofs.Flowing.{each_more}
 use Rattle.sy_checker.proofs.firm.relay_firm.Goals as goal
 

@@ -1,6 +1,6 @@
 use Rattle.std.proofs.Common.{◌≡◌, ◌≤◌, length}
 use Rattle.sy_site.specs.Sites.{plan_at}
-use Rattle.sy_checker.specs.Flows.{AreEach, IsFirm}
+use Rattle.sy_checker.specs.internal.Flows.{AreEach, IsFirm}
 use Rattle.sy_checker.proofs.firm.relay_firm.Given as goal
 
 abbrev pub invariant-loop-list : goal.invariant-loop-list

@@ -1,5 +1,5 @@
 use Rattle.std.proofs.Common.{◌+◌, arith, subst, sym}
-use Rattle.sy_checker.specs.Flows.{AreEach, AreRelayFlows}
+use Rattle.sy_checker.specs.internal.Flows.{AreEach, AreRelayFlows}
 use Rattle.sy_checker.proofs.Flowing.{each_more}
 use Rattle.sy_checker.proofs.flows.flows_of.Goals as goal
 

@@ -1,5 +1,5 @@
 use Rattle.std.proofs.Common.{◌≡◌, ◌≤◌, length}
-use Rattle.sy_checker.specs.Flows.{AreEach, AreRelayFlows}
+use Rattle.sy_checker.specs.internal.Flows.{AreEach, AreRelayFlows}
 use Rattle.sy_checker.proofs.flows.flows_of.Given as goal
 
 abbrev pub invariant-loop-relay : goal.invariant-loop-relay

@@ -1,7 +1,7 @@
 use Rattle.std.proofs.Common.{◌≡◌, ◌+◌, true, arith, subst, sym}
 use Rattle.sy_site.specs.Sites.{plan_at}
 use Rattle.sy_checker.specs.declared.flows.ListFlows.{ListFlows}
-use Rattle.sy_checker.specs.Flows.{AreEach, IsFlow, is_used}
+use Rattle.sy_checker.specs.internal.Flows.{AreEach, IsFlow, is_used}
 use Rattle.sy_checker.proofs.Flowing.{each_more}
 use Rattle.sy_checker.proofs.flows.relay_flows.Goals as goal
 

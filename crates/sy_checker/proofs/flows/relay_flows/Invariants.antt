@@ -1,6 +1,6 @@
 use Rattle.std.proofs.Common.{◌≡◌, ◌≤◌, true, length}
 use Rattle.sy_site.specs.Sites.{plan_at}
-use Rattle.sy_checker.specs.Flows.{AreEach, IsFlow, is_used}
+use Rattle.sy_checker.specs.internal.Flows.{AreEach, IsFlow, is_used}
 use Rattle.sy_checker.proofs.flows.relay_flows.Given as goal
 
 abbrev pub invariant-loop-list : goal.invariant-loop-list

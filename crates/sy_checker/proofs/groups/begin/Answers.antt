@@ -1,5 +1,5 @@
 use Rattle.std.proofs.Common.{◌∷◌, ◌++◌, [], sym, ap, subst, refl, ◌∙◌}
-use Rattle.sy_checker.specs.Survey.{Puts}
+use Rattle.sy_checker.specs.internal.Survey.{Puts}
 use Rattle.sy_checker.proofs.Grouping.{begun}
 use Rattle.sy_checker.proofs.groups.begin.Goals as goal
 

@@ -1,6 +1,6 @@
 use Rattle.std.proofs.Common.{ℕ, ◌+◌, ap, get_or, subst, sym, take}
 use Rattle.std.proofs.lemmas.List.{get_or_default}
-use Rattle.sy_checker.specs.Loops.{IsHeightOf}
+use Rattle.sy_checker.specs.internal.Loops.{IsHeightOf}
 use Rattle.sy_checker.specs.declared.flows.Hop.{Hop}
 use Rattle.sy_checker.proofs.Heights.{height_none, height_of_all, new_most, still_most}
 use Rattle.sy_checker.proofs.height.height_of.Goals.{else-most-next, then-most-next}

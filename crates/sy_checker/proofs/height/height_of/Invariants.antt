@@ -1,5 +1,5 @@
 use Rattle.std.proofs.Common.{take}
-use Rattle.sy_checker.specs.Loops.{IsHeightOf}
+use Rattle.sy_checker.specs.internal.Loops.{IsHeightOf}
 use Rattle.sy_checker.proofs.height.height_of.Given as goal
 
 abbrev pub invariant-loop-hop : goal.invariant-loop-hop

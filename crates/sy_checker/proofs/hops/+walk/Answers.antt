@@ -7,8 +7,8 @@ use Rattle.sy_rules.specs.declared.lists.occurrence.Occurrence.{Occurrence}
 use Rattle.sy_rules.specs.declared.lists.occurrence.Occurrence.TheVariants as occurrence
 use Rattle.sy_site.specs.Sites.{plan_at}
 use Rattle.sy_site.specs.machine.Reach.{occurrence_at}
-use Rattle.sy_checker.specs.Flows.{Does, is_used}
-use Rattle.sy_checker.specs.Hops.{AddsLeads, AddsLists, AddsPosted, AddsTarget, AreApart, IsFollowed, WalksOn, follows_posts}
+use Rattle.sy_checker.specs.internal.Flows.{Does, is_used}
+use Rattle.sy_checker.specs.internal.Hops.{AddsLeads, AddsLists, AddsPosted, AddsTarget, AreApart, IsFollowed, WalksOn, follows_posts}
 use Rattle.sy_checker.proofs.Found.{on_ok}
 use Rattle.sy_checker.proofs.Posted.{lists_added, lists_of, posted_by}
 use Rattle.sy_checker.proofs.Used.{posted_there, posted_used}

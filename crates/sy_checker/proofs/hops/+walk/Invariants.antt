@@ -1,6 +1,6 @@
 use Rattle.std.proofs.Common.{◌≡◌, ℕ, ◌≤◌, ◌+◌, ◌*◌, ◌-◌, length}
 use Rattle.sy_site.specs.Sites.{plan_at}
-use Rattle.sy_checker.specs.Hops.{AddsLeads, AddsPosted, AreApart, IsWalkedBelow, LeadsAsWell, WalksOn}
+use Rattle.sy_checker.specs.internal.Hops.{AddsLeads, AddsPosted, AreApart, IsWalkedBelow, LeadsAsWell, WalksOn}
 use Rattle.sy_checker.proofs.hops.+walk.Given as goal
 
 -- the lists that weren't gone through

@@ -3,7 +3,7 @@ use Rattle.std.specs.Prelude.{slice_get}
 use Rattle.std.proofs.lemmas.Option.{slice_get_read}
 use Rattle.sy_site.specs.Sites.{plan_at}
 use Rattle.sy_site.specs.machine.Reach.{list_of}
-use Rattle.sy_checker.specs.Hops.{AreHops, is_input_list}
+use Rattle.sy_checker.specs.internal.Hops.{AreHops, is_input_list}
 use Rattle.sy_checker.proofs.There.{relay_there}
 use Rattle.sy_checker.proofs.Used.{input_list}
 use Rattle.sy_checker.proofs.hops.hops_at.Goals as goal

@@ -4,7 +4,7 @@ use Rattle.std.proofs.lemmas.Option.{slice_get_read}
 use Rattle.sy_site.specs.Sites.{plan_at}
 use Rattle.sy_site.specs.machine.Reach.{list_of}
 use Rattle.sy_checker.specs.declared.executed.Executed.TheVariants as executed
-use Rattle.sy_checker.specs.Hops.{AreLists, is_input_list}
+use Rattle.sy_checker.specs.internal.Hops.{AreLists, is_input_list}
 use Rattle.sy_checker.proofs.There.{relay_there}
 use Rattle.sy_checker.proofs.Used.{input_list}
 use Rattle.sy_checker.proofs.hops.lists_at.Goals as goal

@@ -1,8 +1,8 @@
 use Rattle.std.proofs.Common.{◌∙◌, ◌∷◌, ◌++◌, [], ap, subst, sym}
 use Rattle.std.specs.List.{list_any}
-use Rattle.sy_checker.specs.Hops.{AddsHop}
+use Rattle.sy_checker.specs.internal.Hops.{AddsHop}
 use Rattle.sy_checker.specs.declared.flows.Hop.{Hop}
-use Rattle.sy_checker.specs.Internal.{same_input}
+use Rattle.sy_checker.specs.internal.Found.{same_input}
 use Rattle.sy_checker.proofs.Walking.{hop_had, hop_put}
 use Rattle.sy_checker.proofs.hops.put_hop.Goals as goal
 

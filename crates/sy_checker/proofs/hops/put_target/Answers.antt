@@ -1,5 +1,5 @@
 use Rattle.std.proofs.Common.{◌∙◌, sym}
-use Rattle.sy_checker.specs.Hops.{AddsHop, AddsTarget}
+use Rattle.sy_checker.specs.internal.Hops.{AddsHop, AddsTarget}
 use Rattle.sy_checker.proofs.Found.{on_ok}
 use Rattle.sy_checker.proofs.Walking.{target_put}
 use Rattle.sy_checker.proofs.hops.put_target.Goals as goal

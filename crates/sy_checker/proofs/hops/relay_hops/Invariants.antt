@@ -1,8 +1,8 @@
 use Rattle.std.proofs.Common.{◌≡◌, ◌≤◌, true, length}
 use Rattle.sy_site.specs.Sites.{plan_at}
 use Rattle.sy_checker.specs.declared.flows.ListHops.{ListHops}
-use Rattle.sy_checker.specs.Flows.{AreEach}
-use Rattle.sy_checker.specs.Hops.{AreListHops, is_input_list}
+use Rattle.sy_checker.specs.internal.Flows.{AreEach}
+use Rattle.sy_checker.specs.internal.Hops.{AreListHops, is_input_list}
 use Rattle.sy_checker.proofs.hops.relay_hops.Given as goal
 
 abbrev pub invariant-loop-list : goal.invariant-loop-list

@@ -1,6 +1,6 @@
 use Rattle.std.proofs.Common.{◌≡◌, ◌≤◌, length}
-use Rattle.sy_checker.specs.Flows.{AreEach}
-use Rattle.sy_checker.specs.Hops.{AreRelayHops}
+use Rattle.sy_checker.specs.internal.Flows.{AreEach}
+use Rattle.sy_checker.specs.internal.Hops.{AreRelayHops}
 use Rattle.sy_checker.proofs.hops.site_hops.Given as goal
 
 abbrev pub invariant-loop-relay : goal.invariant-loop-relay

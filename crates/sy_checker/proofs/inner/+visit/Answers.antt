@@ -9,9 +9,9 @@ use Rattle.sy_rules.specs.declared.lists.occurrence.Occurrence.TheVariants as oc
 use Rattle.sy_board.specs.relay.Spares.{Scope}
 use Rattle.sy_site.specs.Sites.{plan_at}
 use Rattle.sy_site.specs.machine.Reach.{MayDo, occurrence_at}
-use Rattle.sy_checker.specs.Flows.{is_used}
+use Rattle.sy_checker.specs.internal.Flows.{is_used}
 use Rattle.sy_checker.specs.declared.inner.ListNumber.{ListNumber}
-use Rattle.sy_checker.specs.Inner.{AreOnWay, AreOpen, IsDone, IsOnWay, number_in}
+use Rattle.sy_checker.specs.internal.Inner.{AreOnWay, AreOpen, IsDone, IsOnWay, number_in}
 use Rattle.sy_checker.proofs.Numbering.{any_done, asked_all, asked_by_none, asked_by_post, asked_more, asked_none, done_few, done_more, kept_all, kept_on, number_there, numbered, open_back, open_done, open_on, way_on}
 use Rattle.sy_checker.proofs.Used.{posted_there, posted_used, whole_at}
 use Rattle.sy_checker.proofs.Walking.{apart_room}

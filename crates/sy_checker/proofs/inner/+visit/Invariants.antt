@@ -1,6 +1,6 @@
 use Rattle.std.proofs.Common.{◌≡◌, ◌+◌, ◌*◌, ◌-◌, length}
 use Rattle.sy_site.specs.Sites.{plan_at}
-use Rattle.sy_checker.specs.Inner.{AreDone, AreOpen, KeepsDone}
+use Rattle.sy_checker.specs.internal.Inner.{AreDone, AreOpen, KeepsDone}
 use Rattle.sy_checker.proofs.Numbering.{IsAskedBelow}
 use Rattle.sy_checker.proofs.inner.+visit.Given as goal
 

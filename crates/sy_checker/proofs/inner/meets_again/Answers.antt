@@ -1,6 +1,6 @@
 use Rattle.std.proofs.Common.{refl, subst, sym}
 use Rattle.std.proofs.lemmas.Bool.{false≢true}
-use Rattle.sy_checker.specs.Inner.{AreDone}
+use Rattle.sy_checker.specs.internal.Inner.{AreDone}
 use Rattle.sy_checker.proofs.Numbering.{all_once, done_none}
 use Rattle.sy_checker.proofs.inner.meets_again.Goals as goal
 

@@ -1,6 +1,6 @@
 use Rattle.std.proofs.Common.{◌≡◌, ◌≤◌, length}
-use Rattle.sy_checker.specs.Flows.{AreEach}
-use Rattle.sy_checker.specs.Inner.{HasNone}
+use Rattle.sy_checker.specs.internal.Flows.{AreEach}
+use Rattle.sy_checker.specs.internal.Inner.{HasNone}
 use Rattle.sy_checker.proofs.inner.nothing_numbered.Given as goal
 
 abbrev pub invariant-loop-relay : goal.invariant-loop-relay

@@ -1,6 +1,6 @@
 use Rattle.std.proofs.Common.{◌∙◌, ap, eq-eqb, get_or, sym}
 use Rattle.std.proofs.lemmas.List.{drop_all}
-use Rattle.sy_checker.specs.Inner.{number_in}
+use Rattle.sy_checker.specs.internal.Inner.{number_in}
 use Rattle.sy_checker.proofs.Numbering.{no_test, number_here, number_next, numbered}
 use Rattle.sy_checker.proofs.inner.number_in.Goals as goal
 

@@ -1,5 +1,5 @@
 use Rattle.std.proofs.Common.{◌≡◌, drop}
-use Rattle.sy_checker.specs.Inner.{number_in}
+use Rattle.sy_checker.specs.internal.Inner.{number_in}
 use Rattle.sy_checker.proofs.inner.number_in.Given as goal
 
 abbrev pub invariant-loop-own : goal.invariant-loop-own

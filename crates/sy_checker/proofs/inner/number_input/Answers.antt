@@ -1,7 +1,7 @@
 use Rattle.std.proofs.Common.{◌≡◌, ◌<◌, Some, arith, length, refl, set}
 use Rattle.std.specs.Prelude.{slice_get}
 use Rattle.std.proofs.lemmas.Option.{slice_get_read}
-use Rattle.sy_checker.specs.Inner.{AreAllDone, AreDone, AreNumbered, HasNumbers, KeepsDone, KeepsNumbers}
+use Rattle.sy_checker.specs.internal.Inner.{AreAllDone, AreDone, AreNumbered, HasNumbers, KeepsDone, KeepsNumbers}
 use Rattle.sy_checker.proofs.Found.{on_ok}
 use Rattle.sy_checker.proofs.PutNumbers.{numbers_kept, numbers_of_input, numbers_put}
 use Rattle.sy_checker.proofs.There.{relay_there}

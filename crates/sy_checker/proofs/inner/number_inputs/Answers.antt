@@ -1,7 +1,7 @@
 use Rattle.std.proofs.Common.{◌≡◌, get_or, subst, sym}
 use Rattle.std.proofs.lemmas.Option.{slice_get-get_or}
 use Rattle.sy_site.specs.declared.site.SiteInput.{SiteInput}
-use Rattle.sy_checker.specs.Inner.{HasNoNumbers}
+use Rattle.sy_checker.specs.internal.Inner.{HasNoNumbers}
 use Rattle.sy_checker.proofs.Numbering.{all_first, all_more, all_numbered, ended_at}
 use Rattle.sy_checker.proofs.inner.number_inputs.Goals as goal
 

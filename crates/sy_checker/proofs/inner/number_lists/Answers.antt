@@ -1,8 +1,8 @@
 use Rattle.std.proofs.Common.{◌≡◌, true, arith, eqb-true, length, refl, subst, sym, ◌∙◌}
 use Rattle.sy_site.specs.Sites.{plan_at}
 use Rattle.sy_site.specs.machine.Reach.{list_of}
-use Rattle.sy_checker.specs.Flows.{is_used}
-use Rattle.sy_checker.specs.Inner.{AreOpen, IsOnWay}
+use Rattle.sy_checker.specs.internal.Flows.{is_used}
+use Rattle.sy_checker.specs.internal.Inner.{AreOpen, IsOnWay}
 use Rattle.sy_checker.proofs.Numbering.{all_done, kept_all, open_none, way_begins}
 use Rattle.sy_checker.proofs.There.{relay_there}
 use Rattle.sy_checker.proofs.Used.{input_list, input_used}

@@ -1,6 +1,6 @@
 use Rattle.std.proofs.Common.{◌<◌, arith, length, subst, sym}
-use Rattle.sy_checker.specs.Inners.{AreInners}
-use Rattle.sy_checker.specs.Internal.{AreOf}
+use Rattle.sy_checker.specs.internal.Inners.{AreInners}
+use Rattle.sy_checker.specs.internal.Found.{AreOf}
 use Rattle.sy_checker.proofs.InnersSorted.{inners_all, inners_first, inners_relay, reached_of}
 use Rattle.sy_checker.proofs.inners.inners_of.Goals as goal
 

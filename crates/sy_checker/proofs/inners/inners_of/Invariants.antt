@@ -1,4 +1,4 @@
-use Rattle.sy_checker.specs.Inners.{AreInners}
+use Rattle.sy_checker.specs.internal.Inners.{AreInners}
 use Rattle.sy_checker.proofs.inners.inners_of.Given as goal
 
 abbrev pub invariant-loop-relay : goal.invariant-loop-relay

@@ -1,5 +1,5 @@
 use Rattle.std.proofs.Common.{take}
-use Rattle.sy_checker.specs.Inners.{IsPosted}
+use Rattle.sy_checker.specs.internal.Inners.{IsPosted}
 use Rattle.sy_checker.proofs.inners.is_posted.Given as goal
 
 abbrev pub invariant-loop-input : goal.invariant-loop-input

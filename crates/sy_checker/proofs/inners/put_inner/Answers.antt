@@ -1,6 +1,6 @@
 use Rattle.std.proofs.Common.{◌+◌, ◌∙◌, subst, sym}
 use Rattle.std.proofs.lemmas.Bool.{false≢true}
-use Rattle.sy_checker.specs.Inners.{AreInners}
+use Rattle.sy_checker.specs.internal.Inners.{AreInners}
 use Rattle.sy_checker.proofs.InnersSorted.{inner_posted, inner_put, inner_skip, own_there, posted_inner}
 use Rattle.sy_checker.proofs.inners.put_inner.Goals as goal
 

@@ -1,6 +1,6 @@
 use Rattle.std.proofs.Common.{◌≡◌, arith, length, subst}
 use Rattle.sy_site.specs.Sites.{plan_at}
-use Rattle.sy_checker.specs.Inners.{AreInners}
+use Rattle.sy_checker.specs.internal.Inners.{AreInners}
 use Rattle.sy_checker.proofs.inners.put_inners.Goals as goal
 
 pub put_inner-requires : goal.put_inner-requires

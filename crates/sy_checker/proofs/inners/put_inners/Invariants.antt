@@ -1,6 +1,6 @@
 use Rattle.std.proofs.Common.{◌≡◌, ◌≤◌, length}
 use Rattle.sy_site.specs.Sites.{plan_at}
-use Rattle.sy_checker.specs.Inners.{AreInners}
+use Rattle.sy_checker.specs.internal.Inners.{AreInners}
 use Rattle.sy_checker.proofs.inners.put_inners.Given as goal
 
 abbrev pub invariant-loop-list : goal.invariant-loop-list

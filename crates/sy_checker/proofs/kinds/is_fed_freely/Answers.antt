@@ -3,7 +3,7 @@ use Rattle.std.specs.List.{list_any}
 use Rattle.std.proofs.lemmas.Bool.{false≢true}
 use Rattle.sy_board.specs.relay.Plans.{parameters_at}
 use Rattle.sy_site.specs.Sites.{plan_at}
-use Rattle.sy_checker.specs.Risks.{is_free}
+use Rattle.sy_checker.specs.internal.Risks.{is_free}
 use Rattle.sy_checker.proofs.Feeding.{fed_by_inputs, fed_by_post, free_input, posts_as}
 use Rattle.sy_checker.proofs.kinds.is_fed_freely.Goals as goal
 

@@ -2,8 +2,8 @@ use Rattle.std.proofs.Common.{◌≡◌, true, refl, subst, sym, ◌∙◌}
 use Rattle.std.proofs.lemmas.Bool.{false≢true}
 use Rattle.sy_site.specs.Sites.{plan_at}
 use Rattle.sy_site.specs.machine.Reach.{list_of}
-use Rattle.sy_checker.specs.Flows.{is_used}
-use Rattle.sy_checker.specs.Risks.{ListRisks}
+use Rattle.sy_checker.specs.internal.Flows.{is_used}
+use Rattle.sy_checker.specs.internal.Risks.{ListRisks}
 use Rattle.sy_checker.proofs.Risky.{own_shown, posted_shown}
 use Rattle.sy_checker.proofs.Used.{input_list, input_used}
 use Rattle.sy_checker.proofs.kinds.may_risk.Goals as goal

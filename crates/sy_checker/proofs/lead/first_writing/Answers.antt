@@ -3,7 +3,7 @@ use Rattle.std.proofs.lemmas.Bool.{false≢true}
 use Rattle.std.proofs.lemmas.List.Elements.{Contains-get_or}
 use Rattle.std.proofs.lemmas.Option.{slice_get-get_or}
 use Rattle.sy_checker.specs.declared.wanted.InnerList.{InnerList}
-use Rattle.sy_checker.specs.Leads.{MustWriteAt}
+use Rattle.sy_checker.specs.internal.Leads.{MustWriteAt}
 use Rattle.sy_checker.proofs.Paths.{holds_all, holds_more}
 use Rattle.sy_checker.proofs.lead.first_writing.Goals as goal
 

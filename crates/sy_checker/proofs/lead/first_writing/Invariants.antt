@@ -1,4 +1,4 @@
-use Rattle.sy_checker.specs.Leads.{MustWriteAt}
+use Rattle.sy_checker.specs.internal.Leads.{MustWriteAt}
 use Rattle.sy_checker.proofs.Paths.{HoldsBelow}
 use Rattle.sy_checker.proofs.lead.first_writing.Given as goal
 

@@ -3,7 +3,7 @@ use Rattle.std.specs.Prelude.{Contains, slice_get}
 use Rattle.std.proofs.lemmas.List.Quantifiers.{position-Some}
 use Rattle.std.proofs.lemmas.Option.{slice_get_read}
 use Rattle.sy_site.proofs.lemmas.sites.Places.{place_none}
-use Rattle.sy_checker.specs.Internal.{same_input}
+use Rattle.sy_checker.specs.internal.Found.{same_input}
 use Rattle.sy_checker.proofs.Found.{same_is, same_laws}
 use Rattle.sy_checker.proofs.There.{entry_there}
 use Rattle.sy_checker.proofs.lead.lead.Goals as goal

@@ -3,8 +3,8 @@ use Rattle.std.specs.Prelude.{Contains, slice_get}
 use Rattle.std.proofs.lemmas.List.Elements.{Contains-get_or}
 use Rattle.std.proofs.lemmas.Option.{slice_get-get_or}
 use Rattle.sy_site.specs.declared.site.SiteInput.{SiteInput}
-use Rattle.sy_checker.specs.Flows.{AreEach}
-use Rattle.sy_checker.specs.Leads.{AreAllFound, IsLeadOf, list_at}
+use Rattle.sy_checker.specs.internal.Flows.{AreEach}
+use Rattle.sy_checker.specs.internal.Leads.{AreAllFound, IsLeadOf, list_at}
 use Rattle.sy_checker.proofs.Flowing.{each_more, each_none}
 use Rattle.sy_checker.proofs.There.{entry_there}
 use Rattle.sy_checker.proofs.lead.leads_of.Goals as goal

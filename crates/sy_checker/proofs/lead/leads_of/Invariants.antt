@@ -1,5 +1,5 @@
-use Rattle.sy_checker.specs.Flows.{AreEach}
-use Rattle.sy_checker.specs.Leads.{IsLeadOf}
+use Rattle.sy_checker.specs.internal.Flows.{AreEach}
+use Rattle.sy_checker.specs.internal.Leads.{IsLeadOf}
 use Rattle.sy_checker.proofs.lead.leads_of.Given as goal
 
 abbrev pub invariant-loop-entry : goal.invariant-loop-entry

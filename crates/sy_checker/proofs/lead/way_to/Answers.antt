@@ -1,7 +1,7 @@
 use Rattle.std.proofs.Common.{◌≡◌, ◌∙◌, ◌<◌, None, arith, length, sym, subst}
 use Rattle.std.specs.Prelude.{slice_get, Some}
 use Rattle.sy_checker.specs.declared.wanted.InnerList.{InnerList}
-use Rattle.sy_checker.specs.Leads.{IsWayBetween}
+use Rattle.sy_checker.specs.internal.Leads.{IsWayBetween}
 use Rattle.sy_checker.proofs.Gone.{if_ok}
 use Rattle.sy_checker.proofs.Paths.{HasWay, way_before, way_first, way_more, way_whole}
 use Rattle.sy_checker.proofs.Rooted.{is_none, read_there}

@@ -3,7 +3,7 @@ use Rattle.std.specs.Prelude.{Contains}
 use Rattle.std.specs.List.{list_any}
 use Rattle.std.proofs.lemmas.List.Elements.{Contains-push}
 use Rattle.std.proofs.lemmas.Map.Views.{Contains-from_any}
-use Rattle.sy_checker.specs.Leads.{AreFound, HasMore, same_list}
+use Rattle.sy_checker.specs.internal.Leads.{AreFound, HasMore, same_list}
 use Rattle.sy_checker.proofs.Led.{found_more, nothing_more, one_more, same_list_is}
 use Rattle.sy_checker.proofs.lists.add.Goals as goal
 

@@ -1,5 +1,5 @@
 use Rattle.std.proofs.Common.{◌-◌}
-use Rattle.sy_checker.specs.Leads.{AreFound, HasMore}
+use Rattle.sy_checker.specs.internal.Leads.{AreFound, HasMore}
 use Rattle.sy_checker.proofs.Led.{IsLedBelow}
 use Rattle.sy_checker.proofs.lists.add_leads.Given as goal
 

@@ -1,5 +1,5 @@
 use Rattle.std.proofs.Common.{◌≡◌, ◌∙◌, ◌++◌, ◌∷◌, [], None, ap, subst, sym}
-use Rattle.sy_checker.specs.Leads.{AreFound}
+use Rattle.sy_checker.specs.internal.Leads.{AreFound}
 use Rattle.sy_checker.proofs.Led.{found_first}
 use Rattle.sy_checker.proofs.lists.begin.Goals as goal
 

@@ -1,5 +1,5 @@
 use Rattle.std.proofs.Common.{◌-◌}
-use Rattle.sy_checker.specs.Leads.{AreFound}
+use Rattle.sy_checker.specs.internal.Leads.{AreFound}
 use Rattle.sy_checker.proofs.Led.{AreLed}
 use Rattle.sy_checker.proofs.lists.lists_from.Given as goal
 

@@ -8,10 +8,10 @@ use Rattle.std.proofs.lemmas.Map.Views.{Contains-from_any}
 use Rattle.sy_site.specs.declared.site.SiteInput.{SiteInput}
 use Rattle.sy_board.specs.relay.Spares.{Scope}
 use Rattle.sy_site.specs.machine.Reach.{Reach, onward}
-use Rattle.sy_checker.specs.Internal.{same_input}
+use Rattle.sy_checker.specs.internal.Found.{same_input}
 use Rattle.sy_checker.specs.declared.flows.Hop.{Hop}
 use Rattle.sy_checker.specs.declared.loops.Seen.{Seen}
-use Rattle.sy_checker.specs.Loops.{AreRanked, DoesMore, GoesOn, IsDone, IsHeight, IsMet, IsTrail, rank_at, relays_of, way_of}
+use Rattle.sy_checker.specs.internal.Loops.{AreRanked, DoesMore, GoesOn, IsDone, IsHeight, IsMet, IsTrail, rank_at, relays_of, way_of}
 use Rattle.sy_checker.proofs.Found.{not_among, same_is}
 use Rattle.sy_checker.proofs.Ranking.{fresh_still, follows_all, follows_more, more_and, more_as, more_by_one, raised, ranked_as, ranked_more, ranks_small, settled_more}
 use Rattle.sy_checker.proofs.There.{reach_there, relay_there}

@@ -1,7 +1,7 @@
 use Rattle.std.proofs.Common.{◌≡◌, ◌+◌, ◌*◌, ◌-◌, length, take}
 use Rattle.std.specs.Prelude.{Contains}
 use Rattle.sy_site.specs.declared.site.SiteInput.{SiteInput}
-use Rattle.sy_checker.specs.Loops.{AreFollowed, AreRanked, DoesMore, IsMet, relays_of, way_of}
+use Rattle.sy_checker.specs.internal.Loops.{AreFollowed, AreRanked, DoesMore, IsMet, relays_of, way_of}
 use Rattle.sy_checker.proofs.loops.+visit.Given as goal
 
 -- the relays that aren't on the way

@@ -3,7 +3,7 @@ use Rattle.std.specs.Prelude.{Contains}
 use Rattle.std.proofs.lemmas.List.Elements.{Contains-get_or}
 use Rattle.sy_site.specs.declared.site.SiteInput.{SiteInput}
 use Rattle.sy_site.specs.machine.Reach.{entry}
-use Rattle.sy_checker.specs.Loops.{IsTrail, way_of}
+use Rattle.sy_checker.specs.internal.Loops.{IsTrail, way_of}
 use Rattle.sy_checker.proofs.Ranking.{ranked_all, ranked_most}
 use Rattle.sy_checker.proofs.Visited.{visited_all}
 use Rattle.sy_checker.proofs.Trails.{first_trail}

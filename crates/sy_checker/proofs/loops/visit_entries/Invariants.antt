@@ -1,7 +1,7 @@
 use Rattle.std.proofs.Common.{◌≡◌, [], take}
 use Rattle.std.specs.Prelude.{Contains}
 use Rattle.sy_site.specs.declared.site.SiteInput.{SiteInput}
-use Rattle.sy_checker.specs.Loops.{AreRanked}
+use Rattle.sy_checker.specs.internal.Loops.{AreRanked}
 use Rattle.sy_checker.proofs.loops.visit_entries.Given as goal
 
 abbrev pub invariant-loop-entry : goal.invariant-loop-entry

@@ -1,7 +1,7 @@
 use Rattle.std.proofs.Common.{ap, subst}
 use Rattle.std.specs.Prelude.{Contains}
 use Rattle.sy_checker.specs.declared.wanted.Wanted.TheVariants as wanted
-use Rattle.sy_checker.specs.Ranked.{input_in}
+use Rattle.sy_checker.specs.internal.Ranked.{input_in}
 use Rattle.sy_checker.proofs.Comparing.{input_there, meant}
 use Rattle.sy_checker.proofs.Meant.{end_there, entry_there, inner_there, rank_there}
 use Rattle.sy_checker.proofs.There.{relay_there}

@@ -1,6 +1,6 @@
 use Rattle.std.proofs.Common.{length, refl}
 use Rattle.std.proofs.lemmas.Option.{slice_get_read}
-use Rattle.sy_checker.specs.Inner.{number_at}
+use Rattle.sy_checker.specs.internal.Inner.{number_at}
 use Rattle.sy_checker.proofs.RowsMade.{made_right, made_step}
 use Rattle.sy_checker.proofs.making.rows_for.Goals as goal
 

@@ -1,5 +1,5 @@
 use Rattle.std.proofs.Common.{◌≡◌, length}
-use Rattle.sy_checker.specs.Inner.{number_at}
+use Rattle.sy_checker.specs.internal.Inner.{number_at}
 use Rattle.sy_checker.proofs.RowsMade.{AreMadeBelow}
 use Rattle.sy_checker.proofs.making.rows_for.Given as goal
 

@@ -1,5 +1,5 @@
 use Rattle.std.proofs.Common.{◌≡◌, ◌++◌, map, drop}
-use Rattle.sy_checker.specs.Met.{met_at}
+use Rattle.sy_checker.specs.internal.Met.{met_at}
 use Rattle.sy_checker.proofs.met.put_met.Given as goal
 
 abbrev pub invariant-loop-archive : goal.invariant-loop-archive

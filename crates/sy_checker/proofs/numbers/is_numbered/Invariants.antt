@@ -1,5 +1,5 @@
 use Rattle.std.proofs.Common.{ℕ, ◌<◌, ◌-◌}
-use Rattle.sy_checker.specs.Inners.{IsLowerBy}
+use Rattle.sy_checker.specs.internal.Inners.{IsLowerBy}
 use Rattle.sy_checker.proofs.numbers.is_numbered.Given as goal
 
 abbrev pub invariant-loop-post : goal.invariant-loop-post

@@ -1,5 +1,5 @@
 use Rattle.std.proofs.Common.{subst, sym}
-use Rattle.sy_checker.specs.Leads.{IsThere}
+use Rattle.sy_checker.specs.internal.Leads.{IsThere}
 use Rattle.sy_checker.proofs.Led.{list_there}
 use Rattle.sy_checker.proofs.path.list_of.Goals as goal
 

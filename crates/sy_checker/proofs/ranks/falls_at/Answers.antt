@@ -1,5 +1,5 @@
 use Rattle.std.proofs.Common.{◌∙◌, subst, sym}
-use Rattle.sy_checker.specs.Ranked.{FallsFrom}
+use Rattle.sy_checker.specs.internal.Ranked.{FallsFrom}
 use Rattle.sy_checker.proofs.Comparing.{is_about, one_value}
 use Rattle.sy_checker.proofs.ranks.falls_at.Goals as goal
 

@@ -1,6 +1,6 @@
 use Rattle.std.proofs.Common.{take}
 use Rattle.std.specs.Prelude.{IfSome}
-use Rattle.sy_checker.specs.Ranked.{IsBelow}
+use Rattle.sy_checker.specs.internal.Ranked.{IsBelow}
 use Rattle.sy_checker.proofs.Comparing.{AreBelow}
 use Rattle.sy_checker.proofs.ranks.falls_by.Given as goal
 

@@ -2,7 +2,7 @@ use Rattle.std.proofs.Common.{◌∙◌, ap, arith, inl, inr, length, refl, subs
 use Rattle.std.specs.Prelude.{slice_get}
 use Rattle.std.proofs.lemmas.Bool.{cases_eq, false≢true}
 use Rattle.std.proofs.lemmas.Option.{slice_get_read}
-use Rattle.sy_checker.specs.Ranked.{FallsAt}
+use Rattle.sy_checker.specs.internal.Ranked.{FallsAt}
 use Rattle.sy_checker.proofs.Comparing.{above_all, above_at, input_there, one_value}
 use Rattle.sy_checker.proofs.ranks.is_above.Goals as goal
 

@@ -1,6 +1,6 @@
 use Rattle.std.proofs.Common.{◌≡◌, ℕ, ◌<◌, Some}
 use Rattle.std.specs.Prelude.{slice_get}
-use Rattle.sy_checker.specs.Ranked.{FallsAt}
+use Rattle.sy_checker.specs.internal.Ranked.{FallsAt}
 use Rattle.sy_checker.specs.declared.wanted.Wanted.{Wanted}
 use Rattle.sy_checker.proofs.ranks.is_above.Given as goal
 

@@ -1,6 +1,6 @@
 use Rattle.std.proofs.Common.{◌∙◌, arith, refl, sym}
 use Rattle.std.proofs.lemmas.Bool.{false≢true}
-use Rattle.sy_checker.specs.Ranked.{IsBelowAt}
+use Rattle.sy_checker.specs.internal.Ranked.{IsBelowAt}
 use Rattle.sy_checker.proofs.Comparing.{below_all, below_there, more_below}
 use Rattle.sy_checker.proofs.ranks.is_below.Goals as goal
 

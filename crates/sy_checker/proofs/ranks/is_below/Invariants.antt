@@ -1,5 +1,5 @@
 use Rattle.std.proofs.Common.{ℕ, ◌<◌}
-use Rattle.sy_checker.specs.Ranked.{IsBelowAt}
+use Rattle.sy_checker.specs.internal.Ranked.{IsBelowAt}
 use Rattle.sy_checker.proofs.ranks.is_below.Given as goal
 
 abbrev pub invariant-loop-place : goal.invariant-loop-place

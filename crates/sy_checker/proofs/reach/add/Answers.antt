@@ -1,7 +1,7 @@
 use Rattle.std.proofs.Common.{◌≡◌, ◌∙◌, ◌++◌, ◌∷◌, [], sym, ap, subst}
 use Rattle.std.specs.List.{list_any}
-use Rattle.sy_checker.specs.Internal.{Adds, same_input}
-use Rattle.sy_checker.specs.Search.{AreRooted}
+use Rattle.sy_checker.specs.internal.Found.{Adds, same_input}
+use Rattle.sy_checker.specs.internal.Search.{AreRooted}
 use Rattle.sy_checker.proofs.Found.{had, put}
 use Rattle.sy_checker.proofs.Rooted.{rooted_more}
 use Rattle.sy_checker.proofs.reach.add.Goals as goal

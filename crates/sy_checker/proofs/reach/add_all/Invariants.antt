@@ -3,8 +3,8 @@ use Rattle.std.specs.Prelude.{Contains}
 use Rattle.sy_wire.specs.declared.class.Class.{Class}
 use Rattle.sy_site.specs.Sites.{Site}
 use Rattle.sy_checker.specs.declared.executed.Executed.{Executed}
-use Rattle.sy_checker.specs.Internal.{Adds}
-use Rattle.sy_checker.specs.Search.{KeepsRoots}
+use Rattle.sy_checker.specs.internal.Found.{Adds}
+use Rattle.sy_checker.specs.internal.Search.{KeepsRoots}
 use Rattle.sy_checker.proofs.reach.add_all.Given as goal
 
 abbrev pub invariant-loop-input : goal.invariant-loop-input

@@ -1,6 +1,6 @@
 use Rattle.std.proofs.Common.{get_or, take}
 use Rattle.std.proofs.lemmas.List.Elements.{Contains-get_or}
-use Rattle.sy_checker.specs.Hops.{HasHop}
+use Rattle.sy_checker.specs.internal.Hops.{HasHop}
 use Rattle.sy_checker.proofs.Found.{all_hops, more_hops, none_hops}
 use Rattle.sy_checker.proofs.Rooted.{leads_origin, stands_still}
 use Rattle.sy_checker.proofs.reach.add_targets.Goals as goal

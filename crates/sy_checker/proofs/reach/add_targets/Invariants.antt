@@ -1,9 +1,9 @@
 use Rattle.std.proofs.Common.{◌≡◌, List, Some, take}
 use Rattle.std.specs.Prelude.{slice_get}
 use Rattle.sy_site.specs.declared.site.SiteInput.{SiteInput}
-use Rattle.sy_checker.specs.Hops.{HasHop}
-use Rattle.sy_checker.specs.Internal.{Adds}
-use Rattle.sy_checker.specs.Search.{KeepsRoots}
+use Rattle.sy_checker.specs.internal.Hops.{HasHop}
+use Rattle.sy_checker.specs.internal.Found.{Adds}
+use Rattle.sy_checker.specs.internal.Search.{KeepsRoots}
 use Rattle.sy_checker.proofs.reach.add_targets.Given as goal
 
 abbrev pub invariant-loop-hop : goal.invariant-loop-hop

@@ -1,8 +1,8 @@
 use Rattle.std.proofs.Common.{◌≡◌, ◌<◌, ◌≤◌, ◌+◌, ◌-◌, [], Some, arith, length, refl, sym, subst}
 use Rattle.std.specs.Prelude.{Contains, slice_get}
 use Rattle.std.proofs.lemmas.Option.{slice_get_read}
-use Rattle.sy_checker.specs.Internal.{Adds}
-use Rattle.sy_checker.specs.Search.{KeepsRoots}
+use Rattle.sy_checker.specs.internal.Found.{Adds}
+use Rattle.sy_checker.specs.internal.Search.{KeepsRoots}
 use Rattle.sy_checker.proofs.Gone.{found_few, gone_all, gone_first, gone_more}
 use Rattle.sy_checker.proofs.reach.spread.Goals as goal
 

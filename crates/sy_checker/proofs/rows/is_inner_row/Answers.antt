@@ -2,7 +2,7 @@ use Rattle.std.proofs.Common.{◌∙◌, subst, sym, false}
 use Rattle.std.specs.Prelude.{Decides}
 use Rattle.std.proofs.lemmas.Bool.{false≢true}
 use Rattle.sy_checker.specs.Fit.{IsInnerRow}
-use Rattle.sy_checker.specs.Judging.{NamesInner}
+use Rattle.sy_checker.specs.internal.Judging.{NamesInner}
 use Rattle.sy_checker.proofs.rows.is_inner_row.Goals as goal
 
 pub returns-then-not-names_inner : goal.returns-then-not-names_inner

@@ -3,7 +3,7 @@ use Rattle.std.specs.Prelude.{Decides}
 use Rattle.std.proofs.lemmas.Bool.{false≢true}
 use Rattle.sy_site.specs.machine.Reach.{list_of}
 use Rattle.sy_checker.specs.Fit.{IsPath, IsPathRow}
-use Rattle.sy_checker.specs.Judging.{NamesPath}
+use Rattle.sy_checker.specs.internal.Judging.{NamesPath}
 use Rattle.sy_checker.proofs.rows.is_path_row.Goals as goal
 
 pub returns-then-not-names_path : goal.returns-then-not-names_path

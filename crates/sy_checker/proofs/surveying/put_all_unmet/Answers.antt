@@ -1,7 +1,7 @@
 use Rattle.std.proofs.Common.{subst, sym, ◌∙◌}
 use Rattle.std.specs.Prelude.{Contains}
-use Rattle.sy_checker.specs.Leads.{AreLeads}
-use Rattle.sy_checker.specs.Survey.{Among, IsUnmetBy, Tells}
+use Rattle.sy_checker.specs.internal.Leads.{AreLeads}
+use Rattle.sy_checker.specs.internal.Survey.{Among, IsUnmetBy, Tells}
 use Rattle.sy_checker.proofs.surveying.put_all_unmet.Goals as goal
 
 pub put_entries-requires : goal.put_entries-requires

@@ -1,5 +1,5 @@
 use Rattle.std.proofs.lemmas.List.Elements.{Contains-get_or}
-use Rattle.sy_checker.specs.Survey.{IsUnmetBy}
+use Rattle.sy_checker.specs.internal.Survey.{IsUnmetBy}
 use Rattle.sy_checker.proofs.Telling.{all_told, more_told}
 use Rattle.sy_checker.proofs.surveying.put_archives.Goals as goal
 

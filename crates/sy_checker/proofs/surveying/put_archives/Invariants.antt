@@ -1,5 +1,5 @@
 use Rattle.std.proofs.Common.{take}
-use Rattle.sy_checker.specs.Survey.{Among, IsUnmetBy, Tells}
+use Rattle.sy_checker.specs.internal.Survey.{Among, IsUnmetBy, Tells}
 use Rattle.sy_checker.proofs.surveying.put_archives.Given as goal
 
 abbrev pub invariant-loop-archive : goal.invariant-loop-archive

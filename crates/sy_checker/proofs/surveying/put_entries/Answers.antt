@@ -1,5 +1,5 @@
 use Rattle.std.proofs.lemmas.List.Elements.{Contains-get_or}
-use Rattle.sy_checker.specs.Survey.{Among, IsUnmetBy}
+use Rattle.sy_checker.specs.internal.Survey.{Among, IsUnmetBy}
 use Rattle.sy_checker.proofs.Telling.{all_told, more_told}
 use Rattle.sy_checker.proofs.surveying.put_entries.Goals as goal
 

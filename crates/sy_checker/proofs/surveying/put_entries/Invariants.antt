@@ -1,5 +1,5 @@
 use Rattle.std.proofs.Common.{take}
-use Rattle.sy_checker.specs.Survey.{Among, IsUnmetBy, Tells}
+use Rattle.sy_checker.specs.internal.Survey.{Among, IsUnmetBy, Tells}
 use Rattle.sy_checker.proofs.surveying.put_entries.Given as goal
 
 abbrev pub invariant-loop-entry : goal.invariant-loop-entry

@@ -1,8 +1,8 @@
 use Rattle.std.proofs.Common.{subst}
 use Rattle.sy_site.specs.machine.Findings.{IsLoop}
 use Rattle.sy_checker.specs.declared.finding.Kind.TheVariants as kind
-use Rattle.sy_checker.specs.Loops.{HasNoRanks, way_of}
-use Rattle.sy_checker.specs.Survey.{IsNothing, Puts, Tells}
+use Rattle.sy_checker.specs.internal.Loops.{HasNoRanks, way_of}
+use Rattle.sy_checker.specs.internal.Survey.{IsNothing, Puts, Tells}
 use Rattle.sy_checker.proofs.Found.{on_ok}
 use Rattle.sy_checker.proofs.Telling.{put_told}
 use Rattle.sy_checker.proofs.surveying.put_looped.Goals as goal

@@ -7,7 +7,7 @@ use Rattle.sy_site.specs.machine.Reach.{Reach}
 use Rattle.sy_checker.specs.Finding.{kind_of}
 use Rattle.sy_checker.specs.declared.finding.Kind.{Kind}
 use Rattle.sy_checker.specs.declared.finding.Kind.TheVariants as kind
-use Rattle.sy_checker.specs.Survey.{Among, AreHeld, IsHeld, IsNothing, Tells}
+use Rattle.sy_checker.specs.internal.Survey.{Among, AreHeld, IsHeld, IsNothing, Tells}
 use Rattle.sy_checker.proofs.There.{reach_there}
 use Rattle.sy_checker.proofs.Telling.{both_told, held_or_looped}
 use Rattle.sy_checker.proofs.surveying.put_reached.Goals as goal

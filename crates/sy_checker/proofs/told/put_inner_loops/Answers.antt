@@ -1,6 +1,6 @@
 use Rattle.std.proofs.lemmas.List.Elements.{Contains-get_or}
 use Rattle.sy_checker.specs.declared.finding.Kind.TheVariants as kind
-use Rattle.sy_checker.specs.Survey.{IsHeld}
+use Rattle.sy_checker.specs.internal.Survey.{IsHeld}
 use Rattle.sy_checker.proofs.Telling.{all_told, more_told}
 use Rattle.sy_checker.proofs.told.put_inner_loops.Goals as goal
 

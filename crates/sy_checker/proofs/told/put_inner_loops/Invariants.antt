@@ -1,6 +1,6 @@
 use Rattle.std.proofs.Common.{take}
 use Rattle.sy_checker.specs.declared.finding.Kind.TheVariants as kind
-use Rattle.sy_checker.specs.Survey.{Among, IsHeld, Tells}
+use Rattle.sy_checker.specs.internal.Survey.{Among, IsHeld, Tells}
 use Rattle.sy_checker.proofs.told.put_inner_loops.Given as goal
 
 abbrev pub invariant-loop-input : goal.invariant-loop-input

@@ -1,4 +1,4 @@
-use Rattle.sy_checker.specs.Survey.{Among, AreHeld, IsHeld}
+use Rattle.sy_checker.specs.internal.Survey.{Among, AreHeld, IsHeld}
 use Rattle.sy_checker.proofs.Telling.{held_among, seven, told_as}
 use Rattle.sy_checker.proofs.told.put_input.Goals as goal
 

@@ -1,5 +1,5 @@
 use Rattle.std.proofs.lemmas.List.Elements.{Contains-get_or}
-use Rattle.sy_checker.specs.Survey.{AreHeld}
+use Rattle.sy_checker.specs.internal.Survey.{AreHeld}
 use Rattle.sy_checker.proofs.Telling.{all_told, more_told}
 use Rattle.sy_checker.proofs.told.put_inputs.Goals as goal
 

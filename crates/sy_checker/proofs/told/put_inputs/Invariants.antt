@@ -1,5 +1,5 @@
 use Rattle.std.proofs.Common.{take}
-use Rattle.sy_checker.specs.Survey.{Among, AreHeld, Tells}
+use Rattle.sy_checker.specs.internal.Survey.{Among, AreHeld, Tells}
 use Rattle.sy_checker.proofs.told.put_inputs.Given as goal
 
 abbrev pub invariant-loop-input : goal.invariant-loop-input

@@ -1,4 +1,4 @@
-use Rattle.sy_checker.specs.Survey.{IsHeld}
+use Rattle.sy_checker.specs.internal.Survey.{IsHeld}
 use Rattle.sy_checker.proofs.Telling.{is_there, put_told}
 use Rattle.sy_checker.proofs.told.put_kind.Goals as goal
 

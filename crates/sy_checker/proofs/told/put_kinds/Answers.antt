@@ -1,4 +1,4 @@
-use Rattle.sy_checker.specs.Survey.{IsHeld}
+use Rattle.sy_checker.specs.internal.Survey.{IsHeld}
 use Rattle.sy_checker.proofs.Telling.{all_told, more_told}
 use Rattle.sy_checker.proofs.told.put_kinds.Goals as goal
 

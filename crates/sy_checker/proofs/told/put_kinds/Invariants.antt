@@ -1,5 +1,5 @@
 use Rattle.std.proofs.Common.{take}
-use Rattle.sy_checker.specs.Survey.{Among, IsHeld, Tells}
+use Rattle.sy_checker.specs.internal.Survey.{Among, IsHeld, Tells}
 use Rattle.sy_checker.proofs.told.put_kinds.Given as goal
 
 abbrev pub invariant-loop-kind : goal.invariant-loop-kind

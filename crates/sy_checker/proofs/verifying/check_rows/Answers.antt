@@ -1,10 +1,10 @@
 use Rattle.std.proofs.Common.{drop, get_or, length, refl, subst, sym, take}
 use Rattle.std.proofs.lemmas.List.{take_all}
 use Rattle.std.proofs.lemmas.Option.{slice_get_read}
-use Rattle.sy_checker.specs.Acceptance.{AreReached}
+use Rattle.sy_checker.specs.internal.Checking.{AreReached}
 use Rattle.sy_checker.specs.Fit.{AreWrong}
 use Rattle.sy_checker.proofs.Guarded.{take_next}
-use Rattle.sy_checker.specs.Verifying.{IsJudged}
+use Rattle.sy_checker.specs.internal.Verifying.{IsJudged}
 use Rattle.sy_checker.proofs.Verified.{done_left, next_right, no_later, whole_rest}
 use Rattle.sy_checker.proofs.verifying.check_rows.Goals as goal
 

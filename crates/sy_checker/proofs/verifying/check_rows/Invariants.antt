@@ -1,6 +1,6 @@
 use Rattle.std.proofs.Common.{drop, take}
-use Rattle.sy_checker.specs.Acceptance.{AreReached}
-use Rattle.sy_checker.specs.Verifying.{AreDone}
+use Rattle.sy_checker.specs.internal.Checking.{AreReached}
+use Rattle.sy_checker.specs.internal.Verifying.{AreDone}
 use Rattle.sy_checker.proofs.verifying.check_rows.Given as goal
 
 abbrev pub invariant-loop-class : goal.invariant-loop-class

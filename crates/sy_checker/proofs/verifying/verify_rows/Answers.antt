@@ -1,5 +1,5 @@
 use Rattle.std.proofs.Common.{refl, subst}
-use Rattle.sy_checker.specs.Acceptance.{AreReached}
+use Rattle.sy_checker.specs.internal.Checking.{AreReached}
 use Rattle.sy_checker.proofs.Uniqueness.{wrong_rows}
 use Rattle.sy_checker.proofs.Verified.{fit_by}
 use Rattle.sy_checker.proofs.verifying.verify_rows.Goals as goal

@@ -1,7 +1,7 @@
 use Rattle.std.proofs.Common.{◌∙◌, ap, sym, subst}
 use Rattle.std.specs.List.{list_any}
 use Rattle.sy_site.specs.Sites.{same_action}
-use Rattle.sy_checker.specs.Internal.{AddsArchive}
+use Rattle.sy_checker.specs.internal.Found.{AddsArchive}
 use Rattle.sy_checker.proofs.Named.{had_before, not_asked, put_behind}
 use Rattle.sy_checker.proofs.wanted.put_archive.Goals as goal
 

@@ -1,7 +1,7 @@
 use Rattle.std.proofs.Common.{◌≡◌, ◌∙◌, ◌<◌, None, arith, length, sym, subst}
 use Rattle.std.specs.Prelude.{slice_get, Some}
 use Rattle.sy_site.specs.declared.site.SiteInput.{SiteInput}
-use Rattle.sy_checker.specs.Search.{IsLed}
+use Rattle.sy_checker.specs.internal.Search.{IsLed}
 use Rattle.sy_checker.proofs.Gone.{if_ok}
 use Rattle.sy_checker.proofs.Rooted.{is_none, read_there}
 use Rattle.sy_checker.proofs.Ways.{HasWay, way_first, way_more, way_whole}

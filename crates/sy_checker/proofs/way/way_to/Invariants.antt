@@ -3,7 +3,7 @@ use Rattle.sy_wire.specs.declared.class.Class.{Class}
 use Rattle.sy_site.specs.declared.site.SiteInput.{SiteInput}
 use Rattle.sy_site.specs.Sites.{Site}
 use Rattle.sy_checker.specs.declared.executed.Executed.{Executed}
-use Rattle.sy_checker.specs.Search.{AreRooted}
+use Rattle.sy_checker.specs.internal.Search.{AreRooted}
 use Rattle.sy_checker.proofs.Ways.{HasWay}
 use Rattle.sy_checker.proofs.way.way_to.Given as goal
 

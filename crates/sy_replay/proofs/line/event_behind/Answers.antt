@@ -1,6 +1,6 @@
 use Rattle.std.specs.Option.{option_copied}
 use Rattle.sy_replay.specs.declared.line.verb.Verb.TheVariants as verb
-use Rattle.sy_replay.specs.Reading.{words_left}
+use Rattle.sy_replay.specs.internal.Reading.{words_left}
 use Rattle.sy_replay.proofs.LineEvents.{by_verb}
 use Rattle.sy_replay.proofs.line.event_behind.Goals as goal
 

@@ -1,6 +1,6 @@
 use Rattle.std.proofs.Common.{ℕ, List, ◌∷◌, ap, ◌∙◌}
 use Rattle.std.specs.Option.{option_copied}
-use Rattle.sy_replay.specs.Reading.{words_left}
+use Rattle.sy_replay.specs.internal.Reading.{words_left}
 use Rattle.sy_replay.proofs.LineEvents.{no_event}
 use Rattle.sy_replay.proofs.line.event_of.Goals as goal
 

@@ -1,7 +1,8 @@
 use Rattle.std.proofs.Common.{refl}
 use Rattle.std.proofs.lemmas.Option.{slice_get_read}
-use Rattle.sy_replay.specs.Events.{IsIllegal, losses_of, step_of}
-use Rattle.sy_replay.specs.States.{IsNoneInside}
+use Rattle.sy_replay.specs.Events.{losses_of, step_of}
+use Rattle.sy_replay.specs.internal.Events.{IsIllegal}
+use Rattle.sy_replay.specs.internal.States.{IsNoneInside}
 use Rattle.sy_site.specs.machine.Steps.{SiteEvent}
 use Rattle.sy_replay.proofs.Made.{if_err, on_ok}
 use Rattle.sy_replay.proofs.Sites.{inside_made, inside_refused}

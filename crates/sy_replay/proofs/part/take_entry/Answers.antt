@@ -3,8 +3,8 @@ use Rattle.std.specs.Prelude.{slice_set}
 use Rattle.std.specs.Arc.{arc_value}
 use Rattle.std.proofs.lemmas.Option.{slice_get_read}
 use Rattle.sy_replay.specs.Events.{losses_of}
-use Rattle.sy_replay.specs.Parts.{IsNoTake}
-use Rattle.sy_replay.specs.Takes.{IsNoEntry, TakesEntry}
+use Rattle.sy_replay.specs.internal.Parts.{IsNoTake}
+use Rattle.sy_replay.specs.internal.Takes.{IsNoEntry, TakesEntry}
 use Rattle.sy_replay.proofs.Made.{if_err, on_ok}
 use Rattle.sy_replay.proofs.Sites.{plans_set}
 use Rattle.sy_replay.proofs.Takes.{entry_refused, entry_taken, plan_taken}

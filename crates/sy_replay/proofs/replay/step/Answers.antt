@@ -1,7 +1,7 @@
 use Rattle.std.proofs.Common.{subst, sym}
 use Rattle.std.specs.Prelude.{OnOk}
 use Rattle.sy_replay.specs.Events.{site_event}
-use Rattle.sy_replay.specs.Held.{contents_of}
+use Rattle.sy_replay.specs.internal.Held.{contents_of}
 use Rattle.sy_replay.specs.States.{Applies}
 use Rattle.sy_replay.proofs.Made.{on_ok}
 use Rattle.sy_replay.proofs.replay.step.Goals as goal

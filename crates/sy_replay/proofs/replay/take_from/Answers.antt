@@ -3,10 +3,10 @@ use Rattle.std.specs.Arc.{arc_value}
 use Rattle.sy_site.specs.machine.Steps.{SiteEvent}
 use Rattle.sy_site.specs.machine.States.{taken_by}
 use Rattle.sy_replay.specs.Events.{losses_of}
-use Rattle.sy_replay.specs.Flags.{behind}
-use Rattle.sy_replay.specs.Held.{contents_of}
+use Rattle.sy_replay.specs.internal.Events.{behind}
+use Rattle.sy_replay.specs.internal.Held.{contents_of}
 use Rattle.sy_replay.specs.States.{Applies, holding}
-use Rattle.sy_replay.specs.Takes.{IsNoEntry, TakesEntry}
+use Rattle.sy_replay.specs.internal.Takes.{IsNoEntry, TakesEntry}
 use Rattle.sy_replay.proofs.Takes.{from_link, none_there, not_from_link, place_kept}
 use Rattle.sy_replay.proofs.replay.take_from.Goals as goal
 

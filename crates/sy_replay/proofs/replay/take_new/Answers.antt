@@ -3,7 +3,7 @@ use Rattle.std.specs.Arc.{arc_value}
 use Rattle.sy_site.specs.machine.Steps.{SiteEvent}
 use Rattle.sy_replay.specs.Events.{losses_of}
 use Rattle.sy_replay.specs.States.{Applies, holding}
-use Rattle.sy_replay.specs.Takes.{IsNoEntry, TakesEntry}
+use Rattle.sy_replay.specs.internal.Takes.{IsNoEntry, TakesEntry}
 use Rattle.sy_replay.proofs.Takes.{arrival, first, new_comes, none_comes}
 use Rattle.sy_replay.proofs.replay.take_new.Goals as goal
 

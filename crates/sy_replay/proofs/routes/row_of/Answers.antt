@@ -1,5 +1,5 @@
 use Rattle.std.proofs.Common.{◌∙◌, ◌∷◌, ◌++◌, [], ap, arith, sym}
-use Rattle.sy_replay.specs.Routes.{first_of, target_at}
+use Rattle.sy_replay.specs.internal.Routes.{first_of, target_at}
 use Rattle.sy_replay.proofs.Tables.{one_more_of}
 use Rattle.sy_replay.proofs.routes.row_of.Goals as goal
 

@@ -1,6 +1,6 @@
 use Rattle.std.proofs.Common.{◌≡◌, ◌≤◌, length}
 use Rattle.sy_site.specs.Sites.{plan_at}
-use Rattle.sy_replay.specs.Routes.{first_of, target_at}
+use Rattle.sy_replay.specs.internal.Routes.{first_of, target_at}
 use Rattle.sy_replay.proofs.routes.row_of.Given as goal
 
 abbrev pub invariant-loop-action : goal.invariant-loop-action

@@ -1,5 +1,5 @@
 use Rattle.std.proofs.Common.{◌∙◌, ◌∷◌, ◌++◌, [], ap, arith, sym}
-use Rattle.sy_replay.specs.Routes.{first_of, row_of}
+use Rattle.sy_replay.specs.internal.Routes.{first_of, row_of}
 use Rattle.sy_replay.proofs.Tables.{one_more_of, rows_more}
 use Rattle.sy_replay.proofs.routes.table_of.Goals as goal
 

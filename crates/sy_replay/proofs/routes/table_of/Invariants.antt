@@ -1,5 +1,5 @@
 use Rattle.std.proofs.Common.{◌≡◌, ◌≤◌, length}
-use Rattle.sy_replay.specs.Routes.{first_of, row_of, rows_of}
+use Rattle.sy_replay.specs.internal.Routes.{first_of, row_of, rows_of}
 use Rattle.sy_replay.proofs.routes.table_of.Given as goal
 
 abbrev pub invariant-loop-relay : goal.invariant-loop-relay

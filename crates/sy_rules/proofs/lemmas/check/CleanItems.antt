@@ -8,11 +8,12 @@ use Rattle.sy_rules.specs.Limits.{ACTIONS, INPUTS, RULESETS}
 use Rattle.sy_rules.specs.declared.fault.FaultCode.TheVariants as code
 use Rattle.sy_rules.specs.declared.parameters.objects.ActionParameters.{ActionParameters}
 use Rattle.sy_rules.specs.Faults.{fault, when}
-use Rattle.sy_rules.specs.items.ItemFaults.{AreClean, object_faults}
+use Rattle.sy_rules.specs.items.ItemFaults.{object_faults}
+use Rattle.sy_rules.specs.internal.Checking.{AreClean, faults_after}
 use Rattle.sy_rules.specs.items.Outline.{Item}
 use Rattle.sy_rules.specs.parameters.Objects.{input_of, ruleset_of, action_of, kind_of_action}
 use Rattle.sy_rules.specs.parts.Plans.{input_at, ruleset_at, action_at, own_queue, inputs_of, rulesets_of, actions_of, queues_of, names_from, action_names, action_name, default_ruleset}
-use Rattle.sy_rules.specs.check.ScriptFaults.{faults_among, faults_after, too_many, too_many_workers, not_loaded, unknown_ruleset, same_port, ports_of, ruleset_names_of, loads_imtcp, is_among}
+use Rattle.sy_rules.specs.check.ScriptFaults.{faults_among, too_many, too_many_workers, not_loaded, unknown_ruleset, same_port, ports_of, ruleset_names_of, loads_imtcp, is_among}
 use Rattle.sy_rules.proofs.lemmas.parameters.Fits.{no_front, no_back}
 
 -- ---- each by itself

@@ -18,7 +18,8 @@ use Rattle.sy_rules.specs.items.ItemFaults.{object_faults}
 use Rattle.sy_rules.specs.lists.Lines.{Lines, is_deeper, statements_of, body_of}
 use Rattle.sy_rules.specs.items.Outline.{Item, Placed, items, items_of, placed_items}
 use Rattle.sy_rules.specs.PlanValue.{AreExprs, HasParts, IsGiven, IsPlan, Plan, lines_of, test_of_item}
-use Rattle.sy_rules.specs.check.ScriptFaults.{Head, faults_among, faults_after, faults_in_text, faults_of, faults_of_lists, heads_of, list_faults, too_many_workers}
+use Rattle.sy_rules.specs.check.ScriptFaults.{Head, faults_among, faults_in_text, faults_of, faults_of_lists, heads_of, list_faults, too_many_workers}
+use Rattle.sy_rules.specs.internal.Checking.{faults_after}
 use Rattle.sy_rules.specs.lists.Body as body
 use Rattle.sy_rules.proofs.lemmas.check.AmongLaws.{first_of, first_when, move, none_when}
 use Rattle.sy_rules.proofs.lemmas.lists.CallLaws.{chain_of, deep_by}

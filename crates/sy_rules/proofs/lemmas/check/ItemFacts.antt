@@ -12,7 +12,8 @@ use Rattle.sy_rules.specs.declared.parameters.objects.ActionParameters.{ActionPa
 use Rattle.sy_rules.specs.declared.parameters.objects.InputParameters.{InputParameters}
 use Rattle.sy_rules.specs.declared.parameters.objects.RulesetParameters.{RulesetParameters}
 use Rattle.sy_rules.specs.check.FaultsThere.{IsInputOfPort, IsAction, IsMainQueue, IsRuleset, LoadsImtcp, NoneIs}
-use Rattle.sy_rules.specs.items.ItemFaults.{AreClean, object_faults}
+use Rattle.sy_rules.specs.items.ItemFaults.{object_faults}
+use Rattle.sy_rules.specs.internal.Checking.{AreClean}
 use Rattle.sy_rules.specs.parameters.Objects.{action_of, default_number, input_of, kind_of_action, is_word, number_of, ruleset_of, text}
 use Rattle.sy_rules.specs.items.Outline.{Item}
 use Rattle.sy_rules.specs.parameters.Values.{decimal_value, faults, given, has_shape}

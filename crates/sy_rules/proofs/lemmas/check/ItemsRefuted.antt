@@ -19,7 +19,8 @@ use Rattle.sy_rules.specs.parameters.Objects.{action_of, input_of, kind_of_actio
 use Rattle.sy_rules.specs.items.Outline.{Item}
 use Rattle.sy_rules.specs.parameters.Values.{given}
 use Rattle.sy_rules.specs.parts.Plans.{action_at, action_name, action_names, actions_of, default_ruleset, input_at, inputs_of, names_from, rulesets_of}
-use Rattle.sy_rules.specs.check.ScriptFaults.{faults_among, faults_after, is_among, is_main_queue, loads_imtcp, not_loaded, ports_of, ruleset_names_of, same_port, too_many, unknown_ruleset}
+use Rattle.sy_rules.specs.check.ScriptFaults.{faults_among, is_among, is_main_queue, loads_imtcp, not_loaded, ports_of, ruleset_names_of, same_port, too_many, unknown_ruleset}
+use Rattle.sy_rules.specs.internal.Checking.{faults_after}
 use Rattle.sy_rules.proofs.lemmas.check.AmongLaws.{IsAmong, among_by, any_found, any_map, any_of, contained, made_any, none_when}
 use Rattle.sy_rules.proofs.lemmas.check.CleanItems.{are_clean, few_enough}
 use Rattle.sy_rules.proofs.lemmas.parameters.Fits.{no_back, no_front}

@@ -19,12 +19,13 @@ use Rattle.sy_rules.specs.declared.parameters.objects.InputParameters.{InputPara
 use Rattle.sy_rules.specs.declared.parameters.objects.RulesetParameters.{RulesetParameters}
 use Rattle.sy_rules.specs.check.FaultsThere.{HasItemFault, IsInputOfPort, IsRuleset}
 use Rattle.sy_rules.specs.Faults.{fault, first, in_text, when}
-use Rattle.sy_rules.specs.items.ItemFaults.{AreClean, object_faults}
+use Rattle.sy_rules.specs.items.ItemFaults.{object_faults}
+use Rattle.sy_rules.specs.internal.Checking.{AreClean, faults_after}
 use Rattle.sy_rules.specs.parameters.Objects.{action_of, input_of, kind_of_action, ruleset_of}
 use Rattle.sy_rules.specs.items.Outline.{Item, Placed, items_of}
 use Rattle.sy_rules.specs.parameters.Values.{faults, given}
 use Rattle.sy_rules.specs.parts.Plans.{action_name, action_names, actions_of, default_ruleset, input_at, inputs_of, rulesets_of}
-use Rattle.sy_rules.specs.check.ScriptFaults.{as_item_fault, faults_among, faults_after, faults_in_text, is_among, is_main_queue, loads_imtcp, not_loaded, ports_of, ruleset_names_of, same_port, too_many, unknown_ruleset}
+use Rattle.sy_rules.specs.check.ScriptFaults.{as_item_fault, faults_among, faults_in_text, is_among, is_main_queue, loads_imtcp, not_loaded, ports_of, ruleset_names_of, same_port, too_many, unknown_ruleset}
 use Rattle.sy_rules.proofs.lemmas.check.AmongLaws.{any_found, any_map, contained, first_map, first_of, first_when, made_found, move}
 use Rattle.sy_rules.proofs.lemmas.check.ItemFacts.{clean_of, clean_more, equal_bytes, given_name, is_main, name_found, name_of_ruleset, named_found, none_loads, none_named, port_given, port_of_input, same_bytes}
 use Rattle.sy_rules.specs.internal.ItemViews.{item, placed}

@@ -12,14 +12,15 @@ use Rattle.sy_script.specs.declared.tree.Top.{Top}
 use Rattle.sy_script.specs.declared.tree.Top.TheVariants as top
 use Rattle.sy_rules.specs.declared.parameters.objects.RulesetParameters.{RulesetParameters}
 use Rattle.sy_rules.specs.items.Outline as outline
-use Rattle.sy_rules.specs.items.Outline.{Item, Placed, joined, placed, placed_in_block, placed_in_stmt, placed_in_body, placed_in_tops, items_of, items_of_tops}
+use Rattle.sy_rules.specs.items.Outline.{Item, Placed, joined, placed, placed_in_stmt, placed_in_body, placed_in_tops, items_of, items_of_tops}
+use Rattle.sy_rules.specs.internal.Texts.{placed_in_block, front_of_block}
 use Rattle.sy_rules.specs.Faults.{nowhere}
 use Rattle.sy_rules.specs.items.Expressions.{trees_of}
 use Rattle.sy_rules.specs.items.PartItems.{actions_of_parts, calls, calls_of_parts, name_of_call, names_of_calls, params_of, params_of_item, rulesets_in, tests_of_parts}
 use Rattle.sy_rules.specs.parts.Plans.{ruleset_at, rulesets_of}
 use Rattle.sy_rules.specs.PlanValue.{test_of_item}
 use Rattle.sy_rules.specs.lists.Texts as text
-use Rattle.sy_rules.specs.lists.Texts.{Text, Front, Part, together, tests, actions, front_of_block, front_of_stmt, front_of_body, part_of, parts}
+use Rattle.sy_rules.specs.lists.Texts.{Text, Front, Part, together, tests, actions, front_of_stmt, front_of_body, part_of, parts}
 
 -- what these items have
 

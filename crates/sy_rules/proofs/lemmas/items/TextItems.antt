@@ -3,7 +3,7 @@ use Rattle.std.proofs.Common.{◌≡◌, ℕ, suc, ◌+◌, List, [], ◌∷◌,
 use Rattle.std.proofs.lemmas.List.{length-append}
 use Rattle.sy_script.specs.declared.tree.ObjectKind.TheVariants as object
 use Rattle.sy_script.specs.declared.tree.Top.{Top}
-use Rattle.sy_rules.specs.lists.Lines.{text_of}
+use Rattle.sy_rules.specs.internal.Texts.{text_of}
 use Rattle.sy_rules.specs.items.Outline.{Item, items_of_tops}
 use Rattle.sy_rules.specs.items.PartItems.{actions_of_parts, params_of}
 use Rattle.sy_rules.specs.parts.Plans.{actions_of}

@@ -8,7 +8,8 @@ use Rattle.sy_script.specs.declared.tree.Block.{Block}
 use Rattle.sy_script.specs.declared.tree.Block.TheOpen.{Stmt-F}
 use Rattle.sy_script.specs.declared.tree.Block.TheFolds.{fold-roll-Stmt}
 use Rattle.sy_script.specs.declared.tree.Stmt.TheVariants as s
-use Rattle.sy_rules.specs.lists.Texts.{Text, Front, block_step, stmt_step, front_of_block, front_of_stmt}
+use Rattle.sy_rules.specs.lists.Texts.{Text, Front, block_step, stmt_step, front_of_stmt}
+use Rattle.sy_rules.specs.internal.Texts.{front_of_block}
 use Rattle.sy_rules.specs.internal.TextTables.{front_of_otherwise}
 
 pub action_is : (w : Span) (ps : List Param) → front_of_stmt (s.Action w ps) ≡ Text.Action ps

@@ -5,7 +5,8 @@ use Rattle.std.proofs.lemmas.Nat.{mul-le}
 use Rattle.sy_script.specs.declared.tree.Param.{Param}
 use Rattle.sy_rules.specs.declared.parameters.kind.Kind.{Kind}
 use Rattle.sy_rules.specs.declared.parameters.kind.Kind.TheVariants as kind
-use Rattle.sy_rules.specs.parameters.Objects.{absent_number, default_number, number_of, takes_queue, is_action, is_word, size_of, queue_parameters, AreInRange}
+use Rattle.sy_rules.specs.parameters.Objects.{absent_number, default_number, number_of, is_word, size_of, queue_parameters, AreInRange}
+use Rattle.sy_rules.specs.internal.Objects.{takes_queue, is_action}
 use Rattle.sy_rules.specs.parameters.Values.{decimal_value, given, is_minus_one, is_in_range, is_within, faults}
 use Rattle.sy_rules.specs.parameters.Rows.{Shape, Absent, row, rows, lookup, own_rows, destination_rows, queue_head_rows, queue_rest_rows, most}
 use Rattle.sy_rules.proofs.lemmas.parameters.Fits.{IsFit, fit, given_if_required}

@@ -18,7 +18,8 @@ use Rattle.sy_rules.specs.parameters.Objects.{input_of, ruleset_of}
 use Rattle.sy_rules.specs.items.Outline.{Item}
 use Rattle.sy_rules.specs.parts.Plans.{action_queues, default_ruleset, input_at, inputs_of, list_at_place, list_of_input, list_queues, place_of, own_queue, queue_after, queue_here, queue_number, ruleset_at, ruleset_names, ruleset_queues, rulesets_of}
 use Rattle.sy_rules.specs.PlanValue.{input_part, queue_or_main}
-use Rattle.sy_rules.specs.check.ScriptFaults.{faults_after, is_among, unknown_ruleset}
+use Rattle.sy_rules.specs.check.ScriptFaults.{is_among, unknown_ruleset}
+use Rattle.sy_rules.specs.internal.Checking.{faults_after}
 use Rattle.sy_rules.proofs.lemmas.parts.GivenItems.{not_both, one_own, own_is, same_some}
 use Rattle.sy_rules.proofs.lemmas.parts.GivenParts.{all_given, collected, put}
 use Rattle.sy_rules.proofs.lemmas.check.ItemsRefuted.{is_known}

@@ -9,7 +9,7 @@ use Rattle.sy_rules.specs.parts.Given.{Given, GivesAction, GivesActionList, Give
 use Rattle.sy_rules.specs.lists.Lines.{Lines, body_of}
 use Rattle.sy_rules.specs.items.Outline.{Item, items}
 use Rattle.sy_rules.specs.parts.Plans.{action_queues, list_queues, main_queue_of, own_queue, queues_of, ruleset_queues, rulesets_of, workers_from}
-use Rattle.sy_rules.specs.check.ScriptFaults.{faults_after}
+use Rattle.sy_rules.specs.internal.Checking.{faults_after}
 use Rattle.sy_rules.specs.PlanValue.{HasParts, IsGiven, Plan, lines_of, listed_from}
 use Rattle.sy_rules.proofs.lemmas.parts.GivenInputs.{inputs_given, same_input}
 use Rattle.sy_rules.proofs.lemmas.parts.GivenItems.{same_queue}

@@ -12,8 +12,10 @@ use Rattle.sy_rules.specs.declared.parameters.kind.Kind.TheVariants as kind
 use Rattle.sy_rules.specs.declared.parameters.objects.ActionParameters.{ActionParameters}
 use Rattle.sy_rules.specs.declared.parameters.objects.InputParameters.{InputParameters}
 use Rattle.sy_rules.specs.declared.parameters.settings.QueueParameters.{QueueParameters}
-use Rattle.sy_rules.specs.items.ItemFaults.{AreClean, object_faults}
-use Rattle.sy_rules.specs.parameters.Objects.{AreInRange, HasPort, has_queue, input_of, ruleset_of, action_of, kind_of_action, destination_of, is_action, kind_named, is_word, takes_queue, queue_of, queue_parameters}
+use Rattle.sy_rules.specs.items.ItemFaults.{object_faults}
+use Rattle.sy_rules.specs.internal.Checking.{AreClean}
+use Rattle.sy_rules.specs.parameters.Objects.{AreInRange, HasPort, has_queue, input_of, ruleset_of, action_of, kind_of_action, destination_of, kind_named, is_word, queue_of, queue_parameters}
+use Rattle.sy_rules.specs.internal.Objects.{is_action, takes_queue}
 use Rattle.sy_rules.specs.declared.parts.Input.{Input}
 use Rattle.sy_rules.specs.lists.Lines.{queued}
 use Rattle.sy_rules.specs.items.Outline.{Item}

@@ -18,7 +18,8 @@ use Rattle.sy_rules.specs.parameters.Objects.{action_of, input_of, kind_of_actio
 use Rattle.sy_rules.specs.items.Outline.{Item}
 use Rattle.sy_rules.specs.parts.Plans.{action_at, action_name, action_names, actions_of, input_at, inputs_of, names_from}
 use Rattle.sy_rules.specs.PlanValue.{action_parts, input_part}
-use Rattle.sy_rules.specs.check.ScriptFaults.{faults_among, faults_after, too_many, not_loaded, unknown_ruleset, same_port, ports_of, ruleset_names_of, loads_imtcp, is_among}
+use Rattle.sy_rules.specs.check.ScriptFaults.{faults_among, too_many, not_loaded, unknown_ruleset, same_port, ports_of, ruleset_names_of, loads_imtcp, is_among}
+use Rattle.sy_rules.specs.internal.Checking.{faults_after}
 use Rattle.sy_rules.specs.Whole.{AreDifferent}
 use Rattle.sy_rules.proofs.lemmas.parameters.Fits.{no_front, no_back}
 

@@ -17,7 +17,8 @@ use Rattle.sy_rules.specs.declared.lists.statement.Statement.{Statement}
 use Rattle.sy_rules.specs.internal.ClassFlows.{AreFlows}
 use Rattle.sy_rules.specs.internal.PlanInside.{AreParts, IsKept, plan_of}
 use Rattle.sy_rules.specs.PlanValue.{HasParts, Plan, lines_of, listed_from}
-use Rattle.sy_rules.specs.check.ScriptFaults.{faults_after, too_many_workers}
+use Rattle.sy_rules.specs.check.ScriptFaults.{too_many_workers}
+use Rattle.sy_rules.specs.internal.Checking.{faults_after}
 use Rattle.sy_rules.specs.lists.Body.{occurrences}
 use Rattle.sy_rules.specs.internal.Tables.{count_of}
 use Rattle.sy_rules.specs.Whole.{IsWhole}

@@ -16,7 +16,8 @@ use Rattle.sy_rules.specs.parameters.Objects.{AreInRange, HasPort}
 use Rattle.sy_rules.specs.items.Outline.{Item, items}
 use Rattle.sy_rules.specs.parts.Plans.{action_name, names_of, own_queue, queued_names, actions_of, rulesets_of, inputs_of, list_names, list_of_input, queues_of, workers_of, is_queued_action, queue_after, ruleset_queues, action_queues, list_queues}
 use Rattle.sy_rules.specs.PlanValue.{Plan, action_parts, file_of, input_part, lines_of, listed_from, queue_or_main}
-use Rattle.sy_rules.specs.check.ScriptFaults.{faults_after, too_many_workers}
+use Rattle.sy_rules.specs.check.ScriptFaults.{too_many_workers}
+use Rattle.sy_rules.specs.internal.Checking.{faults_after}
 use Rattle.sy_rules.specs.lists.Body.{Body, count, occurrences, size}
 use Rattle.sy_rules.specs.lists.Texts.{parts}
 use Rattle.sy_rules.specs.Whole as whole

@@ -4,7 +4,8 @@ use Rattle.sy_rules.specs.Faults.{IsAnswered}
 use Rattle.sy_rules.specs.internal.ItemViews.{item, placed}
 use Rattle.sy_rules.specs.internal.Loading.{faults_of_its_lists}
 use Rattle.sy_rules.specs.items.Outline.{items, placed_items}
-use Rattle.sy_rules.specs.check.ScriptFaults.{faults_after, faults_in_text, too_many_workers}
+use Rattle.sy_rules.specs.check.ScriptFaults.{faults_in_text, too_many_workers}
+use Rattle.sy_rules.specs.internal.Checking.{faults_after}
 use Rattle.sy_rules.proofs.lemmas.check.ItemsThere.{clean_in_text}
 use Rattle.sy_rules.proofs.lemmas.parameters.Fits.{no_front}
 use Rattle.sy_rules.proofs.lemmas.plan.Loads.{answered_front}

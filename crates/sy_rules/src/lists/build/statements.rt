@@ -2,7 +2,8 @@
 ghost use Rattle.std.specs.Prelude.{◌≡◌, ◌+◌, ◌-◌, ◌<◌, ◌≤◌, ◌++◌, ◌∷◌, [], IfOk, OnOk, length, set};
 ghost use Rattle.sy_rules.specs.parts.Plans.{names_of, place_of};
 ghost use Rattle.sy_rules.specs.internal.TextTables as spec;
-ghost use Rattle.sy_rules.specs.lists.Texts.{front_of_block, front_of_body, front_of_stmt};
+ghost use Rattle.sy_rules.specs.lists.Texts.{front_of_body, front_of_stmt};
+ghost use Rattle.sy_rules.specs.internal.Texts.{front_of_block};
 
 use super::count::{Counts, as_u32, next};
 use super::scope::{Scope, call_statement};

@@ -1,5 +1,5 @@
 use Rattle.std.proofs.Common.{◌≡◌, ◌++◌, map, drop}
-use Rattle.sy_site.specs.internal.Given.{file}
+use Rattle.sy_site.specs.texts.Describes.{file}
 use Rattle.syc.specs.internal.Halts.{file_of}
 use Rattle.syc.proofs.site.lend.Given as goal
 

@@ -1,7 +1,6 @@
 use Rattle.std.proofs.Common.{◌≡◌, map, subst, ap, inl, inr, ◌∙◌, rules}
-use Rattle.sy_site.specs.internal.Given.{file}
+use Rattle.sy_site.specs.texts.Describes.{file, Describes}
 use Rattle.sy_site.specs.declared.fault.SiteFault.TheVariants as site_fault
-use Rattle.sy_site.specs.texts.Describes.{Describes}
 use Rattle.sy_site.specs.texts.Files.{file_names}
 use Rattle.sy_site.specs.texts.HasFault.{HasFault}
 use Rattle.syc.specs.internal.Halts.{file_of}

@@ -10,8 +10,8 @@ use denote.Param.Send.{IsSend, AllSend, owning_send, struct_send, sendable}
 use Rattle.std.proofs.Crossing as heap
 use Rattle.std_alloc.proofs.SendSync.{quiet, lies}
 use Rattle.core.specs.contracts.marker.PhantomData as Mark
-use Rattle.sy_chain.specs.Linked.{Placed}
-use Rattle.sy_chain.specs.Ownership.{blocks_own}
+use Rattle.sy_chain.specs.internal.Linked.{Placed}
+use Rattle.sy_chain.specs.internal.Ownership.{blocks_own}
 use Rattle.sy_chain.specs.contracts.blocks.Blocks.{the_row, the_type}
 use Rattle.sy_chain.specs.contracts.blocks.Block as Block
 use Rattle.sy_chain.proofs.blocks.Block.TheSendSync.{the_send}

@@ -21,7 +21,7 @@ use denote.Param.{layouts}
 use denote.Steps.{nothing}
 use denote.Triple.Walked.{Stays, stay_ref, stay_dropped, walk_of, Goes-ref, Goes-dropped}
 use Rattle.std.proofs.raw_atomic.Walks.{proved_at, leaves}
-use Rattle.sy_chain.specs.Linked.{Placed}
+use Rattle.sy_chain.specs.internal.Linked.{Placed}
 use Rattle.sy_chain.proofs.Steps.{D, Sr, Held, own_out, lends, gives_back, made, none, only_field}
 use Rattle.sy_chain.specs.contracts.blocks.Blocks.cut_front.{ended, clauses}
 use Rattle.sy_chain.specs.contracts.blocks.Blocks.cut_front.Key.{name as #self}

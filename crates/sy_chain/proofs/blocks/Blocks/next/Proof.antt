@@ -27,7 +27,7 @@ use denote.Triple.Walked.{Stays, stay_ref, stay_dropped, walk_of, Goes-ref, Goes
 use Rattle.std.proofs.raw_atomic.Walks.{proved_at, leaves}
 use Rattle.std_alloc.proofs.VecSteps.Shapes.{after}
 use Rattle.std_alloc.proofs.RcSteps.{Ptr-Good}
-use Rattle.sy_chain.specs.Linked.{Placed, place_of, next_of}
+use Rattle.sy_chain.specs.internal.Linked.{Placed, place_of, next_of}
 use Rattle.sy_chain.proofs.Leading.{parts_at, place_there, next_there}
 use Rattle.sy_chain.proofs.Steps.{Sr, Held, One, own_out, own_in, one_opens, box_closes, lends, gives_back}
 use Rattle.sy_chain.specs.contracts.blocks.Blocks.next.{ended, clauses}

@@ -26,7 +26,7 @@ use Rattle.std.proofs.GlobalToken.{dealloc_token_start}
 use Rattle.std_heap.specs.contracts.Global as Heap
 use Rattle.std_heap.specs.contracts.GlobalAllocator.TheImpl.{ghosts}
 use Rattle.std_heap.proofs.Global.TheLaws as heap
-use Rattle.sy_chain.specs.Linked.{IsStart}
+use Rattle.sy_chain.specs.internal.Linked.{IsStart}
 use Rattle.sy_chain.proofs.RawBoxes.{both, raw_good, raw_out}
 use Rattle.sy_chain.proofs.Steps.{D, Sr, Bl, Raw, block_ty, learns, two_made, made, none, only_field, two}
 use Rattle.sy_chain.specs.contracts.blocks.Blocks.one.{ended, clauses}

@@ -1,5 +1,5 @@
 use Rattle.std.proofs.Common.{◌≡◌}
-use Rattle.sy_chain.specs.Linked.{place_of}
+use Rattle.sy_chain.specs.internal.Linked.{place_of}
 use Rattle.sy_chain.proofs.blocks.Blocks.place.Given as goal
 
 abbrev pub invariant-loop-k : goal.invariant-loop-k

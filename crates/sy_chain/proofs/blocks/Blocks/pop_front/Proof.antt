@@ -29,7 +29,7 @@ use Rattle.std_alloc.proofs.RcSteps.{Ptr-Good}
 use Rattle.std_heap.specs.contracts.Global as Heap
 use Rattle.std_heap.specs.contracts.GlobalAllocator.TheImpl.{ghosts}
 use Rattle.std_heap.proofs.Global.TheLaws as heap
-use Rattle.sy_chain.specs.Linked.{Placed, place_of}
+use Rattle.sy_chain.specs.internal.Linked.{Placed, place_of}
 use Rattle.sy_chain.proofs.RawBoxes.{both, raw_good, raw_in}
 use Rattle.sy_chain.proofs.Leading.{parts_first}
 use Rattle.sy_chain.proofs.Steps.{D, Sr, Bl, Raw, Held, heap_copy, one_opens, box_closes, lends, gives_back}

@@ -26,7 +26,7 @@ use denote.Triple.Walked.{Stays, stay_ref, stay_dropped, walk_of, Goes-ref, Goes
 use Rattle.std.proofs.raw_atomic.Walks.{proved_at, leaves}
 use Rattle.std_alloc.proofs.VecSteps.Shapes.{after}
 use Rattle.std_alloc.proofs.RcSteps.{Ptr-Good}
-use Rattle.sy_chain.specs.Linked.{Placed, last_place, with_last_next}
+use Rattle.sy_chain.specs.internal.Linked.{Placed, last_place, with_last_next}
 use Rattle.sy_chain.proofs.Leading.{parts_last, last_is, changed_is}
 use Rattle.sy_chain.proofs.Steps.{D, Sr, Held, One, own_out, own_in, one_opens, box_closes, lends, gives_back}
 use Rattle.sy_chain.specs.contracts.blocks.Blocks.set_last_next.{ended, clauses}

@@ -1,5 +1,5 @@
 use Rattle.std.proofs.Common.{ap, ◌∙◌, take, drop, ◌-◌, arith}
-use Rattle.sy_chain.specs.Linked.{next_of}
+use Rattle.sy_chain.specs.internal.Linked.{next_of}
 use Rattle.sy_chain.proofs.Leading.{ends_in, rest_in, front_in, front_list, rest_list}
 use Rattle.sy_chain.proofs.linked.LinkedBlocks.cut_front.Goals as goal
 

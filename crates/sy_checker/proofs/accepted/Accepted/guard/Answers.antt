@@ -1,7 +1,8 @@
 use Rattle.std.proofs.Common.{◌≡◌, ◌∙◌, subst, ap}
 use Rattle.std.specs.Prelude.{IfOk}
 use Rattle.sy_site.specs.Sites.{actions_at}
-use Rattle.sy_checker.specs.Acceptance.{AreGuardable, ArePairsAt}
+use Rattle.sy_checker.specs.Acceptance.{ArePairsAt}
+use Rattle.sy_checker.specs.internal.Checking.{AreGuardable}
 use Rattle.sy_checker.proofs.Guarded.{guard_is, guard_may}
 use Rattle.sy_checker.proofs.accepted.Accepted.guard.Goals as goal
 

@@ -2,7 +2,7 @@ use Rattle.std.proofs.Common.{◌∙◌, ap, length, sym}
 use Rattle.std.specs.Arc.{arc_value}
 use Rattle.sy_rules.specs.PlanValue.{Plan}
 use Rattle.sy_replay.specs.Events.{losses_of}
-use Rattle.sy_replay.specs.Parts.{items_of}
+use Rattle.sy_replay.specs.internal.Parts.{items_of}
 use Rattle.sy_replay.proofs.Made.{on_ok}
 use Rattle.sy_replay.proofs.Sites.{plan_after}
 use Rattle.sy_replay.proofs.part.Part.take.Goals as goal

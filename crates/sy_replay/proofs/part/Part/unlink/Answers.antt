@@ -1,7 +1,8 @@
 use Rattle.std.proofs.Common.{◌∙◌, ◌<◌, ap, length, subst, sym}
 use Rattle.std.specs.Prelude.{slice_set}
-use Rattle.sy_replay.specs.Parts.{PartState, items_of, tags_at}
-use Rattle.sy_replay.specs.Takes.{without}
+use Rattle.sy_replay.specs.Parts.{PartState, tags_at}
+use Rattle.sy_replay.specs.internal.Parts.{items_of}
+use Rattle.sy_replay.specs.internal.Takes.{without}
 use Rattle.sy_replay.proofs.Made.{item_at, items_set}
 use Rattle.sy_replay.proofs.Takes.{items_there}
 use Rattle.sy_replay.proofs.part.Part.unlink.Goals as goal

@@ -1,6 +1,6 @@
 use Rattle.std.proofs.Common.{ap}
 use Rattle.sy_replay.specs.Events.{site_event}
-use Rattle.sy_replay.specs.Held.{state_held}
+use Rattle.sy_replay.specs.internal.Held.{state_held}
 use Rattle.sy_replay.specs.States.{state_in}
 use Rattle.sy_replay.proofs.Made.{on_err, on_ok}
 use Rattle.sy_replay.proofs.Replays.{are_of_after, reached_after}

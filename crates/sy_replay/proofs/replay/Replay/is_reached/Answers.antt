@@ -1,4 +1,4 @@
-use Rattle.sy_replay.specs.Held.{state_held}
+use Rattle.sy_replay.specs.internal.Held.{state_held}
 use Rattle.sy_replay.proofs.replay.Replay.is_reached.Goals as goal
 
 pub returns-clause-within_marks : goal.returns-clause-within_marks

@@ -1,6 +1,6 @@
 use Rattle.std.proofs.Common.{ap}
 use Rattle.sy_replay.specs.Events.{losses_of}
-use Rattle.sy_replay.specs.Held.{state_held}
+use Rattle.sy_replay.specs.internal.Held.{state_held}
 use Rattle.sy_replay.proofs.Losses.{copies_there, relays_there}
 use Rattle.sy_replay.proofs.replay.Replay.losses.Goals as goal
 

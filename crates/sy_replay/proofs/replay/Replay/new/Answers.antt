@@ -1,5 +1,5 @@
 use Rattle.std.proofs.Common.{subst, sym}
-use Rattle.sy_replay.specs.States.{AreOf}
+use Rattle.sy_replay.specs.internal.States.{AreOf}
 use Rattle.sy_replay.proofs.Replays.{opened_of, opened_reached, opened_state}
 use Rattle.sy_replay.proofs.replay.Replay.new.Goals as goal
 

@@ -1,5 +1,5 @@
 use Rattle.std.proofs.Common.{◌∙◌, ap}
-use Rattle.sy_replay.specs.Routes.{entry_in, rows_of}
+use Rattle.sy_replay.specs.internal.Routes.{entry_in, rows_of}
 use Rattle.sy_replay.proofs.Tables.{table_says}
 use Rattle.sy_replay.proofs.routes.Routes.target.Goals as goal
 

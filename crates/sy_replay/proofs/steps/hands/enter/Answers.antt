@@ -1,7 +1,7 @@
 use Rattle.std.proofs.Common.{sym, subst}
 use Rattle.sy_board.specs.relay.Boards.{EnterIs}
 use Rattle.sy_board.specs.relay.Steps.{Event}
-use Rattle.sy_replay.specs.Events.{IsIllegal}
+use Rattle.sy_replay.specs.internal.Events.{IsIllegal}
 use Rattle.sy_replay.proofs.Made.{entered, quiet}
 use Rattle.sy_replay.proofs.Refused.{enter_refused}
 use Rattle.sy_replay.proofs.steps.hands.enter.Goals as goal

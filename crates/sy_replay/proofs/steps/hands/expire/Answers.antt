@@ -1,6 +1,6 @@
 use Rattle.std.proofs.Common.{sym, subst}
 use Rattle.sy_board.specs.relay.Steps.{Cause, Event}
-use Rattle.sy_replay.specs.Events.{IsIllegal}
+use Rattle.sy_replay.specs.internal.Events.{IsIllegal}
 use Rattle.sy_replay.specs.declared.event.Cause.TheVariants as cause
 use Rattle.sy_replay.proofs.Made.{expired, losing}
 use Rattle.sy_replay.proofs.Refused.{expire_refused}

@@ -1,7 +1,8 @@
 use Rattle.std.proofs.Common.{◌++◌, ◌∙◌, ap, arith, map, sym, subst}
 use Rattle.sy_board.specs.relay.Steps.{Cause, Event, Out}
-use Rattle.sy_replay.specs.Events.{IsIllegal, losses_of}
-use Rattle.sy_replay.specs.Parts.{lost_by}
+use Rattle.sy_replay.specs.Events.{losses_of}
+use Rattle.sy_replay.specs.internal.Events.{IsIllegal}
+use Rattle.sy_replay.specs.internal.Parts.{lost_by}
 use Rattle.sy_replay.proofs.Made.{few_lost, grab_some, grabbed}
 use Rattle.sy_replay.proofs.Refused.{grab_refused}
 use Rattle.sy_replay.proofs.steps.hands.grab.Goals as goal

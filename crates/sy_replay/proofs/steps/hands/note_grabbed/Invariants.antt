@@ -2,7 +2,7 @@ use Rattle.std.proofs.Common.{◌≡◌, ◌+◌, ◌≤◌, ◌++◌, length, m
 use Rattle.std.specs.Vec.{vec_capacity, vec_len}
 use Rattle.sy_board.specs.relay.Steps as steps
 use Rattle.sy_replay.specs.Events.{losses_of}
-use Rattle.sy_replay.specs.Parts.{lost_by}
+use Rattle.sy_replay.specs.internal.Parts.{lost_by}
 use Rattle.sy_replay.proofs.steps.hands.note_grabbed.Given as goal
 
 abbrev pub invariant-loop-node : goal.invariant-loop-node

@@ -1,7 +1,7 @@
 use Rattle.std.proofs.Common.{sym, subst}
 use Rattle.sy_board.specs.relay.Boards.{TakeIs}
 use Rattle.sy_board.specs.relay.Steps.{Cause, Event}
-use Rattle.sy_replay.specs.Events.{IsIllegal}
+use Rattle.sy_replay.specs.internal.Events.{IsIllegal}
 use Rattle.sy_replay.specs.declared.event.Cause.TheVariants as cause
 use Rattle.sy_replay.proofs.Made.{losing, taken_lost}
 use Rattle.sy_replay.proofs.Refused.{take_refused}

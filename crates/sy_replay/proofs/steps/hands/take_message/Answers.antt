@@ -1,8 +1,8 @@
 use Rattle.std.proofs.Common.{◌∙◌, subst}
 use Rattle.std.specs.Arc.{arc_value}
 use Rattle.sy_board.specs.relay.Steps.{Event, IsOfInput}
-use Rattle.sy_replay.specs.Events.{IsIllegal}
-use Rattle.sy_replay.specs.Parts.{IsNoTake}
+use Rattle.sy_replay.specs.internal.Events.{IsIllegal}
+use Rattle.sy_replay.specs.internal.Parts.{IsNoTake}
 use Rattle.sy_replay.proofs.Made.{if_err, on_ok}
 use Rattle.sy_replay.proofs.Refused.{no_take_of}
 use Rattle.sy_replay.proofs.steps.hands.take_message.Goals as goal

@@ -1,8 +1,8 @@
 use Rattle.std.proofs.Common.{◌∙◌, ◌<◌, append-nil, arith, length, subst, sym, true}
 use Rattle.sy_board.specs.relay.Steps.{Event}
 use Rattle.sy_rules.specs.Whole.{IsWhole}
-use Rattle.sy_replay.specs.Events.{IsIllegal}
-use Rattle.sy_replay.specs.Jobs.{Answer, IsNoAnswer}
+use Rattle.sy_replay.specs.internal.Events.{IsIllegal}
+use Rattle.sy_replay.specs.internal.Jobs.{Answer, IsNoAnswer}
 use Rattle.sy_replay.proofs.Made.{comes_made, if_err, items_set, items_stay, on_err, on_ok, read_comes}
 use Rattle.sy_replay.proofs.Refused.{no_run_steps, run_there}
 use Rattle.sy_replay.proofs.steps.jobs.done.Goals as goal

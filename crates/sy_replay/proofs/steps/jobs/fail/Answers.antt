@@ -1,6 +1,6 @@
 use Rattle.std.proofs.Common.{◌∙◌, ◌<◌, append-nil, arith, length, subst, sym}
 use Rattle.sy_rules.specs.Whole.{IsWhole}
-use Rattle.sy_replay.specs.Jobs.{Answer}
+use Rattle.sy_replay.specs.internal.Jobs.{Answer}
 use Rattle.sy_replay.proofs.Made.{comes_made, items_set, items_stay, on_err, on_ok, read_comes}
 use Rattle.sy_replay.proofs.Refused.{no_run_steps, run_there}
 use Rattle.sy_replay.proofs.steps.jobs.fail.Goals as goal

@@ -1,7 +1,7 @@
 use Rattle.std.proofs.Common.{sym, subst}
 use Rattle.std.specs.Arc.{arc_value}
 use Rattle.sy_board.specs.relay.Boards.{FailIs}
-use Rattle.sy_replay.specs.Jobs.{Answer, IsNoAnswer}
+use Rattle.sy_replay.specs.internal.Jobs.{Answer, IsNoAnswer}
 use Rattle.sy_replay.proofs.Made.{tried}
 use Rattle.sy_replay.proofs.Refused.{fail_refused}
 use Rattle.sy_replay.proofs.steps.jobs.fail_again.Goals as goal

@@ -1,5 +1,5 @@
 use Rattle.std.proofs.Common.{◌∙◌}
-use Rattle.sy_replay.specs.Jobs.{Answer}
+use Rattle.sy_replay.specs.internal.Jobs.{Answer}
 use Rattle.sy_replay.proofs.Made.{answered_into, with_it, without_it}
 use Rattle.sy_replay.proofs.steps.jobs.fail_into.Goals as goal
 

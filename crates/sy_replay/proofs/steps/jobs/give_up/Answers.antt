@@ -1,6 +1,6 @@
 use Rattle.std.proofs.Common.{◌∙◌, ◌<◌, arith, length, subst}
 use Rattle.sy_rules.specs.Whole.{IsWhole}
-use Rattle.sy_replay.specs.Jobs.{Answer}
+use Rattle.sy_replay.specs.internal.Jobs.{Answer}
 use Rattle.sy_replay.proofs.Made.{given_up_made, items_stay}
 use Rattle.sy_replay.proofs.Refused.{no_run_steps, run_there}
 use Rattle.sy_replay.proofs.steps.jobs.give_up.Goals as goal

@@ -1,7 +1,7 @@
 use Rattle.std.proofs.Common.{sym, subst}
 use Rattle.std.specs.Arc.{arc_value}
 use Rattle.sy_board.specs.relay.Boards.{SettleFails, SettleIs}
-use Rattle.sy_replay.specs.Jobs.{Answer, IsNoAnswer}
+use Rattle.sy_replay.specs.internal.Jobs.{Answer, IsNoAnswer}
 use Rattle.sy_replay.proofs.Made.{settled}
 use Rattle.sy_replay.proofs.Refused.{settle_refused}
 use Rattle.sy_replay.proofs.steps.jobs.settle.Goals as goal

@@ -1,5 +1,5 @@
 use Rattle.std.proofs.Common.{true}
-use Rattle.sy_replay.specs.Jobs.{Answer}
+use Rattle.sy_replay.specs.internal.Jobs.{Answer}
 use Rattle.sy_replay.proofs.Made.{answered_into}
 use Rattle.sy_replay.proofs.steps.jobs.settle_into.Goals as goal
 

@@ -2,8 +2,9 @@ use Rattle.std.proofs.Common.{sym, subst}
 use Rattle.std.specs.Arc.{arc_value}
 use Rattle.sy_board.specs.relay.Boards.{PostIs}
 use Rattle.sy_board.specs.relay.Steps.{Event}
-use Rattle.sy_replay.specs.Events.{IsIllegal, losses_of}
-use Rattle.sy_replay.specs.Parts.{MakesInside}
+use Rattle.sy_replay.specs.Events.{losses_of}
+use Rattle.sy_replay.specs.internal.Events.{IsIllegal}
+use Rattle.sy_replay.specs.internal.Parts.{MakesInside}
 use Rattle.sy_replay.proofs.Made.{post_discarded, posted_on, quiet}
 use Rattle.sy_replay.proofs.Refused.{no_post_steps, post_held, post_refused}
 use Rattle.sy_replay.proofs.steps.posts.post.Goals as goal

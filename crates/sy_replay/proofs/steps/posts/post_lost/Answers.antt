@@ -2,7 +2,7 @@ use Rattle.std.proofs.Common.{sym, subst}
 use Rattle.std.specs.Arc.{arc_value}
 use Rattle.sy_board.specs.relay.Boards.{is_no_memory}
 use Rattle.sy_board.specs.relay.Steps.{Event}
-use Rattle.sy_replay.specs.Events.{IsIllegal}
+use Rattle.sy_replay.specs.internal.Events.{IsIllegal}
 use Rattle.sy_replay.proofs.Made.{post_gone}
 use Rattle.sy_replay.proofs.Refused.{no_lost_posts, post_lost_refused}
 use Rattle.sy_replay.proofs.steps.posts.post_lost.Goals as goal

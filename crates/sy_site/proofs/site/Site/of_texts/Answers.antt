@@ -1,10 +1,9 @@
 use Rattle.std.proofs.Common.{rules, ◌≡◌, inr, map, length, refl, subst, sym, ◌∙◌, arith, eqb-true}
 use Rattle.std.proofs.lemmas.Grind.{common_steps}
-use Rattle.sy_site.specs.internal.Given.{file}
+use Rattle.sy_site.specs.texts.Describes.{file, IsEntry, relay_lines, spare_lines}
 use Rattle.sy_site.specs.internal.Reading.{line_given}
 use Rattle.sy_site.specs.internal.SiteInside.{inputs_of, relay_of, site_of, site_with, targets_in}
 use Rattle.sy_site.specs.Sites.{Site}
-use Rattle.sy_site.specs.texts.Describes.{IsEntry, relay_lines, spare_lines}
 use Rattle.sy_site.specs.texts.HasFault.{HasFault}
 use Rattle.sy_site.proofs.lemmas.sites.Kept.{few_relays, lawful, protections_of}
 use Rattle.sy_site.proofs.lemmas.sites.Spares.{spares_of}

@@ -1,5 +1,5 @@
 use Rattle.std.proofs.Common.{inl, inr, map}
-use Rattle.sy_site.specs.internal.Given.{file}
+use Rattle.sy_site.specs.texts.Describes.{file}
 use Rattle.sy_site.proofs.lemmas.texts.NoFault.{no_fault}
 use Rattle.sy_site.proofs.site.Site.read.Goals as goal
 

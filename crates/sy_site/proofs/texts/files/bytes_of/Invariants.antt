@@ -1,6 +1,5 @@
 use Rattle.std.proofs.Common.{◌≡◌, length, map}
-use Rattle.sy_site.specs.internal.Given.{file}
-use Rattle.sy_site.specs.texts.Describes.{file_named}
+use Rattle.sy_site.specs.texts.Describes.{file, file_named}
 use Rattle.sy_site.proofs.texts.files.bytes_of.Given as goal
 
 abbrev pub invariant-loop-rest : goal.invariant-loop-rest

@@ -1,5 +1,5 @@
 use Rattle.std.proofs.Common.{map, inl, inr}
-use Rattle.sy_site.specs.internal.Given.{file}
+use Rattle.sy_site.specs.texts.Describes.{file}
 use Rattle.sy_site.specs.internal.Lines.{relay_line_of}
 use Rattle.sy_site.proofs.lemmas.texts.FaultsFound.{relay_refused}
 use Rattle.sy_site.specs.internal.Relays.{IsWholeRelay}

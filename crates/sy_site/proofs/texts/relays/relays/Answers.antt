@@ -1,7 +1,6 @@
 use Rattle.std.proofs.Common.{arith, map, refl}
-use Rattle.sy_site.specs.internal.Given.{file}
+use Rattle.sy_site.specs.texts.Describes.{file, relay_lines}
 use Rattle.sy_site.specs.internal.Relays.{IsWholeRelay}
-use Rattle.sy_site.specs.texts.Describes.{relay_lines}
 use Rattle.sy_site.proofs.lemmas.sites.More.{at_end, relay_first, next_at}
 use Rattle.sy_site.proofs.texts.relays.relays.Goals as goal
 

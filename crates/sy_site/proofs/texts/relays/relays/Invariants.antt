@@ -1,9 +1,8 @@
 use Rattle.std.proofs.Common.{List, [], drop, map}
 use Rattle.sy_site.specs.declared.site.relay.Relay.{Relay}
-use Rattle.sy_site.specs.internal.Given.{file}
+use Rattle.sy_site.specs.texts.Describes.{file, relay_lines}
 use Rattle.sy_site.specs.internal.Reading.{line_given}
 use Rattle.sy_site.specs.internal.Relays.{HasMore, IsWholeRelay}
-use Rattle.sy_site.specs.texts.Describes.{relay_lines}
 use Rattle.sy_site.proofs.texts.relays.relays.Given as goal
 
 abbrev pub invariant-loop-given : goal.invariant-loop-given

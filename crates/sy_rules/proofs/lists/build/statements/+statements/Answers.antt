@@ -2,7 +2,8 @@ use Rattle.std.proofs.Common.{◌≡◌, length, length-append, ap, ◌∙◌, a
 use Rattle.std.proofs.lemmas.Result.{on_ok_weaker}
 use Rattle.sy_rules.specs.parts.Plans.{names_of, place_of}
 use Rattle.sy_rules.specs.internal.TextTables.{call_statement, front_of_otherwise}
-use Rattle.sy_rules.specs.lists.Texts.{front_of_stmt, front_of_block}
+use Rattle.sy_rules.specs.lists.Texts.{front_of_stmt}
+use Rattle.sy_rules.specs.internal.Texts.{front_of_block}
 use Rattle.sy_rules.proofs.lemmas.lists.Fronts.{action_is, call_is, stop_is, if_is}
 use Rattle.sy_rules.proofs.lemmas.lists.Puts.{action_put, call_put, stop_put, if_put, same_front, longer, set_by, all_three}
 use Rattle.sy_rules.proofs.lists.build.statements.+statements.Goals as goal

@@ -1,11 +1,11 @@
 -- What the functions say that make a certificate.
 use Rattle.std.specs.Prelude.{◌≡◌, ℕ, ◌<◌, ◌≤◌, true, List, [], ◌∷◌, ◌++◌, length}
 use Rattle.sy_wire.specs.declared.class.Class.{Class}
+use Rattle.sy_site.specs.Sites.{Site}
 use Rattle.sy_cert.specs.declared.kinds.Kind.{Kind}
 use Rattle.sy_cert.specs.declared.row.Row.{Row}
 use Rattle.sy_cert.specs.declared.row.Row.TheVariants as row
 use Rattle.sy_cert.specs.Rows.{IsRow, kind, may_follow}
-use Rattle.sy_site.specs.Sites.{Site}
 use Rattle.sy_checker.specs.Fit.{AreRight, AreWanted}
 use Rattle.sy_checker.specs.declared.wanted.Wanted.{Wanted}
 

@@ -1,9 +1,9 @@
 -- What the functions say that make the rows of a class.
 use Rattle.std.specs.Prelude.{◌≡◌, ℕ, List, Some, get_or, slice_get}
 use Rattle.sy_wire.specs.declared.class.Class.{Class}
+use Rattle.sy_site.specs.Sites.{Site}
 use Rattle.sy_cert.specs.declared.row.Row.{Row}
 use Rattle.sy_cert.specs.declared.row.Row.TheVariants as row
-use Rattle.sy_site.specs.Sites.{Site}
 use Rattle.sy_checker.specs.declared.wanted.Wanted.{Wanted}
 use Rattle.sy_checker.specs.declared.wanted.Wanted.TheVariants as wanted
 use Rattle.sy_checker.specs.Fit.{IsBranchRow, IsClassRow, IsPathRow, IsReachRow, name_of}

@@ -1,19 +1,19 @@
 -- The lists that posts lead to, in the order of the site, and how their numbers are compared.
-use Rattle.std.specs.Prelude.{◌≡◌, ℕ, ◌<◌, ◌==◌, ◌&&◌, ◌⊎◌, ◌↔◌, Bool, false, if◌then◌else◌, Contains, List, Option, Some, None, slice_get}
+use Rattle.std.specs.Prelude.{◌≡◌, ℕ, ◌<◌, ◌==◌, ◌&&◌, ◌↔◌, Bool, false, if◌then◌else◌, Contains, List, Option, Some, None, slice_get}
 use Rattle.std.specs.Str.{bytes_eq}
 use Rattle.sy_wire.specs.declared.class.Class.{Class}
-use Rattle.sy_cert.specs.declared.row.Row.{Row}
-use Rattle.sy_cert.specs.declared.row.Row.TheVariants as row
-use Rattle.sy_board.specs.relay.Spares.{Scope}
 use Rattle.sy_rules.specs.declared.lists.occurrence.Occurrence.TheVariants as occurrence
+use Rattle.sy_board.specs.relay.Spares.{Scope}
 use Rattle.sy_site.specs.declared.site.SiteInput.{SiteInput}
 use Rattle.sy_site.specs.Sites.{Site}
 use Rattle.sy_site.specs.machine.Reach.{MayDo, PostsOn, Reach, list_of}
+use Rattle.sy_cert.specs.declared.row.Row.{Row}
+use Rattle.sy_cert.specs.declared.row.Row.TheVariants as row
 use Rattle.sy_checker.specs.declared.wanted.InnerList.{InnerList}
 use Rattle.sy_checker.specs.declared.wanted.Wanted.{Wanted}
 use Rattle.sy_checker.specs.declared.wanted.Wanted.TheVariants as wanted
 use Rattle.sy_checker.specs.Fit.{ComesBefore, HasNumber, IsInner, ListsAll, name_of}
-use Rattle.sy_checker.specs.Leads.{same_list}
+use Rattle.sy_checker.specs.internal.Leads.{same_list}
 
 -- ---- lists in the order of the site
 

@@ -4,16 +4,16 @@ use Rattle.std.specs.List.{IsDistinct}
 use Rattle.sy_wire.specs.declared.class.Class.{Class}
 use Rattle.sy_rules.specs.declared.lists.occurrence.Occurrence.{Occurrence}
 use Rattle.sy_rules.specs.declared.lists.occurrence.Occurrence.TheVariants as occurrence
-use Rattle.sy_cert.specs.Rows.{AreOccurrences}
 use Rattle.sy_site.specs.declared.site.SiteAction.{SiteAction}
 use Rattle.sy_site.specs.declared.site.SiteInput.{SiteInput}
 use Rattle.sy_site.specs.Sites.{Site, plan_at, target}
 use Rattle.sy_site.specs.machine.Reach.{LeadsTo, MustDo, list_of, occurrence_at}
+use Rattle.sy_cert.specs.Rows.{AreOccurrences}
 use Rattle.sy_checker.specs.declared.lists.FoundLists.{FoundLists}
 use Rattle.sy_checker.specs.declared.lists.ListOrigin.{ListOrigin}
 use Rattle.sy_checker.specs.declared.wanted.InnerList.{InnerList}
 use Rattle.sy_checker.specs.Fit.{IsPath, MustWrite}
-use Rattle.sy_checker.specs.Flows.{AreEach, is_used}
+use Rattle.sy_checker.specs.internal.Flows.{AreEach, is_used}
 
 -- ---- lists of relays
 

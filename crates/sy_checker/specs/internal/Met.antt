@@ -8,7 +8,7 @@ use Rattle.sy_site.specs.Sites.{Site, same_action}
 use Rattle.sy_site.specs.machine.Reach.{LeadsTo}
 use Rattle.sy_checker.specs.declared.course.Course.{Course}
 use Rattle.sy_checker.specs.declared.met.Met.{Met}
-use Rattle.sy_checker.specs.Course.{IsCourseAt}
+use Rattle.sy_checker.specs.internal.Course.{IsCourseAt}
 
 abbrev pub met_at : ℕ → SiteAction → Met
 met_at place archive = record { place = place; archive = archive }

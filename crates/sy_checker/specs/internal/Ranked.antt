@@ -2,13 +2,13 @@
 use Rattle.std.specs.Prelude.{◌≡◌, ℕ, ◌<◌, ◌==◌, Bool, false, if◌then◌else◌, List, Option, Some, None, slice_get}
 use Rattle.std.specs.Str.{bytes_eq}
 use Rattle.sy_wire.specs.declared.class.Class.{Class}
-use Rattle.sy_cert.specs.declared.row.Row.{Row}
-use Rattle.sy_cert.specs.declared.row.Row.TheVariants as row
 use Rattle.sy_site.specs.declared.site.SiteInput.{SiteInput}
 use Rattle.sy_site.specs.Sites.{Site}
 use Rattle.sy_site.specs.machine.Lawful.{IsInput}
+use Rattle.sy_cert.specs.declared.row.Row.{Row}
+use Rattle.sy_cert.specs.declared.row.Row.TheVariants as row
 use Rattle.sy_checker.specs.Fit.{HasRank, name_of}
-use Rattle.sy_checker.specs.Loops.{GoesOn}
+use Rattle.sy_checker.specs.internal.Loops.{GoesOn}
 use Rattle.sy_checker.specs.declared.wanted.Wanted.{Wanted}
 use Rattle.sy_checker.specs.declared.wanted.Wanted.TheVariants as wanted
 

@@ -2,11 +2,11 @@
 use Rattle.std.specs.Prelude.{◌≡◌, ℕ, ◌<◌, ◌≤◌, ◌+◌, ◌==◌, ◌⊎◌, Contains, List, [], ◌∷◌, get_or, length, map}
 use Rattle.std.specs.List.{IsDistinct}
 use Rattle.sy_wire.specs.declared.class.Class.{Class}
+use Rattle.sy_board.specs.relay.Spares.{Scope}
 use Rattle.sy_site.specs.declared.site.SiteInput.{SiteInput}
 use Rattle.sy_site.specs.Sites.{Site}
 use Rattle.sy_site.specs.machine.Findings.{IsChain, IsLoop, first_is_entry}
 use Rattle.sy_site.specs.machine.Findings as findings
-use Rattle.sy_board.specs.relay.Spares.{Scope}
 use Rattle.sy_site.specs.machine.Reach.{Reach}
 use Rattle.sy_checker.specs.declared.executed.Executed.TheVariants as executed
 use Rattle.sy_checker.specs.declared.flows.Hop.{Hop}
@@ -15,8 +15,8 @@ use Rattle.sy_checker.specs.declared.loops.Halt.{Halt}
 use Rattle.sy_checker.specs.declared.loops.Halt.TheVariants as halt
 use Rattle.sy_checker.specs.declared.loops.Unranked.{Unranked}
 use Rattle.sy_checker.specs.declared.loops.Unranked.TheVariants as unranked
-use Rattle.sy_checker.specs.Hops.{LeadsBy}
-use Rattle.sy_checker.specs.Internal.{same_input}
+use Rattle.sy_checker.specs.internal.Hops.{LeadsBy}
+use Rattle.sy_checker.specs.internal.Found.{same_input}
 
 -- ---- ways
 

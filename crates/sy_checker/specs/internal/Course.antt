@@ -2,9 +2,9 @@
 -- the relays rank by that, how many posts follow one another, and where its entries lead. Classes that execute the same have the same one.
 use Rattle.std.specs.Prelude.{◌≡◌, ℕ, ◌↔◌, Contains, List, Some, length, slice_get, true}
 use Rattle.sy_wire.specs.declared.class.Class.{Class}
-use Rattle.sy_site.specs.declared.site.SiteInput.{SiteInput}
 use Rattle.sy_rules.specs.declared.lists.occurrence.Occurrence.{Occurrence}
 use Rattle.sy_board.specs.relay.Spares.{Scope}
+use Rattle.sy_site.specs.declared.site.SiteInput.{SiteInput}
 use Rattle.sy_site.specs.Sites.{Site, plan_at}
 use Rattle.sy_site.specs.machine.Reach.{Reach}
 use Rattle.sy_site.specs.machine.Soundness.{AreRanks}
@@ -13,13 +13,13 @@ use Rattle.sy_checker.specs.declared.executed.Executed.{Executed}
 use Rattle.sy_checker.specs.declared.executed.Executed.TheVariants as executed
 use Rattle.sy_checker.specs.declared.flows.RelayFlows.{RelayFlows}
 use Rattle.sy_checker.specs.declared.flows.SiteFlows.{SiteFlows}
-use Rattle.sy_checker.specs.Leads.{AreLeads}
+use Rattle.sy_checker.specs.internal.Leads.{AreLeads}
 use Rattle.sy_checker.specs.Fit.{IsClean}
-use Rattle.sy_checker.specs.Flows.{Does, is_used}
-use Rattle.sy_checker.specs.Hops.{AreFlows}
-use Rattle.sy_checker.specs.Inner.{AreNumbers, number_at}
-use Rattle.sy_checker.specs.Loops.{rank_at}
-use Rattle.sy_checker.specs.Search.{IsSpread}
+use Rattle.sy_checker.specs.internal.Flows.{Does, is_used}
+use Rattle.sy_checker.specs.internal.Hops.{AreFlows}
+use Rattle.sy_checker.specs.internal.Inner.{AreNumbers, number_at}
+use Rattle.sy_checker.specs.internal.Loops.{rank_at}
+use Rattle.sy_checker.specs.internal.Search.{IsSpread}
 
 -- the same of each list
 pub record AreSame (one other : SiteFlows) : Type 0 where

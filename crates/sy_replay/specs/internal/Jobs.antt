@@ -2,11 +2,11 @@
 use Rattle.std.specs.Prelude.{◌≡◌, ℕ, Bool, true, if◌then◌else◌, List, [], ◌∷◌, ◌++◌}
 use Rattle.sy_wire.specs.Messages.{Said}
 use Rattle.sy_rules.specs.declared.lists.occurrence.Occurrence.TheVariants as occurrence
+use Rattle.sy_chain.specs.Entries.{Entry}
 use Rattle.sy_board.specs.relay.Boards.{BoardState, HasNoPost, HasNoRun}
 use Rattle.sy_board.specs.relay.Steps.{Cause, Event, Job, Out, if_so}
-use Rattle.sy_chain.specs.Entries.{Entry}
-use Rattle.sy_replay.specs.Events.{Goes, IsIllegal}
 use Rattle.sy_site.specs.machine.States.{Loss}
+use Rattle.sy_replay.specs.internal.Events.{Goes, IsIllegal}
 use Rattle.sy_replay.specs.declared.event.Illegal.{Illegal}
 use Rattle.sy_replay.specs.declared.event.Illegal.TheVariants as illegal
 

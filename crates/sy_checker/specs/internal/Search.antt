@@ -7,7 +7,7 @@ use Rattle.sy_site.specs.machine.Lawful.{IsInput}
 use Rattle.sy_checker.specs.declared.executed.Executed.{Executed}
 use Rattle.sy_checker.specs.declared.finding.WayRow.{WayRow}
 use Rattle.sy_checker.specs.declared.reach.Origin.{Origin}
-use Rattle.sy_checker.specs.Hops.{LeadsBy}
+use Rattle.sy_checker.specs.internal.Hops.{LeadsBy}
 
 -- an occurrence that is executed leads to it
 pub record LeadsOn (site : Site) (class : Class) (which : Executed) (from to : SiteInput) : Type 0 where

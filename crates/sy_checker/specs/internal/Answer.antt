@@ -1,23 +1,16 @@
 -- What the searches of the checker answer.
-use Rattle.std.specs.Prelude.{◌≡◌, ℕ, ◌<◌, All, Contains, List, [], ◌∷◌, length, Option, Some, None, slice_get}
+use Rattle.std.specs.Prelude.{◌≡◌, ℕ, List, Option, Some, None, slice_get}
 use Rattle.sy_wire.specs.declared.class.Class.{Class}
-use Rattle.sy_cert.specs.Rows.{AreOccurrences}
-use Rattle.sy_site.specs.declared.site.SiteAction.{SiteAction}
+use Rattle.sy_board.specs.relay.Spares.{Scope}
 use Rattle.sy_site.specs.declared.site.SiteInput.{SiteInput}
 use Rattle.sy_site.specs.Sites.{Site}
 use Rattle.sy_site.specs.machine.Findings.{HoldsAt}
-use Rattle.sy_board.specs.relay.Spares.{Scope}
-use Rattle.sy_site.specs.machine.Reach.{LeadsTo, Reach}
+use Rattle.sy_site.specs.machine.Reach.{Reach}
 use Rattle.sy_checker.specs.declared.finding.Finding.{Finding}
 use Rattle.sy_checker.specs.declared.finding.Kind.{Kind}
-use Rattle.sy_checker.specs.declared.finding.WayRow.{WayRow}
 use Rattle.sy_checker.specs.Finding.{IsTrueFinding, kind_of}
-use Rattle.sy_checker.specs.declared.executed.Executed.TheVariants as executed
-use Rattle.sy_checker.specs.declared.reach.Found.{Found}
-use Rattle.sy_checker.specs.Flows.{AreEach}
-use Rattle.sy_checker.specs.Search.{IsSpread}
-use Rattle.sy_checker.specs.Fit.{IsClean, IsPath, MustWrite}
-use Rattle.sy_checker.specs.Risks.{IsRisky}
+use Rattle.sy_checker.specs.Fit.{IsClean}
+use Rattle.sy_checker.specs.internal.Risks.{IsRisky}
 
 -- ---- the kinds 1 to 7
 

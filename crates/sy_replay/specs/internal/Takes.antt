@@ -11,8 +11,10 @@ use Rattle.sy_site.specs.Sites.{Site, target}
 use Rattle.sy_site.specs.machine.States.{Copy, Loss, with_passed, with_relay}
 use Rattle.sy_replay.specs.declared.event.Illegal.{Illegal}
 use Rattle.sy_replay.specs.declared.event.Illegal.TheVariants as illegal
-use Rattle.sy_replay.specs.Parts.{PartState, lost_by}
-use Rattle.sy_replay.specs.States.{Contents, boards_of, passed_of, plan_of, relays_of, with_board}
+use Rattle.sy_replay.specs.Parts.{PartState}
+use Rattle.sy_replay.specs.internal.Parts.{lost_by}
+use Rattle.sy_replay.specs.States.{Contents, boards_of, passed_of, relays_of, with_board}
+use Rattle.sy_replay.specs.internal.States.{plan_of}
 
 -- A relay's board makes its step of taking an entry of this message and with this tag; the other relays stay, and so does what devices took.
 pub record TakesEntry (old : List PartState) (before : List Loss) (to : SiteInput) (hand : ℕ) (message : Said) (tag : ℕ) (new : List PartState) (after : List Loss)

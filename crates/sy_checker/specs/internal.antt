@@ -1,0 +1,20 @@
+-- What only private functions cite.
+pub mod Answer
+pub mod Certifying
+pub mod Checking
+pub mod Course
+pub mod Flows
+pub mod Found
+pub mod Hops
+pub mod Inner
+pub mod Inners
+pub mod Judging
+pub mod Leads
+pub mod Loops
+pub mod Made
+pub mod Met
+pub mod Ranked
+pub mod Risks
+pub mod Search
+pub mod Survey
+pub mod Verifying
