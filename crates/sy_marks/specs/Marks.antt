@@ -1,7 +1,7 @@
 -- What the marks of a queue say, and what becomes of the entries that a worker takes. The parameters are those of the
 -- rsyslog manual (General Queue Parameters; of imtcp: flowControl); that they go by each message, by how many entries
 -- wait, is this profile's own. The entries in workers' batches don't wait any more.
-use Rattle.std.specs.Prelude.{◌≡◌, ℕ, ◌<◌, ◌≤◌, ◌==◌, Bool, true, false, not, ◌&&◌, nat_le, if◌then◌else◌, List, [], ◌∷◌, Some, length, slice_get}
+use Rattle.std.specs.Prelude.{◌≡◌, ℕ, ◌<◌, ◌≤◌, ◌==◌, Bool, true, false, not, ◌&&◌, nat_le, if◌then◌else◌, List, [], ◌∷◌, length}
 use Rattle.sy_chain.specs.Entries.{Entry}
 use Rattle.sy_marks.specs.declared.marks.Flow.{Flow}
 use Rattle.sy_marks.specs.declared.marks.Flow.TheVariants as flow
