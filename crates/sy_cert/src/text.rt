@@ -3,7 +3,7 @@ ghost use Rattle.std.specs.Prelude.{◌≡◌, ◌⊎◌, ◌++◌, [], ◌∷�
 ghost use Rattle.std.specs.Fmt.{decimal};
 ghost use Rattle.sy_cert.specs.Faults.{HasFault, IsRefused};
 ghost use Rattle.sy_cert.specs.declared.row.Row.{Row as AnyRow};
-ghost use Rattle.sy_cert.specs.Rows.{IsCertificate, IsVersion, further, head, line, text};
+ghost use Rattle.sy_cert.specs.Rows.{IsCertificate, IsVersion, further, head, line, spaced, text};
 
 use crate::certificate::Certificate;
 use crate::fault::{FaultCode, TextFault};
@@ -40,38 +40,33 @@ fn push_numbers(text: &mut Vec<u8>, numbers: &[u8]) -> Result<(), AllocError>
     Ok(())
 }
 
+// The words that most rows begin with: what is said, a relay's name and a number.
+fn push_start(text: &mut Vec<u8>, said: &[u8], relay: &[u8], number: u32) -> Result<(), AllocError>
+    ensures { OnOk result (text.new.items ≡ text.old.items ++ spaced (said.now ∷ relay.now ∷ decimal number ∷ [])) }
+{
+    text.extend_from_slice(said)?;
+    push_word(text, relay)?;
+    push_number(text, number)
+}
+
 fn push_row(text: &mut Vec<u8>, row: &Row) -> Result<(), AllocError>
     ensures { OnOk result (text.new.items ≡ text.old.items ++ line row.now) }
 {
     match row {
         Row::Class(class) => {
             text.extend_from_slice(b"class")?;
-            push_number(text, class.number() as u32)?;
+            push_number(text, class.number() as u32)
         }
-        Row::Reach { relay, port } => {
-            text.extend_from_slice(b"reach")?;
-            push_word(text, relay.as_slice())?;
-            push_number(text, *port as u32)?;
-        }
-        Row::Branch { relay, port } => {
-            text.extend_from_slice(b"branch")?;
-            push_word(text, relay.as_slice())?;
-            push_number(text, *port as u32)?;
-        }
-        Row::Rank { relay, rank } => {
-            text.extend_from_slice(b"rank")?;
-            push_word(text, relay.as_slice())?;
-            push_number(text, *rank)?;
-        }
+        Row::Reach { relay, port } => push_start(text, b"reach", relay.as_slice(), *port as u32),
+        Row::Branch { relay, port } => push_start(text, b"branch", relay.as_slice(), *port as u32),
+        Row::Rank { relay, rank } => push_start(text, b"rank", relay.as_slice(), *rank),
         Row::Inner {
             relay,
             list,
             number,
         } => {
-            text.extend_from_slice(b"inner")?;
-            push_word(text, relay.as_slice())?;
-            push_number(text, *list)?;
-            push_number(text, *number)?;
+            push_start(text, b"inner", relay.as_slice(), *list)?;
+            push_number(text, *number)
         }
         Row::Path {
             relay,
@@ -80,15 +75,12 @@ fn push_row(text: &mut Vec<u8>, row: &Row) -> Result<(), AllocError>
             action,
             occurrences,
         } => {
-            text.extend_from_slice(b"path")?;
-            push_word(text, relay.as_slice())?;
-            push_number(text, *port as u32)?;
+            push_start(text, b"path", relay.as_slice(), *port as u32)?;
             push_word(text, archive_relay.as_slice())?;
             push_word(text, action.as_slice())?;
-            push_numbers(text, occurrences.as_slice())?;
+            push_numbers(text, occurrences.as_slice())
         }
     }
-    Ok(())
 }
 
 /// The text of a certificate: a line with its version, and one for each row in their order. It takes time and memory

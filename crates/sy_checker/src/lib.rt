@@ -32,6 +32,7 @@ mod ranks;
 mod reach;
 mod rows;
 mod search;
+mod site_numbers;
 mod surveying;
 mod told;
 mod unmet;

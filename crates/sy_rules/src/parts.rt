@@ -3,6 +3,7 @@
 pub mod action_names;
 pub mod expressions;
 pub mod of_items;
+pub mod of_lists;
 
 use crate::parameters::objects::Destination;
 use crate::parameters::settings::FlowControl;

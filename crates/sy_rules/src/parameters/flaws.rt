@@ -9,9 +9,10 @@ ghost use Rattle.sy_rules.specs.internal.Views as view;
 
 use crate::fault::FaultCode;
 use crate::items::fault::ItemFault;
+use crate::parameters::by_name::find;
 use crate::parameters::kind::Kind;
 use crate::parameters::rows::{
-    Absent, Row, destination_rows, find, own_rows, queue_head_rows, queue_rest_rows,
+    Absent, Row, destination_rows, own_rows, queue_head_rows, queue_rest_rows,
 };
 use crate::parameters::values::{has_shape, is_given, is_in_range};
 use std::alloc::Global;

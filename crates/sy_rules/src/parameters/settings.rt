@@ -7,8 +7,9 @@ ghost use Rattle.sy_rules.specs.internal.Objects as inside;
 ghost use Rattle.sy_rules.specs.parameters.Values.{faults};
 ghost use Rattle.sy_rules.specs.internal.Views as view;
 
+use crate::parameters::by_name::find;
 use crate::parameters::kind::Kind;
-use crate::parameters::rows::{Absent, Row, find};
+use crate::parameters::rows::{Absent, Row};
 use crate::parameters::values::{decimal_value, given};
 use sy_script::tree::Param;
 

@@ -7,7 +7,8 @@ ghost use Rattle.std.specs.Str.{bytes_eq};
 ghost use Rattle.sy_rules.specs.parameters.Values as spec;
 ghost use Rattle.sy_rules.specs.internal.Views as view;
 
-use crate::parameters::rows::{Shape, same_name};
+use crate::parameters::by_name::same_name;
+use crate::parameters::rows::Shape;
 use sy_script::tree::Param;
 
 /// The most digits of a number.

@@ -2,7 +2,7 @@
 //!
 //! Each part takes one pass over the items. What they need in memory is all that they may be refused.
 
-ghost use Rattle.std.specs.Prelude.{◌≡◌, ◌≤◌, ◌<◌, ◌+◌, ◌++◌, ◌∷◌, [], filter_map, is_some, length, map, replicate, slice_get, IfOk, IfErr, OnOk, List};
+ghost use Rattle.std.specs.Prelude.{◌≡◌, ◌≤◌, ◌<◌, ◌+◌, ◌++◌, ◌∷◌, [], length, map, replicate, slice_get, IfOk, IfErr, OnOk, List};
 ghost use Rattle.sy_rules.specs.Faults.{no_memory};
 ghost use Rattle.sy_rules.specs.items.ItemFaults.{object_faults};
 ghost use Rattle.sy_rules.specs.internal.Checking.{AreClean};
@@ -22,14 +22,14 @@ use crate::parameters::objects::{
     ActionParameters, InputParameters, RulesetParameters, kind_of_action, queue_of, read_action,
     read_input, read_ruleset,
 };
-use crate::parameters::settings::{QueueParameters, has_queue, queue_parameters};
+use crate::parameters::settings::{QueueParameters, queue_parameters};
 use crate::parts::action_names::moved_name;
 use crate::parts::{Action, Input};
 use std::alloc::Global;
 use sy_script::Items;
 use sy_script::tree::{ObjectKind, Param};
 
-fn put<T: Drop>(alloc: Global, found: &mut Vec<T>, next: T) -> Result<(), PlanFault>
+pub(crate) fn put<T: Drop>(alloc: Global, found: &mut Vec<T>, next: T) -> Result<(), PlanFault>
     ensures ok { OnOk result (found.new.items ≡ found.old.items ++ next ∷ []) }
     ensures err { IfErr result (λ f. f ≡ no_memory) }
 {
@@ -208,112 +208,6 @@ pub fn workers(alloc: Global, queues: &[QueueParameters]) -> Result<Vec<u32>, Pl
         number += 1;
         rest = after;
     }
-    Ok(found)
-}
-
-// ---- the queue of each list
-
-#[tactic(auto, unfolding(crate::specs::parameters::Objects::ruleset_of, crate::specs::parameters::Objects::action_of))]
-fn has_own_queue(next: &Item<'_>) -> bool
-    ensures { result ≡ is_some (plans.own_queue (item next.now)) }
-{
-    match *next {
-        Item::Ruleset(_, params) => has_queue(Kind::Ruleset, params),
-        Item::Action(_, params) => has_queue(kind_of_action(params), params),
-        _ => false,
-    }
-}
-
-fn is_ruleset(next: &Item<'_>) -> bool
-    ensures { result ≡ plans.is_ruleset (item next.now) }
-{
-    matches!(next, Item::Ruleset(_, _))
-}
-
-fn is_queued_action(next: &Item<'_>) -> bool
-    ensures { result ≡ plans.is_queued_action (item next.now) }
-{
-    match next {
-        Item::Action(_, _) => has_own_queue(next),
-        _ => false,
-    }
-}
-
-// The queue that an item gives, where queues with smaller numbers than this stand before it.
-fn queue_here(number: u32, next: &Item<'_>) -> Option<u32>
-    ensures { result ≡ plans.queue_here number (item next.now) }
-{
-    if has_own_queue(next) {
-        Some(number)
-    } else {
-        None
-    }
-}
-
-// The number of the next queue after an item.
-fn queue_after(number: u32, next: &Item<'_>) -> u32
-    requires { number ≤ 513 }
-    ensures { result ≡ plans.queue_after number (item next.now) }
-{
-    if has_own_queue(next) {
-        number + 1
-    } else {
-        number
-    }
-}
-
-fn put_ruleset_queues(
-    alloc: Global,
-    found: &mut Vec<Option<u32>>,
-    items: &[Item<'_>],
-) -> Result<(), PlanFault>
-    requires few { length (filter_map plans.own_queue (map item items.now)) ≤ 512 }
-    ensures ok { OnOk result (found.new.items ≡ found.old.items ++ plans.ruleset_queues 1 (map item items.now)) }
-    ensures err { IfErr result (λ f. f ≡ no_memory) }
-{
-    let mut number = 1;
-    let mut rest = items;
-    while let [next, after @ ..] = rest {
-        if is_ruleset(next) {
-            put(alloc, found, queue_here(number, next))?;
-        }
-        number = queue_after(number, next);
-        rest = after;
-    }
-    Ok(())
-}
-
-fn put_action_queues(
-    alloc: Global,
-    found: &mut Vec<Option<u32>>,
-    items: &[Item<'_>],
-) -> Result<(), PlanFault>
-    requires few { length (filter_map plans.own_queue (map item items.now)) ≤ 512 }
-    ensures ok { OnOk result (found.new.items ≡ found.old.items ++ plans.action_queues 1 (map item items.now)) }
-    ensures err { IfErr result (λ f. f ≡ no_memory) }
-{
-    let mut number = 1;
-    let mut rest = items;
-    while let [next, after @ ..] = rest {
-        if is_queued_action(next) {
-            put(alloc, found, Some(number))?;
-        }
-        number = queue_after(number, next);
-        rest = after;
-    }
-    Ok(())
-}
-
-/// The queue of each list, where it has one of its own.
-pub fn list_queues(alloc: Global, items: &[Item<'_>]) -> Result<Vec<Option<u32>>, PlanFault>
-    requires few { length (filter_map plans.own_queue (map item items.now)) ≤ 512 }
-    ensures ok { IfOk result (λ found. found.items ≡ plans.list_queues (map item items.now)) }
-    ensures err { IfErr result (λ f. f ≡ no_memory) }
-{
-    let mut found = Vec::new(alloc);
-    put(alloc, &mut found, None)?;
-    put_ruleset_queues(alloc, &mut found, items)?;
-    put_action_queues(alloc, &mut found, items)?;
     Ok(found)
 }
 

@@ -3,7 +3,7 @@ use Rattle.std.proofs.lemmas.Option.{slice_get-get_or}
 use Rattle.sy_site.specs.declared.site.SiteInput.{SiteInput}
 use Rattle.sy_checker.specs.internal.Inner.{HasNoNumbers}
 use Rattle.sy_checker.proofs.Numbering.{all_first, all_more, all_numbered, ended_at}
-use Rattle.sy_checker.proofs.inner.number_inputs.Goals as goal
+use Rattle.sy_checker.proofs.site_numbers.number_inputs.Goals as goal
 
 abbrev no_input : SiteInput
 no_input = record { relay = 0; input = 0 }

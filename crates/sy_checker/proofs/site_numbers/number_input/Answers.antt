@@ -5,7 +5,7 @@ use Rattle.sy_checker.specs.internal.Inner.{AreAllDone, AreDone, AreNumbered, Ha
 use Rattle.sy_checker.proofs.Found.{on_ok}
 use Rattle.sy_checker.proofs.PutNumbers.{numbers_kept, numbers_of_input, numbers_put}
 use Rattle.sy_checker.proofs.There.{relay_there}
-use Rattle.sy_checker.proofs.inner.number_input.Goals as goal
+use Rattle.sy_checker.proofs.site_numbers.number_input.Goals as goal
 
 pub number_relay-requires-clause-done : goal.number_relay-requires-clause-done
 number_relay-requires-clause-done c =

@@ -1,5 +1,5 @@
 use Rattle.sy_checker.proofs.Numbering.{numbers_begin, numbers_fall, numbers_most}
-use Rattle.sy_checker.proofs.inner.numbers_of.Goals as goal
+use Rattle.sy_checker.proofs.site_numbers.numbers_of.Goals as goal
 
 pub number_inputs-requires-clause-done : goal.number_inputs-requires-clause-done
 number_inputs-requires-clause-done c = numbers_begin c.args.site.now c.args.class c.in_ok-numbers.numbers.items c.in_ok-numbers.ensures

@@ -1,7 +1,7 @@
 use Rattle.std.proofs.Common.{◌≡◌, ◌≤◌, length}
 use Rattle.sy_checker.specs.internal.Flows.{AreEach}
 use Rattle.sy_checker.specs.internal.Inner.{HasNone}
-use Rattle.sy_checker.proofs.inner.nothing_numbered.Given as goal
+use Rattle.sy_checker.proofs.site_numbers.nothing_numbered.Given as goal
 
 abbrev pub invariant-loop-relay : goal.invariant-loop-relay
 invariant-loop-relay l = record {
