@@ -1,12 +1,10 @@
 -- Classes by their names.
 use Rattle.std.proofs.Common.{◌≡◌, ℕ, ◌<◌, ◌≤◌, ◌+◌, ◌*◌, List, ◌++◌, sym, ap, ◌∙◌, arith, inl, inr}
-use Rattle.std.specs.Prelude.{IfSome, Option, codes, true}
+use Rattle.std.specs.Prelude.{codes}
 use Rattle.std.proofs.lemmas.Bool.{cases_eq}
 use Rattle.sy_select.specs.Names.{facility_text, severity_text}
 use Rattle.sy_wire.specs.declared.class.Class.{Class}
-use Rattle.syc.specs.Graphs.{GraphIs, IsClass, IsNoClass}
-use Rattle.syc.specs.Outcomes.{AnswersOf, FailsBy}
-use Rattle.syc.specs.Reports.{Streams}
+use Rattle.syc.specs.Graphs.{IsNoClass}
 use Rattle.syc.specs.Texts.{class_text}
 
 abbrev number_of : Class → ℕ
@@ -45,17 +43,3 @@ below_192 f s most facility severity all = omega (arith, facility, severity, all
 pub none_at_all : (name : List ℕ) (most : ℕ) → 192 ≤ most → NoneBelow name most → IsNoClass name
 none_at_all name most all before class =
     before class (below_192 class.facility class.severity most class.facility_in_range class.severity_in_range all)
-
--- ---- a drawing of one class, or of all
-
-pub drawn : (class : Option (List ℕ)) (bytes_of : List ℕ → Option (List ℕ)) (text : List ℕ) (status : ℕ) (old new : Streams) → IfSome class IsClass
-    → AnswersOf (λ site drawing is_accepted. is_accepted ≡ true) bytes_of text status old new → GraphIs class bytes_of text status old new
-drawn class bytes_of text status old new is (inl (site, is_site, drawing, is_accepted, accepts, printed)) =
-    inl (inl (site, is_site, drawing, is_accepted, (accepts, is), printed))
-drawn class bytes_of text status old new is (inr none) = inl (inr none)
-
-two_or_four : (n : ℕ) → n ≡ 2 → n ≡ 4 → ⊥
-two_or_four n two four = omega (arith, two, four)
-
-pub two_fails : (MayFail : Type 0) (status : ℕ) (old new : Streams) → status ≡ 2 → FailsBy MayFail status old new
-two_fails MayFail status old new two four = absurd (two_or_four status two four)

@@ -1,11 +1,9 @@
 -- How the parts of a replay come together.
 use Rattle.std.proofs.Common.{◌≡◌, ℕ, ◌-◌, length, take, drop, map, arith, List, [], ◌∷◌, ◌++◌, refl, sym, ap, subst, inl, inr, ◌∙◌, Bool, true, false, true≢false}
-use Rattle.std.specs.Prelude.{IfErr, IfOk, IfSome, OnOk, Option, Some, None, Result, Ok, Err, string_bytes}
-use Rattle.sy_site.specs.texts.Describes.{File}
-use Rattle.syc.specs.declared.site.RelayFile.{RelayFile}
+use Rattle.std.specs.Prelude.{Option, Some, None}
 use Rattle.std.specs.Io.KnownBytes.{Appends, Keeps}
 use Rattle.std.proofs.KnownBytes.{Appends-trans, Appends-kept}
-use Rattle.std.proofs.lemmas.List.{append_assoc, append-nil, drop-map, length-drop, length-map, map_push, take_all}
+use Rattle.std.proofs.lemmas.List.{append_assoc, append-nil, drop-map, length-drop, length-map, take_all}
 use Rattle.sy_site.specs.Sites.{Site}
 use Rattle.sy_wire.specs.Streams.{Rose}
 use Rattle.sy_site.specs.machine.States as machine
@@ -22,8 +20,8 @@ use Rattle.syc.specs.Reports.{SinkState, Torn}
 use Rattle.syc.specs.HaltTexts.{halt_report}
 use Rattle.syc.specs.Replays.{Ending, EndsReplay, IsLeft, IsReplayed, IsTold, Replays, end_line, lines_of, loss_lines, next, opened, status_of}
 use Rattle.syc.specs.Replays.Replays.{done, end_torn, faulty, full, no_memory, no_step, skips, steps, torn, unread, unwritten}
-use Rattle.syc.specs.SiteFiles.{AreGiven, HasNoAnswer}
-use Rattle.syc.specs.internal.Halts.{Comes, Finishes, Halted, HasCause, IsCause, IsNoSite, IsReadHalt, IsTorn, Place, Replayed, ReplaysFrom, Stops, Turns, ending_of, file_of, halt_of, start, status_at, with_lines}
+use Rattle.syc.specs.SiteFiles.{HasNoAnswer}
+use Rattle.syc.specs.internal.Halts.{Comes, Finishes, Halted, HasCause, IsCause, IsNoSite, IsReadHalt, IsTorn, Place, Replayed, ReplaysFrom, Stops, Turns, ending_of, halt_of, start, status_at, with_lines}
 use Rattle.syc.specs.declared.halt.Halt.{Halt}
 use Rattle.syc.specs.declared.halt.Halt.TheVariants as halt
 
@@ -344,19 +342,6 @@ pub turned_on : (more : Bool) (site : Site) (from : Place) (held : List ℕ) (ah
 turned_on true site from held ahead to on t = t
 turned_on false site from held ahead to on t = absurd (true≢false (sym on))
 
--- what an answer promises
-pub on_ok : {A E : Type 0} {P Q : Type 0} (r : Result A E) → OnOk r P → (P → Q) → OnOk r Q
-on_ok (Ok x) p f = f p
-on_ok (Err e) p f = tt
-
-pub if_ok : {A E : Type 0} {P Q : A → Type 0} (r : Result A E) → IfOk r P → ((x : A) → P x → Q x) → IfOk r Q
-if_ok (Ok x) p f = f x p
-if_ok (Err e) p f = tt
-
-pub if_err : {A E : Type 0} {P Q : E → Type 0} (r : Result A E) → IfErr r P → ((e : E) → P e → Q e) → IfErr r Q
-if_err (Ok x) p f = tt
-if_err (Err e) p f = f e p
-
 -- ---- before the first event
 
 pub opened_is : (site : Site) (held : Contents) → held.parts ≡ opened_parts site → state_in held ≡ machine.opening site → held ≡ opened site
@@ -392,38 +377,6 @@ losses_behind losses first =
 
 pub losses_counted : (losses : List Loss) (all : List machine.Loss) → losses_of losses ≡ all → length losses ≡ length all
 losses_counted losses all same = sym (length-map losses loss_of) ∙ ap (λ (xs : List machine.Loss). length xs) same
-
--- ---- the files of a site
-
-pub names_given : (files : List RelayFile) → map (λ (file : File). file.name) (map file_of files) ≡ map (λ (f : RelayFile). string_bytes f.name) files
-names_given [] = refl
-names_given (file ∷ files) = ap (λ names. string_bytes file.name ∷ names) (names_given files)
-
--- names that a loop has gone through, and those that are left
-pub names_on : {A B : Type 0} (f : A → List ℕ) (g : B → List ℕ) (found new : List A) (file : A) (name : B) (rest rest' : List B) (all : List (List ℕ))
-    → new ≡ found ++ file ∷ [] → f file ≡ g name → rest ≡ name ∷ rest' → map f found ++ map g rest ≡ all → map f new ++ map g rest' ≡ all
-names_on f g found new file name rest rest' all is same more before =
-    ap (λ n. map f n ++ map g rest') is
-    ∙ ap (λ x. x ++ map g rest') (map_push f found file)
-    ∙ append_assoc (map f found) (f file ∷ []) (map g rest')
-    ∙ ap (λ n. map f found ++ n ∷ map g rest') same
-    ∙ ap (λ r. map f found ++ map g r) (sym more)
-    ∙ before
-
-pub names_end : {A B : Type 0} (f : A → List ℕ) (g : B → List ℕ) (found : List A) (rest : List B) (all : List (List ℕ)) → length rest ≡ 0
-    → map f found ++ map g rest ≡ all → map f found ≡ all
-names_end f g found [] all none same = sym (append-nil (map f found)) ∙ same
-names_end f g found (name ∷ rest) all none same = absurd (omega (arith, none))
-
-given_behind : (bytes_of : List ℕ → Option (List ℕ)) (files : List File) (file : File) → AreGiven bytes_of files
-    → IfSome (bytes_of file.name) (λ bytes. file.bytes ≡ bytes) → AreGiven bytes_of (files ++ file ∷ [])
-given_behind bytes_of [] file given is = (is, tt)
-given_behind bytes_of (f ∷ files) file given is = (given.0, given_behind bytes_of files file given.1 is)
-
-pub given_more : (bytes_of : List ℕ → Option (List ℕ)) (files : List RelayFile) (file : RelayFile) → AreGiven bytes_of (map file_of files)
-    → IfSome (bytes_of (string_bytes file.name)) (λ bytes. file.bytes.items ≡ bytes) → AreGiven bytes_of (map file_of (files ++ file ∷ []))
-given_more bytes_of files file given is =
-    subst (AreGiven bytes_of) (sym (map_push file_of files file)) (given_behind bytes_of (map file_of files) (file_of file) given is)
 
 pub status_fails : (why : Halt) → status_at why ≡ 0 → ⊥
 status_fails (halt.Site site_fault.NoMemory) none = absurd (omega (arith, none))

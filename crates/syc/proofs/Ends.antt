@@ -19,7 +19,7 @@ use Rattle.syc.specs.internal.Halts.{IsNoSite, IsUnread, status_at}
 use Rattle.syc.specs.internal.Optioned.{DocumentEnds, HaltEnds, StopsFirst}
 use Rattle.syc.specs.internal.Unverified.{HasNoVerdict}
 use Rattle.syc.proofs.Endings.{no_verdict, no_verdict_told, site_gone}
-use Rattle.syc.proofs.Unread.{printing_fails, stops_by}
+use Rattle.syc.proofs.Failing.{printing_fails, stops_by}
 
 -- ---- streams that tell nothing
 

@@ -1,4 +1,4 @@
-use Rattle.syc.proofs.Courses.{if_ok}
+use Rattle.syc.proofs.Promised.{if_ok}
 use Rattle.syc.proofs.all_in_words.tally_in_words_of.Goals as goal
 
 pub returns-in-Ok : goal.returns-in-Ok

@@ -3,7 +3,7 @@ use Rattle.sy_site.specs.texts.Files.{file_names}
 use Rattle.syc.specs.Checks.{AskedIs, Says}
 use Rattle.syc.proofs.Endings.{answered}
 use Rattle.syc.proofs.Told.{checked_by_zero}
-use Rattle.syc.proofs.Unread.{fails_by}
+use Rattle.syc.proofs.Failing.{fails_by}
 use Rattle.syc.proofs.ask.ask.Goals as goal
 
 pub returns-clause-answered : goal.returns-clause-answered

@@ -1,7 +1,7 @@
 use Rattle.std.proofs.Common.{Some, ap, inl, inr, subst, sym}
 use Rattle.std.specs.Prelude.{option_map}
 use Rattle.syc.specs.Graphs.{GraphIs}
-use Rattle.syc.proofs.Classes.{drawn, two_fails}
+use Rattle.syc.proofs.Drawn.{drawn, two_fails}
 use Rattle.syc.proofs.NoMemory.{memory_fails}
 use Rattle.syc.proofs.graph.graph.Goals as goal
 

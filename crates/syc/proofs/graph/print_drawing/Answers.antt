@@ -1,7 +1,7 @@
 use Rattle.std.proofs.Common.{◌≡◌, ◌∷◌, Some, true}
 use Rattle.sy_site.specs.texts.Files.{file_names}
 use Rattle.syc.proofs.Endings.{answered}
-use Rattle.syc.proofs.Unread.{fails_by}
+use Rattle.syc.proofs.Failing.{fails_by}
 use Rattle.syc.proofs.graph.print_drawing.Goals as goal
 
 pub returns-clause-draws : goal.returns-clause-draws

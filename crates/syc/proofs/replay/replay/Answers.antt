@@ -4,7 +4,7 @@ use Rattle.sy_wire.specs.Streams.{Rose}
 use Rattle.syc.specs.declared.halt.Halt.TheVariants as halts
 use Rattle.syc.specs.internal.Halts.{Halted, IsCause}
 use Rattle.syc.proofs.Courses.{halted, halted_failing, replayed, rises_on}
-use Rattle.syc.proofs.Unread.{stop_fails}
+use Rattle.syc.proofs.Failing.{stop_fails}
 use Rattle.syc.proofs.replay.replay.Goals as goal
 
 pub returns-in-Ok-clause-replay : goal.returns-in-Ok-clause-replay

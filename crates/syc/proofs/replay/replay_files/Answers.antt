@@ -1,7 +1,7 @@
 use Rattle.std.proofs.Common.{◌∷◌, inl, inr}
 use Rattle.std.proofs.lemmas.Result.{err_from_is_err_and}
 use Rattle.sy_site.specs.texts.Files.{file_names}
-use Rattle.syc.proofs.Courses.{if_err}
+use Rattle.syc.proofs.Promised.{if_err}
 use Rattle.syc.proofs.Unread.{any_behind, any_here, unread_any}
 use Rattle.syc.proofs.replay.replay_files.Goals as goal
 

@@ -4,7 +4,7 @@ use Rattle.syc.specs.Reports.{ReportedFirst, SinkState, seen}
 use Rattle.syc.specs.internal.Halts.{status_at}
 use Rattle.syc.proofs.Courses.{replayed}
 use Rattle.syc.proofs.Replayed.{halted_told}
-use Rattle.syc.proofs.Unread.{stop_fails}
+use Rattle.syc.proofs.Failing.{stop_fails}
 use Rattle.syc.proofs.replay_in_words.replay_told.Goals as goal
 
 pub returns-in-Ok-clause-says : goal.returns-in-Ok-clause-says

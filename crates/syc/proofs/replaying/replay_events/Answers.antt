@@ -1,7 +1,8 @@
 use Rattle.std.proofs.Common.{◌≡◌, refl}
 use Rattle.syc.specs.Replays.{lines_of, opened}
 use Rattle.syc.specs.internal.Halts.{start}
-use Rattle.syc.proofs.Courses.{finishes_started, if_err, keeps_all, on_ok, opened_is, out_of_room, stops_started}
+use Rattle.syc.proofs.Courses.{finishes_started, keeps_all, opened_is, out_of_room, stops_started}
+use Rattle.syc.proofs.Promised.{if_err, on_ok}
 use Rattle.syc.proofs.replaying.replay_events.Goals as goal
 
 pub returns-in_default-clause-err : goal.returns-in_default-clause-err

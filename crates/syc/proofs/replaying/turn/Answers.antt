@@ -5,7 +5,7 @@ use Rattle.syc.specs.internal.Halts.{Comes, HasCause, Stops, place}
 use Rattle.syc.specs.declared.halt.Halt.TheVariants as halt
 use Rattle.syc.proofs.Courses.{comes_on, flush_fails, keeps_all, out_of_room, read_fails, stands_still, stops_behind}
 use Rattle.syc.proofs.Cutting.{open_behind, read_end, read_on}
-use Rattle.syc.proofs.Unread.{shorter_by}
+use Rattle.syc.proofs.Failing.{shorter_by}
 use Rattle.syc.proofs.replaying.turn.Goals as goal
 
 pub returns-in_default-clause-err : goal.returns-in_default-clause-err

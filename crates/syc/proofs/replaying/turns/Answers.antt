@@ -3,7 +3,8 @@ use Rattle.std.proofs.lemmas.Result.{err_from_is_err_and}
 use Rattle.syc.specs.Replays.{lines_of}
 use Rattle.syc.specs.internal.Halts.{Comes, Finishes, Stops, place}
 use Rattle.syc.specs.declared.halt.Halt.TheVariants as halt
-use Rattle.syc.proofs.Courses.{comes_on, finishes_behind, if_err, keeps_all, on_ok, read_fails, stops_behind, turned_last, turned_on}
+use Rattle.syc.proofs.Courses.{comes_on, finishes_behind, keeps_all, read_fails, stops_behind, turned_last, turned_on}
+use Rattle.syc.proofs.Promised.{if_err, on_ok}
 use Rattle.syc.proofs.replaying.turns.Goals as goal
 
 pub returns-in_err-turn-clause-err : goal.returns-in_err-turn-clause-err

@@ -4,7 +4,7 @@ use Rattle.std.specs.Prelude.{IfSome, string_bytes}
 use Rattle.syc.specs.SiteFiles.{AreGiven}
 use Rattle.syc.specs.internal.Halts.{file_of}
 use Rattle.syc.specs.declared.site.RelayFile.{RelayFile}
-use Rattle.syc.proofs.Courses.{given_more, names_end, names_on}
+use Rattle.syc.proofs.FilesGiven.{given_more, names_end, names_on}
 use Rattle.syc.proofs.Unread.{unread_within}
 use Rattle.syc.proofs.site.read_files.Goals as goal
 

@@ -1,7 +1,7 @@
 use Rattle.std.proofs.Common.{◌≡◌, ◌∙◌, subst}
 use Rattle.sy_site.specs.texts.Files.{file_names}
 use Rattle.syc.specs.internal.Halts.{IsUnread}
-use Rattle.syc.proofs.Courses.{if_err}
+use Rattle.syc.proofs.Promised.{if_err}
 use Rattle.syc.proofs.Unread.{unread_behind}
 use Rattle.syc.proofs.site.read_site.Goals as goal
 

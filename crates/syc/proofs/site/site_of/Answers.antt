@@ -4,7 +4,7 @@ use Rattle.sy_site.specs.declared.fault.SiteFault.TheVariants as site_fault
 use Rattle.sy_site.specs.texts.Files.{file_names}
 use Rattle.sy_site.specs.texts.HasFault.{HasFault}
 use Rattle.syc.specs.internal.Halts.{file_of}
-use Rattle.syc.proofs.Courses.{names_given}
+use Rattle.syc.proofs.FilesGiven.{names_given}
 use Rattle.syc.proofs.site.site_of.Goals as goal
 
 pub returns-in-Ok-read-clause-ok : goal.returns-in-Ok-read-clause-ok

@@ -1,5 +1,5 @@
 use Rattle.std.proofs.Common.{[], ◌∷◌}
-use Rattle.syc.proofs.Courses.{if_err}
+use Rattle.syc.proofs.Promised.{if_err}
 use Rattle.syc.proofs.Unread.{unread_no_file}
 use Rattle.syc.proofs.verify.read_certificate.Goals as goal
 

@@ -2,7 +2,7 @@ use Rattle.std.proofs.Common.{◌≡◌, ◌∷◌, Some}
 use Rattle.sy_site.specs.texts.Files.{file_names}
 use Rattle.syc.proofs.Endings.{judged}
 use Rattle.syc.proofs.Told.{kept_by_zero}
-use Rattle.syc.proofs.Unread.{fails_by}
+use Rattle.syc.proofs.Failing.{fails_by}
 use Rattle.syc.proofs.verify.verify.Goals as goal
 
 pub returns-clause-verdict : goal.returns-clause-verdict
