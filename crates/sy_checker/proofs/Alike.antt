@@ -12,9 +12,9 @@ use Rattle.sy_site.specs.Sites.{Site, plan_at}
 use Rattle.sy_site.specs.machine.Lawful.{IsInput, IsLawful}
 use Rattle.sy_site.specs.machine.Reach.{MayDo, PostsOn, Reach, Reaches, entry, forwards, list_of, occurrence_at, onward, posts}
 use Rattle.sy_site.specs.machine.Soundness.{AreRanks}
-use Rattle.sy_checker.specs.declared.course.Course.{Course}
-use Rattle.sy_checker.specs.declared.executed.Executed.{Executed}
-use Rattle.sy_checker.specs.declared.executed.Executed.TheVariants as executed
+use Rattle.sy_checker.specs.declared.flows.course.Course.{Course}
+use Rattle.sy_checker.specs.declared.flows.executed.Executed.{Executed}
+use Rattle.sy_checker.specs.declared.flows.executed.Executed.TheVariants as executed
 use Rattle.sy_checker.specs.declared.flows.Hop.{Hop}
 use Rattle.sy_checker.specs.declared.flows.ListFlows.{ListFlows}
 use Rattle.sy_checker.specs.declared.flows.RelayFlows.{RelayFlows}
@@ -23,7 +23,7 @@ use Rattle.sy_checker.specs.declared.flows.SiteHops.{SiteHops}
 use Rattle.sy_checker.specs.declared.reach.Origin.{Origin}
 use Rattle.sy_checker.specs.internal.Course.{AreAlike, AreCourses, AreSame, IsCourse, IsCourseAt, IsSameAt}
 use Rattle.sy_checker.specs.internal.Flows.{AreEach, AreSiteFlows, Does, IsFlow, is_used}
-use Rattle.sy_checker.specs.declared.wanted.InnerList.{InnerList}
+use Rattle.sy_checker.specs.declared.rows.wanted.InnerList.{InnerList}
 use Rattle.sy_checker.specs.Fit.{IsInner}
 use Rattle.sy_checker.specs.internal.Hops.{AreHops, AreSiteHops, Leads, LeadsBy, LeadsByPosts}
 use Rattle.sy_checker.specs.internal.Inner.{AreNumbers, number_at}

@@ -5,9 +5,9 @@ use Rattle.sy_site.specs.declared.site.SiteInput.{SiteInput}
 use Rattle.sy_site.specs.Sites.{Site}
 use Rattle.sy_site.specs.machine.Findings.{IsFinding, Kind, WayRow}
 use Rattle.sy_site.specs.machine.Soundness.{IsSound}
-use Rattle.sy_checker.specs.declared.finding.Refusal.{Refusal}
-use Rattle.sy_checker.specs.declared.finding.Refusal.TheVariants as refusal
-use Rattle.sy_checker.specs.Finding.{IsTrueRefusal, kind_of, way_of}
+use Rattle.sy_site.specs.declared.finding.Refusal.{Refusal}
+use Rattle.sy_site.specs.declared.finding.Refusal.TheVariants as refusal
+use Rattle.sy_site.specs.Finding.{IsTrueRefusal, kind_of, way_of}
 
 pub memory_alone : (site : Site)
     → ((site : Site) → IsSound site → (class : Class) (way : List WayRow) (input : SiteInput) (kind : Kind) → IsFinding site class way input kind → ⊥)

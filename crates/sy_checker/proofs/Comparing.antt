@@ -18,14 +18,15 @@ use Rattle.sy_site.specs.Sites.{Site, archives}
 use Rattle.sy_site.specs.machine.Lawful.{IsLawful}
 use Rattle.sy_site.specs.machine.Reach.{Reach, list_of}
 use Rattle.sy_site.proofs.machine.Spares.{reach_every}
-use Rattle.sy_checker.specs.Fit.{AreWanted, HasRank, IsAbove, IsBranch, IsInner, IsReached, name_of, paths}
+use Rattle.sy_checker.specs.Fit.{AreWanted, HasRank, IsAbove, IsBranch, IsInner, IsReached, paths}
+use Rattle.sy_site.specs.Names.{name_of}
 use Rattle.sy_checker.specs.internal.Hops.{AreHops}
 use Rattle.sy_checker.specs.internal.Found.{same_input}
 use Rattle.sy_checker.specs.internal.Ranked.{FallsAt, FallsFrom, IsBelow, IsBelowAt, IsInputThere, input_in, rank_at}
-use Rattle.sy_checker.specs.declared.executed.Executed.TheVariants as executed
+use Rattle.sy_checker.specs.declared.flows.executed.Executed.TheVariants as executed
 use Rattle.sy_checker.specs.declared.flows.Hop.{Hop}
-use Rattle.sy_checker.specs.declared.wanted.Wanted.{Wanted}
-use Rattle.sy_checker.specs.declared.wanted.Wanted.TheVariants as wanted
+use Rattle.sy_checker.specs.declared.rows.wanted.Wanted.{Wanted}
+use Rattle.sy_checker.specs.declared.rows.wanted.Wanted.TheVariants as wanted
 use Rattle.sy_checker.proofs.FitIsSound.{at_place, in_map, one_behind}
 use Rattle.sy_checker.proofs.Found.{not_among, same_is}
 use Rattle.sy_checker.proofs.There.{reach_there}

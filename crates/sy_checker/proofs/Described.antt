@@ -20,7 +20,7 @@ use Rattle.sy_site.specs.texts.Describes.{AllPaired, AreLines, Describes, File, 
 use Rattle.sy_site.specs.texts.Lines.{is_blank, word_lines, words}
 use Rattle.sy_site.specs.texts.Shapes.{Line, ProtectLine, RelayLine}
 use Rattle.sy_site.specs.texts.Shapes as shapes
-use Rattle.sy_checker.specs.Fit.{action_name, name_in, name_of, name_of_action}
+use Rattle.sy_site.specs.Names.{action_name, name_in, name_of, name_of_action}
 
 no_value : {A : Type 0} {x : A} → None ≡ Some x → ⊥
 no_value e = cc

@@ -15,7 +15,7 @@ use Rattle.sy_site.specs.machine.Findings.{HoldsAt, Kind}
 use Rattle.sy_site.specs.machine.Lawful.{IsLawful}
 use Rattle.sy_site.specs.machine.Reach.{PostsOn, Reach, list_of}
 use Rattle.sy_site.specs.declared.site.SiteInput.{SiteInput}
-use Rattle.sy_checker.specs.declared.wanted.InnerList.{InnerList}
+use Rattle.sy_checker.specs.declared.rows.wanted.InnerList.{InnerList}
 use Rattle.sy_checker.specs.Fit.{IsInner}
 use Rattle.sy_checker.specs.internal.Hops.{AreApart}
 use Rattle.sy_checker.specs.internal.Inner.{AreNumbers, PostsTo}

@@ -14,8 +14,8 @@ use Rattle.sy_rules.specs.lists.Work.{May, Must}
 use Rattle.sy_site.specs.declared.site.SiteAction.{SiteAction}
 use Rattle.sy_site.specs.Sites.{Site, actions_at, does_spare, plan_at}
 use Rattle.sy_site.specs.machine.Reach.{occurrence_at}
-use Rattle.sy_checker.specs.declared.executed.Executed.{Executed}
-use Rattle.sy_checker.specs.declared.executed.Executed.TheVariants as executed
+use Rattle.sy_checker.specs.declared.flows.executed.Executed.{Executed}
+use Rattle.sy_checker.specs.declared.flows.executed.Executed.TheVariants as executed
 use Rattle.sy_checker.specs.declared.flows.ListFlows.{ListFlows}
 use Rattle.sy_checker.specs.internal.Flows.{IsFirm, IsFlow, IsSet, set_of}
 

@@ -14,10 +14,11 @@ use Rattle.sy_board.specs.relay.Spares.{Scope}
 use Rattle.sy_site.specs.machine.Findings.{HoldsAt, IsInnerLoop, Kind}
 use Rattle.sy_site.specs.machine.Reach.{LeadsTo, Reach, Reaches, list_of}
 use Rattle.sy_site.specs.machine.Soundness.{IsSound, IsSoundFor}
-use Rattle.sy_checker.specs.Fit.{AreFit, AreRight, AreWanted, HasNumber, HasRank, IsAbove, IsClean, IsFit, IsInner, IsNumbered, IsRight, name_of, paths}
-use Rattle.sy_checker.specs.declared.wanted.InnerList.{InnerList}
-use Rattle.sy_checker.specs.declared.wanted.Wanted.{Wanted}
-use Rattle.sy_checker.specs.declared.wanted.Wanted.TheVariants as wanted
+use Rattle.sy_checker.specs.Fit.{AreFit, AreRight, AreWanted, HasNumber, HasRank, IsAbove, IsClean, IsFit, IsInner, IsNumbered, IsRight, paths}
+use Rattle.sy_site.specs.Names.{name_of}
+use Rattle.sy_checker.specs.declared.rows.wanted.InnerList.{InnerList}
+use Rattle.sy_checker.specs.declared.rows.wanted.Wanted.{Wanted}
+use Rattle.sy_checker.specs.declared.rows.wanted.Wanted.TheVariants as wanted
 use Rattle.sy_checker.proofs.InnerLists.{no_inner_loop}
 use Rattle.sy_checker.proofs.PathsLead.{path_leads}
 

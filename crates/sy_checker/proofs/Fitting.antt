@@ -17,13 +17,14 @@ use Rattle.sy_site.specs.machine.Reach.{Reach, list_of, onward}
 use Rattle.sy_site.specs.machine.Soundness.{AreRanks, IsSound}
 use Rattle.sy_board.proofs.relay.Keeps.{Each, each_append}
 use Rattle.sy_site.proofs.machine.NoFinding.{no_finding}
-use Rattle.sy_checker.specs.Fit.{AreFit, AreRight, AreWanted, ComesBefore, IsFit, IsInner, ListsAll, StandsBefore, action_name, name_of, paths, port_of}
+use Rattle.sy_checker.specs.Fit.{AreFit, AreRight, AreWanted, ComesBefore, IsFit, IsInner, ListsAll, StandsBefore, paths}
+use Rattle.sy_site.specs.Names.{action_name, name_of, port_of}
 use Rattle.sy_checker.specs.internal.Found.{AreProtectedBelow, AreRelays, AreRest, AreSorted, IsRest, same_input}
 use Rattle.sy_checker.specs.internal.Made.{IsMade, IsMadeAt}
-use Rattle.sy_checker.specs.declared.wanted.InnerList.{InnerList}
+use Rattle.sy_checker.specs.declared.rows.wanted.InnerList.{InnerList}
 use Rattle.sy_checker.specs.internal.Inners.{AreInners}
-use Rattle.sy_checker.specs.declared.wanted.Wanted.{Wanted}
-use Rattle.sy_checker.specs.declared.wanted.Wanted.TheVariants as wanted
+use Rattle.sy_checker.specs.declared.rows.wanted.Wanted.{Wanted}
+use Rattle.sy_checker.specs.declared.rows.wanted.Wanted.TheVariants as wanted
 use Rattle.sy_checker.proofs.Complete.{reached_list}
 use Rattle.sy_checker.proofs.Falling.{numbers}
 use Rattle.sy_checker.proofs.Found.{not_among, same_is}

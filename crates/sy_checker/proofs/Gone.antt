@@ -14,8 +14,8 @@ use Rattle.sy_site.specs.Sites.{Relay, Site, plan_at, plan_in}
 use Rattle.sy_site.specs.machine.Lawful.{IsInput, IsLawful}
 use Rattle.sy_board.specs.relay.Spares.{Scope}
 use Rattle.sy_site.specs.machine.Reach.{Reach, Reaches, entry, list_of, onward}
-use Rattle.sy_checker.specs.declared.executed.Executed.{Executed}
-use Rattle.sy_checker.specs.declared.executed.Executed.TheVariants as executed
+use Rattle.sy_checker.specs.declared.flows.executed.Executed.{Executed}
+use Rattle.sy_checker.specs.declared.flows.executed.Executed.TheVariants as executed
 use Rattle.sy_checker.specs.internal.Hops.{Leads}
 use Rattle.sy_checker.specs.internal.Found.{Adds, same_input}
 use Rattle.sy_checker.specs.declared.reach.Origin.{Origin}

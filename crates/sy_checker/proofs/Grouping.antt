@@ -8,8 +8,8 @@ use Rattle.std.proofs.lemmas.List.Quantifiers.{all_pairs_push}
 use Rattle.std.proofs.lemmas.Option.{get_or_from_slice_get, slice_get-get_or, slice_get-map, slice_get_within}
 use Rattle.sy_wire.specs.declared.class.Class.{Class}
 use Rattle.sy_site.specs.declared.site.SiteInput.{SiteInput}
-use Rattle.sy_checker.specs.declared.finding.Kind.{Kind}
-use Rattle.sy_checker.specs.declared.groups.Group.{Group}
+use Rattle.sy_site.specs.declared.finding.Kind.{Kind}
+use Rattle.sy_checker.specs.declared.kinds.groups.Group.{Group}
 use Rattle.sy_checker.specs.Survey.{AreGroups, Names, subject}
 use Rattle.sy_checker.specs.internal.Survey.{IsAt, Puts}
 use Rattle.sy_checker.proofs.Ways.{one_value}

@@ -7,7 +7,7 @@ use Rattle.sy_wire.specs.declared.class.Class.{Class}
 use Rattle.sy_site.specs.declared.site.SiteInput.{SiteInput}
 use Rattle.sy_site.specs.Sites.{Site}
 use Rattle.sy_site.specs.machine.Reach.{list_of}
-use Rattle.sy_checker.specs.declared.executed.Executed.TheVariants as executed
+use Rattle.sy_checker.specs.declared.flows.executed.Executed.TheVariants as executed
 use Rattle.sy_checker.specs.declared.flows.Hop.{Hop}
 use Rattle.sy_checker.specs.internal.Hops.{AreHops}
 use Rattle.sy_checker.specs.internal.Loops.{IsHeight, IsHeightOf, rank_at}

@@ -7,7 +7,7 @@ use Rattle.sy_site.specs.declared.site.SiteInput.{SiteInput}
 use Rattle.sy_site.specs.Sites.{Site}
 use Rattle.sy_site.specs.machine.Findings.{IsInnerLoop}
 use Rattle.sy_site.specs.machine.Reach.{Follows, MayDo, PostsOn, Reach, list_of, occurrence_at}
-use Rattle.sy_checker.specs.declared.wanted.InnerList.{InnerList}
+use Rattle.sy_checker.specs.declared.rows.wanted.InnerList.{InnerList}
 use Rattle.sy_checker.specs.Fit.{IsInner}
 
 abbrev pub on : ℕ → ℕ → InnerList

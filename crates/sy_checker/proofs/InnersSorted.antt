@@ -10,7 +10,7 @@ use Rattle.sy_site.specs.declared.site.SiteInput.{SiteInput}
 use Rattle.sy_site.specs.Sites.{Site, plan_at}
 use Rattle.sy_site.specs.machine.Lawful.{IsInput, IsLawful}
 use Rattle.sy_site.specs.machine.Reach.{PostsOn, Reach, list_of}
-use Rattle.sy_checker.specs.declared.wanted.InnerList.{InnerList}
+use Rattle.sy_checker.specs.declared.rows.wanted.InnerList.{InnerList}
 use Rattle.sy_checker.specs.Fit.{ComesBefore, IsInner, ListsAll}
 use Rattle.sy_checker.specs.internal.Inners.{AreInners, AreReachedOf, IsInnerBefore, IsPosted}
 use Rattle.sy_checker.specs.internal.Found.{AreOf}

@@ -8,9 +8,9 @@ use Rattle.sy_site.specs.Sites.{Site}
 use Rattle.sy_site.specs.machine.Reach.{Reach}
 use Rattle.sy_checker.specs.Fit.{AreWanted, ComesBefore, IsBranch, IsInner, IsReached, ListsAll, StandsBefore, paths}
 use Rattle.sy_checker.specs.internal.Found.{HasInput, IsRest}
-use Rattle.sy_checker.specs.declared.wanted.InnerList.{InnerList}
-use Rattle.sy_checker.specs.declared.wanted.Wanted.{Wanted}
-use Rattle.sy_checker.specs.declared.wanted.Wanted.TheVariants as wanted
+use Rattle.sy_checker.specs.declared.rows.wanted.InnerList.{InnerList}
+use Rattle.sy_checker.specs.declared.rows.wanted.Wanted.{Wanted}
+use Rattle.sy_checker.specs.declared.rows.wanted.Wanted.TheVariants as wanted
 use Rattle.sy_checker.proofs.Sorted.{lists_as}
 
 module _ (site : Site) (class : Class) (firm every inputs branches : List SiteInput) (relays : List ℕ) (inners : List InnerList)

@@ -16,7 +16,7 @@ use Rattle.sy_site.specs.Sites.{Site, same_action, target}
 use Rattle.sy_site.specs.machine.Lawful.{IsLawful}
 use Rattle.sy_site.specs.machine.Reach.{ListLeadsTo, MustDo, posts_on, writes}
 use Rattle.sy_site.specs.machine.Reach as sites
-use Rattle.sy_checker.specs.declared.wanted.InnerList.{InnerList}
+use Rattle.sy_checker.specs.declared.rows.wanted.InnerList.{InnerList}
 use Rattle.sy_checker.specs.internal.Leads.{IsThere, MustLead, MustWriteAt, leads_on, list_at, same_list}
 use Rattle.sy_checker.proofs.Leading.{must_does, must_execute, must_has}
 use Rattle.sy_checker.proofs.Led.{few_lists, must_lead_there, not_in_lists, same_list_is, same_list_laws}

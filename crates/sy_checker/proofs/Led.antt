@@ -20,10 +20,10 @@ use Rattle.sy_site.specs.declared.site.SiteInput.{SiteInput}
 use Rattle.sy_site.specs.Sites.{Site, plan_at, target}
 use Rattle.sy_site.specs.machine.Lawful.{IsInput, IsLawful}
 use Rattle.sy_site.specs.machine.Reach.{MustDo, list_of, occurrence_at}
-use Rattle.sy_checker.specs.declared.executed.Executed.TheVariants as executed
+use Rattle.sy_checker.specs.declared.flows.executed.Executed.TheVariants as executed
 use Rattle.sy_checker.specs.declared.lists.FoundLists.{FoundLists}
 use Rattle.sy_checker.specs.declared.lists.ListOrigin.{ListOrigin}
-use Rattle.sy_checker.specs.declared.wanted.InnerList.{InnerList}
+use Rattle.sy_checker.specs.declared.rows.wanted.InnerList.{InnerList}
 use Rattle.sy_checker.specs.internal.Course.{AreAlike}
 use Rattle.sy_checker.specs.internal.Flows.{IsSet}
 use Rattle.sy_checker.specs.internal.Found.{HasNoneFrom, IsNextIn}

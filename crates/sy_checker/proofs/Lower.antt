@@ -12,11 +12,12 @@ use Rattle.sy_rules.specs.declared.lists.occurrence.Occurrence.TheVariants as oc
 use Rattle.sy_board.specs.relay.Spares.{Scope}
 use Rattle.sy_site.specs.Sites.{Site}
 use Rattle.sy_site.specs.machine.Reach.{MayDo, occurrence_at}
-use Rattle.sy_checker.specs.declared.executed.Executed.TheVariants as executed
-use Rattle.sy_checker.specs.declared.wanted.InnerList.{InnerList}
-use Rattle.sy_checker.specs.declared.wanted.Wanted.{Wanted}
-use Rattle.sy_checker.specs.declared.wanted.Wanted.TheVariants as wanted
-use Rattle.sy_checker.specs.Fit.{HasNumber, IsNumbered, name_of}
+use Rattle.sy_checker.specs.declared.flows.executed.Executed.TheVariants as executed
+use Rattle.sy_checker.specs.declared.rows.wanted.InnerList.{InnerList}
+use Rattle.sy_checker.specs.declared.rows.wanted.Wanted.{Wanted}
+use Rattle.sy_checker.specs.declared.rows.wanted.Wanted.TheVariants as wanted
+use Rattle.sy_checker.specs.Fit.{HasNumber, IsNumbered}
+use Rattle.sy_site.specs.Names.{name_of}
 use Rattle.sy_checker.specs.internal.Flows.{IsSet}
 use Rattle.sy_checker.specs.internal.Inners.{IsLower, IsLowerAt, IsLowerBy, number_given}
 use Rattle.sy_checker.specs.internal.Found.{HasNoneFrom, IsNextIn}

@@ -7,7 +7,7 @@ use Rattle.sy_checker.specs.internal.Certifying.{AreRowsOf}
 use Rattle.sy_checker.specs.Fit.{AreRight}
 use Rattle.sy_checker.specs.internal.Verifying.{IsJudged}
 use Rattle.sy_checker.specs.declared.verifying.Judged.TheVariants as judged
-use Rattle.sy_checker.specs.declared.wanted.RowKind.{RowKind}
+use Rattle.sy_checker.specs.declared.rows.wanted.RowKind.{RowKind}
 use Rattle.sy_checker.proofs.Uniqueness.{one_wanted}
 
 pub never_wrong : (site : Site) (class : Class) (rows : List Row) → AreRowsOf site class rows → (place : ℕ) (kind : RowKind)

@@ -12,9 +12,9 @@ use Rattle.sy_site.specs.Sites.{Relay, Site, archives, asks_for, plan_in}
 use Rattle.sy_site.specs.machine.Lawful.{IsArchive, IsInput, IsLawful}
 use Rattle.sy_checker.specs.Fit.{AreWanted}
 use Rattle.sy_checker.specs.internal.Leads.{IsThere}
-use Rattle.sy_checker.specs.declared.wanted.InnerList.{InnerList}
-use Rattle.sy_checker.specs.declared.wanted.Wanted.{Wanted}
-use Rattle.sy_checker.specs.declared.wanted.Wanted.TheVariants as wanted
+use Rattle.sy_checker.specs.declared.rows.wanted.InnerList.{InnerList}
+use Rattle.sy_checker.specs.declared.rows.wanted.Wanted.{Wanted}
+use Rattle.sy_checker.specs.declared.rows.wanted.Wanted.TheVariants as wanted
 use Rattle.sy_checker.proofs.Comparing.{meant, no_value}
 use Rattle.sy_checker.proofs.InnersSorted.{inner_is_there}
 use Rattle.sy_checker.proofs.There.{entry_there as is_there, reach_there, relay_there}

@@ -14,12 +14,12 @@ use Rattle.sy_site.specs.Sites.{Site, plan_at}
 use Rattle.sy_site.specs.machine.Findings.{IsInnerLoop}
 use Rattle.sy_site.specs.machine.Lawful.{IsInput}
 use Rattle.sy_site.specs.machine.Reach.{Follows, MayDo, PostsOn, Reach, list_of, occurrence_at}
-use Rattle.sy_checker.specs.declared.executed.Executed.TheVariants as executed
-use Rattle.sy_checker.specs.declared.inner.Halt.{Halt}
-use Rattle.sy_checker.specs.declared.inner.Halt.TheVariants as halt
-use Rattle.sy_checker.specs.declared.inner.ListNumber.{ListNumber}
-use Rattle.sy_checker.specs.declared.inner.RelayNumbers.{RelayNumbers}
-use Rattle.sy_checker.specs.declared.wanted.InnerList.{InnerList}
+use Rattle.sy_checker.specs.declared.flows.executed.Executed.TheVariants as executed
+use Rattle.sy_checker.specs.declared.lists.inner.Halt.{Halt}
+use Rattle.sy_checker.specs.declared.lists.inner.Halt.TheVariants as halt
+use Rattle.sy_checker.specs.declared.lists.inner.ListNumber.{ListNumber}
+use Rattle.sy_checker.specs.declared.lists.inner.RelayNumbers.{RelayNumbers}
+use Rattle.sy_checker.specs.declared.rows.wanted.InnerList.{InnerList}
 use Rattle.sy_checker.specs.Fit.{IsInner}
 use Rattle.sy_checker.specs.internal.Flows.{AreEach, IsSet}
 use Rattle.sy_checker.specs.internal.Hops.{AreApart}

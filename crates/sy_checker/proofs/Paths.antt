@@ -15,9 +15,9 @@ use Rattle.sy_site.specs.declared.site.SiteInput.{SiteInput}
 use Rattle.sy_site.specs.Sites.{Site, target}
 use Rattle.sy_site.specs.machine.Lawful.{IsLawful}
 use Rattle.sy_site.specs.machine.Reach.{ListLeadsTo, MustDo, leads_on, list_of, posts_on, writes}
-use Rattle.sy_checker.specs.declared.executed.Executed.TheVariants as executed
+use Rattle.sy_checker.specs.declared.flows.executed.Executed.TheVariants as executed
 use Rattle.sy_checker.specs.declared.lists.ListOrigin.{ListOrigin}
-use Rattle.sy_checker.specs.declared.wanted.InnerList.{InnerList}
+use Rattle.sy_checker.specs.declared.rows.wanted.InnerList.{InnerList}
 use Rattle.sy_checker.specs.Fit.{IsPath, MustWrite}
 use Rattle.sy_checker.specs.internal.Flows.{IsSet}
 use Rattle.sy_checker.specs.internal.Found.{HasNoneFrom, IsNextIn}

@@ -9,8 +9,8 @@ use Rattle.sy_rules.specs.declared.lists.occurrence.Occurrence.TheVariants as oc
 use Rattle.sy_board.specs.relay.Spares.{Scope, more, once}
 use Rattle.sy_site.specs.Sites.{Site}
 use Rattle.sy_site.specs.machine.Reach.{MayDo, PostsOn}
-use Rattle.sy_checker.specs.declared.executed.Executed.{Executed}
-use Rattle.sy_checker.specs.declared.executed.Executed.TheVariants as executed
+use Rattle.sy_checker.specs.declared.flows.executed.Executed.{Executed}
+use Rattle.sy_checker.specs.declared.flows.executed.Executed.TheVariants as executed
 use Rattle.sy_checker.specs.declared.flows.Hop.{Hop}
 use Rattle.sy_checker.specs.internal.Flows.{Does}
 use Rattle.sy_checker.specs.internal.Hops.{AddsLists, AddsPosted, IsWalked, LeadsByPosts, follows_posts}

@@ -15,7 +15,7 @@ use Rattle.sy_site.specs.machine.Findings.{WayRow}
 use Rattle.sy_site.specs.machine.Lawful.{IsLawful}
 use Rattle.sy_site.specs.machine.Reach.{Reach, entry, list_of, onward}
 use Rattle.sy_site.specs.machine.Soundness.{AreRanks}
-use Rattle.sy_checker.specs.declared.executed.Executed.TheVariants as executed
+use Rattle.sy_checker.specs.declared.flows.executed.Executed.TheVariants as executed
 use Rattle.sy_checker.specs.declared.flows.Hop.{Hop}
 use Rattle.sy_checker.specs.internal.Hops.{AreHops}
 use Rattle.sy_checker.specs.internal.Found.{same_input}

@@ -17,7 +17,7 @@ use Rattle.sy_site.specs.declared.site.SiteInput.{SiteInput}
 use Rattle.sy_site.specs.Sites.{Site, plan_at, target}
 use Rattle.sy_site.specs.machine.Findings.{HoldsAt, IsForward, IsInnerLoop, Kind}
 use Rattle.sy_site.specs.machine.Reach.{Follows, MayDo, list_of}
-use Rattle.sy_checker.specs.declared.executed.Executed.TheVariants as executed
+use Rattle.sy_checker.specs.declared.flows.executed.Executed.TheVariants as executed
 use Rattle.sy_checker.specs.Fit.{IsClean}
 use Rattle.sy_checker.specs.internal.Flows.{IsSet}
 use Rattle.sy_checker.specs.internal.Found.{HasNoneFrom, IsNextIn}

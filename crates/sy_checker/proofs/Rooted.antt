@@ -8,7 +8,7 @@ use Rattle.sy_wire.specs.declared.class.Class.{Class}
 use Rattle.sy_site.specs.declared.site.SiteInput.{SiteInput}
 use Rattle.sy_site.specs.Sites.{Site}
 use Rattle.sy_site.specs.machine.Reach.{list_of}
-use Rattle.sy_checker.specs.declared.executed.Executed.{Executed}
+use Rattle.sy_checker.specs.declared.flows.executed.Executed.{Executed}
 use Rattle.sy_checker.specs.declared.flows.Hop.{Hop}
 use Rattle.sy_checker.specs.declared.reach.Origin.{Origin}
 use Rattle.sy_checker.specs.internal.Hops.{AreHops}

@@ -24,10 +24,11 @@ use Rattle.sy_board.specs.relay.Spares.{Scope}
 use Rattle.sy_site.specs.machine.Reach.{Reach, list_of, occurrence_at}
 use Rattle.sy_site.specs.machine.Reach as reach
 use Rattle.sy_checker.specs.internal.Certifying.{AreShaped, IsInRange}
-use Rattle.sy_checker.specs.Fit.{AreFit, AreWanted, IsFit, IsPath, IsRight, action_name, name_of, paths, port_of}
-use Rattle.sy_checker.specs.declared.wanted.InnerList.{InnerList}
-use Rattle.sy_checker.specs.declared.wanted.Wanted.{Wanted}
-use Rattle.sy_checker.specs.declared.wanted.Wanted.TheVariants as wanted
+use Rattle.sy_checker.specs.Fit.{AreFit, AreWanted, IsFit, IsPath, IsRight, paths}
+use Rattle.sy_site.specs.Names.{action_name, name_of, port_of}
+use Rattle.sy_checker.specs.declared.rows.wanted.InnerList.{InnerList}
+use Rattle.sy_checker.specs.declared.rows.wanted.Wanted.{Wanted}
+use Rattle.sy_checker.specs.declared.rows.wanted.Wanted.TheVariants as wanted
 use Rattle.sy_checker.proofs.Comparing.{meant, no_value, one_value}
 use Rattle.sy_checker.proofs.Described.{IsNamed}
 use Rattle.sy_checker.proofs.FitIsSound.{in_flat, in_map, one_behind}

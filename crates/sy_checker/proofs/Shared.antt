@@ -13,8 +13,8 @@ use Rattle.sy_site.specs.Sites.{Site, archives, same_action, plan_at}
 use Rattle.sy_site.specs.machine.Lawful.{IsInput, IsLawful}
 use Rattle.sy_site.specs.machine.Reach.{ListLeadsTo, leads_on, posts_on, writes, list_of}
 use Rattle.sy_site.specs.machine.Soundness.{IsSoundFor}
-use Rattle.sy_checker.specs.declared.course.Course.{Course}
-use Rattle.sy_checker.specs.declared.met.Met.{Met}
+use Rattle.sy_checker.specs.declared.flows.course.Course.{Course}
+use Rattle.sy_checker.specs.declared.archives.met.Met.{Met}
 use Rattle.sy_checker.specs.internal.Checking.{AreSound}
 use Rattle.sy_checker.specs.internal.Course.{AreAlike, AreClean, AreKept, IsCourseAt}
 use Rattle.sy_checker.specs.internal.Flows.{AreSiteFlows, is_used}
@@ -23,7 +23,7 @@ use Rattle.sy_checker.specs.internal.Loops.{rank_at}
 use Rattle.sy_checker.specs.internal.Met.{AreMet, IsMet, is_met, met_at, same_met}
 use Rattle.sy_checker.proofs.Alike.{alike, one_value}
 use Rattle.sy_checker.proofs.Comparing.{from_map}
-use Rattle.sy_checker.specs.declared.executed.Executed.TheVariants as executed
+use Rattle.sy_checker.specs.declared.flows.executed.Executed.TheVariants as executed
 use Rattle.sy_rules.specs.declared.lists.occurrence.Occurrence.TheVariants as occurrence
 use Rattle.sy_checker.proofs.Numbering.{no_inner_loop}
 use Rattle.sy_checker.proofs.Risky.{each_clean}

@@ -14,11 +14,11 @@ use Rattle.sy_site.specs.machine.Lawful.{IsLawful}
 use Rattle.sy_site.specs.machine.Reach.{LeadsTo, ListLeadsTo, Reach, leads_on, list_of, posts_on, writes}
 use Rattle.sy_site.specs.machine.Soundness.{IsSound}
 use Rattle.sy_site.proofs.machine.Ways.{reached_by, way_to}
-use Rattle.sy_checker.specs.declared.finding.Kind.{Kind}
-use Rattle.sy_checker.specs.declared.finding.Kind.TheVariants as kind
-use Rattle.sy_checker.specs.declared.groups.Group.{Group}
+use Rattle.sy_site.specs.declared.finding.Kind.{Kind}
+use Rattle.sy_site.specs.declared.finding.Kind.TheVariants as kind
+use Rattle.sy_checker.specs.declared.kinds.groups.Group.{Group}
 use Rattle.sy_checker.specs.internal.Leads.{IsLead}
-use Rattle.sy_checker.specs.Finding.{kind_of}
+use Rattle.sy_site.specs.Finding.{kind_of}
 use Rattle.sy_checker.specs.Fit.{IsPath}
 use Rattle.sy_checker.specs.Survey.{HasRanks, IsSurvey, IsSurveyOf, IsThere, IsToldOf, Names}
 use Rattle.sy_checker.specs.internal.Survey.{Among, AreHeld, IsHeld, IsNothing, IsUnmetBy, Puts, Tells}

@@ -15,8 +15,8 @@ use Rattle.sy_site.specs.Sites.{Relay, Site, input_at_port, plan_at, plan_in, re
 use Rattle.sy_site.specs.machine.Lawful.{IsInput, IsLawful}
 use Rattle.sy_board.specs.relay.Spares.{Scope}
 use Rattle.sy_site.specs.machine.Reach.{Reach, Reaches, entry, forwards, list_of, onward, posts}
-use Rattle.sy_checker.specs.declared.executed.Executed.{Executed}
-use Rattle.sy_checker.specs.declared.executed.Executed.TheVariants as executed
+use Rattle.sy_checker.specs.declared.flows.executed.Executed.{Executed}
+use Rattle.sy_checker.specs.declared.flows.executed.Executed.TheVariants as executed
 use Rattle.sy_checker.specs.internal.Hops.{Leads}
 
 no_value : {A : Type 0} {x : A} → None ≡ Some x → ⊥

@@ -14,10 +14,10 @@ use Rattle.sy_checker.specs.Verifying.{IsFault}
 use Rattle.sy_checker.specs.internal.Verifying.{AreWrongRows, IsFirstWrong}
 use Rattle.sy_checker.specs.declared.verifying.CertFault.{CertFault}
 use Rattle.sy_checker.specs.declared.verifying.CertFault.TheVariants as faults
-use Rattle.sy_checker.specs.declared.wanted.InnerList.{InnerList}
-use Rattle.sy_checker.specs.declared.wanted.RowKind.{RowKind}
-use Rattle.sy_checker.specs.declared.wanted.Wanted.{Wanted}
-use Rattle.sy_checker.specs.declared.wanted.Wanted.TheVariants as wanted
+use Rattle.sy_checker.specs.declared.rows.wanted.InnerList.{InnerList}
+use Rattle.sy_checker.specs.declared.rows.wanted.RowKind.{RowKind}
+use Rattle.sy_checker.specs.declared.rows.wanted.Wanted.{Wanted}
+use Rattle.sy_checker.specs.declared.rows.wanted.Wanted.TheVariants as wanted
 use Rattle.sy_checker.proofs.Comparing.{one_value}
 use Rattle.sy_checker.proofs.FitIsSound.{one_behind}
 

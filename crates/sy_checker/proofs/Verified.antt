@@ -10,8 +10,8 @@ use Rattle.sy_site.specs.Sites.{Site}
 use Rattle.sy_checker.specs.Fit.{AreFit, AreProtected, AreRight, AreWanted, AreWrong, IsFit, IsRightAt, IsWrongAt, row_kind}
 use Rattle.sy_checker.specs.internal.Verifying.{AreDone, IsJudged}
 use Rattle.sy_checker.specs.declared.verifying.Judged.TheVariants as judged
-use Rattle.sy_checker.specs.declared.wanted.RowKind.{RowKind}
-use Rattle.sy_checker.specs.declared.wanted.Wanted.{Wanted}
+use Rattle.sy_checker.specs.declared.rows.wanted.RowKind.{RowKind}
+use Rattle.sy_checker.specs.declared.rows.wanted.Wanted.{Wanted}
 use Rattle.sy_checker.proofs.Comparing.{one_value}
 
 -- ---- the rows of one class

@@ -7,7 +7,7 @@ use Rattle.std.proofs.lemmas.List.{take_all, take_more}
 use Rattle.std.proofs.lemmas.List.Elements.{Contains-push_cases}
 use Rattle.std.proofs.lemmas.Map.Views.{Contains-from_any, list_any-from_Contains}
 use Rattle.sy_site.specs.declared.site.SiteInput.{SiteInput}
-use Rattle.sy_checker.specs.declared.finding.WayRow.{WayRow}
+use Rattle.sy_site.specs.declared.finding.WayRow.{WayRow}
 use Rattle.sy_checker.specs.internal.Loops.{relays_of, way_of}
 
 -- ---- of those with P

@@ -17,8 +17,8 @@ use Rattle.sy_site.specs.declared.site.SiteInput.{SiteInput}
 use Rattle.sy_board.specs.relay.Spares.{Scope}
 use Rattle.sy_site.specs.Sites.{Site, plan_at, target}
 use Rattle.sy_site.specs.machine.Reach.{MayDo, Reaches, forwards, occurrence_at, posts}
-use Rattle.sy_checker.specs.declared.executed.Executed.{Executed}
-use Rattle.sy_checker.specs.declared.executed.Executed.TheVariants as executed
+use Rattle.sy_checker.specs.declared.flows.executed.Executed.{Executed}
+use Rattle.sy_checker.specs.declared.flows.executed.Executed.TheVariants as executed
 use Rattle.sy_checker.specs.declared.flows.Hop.{Hop}
 use Rattle.sy_checker.specs.internal.Flows.{Does, IsSet}
 use Rattle.sy_checker.specs.declared.flows.ListHops.{ListHops}

@@ -5,10 +5,10 @@ use Rattle.sy_site.specs.declared.fault.SiteFault.TheVariants as site_fault
 use Rattle.sy_site.specs.texts.Describes.{Describes, File}
 use Rattle.sy_site.specs.texts.HasFault.{HasFault}
 use Rattle.sy_checker.specs.Acceptance.{Acceptance, IsOf}
-use Rattle.sy_checker.specs.Finding.{IsTrueRefusal}
+use Rattle.sy_site.specs.Finding.{IsTrueRefusal}
 use Rattle.sy_checker.specs.declared.checking.CheckFault.{CheckFault}
 use Rattle.sy_checker.specs.declared.checking.CheckFault.TheVariants as faults
-use Rattle.sy_checker.specs.declared.finding.Refusal.TheVariants as refusal
+use Rattle.sy_site.specs.declared.finding.Refusal.TheVariants as refusal
 
 -- The texts describe a site, of which this is kept.
 pub record IsAccepted (text : List ℕ) (files : List File) (accepted : Acceptance) : Type 0 where

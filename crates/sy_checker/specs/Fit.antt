@@ -2,26 +2,25 @@
 -- number, these are wanted: the class, each input that it reaches without spare occurrences, each other one that it reaches, each relay with a reached
 -- input, each list that posts lead to from the first ones, and the way from each entry to each archive that is named for the class. The certificate is
 -- this profile's own.
-use Rattle.std.specs.Prelude.{◌≡◌, ℕ, ◌<◌, ◌+◌, ◌*◌, ◌↔◌, ◌⊎◌, AllPairs, Contains, List, [], ◌∷◌, ◌++◌, Option, Some, None, drop, flat_map, length, map, slice_get, true}
+use Rattle.std.specs.Prelude.{◌≡◌, ℕ, ◌<◌, ◌+◌, ◌*◌, ◌↔◌, ◌⊎◌, AllPairs, Contains, List, [], ◌∷◌, ◌++◌, Some, drop, flat_map, length, map, slice_get, true}
 use Rattle.sy_wire.specs.declared.class.Class.{Class}
-use Rattle.sy_cert.specs.declared.row.Row.{Row}
-use Rattle.sy_cert.specs.declared.row.Row.TheVariants as row
 use Rattle.sy_rules.specs.declared.lists.occurrence.Occurrence.TheVariants as occurrence
-use Rattle.sy_rules.specs.declared.parts.Action.{Action}
-use Rattle.sy_board.specs.relay.Plans.{input_at}
+use Rattle.sy_board.specs.relay.Spares.{Scope}
 use Rattle.sy_site.specs.declared.site.SiteAction.{SiteAction}
 use Rattle.sy_site.specs.declared.site.SiteInput.{SiteInput}
-use Rattle.sy_site.specs.Sites.{Relay, Site, archives, is_protected, plan_at}
+use Rattle.sy_site.specs.Sites.{Site, archives, is_protected}
 use Rattle.sy_site.specs.machine.Findings.{HoldsAt, Kind}
-use Rattle.sy_board.specs.relay.Spares.{Scope}
 use Rattle.sy_site.specs.machine.Reach.{MayDo, MustDo, PostsOn, Reach, Reaches, list_of}
+use Rattle.sy_site.specs.Names.{name_of, port_of, action_name}
+use Rattle.sy_cert.specs.declared.row.Row.{Row}
+use Rattle.sy_cert.specs.declared.row.Row.TheVariants as row
 use Rattle.sy_cert.specs.CertificateValue.{Certificate}
 use Rattle.sy_checker.specs.Hops.{MustForward}
-use Rattle.sy_checker.specs.declared.wanted.RowKind.{RowKind}
-use Rattle.sy_checker.specs.declared.wanted.RowKind.TheVariants as kinds
-use Rattle.sy_checker.specs.declared.wanted.InnerList.{InnerList}
-use Rattle.sy_checker.specs.declared.wanted.Wanted.{Wanted}
-use Rattle.sy_checker.specs.declared.wanted.Wanted.TheVariants as wanted
+use Rattle.sy_checker.specs.declared.rows.wanted.RowKind.{RowKind}
+use Rattle.sy_checker.specs.declared.rows.wanted.RowKind.TheVariants as kinds
+use Rattle.sy_checker.specs.declared.rows.wanted.InnerList.{InnerList}
+use Rattle.sy_checker.specs.declared.rows.wanted.Wanted.{Wanted}
+use Rattle.sy_checker.specs.declared.rows.wanted.Wanted.TheVariants as wanted
 
 -- ---- what is wanted
 
@@ -72,26 +71,6 @@ pub record AreWanted (site : Site) (class : Class) (part : List Wanted) : Type 0
   pub whole : part
       ≡ wanted.Class class ∷ (map wanted.Reach inputs ++ (map wanted.Branch branches ++ (map wanted.Rank relays
       ++ (map wanted.Inner inners ++ paths site class))))
-
--- ---- what the rows name
-
-abbrev pub name_in : Option Relay → List ℕ
-name_in None = []
-name_in (Some relay) = relay.name
-
--- the name of a relay
-abbrev pub name_of : Site → ℕ → List ℕ
-name_of site relay = name_in (slice_get site.relays relay)
-
-abbrev pub port_of : Site → SiteInput → ℕ
-port_of site input = (input_at (plan_at site input.relay) input.input).port
-
-abbrev pub name_of_action : Option Action → List ℕ
-name_of_action None = []
-name_of_action (Some action) = action.name
-
-abbrev pub action_name : Site → SiteAction → List ℕ
-action_name site action = name_of_action (slice_get (plan_at site action.relay).actions action.action)
 
 -- ---- what holds of a row
 

@@ -3,7 +3,6 @@ pub mod Hops
 pub mod Acceptance
 pub mod Claims
 pub mod Verifying
-pub mod Finding
 pub mod Survey
 pub mod Checking
 pub mod internal

@@ -8,10 +8,10 @@ use Rattle.sy_site.specs.Sites.{Site, archives, is_protected}
 use Rattle.sy_site.specs.machine.Findings.{HoldsAt, IsFinding, WayRow}
 use Rattle.sy_site.specs.machine.Reach.{LeadsTo, Reach}
 use Rattle.sy_site.specs.machine.Soundness.{AreRanks}
-use Rattle.sy_checker.specs.declared.finding.Kind.{Kind}
-use Rattle.sy_checker.specs.declared.finding.Kind.TheVariants as kind
-use Rattle.sy_checker.specs.declared.groups.Group.{Group}
-use Rattle.sy_checker.specs.Finding.{kind_of}
+use Rattle.sy_site.specs.declared.finding.Kind.{Kind}
+use Rattle.sy_site.specs.declared.finding.Kind.TheVariants as kind
+use Rattle.sy_checker.specs.declared.kinds.groups.Group.{Group}
+use Rattle.sy_site.specs.Finding.{kind_of}
 
 -- ---- groups
 

@@ -6,8 +6,8 @@ use Rattle.sy_cert.specs.CertificateValue.{Certificate}
 use Rattle.sy_checker.specs.Fit.{IsWrongFor}
 use Rattle.sy_checker.specs.declared.verifying.CertFault.{CertFault}
 use Rattle.sy_checker.specs.declared.verifying.CertFault.TheVariants as faults
-use Rattle.sy_checker.specs.declared.wanted.RowKind.{RowKind}
-use Rattle.sy_checker.specs.declared.wanted.RowKind.TheVariants as kinds
+use Rattle.sy_checker.specs.declared.rows.wanted.RowKind.{RowKind}
+use Rattle.sy_checker.specs.declared.rows.wanted.RowKind.TheVariants as kinds
 
 -- ---- faults
 

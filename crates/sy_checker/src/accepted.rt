@@ -12,7 +12,7 @@ ghost use Rattle.sy_checker.specs.Acceptance as spec;
 ghost use Rattle.sy_checker.specs.internal.Checking as inside;
 ghost use Rattle.sy_checker.specs.Fit.{AreProtected};
 
-use crate::firm::actions_at;
+use crate::flows::firm::actions_at;
 use std::alloc::{AllocError, Global};
 use std::marker::Model;
 use std::sync::Arc;

@@ -5,8 +5,13 @@ ghost use Rattle.std.specs.List.{list_any};
 ghost use Rattle.sy_site.specs.Sites.{plan_at};
 ghost use Rattle.sy_checker.specs.internal.Flows as spec;
 
-use crate::executed::Executed;
-use crate::firm::SiteFirm;
+pub mod course;
+pub mod executed;
+pub mod firm;
+pub mod hops;
+
+use crate::flows::executed::Executed;
+use crate::flows::firm::SiteFirm;
 use std::alloc::{AllocError, Global};
 use sy_classes::flow_of;
 use sy_rules::laws::plans_are_whole;

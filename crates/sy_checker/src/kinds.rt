@@ -14,10 +14,14 @@ ghost use Rattle.sy_checker.specs.internal.Risks as spec;
 ghost use Rattle.sy_checker.specs.internal.Flows.{AreSiteFlows, is_used};
 ghost use Rattle.sy_checker.specs.internal.Hops.{AreFlows};
 
-use crate::executed::Executed;
+pub mod groups;
+pub mod search;
+pub mod told;
+
+use crate::flows::executed::Executed;
+use crate::flows::hops::{lists_at, occurrence_at};
 use crate::flows::{ClassFlows, SiteFlows, set_at};
-use crate::hops::{lists_at, occurrence_at};
-use crate::inputs::{input_at, list_at, next_in};
+use crate::reach::inputs::{input_at, list_at, next_in};
 use sy_rules::laws::plans_are_whole;
 use sy_rules::{Destination, FlowControl, Input, Occurrence, Plan, QueueParameters};
 use sy_site::{Site, SiteInput};

@@ -14,8 +14,8 @@ ghost use Rattle.sy_wire.specs.declared.class.Class.{Class};
 ghost use Rattle.sy_checker.specs.Claims.{RanksStayFalling, StayConfined, StayWrittenOrHead};
 ghost use Rattle.sy_cert.specs.CertificateValue.{Certificate};
 ghost use Rattle.sy_checker.specs.Fit.{AreWanted, IsFit, IsFitFor, IsWrongFor, IsWrongIn};
-ghost use Rattle.sy_checker.specs.declared.wanted.RowKind.{RowKind};
-ghost use Rattle.sy_checker.specs.declared.wanted.Wanted.{Wanted};
+ghost use Rattle.sy_checker.specs.declared.rows.wanted.RowKind.{RowKind};
+ghost use Rattle.sy_checker.specs.declared.rows.wanted.Wanted.{Wanted};
 
 use sy_site::machine::{
     copies_are_confined, messages_are_written_or_head_there, ranks_fall_along_trails,

@@ -4,15 +4,19 @@ ghost use Rattle.std.specs.Prelude.{◌≡◌, ◌<◌, Contains, IfOk, OnOk, So
 ghost use Rattle.std.specs.List.{list_any};
 ghost use Rattle.sy_rules.specs.declared.lists.occurrence.Occurrence.{Occurrence as AnyOccurrence};
 ghost use Rattle.sy_site.specs.machine.Reach.{MustDo, occurrence_at};
-ghost use Rattle.sy_checker.specs.declared.wanted.InnerList.{InnerList as AnyList};
+ghost use Rattle.sy_checker.specs.declared.rows.wanted.InnerList.{InnerList as AnyList};
 ghost use Rattle.sy_checker.specs.internal.Hops.{AreFlows};
 ghost use Rattle.sy_checker.specs.internal.Leads as spec;
 
-use crate::executed::Executed;
+pub mod inner;
+pub mod inners;
+pub mod numbers;
+
+use crate::archives::path::lead_of;
+use crate::flows::executed::Executed;
 use crate::flows::{ClassFlows, set_at};
-use crate::inputs::next_in;
-use crate::path::lead_of;
-use crate::wanted::InnerList;
+use crate::reach::inputs::next_in;
+use crate::rows::wanted::InnerList;
 use std::alloc::{AllocError, Global};
 use sy_site::Site;
 use sy_wire::Class;

@@ -8,17 +8,25 @@ ghost use Rattle.sy_site.specs.declared.site.SiteInput.{SiteInput as AnyInput};
 ghost use Rattle.sy_site.specs.machine.Lawful.{IsInput};
 ghost use Rattle.sy_board.specs.relay.Spares.{Scope};
 ghost use Rattle.sy_site.specs.machine.Reach.{Reach};
-ghost use Rattle.sy_checker.specs.declared.executed.Executed.{Executed as AnyExecuted};
-ghost use Rattle.sy_checker.specs.declared.executed.Executed.TheVariants as executed;
+ghost use Rattle.sy_checker.specs.declared.flows.executed.Executed.{Executed as AnyExecuted};
+ghost use Rattle.sy_checker.specs.declared.flows.executed.Executed.TheVariants as executed;
 ghost use Rattle.sy_checker.specs.internal.Hops.{AreFlows, AreSiteHops};
 ghost use Rattle.sy_checker.specs.internal.Found.{Adds, same_input};
 ghost use Rattle.sy_checker.specs.internal.Search.{IsOrigin, IsSpread, KeepsRoots, LeadsOn};
 
-use crate::executed::Executed;
-use crate::finding::WayRow;
+pub mod height;
+pub mod inputs;
+pub mod looped;
+pub mod loops;
+pub mod order;
+pub mod ranks;
+pub mod way;
+
+use crate::flows::executed::Executed;
+use crate::flows::hops::hops_at;
 use crate::flows::{ClassFlows, SiteHops};
-use crate::hops::hops_at;
 use std::alloc::{AllocError, Global};
+use sy_site::finding::WayRow;
 use sy_site::{Site, SiteInput};
 use sy_wire::Class;
 

@@ -4,17 +4,22 @@ ghost use Rattle.std.specs.Prelude.{◌≡◌, ◌<◌, Contains, Decides, lengt
 ghost use Rattle.std.specs.Str.{bytes_eq};
 ghost use Rattle.sy_site.specs.machine.Lawful.{IsInput};
 ghost use Rattle.sy_checker.specs.Fit as fit;
+ghost use Rattle.sy_site.specs.Names as site_words;
 ghost use Rattle.sy_checker.specs.internal.Judging as spec;
 ghost use Rattle.sy_checker.specs.internal.Hops.{AreFlows};
 ghost use Rattle.sy_checker.specs.internal.Leads.{IsThere};
 
+pub mod making;
+pub mod part;
+pub mod wanted;
+
+use crate::archives::path::is_path;
 use crate::flows::ClassFlows;
-use crate::inputs::input_at;
 use crate::kinds::is_clean;
-use crate::numbers::is_numbered;
-use crate::path::is_path;
-use crate::ranks::{is_above, is_name};
-use crate::wanted::{InnerList, Wanted};
+use crate::lists::numbers::is_numbered;
+use crate::reach::inputs::input_at;
+use crate::reach::ranks::{is_above, is_name};
+use crate::rows::wanted::{InnerList, Wanted};
 use sy_cert::Row;
 use sy_site::laws::archives_are_those_named;
 use sy_site::{Site, SiteAction, SiteInput};
@@ -66,7 +71,7 @@ fn is_branch(site: &Site, input: SiteInput, relay: &[u8], port: u16) -> bool
 
 fn is_action_name(site: &Site, archive: SiteAction, name: &[u8]) -> bool
     requires there { archive.relay < length site.now.relays }
-    ensures { result ≡ bytes_eq name.now (fit.action_name site.now archive) }
+    ensures { result ≡ bytes_eq name.now (site_words.action_name site.now archive) }
 {
     match site
         .plan(archive.relay)

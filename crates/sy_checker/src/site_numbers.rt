@@ -10,7 +10,7 @@ ghost use Rattle.sy_checker.specs.internal.Hops.{AreFlows};
 ghost use Rattle.sy_checker.specs.internal.Inner as spec;
 
 use crate::flows::ClassFlows;
-use crate::inner::{Halt, RelayNumbers, Unnumbered, number_lists};
+use crate::lists::inner::{Halt, RelayNumbers, Unnumbered, number_lists};
 use std::alloc::{AllocError, Global};
 use sy_site::{Site, SiteInput};
 use sy_wire::Class;

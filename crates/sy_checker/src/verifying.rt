@@ -21,13 +21,13 @@ ghost use Rattle.sy_checker.specs.declared.verifying.CertFault.TheVariants as fa
 
 use crate::accepted::{Accepted, put_pairs};
 use crate::classes::protected_classes;
-use crate::firm::{SiteFirm, firm_of};
+use crate::flows::firm::{SiteFirm, firm_of};
+use crate::flows::hops::class_flows;
 use crate::flows::{ClassFlows, flows_of};
-use crate::hops::class_flows;
 use crate::laws::{claims_of_sound_sites, fit_is_safe, fit_is_sound};
-use crate::part::{first_wrong, row_kind};
 use crate::reach::{reached, reached_by_every};
-use crate::wanted::{RowKind, wanted_rows};
+use crate::rows::part::{first_wrong, row_kind};
+use crate::rows::wanted::{RowKind, wanted_rows};
 use std::alloc::{AllocError, Global};
 use sy_cert::{Certificate, Row};
 use sy_site::{Site, SiteInput};

@@ -21,7 +21,7 @@ use Rattle.sy_marks.specs.declared.marks.Flow.TheVariants as flow
 use Rattle.sy_marks.specs.Marks.{is_delayed, is_reached}
 use Rattle.sy_board.proofs.relay.Outcomes.{jobs_same}
 use Rattle.sy_runtime.specs.internal.Finding.{IsHeldAtMark, PatienceIs, PostRefused, PostWas, WaitsAtMark}
-use Rattle.sy_runtime.specs.declared.posting.PostOutcome.TheVariants.{Done, Held}
+use Rattle.sy_runtime.specs.declared.worker.posting.PostOutcome.TheVariants.{Done, Held}
 
 run_or_post : (a l : ℕ) → occurrence.Run a ≡ occurrence.Post l → ⊥
 run_or_post a l h = cc

@@ -4,9 +4,9 @@ use Rattle.std.specs.Prelude.{Option, Err}
 use Rattle.sy_board.specs.relay.Boards.{BoardState}
 use Rattle.sy_chain.specs.Entries.{Entry}
 use Rattle.sy_runtime.specs.internal.Taking.{BatchPut, IsLast, ItemPut, ItemsPut, MayEnter, OnePut, SomePut, Takes}
-use Rattle.sy_runtime.specs.declared.taking.Hand.{Hand}
-use Rattle.sy_runtime.specs.declared.taking.Pause.{Pause}
-use Rattle.sy_runtime.specs.declared.taking.Pause.TheVariants.{Held, TotalsFull, Hands}
+use Rattle.sy_runtime.specs.declared.connection.taking.Hand.{Hand}
+use Rattle.sy_runtime.specs.declared.connection.taking.Pause.{Pause}
+use Rattle.sy_runtime.specs.declared.connection.taking.Pause.TheVariants.{Held, TotalsFull, Hands}
 
 pub item_put : (item : Option Entry) (node : Entry) (old between new : BoardState) (hand : Hand) → item ≡ Some node → Takes old hand node.message between
     → MayEnter between hand new → ItemPut item old hand new

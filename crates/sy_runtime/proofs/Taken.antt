@@ -10,8 +10,8 @@ use Rattle.sy_board.specs.relay.Steps.{IsOfInput}
 use Rattle.sy_runtime.specs.Connections.{Begins, Counts, IsNoText, IsText, Sorted}
 use Rattle.sy_runtime.specs.internal.Held.{Holds, Stand}
 use Rattle.sy_runtime.specs.internal.Taking.{IsLast, PutIs}
-use Rattle.sy_runtime.specs.declared.taking.Pause.{Pause}
-use Rattle.sy_runtime.specs.declared.taking.Pause.TheVariants.{Held, TotalsFull, Hands}
+use Rattle.sy_runtime.specs.declared.connection.taking.Pause.{Pause}
+use Rattle.sy_runtime.specs.declared.connection.taking.Pause.TheVariants.{Held, TotalsFull, Hands}
 
 -- an entry that follows an input's list, with all due of it, is one of that input
 pub of_input : (plan : Plan) (input : ℕ) (old new : Entry) (list due : ℕ) → new ≡ record old { list = list; input = input; due = due }

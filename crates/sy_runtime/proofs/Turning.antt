@@ -16,11 +16,11 @@ use Rattle.sy_runtime.specs.declared.connection_end.Finish.{Finish}
 use Rattle.sy_runtime.specs.declared.connection_end.Finish.TheVariants as finish
 use Rattle.sy_runtime.specs.declared.fault.RunFault.{RunFault}
 use Rattle.sy_runtime.specs.declared.fault.RunFault.TheVariants as fault
-use Rattle.sy_runtime.specs.declared.gathering.Gathered.{Gathered}
-use Rattle.sy_runtime.specs.declared.gathering.Gathered.TheVariants as gathered
-use Rattle.sy_runtime.specs.declared.halt.Halt.{Halt}
-use Rattle.sy_runtime.specs.declared.halt.Halt.TheVariants as halt
-use Rattle.sy_runtime.specs.declared.turns.Round.{Round}
+use Rattle.sy_runtime.specs.declared.connection.gathering.Gathered.{Gathered}
+use Rattle.sy_runtime.specs.declared.connection.gathering.Gathered.TheVariants as gathered
+use Rattle.sy_runtime.specs.declared.connection.halt.Halt.{Halt}
+use Rattle.sy_runtime.specs.declared.connection.halt.Halt.TheVariants as halt
+use Rattle.sy_runtime.specs.declared.connection.turns.Round.{Round}
 use Rattle.sy_runtime.proofs.Taken.{settled}
 
 halted_early : (h : Halt) (rest : List ℕ) → IsEarly (halted h) rest

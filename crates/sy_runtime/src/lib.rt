@@ -4,31 +4,20 @@
 //! Whatever decides is a function over values, a reader and `&mut Board`; the threads' part is thin around it.
 #![tactic(auto)]
 
+mod connection;
 pub mod connection_end;
 mod draining;
 pub mod fault;
-mod finding;
-mod gathering;
-mod halt;
 pub mod laws;
 mod locked;
 mod losing;
-mod makings;
-mod posting;
-mod putting;
-mod reading;
-mod recording;
 pub mod relay;
 pub mod shared;
 pub mod standing;
 pub mod starting;
 pub mod stopping;
-mod taking;
-mod turns;
-mod used;
 mod waiting;
 mod worker;
-mod working;
 
 pub use connection_end::{ConnEnd, Finish, Unread};
 pub use fault::RunFault;

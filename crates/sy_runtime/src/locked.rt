@@ -3,10 +3,10 @@ ghost use Rattle.std.specs.Prelude.{◌≡◌, ◌<◌, IfOk, IfSome, IsTrue};
 ghost use Rattle.sy_board.specs.relay.Boards.{account_of};
 ghost use Rattle.sy_runtime.specs.Standing.{held_by};
 
-use crate::halt::Halt;
+use crate::connection::halt::Halt;
+use crate::connection::taking::{Hand, has_hand};
 use crate::losing::Lost;
 use crate::standing::held_of;
-use crate::taking::{Hand, has_hand};
 use sy_board::Board;
 use sy_chain::Node;
 use sy_marks::Hold;

@@ -4,13 +4,13 @@ ghost use Rattle.std.specs.Arc.{arc_value};
 ghost use Rattle.sy_board.specs.relay.Guards.{MayGuard};
 ghost use Rattle.sy_runtime.specs.Connections.{Connects};
 
+use crate::connection::halt::{Halt, answer_of};
+use crate::connection::taking::Hand;
+use crate::connection::turns::serve;
 use crate::connection_end::{ConnEnd, Finish};
 use crate::fault::RunFault;
-use crate::halt::{Halt, answer_of};
 use crate::shared::{Gate, Shared};
 use crate::starting::share;
-use crate::taking::Hand;
-use crate::turns::serve;
 use std::alloc::{AllocError, Global};
 use std::marker::Model;
 use std::sync::{Arc, Wait};

@@ -1,10 +1,10 @@
 //! How long connections and workers wait, and what they do where they waited long enough.
 
+use crate::connection::taking::{Hand, enter, has_hand};
+use crate::connection::used::keep;
 use crate::locked::Locked;
 use crate::losing::{tell_lost, tell_lost_at_queue};
 use crate::shared::{Gate, Shared};
-use crate::taking::{Hand, enter, has_hand};
-use crate::used::keep;
 use std::alloc::Global;
 use std::sync::{MutexGuard, Wait};
 use std::time::{Clock, Duration};

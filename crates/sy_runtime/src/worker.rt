@@ -1,11 +1,16 @@
 //! A worker's thread.
 
-use crate::finding::Next;
+pub mod finding;
+pub mod posting;
+pub mod recording;
+pub mod working;
+
 use crate::locked::Locked;
 use crate::losing::tell_lost_at_queue;
-use crate::recording::After;
 use crate::shared::{Gate, Shared};
 use crate::waiting::{MEMORY_WAIT, pause, wait_for_room};
+use crate::worker::finding::Next;
+use crate::worker::recording::After;
 use std::alloc::Global;
 use std::sync::{Arc, MutexGuard, Wait};
 use std::time::Clock;

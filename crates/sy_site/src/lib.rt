@@ -3,6 +3,7 @@
 
 pub mod counterexamples;
 pub mod fault;
+pub mod finding;
 pub mod laws;
 pub mod machine;
 pub mod refusals;

@@ -3,9 +3,9 @@
 use crate::rows::{Judge, each_is_right};
 use std::alloc::{AllocError, Global};
 use std::test::Fail;
-use sy_checker::finding::{Finding, Refusal};
 use sy_checker::{CheckFault, certify, check};
 use sy_site::Site;
+use sy_site::finding::{Finding, Refusal};
 
 const SITE: &[u8] =
     b"relay edge edge.conf\nrelay hub hub.conf\nentry edge 6514\nprotect auth.* hub audit\n";

@@ -12,10 +12,11 @@ use Rattle.sy_actions.specs.Lines.Resumes.{again, anew, another}
 use Rattle.sy_board.specs.relay.Boards.{BoardState, JobIs}
 use Rattle.sy_board.specs.declared.relay.answers.Job.{Job as JobAnswer}
 use Rattle.sy_board.specs.declared.relay.answers.Job.TheVariants as job
-use Rattle.syc.specs.declared.carry.CarryFault.{CarryFault}
-use Rattle.syc.specs.Reports.{Torn}
-use Rattle.syc.specs.internal.Stops.{CarryCause, CarryFails, IsReady}
-use Rattle.syc.specs.internal.Ways.{IsCarryFault, IsReceiptOf, IsWhole}
+use Rattle.syc.specs.declared.pass.one_message.CarryFault.{CarryFault}
+use Rattle.sy_report.specs.Reports.{Torn}
+use Rattle.syc.specs.Stops.{CarryCause, CarryFails, IsReady}
+use Rattle.syc.specs.internal.Ways.{IsCarryFault, IsReceiptOf}
+use Rattle.syc.specs.Ways.{IsWhole}
 use Rattle.syc.proofs.Ready.{IsRunOf, runs}
 
 -- ---- the line

@@ -5,15 +5,17 @@ use Rattle.std.specs.Prelude.{◌⊎◌, Option, Some, codes}
 use Rattle.sy_site.specs.texts.Files.{file_names}
 use Rattle.syc.specs.Checks.{AskedIs}
 use Rattle.syc.specs.Outcomes.{FailsBy}
-use Rattle.syc.specs.Reports.{Streams}
+use Rattle.sy_report.specs.Reports.{Streams}
 use Rattle.syc.specs.Replays.{ReplayIs}
 use Rattle.syc.specs.Verdicts.{DescribesKept, VerifyIs}
-use Rattle.syc.specs.Words.{AreAsking, AreAskingOf, AreNoBareCommandOf, ArePass, ArePassAlone, AreReplayOf, AreVerifyOf, IsSiteCommand, asking}
-use Rattle.syc.specs.declared.command.Asked.{Asked}
-use Rattle.syc.specs.declared.command.Asked.TheVariants as asked
-use Rattle.syc.specs.declared.command.SiteCommand.{SiteCommand}
-use Rattle.syc.specs.declared.command.SiteCommand.TheVariants as of_site
-use Rattle.syc.specs.internal.Commands.{Answers, AreNoCommand, Fails, IsSiteCommandOf, ShowsKept}
+use Rattle.syc.specs.Words.{AreAskingOf, AreNoBareCommandOf, ArePassAlone, AreReplayOf, AreVerifyOf}
+use Rattle.sy_report.specs.Words.{AreAsking, ArePass, IsSiteCommand, asking}
+use Rattle.sy_report.specs.declared.command_line.command.Asked.{Asked}
+use Rattle.sy_report.specs.declared.command_line.command.Asked.TheVariants as asked
+use Rattle.sy_report.specs.declared.command_line.command.SiteCommand.{SiteCommand}
+use Rattle.sy_report.specs.declared.command_line.command.SiteCommand.TheVariants as of_site
+use Rattle.syc.specs.internal.Commands.{Answers, Fails, IsSiteCommandOf, ShowsKept}
+use Rattle.sy_report.specs.Commands.{AreNoCommand}
 
 -- ---- words that differ
 

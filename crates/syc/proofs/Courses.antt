@@ -16,14 +16,17 @@ use Rattle.sy_replay.specs.declared.event.Illegal.TheVariants as illegal
 use Rattle.sy_replay.specs.Lines.{IsNoEvent, StandsFor, is_skipped}
 use Rattle.sy_replay.specs.Held.{opened_parts}
 use Rattle.sy_replay.specs.States.{Applies, Contents, IsIllegalAt, holding, state_in}
-use Rattle.syc.specs.Reports.{SinkState, Torn}
-use Rattle.syc.specs.HaltTexts.{halt_report}
+use Rattle.sy_report.specs.Reports.{SinkState, Torn}
+use Rattle.sy_report.specs.HaltTexts.{halt_report}
 use Rattle.syc.specs.Replays.{Ending, EndsReplay, IsLeft, IsReplayed, IsTold, Replays, end_line, lines_of, loss_lines, next, opened, status_of}
 use Rattle.syc.specs.Replays.Replays.{done, end_torn, faulty, full, no_memory, no_step, skips, steps, torn, unread, unwritten}
 use Rattle.syc.specs.SiteFiles.{HasNoAnswer}
-use Rattle.syc.specs.internal.Halts.{Comes, Finishes, Halted, HasCause, IsCause, IsNoSite, IsReadHalt, IsTorn, Place, Replayed, ReplaysFrom, Stops, Turns, ending_of, halt_of, start, status_at, with_lines}
-use Rattle.syc.specs.declared.halt.Halt.{Halt}
-use Rattle.syc.specs.declared.halt.Halt.TheVariants as halt
+use Rattle.syc.specs.internal.Halts.{Comes, IsTorn, Turns, halt_of, with_lines}
+use Rattle.syc.specs.Halts.{Finishes, Halted, HasCause, IsCause, Place, Replayed, ReplaysFrom, Stops, ending_of, start}
+use Rattle.sy_places.specs.Halts.{IsNoSite, IsReadHalt}
+use Rattle.sy_report.specs.Halts.{status_at}
+use Rattle.sy_report.specs.declared.outcome.halt.Halt.{Halt}
+use Rattle.sy_report.specs.declared.outcome.halt.Halt.TheVariants as halt
 
 pub appends_none : (a b : Option (List ℕ)) → Keeps a b → Appends a b []
 appends_none None b h = tt

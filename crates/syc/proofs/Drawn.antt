@@ -3,7 +3,7 @@ use Rattle.std.proofs.Common.{◌≡◌, ℕ, List, arith, inl, inr}
 use Rattle.std.specs.Prelude.{IfSome, Option, true}
 use Rattle.syc.specs.Graphs.{GraphIs, IsClass}
 use Rattle.syc.specs.Outcomes.{AnswersOf, FailsBy}
-use Rattle.syc.specs.Reports.{Streams}
+use Rattle.sy_report.specs.Reports.{Streams}
 
 pub drawn : (class : Option (List ℕ)) (bytes_of : List ℕ → Option (List ℕ)) (text : List ℕ) (status : ℕ) (old new : Streams) → IfSome class IsClass
     → AnswersOf (λ site drawing is_accepted. is_accepted ≡ true) bytes_of text status old new → GraphIs class bytes_of text status old new

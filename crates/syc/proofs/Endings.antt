@@ -2,17 +2,20 @@
 use Rattle.std.proofs.Common.{◌≡◌, ℕ, Bool, List, inl, inr, sym, subst}
 use Rattle.std.specs.Prelude.{IfErr, IfOk, Option, Some, Result, Ok, Err, ◌⊎◌}
 use Rattle.sy_site.specs.Sites.{Site}
-use Rattle.syc.specs.HaltTexts.{halt_report}
-use Rattle.syc.specs.Outcomes.{AnswersOf, Prints}
-use Rattle.syc.specs.Reports.{Streams, Tells}
-use Rattle.syc.specs.SiteFiles.{HasNoAnswer, IsSiteOf}
+use Rattle.sy_report.specs.HaltTexts.{halt_report}
+use Rattle.syc.specs.Outcomes.{AnswersOf}
+use Rattle.sy_report.specs.Outcomes.{Prints}
+use Rattle.sy_report.specs.Reports.{Streams, Tells}
+use Rattle.syc.specs.SiteFiles.{HasNoAnswer}
+use Rattle.sy_places.specs.SiteFiles.{IsSiteOf}
 use Rattle.sy_cert.specs.declared.fault.TextFault.{TextFault}
 use Rattle.syc.specs.Verdicts.{IsFaultyCertificate, SaysOfFiles, VerifyIs}
-use Rattle.syc.specs.declared.answer.Answer.{Answer}
-use Rattle.syc.specs.declared.halt.Halt.{Halt}
-use Rattle.syc.specs.declared.halt.Halt.TheVariants as halt
-use Rattle.syc.specs.internal.Halts.{IsNoSite, IsReadHalt, status_at}
-use Rattle.syc.specs.internal.Unverified.{HasNoVerdict, IsNoCertificate}
+use Rattle.sy_report.specs.declared.outcome.answer.Answer.{Answer}
+use Rattle.sy_report.specs.declared.outcome.halt.Halt.{Halt}
+use Rattle.sy_report.specs.declared.outcome.halt.Halt.TheVariants as halt
+use Rattle.sy_places.specs.Halts.{IsNoSite, IsReadHalt}
+use Rattle.sy_report.specs.Halts.{status_at}
+use Rattle.syc.specs.Unverified.{HasNoVerdict, IsNoCertificate}
 use Rattle.syc.proofs.Courses.{no_site}
 
 -- there is no site, which is told

@@ -5,19 +5,24 @@ use Rattle.std.specs.List.{Any}
 use Rattle.sy_wire.specs.Streams.{Rose}
 use Rattle.sy_site.specs.Sites.{Site}
 use Rattle.syc.specs.Checks.{AskedInWordsIs, AskedIs, IsVerdict, SaysWith}
-use Rattle.syc.specs.HaltTexts.{halt_report}
-use Rattle.syc.specs.Outcomes.{FailsBy, MayEnd, Prints, status_for}
-use Rattle.syc.specs.Reports.{SinkState, Streams, Tells, TellsFirst, said, streams}
-use Rattle.syc.specs.SiteFiles.{HasNoAnswer, IsSiteOf}
+use Rattle.sy_report.specs.HaltTexts.{halt_report}
+use Rattle.syc.specs.Outcomes.{FailsBy, MayEnd}
+use Rattle.sy_report.specs.Outcomes.{Prints, status_for}
+use Rattle.syc.specs.Reports.{TellsFirst}
+use Rattle.sy_report.specs.Reports.{SinkState, Streams, Tells, said}
+use Rattle.sy_report.specs.internal.Reports.{streams}
+use Rattle.syc.specs.SiteFiles.{HasNoAnswer}
+use Rattle.sy_places.specs.SiteFiles.{IsSiteOf}
 use Rattle.syc.specs.Verdicts.{SaysOfFiles, VerifyInWordsIs, VerifyIs}
-use Rattle.syc.specs.declared.answer.Answer.{Answer}
-use Rattle.syc.specs.declared.command.Asked.{Asked}
-use Rattle.syc.specs.declared.halt.Halt.{Halt}
-use Rattle.syc.specs.declared.halt.Halt.TheVariants as halt
-use Rattle.syc.specs.declared.options.Options.{Options}
-use Rattle.syc.specs.internal.Halts.{IsNoSite, IsUnread, status_at}
-use Rattle.syc.specs.internal.Optioned.{DocumentEnds, HaltEnds, StopsFirst}
-use Rattle.syc.specs.internal.Unverified.{HasNoVerdict}
+use Rattle.sy_report.specs.declared.outcome.answer.Answer.{Answer}
+use Rattle.sy_report.specs.declared.command_line.command.Asked.{Asked}
+use Rattle.sy_report.specs.declared.outcome.halt.Halt.{Halt}
+use Rattle.sy_report.specs.declared.outcome.halt.Halt.TheVariants as halt
+use Rattle.sy_report.specs.declared.command_line.options.Options.{Options}
+use Rattle.sy_places.specs.Halts.{IsNoSite, IsUnread}
+use Rattle.sy_report.specs.Halts.{status_at}
+use Rattle.syc.specs.Optioned.{DocumentEnds, HaltEnds, StopsFirst}
+use Rattle.syc.specs.Unverified.{HasNoVerdict}
 use Rattle.syc.proofs.Endings.{no_verdict, no_verdict_told, site_gone}
 use Rattle.syc.proofs.Failing.{printing_fails, stops_by}
 

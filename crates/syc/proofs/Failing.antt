@@ -6,13 +6,17 @@ use Rattle.std.proofs.lemmas.List.{length-append}
 use Rattle.sy_wire.specs.Streams.{Rose}
 use Rattle.sy_site.specs.declared.fault.SiteFault.{SiteFault}
 use Rattle.sy_site.specs.declared.fault.SiteFault.TheVariants as site_fault
-use Rattle.syc.specs.HaltTexts.{halt_report}
-use Rattle.syc.specs.Outcomes.{FailsBy, Prints}
-use Rattle.syc.specs.Reports.{Streams, Tells}
-use Rattle.syc.specs.declared.answer.Answer.{Answer}
-use Rattle.syc.specs.declared.halt.Halt.{Halt}
-use Rattle.syc.specs.declared.halt.Halt.TheVariants as halt
-use Rattle.syc.specs.internal.Halts.{IsCause, IsShorter, IsUnread, Reads, status_at}
+use Rattle.sy_report.specs.HaltTexts.{halt_report}
+use Rattle.syc.specs.Outcomes.{FailsBy}
+use Rattle.sy_report.specs.Outcomes.{Prints}
+use Rattle.sy_report.specs.Reports.{Streams, Tells}
+use Rattle.sy_report.specs.declared.outcome.answer.Answer.{Answer}
+use Rattle.sy_report.specs.declared.outcome.halt.Halt.{Halt}
+use Rattle.sy_report.specs.declared.outcome.halt.Halt.TheVariants as halt
+use Rattle.syc.specs.internal.Halts.{IsShorter, Reads}
+use Rattle.syc.specs.Halts.{IsCause}
+use Rattle.sy_places.specs.Halts.{IsUnread}
+use Rattle.sy_report.specs.Halts.{status_at}
 
 fault_at : (fault : SiteFault) → status_at (halt.Site fault) ≡ 4 → ⊥
 fault_at (site_fault.Line n) is = omega (arith, is)

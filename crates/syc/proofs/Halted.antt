@@ -1,9 +1,9 @@
 -- Each exit status of a command over a site.
 use Rattle.std.proofs.Common.{◌≤◌, arith}
 use Rattle.sy_site.specs.declared.fault.SiteFault.TheVariants as site_fault
-use Rattle.syc.specs.declared.halt.Halt.{Halt}
-use Rattle.syc.specs.declared.halt.Halt.TheVariants as halt
-use Rattle.syc.specs.internal.Halts.{status_at}
+use Rattle.sy_report.specs.declared.outcome.halt.Halt.{Halt}
+use Rattle.sy_report.specs.declared.outcome.halt.Halt.TheVariants as halt
+use Rattle.sy_report.specs.Halts.{status_at}
 
 pub at_most_four : (why : Halt) → status_at why ≤ 4
 at_most_four (halt.Site (site_fault.Line n)) = omega arith

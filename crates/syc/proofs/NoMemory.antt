@@ -7,10 +7,11 @@ use Rattle.std.proofs.lemmas.List.{append-nil}
 use Rattle.syc.specs.Graphs.{GraphIs}
 use Rattle.syc.specs.Optioned.{EndsAs, KeepsAs, SaysAs}
 use Rattle.syc.specs.Outcomes.{FailsBy}
-use Rattle.syc.specs.Reports.{Reported, ReportedFirst, SinkState, Streams, Tells, said}
+use Rattle.syc.specs.Reports.{ReportedFirst}
+use Rattle.sy_report.specs.Reports.{Reported, SinkState, Streams, Tells, said}
 use Rattle.syc.specs.Words.{OverSite}
-use Rattle.syc.specs.declared.command.Asked.TheVariants as asked
-use Rattle.syc.specs.declared.options.Options.{Options}
+use Rattle.sy_report.specs.declared.command_line.command.Asked.TheVariants as asked
+use Rattle.sy_report.specs.declared.command_line.options.Options.{Options}
 use Rattle.syc.proofs.Ends.{asked_no_memory, verify_no_memory}
 use Rattle.syc.proofs.Replayed.{replay_no_memory}
 

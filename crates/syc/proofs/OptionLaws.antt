@@ -13,27 +13,32 @@ use Rattle.sy_wire.specs.Streams.{Rose}
 use Rattle.sy_wire.specs.declared.class.Class.{Class}
 use Rattle.sy_site.specs.declared.fault.SiteFault.{SiteFault}
 use Rattle.sy_cert.specs.declared.fault.TextFault.{TextFault}
-use Rattle.sy_checker.specs.Finding.{IsTrueFinding}
+use Rattle.sy_site.specs.Finding.{IsTrueFinding}
 use Rattle.sy_checker.specs.Survey.{IsSurvey}
-use Rattle.sy_checker.specs.declared.finding.Finding.{Finding}
-use Rattle.sy_checker.specs.declared.groups.Group.{Group}
-use Rattle.syc.specs.Checks.{AreLinesInWords, AskedInWordsIs, BeginsInWords, IsTally, IsTallyInWords, KeepsAll, SaysBy, SaysCertifiedInWords, accepted_line, finding_text, group_text}
+use Rattle.sy_site.specs.declared.finding.Finding.{Finding}
+use Rattle.sy_checker.specs.declared.kinds.groups.Group.{Group}
+use Rattle.syc.specs.Checks.{AskedInWordsIs, BeginsInWords, SaysBy, SaysCertifiedInWords}
+use Rattle.sy_findings.specs.Checks.{AreLinesInWords, IsTally, IsTallyInWords, KeepsAll, accepted_line, finding_text, group_text}
 use Rattle.syc.specs.Examples.{IsAccepted, IsCertified, IsReplayed, IsTheSite, IsVerified, Printed, bytes_of}
-use Rattle.syc.specs.Graphs.{GraphIs, IsClass, IsNoClass, TellsNoClass}
-use Rattle.syc.specs.HaltTexts.{halt_report, site_report}
+use Rattle.syc.specs.Graphs.{GraphIs, IsClass, TellsNoClass}
+use Rattle.sy_drawing.specs.Graphs.{IsNoClass}
+use Rattle.sy_report.specs.HaltTexts.{halt_report, site_report}
 use Rattle.syc.specs.Optioned.{EndsAs, FailsAs, KeepsAs, SaysAs}
-use Rattle.syc.specs.Outcomes.{Prints}
+use Rattle.sy_report.specs.Outcomes.{Prints}
 use Rattle.syc.specs.Replays.{ReplayInWordsIs}
-use Rattle.syc.specs.Reports.{Streams, Tells, TellsFirst}
-use Rattle.syc.specs.Texts.{class_text}
-use Rattle.syc.specs.SiteFiles.{HasNoAnswer, IsSiteFault}
+use Rattle.syc.specs.Reports.{TellsFirst}
+use Rattle.sy_report.specs.Reports.{Streams, Tells}
+use Rattle.sy_report.specs.Texts.{class_text}
+use Rattle.syc.specs.SiteFiles.{HasNoAnswer}
+use Rattle.sy_places.specs.SiteFiles.{IsSiteFault}
 use Rattle.syc.specs.Verdicts.{DescribesKept, IsFaultyCertificate, VerifyInWordsIs}
-use Rattle.syc.specs.Words.{AreGraphWords, AreOptioned, CallFor, HaveOptions, OverSite, allows, bare_of, once_if}
-use Rattle.syc.specs.declared.command.Asked.{Asked}
-use Rattle.syc.specs.declared.command.Asked.TheVariants as asked
+use Rattle.syc.specs.Words.{AreGraphWords, AreOptioned, CallFor, OverSite, allows}
+use Rattle.sy_report.specs.Words.{HaveOptions, bare_of, once_if}
+use Rattle.sy_report.specs.declared.command_line.command.Asked.{Asked}
+use Rattle.sy_report.specs.declared.command_line.command.Asked.TheVariants as asked
 use Rattle.syc.specs.declared.examples.TheConstants.{CERTIFICATE, EVENTS, SITE}
-use Rattle.syc.specs.declared.halt.Halt.TheVariants as halt
-use Rattle.syc.specs.declared.options.Options.{Options}
+use Rattle.sy_report.specs.declared.outcome.halt.Halt.TheVariants as halt
+use Rattle.sy_report.specs.declared.command_line.options.Options.{Options}
 use Rattle.syc.proofs.ExampleEndings.{certified, checked, eight_kept, not_refused, printed_whole, replayed, some_answer, the_site, verified, whole_replay}
 
 -- ---- the words

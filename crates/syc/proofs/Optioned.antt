@@ -4,16 +4,19 @@ use Rattle.std.specs.Prelude.{◌||◌, Option, Some, None, IfNone, true, false,
 use Rattle.std.specs.Str.{bytes_eq}
 use Rattle.std.proofs.lemmas.Slice.Eq.{bytes_eq-Decides}
 use Rattle.syc.specs.Optioned.{EndsAs, FailsAs, KeepsAs, SaysAs}
-use Rattle.syc.specs.Reports.{Streams}
-use Rattle.syc.specs.Words.{AreGraphWords, AreNoFurtherOf, AreOptioned, ArePassAlone, CallFor, HaveOptions, IsSiteCommand, OverSite, allows, asking, bare_of, is_any, is_option, is_plain, once_if, times}
-use Rattle.syc.specs.declared.command.Asked.{Asked}
-use Rattle.syc.specs.declared.command.Asked.TheVariants as asked
-use Rattle.syc.specs.declared.command.SiteCommand.{SiteCommand}
-use Rattle.syc.specs.declared.command.SiteCommand.TheVariants as of_site
-use Rattle.syc.specs.declared.further.Further.{Further}
-use Rattle.syc.specs.declared.further.Further.TheVariants as further
-use Rattle.syc.specs.declared.options.Options.{Options}
-use Rattle.syc.specs.internal.Commands.{AreNoSiteCommand, CallNamed, Draws, FurtherDraws, FurtherEnds, FurtherFails, FurtherKeeps, FurtherSays, IsFurther, IsSiteCommandOf, TakesOptions, over}
+use Rattle.sy_report.specs.Reports.{Streams}
+use Rattle.syc.specs.Words.{AreGraphWords, AreNoFurtherOf, AreOptioned, ArePassAlone, CallFor, OverSite, allows, is_any}
+use Rattle.sy_report.specs.Words.{HaveOptions, IsSiteCommand, asking, bare_of, is_option, is_plain, once_if, times}
+use Rattle.sy_report.specs.declared.command_line.command.Asked.{Asked}
+use Rattle.sy_report.specs.declared.command_line.command.Asked.TheVariants as asked
+use Rattle.sy_report.specs.declared.command_line.command.SiteCommand.{SiteCommand}
+use Rattle.sy_report.specs.declared.command_line.command.SiteCommand.TheVariants as of_site
+use Rattle.syc.specs.declared.commands_with_options.Further.{Further}
+use Rattle.syc.specs.declared.commands_with_options.Further.TheVariants as further
+use Rattle.sy_report.specs.declared.command_line.options.Options.{Options}
+use Rattle.syc.specs.internal.Commands.{CallNamed, FurtherDraws, FurtherEnds, FurtherFails, FurtherKeeps, FurtherSays, IsFurther, IsSiteCommandOf, TakesOptions, over}
+use Rattle.syc.specs.Commands.{Draws}
+use Rattle.sy_report.specs.Commands.{AreNoSiteCommand}
 use Rattle.syc.proofs.Commands.{one_question, replay_no_question, replay_or_verify, rest_same, verify_no_question, first_same, head_same, others_same}
 
 -- ---- one word more

@@ -14,10 +14,11 @@ use Rattle.sy_wire.specs.Streams.{count_after}
 use Rattle.sy_wire.specs.declared.framer.FrameFault.TheVariants.{BadLength, TooLong, Truncated, NoMemory as OutOfMemory, Failed}
 use Rattle.sy_wire.specs.declared.message.MsgFault.{MsgFault}
 use Rattle.syc.specs.Pass.{BeginsWith, CarriesFault, IsFramed, IsPart, PartPassed, Passed, line, lines}
-use Rattle.syc.specs.Reports.{Torn}
-use Rattle.syc.specs.internal.Stops.{Advances, DrainFails, EntryFails, ReadCause, StopIs, StopsAt}
-use Rattle.syc.specs.declared.stop.Stop.{Stop}
-use Rattle.syc.specs.declared.stop.Stop.TheVariants.{Frame, Message, NoMemory, ReadFailed, WriteFailed}
+use Rattle.sy_report.specs.Reports.{Torn}
+use Rattle.syc.specs.internal.Stops.{Advances, DrainFails, ReadCause, StopIs, StopsAt}
+use Rattle.syc.specs.Stops.{EntryFails}
+use Rattle.sy_report.specs.declared.outcome.stop.Stop.{Stop}
+use Rattle.sy_report.specs.declared.outcome.stop.Stop.TheVariants.{Frame, Message, NoMemory, ReadFailed, WriteFailed}
 use Rattle.sy_wire.proofs.CuttingLaws.{bad_more, long_more}
 
 all_append : (xs ys : List (List ℕ)) → AllByRecursion IsFramed xs → AllByRecursion IsFramed ys → AllByRecursion IsFramed (xs ++ ys)

@@ -30,8 +30,9 @@ use Rattle.sy_board.specs.relay.Boards.{BoardState, EnterFails, EnterIs, Fits, G
 use Rattle.sy_board.specs.relay.Cells.{Cell, RelayState, at, opening, put, put_failures}
 use Rattle.sy_board.specs.relay.Plans.{IsDue, occurrences_at}
 use Rattle.sy_board.specs.relay.Steps.{Cause, Enters, Event, Grabs, IsOfInput, Job, Out, Settles, Takes, if_so, still}
-use Rattle.syc.specs.internal.Stops.{IsIdle, IsReady}
-use Rattle.syc.specs.internal.Ways.{IsEntry, IsReceiptOf, board_of, entry_of, idle, in_hand, plan, queued, ready, totals_of}
+use Rattle.syc.specs.Stops.{IsIdle, IsReady}
+use Rattle.syc.specs.internal.Ways.{IsReceiptOf, in_hand, queued}
+use Rattle.syc.specs.Ways.{IsEntry, board_of, entry_of, idle, plan, ready, totals_of}
 
 -- ---- the plan
 

@@ -4,15 +4,20 @@ use Rattle.std.specs.Prelude.{◌⊎◌, Bool, Option, true}
 use Rattle.std.specs.Io.KnownBytes.{Keeps}
 use Rattle.std.proofs.KnownBytes.{Keeps-refl}
 use Rattle.sy_wire.specs.Streams.{Rose}
-use Rattle.syc.specs.HaltTexts.{halt_report}
-use Rattle.syc.specs.Outcomes.{MayEnd, Prints}
+use Rattle.sy_report.specs.HaltTexts.{halt_report}
+use Rattle.syc.specs.Outcomes.{MayEnd}
+use Rattle.sy_report.specs.Outcomes.{Prints}
 use Rattle.syc.specs.Replays.{Ending, EndsReplay, IsTold, ReplayIs}
-use Rattle.syc.specs.Reports.{SinkState, Streams, Tells, streams}
+use Rattle.sy_report.specs.Reports.{SinkState, Streams, Tells}
+use Rattle.sy_report.specs.internal.Reports.{streams}
 use Rattle.syc.specs.SiteFiles.{HasNoAnswer}
-use Rattle.syc.specs.declared.halt.Halt.{Halt}
-use Rattle.syc.specs.declared.halt.Halt.TheVariants as halts
-use Rattle.syc.specs.internal.Halts.{Halted, HandedOn, IsCause, Replayed, status_at}
-use Rattle.syc.specs.internal.Optioned.{HaltEnds, in_memory}
+use Rattle.sy_report.specs.declared.outcome.halt.Halt.{Halt}
+use Rattle.sy_report.specs.declared.outcome.halt.Halt.TheVariants as halts
+use Rattle.syc.specs.internal.Halts.{HandedOn}
+use Rattle.syc.specs.Halts.{Halted, IsCause, Replayed}
+use Rattle.sy_report.specs.Halts.{status_at}
+use Rattle.syc.specs.internal.Optioned.{in_memory}
+use Rattle.syc.specs.Optioned.{HaltEnds}
 use Rattle.syc.proofs.Courses.{halted, halted_failing, replayed, rises_on}
 use Rattle.syc.proofs.Ends.{failed, halt_fails, halted_by, no_memory, nothing, still}
 

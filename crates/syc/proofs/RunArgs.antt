@@ -2,7 +2,8 @@
 use Rattle.std.proofs.Common.{◌≡◌, ◌<◌, ◌≤◌, ◌^◌, ℕ, suc, ◌+◌, ◌*◌, true, false, List, [], ◌∷◌, ◌++◌, option_to_list, is_some, length, refl, ap, subst, ◌∙◌, pow-suc, arith}
 use Rattle.std.specs.Prelude.{Option, None, Some, option_map}
 use Rattle.std.proofs.lemmas.List.{append-nil}
-use Rattle.syc.specs.Words.{AreRunArgs, RunOptions, is_plain}
+use Rattle.syc.specs.Words.{AreRunArgs, RunOptions}
+use Rattle.sy_report.specs.Words.{is_plain}
 
 pub one_digit_more : (n d i : ℕ) → n < 10 ^ i → d ≤ 9 → n * 10 + d < 10 ^ (i + 1)
 one_digit_more n d i less digit =

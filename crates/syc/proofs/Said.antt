@@ -3,16 +3,17 @@ use Rattle.std.proofs.Common.{◌≡◌, ℕ, Bool, List, inl, inr, refl}
 use Rattle.std.specs.Prelude.{Err, IfOk, Ok, Result, false, true}
 use Rattle.sy_site.specs.Sites.{Site}
 use Rattle.sy_cert.specs.CertificateValue.{Certificate}
-use Rattle.sy_checker.specs.Finding.{IsTrueFinding}
+use Rattle.sy_site.specs.Finding.{IsTrueFinding}
 use Rattle.sy_checker.specs.Fit.{IsFitFor, IsWrongFor}
-use Rattle.sy_checker.specs.declared.finding.Finding.{Finding}
+use Rattle.sy_site.specs.declared.finding.Finding.{Finding}
 use Rattle.sy_checker.specs.declared.verifying.CertFault.{CertFault}
-use Rattle.sy_checker.specs.declared.wanted.RowKind.{RowKind}
-use Rattle.syc.specs.Checks.{IsTextOf, IsVerdict, KeepsAll, SaysCertified, SaysCertifiedInWords, SaysChecked, SaysExplained, SaysFoundInWords, accepted_line, finding_text}
-use Rattle.syc.specs.Verdicts.{SaysOf, wrong_line}
-use Rattle.syc.specs.declared.answer.Answer.{Answer}
-use Rattle.syc.specs.declared.command.Asked.TheVariants as asked
-use Rattle.syc.specs.declared.halt.Halt.{Halt}
+use Rattle.sy_checker.specs.declared.rows.wanted.RowKind.{RowKind}
+use Rattle.syc.specs.Checks.{IsVerdict, SaysCertifiedInWords, SaysExplained, SaysFoundInWords}
+use Rattle.sy_findings.specs.Checks.{IsTextOf, KeepsAll, SaysCertified, SaysChecked, accepted_line, finding_text}
+use Rattle.sy_findings.specs.Verdicts.{SaysOf, wrong_line}
+use Rattle.sy_report.specs.declared.outcome.answer.Answer.{Answer}
+use Rattle.sy_report.specs.declared.command_line.command.Asked.TheVariants as asked
+use Rattle.sy_report.specs.declared.outcome.halt.Halt.{Halt}
 
 -- ---- what is found
 

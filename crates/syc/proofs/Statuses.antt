@@ -4,11 +4,12 @@ use Rattle.std.specs.Prelude.{Option}
 use Rattle.std.specs.Io.KnownBytes.{Keeps}
 use Rattle.std.proofs.KnownBytes.{Appends-kept, Keeps-refl}
 use Rattle.sy_wire.specs.Streams.{Rose}
-use Rattle.syc.specs.Pass.{Counts, EndsPass, GivesUpFailing, HasFailed, NoneFailed, PartPassed, lines}
-use Rattle.syc.specs.Reports.{report, status_shown}
+use Rattle.syc.specs.Pass.{Counts, EndsPass, HasFailed, NoneFailed, PartPassed, lines}
+use Rattle.syc.specs.internal.Pass.{GivesUpFailing}
+use Rattle.sy_report.specs.Reports.{report, status_shown}
 use Rattle.syc.specs.internal.Stops.{PassCause, StopIs, StopsAt, StopsIn}
-use Rattle.syc.specs.declared.stop.Stop.{Stop}
-use Rattle.syc.specs.declared.stop.Stop.TheVariants.{Frame, Message, NoMemory, ReadFailed, WriteFailed}
+use Rattle.sy_report.specs.declared.outcome.stop.Stop.{Stop}
+use Rattle.sy_report.specs.declared.outcome.stop.Stop.TheVariants.{Frame, Message, NoMemory, ReadFailed, WriteFailed}
 use Rattle.syc.proofs.Passes.{part_of_passed, passed_kept, passed_nothing}
 
 part_flushed : (input : List ℕ) (a b c : Option (List ℕ)) → PartPassed input a b → Keeps b c → PartPassed input a c

@@ -5,16 +5,19 @@ use Rattle.sy_cert.specs.CertificateValue.{Certificate}
 use Rattle.sy_site.specs.Sites.{Site}
 use Rattle.sy_site.specs.texts.Describes.{Describes, File}
 use Rattle.sy_site.specs.texts.Files.{file_names}
-use Rattle.syc.specs.Checks.{AskedIs, IsVerdict, KeepsAll, SaysChecked}
-use Rattle.syc.specs.Outcomes.{Prints}
-use Rattle.syc.specs.Reports.{Streams}
-use Rattle.syc.specs.SiteFiles.{AreGiven, AreTold, IsSiteOf}
-use Rattle.syc.specs.Verdicts.{DescribesKept, SaysOf}
-use Rattle.syc.specs.declared.answer.Answer.{Answer}
-use Rattle.syc.specs.declared.command.Asked.{Asked}
-use Rattle.syc.specs.declared.command.Asked.TheVariants as asked
-use Rattle.syc.specs.declared.halt.Halt.{Halt}
-use Rattle.syc.specs.internal.Optioned.{HaltEnds}
+use Rattle.syc.specs.Checks.{AskedIs, IsVerdict}
+use Rattle.sy_findings.specs.Checks.{KeepsAll, SaysChecked}
+use Rattle.sy_report.specs.Outcomes.{Prints}
+use Rattle.sy_report.specs.Reports.{Streams}
+use Rattle.syc.specs.SiteFiles.{AreTold}
+use Rattle.sy_places.specs.SiteFiles.{AreGiven, IsSiteOf}
+use Rattle.syc.specs.Verdicts.{DescribesKept}
+use Rattle.sy_findings.specs.Verdicts.{SaysOf}
+use Rattle.sy_report.specs.declared.outcome.answer.Answer.{Answer}
+use Rattle.sy_report.specs.declared.command_line.command.Asked.{Asked}
+use Rattle.sy_report.specs.declared.command_line.command.Asked.TheVariants as asked
+use Rattle.sy_report.specs.declared.outcome.halt.Halt.{Halt}
+use Rattle.syc.specs.Optioned.{HaltEnds}
 use Rattle.syc.proofs.Courses.{status_fails}
 
 -- ---- one site

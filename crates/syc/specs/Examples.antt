@@ -6,9 +6,9 @@ use Rattle.sy_checker.specs.Fit.{IsFitFor}
 use Rattle.sy_site.specs.Sites.{Site}
 use Rattle.sy_site.specs.texts.Describes.{file, Describes, File, file_named}
 use Rattle.sy_site.specs.machine.Soundness.{IsSound}
-use Rattle.syc.specs.Checks.{IsTextOf, KeepsAll, accepted_line}
+use Rattle.sy_findings.specs.Checks.{IsTextOf, KeepsAll, accepted_line}
 use Rattle.syc.specs.Replays.{Ending, Replays, lines_of, opened}
-use Rattle.syc.specs.Reports.{Streams}
+use Rattle.sy_report.specs.Reports.{Streams}
 use Rattle.syc.specs.declared.examples.TheConstants.{CERTIFICATE, EDGE, EVENTS, HUB, SITE}
 
 -- ---- the files

@@ -1,18 +1,15 @@
 -- What a drawing of a site answers (this profile's own).
 use Rattle.std.specs.Prelude.{◌≡◌, ℕ, Bool, true, ◌⊎◌, List, [], ◌∷◌, Option, Some, IfSome, codes}
-use Rattle.sy_site.specs.Sites.{Site}
 use Rattle.sy_wire.specs.declared.class.Class.{Class}
+use Rattle.sy_site.specs.Sites.{Site}
+use Rattle.sy_report.specs.Reports.{Streams, Tells, joined}
+use Rattle.sy_report.specs.Texts.{class_text}
+use Rattle.sy_drawing.specs.Graphs.{IsNoClass}
 use Rattle.syc.specs.Outcomes.{AnswersOf}
-use Rattle.syc.specs.Reports.{Streams, Tells, joined}
-use Rattle.syc.specs.Texts.{class_text}
 
 -- a class is printed so
 abbrev pub IsClass : List ℕ → Type 0
 IsClass word = (class : Class) × (class_text class ≡ word)
-
--- no class is printed so
-abbrev pub IsNoClass : List ℕ → Type 0
-IsNoClass word = (class : Class) → class_text class ≡ word → ⊥
 
 -- A text for Graphviz is printed of a site, accepted or refused; where one class is asked for, it is one. Of the text nothing is said here.
 abbrev pub SaysDrawn : Option (List ℕ) → Site → List ℕ → Bool → Type 0

@@ -1,14 +1,8 @@
 pub mod Words
-pub mod Outlets
-pub mod Ports
 pub mod Reports
 pub mod Pass
-pub mod Texts
-pub mod Totals
 pub mod Replays
-pub mod HaltTexts
 pub mod SiteFiles
-pub mod Memory
 pub mod Outcomes
 pub mod Checks
 pub mod Graphs
@@ -16,4 +10,9 @@ pub mod Prepared
 pub mod Verdicts
 pub mod Optioned
 pub mod Examples
+pub mod Commands
+pub mod Halts
+pub mod Stops
+pub mod Unverified
+pub mod Ways
 pub mod internal

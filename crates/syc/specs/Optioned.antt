@@ -1,15 +1,21 @@
 -- What a command over a site answers that has options (this profile's own).
 use Rattle.std.specs.Prelude.{◌≡◌, ℕ, List, ◌∷◌, ◌⊎◌, Option, Some, false}
 use Rattle.std.specs.List.{Any}
+use Rattle.sy_wire.specs.Streams.{Rose}
 use Rattle.sy_site.specs.texts.Files.{file_names}
+use Rattle.sy_report.specs.Reports.{Streams}
+use Rattle.sy_report.specs.declared.command_line.command.Asked.TheVariants as asked
+use Rattle.sy_report.specs.declared.command_line.options.Options.{Options}
+use Rattle.sy_report.specs.HaltTexts.{halt_report}
+use Rattle.sy_report.specs.declared.outcome.halt.Halt.{Halt}
+use Rattle.sy_report.specs.declared.outcome.halt.Halt.TheVariants as halt
+use Rattle.sy_report.specs.Halts.{status_at}
 use Rattle.syc.specs.Checks.{AskedInWordsIs, AskedIs}
 use Rattle.syc.specs.Outcomes.{FailsBy, MayEnd}
 use Rattle.syc.specs.Replays.{ReplayInWordsIs, ReplayIs}
-use Rattle.syc.specs.Reports.{Streams}
 use Rattle.syc.specs.Verdicts.{DescribesKept, VerifyInWordsIs, VerifyIs}
 use Rattle.syc.specs.Words.{OverSite}
-use Rattle.syc.specs.declared.command.Asked.TheVariants as asked
-use Rattle.syc.specs.declared.options.Options.{Options}
+use Rattle.syc.specs.Reports.{TellsFirst}
 
 -- The exit status is one that the command without options answers over these files.
 abbrev pub EndsAs : (List ℕ → Option (List ℕ)) → OverSite → ℕ → Type 0
@@ -46,3 +52,18 @@ abbrev pub KeepsAs : (List ℕ → Option (List ℕ)) → OverSite → ℕ → T
 KeepsAs bytes_of (OverSite.Verify site certificate) status = (text : List ℕ) → bytes_of site ≡ Some text → status ≡ 0 → DescribesKept bytes_of text
 KeepsAs bytes_of (OverSite.Ask asked.Check site) status = (text : List ℕ) → bytes_of site ≡ Some text → status ≡ 0 → DescribesKept bytes_of text
 KeepsAs bytes_of _ status = Unit {0}
+
+-- The document of a halt was printed, and no write failed; or memory ran out for it, or a write of it failed.
+abbrev pub DocumentEnds : Halt → Halt → ℕ → ℕ → Type 0
+DocumentEnds why end before after =
+    ((end ≡ why) × (after ≡ before)) ⊎ ((end ≡ halt.NoMemory) × (after ≡ before)) ⊎ ((end ≡ halt.WriteFailed) × Rose before after)
+
+-- the status of a halt; or memory ran out for its document, or a write of it failed
+abbrev pub HaltEnds : Halt → ℕ → ℕ → ℕ → Type 0
+HaltEnds why status before after = (end : Halt) × (status ≡ status_at end) × DocumentEnds why end before after
+
+-- It ends with the status of the halt, whose line stands first on standard error, and standard output is as before.
+pub record StopsFirst (why : Halt) (status : ℕ) (old new : Streams) : Type 0 where
+  pub status_is : status ≡ status_at why
+  pub told : TellsFirst old new (halt_report why)
+  pub same : new.output ≡ old.output

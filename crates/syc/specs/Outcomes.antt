@@ -1,24 +1,13 @@
 -- How a command over a site ends that prints one text (this profile's own).
-use Rattle.std.specs.Prelude.{◌≡◌, ℕ, Bool, true, false, ◌⊎◌, List, Option, codes}
+use Rattle.std.specs.Prelude.{◌≡◌, ℕ, Bool, true, ◌⊎◌, List, Option, codes}
 use Rattle.std.specs.Io.KnownBytes.{Appends}
 use Rattle.sy_wire.specs.Streams.{Rose}
 use Rattle.sy_site.specs.Sites.{Site}
-use Rattle.syc.specs.Reports.{Streams, Tells, TellsFirst, Torn, said}
-use Rattle.syc.specs.SiteFiles.{HasNoAnswer, IsSiteOf}
-
--- the exit status: 0 accepted, 1 refused
-abbrev pub status_for : Bool → ℕ
-status_for true = 0
-status_for false = 1
-
--- The text was written to standard output and handed on, no write failed, and nothing was written to standard error. Or a write or a flush failed,
--- which is told, and a prefix of the text was written.
-abbrev pub Prints : List ℕ → (is_accepted : Bool) → ℕ → Streams → Streams → Type 0
-Prints text is_accepted status old new =
-    ((status ≡ status_for is_accepted) × Appends old.output.contents new.output.contents text × (new.output.is_flushed ≡ true)
-    × (new.output.faults ≡ old.output.faults) × (new.errors ≡ old.errors))
-    ⊎ ((status ≡ 4) × Torn old.output.contents new.output.contents text × Rose old.output.faults new.output.faults
-    × Tells old new (said (codes "write failed")))
+use Rattle.sy_report.specs.Reports.{Streams, Tells, Torn, said}
+use Rattle.sy_report.specs.Outcomes.{Prints}
+use Rattle.sy_places.specs.SiteFiles.{IsSiteOf}
+use Rattle.syc.specs.Reports.{TellsFirst}
+use Rattle.syc.specs.SiteFiles.{HasNoAnswer}
 
 -- What a command over one site answers, where these are the texts that may be printed of a site, with a verdict: such a text of the site that the
 -- site file describes; or there is none, and standard output is as before.

@@ -7,9 +7,9 @@ use Rattle.sy_wire.specs.Messages.{IsFault, IsMessage, Said}
 use Rattle.sy_wire.specs.Streams.{Rose, count_after}
 use Rattle.sy_wire.specs.declared.framer.FrameFault.TheVariants.{BadLength, TooLong, Truncated, NoMemory as OutOfMemory, Failed}
 use Rattle.sy_wire.specs.declared.message.MsgFault.{MsgFault}
-use Rattle.syc.specs.Reports.{Streams, Tells, line_feed, report}
-use Rattle.syc.specs.declared.stop.Stop.{Stop}
-use Rattle.syc.specs.declared.stop.Stop.TheVariants.{Frame, Message, NoMemory, ReadFailed, WriteFailed}
+use Rattle.sy_report.specs.Reports.{Streams, Tells, line_feed, report}
+use Rattle.sy_report.specs.declared.outcome.stop.Stop.{Stop}
+use Rattle.sy_report.specs.declared.outcome.stop.Stop.TheVariants.{Frame, Message, NoMemory, ReadFailed, WriteFailed}
 
 -- a message's line: its bytes and a line feed
 abbrev pub line : List ℕ → List ℕ
@@ -123,13 +123,6 @@ pub record Counts : Type 0 where
   pub reads : ℕ
   pub writes_failed : ℕ
 
-abbrev pub counts : {R W : Type 0} → (R → ℕ) → (R → ℕ) → (W → ℕ) → R → W → Counts
-counts faults calls write_faults reader writer = record {
-  reads_failed = faults reader;
-  reads = calls reader;
-  writes_failed = write_faults writer;
-}
-
 -- the same where standard output is what is written to
 abbrev pub counted : {R : Type 0} → (R → ℕ) → (R → ℕ) → R → Streams → Counts
 counted faults calls reader out = record {
@@ -155,12 +148,6 @@ pub record Leaves (status : ℕ) (old new : Streams) (before after : Counts) : T
   pub flushed : (old.output.is_flushed ≡ true → new.output.is_flushed ≡ true) ⊎ ((status ≡ 4) × Rose old.output.faults new.output.faults)
   pub done : (status ≡ 0) ⊎ (status ≡ 2) → new.output.is_flushed ≡ true
   pub cause : status ≡ 4 → HasFailed (Tells old new) before after
-
--- the same of the last steps, after this stop
-abbrev pub GivesUpFailing : (List ℕ → Type 0) → Stop → ℕ → ℕ → Type 0
-GivesUpFailing IsReported stop writes_failed writes_failed' =
-    (IsReported (report ReadFailed 0) × (stop ≡ ReadFailed))
-    ⊎ (IsReported (report WriteFailed 0) × ((stop ≡ WriteFailed) ⊎ Rose writes_failed writes_failed'))
 
 -- the exit statuses of a pass
 abbrev pub IsStatus : ℕ → Type 0

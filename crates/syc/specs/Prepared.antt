@@ -5,10 +5,10 @@ use Rattle.sy_board.specs.relay.Guards.{MayGuard}
 use Rattle.sy_board.specs.relay.Totals.{GuardState}
 use Rattle.sy_site.specs.Sites.{Site, plan_at, relay_named, spares_at}
 use Rattle.sy_site.specs.machine.Soundness.{IsGuarded, IsSound}
-use Rattle.syc.specs.SiteFiles.{IsSiteOf}
+use Rattle.sy_places.specs.SiteFiles.{IsSiteOf}
 use Rattle.syc.specs.Words.{AreRunOf}
-use Rattle.syc.specs.internal.Commands.{options_of}
-use Rattle.syc.specs.declared.run_words.RunWords.{RunWords}
+use Rattle.syc.specs.Commands.{options_of}
+use Rattle.syc.specs.declared.running.words.RunWords.{RunWords}
 
 -- The site is sound, and the guard has exactly the guarded pairs of the relay, and exactly its spare actions; the relay's plan meets its condition.
 pub record HasGuard (site : Site) (relay : ℕ) (guard : GuardState) : Type 0 where

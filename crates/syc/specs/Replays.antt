@@ -5,7 +5,7 @@ use Rattle.std.specs.Io.KnownBytes.{Appends, Keeps}
 use Rattle.std.specs.List.{slice_split}
 use Rattle.sy_wire.specs.Streams.{Rose, count_after}
 use Rattle.sy_board.specs.relay.Steps.{Cause}
-use Rattle.sy_checker.specs.Fit.{name_of}
+use Rattle.sy_site.specs.Names.{name_of}
 use Rattle.sy_site.specs.Sites.{Site}
 use Rattle.sy_site.specs.machine.States.{Copy, Loss, SiteState}
 use Rattle.sy_site.specs.machine.Steps.{SiteEvent}
@@ -14,11 +14,13 @@ use Rattle.sy_replay.specs.Flags.{is_flagged_of}
 use Rattle.sy_replay.specs.Held.{opened_parts}
 use Rattle.sy_replay.specs.States.{Applies, Contents, IsIllegalAt, holding, state_in}
 use Rattle.sy_replay.specs.declared.event.Illegal.TheVariants as illegal
-use Rattle.syc.specs.HaltTexts.{in_line}
+use Rattle.sy_report.specs.HaltTexts.{in_line}
 use Rattle.syc.specs.Pass.{READS}
-use Rattle.syc.specs.Reports.{SinkState, Streams, Tells, TellsFirst, line_feed, said}
-use Rattle.syc.specs.SiteFiles.{HasNoAnswer, IsSiteOf}
-use Rattle.syc.specs.Texts.{class_text}
+use Rattle.syc.specs.Reports.{TellsFirst}
+use Rattle.sy_report.specs.Reports.{SinkState, Streams, Tells, line_feed, said}
+use Rattle.syc.specs.SiteFiles.{HasNoAnswer}
+use Rattle.sy_places.specs.SiteFiles.{IsSiteOf}
+use Rattle.sy_report.specs.Texts.{class_text}
 
 -- ---- the lines that are printed
 

@@ -1,40 +1,14 @@
 -- The site that a site file describes with the files that it names, and what is told where there is none (this profile's own).
-use Rattle.std.specs.Prelude.{◌≡◌, ℕ, ◌⊎◌, List, [], ◌∷◌, Option, Some, codes, IfSome, map}
-use Rattle.sy_site.specs.Sites.{Site}
+use Rattle.std.specs.Prelude.{◌≡◌, ℕ, ◌⊎◌, List, [], ◌∷◌, Option, Some, codes}
 use Rattle.sy_site.specs.declared.fault.SiteFault.{SiteFault}
-use Rattle.sy_site.specs.declared.fault.SiteFault.TheVariants as site_fault
-use Rattle.sy_site.specs.texts.Describes.{Describes, File}
-use Rattle.sy_site.specs.texts.Files.{IsFirstRelayFault, file_names}
-use Rattle.sy_site.specs.texts.HasFault.{HasFault}
-use Rattle.syc.specs.HaltTexts.{site_report}
-use Rattle.syc.specs.Reports.{said}
-
--- The files that were given are those whose bytes are known by their names.
-abbrev pub AreGiven : (List ℕ → Option (List ℕ)) → List File → Type 0
-AreGiven bytes_of [] = Unit {0}
-AreGiven bytes_of (file ∷ files) = IfSome (bytes_of file.name) (λ bytes. file.bytes ≡ bytes) × AreGiven bytes_of files
-
--- the files that a site file names, in the order of their first mention
-pub record AreFilesOf (bytes_of : List ℕ → Option (List ℕ)) (text : List ℕ) (given : List File) : Type 0 where
-  pub names : map (λ file. file.name) given ≡ file_names text
-  pub bytes : AreGiven bytes_of given
+use Rattle.sy_report.specs.HaltTexts.{site_report}
+use Rattle.sy_report.specs.Reports.{said}
+use Rattle.sy_places.specs.SiteFiles.{IsSiteFault}
 
 -- the bytes of each of these files are known by its name
 abbrev pub AreTold : (List ℕ → Option (List ℕ)) → List (List ℕ) → Type 0
 AreTold bytes_of [] = Unit {0}
 AreTold bytes_of (name ∷ names) = ((bytes : List ℕ) × (bytes_of name ≡ Some bytes)) × AreTold bytes_of names
-
--- the site file with the files of its relays describes the site
-pub record IsSiteOf (bytes_of : List ℕ → Option (List ℕ)) (text : List ℕ) (site : Site) : Type 0 where
-  pub given : List File
-  pub are_given : AreFilesOf bytes_of text given
-  pub describes : Describes text given site
-
--- the site file has this fault, in its relay lines alone or with the files of its relays
-abbrev pub IsSiteFault : (List ℕ → Option (List ℕ)) → List ℕ → SiteFault → Type 0
-IsSiteFault bytes_of text fault =
-    ((line : ℕ) × (fault ≡ site_fault.Line line) × IsFirstRelayFault text line)
-    ⊎ ((given : List File) × AreFilesOf bytes_of text given × HasFault text given fault)
 
 -- There is no answer: the site file has a fault, memory ran out, or a file can't be read. That is told.
 abbrev pub HasNoAnswer : (List ℕ → Option (List ℕ)) → List ℕ → ℕ → (List ℕ → Type 0) → Type 0

@@ -3,19 +3,19 @@
 ghost use Rattle.std.specs.Prelude.{◌≡◌, IfOk, codes, map, string_bytes};
 ghost use Rattle.syc.specs.Checks.{AskedIs};
 ghost use Rattle.syc.specs.Examples as spec;
-ghost use Rattle.syc.specs.Memory.{given};
+ghost use Rattle.sy_report.specs.Memory.{given};
 ghost use Rattle.syc.specs.Outcomes.{FailsBy};
 ghost use Rattle.syc.specs.Replays.{ReplayIs};
 ghost use Rattle.syc.specs.Verdicts.{VerifyIs};
 ghost use Rattle.syc.specs.Words.{AreAskingOf, AreReplayOf, AreVerifyOf};
-ghost use Rattle.syc.specs.declared.command.Asked.{Asked};
-ghost use Rattle.syc.specs.declared.command.Asked.TheVariants as asked;
+ghost use Rattle.sy_report.specs.declared.command_line.command.Asked.{Asked};
+ghost use Rattle.sy_report.specs.declared.command_line.command.Asked.TheVariants as asked;
 
-use crate::memory::MemoryFiles;
-use crate::outputs::Outputs;
 use crate::run::run;
 use std::alloc::{AllocError, Global};
 use sy_checker::laws::fit_is_sound;
+use sy_report::reading::memory::MemoryFiles;
+use sy_report::writing::outputs::Outputs;
 use sy_site::laws::one_site;
 use sy_wire::{FromRead, Sink};
 

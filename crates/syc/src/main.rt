@@ -5,149 +5,22 @@ ghost use Rattle.std.specs.Prelude.{◌≡◌, ◌<◌, IfSome, length};
 ghost use Rattle.sy_board.specs.relay.Guards.{MayGuard};
 ghost use Rattle.sy_site.specs.Sites.{plan_at};
 
-mod accepting;
-mod all;
-mod all_faults;
-mod all_in_words;
-mod all_of_file;
-mod all_of_site;
-mod answer;
-mod approach;
-mod archive;
-mod ask;
-mod ask_in_words;
-mod at_port;
-mod carry;
-mod cautions;
 mod check;
-mod command;
-mod comparisons;
-mod connections;
-mod connector;
-mod control;
-mod culprit;
-mod described;
-mod devices;
-mod documents;
-mod draft;
-mod encoding;
-mod ending;
+mod commands_with_options;
 mod examples;
-mod executed;
-mod explain;
-mod explanation;
-mod fault_note;
-mod fault_notes;
-mod faulty_events;
-mod faulty_files;
-mod faulty_plan;
-mod faulty_reference;
-mod faulty_script;
-mod faulty_site;
-mod faulty_spare;
-mod faulty_test;
-mod faulty_value;
-mod file_writer;
-mod files;
-mod findings;
-mod followed;
-mod further;
-mod gathered;
 mod graph;
-mod graph_arrow;
-mod graph_class;
-mod graph_node;
-mod graph_reach;
-mod graph_relay;
-mod graph_text;
-mod group_notes;
-mod halt;
-mod host_device;
-mod items;
-mod json;
-mod keeping_off;
-mod left;
-mod left_file;
-mod legacy;
-mod link;
-mod link_writer;
-mod listening;
-mod log;
-mod log_lines;
-mod losses;
-mod meant;
-mod members;
-mod memory;
-mod mending;
-mod mending_parameters;
-mod mending_plan;
-mod near;
-mod note;
-mod notices;
-mod opened;
-mod options;
-mod outlets;
-mod outline;
-mod output;
-mod outputs;
-mod pace;
-mod parameter_rows;
 mod pass;
-mod pieces;
-mod places;
-mod prepare;
-mod queues;
-mod reason;
-mod remedies;
 mod replay;
-mod replay_in_words;
-mod replaying;
-mod report;
-mod reported;
 mod run;
-mod run_words;
-mod serve;
-mod serving;
-mod show;
-mod site;
-mod site_texts;
-mod source;
-mod spares;
-mod spell;
-mod statements;
-mod status;
-mod stop;
-mod subject;
-mod tally;
-mod tally_in_words;
-mod telling;
-mod texts;
-mod things;
-mod told_faults;
-mod totals;
-mod unmet;
-mod unwise;
+mod running;
 mod usage;
-mod verdict;
 mod verify;
-mod verify_in_words;
-mod wanted;
-mod warnings;
 mod with_options;
-mod words;
+mod wrong_words;
 
-use devices::{OpenFault, Signals, taker};
-use files::HostFiles;
-use host_device::HostDevice;
-use left_file::LeftFile;
-use log::{ActionLog, Log};
-use outlets::{Outlet, outlets};
-use outputs::Outputs;
-use prepare::prepare;
 use run::run;
-use run_words::is_run;
-use serve::{Served, serve};
-use serving::Serving;
+use running::prepare::prepare;
+use running::words::is_run;
 use std::alloc::{AllocError, Global};
 use std::env;
 use std::fs::File;
@@ -160,6 +33,15 @@ use std::sync::{Arc, Wait};
 use std::thread::Threads;
 use std::time::Clock;
 use sy_board::Guard;
+use sy_host::devices::host_device::HostDevice;
+use sy_host::devices::opening::{OpenFault, Signals, taker};
+use sy_host::devices::outlets::{Outlet, outlets};
+use sy_host::ending::left_file::LeftFile;
+use sy_host::listening::serving::Serving;
+use sy_host::log::{ActionLog, Log};
+use sy_host::serve::{Served, serve};
+use sy_report::reading::files::HostFiles;
+use sy_report::writing::outputs::Outputs;
 use sy_site::Site;
 use sy_wire::{Buffered, FromRead, FromWrite, Sink, Source};
 
@@ -191,10 +73,10 @@ fn main(rt: HostRuntime) -> ExitCode {
     };
     let _taken = take_closed_streams(&rt);
     let Ok(outlets) = outlets(alloc, &site, relay) else {
-        return ExitCode::from(stop::out_of_memory(&mut out.errors));
+        return ExitCode::from(sy_report::outcome::stop::out_of_memory(&mut out.errors));
     };
     let Ok(store) = store_of(rt, found.left) else {
-        return ExitCode::from(stop::out_of_memory(&mut out.errors));
+        return ExitCode::from(sy_report::outcome::stop::out_of_memory(&mut out.errors));
     };
     let with = With {
         drain: found.drain,
@@ -207,18 +89,18 @@ fn main(rt: HostRuntime) -> ExitCode {
 fn begin(rt: &HostRuntime) -> Result<(Vec<String>, HostOutputs), u8> {
     let alloc = rt.alloc();
     let Ok(errors) = BufWriter::with_capacity(alloc, ERROR_BUFFER, rt.stderr()) else {
-        return Err(stop::out_of_memory(&mut FromWrite::new(rt.stderr())));
+        return Err(sy_report::outcome::stop::out_of_memory(&mut FromWrite::new(rt.stderr())));
     };
     let mut errors = FromWrite::new(errors);
     let Ok(args) = env::args(rt) else {
-        return Err(stop::out_of_memory(&mut errors));
+        return Err(sy_report::outcome::stop::out_of_memory(&mut errors));
     };
     let Ok(words) = args.skip(1).collect::<Vec<String>>(alloc) else {
-        return Err(stop::out_of_memory(&mut errors));
+        return Err(sy_report::outcome::stop::out_of_memory(&mut errors));
     };
     let stdout = FromWrite::new(rt.stdout());
     let Ok(writer) = Buffered::with_capacity(alloc, OUTPUT_BUFFER, stdout) else {
-        return Err(stop::out_of_memory(&mut errors));
+        return Err(sy_report::outcome::stop::out_of_memory(&mut errors));
     };
     Ok((words, Outputs { writer, errors }))
 }
@@ -232,8 +114,8 @@ fn start(rt: &HostRuntime, words: &[String], out: &mut HostOutputs) -> u8 {
 // Tells why there are no devices, and answers the exit status.
 fn no_devices<E: Sink>(errors: &mut E, fault: OpenFault) -> u8 {
     match fault {
-        OpenFault::Write => stop::write_failed(errors),
-        OpenFault::NoMemory => stop::out_of_memory(errors),
+        OpenFault::Write => sy_report::outcome::stop::write_failed(errors),
+        OpenFault::NoMemory => sy_report::outcome::stop::out_of_memory(errors),
     }
 }
 
@@ -313,10 +195,10 @@ fn serve_on<
 {
     let alloc = host.alloc();
     let Some(signals) = Signals::new(alloc) else {
-        return stop::out_of_memory(&mut out.errors);
+        return sy_report::outcome::stop::out_of_memory(&mut out.errors);
     };
     let Ok(log) = Log::new(alloc, site.plan(relay)) else {
-        return stop::out_of_memory(&mut out.errors);
+        return sy_report::outcome::stop::out_of_memory(&mut out.errors);
     };
     let mut devices = Vec::new(alloc);
     for outlet in outlets {
@@ -325,7 +207,7 @@ fn serve_on<
             Err(fault) => return no_devices(&mut out.errors, fault),
         };
         let Ok(()) = devices.push(device) else {
-            return stop::out_of_memory(&mut out.errors);
+            return sy_report::outcome::stop::out_of_memory(&mut out.errors);
         };
     }
     let Signals { is_ending, reopens } = signals;

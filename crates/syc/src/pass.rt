@@ -4,18 +4,22 @@ ghost use Rattle.sy_wire.specs.Frames.{IsOpen};
 ghost use Rattle.sy_wire.specs.Steps.{Fills};
 ghost use Rattle.sy_wire.specs.Streams.{Rose, count_after};
 ghost use Rattle.std.specs.Io.KnownBytes.{Keeps};
-ghost use Rattle.syc.specs.Pass.{EndsPass, EndsWhole, GivesUpFailing, HasFailed, IsStatus, NoneFailed, PassIs, counted, counts};
-ghost use Rattle.syc.specs.Reports.{Tells, status_shown};
-ghost use Rattle.syc.specs.internal.Stops.{Advances, DrainFails, FailCause, IsBetween, IsIdle, PassCause, ReadCause, StopIs, StopsIn, TurnIs, WriteCause};
-ghost use Rattle.syc.specs.internal.Ways.{IsWhole, idle};
+ghost use Rattle.syc.specs.Pass.{EndsPass, EndsWhole, HasFailed, IsStatus, NoneFailed, PassIs, counted};
+ghost use Rattle.syc.specs.internal.Pass.{GivesUpFailing, counts};
+ghost use Rattle.sy_report.specs.Reports.{Tells, status_shown};
+ghost use Rattle.syc.specs.internal.Stops.{Advances, DrainFails, FailCause, IsBetween, PassCause, ReadCause, StopIs, StopsIn, TurnIs, WriteCause};
+ghost use Rattle.syc.specs.Stops.{IsIdle};
+ghost use Rattle.syc.specs.Ways.{IsWhole, idle};
 
-use crate::carry::{CarryFault, carry, entry};
-use crate::outputs::Outputs;
-use crate::stop::{Stop, status_of, tell};
+pub mod one_message;
+
+use crate::pass::one_message::{CarryFault, carry, entry};
 use std::alloc::{AllocError, Global};
 use std::sync::Arc;
 use sy_actions::{Hatch, LineSink};
 use sy_board::Board;
+use sy_report::outcome::stop::{Stop, status_of, tell};
+use sy_report::writing::outputs::Outputs;
 use sy_rules::Plan;
 use sy_wire::{FillFault, FrameFault, Framer, PIECE, Sink, Source};
 

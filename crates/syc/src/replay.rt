@@ -5,17 +5,22 @@ ghost use Rattle.std.specs.List.{Any};
 ghost use Rattle.sy_wire.specs.Streams.{Rose};
 ghost use Rattle.sy_site.specs.texts.Files.{file_names};
 ghost use Rattle.syc.specs.Replays.{PiecesMayFail, ReplayIs};
-ghost use Rattle.syc.specs.HaltTexts.{halt_report};
+ghost use Rattle.sy_report.specs.HaltTexts.{halt_report};
 ghost use Rattle.syc.specs.Outcomes.{FailsBy};
-ghost use Rattle.syc.specs.Reports.{Tells};
-ghost use Rattle.syc.specs.internal.Halts as internal;
+ghost use Rattle.sy_report.specs.Reports.{Tells};
+ghost use Rattle.syc.specs.Halts as internal;
+ghost use Rattle.sy_report.specs.Halts as report;
 
-use crate::files::{FileFault, Files};
-use crate::halt::{Halt, status_of, tell};
-use crate::outputs::Outputs;
-use crate::replaying::replay_events;
-use crate::site::read_site;
+pub mod events;
+pub mod in_words;
+pub mod losses;
+
+use crate::replay::events::replay_events;
 use std::alloc::Global;
+use sy_places::site_file::site::read_site;
+use sy_report::outcome::halt::{Halt, status_of, tell};
+use sy_report::reading::files::{FileFault, Files};
+use sy_report::writing::outputs::Outputs;
 use sy_wire::Sink;
 
 /// Replays the events file of a name over the site of another.
@@ -52,7 +57,7 @@ pub fn replay_files<F: Files, W: Sink>(
 
 // Hands on what was printed before the halt, and reports it.
 fn hand_on<W: Sink, E: Sink>(out: &mut Outputs<W, E>, halt: &Halt) -> u8
-    ensures status { ((result ≡ internal.status_at halt.now) × (out.new.output.is_flushed ≡ true)
+    ensures status { ((result ≡ report.status_at halt.now) × (out.new.output.is_flushed ≡ true)
         × (out.new.output.faults ≡ out.old.output.faults) × Tells out.old out.new (halt_report halt.now))
         ⊎ ((result ≡ 4) × Rose out.old.output.faults out.new.output.faults × Tells out.old out.new (halt_report Halt.WriteFailed)) }
     ensures failed { result ≢ 0 }
@@ -73,7 +78,7 @@ fn hand_on<W: Sink, E: Sink>(out: &mut Outputs<W, E>, halt: &Halt) -> u8
 // Reports the halt, once what was printed before it is handed on. After a failed write nothing more is written, so that
 // none is tried again.
 fn give_up<W: Sink, E: Sink>(out: &mut Outputs<W, E>, halt: &Halt) -> u8
-    ensures status { ((result ≡ internal.status_at halt.now) × (out.new.output.is_flushed ≡ true)
+    ensures status { ((result ≡ report.status_at halt.now) × (out.new.output.is_flushed ≡ true)
         × (out.new.output.faults ≡ out.old.output.faults) × Tells out.old out.new (halt_report halt.now))
         ⊎ ((result ≡ 4) × ((halt.now ≡ Halt.WriteFailed) ⊎ Rose out.old.output.faults out.new.output.faults)
         × Tells out.old out.new (halt_report Halt.WriteFailed)) }

@@ -11,22 +11,22 @@ ghost use Rattle.syc.specs.Pass.{Leaves, NoneFailed, PassIs, counted};
 ghost use Rattle.syc.specs.Replays.{PiecesMayFail, ReplayIs};
 ghost use Rattle.syc.specs.Verdicts.{DescribesKept, VerifyIs};
 ghost use Rattle.syc.specs.Words.{AreAskingOf, AreGraphWords, AreNoCommandOf, AreOptioned, ArePassAlone, AreReplayOf, AreVerifyOf, OverSite as AnyOver};
-ghost use Rattle.syc.specs.declared.command.Asked.{Asked as AnyAsked};
-ghost use Rattle.syc.specs.declared.command.Asked.TheVariants as asked;
-ghost use Rattle.syc.specs.declared.options.Options.{Options as AnyOptions};
+ghost use Rattle.sy_report.specs.declared.command_line.command.Asked.{Asked as AnyAsked};
+ghost use Rattle.sy_report.specs.declared.command_line.command.Asked.TheVariants as asked;
+ghost use Rattle.sy_report.specs.declared.command_line.options.Options.{Options as AnyOptions};
 ghost use Rattle.syc.specs.internal.Commands.{Answers, Fails, ShowsKept};
 
-use crate::ask::ask;
-use crate::command::{Command, SiteCommand, command_of};
-use crate::files::Files;
-use crate::further::others;
-use crate::options::all_words;
-use crate::outputs::Outputs;
+use crate::check::question::ask;
+use crate::commands_with_options::others;
 use crate::pass::{READS, pass};
 use crate::replay::replay;
-use crate::stop::out_of_memory;
 use crate::verify::verify;
 use std::alloc::Global;
+use sy_report::command_line::command::{Command, SiteCommand, command_of};
+use sy_report::command_line::options::all_words;
+use sy_report::outcome::stop::out_of_memory;
+use sy_report::reading::files::Files;
+use sy_report::writing::outputs::Outputs;
 use sy_wire::{Sink, Source};
 
 // Runs a command over a site, and answers the exit status.

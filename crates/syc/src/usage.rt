@@ -1,9 +1,9 @@
 //! What clap says of the program and of each command: a help, the version, and what is wrong with other words.
 
-use crate::command::is_word;
 use clap::error::ErrorKind;
 use clap::{Arg, ArgAction, Command as Parser, Error};
 use std::alloc::{AllocError, Global};
+use sy_report::command_line::command::is_word;
 
 const ABOUT: &str = "A relay for syslog messages in octet-counted frames";
 

@@ -3,20 +3,22 @@ ghost use Rattle.std.specs.Prelude.{◌≡◌, ◌≢◌, ◌≤◌, ◌∷◌, 
 ghost use Rattle.std.specs.Io.KnownBytes.{Keeps};
 ghost use Rattle.std.specs.List.{Any};
 ghost use Rattle.sy_site.specs.texts.Files.{file_names};
-ghost use Rattle.syc.specs.Checks.{IsTextOf};
+ghost use Rattle.sy_findings.specs.Checks.{IsTextOf};
 ghost use Rattle.syc.specs.Outcomes.{FailsBy};
 ghost use Rattle.syc.specs.Verdicts as spec;
-ghost use Rattle.syc.specs.internal.Halts.{IsUnread};
-ghost use Rattle.syc.specs.internal.Unverified as internal;
+ghost use Rattle.sy_places.specs.Halts.{IsUnread};
+ghost use Rattle.syc.specs.Unverified as internal;
 
-use crate::answer::{Answer, print};
-use crate::files::{FileFault, Files};
-use crate::halt::Halt;
-use crate::outputs::Outputs;
-use crate::site::read_site;
-use crate::verdict::verdict;
+pub mod in_words;
+
 use std::alloc::Global;
 use sy_cert::{Certificate, FaultCode, read_cert};
+use sy_findings::verdicts::verdict::verdict;
+use sy_places::site_file::site::read_site;
+use sy_report::outcome::answer::{Answer, print};
+use sy_report::outcome::halt::Halt;
+use sy_report::reading::files::{FileFault, Files};
+use sy_report::writing::outputs::Outputs;
 use sy_site::laws::one_site;
 use sy_wire::Sink;
 

@@ -1,24 +1,25 @@
 //! How a command over a site ends that has options: its first line is the same, and more may stand behind it.
 ghost use Rattle.std.specs.Prelude.{◌≡◌, ◌≢◌, ◌≤◌, IfErr, IfOk, IfSome, false};
 ghost use Rattle.std.specs.Io.KnownBytes.{Keeps};
-ghost use Rattle.syc.specs.HaltTexts.{halt_report};
-ghost use Rattle.syc.specs.Outcomes.{Prints};
-ghost use Rattle.syc.specs.Reports.{ReportedFirst, seen};
-ghost use Rattle.syc.specs.internal.Halts.{status_at};
-ghost use Rattle.syc.specs.internal.Optioned.{DocumentEnds, HaltEnds, StopsFirst};
+ghost use Rattle.sy_report.specs.HaltTexts.{halt_report};
+ghost use Rattle.sy_report.specs.Outcomes.{Prints};
+ghost use Rattle.syc.specs.Reports.{ReportedFirst};
+ghost use Rattle.sy_report.specs.Reports.{seen};
+ghost use Rattle.sy_report.specs.Halts.{status_at};
+ghost use Rattle.syc.specs.Optioned.{DocumentEnds, HaltEnds, StopsFirst};
 
-use crate::all_faults::all_fault_words;
-use crate::answer::{Answer, print, stop};
-use crate::fault_notes::fault_words;
-use crate::files::Files;
-use crate::gathered::Gathered;
-use crate::halt::{Halt, status_of, tell};
-use crate::json::fault_document;
-use crate::options::{Options, ReadNames};
-use crate::output::send;
-use crate::outputs::Outputs;
-use crate::report::tell_texts;
 use std::alloc::{AllocError, Global};
+use sy_documents::json::fault_document;
+use sy_faults::all_faults::all_fault_words;
+use sy_faults::fault_notes::fault_words;
+use sy_report::command_line::options::{Options, ReadNames};
+use sy_report::outcome::answer::{Answer, print, stop};
+use sy_report::outcome::halt::{Halt, status_of, tell};
+use sy_report::outcome::report::tell_texts;
+use sy_report::reading::files::Files;
+use sy_report::writing::kept_text::Gathered;
+use sy_report::writing::output::send;
+use sy_report::writing::outputs::Outputs;
 use sy_wire::Sink;
 
 // The line that says why a command stopped, where there is memory for it.

@@ -6,9 +6,9 @@ use Rattle.sy_site.specs.declared.site.SiteInput.{SiteInput}
 use Rattle.sy_site.specs.Sites.{Site}
 use Rattle.sy_site.specs.machine.Findings.{HoldsAt}
 use Rattle.sy_site.specs.machine.Reach.{Reach}
-use Rattle.sy_checker.specs.declared.finding.Finding.{Finding}
-use Rattle.sy_checker.specs.declared.finding.Kind.{Kind}
-use Rattle.sy_checker.specs.Finding.{IsTrueFinding, kind_of}
+use Rattle.sy_site.specs.declared.finding.Finding.{Finding}
+use Rattle.sy_site.specs.declared.finding.Kind.{Kind}
+use Rattle.sy_site.specs.Finding.{IsTrueFinding, kind_of}
 use Rattle.sy_checker.specs.Fit.{IsClean}
 use Rattle.sy_checker.specs.internal.Risks.{IsRisky}
 

@@ -7,7 +7,7 @@ use Rattle.sy_cert.specs.declared.row.Row.{Row}
 use Rattle.sy_cert.specs.declared.row.Row.TheVariants as row
 use Rattle.sy_cert.specs.Rows.{IsRow, kind, may_follow}
 use Rattle.sy_checker.specs.Fit.{AreRight, AreWanted}
-use Rattle.sy_checker.specs.declared.wanted.Wanted.{Wanted}
+use Rattle.sy_checker.specs.declared.rows.wanted.Wanted.{Wanted}
 
 -- the rows that are wanted for a class, each right, and no more
 pub record AreRowsOf (site : Site) (class : Class) (rows : List Row) : Type 0 where

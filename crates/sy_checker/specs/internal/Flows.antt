@@ -9,10 +9,10 @@ use Rattle.sy_rules.specs.Whole.{queue_at}
 use Rattle.sy_board.specs.relay.Spares.{Scope}
 use Rattle.sy_site.specs.Sites.{Site, does_spare, plan_at}
 use Rattle.sy_site.specs.machine.Reach.{MayDo, MustDo, occurrence_at}
-use Rattle.sy_checker.specs.declared.executed.Executed.{Executed}
-use Rattle.sy_checker.specs.declared.executed.Executed.TheVariants as executed
-use Rattle.sy_checker.specs.declared.firm.RelayFirm.{RelayFirm}
-use Rattle.sy_checker.specs.declared.firm.SiteFirm.{SiteFirm}
+use Rattle.sy_checker.specs.declared.flows.executed.Executed.{Executed}
+use Rattle.sy_checker.specs.declared.flows.executed.Executed.TheVariants as executed
+use Rattle.sy_checker.specs.declared.flows.firm.RelayFirm.{RelayFirm}
+use Rattle.sy_checker.specs.declared.flows.firm.SiteFirm.{SiteFirm}
 use Rattle.sy_checker.specs.declared.flows.ListFlows.{ListFlows}
 use Rattle.sy_checker.specs.declared.flows.RelayFlows.{RelayFlows}
 use Rattle.sy_checker.specs.declared.flows.SiteFlows.{SiteFlows}

@@ -8,13 +8,13 @@ use Rattle.sy_site.specs.declared.site.SiteInput.{SiteInput}
 use Rattle.sy_site.specs.Sites.{Site, plan_at}
 use Rattle.sy_site.specs.machine.Findings.{IsInnerLoop}
 use Rattle.sy_site.specs.machine.Reach.{Follows, MayDo, PostsOn, list_of, occurrence_at}
-use Rattle.sy_checker.specs.declared.inner.Halt.{Halt}
-use Rattle.sy_checker.specs.declared.inner.Halt.TheVariants as halt
-use Rattle.sy_checker.specs.declared.inner.ListNumber.{ListNumber}
-use Rattle.sy_checker.specs.declared.inner.RelayNumbers.{RelayNumbers}
-use Rattle.sy_checker.specs.declared.inner.Unnumbered.{Unnumbered}
-use Rattle.sy_checker.specs.declared.inner.Unnumbered.TheVariants as unnumbered
-use Rattle.sy_checker.specs.declared.wanted.InnerList.{InnerList}
+use Rattle.sy_checker.specs.declared.lists.inner.Halt.{Halt}
+use Rattle.sy_checker.specs.declared.lists.inner.Halt.TheVariants as halt
+use Rattle.sy_checker.specs.declared.lists.inner.ListNumber.{ListNumber}
+use Rattle.sy_checker.specs.declared.lists.inner.RelayNumbers.{RelayNumbers}
+use Rattle.sy_checker.specs.declared.lists.inner.Unnumbered.{Unnumbered}
+use Rattle.sy_checker.specs.declared.lists.inner.Unnumbered.TheVariants as unnumbered
+use Rattle.sy_checker.specs.declared.rows.wanted.InnerList.{InnerList}
 use Rattle.sy_checker.specs.Fit.{IsInner}
 use Rattle.sy_checker.specs.internal.Flows.{AreEach}
 use Rattle.sy_checker.specs.internal.Hops.{AreApart}

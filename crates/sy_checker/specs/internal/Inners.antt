@@ -9,10 +9,11 @@ use Rattle.sy_site.specs.Sites.{Site}
 use Rattle.sy_site.specs.machine.Reach.{MayDo, PostsOn, Reach, list_of}
 use Rattle.sy_cert.specs.declared.row.Row.{Row}
 use Rattle.sy_cert.specs.declared.row.Row.TheVariants as row
-use Rattle.sy_checker.specs.declared.wanted.InnerList.{InnerList}
-use Rattle.sy_checker.specs.declared.wanted.Wanted.{Wanted}
-use Rattle.sy_checker.specs.declared.wanted.Wanted.TheVariants as wanted
-use Rattle.sy_checker.specs.Fit.{ComesBefore, HasNumber, IsInner, ListsAll, name_of}
+use Rattle.sy_checker.specs.declared.rows.wanted.InnerList.{InnerList}
+use Rattle.sy_checker.specs.declared.rows.wanted.Wanted.{Wanted}
+use Rattle.sy_checker.specs.declared.rows.wanted.Wanted.TheVariants as wanted
+use Rattle.sy_checker.specs.Fit.{ComesBefore, HasNumber, IsInner, ListsAll}
+use Rattle.sy_site.specs.Names.{name_of}
 use Rattle.sy_checker.specs.internal.Leads.{same_list}
 
 -- ---- lists in the order of the site

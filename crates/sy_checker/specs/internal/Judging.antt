@@ -4,8 +4,9 @@ use Rattle.sy_wire.specs.declared.class.Class.{Class}
 use Rattle.sy_site.specs.declared.site.SiteAction.{SiteAction}
 use Rattle.sy_site.specs.declared.site.SiteInput.{SiteInput}
 use Rattle.sy_site.specs.Sites.{Site}
-use Rattle.sy_checker.specs.Fit.{IsClean, action_name, name_of, port_of}
-use Rattle.sy_checker.specs.declared.wanted.InnerList.{InnerList}
+use Rattle.sy_checker.specs.Fit.{IsClean}
+use Rattle.sy_site.specs.Names.{action_name, name_of, port_of}
+use Rattle.sy_checker.specs.declared.rows.wanted.InnerList.{InnerList}
 
 -- a reach row names the input, which is clean
 abbrev pub IsReach : Site → Class → SiteInput → List ℕ → ℕ → Type 0

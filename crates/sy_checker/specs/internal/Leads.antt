@@ -11,7 +11,7 @@ use Rattle.sy_site.specs.machine.Reach.{LeadsTo, MustDo, list_of, occurrence_at}
 use Rattle.sy_cert.specs.Rows.{AreOccurrences}
 use Rattle.sy_checker.specs.declared.lists.FoundLists.{FoundLists}
 use Rattle.sy_checker.specs.declared.lists.ListOrigin.{ListOrigin}
-use Rattle.sy_checker.specs.declared.wanted.InnerList.{InnerList}
+use Rattle.sy_checker.specs.declared.rows.wanted.InnerList.{InnerList}
 use Rattle.sy_checker.specs.Fit.{IsPath, MustWrite}
 use Rattle.sy_checker.specs.internal.Flows.{AreEach, is_used}
 

@@ -8,13 +8,13 @@ use Rattle.sy_site.specs.Sites.{Site}
 use Rattle.sy_site.specs.machine.Findings.{IsChain, IsLoop, first_is_entry}
 use Rattle.sy_site.specs.machine.Findings as findings
 use Rattle.sy_site.specs.machine.Reach.{Reach}
-use Rattle.sy_checker.specs.declared.executed.Executed.TheVariants as executed
+use Rattle.sy_checker.specs.declared.flows.executed.Executed.TheVariants as executed
 use Rattle.sy_checker.specs.declared.flows.Hop.{Hop}
-use Rattle.sy_checker.specs.declared.finding.WayRow.{WayRow}
-use Rattle.sy_checker.specs.declared.loops.Halt.{Halt}
-use Rattle.sy_checker.specs.declared.loops.Halt.TheVariants as halt
-use Rattle.sy_checker.specs.declared.loops.Unranked.{Unranked}
-use Rattle.sy_checker.specs.declared.loops.Unranked.TheVariants as unranked
+use Rattle.sy_site.specs.declared.finding.WayRow.{WayRow}
+use Rattle.sy_checker.specs.declared.reach.loops.Halt.{Halt}
+use Rattle.sy_checker.specs.declared.reach.loops.Halt.TheVariants as halt
+use Rattle.sy_checker.specs.declared.reach.loops.Unranked.{Unranked}
+use Rattle.sy_checker.specs.declared.reach.loops.Unranked.TheVariants as unranked
 use Rattle.sy_checker.specs.internal.Hops.{LeadsBy}
 use Rattle.sy_checker.specs.internal.Found.{same_input}
 

@@ -7,10 +7,11 @@ use Rattle.sy_site.specs.Sites.{Site}
 use Rattle.sy_site.specs.machine.Lawful.{IsInput}
 use Rattle.sy_cert.specs.declared.row.Row.{Row}
 use Rattle.sy_cert.specs.declared.row.Row.TheVariants as row
-use Rattle.sy_checker.specs.Fit.{HasRank, name_of}
+use Rattle.sy_checker.specs.Fit.{HasRank}
+use Rattle.sy_site.specs.Names.{name_of}
 use Rattle.sy_checker.specs.internal.Loops.{GoesOn}
-use Rattle.sy_checker.specs.declared.wanted.Wanted.{Wanted}
-use Rattle.sy_checker.specs.declared.wanted.Wanted.TheVariants as wanted
+use Rattle.sy_checker.specs.declared.rows.wanted.Wanted.{Wanted}
+use Rattle.sy_checker.specs.declared.rows.wanted.Wanted.TheVariants as wanted
 
 abbrev pub rank_in : Site → ℕ → Row → Option ℕ
 rank_in site relay (row.Rank name rank) = if bytes_eq name (name_of site relay) then Some rank else None

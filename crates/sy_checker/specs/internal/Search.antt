@@ -4,8 +4,8 @@ use Rattle.sy_wire.specs.declared.class.Class.{Class}
 use Rattle.sy_site.specs.declared.site.SiteInput.{SiteInput}
 use Rattle.sy_site.specs.Sites.{Site}
 use Rattle.sy_site.specs.machine.Lawful.{IsInput}
-use Rattle.sy_checker.specs.declared.executed.Executed.{Executed}
-use Rattle.sy_checker.specs.declared.finding.WayRow.{WayRow}
+use Rattle.sy_checker.specs.declared.flows.executed.Executed.{Executed}
+use Rattle.sy_site.specs.declared.finding.WayRow.{WayRow}
 use Rattle.sy_checker.specs.declared.reach.Origin.{Origin}
 use Rattle.sy_checker.specs.internal.Hops.{LeadsBy}
 

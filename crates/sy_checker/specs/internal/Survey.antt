@@ -6,10 +6,10 @@ use Rattle.sy_site.specs.declared.site.SiteInput.{SiteInput}
 use Rattle.sy_site.specs.Sites.{Site}
 use Rattle.sy_site.specs.machine.Findings.{HoldsAt}
 use Rattle.sy_site.specs.machine.Reach.{LeadsTo}
-use Rattle.sy_checker.specs.declared.finding.Kind.{Kind}
-use Rattle.sy_checker.specs.declared.finding.Kind.TheVariants as kind
-use Rattle.sy_checker.specs.declared.groups.Group.{Group}
-use Rattle.sy_checker.specs.Finding.{kind_of}
+use Rattle.sy_site.specs.declared.finding.Kind.{Kind}
+use Rattle.sy_site.specs.declared.finding.Kind.TheVariants as kind
+use Rattle.sy_checker.specs.declared.kinds.groups.Group.{Group}
+use Rattle.sy_site.specs.Finding.{kind_of}
 use Rattle.sy_checker.specs.Survey.{subject, Names, AreGroups, IsThere}
 
 -- ---- how it is gathered

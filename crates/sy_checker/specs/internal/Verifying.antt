@@ -8,8 +8,8 @@ use Rattle.sy_checker.specs.declared.verifying.CertFault.{CertFault}
 use Rattle.sy_checker.specs.declared.verifying.CertFault.TheVariants as faults
 use Rattle.sy_checker.specs.declared.verifying.Judged.{Judged}
 use Rattle.sy_checker.specs.declared.verifying.Judged.TheVariants as judged
-use Rattle.sy_checker.specs.declared.wanted.RowKind.{RowKind}
-use Rattle.sy_checker.specs.declared.wanted.Wanted.{Wanted}
+use Rattle.sy_checker.specs.declared.rows.wanted.RowKind.{RowKind}
+use Rattle.sy_checker.specs.declared.rows.wanted.Wanted.{Wanted}
 
 -- of rows alone
 abbrev pub AreWrongRows : Site → List Row → CertFault → Type 0

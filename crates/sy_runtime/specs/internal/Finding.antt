@@ -12,10 +12,10 @@ use Rattle.sy_board.specs.declared.relay.answers.PostCause.TheVariants as cause
 use Rattle.sy_board.specs.declared.relay.answers.Posted.TheVariants as posted
 use Rattle.sy_board.specs.relay.Boards.{BoardState, GrabFails, GrabIs, HasNoPost, HasRun, NothingWaits, PostFails, PostIs, PostLostFails, PostLostIs, RunsIs}
 use Rattle.sy_board.specs.relay.Steps.{Job, is_post_held}
-use Rattle.sy_runtime.specs.declared.finding.Next.{Next}
-use Rattle.sy_runtime.specs.declared.finding.Next.TheVariants as next
-use Rattle.sy_runtime.specs.declared.posting.PostOutcome.{PostOutcome}
-use Rattle.sy_runtime.specs.declared.posting.PostOutcome.TheVariants.{Done, Held, NoMemory, Refused}
+use Rattle.sy_runtime.specs.declared.worker.finding.Next.{Next}
+use Rattle.sy_runtime.specs.declared.worker.finding.Next.TheVariants as next
+use Rattle.sy_runtime.specs.declared.worker.posting.PostOutcome.{PostOutcome}
+use Rattle.sy_runtime.specs.declared.worker.posting.PostOutcome.TheVariants.{Done, Held, NoMemory, Refused}
 
 -- The board refuses the worker's post: a total is full, or its job is none.
 abbrev pub PostRefused : BoardState → ℕ → Type 0

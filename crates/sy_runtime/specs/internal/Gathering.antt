@@ -6,8 +6,8 @@ use Rattle.sy_wire.specs.declared.framer.FrameFault.{FrameFault}
 use Rattle.sy_wire.specs.declared.framer.FrameFault.TheVariants.{BadLength, TooLong}
 use Rattle.sy_runtime.specs.Connections.{Counts}
 use Rattle.sy_runtime.specs.internal.Held.{Holds}
-use Rattle.sy_runtime.specs.declared.gathering.Gathered.{Gathered}
-use Rattle.sy_runtime.specs.declared.gathering.Gathered.TheVariants.{Open, Full, Fault, NoMemory, Lost}
+use Rattle.sy_runtime.specs.declared.connection.gathering.Gathered.{Gathered}
+use Rattle.sy_runtime.specs.declared.connection.gathering.Gathered.TheVariants.{Open, Full, Fault, NoMemory, Lost}
 
 -- the fault stands at the front of these bytes
 abbrev pub IsAtFront : FrameFault → List ℕ → Type 0

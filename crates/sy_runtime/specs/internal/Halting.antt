@@ -7,10 +7,10 @@ use Rattle.sy_runtime.specs.declared.connection_end.Finish.{Finish}
 use Rattle.sy_runtime.specs.declared.connection_end.Finish.TheVariants as finish
 use Rattle.sy_runtime.specs.declared.fault.RunFault.{RunFault}
 use Rattle.sy_runtime.specs.declared.fault.RunFault.TheVariants as fault
-use Rattle.sy_runtime.specs.declared.gathering.Gathered.{Gathered}
-use Rattle.sy_runtime.specs.declared.gathering.Gathered.TheVariants as gathered
-use Rattle.sy_runtime.specs.declared.halt.Halt.{Halt}
-use Rattle.sy_runtime.specs.declared.halt.Halt.TheVariants as halt
+use Rattle.sy_runtime.specs.declared.connection.gathering.Gathered.{Gathered}
+use Rattle.sy_runtime.specs.declared.connection.gathering.Gathered.TheVariants as gathered
+use Rattle.sy_runtime.specs.declared.connection.halt.Halt.{Halt}
+use Rattle.sy_runtime.specs.declared.connection.halt.Halt.TheVariants as halt
 
 -- what a connection answers that was halted
 abbrev pub halted : Halt → Result Finish RunFault

@@ -4,8 +4,8 @@ use Rattle.sy_chain.specs.Entries.{Entry}
 use Rattle.sy_wire.specs.Frames.{IsSize, stream}
 use Rattle.sy_wire.specs.Messages.{IsFault, IsMessage}
 use Rattle.sy_runtime.specs.Connections.{Counts, IsNoText, Sorted}
-use Rattle.sy_runtime.specs.declared.makings.Renewal.{Renewal}
-use Rattle.sy_runtime.specs.declared.makings.Renewal.TheVariants as renewal
+use Rattle.sy_runtime.specs.declared.connection.makings.Renewal.{Renewal}
+use Rattle.sy_runtime.specs.declared.connection.makings.Renewal.TheVariants as renewal
 
 -- what stands for a text: an entry of its message, or none where it is no message
 abbrev pub IsItem : List ℕ → Option Entry → Type 0

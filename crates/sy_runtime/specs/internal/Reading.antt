@@ -3,8 +3,8 @@ use Rattle.std.specs.Prelude.{◌≡◌, ℕ, Bool, true, false, List, Option}
 use Rattle.std.specs.Io.KnownBytes.{Consumes, IsAtEnd}
 use Rattle.sy_wire.specs.Frames.{Held}
 use Rattle.sy_runtime.specs.Connections.{Begins, Connects, Counts}
-use Rattle.sy_runtime.specs.declared.reading.Step.{Step}
-use Rattle.sy_runtime.specs.declared.reading.Step.TheVariants.{GoesOn, NoMemory, Over}
+use Rattle.sy_runtime.specs.declared.connection.reading.Step.{Step}
+use Rattle.sy_runtime.specs.declared.connection.reading.Step.TheVariants.{GoesOn, NoMemory, Over}
 
 -- What was read of what the reader gives is the frames that were counted, and what the framer has left.
 pub record Serves (ahead ahead' : Option (List ℕ)) (end : Counts) (left : List ℕ) : Type 0 where

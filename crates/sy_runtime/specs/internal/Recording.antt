@@ -6,8 +6,8 @@ use Rattle.sy_rules.specs.declared.parts.Action.{Action}
 use Rattle.sy_board.specs.declared.fault.BoardFault.{BoardFault}
 use Rattle.sy_board.specs.declared.relay.answers.Retry.TheVariants as retry
 use Rattle.sy_board.specs.relay.Boards.{BoardState, FailFails, FailIs, SettlesNext, SettlesNoNext}
-use Rattle.sy_runtime.specs.declared.recording.After.{After}
-use Rattle.sy_runtime.specs.declared.recording.After.TheVariants.{GoesOn, Pauses, Ends}
+use Rattle.sy_runtime.specs.declared.worker.recording.After.{After}
+use Rattle.sy_runtime.specs.declared.worker.recording.After.TheVariants.{GoesOn, Pauses, Ends}
 
 -- The worker's jobs were settled by receipts one after the other, in their order; these are left.
 pub data Settled (worker : ℕ) : BoardState → DeliveredAll → BoardState → DeliveredAll → Type 0 where

@@ -7,9 +7,9 @@ use Rattle.sy_chain.specs.Entries.{Entry}
 use Rattle.sy_wire.specs.Messages.{Said}
 use Rattle.sy_runtime.specs.Connections.{Begins, Counts}
 use Rattle.sy_runtime.specs.internal.Held.{Holds}
-use Rattle.sy_runtime.specs.declared.taking.Hand.{Hand}
-use Rattle.sy_runtime.specs.declared.taking.Pause.{Pause}
-use Rattle.sy_runtime.specs.declared.taking.Pause.TheVariants.{Held, TotalsFull, Hands}
+use Rattle.sy_runtime.specs.declared.connection.taking.Hand.{Hand}
+use Rattle.sy_runtime.specs.declared.connection.taking.Pause.{Pause}
+use Rattle.sy_runtime.specs.declared.connection.taking.Pause.TheVariants.{Held, TotalsFull, Hands}
 
 -- While a mark or a full queue holds its message it holds all that it read; after the other two, which end it, it may have dropped one.
 abbrev pub PutIs : Result ⊤ Pause → List ℕ → Counts → List (Option Entry) → List ℕ → Type 0

@@ -10,11 +10,11 @@ use Rattle.sy_runtime.specs.declared.connection_end.Finish.{Finish}
 use Rattle.sy_runtime.specs.declared.connection_end.Finish.TheVariants as finish
 use Rattle.sy_runtime.specs.declared.fault.RunFault.{RunFault}
 use Rattle.sy_runtime.specs.declared.fault.RunFault.TheVariants as fault
-use Rattle.sy_runtime.specs.declared.gathering.Gathered.{Gathered}
-use Rattle.sy_runtime.specs.declared.gathering.Gathered.TheVariants as gathered
-use Rattle.sy_runtime.specs.declared.halt.Halt.{Halt}
-use Rattle.sy_runtime.specs.declared.turns.Round.{Round}
-use Rattle.sy_runtime.specs.declared.turns.Round.TheVariants as round
+use Rattle.sy_runtime.specs.declared.connection.gathering.Gathered.{Gathered}
+use Rattle.sy_runtime.specs.declared.connection.gathering.Gathered.TheVariants as gathered
+use Rattle.sy_runtime.specs.declared.connection.halt.Halt.{Halt}
+use Rattle.sy_runtime.specs.declared.connection.turns.Round.{Round}
+use Rattle.sy_runtime.specs.declared.connection.turns.Round.TheVariants as round
 
 -- what comes of a batch, by what ended its gathering
 abbrev pub round_of : Gathered → Result ⊤ Halt → Round

@@ -1,36 +1,23 @@
--- Which words are no command, and what a command over a site answers.
-use Rattle.std.specs.Prelude.{◌≡◌, ℕ, true, ◌⊎◌, List, ◌∷◌, ◌++◌, Option, Some, None, IfNone, IfSome, codes, map, option_map, option_to_list}
+-- What a command over a site answers, and which words are no command.
+use Rattle.std.specs.Prelude.{◌≡◌, ℕ, true, ◌⊎◌, List, ◌∷◌, ◌++◌, Option, Some, None, codes, option_map, option_to_list}
 use Rattle.std.specs.List.{Any}
 use Rattle.sy_site.specs.texts.Files.{file_names}
+use Rattle.sy_report.specs.Reports.{Streams}
+use Rattle.sy_report.specs.Words.{AreAsking, AreReplay, AreVerify}
+use Rattle.sy_report.specs.declared.command_line.command.Asked.TheVariants as asked
+use Rattle.sy_report.specs.declared.command_line.command.SiteCommand.{SiteCommand}
+use Rattle.sy_report.specs.declared.command_line.command.SiteCommand.TheVariants as of_site
+use Rattle.sy_report.specs.declared.command_line.options.Options.{Options}
 use Rattle.syc.specs.Checks.{AskedIs}
 use Rattle.syc.specs.Optioned.{EndsAs, FailsAs, KeepsAs, SaysAs}
-use Rattle.syc.specs.Graphs.{GraphIs}
 use Rattle.syc.specs.Outcomes.{FailsBy}
-use Rattle.syc.specs.Reports.{Streams}
 use Rattle.syc.specs.Replays.{ReplayIs}
 use Rattle.syc.specs.Verdicts.{DescribesKept, VerifyIs}
-use Rattle.syc.specs.Words.{AreAsking, AreAskingOf, AreGraphWords, AreOptioned, ArePass, AreReplay, AreReplayOf, AreRunArgs, AreRunOf, AreVerify, AreVerifyOf, HaveOptions, OverSite, RunOptions, allows, bare_of, is_any}
-use Rattle.syc.specs.declared.command.Asked.{Asked}
-use Rattle.syc.specs.declared.command.Asked.TheVariants as asked
-use Rattle.syc.specs.declared.command.SiteCommand.{SiteCommand}
-use Rattle.syc.specs.declared.command.SiteCommand.TheVariants as of_site
-use Rattle.syc.specs.declared.further.Further.{Further}
-use Rattle.syc.specs.declared.further.Further.TheVariants as further
-use Rattle.syc.specs.declared.options.GivenWords.{GivenWords}
-use Rattle.syc.specs.declared.options.Options.{Options}
-use Rattle.syc.specs.declared.run_words.Args.{Args}
-use Rattle.syc.specs.declared.run_words.RunWords.{RunWords}
-
--- no command over a site, with the program's name before it
-pub record AreNoSiteCommand (words : List (List ℕ)) : Type 0 where
-  pub no_asking : (question : Asked) (site : List ℕ) → AreAsking question words site → ⊥
-  pub no_replay : (site events : List ℕ) → AreReplay words site events → ⊥
-  pub no_verify : (site certificate : List ℕ) → AreVerify words site certificate → ⊥
-
--- no command
-pub record AreNoCommand (words : List (List ℕ)) : Type 0 where
-  pub no_pass : ArePass words → ⊥
-  pub over_no_site : AreNoSiteCommand words
+use Rattle.syc.specs.Words.{AreAskingOf, AreGraphWords, AreOptioned, AreReplayOf, AreRunArgs, AreVerifyOf, OverSite, allows, is_any}
+use Rattle.syc.specs.declared.commands_with_options.Further.{Further}
+use Rattle.syc.specs.declared.commands_with_options.Further.TheVariants as further
+use Rattle.syc.specs.declared.running.words.Args.{Args}
+use Rattle.syc.specs.Commands.{Draws}
 
 -- what the words after the program's name want of a site
 abbrev pub IsSiteCommandOf : List (List ℕ) → SiteCommand → Type 0
@@ -66,16 +53,6 @@ Fails bytes_of MayFail PiecesFail (of_site.Replay site events) status old new =
 Fails bytes_of MayFail PiecesFail (of_site.Verify site certificate) status old new =
     (text : List ℕ) → bytes_of site.now ≡ Some text → FailsBy (Any MayFail (site.now ∷ certificate.now ∷ file_names text)) status old new
 
--- the options of the command that runs a relay
-abbrev pub options_of : RunWords → RunOptions
-options_of found = record { is_unchecked = found.is_unchecked; left = option_map (λ file. file.now) found.left; drain = found.drain }
-
--- the words of that command, with the program's name before them
-pub record IsRun (words : List (List ℕ)) (found : RunWords) : Type 0 where
-  pub args : List (List ℕ)
-  pub words_are : words ≡ codes "syc" ∷ args
-  pub are_run : AreRunOf (options_of found) args found.site.now found.relay.now
-
 -- what some of the words behind it are
 abbrev pub AreArgs : List (List ℕ) → Args → Type 0
 AreArgs words found =
@@ -89,13 +66,6 @@ abbrev pub over : SiteCommand → OverSite
 over (of_site.Ask question site) = OverSite.Ask question site.now
 over (of_site.Replay site events) = OverSite.Replay site.now events.now
 over (of_site.Verify site certificate) = OverSite.Verify site.now certificate.now
-
--- these words with the program's name before them, those that are no options, and the options among them
-pub record IsGiven (words : List (List ℕ)) (given : GivenWords) : Type 0 where
-  pub all : map (λ s. s.now) given.all.items ≡ codes "syc" ∷ words
-  pub bare : map (λ s. s.now) given.bare.items ≡ codes "syc" ∷ bare_of words
-  pub some : IfSome given.options (λ options. HaveOptions words options (bare_of words))
-  pub none : IfNone given.options ((options : Options) (bare : List (List ℕ)) → HaveOptions words options bare → ⊥)
 
 -- what words want that have options
 abbrev pub IsFurther : List (List ℕ) → Further → Type 0
@@ -150,11 +120,6 @@ FurtherKeeps bytes_of _ status = Unit {0}
 abbrev pub FurtherSays : (List ℕ → Option (List ℕ)) → Further → ℕ → Streams → Streams → Type 0
 FurtherSays bytes_of (further.WithOptions options command) status old new = SaysAs bytes_of options (over command) status old new
 FurtherSays bytes_of _ status old new = Unit {0}
-
--- what a drawing answers, and why it ends with 4
-abbrev pub Draws : Option (List ℕ) → (List ℕ → Option (List ℕ)) → (List ℕ → Type 0) → (site : List ℕ) → List ℕ → ℕ → Streams → Streams → Type 0
-Draws class bytes_of MayFail site text status old new =
-    GraphIs class bytes_of text status old new × FailsBy (Any MayFail (site ∷ file_names text)) status old new
 
 abbrev pub FurtherDraws : (List ℕ → Option (List ℕ)) → (List ℕ → Type 0) → Further → ℕ → Streams → Streams → Type 0
 FurtherDraws bytes_of MayFail (further.Graph site) status old new =

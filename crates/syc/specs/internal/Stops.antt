@@ -1,52 +1,14 @@
 -- How far a pass has come between its calls, and what they leave when it stops.
 use Rattle.std.specs.Prelude.{◌≡◌, ℕ, ◌+◌, Bool, true, false, Result, Ok, Err, List, [], ◌++◌, ◌⊎◌, Option, Some}
-use Rattle.std.specs.Io.KnownBytes.{Keeps}
 use Rattle.sy_wire.specs.Frames.{Held, IsOpen}
-use Rattle.sy_wire.specs.Messages.{IsFault, IsMessage, Said}
 use Rattle.sy_wire.specs.Streams.{Rose}
 use Rattle.sy_wire.specs.declared.framer.FrameFault.TheVariants.{BadLength, TooLong}
-use Rattle.sy_chain.specs.Entries.{Entry}
 use Rattle.sy_board.specs.relay.Boards.{BoardState}
-use Rattle.syc.specs.internal.Ways.{entry_of, idle, ready}
+use Rattle.sy_report.specs.declared.outcome.stop.Stop.{Stop}
+use Rattle.sy_report.specs.declared.outcome.stop.Stop.TheVariants.{Frame, Message, NoMemory, ReadFailed, WriteFailed}
+use Rattle.syc.specs.Ways.{idle}
 use Rattle.syc.specs.Pass.{AreReadsUsed, BeginsWith, Counts, NoneFailed, PartPassed, Passed}
-use Rattle.syc.specs.Reports.{Torn}
-use Rattle.syc.specs.declared.carry.CarryFault.{CarryFault}
-use Rattle.syc.specs.declared.carry.CarryFault.TheVariants.{NoMemory as OutOfRoom, WriteFailed as IsTorn}
-use Rattle.syc.specs.declared.stop.Stop.{Stop}
-use Rattle.syc.specs.declared.stop.Stop.TheVariants.{Frame, Message, NoMemory, ReadFailed, WriteFailed}
-
--- the entry of the message with this text
-pub record Carries (node : Entry) (raw : List ℕ) : Type 0 where
-  pub is_message : IsMessage node.message
-  pub text : node.message.raw ≡ raw
-  pub entry : node ≡ entry_of node.message
-
--- why there is no entry of a text: memory ran out, or the text has this fault
-abbrev pub EntryFails : Stop → List ℕ → Type 0
-EntryFails (Message fault) raw = IsFault raw fault.code fault.offset
-EntryFails NoMemory raw = Unit {0}
-EntryFails _ raw = ⊥
-
--- no message is on the board where the next one comes
-abbrev pub IsIdle : BoardState → Type 0
-IsIdle b = b ≡ idle b.totals.taken
-
--- the message with this text waits to be written
-pub record IsReady (b : BoardState) (raw : List ℕ) : Type 0 where
-  pub before : ℕ
-  pub message : Said
-  pub board : b ≡ ready before message
-  pub text : message.raw ≡ raw
-
--- a message's line was not, or not wholly, written
-abbrev pub CarryFails : CarryFault → Option (List ℕ) → Option (List ℕ) → List ℕ → Type 0
-CarryFails OutOfRoom old new bytes = Keeps old new
-CarryFails IsTorn old new bytes = Torn old new bytes
-
--- a torn line has its cause, and nothing failed where memory ran out
-abbrev pub CarryCause : CarryFault → ℕ → ℕ → Type 0
-CarryCause OutOfRoom before after = after ≡ before
-CarryCause IsTorn before after = Rose before after
+use Rattle.syc.specs.Stops.{IsIdle}
 
 -- the messages that the bytes begin with were passed, and the board took each of them
 pub record Advances (bytes : List ℕ) (old new : Option (List ℕ)) (rest : List ℕ) (before after : ℕ) : Type 0 where

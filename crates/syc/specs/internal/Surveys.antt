@@ -2,8 +2,8 @@
 use Rattle.std.specs.Prelude.{ℕ, List}
 use Rattle.sy_site.specs.Sites.{Site}
 use Rattle.sy_checker.specs.Survey.{IsSurvey}
-use Rattle.sy_checker.specs.declared.groups.Group.{Group}
-use Rattle.syc.specs.Checks.{IsTally, IsTallyInWords}
+use Rattle.sy_checker.specs.declared.kinds.groups.Group.{Group}
+use Rattle.sy_findings.specs.Checks.{IsTally, IsTallyInWords}
 
 -- the text tells all that is found in the site
 pub record IsSurveyed (site : Site) (text : List ℕ) : Type 0 where

@@ -2,7 +2,7 @@ use Rattle.std.proofs.Common.{take}
 use Rattle.std.specs.Prelude.{Contains}
 use Rattle.sy_wire.specs.declared.class.Class.{Class}
 use Rattle.sy_site.specs.Sites.{Site}
-use Rattle.sy_checker.specs.declared.executed.Executed.{Executed}
+use Rattle.sy_checker.specs.declared.flows.executed.Executed.{Executed}
 use Rattle.sy_checker.specs.internal.Found.{Adds}
 use Rattle.sy_checker.specs.internal.Search.{KeepsRoots}
 use Rattle.sy_checker.proofs.reach.add_all.Given as goal

@@ -1,7 +1,7 @@
 use Rattle.std.proofs.Common.{subst}
 use Rattle.std.specs.Prelude.{Contains}
 use Rattle.sy_board.specs.relay.Spares.{Scope}
-use Rattle.sy_checker.specs.declared.executed.Executed.TheVariants as executed
+use Rattle.sy_checker.specs.declared.flows.executed.Executed.TheVariants as executed
 use Rattle.sy_checker.specs.internal.Search.{IsSpread}
 use Rattle.sy_checker.proofs.Gone.{reach_spread}
 use Rattle.sy_checker.proofs.There.{entry_there}

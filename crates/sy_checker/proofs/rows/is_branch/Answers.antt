@@ -1,6 +1,6 @@
 use Rattle.std.proofs.Common.{◌∙◌, ap, refl, sym}
 use Rattle.std.proofs.lemmas.Bool.{false≢true}
-use Rattle.sy_checker.specs.Fit.{name_of}
+use Rattle.sy_site.specs.Names.{name_of}
 use Rattle.sy_checker.proofs.Judged.{same_bytes}
 use Rattle.sy_checker.proofs.rows.is_branch.Goals as goal
 

@@ -2,7 +2,8 @@ use Rattle.std.proofs.Common.{◌∙◌, ap, subst, sym, false}
 use Rattle.std.specs.Prelude.{Decides}
 use Rattle.std.specs.Str.{bytes_eq}
 use Rattle.std.proofs.lemmas.Bool.{false≢true}
-use Rattle.sy_checker.specs.Fit.{IsRankRow, name_of}
+use Rattle.sy_checker.specs.Fit.{IsRankRow}
+use Rattle.sy_site.specs.Names.{name_of}
 use Rattle.sy_checker.proofs.Judged.{same_bytes}
 use Rattle.sy_checker.proofs.rows.is_rank_row.Goals as goal
 

@@ -1,6 +1,6 @@
 use Rattle.std.proofs.Common.{◌∙◌, eq-eqb, eqb-true, sym}
 use Rattle.std.proofs.lemmas.Bool.{false≢true}
-use Rattle.sy_checker.specs.Fit.{name_of}
+use Rattle.sy_site.specs.Names.{name_of}
 use Rattle.sy_checker.proofs.Judged.{same_bytes}
 use Rattle.sy_checker.proofs.rows.names_inner.Goals as goal
 

@@ -1,6 +1,6 @@
 use Rattle.std.proofs.Common.{◌∙◌, ap, sym}
 use Rattle.std.proofs.lemmas.Bool.{false≢true}
-use Rattle.sy_checker.specs.Fit.{action_name, name_of}
+use Rattle.sy_site.specs.Names.{action_name, name_of}
 use Rattle.sy_checker.proofs.Judged.{same_bytes}
 use Rattle.sy_checker.proofs.rows.names_path.Goals as goal
 

@@ -2,7 +2,7 @@ use Rattle.sy_board.specs.relay.Spares.{Scope}
 use Rattle.sy_site.specs.machine.Findings.{HoldsAt}
 use Rattle.sy_site.specs.machine.Reach.{Reach}
 use Rattle.sy_site.specs.Sites.{archives}
-use Rattle.sy_checker.specs.Finding.{kind_of}
+use Rattle.sy_site.specs.Finding.{kind_of}
 use Rattle.sy_checker.specs.internal.Survey.{Among, IsNothing, IsUnmetBy}
 use Rattle.sy_checker.proofs.Telling.{all_of, both_told}
 use Rattle.sy_checker.proofs.surveying.put_all.Goals as goal

@@ -1,6 +1,6 @@
 use Rattle.std.proofs.Common.{subst}
 use Rattle.sy_site.specs.machine.Findings.{IsLoop}
-use Rattle.sy_checker.specs.declared.finding.Kind.TheVariants as kind
+use Rattle.sy_site.specs.declared.finding.Kind.TheVariants as kind
 use Rattle.sy_checker.specs.internal.Loops.{HasNoRanks, way_of}
 use Rattle.sy_checker.specs.internal.Survey.{IsNothing, Puts, Tells}
 use Rattle.sy_checker.proofs.Found.{on_ok}

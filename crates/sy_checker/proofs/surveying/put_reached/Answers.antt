@@ -4,9 +4,9 @@ use Rattle.sy_board.specs.relay.Spares.{Scope}
 use Rattle.sy_site.specs.declared.site.SiteInput.{SiteInput}
 use Rattle.sy_site.specs.machine.Findings.{HoldsAt}
 use Rattle.sy_site.specs.machine.Reach.{Reach}
-use Rattle.sy_checker.specs.Finding.{kind_of}
-use Rattle.sy_checker.specs.declared.finding.Kind.{Kind}
-use Rattle.sy_checker.specs.declared.finding.Kind.TheVariants as kind
+use Rattle.sy_site.specs.Finding.{kind_of}
+use Rattle.sy_site.specs.declared.finding.Kind.{Kind}
+use Rattle.sy_site.specs.declared.finding.Kind.TheVariants as kind
 use Rattle.sy_checker.specs.internal.Survey.{Among, AreHeld, IsHeld, IsNothing, Tells}
 use Rattle.sy_checker.proofs.There.{reach_there}
 use Rattle.sy_checker.proofs.Telling.{both_told, held_or_looped}

@@ -2,7 +2,7 @@ use Rattle.std.proofs.Common.{[], refl, sym, ◌∙◌}
 use Rattle.std.proofs.lemmas.Bool.{false≢true}
 use Rattle.sy_site.specs.machine.Findings.{IsUnmet}
 use Rattle.sy_checker.specs.internal.Survey.{IsUnmetBy}
-use Rattle.sy_checker.specs.declared.finding.Kind.TheVariants as kind
+use Rattle.sy_site.specs.declared.finding.Kind.TheVariants as kind
 use Rattle.sy_checker.proofs.Telling.{put_told}
 use Rattle.sy_checker.proofs.surveying.put_unmet.Goals as goal
 

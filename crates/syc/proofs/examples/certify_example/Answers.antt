@@ -1,6 +1,6 @@
 use Rattle.std.proofs.Common.{refl}
-use Rattle.syc.specs.declared.command.Asked.TheVariants as asked
-use Rattle.syc.proofs.Promised.{if_ok}
+use Rattle.sy_report.specs.declared.command_line.command.Asked.TheVariants as asked
+use Rattle.sy_places.proofs.Promised.{if_ok}
 use Rattle.syc.proofs.ExampleEndings.{certified}
 use Rattle.syc.proofs.examples.certify_example.Goals as goal
 

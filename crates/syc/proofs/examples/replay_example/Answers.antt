@@ -1,5 +1,5 @@
 use Rattle.std.proofs.Common.{refl}
-use Rattle.syc.proofs.Promised.{if_ok}
+use Rattle.sy_places.proofs.Promised.{if_ok}
 use Rattle.syc.proofs.ExampleEndings.{replayed}
 use Rattle.syc.proofs.examples.replay_example.Goals as goal
 

@@ -2,7 +2,7 @@ use Rattle.std.proofs.Common.{◌∙◌, ap, codes, map, subst, sym}
 use Rattle.std.specs.Prelude.{string_bytes}
 use Rattle.sy_site.specs.texts.Describes.{file_named}
 use Rattle.syc.specs.Checks.{AskedIs}
-use Rattle.syc.specs.Memory.{given}
+use Rattle.sy_report.specs.Memory.{given}
 use Rattle.syc.specs.Replays.{ReplayIs}
 use Rattle.syc.specs.Verdicts.{VerifyIs}
 use Rattle.syc.specs.Words.{AreAskingOf, AreReplayOf, AreVerifyOf}

@@ -1,6 +1,7 @@
 use Rattle.std.proofs.Common.{◌≡◌, ◌+◌, ◌≤◌, ◌<◌, ◌^◌, false, length}
-use Rattle.syc.specs.internal.Stops.{Advances, IsIdle}
-use Rattle.syc.specs.internal.Ways.{IsWhole}
+use Rattle.syc.specs.internal.Stops.{Advances}
+use Rattle.syc.specs.Stops.{IsIdle}
+use Rattle.syc.specs.Ways.{IsWhole}
 use Rattle.syc.proofs.pass.drain.Given as goal
 
 abbrev pub invariant-frames : goal.invariant-frames

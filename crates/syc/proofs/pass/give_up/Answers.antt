@@ -1,8 +1,8 @@
 use Rattle.std.proofs.Common.{inl, inr, subst}
 use Rattle.std.proofs.KnownBytes.{Keeps-refl}
-use Rattle.syc.specs.Reports.{Reported, report, seen}
+use Rattle.sy_report.specs.Reports.{Reported, report, seen}
 use Rattle.syc.specs.internal.Stops.{StopsIn}
-use Rattle.syc.specs.declared.stop.Stop.TheVariants.{WriteFailed}
+use Rattle.sy_report.specs.declared.outcome.stop.Stop.TheVariants.{WriteFailed}
 use Rattle.syc.proofs.Statuses.{stopped}
 use Rattle.syc.proofs.pass.give_up.Goals as goal
 

@@ -1,5 +1,5 @@
 use Rattle.std.proofs.Common.{◌∙◌, inl, inr, ap, sym}
-use Rattle.syc.specs.Reports.{Reported, seen, status_shown}
+use Rattle.sy_report.specs.Reports.{Reported, seen, status_shown}
 use Rattle.syc.proofs.Statuses.{flush_failed, gives_up, stopped}
 use Rattle.syc.proofs.pass.hand_on.Goals as goal
 use Rattle.syc.proofs.pass.hand_on.Goals.{in-Ok, in-Err}

@@ -1,5 +1,5 @@
 use Rattle.std.proofs.Common.{◌∙◌, inl, inr}
-use Rattle.syc.specs.Reports.{Reported, seen}
+use Rattle.sy_report.specs.Reports.{Reported, seen}
 use Rattle.syc.proofs.Statuses.{has_failed, none_failed, rose_by}
 use Rattle.syc.proofs.pass.pass.Goals as goal
 

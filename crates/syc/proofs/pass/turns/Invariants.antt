@@ -1,8 +1,9 @@
 use Rattle.std.proofs.Common.{◌≡◌, ◌<◌, ◌≤◌, ◌+◌, ◌*◌, ℕ, List, ◌++◌, length, Some}
 use Rattle.sy_wire.specs.Streams.{count_after}
-use Rattle.syc.specs.Pass.{NoneFailed, counts}
+use Rattle.syc.specs.Pass.{NoneFailed}
+use Rattle.syc.specs.internal.Pass.{counts}
 use Rattle.syc.specs.internal.Stops.{Advances, IsBetween}
-use Rattle.syc.specs.internal.Ways.{IsWhole}
+use Rattle.syc.specs.Ways.{IsWhole}
 use Rattle.syc.proofs.pass.turns.Given as goal
 
 abbrev pub invariant-loop : goal.invariant-loop

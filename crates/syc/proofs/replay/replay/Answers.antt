@@ -1,8 +1,8 @@
 use Rattle.std.proofs.Common.{inl, inr, subst, sym}
-use Rattle.syc.specs.Reports.{Reported, SinkState, seen}
+use Rattle.sy_report.specs.Reports.{Reported, SinkState, seen}
 use Rattle.sy_wire.specs.Streams.{Rose}
-use Rattle.syc.specs.declared.halt.Halt.TheVariants as halts
-use Rattle.syc.specs.internal.Halts.{Halted, IsCause}
+use Rattle.sy_report.specs.declared.outcome.halt.Halt.TheVariants as halts
+use Rattle.syc.specs.Halts.{Halted, IsCause}
 use Rattle.syc.proofs.Courses.{halted, halted_failing, replayed, rises_on}
 use Rattle.syc.proofs.Failing.{stop_fails}
 use Rattle.syc.proofs.replay.replay.Goals as goal

@@ -1,8 +1,8 @@
 use Rattle.std.proofs.Common.{◌∷◌, inl, inr}
 use Rattle.std.proofs.lemmas.Result.{err_from_is_err_and}
 use Rattle.sy_site.specs.texts.Files.{file_names}
-use Rattle.syc.proofs.Promised.{if_err}
-use Rattle.syc.proofs.Unread.{any_behind, any_here, unread_any}
+use Rattle.sy_places.proofs.Promised.{if_err}
+use Rattle.sy_places.proofs.Unread.{any_behind, any_here, unread_any}
 use Rattle.syc.proofs.replay.replay_files.Goals as goal
 
 pub returns-in_err-site-clause-unread : goal.returns-in_err-site-clause-unread

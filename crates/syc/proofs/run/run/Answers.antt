@@ -4,7 +4,7 @@ use Rattle.syc.proofs.NoMemory.{memory_draws, memory_ends, memory_keeps, memory_
 use Rattle.syc.proofs.Commands.{asked_fails, for_asked, for_checked, for_kept, for_replay, for_verify, none_of_site, none_without_name, pass_alone, pass_asks_nothing, pass_is_apart, pass_no_replay, pass_no_verify, replay_fails, verify_fails, without_name}
 use Rattle.syc.proofs.Statuses.{nothing_passed}
 use Rattle.syc.proofs.Optioned.{calls, pass_has_none, pass_no_graph, site_has_none, site_no_graph}
-use Rattle.syc.specs.declared.command.Asked.TheVariants as asked
+use Rattle.sy_report.specs.declared.command_line.command.Asked.TheVariants as asked
 use Rattle.syc.specs.internal.Commands.{over}
 use Rattle.syc.proofs.run.run.Goals as goal
 

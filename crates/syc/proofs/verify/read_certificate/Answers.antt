@@ -1,6 +1,6 @@
 use Rattle.std.proofs.Common.{[], ◌∷◌}
-use Rattle.syc.proofs.Promised.{if_err}
-use Rattle.syc.proofs.Unread.{unread_no_file}
+use Rattle.sy_places.proofs.Promised.{if_err}
+use Rattle.sy_places.proofs.Unread.{unread_no_file}
 use Rattle.syc.proofs.verify.read_certificate.Goals as goal
 
 pub returns-in-Ok-clause-unread : goal.returns-in-Ok-clause-unread

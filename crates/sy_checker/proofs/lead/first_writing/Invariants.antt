@@ -1,6 +1,0 @@
-use Rattle.sy_checker.specs.internal.Leads.{MustWriteAt}
-use Rattle.sy_checker.proofs.Paths.{HoldsBelow}
-use Rattle.sy_checker.proofs.lead.first_writing.Given as goal
-
-abbrev pub invariant-loop-place : goal.invariant-loop-place
-invariant-loop-place l = HoldsBelow (λ x. MustWriteAt l.site l.fn.class l.fn.archive x → ⊥) l.lists l.place

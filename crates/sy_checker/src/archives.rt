@@ -1,0 +1,6 @@
+//! Whether entries lead to archives.
+
+pub mod lead;
+pub mod met;
+pub mod path;
+pub mod unmet;

@@ -1,0 +1,250 @@
+//! The parts of a JSON document: classes, findings, faults, warnings and losses.
+
+use crate::json_objects::{Elements, Members};
+use memchr::memchr;
+use std::alloc::{AllocError, Global};
+use sy_checker::Group;
+use sy_findings::notes::explanation::note_of_finding;
+use sy_findings::warnings::Warning;
+use sy_places::site_file::texts::SiteTexts;
+use sy_places::ways::followed_lists::circle;
+use sy_places::ways::relay_parts::{name_of_list, spot_at};
+use sy_report::texts::note::{Note, Place};
+use sy_report::texts::parts::{Part, action_name, port_of, put_parts, relay_name};
+use sy_script::Items;
+use sy_site::finding::{Finding, Kind, WayRow};
+use sy_site::{Site, SiteAction, SiteInput};
+use sy_wire::Class;
+
+/// Classes by their names.
+pub fn class_names(alloc: Global, classes: &[Class]) -> Result<Elements, AllocError> {
+    let mut names = Elements::new(alloc);
+    for class in classes {
+        let mut name = Vec::new(alloc);
+        put_parts(&mut name, &[Part::Class(*class)])?;
+        names.text(name.as_slice());
+    }
+    Ok(names)
+}
+
+// The two words of a number with a name, as `42 Unknown`; of words without a number nothing, and all of them.
+fn cut_number(words: &[u8]) -> (Option<u64>, &[u8]) {
+    match memchr(b' ', words) {
+        Some(at) => match number_of(&words[..at]) {
+            Some(number) => (Some(number), &words[at + 1..]),
+            None => (None, words),
+        },
+        None => (None, words),
+    }
+}
+
+/// The number that a word of decimal digits is.
+pub fn number_of(word: &[u8]) -> Option<u64> {
+    let mut number: u64 = 0;
+    if word.is_empty() {
+        return None;
+    }
+    for byte in word {
+        let digit = *byte;
+        if !digit.is_ascii_digit() {
+            return None;
+        }
+        number = number
+            .saturating_mul(10)
+            .saturating_add(u64::from(digit.saturating_sub(b'0')));
+    }
+    Some(number)
+}
+
+/// Puts the number and the name of a kind or a fault.
+pub fn put_kind(members: &mut Members, words: &[u8]) {
+    let (number, name) = cut_number(words);
+    members.number_if_any("kind", number);
+    members.text("name", name);
+}
+
+fn put_place(members: &mut Members, place: &Option<Place>) {
+    match place {
+        Some(place) => {
+            members.text("file", place.file.as_slice());
+            match place.point {
+                Some(point) => {
+                    members.number("line", point.line);
+                    members.number("column", point.column);
+                }
+                None => {
+                    members.null("line");
+                    members.null("column");
+                }
+            }
+        }
+        None => {
+            members.null("file");
+            members.null("line");
+            members.null("column");
+        }
+    }
+}
+
+/// Puts a note: where it stands, what stands there, why, and what to write.
+pub fn put_note(alloc: Global, members: &mut Members, note: &Note) {
+    put_place(members, &note.place);
+    members.text("what", note.what.as_slice());
+    members.text("why", note.why.as_slice());
+    members.text("change", note.change.as_slice());
+    let mut further = Elements::new(alloc);
+    for line in note.lines.as_slice() {
+        let mut found = Members::new(alloc);
+        found.text("word", line.word.as_bytes());
+        found.text("text", line.text.as_slice());
+        further.object(found);
+    }
+    members.array("further", further);
+}
+
+// Puts an input by its relay and port.
+fn put_input(members: &mut Members, site: &Site, input: SiteInput) {
+    members.text("relay", relay_name(site, input.relay));
+    members.number("port", u64::from(port_of(site, input)));
+}
+
+// An action by its relay and name.
+fn action_of(alloc: Global, site: &Site, action: SiteAction) -> Members {
+    let mut members = Members::new(alloc);
+    members.text("relay", relay_name(site, action.relay));
+    members.text("action", action_name(site, action));
+    members
+}
+
+fn put_archive(alloc: Global, members: &mut Members, site: &Site, kind: Kind) {
+    match kind {
+        Kind::Unmet(archive) => members.object("archive", action_of(alloc, site, archive)),
+        _ => members.null("archive"),
+    }
+}
+
+// The forwards of a way.
+fn way_of(alloc: Global, site: &Site, way: &[WayRow]) -> Elements {
+    let mut found = Elements::new(alloc);
+    for row in way {
+        let mut members = Members::new(alloc);
+        put_input(&mut members, site, row.input);
+        members.number("occurrence", u64::from(row.number));
+        found.object(members);
+    }
+    found
+}
+
+// The names of the lists of a circle of posts, from the one where it begins on.
+fn circle_of(alloc: Global, site: &Site, finding: &Finding) -> Result<Elements, AllocError> {
+    let mut names = Elements::new(alloc);
+    let Some(spot) = spot_at(site, finding.input) else {
+        return Ok(names);
+    };
+    let (relay, list) = (finding.input.relay, spot.input.list);
+    if let Some(lists) = circle(alloc, site, relay, spot.plan, list, finding.class)? {
+        for list in lists.iter().rev() {
+            names.text(name_of_list(spot.plan, *list));
+        }
+    }
+    Ok(names)
+}
+
+fn put_circle(
+    alloc: Global,
+    members: &mut Members,
+    site: &Site,
+    finding: &Finding,
+) -> Result<(), AllocError> {
+    match finding.kind {
+        Kind::InnerLoop => members.array("circle", circle_of(alloc, site, finding)?),
+        _ => members.null("circle"),
+    }
+    Ok(())
+}
+
+// A finding of these classes.
+fn finding_of(
+    alloc: Global,
+    texts: &SiteTexts<'_>,
+    site: &Site,
+    finding: &Finding,
+    classes: &[Class],
+) -> Result<Members, AllocError> {
+    let note = note_of_finding(alloc, texts, site, finding)?;
+    let names = class_names(alloc, classes)?;
+    let mut members = Members::new(alloc);
+    put_kind(&mut members, finding.kind.words().as_bytes());
+    members.array("classes", names);
+    put_input(&mut members, site, finding.input);
+    put_archive(alloc, &mut members, site, finding.kind);
+    members.array("way", way_of(alloc, site, finding.way.as_slice()));
+    put_circle(alloc, &mut members, site, finding)?;
+    put_note(alloc, &mut members, &note);
+    Ok(members)
+}
+
+/// The first finding of a site, of its one class.
+pub fn first_finding(
+    alloc: Global,
+    texts: &SiteTexts<'_>,
+    site: &Site,
+    finding: &Finding,
+) -> Result<Elements, AllocError> {
+    let members = finding_of(alloc, texts, site, finding, &[finding.class])?;
+    let mut found = Elements::new(alloc);
+    found.object(members);
+    Ok(found)
+}
+
+// A group as a finding of its first class, without a way.
+fn finding_of_group(alloc: Global, group: &Group) -> Option<Finding> {
+    match group.classes.as_slice() {
+        [class, ..] => Some(Finding {
+            class: *class,
+            input: group.input,
+            way: Items::new(alloc),
+            kind: group.kind,
+        }),
+        [] => None,
+    }
+}
+
+/// All findings of a site, each of all its classes.
+pub fn all_findings(
+    alloc: Global,
+    texts: &SiteTexts<'_>,
+    site: &Site,
+    groups: &[Group],
+) -> Result<Elements, AllocError> {
+    let mut found = Elements::new(alloc);
+    for group in groups {
+        if let Some(finding) = finding_of_group(alloc, group) {
+            let classes = group.classes.as_slice();
+            let members = finding_of(alloc, texts, site, &finding, classes)?;
+            found.object(members);
+        }
+    }
+    Ok(found)
+}
+
+/// The spare actions of a site.
+pub fn spare_elements(alloc: Global, site: &Site) -> Elements {
+    let mut found = Elements::new(alloc);
+    for spare in site.spares() {
+        found.object(action_of(alloc, site, *spare));
+    }
+    found
+}
+
+/// Warnings.
+pub fn warning_elements(alloc: Global, warnings: &[Warning]) -> Elements {
+    let mut found = Elements::new(alloc);
+    for warning in warnings {
+        let mut members = Members::new(alloc);
+        members.text("name", warning.caution.name().as_bytes());
+        put_note(alloc, &mut members, &warning.note);
+        found.object(members);
+    }
+    found
+}

@@ -1,0 +1,9 @@
+//! A site drawn: its nodes and arrows, as Graphviz reads them.
+#![tactic(auto)]
+
+pub mod arrow;
+pub mod class;
+pub mod node;
+pub mod reach;
+pub mod relay;
+pub mod text;

@@ -1,0 +1,225 @@
+//! What `--all` says of a fault, behind its first line: the other faults of the site file and of the files of its relays.
+
+use crate::all_of_file::{FileSpot, all_of_file};
+use crate::all_of_site::{JudgedFile, SiteHunt, find_lines, find_references, leave_out, word_of};
+use crate::fault_notes::fault_words;
+use crate::faults_with_notes::{ToldFault, put_told, without};
+use crate::site::files::{Unread, put_unread_relay, why_unread};
+use std::alloc::{AllocError, Global};
+use sy_places::relay_file::places::file_in;
+use sy_places::site_file::source::{text_of, without_return};
+use sy_places::site_file::texts::{RelayText, read_relay_text};
+use sy_report::command_line::options::ReadNames;
+use sy_report::outcome::halt::Halt;
+use sy_report::reading::files::Files;
+use sy_report::texts::note::Note;
+use sy_report::texts::parts::Part;
+use sy_report::texts::words::Words;
+use sy_site::{SiteFault, file_names};
+
+// The first line of a site file that names a file: its number, and the relay's name.
+fn line_naming<'t>(text: &'t [u8], file: &str) -> Option<(usize, &'t [u8])> {
+    let mut number: usize = 1;
+    for line in text.split(|b| *b == b'\n') {
+        let line = without_return(line);
+        if matches!(file_in(line), Some((_, name)) if name == file.as_bytes()) {
+            return Some((number, word_of(line, 1)));
+        }
+        number = number.saturating_add(1);
+    }
+    None
+}
+
+// Finds that a relay's file can't be read.
+fn find_unread(
+    alloc: Global,
+    site_name: &str,
+    spot: FileSpot<'_>,
+    unread: Option<&Unread>,
+) -> Result<ToldFault, AllocError> {
+    let mut note = Note::new(alloc);
+    if let Some(unread) = unread {
+        let site = (site_name, spot.line as u64, spot.relay);
+        put_unread_relay(alloc, &mut note, site, spot.name, unread);
+    }
+    let note = note.finish()?;
+    Ok(ToldFault::new(spot.number, 0, Halt::ReadFailed, note))
+}
+
+// Finds the faults of a relay's file, and answers what others may speak of.
+fn find_in_text(
+    alloc: Global,
+    told: &mut Vec<ToldFault>,
+    spot: FileSpot<'_>,
+    read: &RelayText,
+) -> Result<Option<Vec<u8>>, AllocError> {
+    let text = Vec::from_slice(alloc, read.text.as_slice())?;
+    let (found, left) = all_of_file(alloc, spot, text)?;
+    for fault in found {
+        told.push(fault)?;
+    }
+    Ok(left)
+}
+
+// The same where it could be read; else that is found.
+fn find_in_file(
+    alloc: Global,
+    hunt: &mut SiteHunt<'_>,
+    number: u64,
+    name: &str,
+    read: Result<&RelayText, Option<&Unread>>,
+) -> Result<Option<Vec<u8>>, AllocError> {
+    let Some((line, relay)) = line_naming(hunt.draft.text(), name) else {
+        return Ok(None);
+    };
+    let spot = FileSpot {
+        number,
+        name,
+        line,
+        relay,
+    };
+    match read {
+        Ok(read) => find_in_text(alloc, &mut hunt.found, spot, read),
+        Err(why) => {
+            let unread = find_unread(alloc, hunt.name, spot, why)?;
+            hunt.found.push(unread)?;
+            Ok(None)
+        }
+    }
+}
+
+// Reads a relay's file, finds its faults, and answers how others may speak of it.
+fn judge_file<F: Files>(
+    alloc: Global,
+    files: &F,
+    hunt: &mut SiteHunt<'_>,
+    number: u64,
+    name: String,
+) -> Result<JudgedFile, AllocError> {
+    let read = read_relay_text(alloc, files, Some(name.as_str()))?;
+    let text = match &read {
+        Some(read) => find_in_file(alloc, hunt, number, name.as_str(), Ok(read)),
+        None => {
+            let why = why_unread(files, name.as_str());
+            find_in_file(alloc, hunt, number, name.as_str(), Err(why.as_ref()))
+        }
+    };
+    match text {
+        Ok(text) => Ok(JudgedFile { name, read, text }),
+        Err(why) => Err(why),
+    }
+}
+
+// Finds the faults of the relays' files.
+fn judge_files<F: Files>(
+    alloc: Global,
+    files: &F,
+    hunt: &mut SiteHunt<'_>,
+    names: Vec<String>,
+) -> Result<Vec<JudgedFile>, AllocError> {
+    let mut judged = Vec::new(alloc);
+    let mut number: u64 = 1;
+    for name in names {
+        judged.push(judge_file(alloc, files, hunt, number, name)?)?;
+        number = number.saturating_add(1);
+    }
+    Ok(judged)
+}
+
+// The files as they are judged with the site file: of those that too little is known of nothing, and no line that names
+// their relays.
+fn given_files<'a>(
+    alloc: Global,
+    hunt: &mut SiteHunt<'_>,
+    judged: &'a [JudgedFile],
+) -> Result<Vec<(&'a str, &'a [u8])>, AllocError> {
+    let mut given: Vec<(&'a str, &'a [u8])> = Vec::new(alloc);
+    for file in judged {
+        match &file.text {
+            Some(text) => given.push((file.name.as_str(), text.as_slice()))?,
+            None => {
+                leave_out(alloc, &mut hunt.draft, file.name.as_bytes())?;
+                given.push((file.name.as_str(), &[]))?;
+            }
+        }
+    }
+    Ok(given)
+}
+
+// Finds the faults of a site file and of its relays' files.
+fn find_all<F: Files>(alloc: Global, files: &F, hunt: &mut SiteHunt<'_>) -> Result<(), AllocError> {
+    if !find_lines(alloc, hunt)? {
+        return Ok(());
+    }
+    let names = match file_names(alloc, hunt.draft.text()) {
+        Ok(names) => names,
+        Err(SiteFault::NoMemory) => return Err(AllocError),
+        Err(_) => return Ok(()),
+    };
+    let judged = judge_files(alloc, files, hunt, names)?;
+    let given = given_files(alloc, hunt, judged.as_slice())?;
+    find_references(alloc, hunt, judged.as_slice(), given.as_slice())
+}
+
+// Whether there may be more to find than why a command stopped.
+fn has_others(halt: &Halt) -> bool {
+    match halt {
+        Halt::Site(SiteFault::NoMemory) => false,
+        Halt::Site(_) | Halt::ReadFailed => true,
+        _ => false,
+    }
+}
+
+// The lines by which a fault is known among others of the same line: of a failed read, which names no file.
+fn note_to_know<F: Files>(
+    alloc: Global,
+    files: &F,
+    names: ReadNames<'_>,
+    halt: &Halt,
+) -> Result<Vec<u8>, AllocError> {
+    match halt {
+        Halt::ReadFailed => fault_words(alloc, files, names, halt),
+        _ => Ok(Vec::new(alloc)),
+    }
+}
+
+/// The faults beside the one by which a command stopped, in the order of files and places: the site file's, then those of
+/// each relay's file. Each of them is one that the reader has at that place.
+pub fn other_faults<F: Files>(
+    alloc: Global,
+    files: &F,
+    names: ReadNames<'_>,
+    halt: &Halt,
+) -> Result<Vec<ToldFault>, AllocError> {
+    if !has_others(halt) {
+        return Ok(Vec::new(alloc));
+    }
+    let Some(text) = text_of(files, names.site)? else {
+        return Ok(Vec::new(alloc));
+    };
+    let mut hunt = SiteHunt::new(alloc, names.site, text)?;
+    find_all(alloc, files, &mut hunt)?;
+    let SiteHunt { found, .. } = hunt;
+    let note = note_to_know(alloc, files, names, halt)?;
+    without(alloc, found, halt, note.as_slice())
+}
+
+/// The lines behind the first one on standard error: of that fault, where it is to be explained, and of the others.
+pub fn all_fault_words<F: Files>(
+    alloc: Global,
+    files: &F,
+    names: ReadNames<'_>,
+    is_explained: bool,
+    halt: &Halt,
+) -> Result<Vec<u8>, AllocError> {
+    let mut words = Words::new(alloc);
+    if is_explained {
+        let first = fault_words(alloc, files, names, halt)?;
+        words.put(&[Part::Text(first.as_slice())]);
+    }
+    let others = other_faults(alloc, files, names, halt)?;
+    for fault in others.as_slice() {
+        put_told(alloc, &mut words, fault, is_explained)?;
+    }
+    words.finish()
+}

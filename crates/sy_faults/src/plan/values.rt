@@ -1,0 +1,168 @@
+//! Notes of values that a parameter doesn't take.
+
+use crate::plan::notes::param_at;
+use crate::plan::parameter_rows::{Values, put_list, put_parameter, put_values, row_of, tables_of};
+use sy_places::relay_file::outline::{Object, value_of};
+use sy_places::relay_file::places::Places;
+use sy_report::texts::near::nearest;
+use sy_report::texts::note::Note;
+use sy_report::texts::parts::Part;
+use sy_report::texts::words::Words;
+use sy_rules::PlanFault;
+use sy_script::tree::Param;
+
+/// The sizes that letters stand for in rsyslog.
+static SUFFIXES: [(u8, u64, u64); 6] = [
+    (b'k', 1_000, 1_024),
+    (b'K', 1_000, 1_000),
+    (b'm', 1_000_000, 1_048_576),
+    (b'M', 1_000_000, 1_000_000),
+    (b'g', 1_000_000_000, 1_073_741_824),
+    (b'G', 1_000_000_000, 1_000_000_000),
+];
+
+fn values_of(object: Object<'_>, name: &[u8]) -> Option<Values> {
+    let tables = tables_of(object.word, value_of(object.params, b"type"));
+    match row_of(&tables, name) {
+        Some(row) => Some(row.values),
+        None => None,
+    }
+}
+
+// A value with its quotes.
+fn put_value(words: &mut Words, value: &[u8]) {
+    words.put(&[Part::Text(b"\""), Part::Text(value), Part::Text(b"\"")]);
+}
+
+// The number that digits with a letter behind them write: in thousands, and as rsyslog reads it.
+fn sizes_of(value: &[u8]) -> Option<(u64, u64)> {
+    let (last, digits) = value.split_last()?;
+    if digits.is_empty() || digits.len() > 10 || !digits.iter().all(|d| d.is_ascii_digit()) {
+        return None;
+    }
+    let mut number: u64 = 0;
+    for digit in digits {
+        number = number
+            .saturating_mul(10)
+            .saturating_add(u64::from(digit.saturating_sub(b'0')));
+    }
+    for (letter, plain, read) in &SUFFIXES {
+        if letter == last {
+            return Some((number.saturating_mul(*plain), number.saturating_mul(*read)));
+        }
+    }
+    None
+}
+
+// Puts a parameter with a number.
+fn put_number(words: &mut Words, name: &[u8], number: u64) {
+    words.put(&[
+        Part::Text(name),
+        Part::Text(b"=\""),
+        Part::Number(number),
+        Part::Text(b"\""),
+    ]);
+}
+
+fn put_no_number(note: &mut Note, name: &[u8], value: &[u8]) {
+    note.why.say(" is no number of 1 to 10 digits");
+    match sizes_of(value) {
+        Some((plain, read)) => {
+            note.why.say("; suffixes aren't read");
+            put_number(&mut note.change, name, plain);
+            if plain != read {
+                note.change.put(&[
+                    Part::Text(b" (rsyslog reads "),
+                    Part::Text(value),
+                    Part::Text(b" as "),
+                    Part::Number(read),
+                    Part::Text(b")"),
+                ]);
+            }
+        }
+        None => note.change.say("a number there"),
+    }
+}
+
+// Of a module that isn't one of this profile's.
+fn put_module(note: &mut Note, value: &[u8]) {
+    note.why.say(": this profile has imtcp, builtin:omfile and builtin:omfwd");
+    match value {
+        b"imudp" | b"imptcp" | b"imrelp" => note.change.say(
+            "module(load=\"imtcp\"), and senders that speak octet-counted TCP (docs/MIGRATING.md)",
+        ),
+        _ => note
+            .change
+            .say("leave it out, with what needs it (docs/MIGRATING.md)"),
+    }
+}
+
+fn put_no_word(note: &mut Note, name: &[u8], value: &[u8], allowed: &[&[u8]]) {
+    note.why.say(" is none of its values: ");
+    put_list(&mut note.why, allowed);
+    match nearest(value, allowed) {
+        Some(near) => put_parameter(&mut note.change, name, near),
+        None => match allowed {
+            [only] => put_parameter(&mut note.change, name, only),
+            _ => {
+                note.change.say("one of them, as ");
+                if let Some(first) = allowed.first() {
+                    put_parameter(&mut note.change, name, first);
+                }
+            }
+        },
+    }
+}
+
+// Of a parameter whose value is of the wrong shape.
+fn put_shape(note: &mut Note, object: Object<'_>, param: &Param) {
+    let name = param.name.text.as_slice();
+    let value = param.value.bytes.as_slice();
+    put_value(&mut note.why, value);
+    match values_of(object, name) {
+        Some(Values::OneOf(_)) if name.eq_ignore_ascii_case(b"load") => put_module(note, value),
+        Some(Values::OneOf(allowed)) => put_no_word(note, name, value, allowed),
+        Some(Values::NumberOrMinusOne(_)) => {
+            note.why
+                .say(" is neither -1 nor a number of 1 to 10 digits");
+            put_parameter(&mut note.change, name, b"-1");
+        }
+        Some(_) => put_no_number(note, name, value),
+        None => {}
+    }
+}
+
+/// Says why a value isn't one of its parameter, and what to write.
+pub fn put_bad_value(note: &mut Note, places: Places<'_>, fault: &PlanFault) {
+    if let Some((object, param)) = param_at(places.objects, fault.span.start) {
+        put_shape(note, object, param);
+    }
+}
+
+// What is too many.
+fn put_too_many(note: &mut Note, word: &[u8]) {
+    let most: &str = match word {
+        b"input" => "a relay has 64 inputs at most",
+        b"ruleset" => "a relay has 256 rulesets at most, beside the default one",
+        b"action" => "a relay has 256 actions at most",
+        _ => "a relay has 256 workers at most, of all its queues together",
+    };
+    note.why.say(most);
+    note.change.say("fewer of them");
+}
+
+/// Says of a number out of its range what the range is.
+pub fn put_out_of_range(note: &mut Note, places: Places<'_>, fault: &PlanFault) {
+    let Some((object, param)) = param_at(places.objects, fault.span.start) else {
+        put_too_many(note, fault.word.as_slice());
+        return;
+    };
+    let name = param.name.text.as_slice();
+    put_value(&mut note.why, param.value.bytes.as_slice());
+    note.why.say(" is out of its range");
+    if let Some(values) = values_of(object, name) {
+        note.why.say(": ");
+        put_values(&mut note.why, values);
+        note.change.say("a number in that range");
+    }
+}

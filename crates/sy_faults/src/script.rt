@@ -1,0 +1,6 @@
+//! Notes of the faults of a script.
+
+pub mod legacy;
+pub mod notes;
+pub mod opened;
+pub mod pieces;

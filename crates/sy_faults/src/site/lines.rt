@@ -1,0 +1,327 @@
+//! Notes of the faults of a site file's lines.
+
+use crate::encoding::put_encoding;
+use crate::plan::parameter_rows::put_list;
+use crate::plan::tests::{put_facility, put_severity, put_shape};
+use crate::site::spare::{put_policy_line, put_spare_line};
+use std::alloc::{AllocError, Global};
+use sy_places::site_file::source::{find, line_at, without_return, word_in};
+use sy_report::texts::near::nearest;
+use sy_report::texts::note::{Note, Point};
+use sy_report::texts::parts::Part;
+use sy_select::{FaultCode, Selector};
+
+/// The words that a line begins with.
+static FIRST_WORDS: [&[u8]; 5] = [b"relay", b"entry", b"protect", b"policy", b"spare"];
+
+/// The most bytes of a site file.
+const MOST: usize = 1_048_576;
+
+/// A line of a site file: the file's name and text, the line's number, and its bytes without CR and LF.
+#[derive(Clone, Copy)]
+pub struct SiteLine<'a> {
+    pub file: &'a str,
+    pub text: &'a [u8],
+    pub number: u64,
+    pub line: &'a [u8],
+}
+
+/// The line of a number.
+pub fn site_line<'a>(file: &'a str, text: &'a [u8], number: u64) -> SiteLine<'a> {
+    let line: &[u8] = match line_at(text, number) {
+        Some(line) => without_return(line),
+        None => &[],
+    };
+    SiteLine {
+        file,
+        text,
+        number,
+        line,
+    }
+}
+
+/// Says that a word of the line, by its number, stands there.
+pub fn stands_at_word(alloc: Global, note: &mut Note, at: SiteLine<'_>, number: usize) {
+    let (place, word): (usize, &[u8]) = match word_in(at.line, number) {
+        Some(found) => found,
+        None => (at.line.len(), b"the end of the line"),
+    };
+    let column = (place as u64).saturating_add(1);
+    let point = Point {
+        line: at.number,
+        column,
+    };
+    note.stands_at(alloc, at.file.as_bytes(), Some(point));
+    note.what.put(&[Part::Text(word)]);
+}
+
+/// The names of the relay lines of a site file.
+pub fn relay_names(alloc: Global, text: &[u8]) -> Result<Vec<&[u8]>, AllocError> {
+    let mut names = Vec::new(alloc);
+    for line in text.split(|b| *b == b'\n') {
+        let line = without_return(line);
+        if let (Some((_, b"relay")), Some((_, name))) = (word_in(line, 0), word_in(line, 1)) {
+            names.push(name)?;
+        }
+    }
+    Ok(names)
+}
+
+fn is_name(word: &[u8]) -> bool {
+    !word.is_empty()
+        && word.len() <= 64
+        && word.iter().all(|b| b.is_ascii_alphanumeric() || *b == b'-' || *b == b'_' || *b == b'.')
+}
+
+fn is_port(word: &[u8]) -> bool {
+    word.len() <= 10
+        && word.first() != Some(&b'0')
+        && !word.is_empty()
+        && word.iter().all(|b| b.is_ascii_digit())
+}
+
+/// How many words a line has.
+pub fn words_in(line: &[u8]) -> usize {
+    let mut count: usize = 0;
+    for word in line.split(|b| *b == b' ' || *b == b'\t') {
+        if !word.is_empty() {
+            count = count.saturating_add(1);
+        }
+    }
+    count
+}
+
+// Says that a line begins with no word that a line begins with.
+fn put_first_word(alloc: Global, note: &mut Note, at: SiteLine<'_>, word: &[u8]) {
+    stands_at_word(alloc, note, at, 0);
+    note.why.say("a line begins with relay, entry, protect, policy or spare");
+    match nearest(word, &FIRST_WORDS) {
+        Some(near) => note.change.put(&[Part::Text(near)]),
+        None => note
+            .change
+            .say("one of them, or # before what is a comment"),
+    }
+}
+
+/// Says which words a line has, at the first word that is too many, or where one is lacking.
+pub fn put_words(alloc: Global, note: &mut Note, at: SiteLine<'_>, number: usize, shape: &str) {
+    stands_at_word(alloc, note, at, number);
+    note.why.say("the words of such a line are ");
+    note.why.say(shape);
+    note.change.say(shape);
+}
+
+fn put_relay_line(alloc: Global, note: &mut Note, at: SiteLine<'_>) {
+    let name: &[u8] = match word_in(at.line, 1) {
+        Some((_, name)) => name,
+        None => &[],
+    };
+    let count = words_in(at.line);
+    if count < 3 || count > 4 {
+        put_words(alloc, note, at, count.min(4), "relay NAME FILE [ADDRESS]");
+    } else if !is_name(name) {
+        stands_at_word(alloc, note, at, 1);
+        note.why
+            .say("a relay's name has 1 to 64 letters, digits, -, _ and .");
+        note.change.say("such a name");
+    } else if count == 4 {
+        stands_at_word(alloc, note, at, 3);
+        note.why.say(
+            "an address is four numbers of 0 to 255 without leading zeros, with dots between them",
+        );
+        note.change.say("127.0.0.1, or no address");
+    } else {
+        stands_at_word(alloc, note, at, 0);
+        note.why.say("a site has 64 relays at most, and the name of a file is UTF-8");
+        note.change.say("fewer relay lines, or another name");
+    }
+}
+
+/// Says that no relay line has the name that a line gives, where that is so, and answers whether it is.
+pub fn put_unknown_relay(
+    alloc: Global,
+    note: &mut Note,
+    at: SiteLine<'_>,
+    number: usize,
+) -> Result<bool, AllocError> {
+    let names = relay_names(alloc, at.text)?;
+    let Some((_, name)) = word_in(at.line, number) else {
+        return Ok(false);
+    };
+    if names.as_slice().iter().any(|known| *known == name) {
+        return Ok(false);
+    }
+    stands_at_word(alloc, note, at, number);
+    note.why.put(&[Part::Text(b"no relay line has the name "), Part::Text(name)]);
+    match nearest(name, names.as_slice()) {
+        Some(near) => note.change.put(&[Part::Text(near)]),
+        None => {
+            note.change.say("one of ");
+            put_list(&mut note.change, names.as_slice());
+        }
+    }
+    Ok(true)
+}
+
+fn put_entry_line(alloc: Global, note: &mut Note, at: SiteLine<'_>) -> Result<(), AllocError> {
+    let port: &[u8] = match word_in(at.line, 2) {
+        Some((_, port)) => port,
+        None => &[],
+    };
+    let count = words_in(at.line);
+    if count != 3 {
+        put_words(alloc, note, at, count.min(3), "entry RELAY PORT");
+        return Ok(());
+    }
+    if !is_port(port) {
+        stands_at_word(alloc, note, at, 2);
+        note.why.say("a port is a number without a leading zero");
+        note.change.say("the number of a port");
+        return Ok(());
+    }
+    if !put_unknown_relay(alloc, note, at, 1)? {
+        stands_at_word(alloc, note, at, 0);
+        note.why.say("a site has 256 entry lines at most");
+        note.change.say("fewer entry lines");
+    }
+    Ok(())
+}
+
+// Says what is wrong with a selector, where something is, and answers whether it is.
+fn put_selector(alloc: Global, note: &mut Note, at: SiteLine<'_>, word: &[u8]) -> bool {
+    let Err(fault) = Selector::read(alloc, word) else {
+        return false;
+    };
+    stands_at_word(alloc, note, at, 1);
+    match fault.code {
+        FaultCode::Facility => put_facility(note, fault.word.as_slice()),
+        FaultCode::Severity => put_severity(note, fault.word.as_slice()),
+        _ => put_shape(note, word),
+    }
+    true
+}
+
+fn put_protect_line(alloc: Global, note: &mut Note, at: SiteLine<'_>) -> Result<(), AllocError> {
+    let selector: &[u8] = match word_in(at.line, 1) {
+        Some((_, selector)) => selector,
+        None => &[],
+    };
+    let count = words_in(at.line);
+    if count != 4 {
+        put_words(
+            alloc,
+            note,
+            at,
+            count.min(4),
+            "protect SELECTOR RELAY ACTION",
+        );
+        return Ok(());
+    }
+    if put_selector(alloc, note, at, selector) {
+        return Ok(());
+    }
+    if !put_unknown_relay(alloc, note, at, 2)? {
+        stands_at_word(alloc, note, at, 0);
+        note.why.say("a site has 256 protect lines at most");
+        note.change.say("fewer protect lines");
+    }
+    Ok(())
+}
+
+/// Says of a line that is none of a site file which of its causes it is.
+pub fn put_faulty_line(alloc: Global, note: &mut Note, at: SiteLine<'_>) -> Result<(), AllocError> {
+    if at.text.len() > MOST {
+        note.stands_at(alloc, at.file.as_bytes(), None);
+        note.why.put(&[
+            Part::Text(at.file.as_bytes()),
+            Part::Text(b" has "),
+            Part::Number(at.text.len() as u64),
+            Part::Text(b" bytes, at most 1048576 are read"),
+        ]);
+        return Ok(());
+    }
+    if at.number == 1 {
+        note.stands_at(
+            alloc,
+            at.file.as_bytes(),
+            Some(Point { line: 1, column: 1 }),
+        );
+        if put_encoding(note, at.file.as_bytes(), at.text) {
+            return Ok(());
+        }
+    }
+    match word_in(at.line, 0) {
+        Some((_, b"relay")) => {
+            put_relay_line(alloc, note, at);
+            Ok(())
+        }
+        Some((_, b"entry")) => put_entry_line(alloc, note, at),
+        Some((_, b"protect")) => put_protect_line(alloc, note, at),
+        Some((_, b"policy")) => {
+            put_policy_line(alloc, note, at);
+            Ok(())
+        }
+        Some((_, b"spare")) => put_spare_line(alloc, note, at),
+        Some((_, word)) => {
+            put_first_word(alloc, note, at, word);
+            Ok(())
+        }
+        None => Ok(()),
+    }
+}
+
+// The number of the first line whose words begin like these, before another line.
+fn earlier(at: SiteLine<'_>, word: &[u8], is_relay: bool) -> Option<u64> {
+    let mut number: u64 = 1;
+    for line in at.text.split(|b| *b == b'\n') {
+        let line = without_return(line);
+        if number >= at.number {
+            return None;
+        }
+        let is_same = match word_in(line, 1) {
+            Some((_, name)) if is_relay => {
+                name == word && word_in(line, 0) == word_in(at.line, 0)
+            }
+            _ => !is_relay && same_words(line, at.line),
+        };
+        if is_same {
+            return Some(number);
+        }
+        number = number.saturating_add(1);
+    }
+    None
+}
+
+fn same_words(line: &[u8], other: &[u8]) -> bool {
+    for number in 0..4 {
+        match (word_in(line, number), word_in(other, number)) {
+            (Some((_, a)), Some((_, b))) if a == b => {}
+            (None, None) => return number > 0,
+            _ => return false,
+        }
+    }
+    true
+}
+
+/// Says of a line that repeats another which one that is.
+pub fn put_duplicate_line(alloc: Global, note: &mut Note, at: SiteLine<'_>) {
+    let is_relay = find(at.line, b"relay").is_some()
+        && matches!(word_in(at.line, 0), Some((_, b"relay")));
+    stands_at_word(alloc, note, at, if is_relay { 1 } else { 0 });
+    let word: &[u8] = match word_in(at.line, 1) {
+        Some((_, word)) => word,
+        None => &[],
+    };
+    if let Some(number) = earlier(at, word, is_relay) {
+        note.why.put(&[Part::Text(b"line "), Part::Number(number)]);
+    } else {
+        note.why.say("an earlier line");
+    }
+    if is_relay {
+        note.why.say(" has this name");
+        note.change.say("another name");
+    } else {
+        note.why.say(" says the same");
+        note.change.say("one of the two");
+    }
+}

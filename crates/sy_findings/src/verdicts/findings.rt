@@ -1,0 +1,80 @@
+//! The lines of a finding.
+ghost use Rattle.std.specs.Prelude.{◌≡◌, ◌++◌, OnOk, flat_map};
+ghost use Rattle.sy_findings.specs.Checks as spec;
+
+use std::alloc::AllocError;
+use sy_report::texts::parts::{Part, action_name, input_part, put_parts, relay_name};
+use sy_site::finding::{Finding, Kind, WayRow};
+use sy_site::{Site, SiteAction};
+
+// Puts an archive's names behind a text.
+fn put_archive(text: &mut Vec<u8>, site: &Site, archive: SiteAction) -> Result<(), AllocError>
+    ensures { OnOk result (text.new.items ≡ text.old.items ++ spec.archive_text site.now (Kind.Unmet archive)) }
+{
+    let parts = [
+        Part::Text(b" "),
+        Part::Text(relay_name(site, archive.relay)),
+        Part::Text(b" "),
+        Part::Text(action_name(site, archive)),
+    ];
+    put_parts(text, &parts)
+}
+
+/// Puts what is found behind a text.
+pub fn put_kind(text: &mut Vec<u8>, site: &Site, kind: Kind) -> Result<(), AllocError>
+    ensures { OnOk result (text.new.items ≡ text.old.items ++ spec.kind_text site.now kind) }
+{
+    text.extend_from_slice(kind.words().as_bytes())?;
+    match kind {
+        Kind::Unmet(archive) => put_archive(text, site, archive),
+        _ => Ok(()),
+    }
+}
+
+// Puts the first line of a finding behind a text.
+fn put_found(text: &mut Vec<u8>, site: &Site, finding: &Finding) -> Result<(), AllocError>
+    ensures { OnOk result (text.new.items ≡ text.old.items ++ spec.finding_line site.now finding.now) }
+{
+    let parts = [
+        Part::Text(b"refused: "),
+        Part::Class(finding.class),
+        Part::Text(b" at "),
+        input_part(site, finding.input),
+        Part::Text(b": "),
+    ];
+    put_parts(text, &parts)?;
+    put_kind(text, site, finding.kind)?;
+    text.extend_from_slice(b"\n")
+}
+
+// Puts the line of one part of the way behind a text.
+fn put_row(text: &mut Vec<u8>, site: &Site, row: WayRow) -> Result<(), AllocError>
+    ensures { OnOk result (text.new.items ≡ text.old.items ++ spec.way_line site.now row) }
+{
+    let parts = [
+        Part::Text(b"  "),
+        input_part(site, row.input),
+        Part::Text(b" by "),
+        Part::Number(u64::from(row.number)),
+        Part::Text(b"\n"),
+    ];
+    put_parts(text, &parts)
+}
+
+// Puts a line for each part of a way behind a text.
+fn put_way(text: &mut Vec<u8>, site: &Site, way: &[WayRow]) -> Result<(), AllocError>
+    ensures { OnOk result (text.new.items ≡ text.old.items ++ flat_map (spec.way_line site.now) way.now) }
+{
+    for row in way {
+        put_row(text, site, *row)?;
+    }
+    Ok(())
+}
+
+/// Puts a finding behind a text: what is found where, and a line for each part of the way there.
+pub fn put_finding(text: &mut Vec<u8>, site: &Site, finding: &Finding) -> Result<(), AllocError>
+    ensures { OnOk result (text.new.items ≡ text.old.items ++ spec.finding_text site.now finding.now) }
+{
+    put_found(text, site, finding)?;
+    put_way(text, site, finding.way.as_slice())
+}

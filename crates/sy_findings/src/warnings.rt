@@ -1,0 +1,350 @@
+//! Warnings: what is lawful in a site and unwise. They change no verdict.
+ghost use Rattle.std.specs.Prelude.{◌≡◌, ◌++◌, ℕ, List, IfErr, IfOk};
+
+pub mod cautions;
+pub mod unwise;
+
+use crate::warnings::cautions::unreached_relay;
+use crate::warnings::unwise::warn_of_item;
+use std::alloc::{AllocError, Global};
+use sy_places::relay_file::contents::{Item, items_of};
+use sy_places::relay_file::places::relay_line;
+use sy_places::site_file::texts::{RelayFile, SiteTexts, read_site_texts, relay_file};
+use sy_places::ways::executed::{
+    Executed, all_classes, executed_from, executed_of, protected_classes, reached_inputs,
+};
+use sy_report::outcome::answer::Answer;
+use sy_report::outcome::halt::Halt;
+use sy_report::reading::files::Files;
+use sy_report::texts::note::{Note, put_line, put_place};
+use sy_report::texts::words::Words;
+use sy_rules::Plan;
+use sy_script::tree::Script;
+use sy_site::{Site, SiteInput};
+
+/// What is warned of.
+#[derive(Clone, Copy)]
+pub enum Caution {
+    /// A parameter is given that has no effect.
+    NoEffect,
+    /// No input and no call names a ruleset.
+    UncalledRuleset,
+    /// No message reaches an action.
+    UnreachedAction,
+    /// No message of an entry reaches a relay.
+    UnreachedRelay,
+    /// An input that no message of an entry reaches feeds a queue that protected ones wait in.
+    OutsideInput,
+    /// A mark of a queue is above its size.
+    MarkAboveSize,
+    /// An action or a call stands behind a stop.
+    AfterStop,
+    /// Two archives of one relay are one file.
+    SameFile,
+}
+
+impl Caution {
+    /// Its name.
+    pub fn name(self) -> &'static str {
+        match self {
+            Caution::NoEffect => "NoEffect",
+            Caution::UncalledRuleset => "UncalledRuleset",
+            Caution::UnreachedAction => "UnreachedAction",
+            Caution::UnreachedRelay => "UnreachedRelay",
+            Caution::OutsideInput => "OutsideInput",
+            Caution::MarkAboveSize => "MarkAboveSize",
+            Caution::AfterStop => "AfterStop",
+            Caution::SameFile => "SameFile",
+        }
+    }
+}
+
+/// A warning: what is warned of, where it stands, why, and what to write.
+#[derive(Drop)]
+pub struct Warning {
+    pub caution: Caution,
+    pub note: Note,
+}
+
+/// A relay with the text of its file, and what its messages may execute.
+#[derive(Clone, Copy)]
+pub struct Looked<'a> {
+    pub site: &'a Site,
+    pub relay: u32,
+    pub plan: &'a Plan,
+    pub file: &'a str,
+    pub text: &'a [u8],
+    pub items: &'a [Item<'a>],
+    pub executed: &'a Executed,
+    /// What messages of protected classes may execute that come to one of `protected`.
+    pub kept: &'a Executed,
+    /// The inputs that messages of entries come to.
+    pub reached: &'a [SiteInput],
+    /// Those that messages of protected classes come to.
+    pub protected: &'a [SiteInput],
+}
+
+/// The most warnings of a site; what is unwise beyond them isn't told.
+const MOST: usize = 256;
+
+/// The warnings so far. Where memory runs out some are left out, which the end tells.
+#[derive(Drop)]
+pub struct Warnings {
+    pub alloc: Global,
+    list: Vec<Warning>,
+    is_cut: bool,
+}
+
+impl Warnings {
+    /// Whether no more are told.
+    pub fn is_full(&self) -> bool {
+        self.list.len() >= MOST
+    }
+
+    /// Puts a warning behind the others.
+    pub fn put(&mut self, caution: Caution, note: Note) {
+        self.is_cut = self.is_cut || note.is_cut();
+        match self.list.push(Warning { caution, note }) {
+            Ok(()) => {}
+            Err(_) => self.is_cut = true,
+        }
+    }
+
+    fn finish(self) -> Result<Vec<Warning>, AllocError> {
+        let Warnings { list, is_cut, .. } = self;
+        if is_cut {
+            return Err(AllocError);
+        }
+        Ok(list)
+    }
+}
+
+// The inputs that messages of entries come to.
+#[derive(Drop)]
+struct Reached {
+    of_any_class: Vec<SiteInput>,
+    of_protected: Vec<SiteInput>,
+}
+
+fn reached_of(alloc: Global, site: &Site) -> Result<Reached, AllocError> {
+    let classes = all_classes(alloc)?;
+    let protected = protected_classes(alloc, site)?;
+    let of_any_class = reached_inputs(alloc, site, classes.as_slice())?;
+    let of_protected = reached_inputs(alloc, site, protected.as_slice())?;
+    Ok(Reached {
+        of_any_class,
+        of_protected,
+    })
+}
+
+// What messages of protected classes may execute of a relay.
+fn kept_of(
+    alloc: Global,
+    site: &Site,
+    relay: u32,
+    plan: &Plan,
+    inputs: &[SiteInput],
+) -> Result<Executed, AllocError> {
+    let mut lists = Vec::new(alloc);
+    for at in inputs {
+        match plan.inputs().get(at.input as usize) {
+            Some(input) if at.relay == relay => lists.push(input.list)?,
+            _ => {}
+        }
+    }
+    let classes = protected_classes(alloc, site)?;
+    executed_from(alloc, plan, lists.as_slice(), classes.as_slice())
+}
+
+// Warns of what stands in a relay's file.
+fn warn_of_script(
+    warnings: &mut Warnings,
+    site: &Site,
+    relay: u32,
+    reached: &Reached,
+    file: &RelayFile<'_>,
+    script: &Script,
+) -> Result<(), AllocError> {
+    if relay >= site.relays() {
+        return Ok(());
+    }
+    let plan = site.plan(relay);
+    let classes = all_classes(warnings.alloc)?;
+    let executed = executed_of(warnings.alloc, plan, classes.as_slice())?;
+    let protected = reached.of_protected.as_slice();
+    let kept = kept_of(warnings.alloc, site, relay, plan, protected)?;
+    let items = items_of(warnings.alloc, script)?;
+    let looked = Looked {
+        site,
+        relay,
+        plan,
+        file: file.name,
+        text: file.text,
+        items: items.as_slice(),
+        executed: &executed,
+        kept: &kept,
+        reached: reached.of_any_class.as_slice(),
+        protected,
+    };
+    for item in items.as_slice() {
+        warn_of_item(warnings, looked, *item);
+    }
+    Ok(())
+}
+
+// Warns of a relay that no message of an entry comes to.
+fn warn_of_relay(
+    warnings: &mut Warnings,
+    site: &Site,
+    relay: u32,
+    reached: &Reached,
+    site_name: &str,
+    text: &[u8],
+) {
+    if reached.of_any_class.iter().any(|at| at.relay == relay) {
+        return;
+    }
+    if let Some((line, _)) = relay_line(text, relay) {
+        let note = unreached_relay(warnings.alloc, site, relay, site_name, line);
+        warnings.put(Caution::UnreachedRelay, note);
+    }
+}
+
+// Warns of what stands in the file of a relay, where that can be read once more.
+fn warn_of_file(
+    warnings: &mut Warnings,
+    texts: &SiteTexts<'_>,
+    site: &Site,
+    relay: u32,
+    reached: &Reached,
+) -> Result<(), AllocError> {
+    match relay_file(warnings.alloc, texts.relay_text(relay))? {
+        Some(file) => match &file.script {
+            Some(script) => warn_of_script(warnings, site, relay, reached, &file, script),
+            None => Ok(()),
+        },
+        None => Ok(()),
+    }
+}
+
+fn warn_of_site(
+    warnings: &mut Warnings,
+    texts: &SiteTexts<'_>,
+    site: &Site,
+    text: &[u8],
+) -> Result<(), AllocError> {
+    let reached = reached_of(warnings.alloc, site)?;
+    for relay in 0..site.relays() {
+        if warnings.is_full() {
+            return Ok(());
+        }
+        warn_of_relay(warnings, site, relay, &reached, texts.name, text);
+        warn_of_file(warnings, texts, site, relay, &reached)?;
+    }
+    Ok(())
+}
+
+/// What is unwise in a site, relay by relay, and for each in the order of its file.
+pub fn warnings_of(
+    alloc: Global,
+    texts: &SiteTexts<'_>,
+    site: &Site,
+) -> Result<Vec<Warning>, AllocError> {
+    let mut warnings = Warnings {
+        alloc,
+        list: Vec::new(alloc),
+        is_cut: false,
+    };
+    if let Some(text) = texts.text() {
+        warn_of_site(&mut warnings, texts, site, text)?;
+    }
+    warnings.finish()
+}
+
+// Puts the lines of a warning.
+fn put_warning(words: &mut Words, warning: &Warning) {
+    let note = &warning.note;
+    words.say("warning: ");
+    if let Some(place) = &note.place {
+        put_place(words, place);
+        words.say(": ");
+    }
+    words.put_in_line(note.what.as_slice());
+    words.say("\n");
+    put_line(words, "why", note.why.as_slice());
+    put_line(words, "change", note.change.as_slice());
+}
+
+// Puts warnings as lines, each with its place, why it is unwise, and what to write.
+fn put_warnings(words: &mut Words, warnings: &[Warning]) {
+    for warning in warnings {
+        put_warning(words, warning);
+    }
+}
+
+// The lines of the warnings of a site with these texts.
+fn lines_from(alloc: Global, texts: &SiteTexts<'_>, site: &Site) -> Result<Vec<u8>, AllocError> {
+    let warnings = warnings_of(alloc, texts, site)?;
+    let mut words = Words::new(alloc);
+    put_warnings(&mut words, warnings.as_slice());
+    words.finish()
+}
+
+// The lines of the warnings of a site, whose files are read once more.
+fn lines_of<F: Files>(
+    alloc: Global,
+    files: &F,
+    site_name: &str,
+    site: &Site,
+) -> Result<Vec<u8>, AllocError> {
+    match read_site_texts(alloc, files, site_name) {
+        Ok(texts) => lines_from(alloc, &texts, site),
+        Err(why) => Err(why),
+    }
+}
+
+// An answer with these lines behind its text.
+fn with_lines(answer: Answer, lines: &[u8]) -> Result<Answer, AllocError>
+    ensures text { IfOk result (λ a. a.text.items ≡ answer.text.items ++ lines.now) }
+    ensures same { IfOk result (λ a. a.is_accepted ≡ answer.is_accepted) }
+{
+    let Answer {
+        mut text,
+        is_accepted,
+    } = answer;
+    text.extend_from_slice(lines)?;
+    Ok(Answer { text, is_accepted })
+}
+
+// The same with the lines of the warnings of a site.
+fn with_lines_of<F: Files>(
+    alloc: Global,
+    files: &F,
+    site_name: &str,
+    site: &Site,
+    answer: Answer,
+) -> Result<Answer, AllocError>
+    ensures same { IfOk result (λ a. a.is_accepted ≡ answer.is_accepted) }
+    ensures more { IfOk result (λ a. (more : List ℕ) × (a.text.items ≡ answer.text.items ++ more)) }
+{
+    let lines = lines_of(alloc, files, site_name, site)?;
+    with_lines(answer, lines.as_slice())
+}
+
+/// An answer with the warnings of its site behind its text. They change no verdict.
+pub fn with_warnings<F: Files>(
+    alloc: Global,
+    files: &F,
+    site_name: &str,
+    site: &Site,
+    answer: Answer,
+) -> Result<Answer, Halt>
+    ensures same { IfOk result (λ a. a.is_accepted ≡ answer.is_accepted) }
+    ensures more { IfOk result (λ a. (more : List ℕ) × (a.text.items ≡ answer.text.items ++ more)) }
+    ensures err { IfErr result (λ halt. halt ≡ Halt.NoMemory) }
+{
+    match with_lines_of(alloc, files, site_name, site, answer) {
+        Ok(answer) => Ok(answer),
+        Err(_) => Err(Halt::NoMemory),
+    }
+}

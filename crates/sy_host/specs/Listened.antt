@@ -1,0 +1,13 @@
+-- The ports that a relay listens at.
+use Rattle.std.specs.Prelude.{ℕ, List, [], ◌∷◌}
+use Rattle.sy_rules.specs.declared.parts.Input.{Input}
+use Rattle.sy_host.specs.declared.listening.Listening.{Listening}
+use Rattle.sy_host.specs.declared.listening.serving.Port.{Port}
+
+abbrev pub at_of : Listening → Port
+at_of listening = listening.at
+
+-- each input by its number, from this one on, with its port
+abbrev pub ports_from : ℕ → List Input → List Port
+ports_from number [] = []
+ports_from number (input ∷ inputs) = record { input = number; port = input.port } ∷ ports_from (ℕ.suc number) inputs

@@ -1,0 +1,29 @@
+-- What is printed of a port (this profile's own).
+use Rattle.std.specs.Prelude.{ℕ, List, [], ◌∷◌, codes}
+use Rattle.std.specs.Fmt.{decimal}
+use Rattle.sy_wire.specs.Faults.{frame_fault_words, message_fault_words}
+use Rattle.sy_runtime.specs.Faults.{fault_words}
+use Rattle.sy_runtime.specs.declared.connection_end.Unread.{Unread}
+use Rattle.sy_runtime.specs.declared.fault.RunFault.{RunFault}
+use Rattle.sy_runtime.specs.declared.fault.RunFault.TheVariants as fault
+use Rattle.sy_report.specs.Reports.{joined, line_feed}
+
+-- syc: WORDS at PORT
+abbrev pub at_port : List ℕ → ℕ → List ℕ
+at_port words port = joined (codes "syc: " ∷ words ∷ codes " at " ∷ decimal port ∷ (line_feed ∷ []) ∷ [])
+
+-- the number and the name of what ended a connection: of a frame's fault its own
+abbrev pub end_words : RunFault → List ℕ
+end_words (fault.Frame why) = frame_fault_words why
+end_words why = fault_words why
+
+-- syc: N unread at PORT: CODE NAME at O in frame F, all numbers in digits
+abbrev pub unread_at : List ℕ → List ℕ → List ℕ → List ℕ → List ℕ → List ℕ
+unread_at count port words offset frame =
+    joined (codes "syc: " ∷ count ∷ codes " unread at " ∷ port ∷ codes ": " ∷ words ∷ codes " at " ∷ offset ∷ codes " in frame " ∷ frame
+    ∷ (line_feed ∷ []) ∷ [])
+
+-- the frames that carried no message, and why the first of them doesn't
+abbrev pub unread_line : ℕ → ℕ → Unread → List ℕ
+unread_line count port first =
+    unread_at (decimal count) (decimal port) (message_fault_words first.fault.code) (decimal first.fault.offset) (decimal first.frame)

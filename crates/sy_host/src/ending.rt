@@ -1,0 +1,98 @@
+//! How a relay that is served ends.
+
+pub mod control;
+pub mod left;
+pub mod left_file;
+pub mod status;
+pub mod totals;
+
+use crate::listening::serving::Serving;
+use crate::listening::socket_address;
+use std::alloc::{AllocError, Global};
+use std::net::{Ipv4Addr, Net, Shutdown, TcpListener, TcpStream};
+use std::sync::atomic::{AtomicBool, Ordering};
+use std::sync::{Arc, Wait};
+use std::thread;
+use std::thread::Threads;
+use std::time::{Clock, Duration};
+use sy_rules::Input;
+use sy_runtime::ConnEnd;
+use sy_wire::Sink;
+
+/// For how many milliseconds connections may go on giving what is under way.
+const CONNECTIONS_WAIT: u64 = 2000;
+
+/// For how many milliseconds an offer may go on once the relay is closed.
+const LINKS_WAIT: u64 = 1000;
+
+/// How many milliseconds an accept loop gets to end, each time it is connected to, and how often it is.
+const LOOP_WAIT: u64 = 100;
+
+const LOOP_TRIES: u32 = 50;
+
+// Connects once to each port, so that what accepts there wakes up.
+fn wake_loops<R: Net<Listener = TcpListener, Stream = TcpStream>>(
+    rt: &R,
+    address: Ipv4Addr,
+    inputs: &[Input],
+) {
+    for input in inputs {
+        let address = socket_address(address, input.port);
+        let _ = TcpStream::connect_timeout(rt, &address, Duration::from_millis(LOOP_WAIT));
+    }
+}
+
+/// Ends the accept loops.
+pub fn end_loops<R: Wait + Clock + Net<Listener = TcpListener, Stream = TcpStream>, E: Sink + Drop>(
+    rt: &R,
+    serving: &Serving<E>,
+    address: Ipv4Addr,
+    inputs: &[Input],
+) {
+    serving.set_stopping();
+    for _ in 0..LOOP_TRIES {
+        wake_loops(rt, address, inputs);
+        if serving.wait_for_loops(rt, Duration::from_millis(LOOP_WAIT)) {
+            return;
+        }
+    }
+}
+
+// Sets the flag once offers have gone on long enough.
+fn end_links<R: Clock>(rt: &R, is_ending: &AtomicBool) {
+    thread::sleep(rt, Duration::from_millis(LINKS_WAIT));
+    is_ending.store(true, Ordering::SeqCst);
+}
+
+// Has a thread of its own set the flag.
+fn start_ending_links<R: Threads + Clock + Copy + Send + 'static>(
+    rt: R,
+    is_ending: &Arc<AtomicBool>,
+) -> Result<(), AllocError> {
+    let theirs = Arc::try_clone(is_ending)?;
+    match thread::spawn(&rt, move || end_links(&rt, &theirs)) {
+        Ok(_thread) => Ok(()),
+        Err(_) => Err(AllocError),
+    }
+}
+
+/// Gives the connections some time to give what is under way.
+pub fn half_close<R: Wait + Clock, E: Sink + Drop>(rt: &R, serving: &Serving<E>) {
+    serving.shut_down(rt, Shutdown::Write);
+    serving.wait_for_connections(rt, Duration::from_millis(CONNECTIONS_WAIT));
+}
+
+/// Ends the connections of a relay that is closed: what waits in a read at once, and some time later what waits for a link.
+pub fn end_connections<R: Threads + Wait + Clock + Copy + Send + 'static, E: Sink + Drop>(
+    rt: R,
+    alloc: Global,
+    serving: &Serving<E>,
+    is_ending: &Arc<AtomicBool>,
+) -> Vec<ConnEnd> {
+    serving.shut_down(&rt, Shutdown::Read);
+    if start_ending_links(rt, is_ending).is_err() {
+        end_links(&rt, is_ending);
+    }
+    serving.wait_for_all(&rt);
+    serving.take_ends(&rt, alloc)
+}

@@ -1,0 +1,131 @@
+//! What standard input asks of a running relay.
+
+use crate::listening::connector::Connector;
+use crate::listening::serving::Serving;
+use std::alloc::Global;
+use std::sync::Wait;
+use std::sync::atomic::{AtomicU64, Ordering};
+use sy_rules::Action;
+use sy_wire::{Sink, Source};
+
+/// The line that asks for all archives to be opened anew.
+const REOPEN: &[u8] = b"reopen";
+
+/// The line that asks for the totals as they stand.
+const STATUS: &[u8] = b"status";
+
+/// How many bytes of a line are kept: one more than the longest line has that asks for something.
+const KEPT: usize = 7;
+
+/// What a line asks for.
+#[derive(Clone, Copy)]
+enum Request {
+    Reopen,
+    Status,
+}
+
+// The beginning of a line.
+#[derive(Drop)]
+struct Line {
+    bytes: [u8; KEPT],
+    len: usize,
+}
+
+impl Line {
+    fn new() -> Line {
+        Line {
+            bytes: [0; KEPT],
+            len: 0,
+        }
+    }
+
+    // What the line asks for, where it is whole.
+    fn request(&self) -> Option<Request> {
+        let line = self.bytes.get(..self.len)?;
+        if line == REOPEN {
+            Some(Request::Reopen)
+        } else if line == STATUS {
+            Some(Request::Status)
+        } else {
+            None
+        }
+    }
+
+    // Takes the next byte, and answers what the line asks for that it ends.
+    fn take(&mut self, byte: u8) -> Option<Request> {
+        if byte == b'\n' {
+            let request = self.request();
+            self.len = 0;
+            return request;
+        }
+        if self.len < KEPT {
+            self.bytes[self.len] = byte;
+            self.len += 1;
+        }
+        None
+    }
+}
+
+/// What is asked of.
+#[derive(Drop)]
+pub struct Controlled<'a, C: Drop, E: Drop> {
+    pub relay: &'a C,
+    /// The actions of the relay.
+    pub actions: &'a [Action],
+    /// How often archives are to be opened anew.
+    pub reopens: &'a AtomicU64,
+    pub serving: &'a Serving<E>,
+}
+
+// Does what a line asks for.
+fn answer<R: Wait, C: Connector, E: Sink + Drop>(
+    rt: &R,
+    alloc: Global,
+    of: &Controlled<'_, C, E>,
+    request: Request,
+) {
+    match request {
+        Request::Reopen => {
+            let _ = of.reopens.fetch_add(1, Ordering::SeqCst);
+        }
+        Request::Status => match of.relay.status(rt, alloc) {
+            Some(standing) => of.serving.tell_totals(rt, alloc, of.actions, &standing),
+            None => of.serving.tell_text(rt, "no memory"),
+        },
+    }
+}
+
+// Does what each line asks for that ends in these bytes.
+fn answer_all<R: Wait, C: Connector, E: Sink + Drop>(
+    rt: &R,
+    alloc: Global,
+    of: &Controlled<'_, C, E>,
+    line: &mut Line,
+    bytes: &[u8],
+) {
+    for byte in bytes {
+        if let Some(request) = line.take(*byte) {
+            answer(rt, alloc, of, request);
+        }
+    }
+}
+
+/// Reads until there is nothing more, and does what each line asks for; other lines mean nothing.
+pub fn read_control<R: Wait, C: Connector, S: Source, E: Sink + Drop>(
+    rt: &R,
+    alloc: Global,
+    of: &Controlled<'_, C, E>,
+    reader: &mut S,
+) {
+    let mut room = [0u8; 1024];
+    let mut line = Line::new();
+    for _ in 0..u64::MAX {
+        let Ok(count) = reader.read(&mut room) else {
+            return;
+        };
+        if count == 0 {
+            return;
+        }
+        answer_all(rt, alloc, of, &mut line, &room[..count]);
+    }
+}

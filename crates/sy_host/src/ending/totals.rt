@@ -1,0 +1,160 @@
+//! The totals that a relay prints.
+ghost use Rattle.std.specs.Prelude.{◌≡◌, ◌++◌, OnOk, map};
+ghost use Rattle.std.specs.Io.KnownBytes.{Appends};
+ghost use Rattle.sy_board.specs.relay.Boards.{counts_of};
+ghost use Rattle.sy_host.specs.Totals as spec;
+
+use std::alloc::{AllocError, Global};
+use sy_board::{Accounts, ActionCounts};
+use sy_report::texts::parts::{Part, put_parts};
+use sy_report::writing::output::send;
+use sy_rules::Action;
+use sy_wire::Sink;
+
+/// Why totals weren't written.
+#[derive(Clone, Copy)]
+pub enum TotalsFault {
+    NoMemory,
+    Write,
+}
+
+/// What totals tell: messages taken, losses, what is held, and the counts of the actions, in their order.
+#[derive(Clone, Copy)]
+pub struct Numbers<'a> {
+    pub taken: u64,
+    pub lost: u128,
+    pub held: u128,
+    pub actions: &'a [ActionCounts],
+}
+
+// The losses: at an input or in its hand, by a post, and as an entry left a queue.
+fn lost(accounts: &Accounts) -> u128
+    ensures { result ≡ spec.lost accounts.now.totals }
+{
+    u128::from(accounts.lost_in())
+        + u128::from(accounts.lost_post())
+        + u128::from(accounts.lost_out())
+}
+
+/// The numbers of a relay that still holds so many entries.
+pub fn numbers_of(accounts: &Accounts, held: u128) -> Numbers<'_>
+    ensures numbers { result ≡ record { taken = accounts.now.totals.taken; lost = spec.lost accounts.now.totals; held = held; actions = result.actions } }
+    ensures actions { map counts_of result.actions.now ≡ accounts.now.totals.actions }
+{
+    Numbers {
+        taken: accounts.taken(),
+        lost: lost(accounts),
+        held,
+        actions: accounts.actions(),
+    }
+}
+
+// The line of the messages.
+fn put_messages(text: &mut Vec<u8>, numbers: Numbers<'_>) -> Result<(), AllocError>
+    ensures { OnOk result (text.new.items
+        ≡ text.old.items ++ spec.messages_line numbers.entry.taken numbers.entry.lost numbers.entry.held) }
+{
+    let parts = [
+        Part::Text(b"taken "),
+        Part::Number(numbers.taken),
+        Part::Text(b" lost "),
+        Part::Sum(numbers.lost),
+        Part::Text(b" held "),
+        Part::Sum(numbers.held),
+        Part::Text(b"\n"),
+    ];
+    put_parts(text, &parts)
+}
+
+// What stands in the line of an action behind its name.
+fn put_counts(text: &mut Vec<u8>, due: u128, counts: ActionCounts) -> Result<(), AllocError>
+    ensures { OnOk result (text.new.items
+        ≡ text.old.items ++ spec.counts_text due counts.done counts.given_up counts.left) }
+{
+    let parts = [
+        Part::Text(b" due "),
+        Part::Sum(due),
+        Part::Text(b" done "),
+        Part::Number(counts.done),
+        Part::Text(b" given-up "),
+        Part::Number(counts.given_up),
+        Part::Text(b" left "),
+        Part::Number(counts.left),
+        Part::Text(b"\n"),
+    ];
+    put_parts(text, &parts)
+}
+
+// The line of an action, of which so many runs became due.
+fn put_line(
+    text: &mut Vec<u8>,
+    name: &[u8],
+    due: u128,
+    counts: ActionCounts,
+) -> Result<(), AllocError>
+    ensures { OnOk result (text.new.items
+        ≡ text.old.items ++ spec.line_with name.now due counts.done counts.given_up counts.left) }
+{
+    text.extend_from_slice(name)?;
+    put_counts(text, due, counts)
+}
+
+// The line of an action.
+#[tactic(auto, using(crate::proofs::Counted::line_of))]
+fn put_action(text: &mut Vec<u8>, name: &[u8], counts: ActionCounts) -> Result<(), AllocError>
+    ensures { OnOk result (text.new.items ≡ text.old.items ++ spec.action_line name.now (counts_of counts)) }
+{
+    put_line(text, name, counts.due(), counts)
+}
+
+// The lines of the actions, in their order.
+fn put_actions(
+    text: &mut Vec<u8>,
+    actions: &[Action],
+    counts: &[ActionCounts],
+) -> Result<(), AllocError>
+    ensures { OnOk result (text.new.items ≡ text.old.items ++ spec.action_lines actions.now (map counts_of counts.now)) }
+{
+    let mut place = 0;
+    for action in actions {
+        let Some(count) = counts.get(place) else {
+            return Ok(());
+        };
+        put_action(text, action.name.as_slice(), *count)?;
+        place += 1;
+    }
+    Ok(())
+}
+
+// Puts the totals of a relay with these actions behind a text.
+fn put_totals(
+    text: &mut Vec<u8>,
+    actions: &[Action],
+    numbers: Numbers<'_>,
+) -> Result<(), AllocError>
+    ensures { OnOk result (text.new.items ≡ text.old.items
+        ++ spec.counts_lines actions.now numbers.entry.taken numbers.entry.lost numbers.entry.held (map counts_of numbers.entry.actions.now)) }
+{
+    put_messages(text, numbers)?;
+    put_actions(text, actions, numbers.actions)
+}
+
+/// Writes the totals of a relay with these actions, and hands them on.
+pub fn write_totals<W: Sink>(
+    alloc: Global,
+    writer: &mut W,
+    actions: &[Action],
+    numbers: Numbers<'_>,
+) -> Result<(), TotalsFault>
+    ensures { OnOk result (Appends (W.contents writer.old) (W.contents writer.new)
+        (spec.counts_lines actions.now numbers.entry.taken numbers.entry.lost numbers.entry.held (map counts_of numbers.entry.actions.now))) }
+{
+    let mut text = Vec::new(alloc);
+    let Ok(()) = put_totals(&mut text, actions, numbers) else {
+        return Err(TotalsFault::NoMemory);
+    };
+    match send(writer, text.as_slice()) {
+        Ok(()) => Ok(()),
+        Err(_) => Err(TotalsFault::Write),
+    }
+}

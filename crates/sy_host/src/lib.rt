@@ -1,0 +1,8 @@
+//! A relay on the host: its ports and devices, what an operator is told, and how it ends.
+#![tactic(auto)]
+
+pub mod devices;
+pub mod ending;
+pub mod listening;
+pub mod log;
+pub mod serve;

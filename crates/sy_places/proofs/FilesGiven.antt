@@ -1,0 +1,38 @@
+-- The files of a site, one after the other.
+use Rattle.std.proofs.Common.{◌≡◌, ℕ, length, map, arith, List, [], ◌∷◌, ◌++◌, refl, sym, ap, subst, ◌∙◌}
+use Rattle.std.specs.Prelude.{IfSome, Option, string_bytes}
+use Rattle.sy_site.specs.texts.Describes.{File}
+use Rattle.sy_places.specs.declared.site_file.site.RelayFile.{RelayFile}
+use Rattle.std.proofs.lemmas.List.{append_assoc, append-nil, map_push}
+use Rattle.sy_places.specs.SiteFiles.{AreGiven}
+use Rattle.sy_places.specs.internal.Halts.{file_of}
+
+pub names_given : (files : List RelayFile) → map (λ (file : File). file.name) (map file_of files) ≡ map (λ (f : RelayFile). string_bytes f.name) files
+names_given [] = refl
+names_given (file ∷ files) = ap (λ names. string_bytes file.name ∷ names) (names_given files)
+
+-- names that a loop has gone through, and those that are left
+pub names_on : {A B : Type 0} (f : A → List ℕ) (g : B → List ℕ) (found new : List A) (file : A) (name : B) (rest rest' : List B) (all : List (List ℕ))
+    → new ≡ found ++ file ∷ [] → f file ≡ g name → rest ≡ name ∷ rest' → map f found ++ map g rest ≡ all → map f new ++ map g rest' ≡ all
+names_on f g found new file name rest rest' all is same more before =
+    ap (λ n. map f n ++ map g rest') is
+    ∙ ap (λ x. x ++ map g rest') (map_push f found file)
+    ∙ append_assoc (map f found) (f file ∷ []) (map g rest')
+    ∙ ap (λ n. map f found ++ n ∷ map g rest') same
+    ∙ ap (λ r. map f found ++ map g r) (sym more)
+    ∙ before
+
+pub names_end : {A B : Type 0} (f : A → List ℕ) (g : B → List ℕ) (found : List A) (rest : List B) (all : List (List ℕ)) → length rest ≡ 0
+    → map f found ++ map g rest ≡ all → map f found ≡ all
+names_end f g found [] all none same = sym (append-nil (map f found)) ∙ same
+names_end f g found (name ∷ rest) all none same = absurd (omega (arith, none))
+
+given_behind : (bytes_of : List ℕ → Option (List ℕ)) (files : List File) (file : File) → AreGiven bytes_of files
+    → IfSome (bytes_of file.name) (λ bytes. file.bytes ≡ bytes) → AreGiven bytes_of (files ++ file ∷ [])
+given_behind bytes_of [] file given is = (is, tt)
+given_behind bytes_of (f ∷ files) file given is = (given.0, given_behind bytes_of files file given.1 is)
+
+pub given_more : (bytes_of : List ℕ → Option (List ℕ)) (files : List RelayFile) (file : RelayFile) → AreGiven bytes_of (map file_of files)
+    → IfSome (bytes_of (string_bytes file.name)) (λ bytes. file.bytes.items ≡ bytes) → AreGiven bytes_of (map file_of (files ++ file ∷ []))
+given_more bytes_of files file given is =
+    subst (AreGiven bytes_of) (sym (map_push file_of files file)) (given_behind bytes_of (map file_of files) (file_of file) given is)

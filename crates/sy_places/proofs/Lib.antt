@@ -1,0 +1,3 @@
+pub mod FilesGiven
+pub mod Promised
+pub mod Unread

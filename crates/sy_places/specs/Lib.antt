@@ -1,0 +1,3 @@
+pub mod SiteFiles
+pub mod Halts
+pub mod internal

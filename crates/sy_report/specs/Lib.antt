@@ -1,0 +1,10 @@
+pub mod HaltTexts
+pub mod Memory
+pub mod Outcomes
+pub mod Reports
+pub mod Texts
+pub mod Words
+pub mod Commands
+pub mod Halts
+pub mod Parts
+pub mod internal

@@ -1,0 +1,4 @@
+//! The words of the command line.
+
+pub mod command;
+pub mod options;

@@ -1,0 +1,4 @@
+//! The files that a command reads.
+
+pub mod files;
+pub mod memory;

@@ -1,0 +1,7 @@
+//! What lines are made of, and the notes behind them.
+
+pub mod near;
+pub mod note;
+pub mod parts;
+pub mod reason;
+pub mod words;

@@ -1,0 +1,81 @@
+//! Words for people.
+
+use crate::texts::parts::{Part, put_parts};
+use std::alloc::{AllocError, Global};
+
+/// The digits of numbers to the base 16.
+pub const DIGITS: [&str; 16] = [
+    "0", "1", "2", "3", "4", "5", "6", "7", "8", "9", "a", "b", "c", "d", "e", "f",
+];
+
+// Whether a byte would end a line, or tell a terminal something.
+fn is_control(byte: u8) -> bool {
+    (byte < b' ' && byte != b'\t') || byte == 0x7f
+}
+
+/// Words that are put one behind the other. Where memory runs out the rest is left out, which the end tells.
+#[derive(Drop)]
+pub struct Words {
+    text: Vec<u8>,
+    is_cut: bool,
+}
+
+impl Words {
+    /// No words.
+    pub fn new(alloc: Global) -> Words {
+        Words {
+            text: Vec::new(alloc),
+            is_cut: false,
+        }
+    }
+
+    /// Puts parts one behind the other.
+    pub fn put(&mut self, parts: &[Part<'_>]) {
+        match put_parts(&mut self.text, parts) {
+            Ok(()) => {}
+            Err(_) => self.is_cut = true,
+        }
+    }
+
+    /// Puts words as they stand.
+    pub fn say(&mut self, words: &str) {
+        self.put(&[Part::Text(words.as_bytes())]);
+    }
+
+    /// Puts words that are of a file, in one line: control characters stand there as `\x0a`.
+    pub fn put_in_line(&mut self, words: &[u8]) {
+        for byte in words {
+            if is_control(*byte) {
+                self.say("\\x");
+                self.say(DIGITS[(*byte / 16) as usize]);
+                self.say(DIGITS[(*byte % 16) as usize]);
+            } else {
+                self.put(&[Part::Text(&[*byte])]);
+            }
+        }
+    }
+
+    /// Those that are there so far.
+    pub fn as_slice(&self) -> &[u8] {
+        self.text.as_slice()
+    }
+
+    /// Whether there are none.
+    pub fn is_empty(&self) -> bool {
+        self.text.is_empty()
+    }
+
+    /// Whether memory ran out, so that some were left out.
+    pub fn is_cut(&self) -> bool {
+        self.is_cut
+    }
+
+    /// All of them, or that memory ran out.
+    pub fn finish(self) -> Result<Vec<u8>, AllocError> {
+        let Words { text, is_cut } = self;
+        if is_cut {
+            return Err(AllocError);
+        }
+        Ok(text)
+    }
+}

@@ -1,0 +1,5 @@
+//! Writing to the streams of the program, and to memory.
+
+pub mod kept_text;
+pub mod output;
+pub mod outputs;

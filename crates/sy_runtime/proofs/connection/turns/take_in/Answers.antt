@@ -1,0 +1,12 @@
+use Rattle.std.proofs.Common.{refl}
+use Rattle.sy_runtime.proofs.Taken.{unsettled}
+use Rattle.sy_runtime.proofs.Turning.{rounded}
+use Rattle.sy_runtime.proofs.connection.turns.take_in.Goals as goal
+
+pub returns : goal.returns
+returns g c = record {
+  kept = λ read begun.
+      rounded _ _ _ read _ _ _ _ _ c.sum_up.ensures
+      (c.gather-stop.ensures.kept read c.args.end.now (unsettled read _ _ _ c.requires.empty begun)) c.put-put.ensures.kept c.put-put.ensures.all;
+  same = refl;
+}

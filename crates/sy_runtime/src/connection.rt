@@ -1,0 +1,10 @@
+//! What a connection does between its reader and the board.
+
+pub mod gathering;
+pub mod halt;
+pub mod makings;
+pub mod putting;
+pub mod reading;
+pub mod taking;
+pub mod turns;
+pub mod used;

@@ -1,0 +1,62 @@
+//! A batch goes into the board under the lock.
+ghost use Rattle.std.specs.Prelude.{◌≡◌, [], ℕ, List, OnOk};
+ghost use Rattle.sy_runtime.specs.internal.Halting.{BatchIs};
+ghost use Rattle.sy_runtime.specs.internal.Held.{Holds};
+
+use crate::connection::halt::Halt;
+use crate::connection::taking::{Hand, Pause, put_some};
+use crate::connection_end::ConnEnd;
+use crate::losing::tell_lost;
+use crate::shared::{Gate, Shared};
+use crate::waiting::{Waiting, wait_and_tell};
+use std::collections::VecDeque;
+use std::mem;
+use std::sync::Wait;
+use std::time::Clock;
+use sy_chain::Node;
+
+/// Puts a batch in, however long it waits. It looks whether the relay closes with an empty batch too.
+pub(crate) fn put<R: Wait + Clock, G: Gate>(
+    rt: &R,
+    shared: &Shared,
+    gate: &G,
+    hand: Hand,
+    batch: &mut VecDeque<Option<Node>>,
+    end: &mut ConnEnd,
+    is_in_hand: &mut bool,
+    used: &mut Vec<Node>,
+) -> Result<(), Halt>
+    ensures kept { (read left : List ℕ) → Holds read end.old batch.old.items left →
+        BatchIs result read end.new batch.new.items left }
+    ensures all { OnOk result (batch.new.items ≡ []) }
+{
+    let mut locked = shared.locked.lock(rt);
+    for _ in rt.forever() {
+        if !locked.takes(*is_in_hand) {
+            return Err(Halt::Closed);
+        }
+        let lost = locked.lost_in();
+        let Some(board) = locked.board.as_mut() else {
+            return Err(Halt::Closed);
+        };
+        match put_some(board, hand, batch, end, is_in_hand, used) {
+            Ok(()) => {
+                let lost = locked.lost_in().wrapping_sub(lost);
+                mem::swap(&mut locked.used, used);
+                drop(locked);
+                shared.work.notify_all();
+                tell_lost(gate, hand.input, lost);
+                return Ok(());
+            }
+            Err(Pause::Held(hold)) => {
+                shared.work.notify_all();
+                let lost = locked.lost_in().wrapping_sub(lost);
+                let waiting = Waiting { hand, hold, lost };
+                locked = wait_and_tell(rt, shared, gate, locked, waiting, is_in_hand);
+            }
+            Err(Pause::TotalsFull) => return Err(Halt::TotalsFull),
+            Err(Pause::Hands) => return Err(Halt::Hands),
+        }
+    }
+    unreachable!()
+}

@@ -1,0 +1,202 @@
+//! What a connection does with the board: messages come to a hand of its input, and go into the queue.
+ghost use Rattle.std.specs.Prelude.{◌≡◌, ◌+◌, ◌<◌, ◌∷◌, [], ℕ, List, Option, length, IfErr, IsTrue, OnErr, OnOk};
+ghost use Rattle.sy_board.specs.relay.Plans.{input_at};
+ghost use Rattle.sy_board.specs.relay.Steps.{IsHand, IsOfInput};
+ghost use Rattle.sy_chain.specs.Entries.{Entry as Kept};
+ghost use Rattle.sy_runtime.specs.internal.Held.{Holds};
+ghost use Rattle.sy_runtime.specs.internal.Taking.{Enters, IsLast, MayEnter, OnePut, PutIs, SomePut, Takes};
+
+use crate::connection::used::keep;
+use crate::connection_end::ConnEnd;
+use std::collections::VecDeque;
+use sy_board::{Board, BoardFault, Entry, Taken};
+use sy_chain::Node;
+use sy_marks::Hold;
+use sy_rules::Plan;
+use sy_rules::laws::plans_are_whole;
+
+/// A hand of an input, by their numbers.
+#[derive(Clone, Copy)]
+pub(crate) struct Hand {
+    pub(crate) input: u32,
+    pub(crate) number: u32,
+}
+
+/// Why a connection pauses or ends.
+#[derive(Clone, Copy)]
+pub(crate) enum Pause {
+    Held(Hold),
+    // a total, or a count of its own, would pass its limit
+    TotalsFull,
+    // the board has no such hand, or it isn't free
+    Hands,
+}
+
+/// Whether the board has this hand. Of a board that comes out of a lock no more is known than that it is one.
+pub(crate) fn has_hand(board: &Board, hand: Hand) -> bool
+    ensures { IsTrue result → IsHand board.now.plan hand.input hand.number }
+{
+    (hand.input as usize) < board.plan().inputs().len() && hand.number < 64
+}
+
+// The list that an input's messages follow.
+fn list_of(plan: &Plan, input: u32) -> u32
+    requires { input < length plan.now.inputs }
+    ensures list { result ≡ (input_at plan.now input).list }
+    ensures there { result < length plan.now.lists }
+{
+    plans_are_whole(plan);
+    plan.inputs()[input as usize].list
+}
+
+// Makes an entry one of that input: it follows the input's list, with all due that its message executes there.
+fn follow_input(plan: &Plan, input: u32, node: &mut Node)
+    requires { input < length plan.now.inputs }
+    ensures made { IsOfInput plan.now input node.new }
+    ensures message { node.new.message ≡ node.old.message }
+{
+    let list = list_of(plan, input);
+    let due = plan.due(list, node.message());
+    node.follow(list, input, due);
+}
+
+// A message comes to the hand; the answer is whether it stays there.
+fn take(board: &mut Board, hand: Hand, mut node: Node, used: &mut Vec<Node>) -> Result<bool, Pause>
+    requires { IsHand board.old.plan hand.input hand.number }
+    ensures ok { OnOk result (board.new.totals.taken ≡ board.old.totals.taken + 1) }
+    ensures message { OnOk result (Takes board.old hand node.message board.new) }
+    ensures err { OnErr result (board.new ≡ board.old) }
+    ensures last { IfErr result IsLast }
+    ensures plan { board.new.plan ≡ board.old.plan }
+{
+    follow_input(board.plan(), hand.input, &mut node);
+    match board.take(hand.input, hand.number, node) {
+        Ok(Taken::InHand) => Ok(true),
+        Ok(Taken::Discarded(node)) => {
+            // (refused, its memory goes)
+            keep(used, node);
+            Ok(false)
+        }
+        Err((_, BoardFault::TotalsFull)) => Err(Pause::TotalsFull),
+        Err((_, _)) => Err(Pause::Hands),
+    }
+}
+
+/// The hand's message goes into the queue, unless something holds it. The light-delay mark doesn't where it waited
+/// there long enough.
+pub(crate) fn enter(board: &mut Board, hand: Hand, has_waited: bool) -> Result<(), Pause>
+    requires { IsHand board.old.plan hand.input hand.number }
+    ensures ok { OnOk result (Enters board.old hand board.new) }
+    ensures err { OnErr result (board.new ≡ board.old) }
+    ensures taken { board.new.totals.taken ≡ board.old.totals.taken }
+    ensures plan { board.new.plan ≡ board.old.plan }
+{
+    if !has_waited {
+        let hold = board.gate(hand.input);
+        if hold != Hold::Clear {
+            return Err(Pause::Held(hold));
+        }
+    }
+    match board.enter(hand.input, hand.number) {
+        Ok(Entry::Entered) => Ok(()),
+        Ok(Entry::Held(hold)) => Err(Pause::Held(hold)),
+        Err(BoardFault::TotalsFull) => Err(Pause::TotalsFull),
+        Err(_) => Err(Pause::Hands),
+    }
+}
+
+// A message that was left in the hand goes on.
+fn enter_left(board: &mut Board, hand: Hand, is_in_hand: &mut bool) -> Result<(), Pause>
+    requires { IsHand board.old.plan hand.input hand.number }
+    ensures ok { OnOk result (MayEnter board.old hand board.new) }
+    ensures err { OnErr result (board.new ≡ board.old) }
+    ensures taken { board.new.totals.taken ≡ board.old.totals.taken }
+    ensures plan { board.new.plan ≡ board.old.plan }
+{
+    if !*is_in_hand {
+        return Ok(());
+    }
+    match enter(board, hand, false) {
+        Ok(()) => {
+            *is_in_hand = false;
+            Ok(())
+        }
+        Err(pause) => Err(pause),
+    }
+}
+
+// Takes one item: it is counted where it is no message, or once it was taken.
+#[tactic(auto, using(crate::proofs::Taken::took_one, crate::proofs::Taken::unread_one, crate::proofs::Taken::pauses, crate::proofs::Taken::ends_last, crate::proofs::Puts::item_put, crate::proofs::Puts::one_put, crate::proofs::Puts::last_put))]
+fn put_one(
+    board: &mut Board,
+    hand: Hand,
+    item: Option<Node>,
+    end: &mut ConnEnd,
+    is_in_hand: &mut bool,
+    used: &mut Vec<Node>,
+) -> Result<(), Pause>
+    requires { IsHand board.old.plan hand.input hand.number }
+    ensures kept { (read left : List ℕ) (later : List (Option Kept)) → Holds read end.old (item ∷ later) left →
+        PutIs result read end.new later left }
+    ensures put { OnePut result item board.old hand board.new }
+    ensures taken { board.new.totals.taken + end.old.took ≡ board.old.totals.taken + end.new.took }
+    ensures plan { board.new.plan ≡ board.old.plan }
+{
+    if end.is_full() {
+        return Err(Pause::TotalsFull);
+    }
+    let Some(node) = item else {
+        end.count_unread();
+        return Ok(());
+    };
+    let stays = match take(board, hand, node, used) {
+        Ok(stays) => stays,
+        Err(pause) => return Err(pause),
+    };
+    end.count_message();
+    if !stays {
+        return Ok(());
+    }
+    *is_in_hand = true;
+    match enter(board, hand, false) {
+        Ok(()) => {
+            *is_in_hand = false;
+            Ok(())
+        }
+        Err(pause) => Err(pause),
+    }
+}
+
+/// Takes a batch, item after item, up to where the connection has to pause. `is_in_hand` says whether its last
+/// message is still in the hand, where it goes on from there.
+#[tactic(auto, using(crate::proofs::Taken::pauses, crate::proofs::Taken::ends_now, crate::proofs::Puts::some_put, crate::proofs::Puts::first_put))]
+pub(crate) fn put_some(
+    board: &mut Board,
+    hand: Hand,
+    batch: &mut VecDeque<Option<Node>>,
+    end: &mut ConnEnd,
+    is_in_hand: &mut bool,
+    used: &mut Vec<Node>,
+) -> Result<(), Pause>
+    ensures kept { (read left : List ℕ) → Holds read end.old batch.old.items left →
+        PutIs result read end.new batch.new.items left }
+    ensures all { OnOk result (batch.new.items ≡ []) }
+    ensures put { SomePut result batch.old.items batch.new.items board.old hand board.new }
+    ensures taken { board.new.totals.taken + end.old.took ≡ board.old.totals.taken + end.new.took }
+    ensures plan { board.new.plan ≡ board.old.plan }
+{
+    if !has_hand(board, hand) {
+        return Err(Pause::Hands);
+    }
+    match enter_left(board, hand, is_in_hand) {
+        Ok(()) => {}
+        Err(pause) => return Err(pause),
+    }
+    while let Some(item) = batch.pop_front() {
+        match put_one(board, hand, item, end, is_in_hand, used) {
+            Ok(()) => {}
+            Err(pause) => return Err(pause),
+        }
+    }
+    Ok(())
+}

@@ -1,0 +1,210 @@
+//! The turns of a connection: a batch, and a read where no whole frame is left.
+ghost use Rattle.std.specs.Prelude.{◌≡◌, [], ℕ, List, Option, Err, IfSome, false};
+ghost use Rattle.sy_runtime.specs.Connections.{Begins, Connects};
+ghost use Rattle.sy_runtime.specs.internal.Turning.{nothing_counted, RoundIs, TurnIs, Turns, round_of};
+
+use crate::connection::gathering::{Gathered, gather};
+use crate::connection::halt::{Halt, answer_at};
+use crate::connection::makings::Makings;
+use crate::connection::putting::put;
+use crate::connection::reading::{Step, read_more};
+use crate::connection::taking::Hand;
+use crate::connection_end::{ConnEnd, Finish, Unread};
+use crate::fault::RunFault;
+use crate::shared::{Gate, Shared};
+use crate::waiting::wait_for_memory;
+use std::alloc::Global;
+use std::collections::VecDeque;
+use std::sync::Wait;
+use std::time::Clock;
+use sy_chain::Node;
+use sy_wire::{Framer, Source};
+
+/// How many frames are gathered before the lock is taken, at most.
+const BATCH: usize = 1024;
+
+/// What comes of a batch.
+#[derive(Clone, Copy)]
+pub(crate) enum Round {
+    // no whole frame is left
+    Reads,
+    Again,
+    NoMemory,
+    Over(Result<Finish, RunFault>),
+}
+
+/// What a connection works with.
+#[derive(Drop)]
+struct Intake {
+    framer: Framer,
+    // the text of a frame on its way into an entry
+    raw: Vec<u8>,
+    makings: Makings,
+    batch: VecDeque<Option<Node>>,
+    // whether the reader has ended
+    is_over: bool,
+    // whether a message is in the connection's hand
+    is_in_hand: bool,
+    first_unread: Option<Unread>,
+}
+
+impl Intake {
+    fn new(alloc: Global) -> Intake
+        ensures framer { result.framer ≡ record { left = []; has_failed = false } }
+        ensures batch { result.batch.items ≡ [] }
+        ensures is_over { result.is_over ≡ false }
+    {
+        Intake {
+            framer: Framer::new(alloc),
+            raw: Vec::new(alloc),
+            makings: Makings::new(alloc),
+            batch: VecDeque::new(alloc),
+            is_over: false,
+            is_in_hand: false,
+            first_unread: None,
+        }
+    }
+}
+
+// The first frame of a batch that carries no message, where so many were counted before it.
+fn frame_of(batch: &VecDeque<Option<Node>>, counted: u64) -> u64 {
+    let mut frame = counted;
+    for item in batch {
+        frame = frame.saturating_add(1);
+        if item.is_none() {
+            return frame;
+        }
+    }
+    frame
+}
+
+// The first frame that carries no message, where it isn't known yet and is in this batch.
+fn unread_of(makings: &Makings, batch: &VecDeque<Option<Node>>, end: &ConnEnd) -> Option<Unread> {
+    let fault = makings.fault?;
+    let frame = frame_of(batch, end.frames());
+    Some(Unread { frame, fault })
+}
+
+// What comes of a batch whose gathering ended so, and which was put so.
+fn sum_up(stop: Gathered, put: Result<(), Halt>) -> Round
+    ensures { result ≡ round_of stop put }
+{
+    match put {
+        Err(halt) => Round::Over(answer_at(halt, stop)),
+        Ok(()) => match stop {
+            Gathered::Open => Round::Reads,
+            Gathered::Full => Round::Again,
+            Gathered::NoMemory => Round::NoMemory,
+            Gathered::Fault(fault) => Round::Over(Err(RunFault::Frame(fault))),
+            Gathered::Lost => Round::Over(Err(RunFault::NoMemory)),
+        },
+    }
+}
+
+// Takes in whatever whole frames the framer holds, up to a batch.
+fn take_in<R: Wait + Clock, G: Gate>(
+    rt: &R,
+    alloc: Global,
+    shared: &Shared,
+    gate: &G,
+    hand: Hand,
+    intake: &mut Intake,
+    end: &mut ConnEnd,
+) -> Round
+    requires good { intake.old.framer.has_failed ≡ false }
+    requires empty { intake.old.batch.items ≡ [] }
+    ensures kept { (read : List ℕ) → Begins read end.old intake.old.framer.left →
+        RoundIs result read end.new intake.new.framer intake.new.batch.items }
+    ensures same { intake.new.is_over ≡ intake.old.is_over }
+{
+    let Intake {
+        framer,
+        raw,
+        makings,
+        batch,
+        is_in_hand,
+        first_unread,
+        ..
+    } = intake;
+    let stop = gather(alloc, framer, raw, makings, batch, BATCH);
+    if first_unread.is_none() {
+        *first_unread = unread_of(makings, batch, end);
+    }
+    let put = put(
+        rt,
+        shared,
+        gate,
+        hand,
+        batch,
+        end,
+        is_in_hand,
+        &mut makings.used,
+    );
+    sum_up(stop, put)
+}
+
+// Waits for memory; the answer where the relay closes.
+fn wait<R: Wait + Clock>(rt: &R, shared: &Shared) -> Option<Result<Finish, RunFault>>
+    ensures { IfSome result (λ answer. answer ≡ Err RunFault.NoMemory) }
+{
+    if wait_for_memory(rt, shared) {
+        None
+    } else {
+        Some(Err(RunFault::NoMemory))
+    }
+}
+
+// A batch, and a read where no whole frame is left; the answer where it is over.
+fn turn<R: Wait + Clock, G: Gate, S: Source>(
+    rt: &R,
+    alloc: Global,
+    shared: &Shared,
+    gate: &G,
+    hand: Hand,
+    reader: &mut S,
+    intake: &mut Intake,
+    end: &mut ConnEnd,
+) -> Option<Result<Finish, RunFault>>
+    requires turns { (ahead : Option (List ℕ)) × (failed : ℕ) ×
+        Turns ahead (S.remaining reader.old) failed (S.faults reader.old) end.old intake.old.framer intake.old.is_over intake.old.batch.items }
+    ensures kept { (ahead : Option (List ℕ)) (failed : ℕ) →
+        Turns ahead (S.remaining reader.old) failed (S.faults reader.old) end.old intake.old.framer intake.old.is_over intake.old.batch.items →
+        TurnIs result ahead (S.remaining reader.new) failed (S.faults reader.new) end.new intake.new.framer intake.new.is_over intake.new.batch.items }
+{
+    match take_in(rt, alloc, shared, gate, hand, intake, end) {
+        Round::Over(answer) => Some(answer),
+        Round::Again => None,
+        Round::NoMemory => wait(rt, shared),
+        Round::Reads => match read_more(reader, &mut intake.framer, &mut intake.is_over) {
+            Step::Over(answer) => Some(answer),
+            Step::GoesOn => None,
+            Step::NoMemory => wait(rt, shared),
+        },
+    }
+}
+
+/// Serves a connection that has a hand, which is given back with nothing in it, or kept with a message.
+pub(crate) fn serve<R: Wait + Clock, G: Gate, S: Source>(
+    rt: &R,
+    alloc: Global,
+    shared: &Shared,
+    gate: &G,
+    hand: Hand,
+    reader: &mut S,
+    end: &mut ConnEnd,
+) -> Result<Finish, RunFault>
+    requires { end.old ≡ nothing_counted }
+    ensures { Connects result end.new (S.remaining reader.old) (S.remaining reader.new) (S.faults reader.old) (S.faults reader.new) }
+{
+    let mut intake = Intake::new(alloc);
+    for _ in rt.forever() {
+        if let Some(answer) = turn(rt, alloc, shared, gate, hand, reader, &mut intake, end) {
+            if !intake.is_in_hand {
+                shared.locked.lock(rt).give_back(hand);
+            }
+            end.set_first_unread(intake.first_unread);
+            return answer;
+        }
+    }
+    unreachable!()
+}

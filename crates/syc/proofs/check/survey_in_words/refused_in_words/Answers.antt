@@ -1,0 +1,13 @@
+use Rattle.std.proofs.Common.{refl}
+use Rattle.syc.proofs.check.survey_in_words.refused_in_words.Goals as goal
+
+pub returns-in-Ok : goal.returns-in-Ok
+returns-in-Ok g c = record {
+  ok = record {
+    groups = c.in-Ok.ensures.groups;
+    is_survey = c.in-Ok.ensures.is_survey;
+    unsound = c.requires.unsound;
+    is_tally = c.in-Ok.ensures.is_tally;
+    refused = refl;
+  };
+}

@@ -1,5 +1,0 @@
-use Rattle.syc.proofs.Classes.{NoneBelow}
-use Rattle.syc.proofs.graph_class.class_named.Given as goal
-
-abbrev pub invariant-loop-number : goal.invariant-loop-number
-invariant-loop-number l = NoneBelow l.fn.name l.number

@@ -1,9 +1,0 @@
-use Rattle.std.proofs.lemmas.Result.{err_from_is_err_and}
-use Rattle.syc.proofs.Lines.{torn_text}
-use Rattle.syc.proofs.output.write_texts.Goals as goal
-
-pub returns-in_err-write_all-clause-torn : goal.returns-in_err-write_all-clause-torn
-returns-in_err-write_all-clause-torn g c =
-    let p = err_from_is_err_and c.from_residual.result c.from_residual.ensures.1 in
-    rw p.1 (torn_text _ _ _ (λ text. text.now) c.args.texts.now c.loop-text.text-index _ c.loop-text-test.true c.loop-text.invariant.wrote
-    c.in_err-write_all.ensures.torn)

@@ -1,5 +1,0 @@
-use Rattle.syc.proofs.Lineup.{GoesOn}
-use Rattle.syc.proofs.tally.lines_of.Given as goal
-
-abbrev pub invariant-loop-group : goal.invariant-loop-group
-invariant-loop-group l = GoesOn l.site l.groups l.group-index l.text.items

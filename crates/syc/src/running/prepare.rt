@@ -1,0 +1,162 @@
+//! What a relay needs to run: its site and, where that was checked, its guard.
+ghost use Rattle.std.specs.Prelude.{◌≡◌, ◌<◌, ◌≤◌, ℕ, List, Some, IfErr, IfOk, length, map, string_bytes};
+ghost use Rattle.sy_site.specs.Sites.{relay_named};
+ghost use Rattle.sy_site.specs.Finding.{IsTrueRefusal};
+ghost use Rattle.syc.specs.Prepared.{HasGuard, IsGuardOf, IsPrepared};
+ghost use Rattle.sy_places.specs.SiteFiles.{IsSiteOf};
+
+use crate::running::words::{RunWords, run_words};
+use crate::usage::refusal;
+use crate::wrong_words::refuse;
+use std::alloc::Global;
+use sy_board::Guard;
+use sy_checker::check_site;
+use sy_findings::verdicts::check::say_found;
+use sy_places::site_file::site::read_site;
+use sy_report::command_line::options::all_words;
+use sy_report::outcome::answer::print;
+use sy_report::outcome::halt::{status_of, tell};
+use sy_report::outcome::report::tell_texts;
+use sy_report::outcome::stop::out_of_memory;
+use sy_report::reading::files::Files;
+use sy_report::writing::outputs::Outputs;
+use sy_site::Site;
+use sy_site::finding::Refusal;
+use sy_wire::Sink;
+
+// Tells that the site has no relay of that name, and answers the exit status.
+fn no_relay<E: Sink>(errors: &mut E, name: &str) -> u8
+    ensures { result ≡ 2 }
+{
+    tell_texts(errors, &[b"syc: no relay ", name.as_bytes(), b"\n"]);
+    2
+}
+
+// The guard of a relay of a site that is sound, or why it isn't.
+fn guard_of(alloc: Global, site: &Site, relay: u32) -> Result<Guard, Refusal>
+    requires { relay < length site.now.relays }
+    ensures ok { IfOk result (λ guard. HasGuard site.now relay guard) }
+    ensures found { IfErr result (IsTrueRefusal site.now) }
+{
+    let accepted = match check_site(alloc, site) {
+        Ok(accepted) => accepted,
+        Err(why) => return Err(why),
+    };
+    match accepted.guard(alloc, relay) {
+        Ok(guard) => Ok(guard),
+        Err(_) => Err(Refusal::NoMemory),
+    }
+}
+
+// The guard of a relay, or the exit status where the site is refused, which is told.
+fn checked<W: Sink, E: Sink>(
+    alloc: Global,
+    site: &Site,
+    relay: u32,
+    out: &mut Outputs<W, E>,
+) -> Result<Guard, u8>
+    requires { relay < length site.now.relays }
+    ensures ok { IfOk result (λ guard. HasGuard site.now relay guard) }
+    ensures status { IfErr result (λ status. status ≤ 4) }
+{
+    match guard_of(alloc, site, relay) {
+        Ok(guard) => Ok(guard),
+        Err(why) => Err(print(say_found(alloc, site, why), out)),
+    }
+}
+
+// The site of that name and the number of its relay, or the exit status.
+#[tactic(auto, using(crate::proofs::Halted::at_most_four))]
+fn named<F: Files, E: Sink>(
+    alloc: Global,
+    words: RunWords<'_>,
+    files: &F,
+    errors: &mut E,
+) -> Result<(Site, u32), u8>
+    ensures site { IfOk result (λ found. (text : List ℕ) → F.bytes_of files.now words.entry.site.now ≡ Some text →
+        IsSiteOf (F.bytes_of files.now) text found.0) }
+    ensures relay { IfOk result (λ found. relay_named found.0.relays words.entry.relay.now ≡ Some found.1) }
+    ensures status { IfErr result (λ status. status ≤ 4) }
+{
+    let site = match read_site(alloc, files, words.site) {
+        Ok(site) => site,
+        Err(halt) => {
+            tell(errors, &halt);
+            return Err(status_of(&halt));
+        }
+    };
+    match site.relay_named(words.relay.as_bytes()) {
+        Some(relay) => Ok((site, relay)),
+        None => Err(no_relay(errors, words.relay)),
+    }
+}
+
+// The guard of a relay where the site is checked, or the exit status.
+fn guard_if<W: Sink, E: Sink>(
+    alloc: Global,
+    site: &Site,
+    relay: u32,
+    is_unchecked: bool,
+    out: &mut Outputs<W, E>,
+) -> Result<Option<Guard>, u8>
+    requires { relay < length site.now.relays }
+    ensures ok { IfOk result (IsGuardOf is_unchecked site.now relay) }
+    ensures status { IfErr result (λ status. status ≤ 4) }
+{
+    if is_unchecked {
+        return Ok(None);
+    }
+    match checked(alloc, site, relay, out) {
+        Ok(guard) => Ok(Some(guard)),
+        Err(status) => Err(status),
+    }
+}
+
+// What the words name.
+#[tactic(auto, using(sy_host::proofs::Named::is_there))]
+fn ready<F: Files, W: Sink, E: Sink>(
+    alloc: Global,
+    words: RunWords<'_>,
+    files: &F,
+    out: &mut Outputs<W, E>,
+) -> Result<(Site, u32, Option<Guard>), u8>
+    ensures site { IfOk result (λ found. (text : List ℕ) → F.bytes_of files.now words.entry.site.now ≡ Some text →
+        IsSiteOf (F.bytes_of files.now) text found.0) }
+    ensures relay { IfOk result (λ found. relay_named found.0.relays words.entry.relay.now ≡ Some found.1) }
+    ensures guard { IfOk result (λ found. IsGuardOf words.entry.is_unchecked found.0 found.1 found.2) }
+    ensures status { IfErr result (λ status. status ≤ 4) }
+{
+    let (site, relay) = match named(alloc, words, files, &mut out.errors) {
+        Ok(found) => found,
+        Err(status) => return Err(status),
+    };
+    match guard_if(alloc, &site, relay, words.is_unchecked, out) {
+        Ok(guard) => Ok((site, relay, guard)),
+        Err(status) => Err(status),
+    }
+}
+
+/// What the command that runs a relay needs: the site that the words name, the number of its relay, the relay's guard,
+/// where the site is checked and sound, and what the words say. With `--unchecked` among the words no check is made, and there is no guard. Else
+/// an exit status, and what is to be said of it is printed: 1 for a site that is refused, 2 for a faulty site, a relay that it doesn't have
+/// or other words (0 where they ask for help), 3 where memory runs out, and 4 where a read or write failed.
+pub fn prepare<'a, F: Files, W: Sink, E: Sink>(
+    alloc: Global,
+    args: &'a [String],
+    files: &F,
+    out: &mut Outputs<W, E>,
+) -> Result<(Site, u32, Option<Guard>, RunWords<'a>), u8>
+    ensures ok { IfOk result (λ found. IsPrepared (F.bytes_of files.now) (map string_bytes args.now) found.0 found.1 found.2 found.3) }
+    ensures status { IfErr result (λ status. status ≤ 4) }
+{
+    let Ok(words) = all_words(alloc, args) else {
+        return Err(out_of_memory(&mut out.errors));
+    };
+    match run_words(words.as_slice()) {
+        Some(found) => match ready(alloc, found, files, out) {
+            Ok((site, relay, guard)) => Ok((site, relay, guard, found)),
+            Err(status) => Err(status),
+        },
+        None => Err(refuse(alloc, out, &refusal(alloc, words.as_slice()))),
+    }
+}

@@ -1,0 +1,204 @@
+//! The words of the command that runs a relay.
+ghost use Rattle.std.specs.Prelude.{◌≡◌, ℕ, List, ◌∷◌, codes, map, true, IfSome};
+ghost use Rattle.syc.specs.Words.{AreRunOf, IsSeconds};
+ghost use Rattle.sy_report.specs.Words.{is_plain as is_plain_word};
+ghost use Rattle.syc.specs.internal.Commands.{AreArgs};
+ghost use Rattle.syc.specs.Commands.{IsRun, options_of};
+
+use sy_report::command_line::command::{is_plain, is_word};
+
+/// The longest time that may be given, in seconds: a day.
+const MOST_SECONDS: u32 = 86400;
+
+/// How many digits it has.
+const DIGITS: usize = 5;
+
+/// How many words may stand behind that of the command: two names, and each option with what belongs to it.
+const MOST_WORDS: usize = 7;
+
+/// What the words of that command say.
+#[derive(Clone, Copy)]
+pub struct RunWords<'a> {
+    /// the name of the site file
+    pub site: &'a str,
+    /// the name of the relay
+    pub relay: &'a str,
+    /// whether the site isn't to be checked
+    pub is_unchecked: bool,
+    /// the name of the file for what is left
+    pub left: Option<&'a str>,
+    /// for how many seconds the relay may empty before it stops
+    pub drain: Option<u32>,
+}
+
+// What words say that stand behind some of them.
+#[derive(Clone, Copy)]
+struct Args<'a> {
+    first: Option<&'a str>,
+    second: Option<&'a str>,
+    is_unchecked: bool,
+    left: Option<&'a str>,
+    drain: Option<u32>,
+}
+
+// The number that digits make, as far as it is a time that may be given.
+fn seconds(word: &[u8]) -> Option<u32>
+    ensures { IfSome result (IsSeconds word.now) }
+{
+    if word.is_empty() || word.len() > DIGITS {
+        return None;
+    }
+    let mut number: u32 = 0;
+    for digit in word {
+        if !digit.is_ascii_digit() {
+            return None;
+        }
+        number = number * 10 + u32::from(*digit - b'0');
+    }
+    if number > MOST_SECONDS {
+        return None;
+    }
+    Some(number)
+}
+
+// One name more, in front of these.
+fn with_name<'a>(word: &'a str, args: Args<'a>) -> Option<Args<'a>>
+    requires { is_plain_word word.now ≡ true }
+    ensures { IfSome result (λ found. (words : List (List ℕ)) → AreArgs words args.entry → AreArgs (word.entry.now ∷ words) found) }
+{
+    if args.second.is_some() {
+        return None;
+    }
+    Some(Args {
+        first: Some(word),
+        second: args.first,
+        ..args
+    })
+}
+
+fn with_unchecked<'a>(args: Args<'a>) -> Option<Args<'a>>
+    ensures { IfSome result (λ found. (words : List (List ℕ)) → AreArgs words args.entry → AreArgs (codes "--unchecked" ∷ words) found) }
+{
+    if args.is_unchecked {
+        return None;
+    }
+    Some(Args {
+        is_unchecked: true,
+        ..args
+    })
+}
+
+fn with_left<'a>(file: &'a str, args: Args<'a>) -> Option<Args<'a>>
+    ensures { IfSome result (λ found. (words : List (List ℕ)) → AreArgs words args.entry → AreArgs (codes "--left" ∷ file.entry.now ∷ words) found) }
+{
+    if args.left.is_some() {
+        return None;
+    }
+    if !is_plain(file) {
+        return None;
+    }
+    Some(Args {
+        left: Some(file),
+        ..args
+    })
+}
+
+fn with_drain<'a>(word: &'a str, args: Args<'a>) -> Option<Args<'a>>
+    ensures { IfSome result (λ found. (words : List (List ℕ)) → AreArgs words args.entry → AreArgs (codes "--drain" ∷ word.entry.now ∷ words) found) }
+{
+    if args.drain.is_some() {
+        return None;
+    }
+    let seconds = seconds(word.as_bytes())?;
+    Some(Args {
+        drain: Some(seconds),
+        ..args
+    })
+}
+
+// One option more, in front of these, with the word that belongs to it.
+fn with_value<'a>(option: &str, value: &'a str, args: Args<'a>) -> Option<Args<'a>>
+    ensures { IfSome result (λ found. (words : List (List ℕ)) → AreArgs words args.entry → AreArgs (option.now ∷ value.entry.now ∷ words) found) }
+{
+    if is_word(option, "--left") {
+        with_left(value, args)
+    } else if is_word(option, "--drain") {
+        with_drain(value, args)
+    } else {
+        None
+    }
+}
+
+// What words say behind that of the command.
+fn args_of<'a>(words: &[&'a str]) -> Option<Args<'a>>
+    ensures { IfSome result (AreArgs (map (λ s. s.now) words.now)) }
+{
+    match words {
+        [] => Some(Args {
+            first: None,
+            second: None,
+            is_unchecked: false,
+            left: None,
+            drain: None,
+        }),
+        [word, rest @ ..] => {
+            if is_plain(word) {
+                return with_name(word, args_of(rest)?);
+            }
+            if is_word(word, "--unchecked") {
+                return with_unchecked(args_of(rest)?);
+            }
+            match rest {
+                [value, rest @ ..] => with_value(word, value, args_of(rest)?),
+                [] => None,
+            }
+        }
+    }
+}
+
+// What stands behind the word of the command: two names, with options at any place.
+fn behind<'a>(words: &[&'a str]) -> Option<RunWords<'a>>
+    ensures { IfSome result (λ found. AreRunOf (options_of found) (codes "run" ∷ map (λ s. s.now) words.now) found.site.now found.relay.now) }
+{
+    if words.len() > MOST_WORDS {
+        return None;
+    }
+    let Args {
+        first,
+        second,
+        is_unchecked,
+        left,
+        drain,
+    } = args_of(words)?;
+    Some(RunWords {
+        site: first?,
+        relay: second?,
+        is_unchecked,
+        left,
+        drain,
+    })
+}
+
+/// What the words say, the program's name being the first of them, where they are those of that command.
+pub fn run_words<'a>(words: &[&'a str]) -> Option<RunWords<'a>>
+    ensures { IfSome result (IsRun (map (λ s. s.now) words.now)) }
+{
+    match words {
+        [program, command, rest @ ..] => {
+            if is_word(program, "syc") && is_word(command, "run") {
+                behind(rest)
+            } else {
+                None
+            }
+        }
+        _ => None,
+    }
+}
+
+/// Whether the words, those after the program's name, begin with that command.
+pub fn is_run(args: &[String]) -> bool {
+    match args.first() {
+        Some(word) => is_word(word.as_str(), "run"),
+        None => false,
+    }
+}
