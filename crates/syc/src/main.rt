@@ -1,7 +1,7 @@
 //! The program `syc`.
 #![tactic(auto)]
 
-ghost use Rattle.std.specs.Prelude.{◌≡◌, ◌<◌, IfSome, length};
+ghost use Rattle.std.specs.Prelude.{◌≡◌, ◌<◌, IfOk, IfSome, length};
 ghost use Rattle.sy_board.specs.relay.Guards.{MayGuard};
 ghost use Rattle.sy_site.specs.Sites.{plan_at};
 
@@ -288,16 +288,28 @@ fn store_of(rt: HostRuntime, name: Option<&str>) -> Result<Option<LeftFile>, All
     }
 }
 
+// A device for each of a relay's actions, in their order.
+fn devices_of(
+    host: HostRuntime,
+    alloc: Global,
+    outlets: &[Outlet<'_>],
+    signals: &Signals,
+    log: &Arc<Log>,
+) -> Result<Vec<HostDevice>, OpenFault>
+    ensures { IfOk result (λ devices. length devices.items ≡ length outlets.now) }
+{
+    let mut devices = Vec::new(alloc);
+    for outlet in outlets {
+        let device = device_of(host, alloc, *outlet, signals, log, devices.len())?;
+        let Ok(()) = devices.push(device) else {
+            return Err(OpenFault::NoMemory);
+        };
+    }
+    Ok(devices)
+}
+
 // Makes the devices of a relay's actions, and serves it with the process's own streams.
-fn serve_on<
-    R: Threads
-        + Wait
-        + Clock
-        + Net<Listener = TcpListener, Stream = TcpStream>
-        + Copy
-        + Send
-        + 'static,
->(
+fn serve_on<R>(
     rt: R,
     host: HostRuntime,
     site: &Site,
@@ -307,6 +319,9 @@ fn serve_on<
     with: &With,
     mut out: HostOutputs,
 ) -> u8
+where
+    R: Threads + Wait + Clock + Copy + Send + 'static,
+    R: Net<Listener = TcpListener, Stream = TcpStream>,
     requires exists { relay < length site.now.relays }
     requires guard { IfSome guard (λ pairs. MayGuard (plan_at site.now relay) pairs) }
     requires outlets { length outlets.now ≡ length (plan_at site.now relay).actions }
@@ -318,16 +333,10 @@ fn serve_on<
     let Ok(log) = Log::new(alloc, site.plan(relay)) else {
         return stop::out_of_memory(&mut out.errors);
     };
-    let mut devices = Vec::new(alloc);
-    for outlet in outlets {
-        let device = match device_of(host, alloc, *outlet, &signals, &log, devices.len()) {
-            Ok(device) => device,
-            Err(fault) => return no_devices(&mut out.errors, fault),
-        };
-        let Ok(()) = devices.push(device) else {
-            return stop::out_of_memory(&mut out.errors);
-        };
-    }
+    let devices = match devices_of(host, alloc, outlets, &signals, &log) {
+        Ok(devices) => devices,
+        Err(fault) => return no_devices(&mut out.errors, fault),
+    };
     let Signals { is_ending, reopens } = signals;
     let served = Served {
         site,
