@@ -20,6 +20,7 @@ use crate::log::telling::{end_telling, start_telling};
 use crate::log::{Log, LogGate};
 use std::alloc::{AllocError, Global};
 use std::collections::VecDeque;
+use std::mem;
 use std::net::{Net, TcpListener, TcpStream};
 use std::sync::atomic::{AtomicBool, AtomicU64};
 use std::sync::{Arc, Wait};
@@ -246,6 +247,89 @@ fn finish<R: Wait, T: Store, W: Sink, E: Sink + Drop>(
     }
 }
 
+// Serves a relay that was started, with its workers, until there is nothing more to read.
+fn serve_started<R, T: Store, S: Source, W: Sink, E: Sink + Drop + Send + 'static>(
+    rt: R,
+    alloc: Global,
+    run: (Relay<LogGate>, Workers),
+    served: Served<'_>,
+    all: Vec<Listening>,
+    store: Option<&T>,
+    reader: &mut S,
+    writer: &mut W,
+    serving: &Arc<Serving<E>>,
+) -> u8
+where
+    R: Threads + Wait + Clock + Copy + Send + 'static,
+    R: Net<Listener = TcpListener, Stream = TcpStream>,
+    requires exists { served.relay < length served.site.now.relays }
+    ensures status { result ≤ 4 }
+    ensures done { result ≡ 0 → EndsWithTotals (plan_at served.site.now served.relay).actions run.0
+        (W.contents writer.old) (W.contents writer.new) }
+{
+    let (relay, workers) = run;
+    let plan = served.site.plan(served.relay);
+    let address = served.site.address(served.relay);
+    let (actions, reopens) = (plan.actions(), &served.reopens);
+    let is_accepting = match relay.try_clone() {
+        Ok(theirs) => accept_for(rt, alloc, theirs, all, reader, actions, reopens, serving),
+        Err(_) => false,
+    };
+    end_loops(&rt, serving, address, plan.inputs());
+    half_close(&rt, serving);
+    if let Some(seconds) = served.drain {
+        relay.drain(&rt, Duration::from_secs(u64::from(seconds)));
+    }
+    relay.close(&rt);
+    let ends = end_connections(rt, alloc, serving, &served.is_ending);
+    let answer = relay.stop(&rt, workers, ends);
+    end_telling(&rt, serving);
+    if !is_accepting {
+        return out_of_memory(&rt, serving);
+    }
+    finish(&rt, alloc, serving, store, writer, actions, answer)
+}
+
+// Starts a relay that listens, and serves it.
+// (Boxes are made here, and in no function that takes or hands one out: its contract might say nothing.)
+fn serve_at<R, T: Store, S: Source, W: Sink, E: Sink + Drop + Send + 'static>(
+    rt: R,
+    alloc: Global,
+    mut served: Served<'_>,
+    all: Vec<Listening>,
+    store: Option<&T>,
+    reader: &mut S,
+    writer: &mut W,
+    serving: &Arc<Serving<E>>,
+) -> u8
+where
+    R: Threads + Wait + Clock + Copy + Send + 'static,
+    R: Net<Listener = TcpListener, Stream = TcpStream>,
+    requires exists { served.relay < length served.site.now.relays }
+    requires guard { IfSome served.guard (λ pairs. MayGuard (plan_at served.site.now served.relay) pairs) }
+    requires devices { length served.devices.items ≡ length (plan_at served.site.now served.relay).actions }
+    ensures status { result ≤ 4 }
+    ensures done { result ≡ 0 → EndsWithTotals (plan_at served.entry.site.now served.entry.relay).actions served.entry.guard
+        (W.contents writer.old) (W.contents writer.new) }
+{
+    let mut boxes: Vec<BoxedDevice> = Vec::new(alloc);
+    let mut left = VecDeque::from(mem::replace(&mut served.devices, Vec::new(alloc)));
+    while let Some(device) = left.pop_front() {
+        let Ok(device) = Box::new(alloc, device) else {
+            return out_of_memory(&rt, serving);
+        };
+        let Ok(()) = boxes.push(device) else {
+            return out_of_memory(&rt, serving);
+        };
+    }
+    let plan = served.site.plan(served.relay);
+    let guard = served.guard.take();
+    let Ok(run) = start(rt, alloc, plan, guard, boxes, serving.log()) else {
+        return out_of_memory(&rt, serving);
+    };
+    serve_started(rt, alloc, run, served, all, store, reader, writer, serving)
+}
+
 /// Serves a relay until there is nothing more to read: listens at the ports of its inputs, takes the messages of what
 /// connects there, and prints what happens. Then it ends within seconds, whatever its peers do, and prints the totals. It
 /// answers the exit status: 0 where the totals that were printed agree with what its threads counted, 3 where memory runs out, and 4
@@ -279,59 +363,11 @@ pub fn serve<
     ensures done { result ≡ 0 → EndsWithTotals (plan_at served.entry.site.now served.entry.relay).actions served.entry.guard
         (W.contents writer.old) (W.contents writer.new) }
 {
-    let Served {
-        site,
-        relay,
-        guard,
-        devices,
-        is_ending,
-        reopens,
-        drain,
-    } = served;
-    let plan = site.plan(relay);
+    let plan = served.site.plan(served.relay);
     plans_are_whole(plan);
-    let address = site.address(relay);
-    let all = match listen_all(&rt, alloc, address, plan.inputs()) {
-        Ok(all) => all,
-        Err(fault) => return listen_failed(&rt, serving, fault),
-    };
-    let mut boxes: Vec<BoxedDevice> = Vec::new(alloc);
-    let mut left = VecDeque::from(devices);
-    while let Some(device) = left.pop_front() {
-        let Ok(device) = Box::new(alloc, device) else {
-            return out_of_memory(&rt, serving);
-        };
-        let Ok(()) = boxes.push(device) else {
-            return out_of_memory(&rt, serving);
-        };
+    let address = served.site.address(served.relay);
+    match listen_all(&rt, alloc, address, plan.inputs()) {
+        Ok(all) => serve_at(rt, alloc, served, all, store, reader, writer, serving),
+        Err(fault) => listen_failed(&rt, serving, fault),
     }
-    let Ok((relay, workers)) = start(rt, alloc, plan, guard, boxes, serving.log()) else {
-        return out_of_memory(&rt, serving);
-    };
-    let is_accepting = match relay.try_clone() {
-        Ok(theirs) => accept_for(
-            rt,
-            alloc,
-            theirs,
-            all,
-            reader,
-            plan.actions(),
-            &reopens,
-            serving,
-        ),
-        Err(_) => false,
-    };
-    end_loops(&rt, serving, address, plan.inputs());
-    half_close(&rt, serving);
-    if let Some(seconds) = drain {
-        relay.drain(&rt, Duration::from_secs(u64::from(seconds)));
-    }
-    relay.close(&rt);
-    let ends = end_connections(rt, alloc, serving, &is_ending);
-    let answer = relay.stop(&rt, workers, ends);
-    end_telling(&rt, serving);
-    if !is_accepting {
-        return out_of_memory(&rt, serving);
-    }
-    finish(&rt, alloc, serving, store, writer, plan.actions(), answer)
 }

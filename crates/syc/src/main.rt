@@ -1,7 +1,7 @@
 //! The program `syc`.
 #![tactic(auto)]
 
-ghost use Rattle.std.specs.Prelude.{◌≡◌, ◌<◌, IfSome, length};
+ghost use Rattle.std.specs.Prelude.{◌≡◌, ◌<◌, IfOk, IfSome, length};
 ghost use Rattle.sy_board.specs.relay.Guards.{MayGuard};
 ghost use Rattle.sy_site.specs.Sites.{plan_at};
 
@@ -40,6 +40,7 @@ use sy_host::ending::left_file::LeftFile;
 use sy_host::listening::serving::Serving;
 use sy_host::log::{ActionLog, Log};
 use sy_host::serve::{Served, serve};
+use sy_report::outcome::stop;
 use sy_report::reading::files::HostFiles;
 use sy_report::writing::outputs::Outputs;
 use sy_site::Site;
@@ -73,10 +74,10 @@ fn main(rt: HostRuntime) -> ExitCode {
     };
     let _taken = take_closed_streams(&rt);
     let Ok(outlets) = outlets(alloc, &site, relay) else {
-        return ExitCode::from(sy_report::outcome::stop::out_of_memory(&mut out.errors));
+        return ExitCode::from(stop::out_of_memory(&mut out.errors));
     };
     let Ok(store) = store_of(rt, found.left) else {
-        return ExitCode::from(sy_report::outcome::stop::out_of_memory(&mut out.errors));
+        return ExitCode::from(stop::out_of_memory(&mut out.errors));
     };
     let with = With {
         drain: found.drain,
@@ -89,18 +90,18 @@ fn main(rt: HostRuntime) -> ExitCode {
 fn begin(rt: &HostRuntime) -> Result<(Vec<String>, HostOutputs), u8> {
     let alloc = rt.alloc();
     let Ok(errors) = BufWriter::with_capacity(alloc, ERROR_BUFFER, rt.stderr()) else {
-        return Err(sy_report::outcome::stop::out_of_memory(&mut FromWrite::new(rt.stderr())));
+        return Err(stop::out_of_memory(&mut FromWrite::new(rt.stderr())));
     };
     let mut errors = FromWrite::new(errors);
     let Ok(args) = env::args(rt) else {
-        return Err(sy_report::outcome::stop::out_of_memory(&mut errors));
+        return Err(stop::out_of_memory(&mut errors));
     };
     let Ok(words) = args.skip(1).collect::<Vec<String>>(alloc) else {
-        return Err(sy_report::outcome::stop::out_of_memory(&mut errors));
+        return Err(stop::out_of_memory(&mut errors));
     };
     let stdout = FromWrite::new(rt.stdout());
     let Ok(writer) = Buffered::with_capacity(alloc, OUTPUT_BUFFER, stdout) else {
-        return Err(sy_report::outcome::stop::out_of_memory(&mut errors));
+        return Err(stop::out_of_memory(&mut errors));
     };
     Ok((words, Outputs { writer, errors }))
 }
@@ -114,8 +115,8 @@ fn start(rt: &HostRuntime, words: &[String], out: &mut HostOutputs) -> u8 {
 // Tells why there are no devices, and answers the exit status.
 fn no_devices<E: Sink>(errors: &mut E, fault: OpenFault) -> u8 {
     match fault {
-        OpenFault::Write => sy_report::outcome::stop::write_failed(errors),
-        OpenFault::NoMemory => sy_report::outcome::stop::out_of_memory(errors),
+        OpenFault::Write => stop::write_failed(errors),
+        OpenFault::NoMemory => stop::out_of_memory(errors),
     }
 }
 
@@ -170,16 +171,28 @@ fn store_of(rt: HostRuntime, name: Option<&str>) -> Result<Option<LeftFile>, All
     }
 }
 
+// A device for each of a relay's actions, in their order.
+fn devices_of(
+    host: HostRuntime,
+    alloc: Global,
+    outlets: &[Outlet<'_>],
+    signals: &Signals,
+    log: &Arc<Log>,
+) -> Result<Vec<HostDevice>, OpenFault>
+    ensures { IfOk result (λ devices. length devices.items ≡ length outlets.now) }
+{
+    let mut devices = Vec::new(alloc);
+    for outlet in outlets {
+        let device = device_of(host, alloc, *outlet, signals, log, devices.len())?;
+        let Ok(()) = devices.push(device) else {
+            return Err(OpenFault::NoMemory);
+        };
+    }
+    Ok(devices)
+}
+
 // Makes the devices of a relay's actions, and serves it with the process's own streams.
-fn serve_on<
-    R: Threads
-        + Wait
-        + Clock
-        + Net<Listener = TcpListener, Stream = TcpStream>
-        + Copy
-        + Send
-        + 'static,
->(
+fn serve_on<R>(
     rt: R,
     host: HostRuntime,
     site: &Site,
@@ -189,27 +202,24 @@ fn serve_on<
     with: &With,
     mut out: HostOutputs,
 ) -> u8
+where
+    R: Threads + Wait + Clock + Copy + Send + 'static,
+    R: Net<Listener = TcpListener, Stream = TcpStream>,
     requires exists { relay < length site.now.relays }
     requires guard { IfSome guard (λ pairs. MayGuard (plan_at site.now relay) pairs) }
     requires outlets { length outlets.now ≡ length (plan_at site.now relay).actions }
 {
     let alloc = host.alloc();
     let Some(signals) = Signals::new(alloc) else {
-        return sy_report::outcome::stop::out_of_memory(&mut out.errors);
+        return stop::out_of_memory(&mut out.errors);
     };
     let Ok(log) = Log::new(alloc, site.plan(relay)) else {
-        return sy_report::outcome::stop::out_of_memory(&mut out.errors);
+        return stop::out_of_memory(&mut out.errors);
     };
-    let mut devices = Vec::new(alloc);
-    for outlet in outlets {
-        let device = match device_of(host, alloc, *outlet, &signals, &log, devices.len()) {
-            Ok(device) => device,
-            Err(fault) => return no_devices(&mut out.errors, fault),
-        };
-        let Ok(()) = devices.push(device) else {
-            return sy_report::outcome::stop::out_of_memory(&mut out.errors);
-        };
-    }
+    let devices = match devices_of(host, alloc, outlets, &signals, &log) {
+        Ok(devices) => devices,
+        Err(fault) => return no_devices(&mut out.errors, fault),
+    };
     let Signals { is_ending, reopens } = signals;
     let served = Served {
         site,

@@ -1,4 +1,7 @@
 //! Sinks whose writer fails.
+mod flushes;
+mod refused;
+
 use crate::chain::message;
 use std::alloc::{AllocError, Global};
 use std::io::{self, ErrorKind, Write};
@@ -6,7 +9,7 @@ use std::process::Abort;
 use std::sync::Arc;
 use std::test::Fail;
 use sy_actions::{Device, FrameSink, LineSink};
-use sy_wire::{Buffered, FromWrite, Message};
+use sy_wire::{FromWrite, Message};
 
 pub(super) const A: &[u8] = b"<34>1 - - - - - -";
 
@@ -386,106 +389,5 @@ fn frames_in_one_write(alloc: Global) -> Result<bool, AllocError> {
 #[test]
 fn each_message_in_one_write(rt: HostRuntime) -> Result<(), Fail> {
     assert!(rt; lines_in_one_write(rt.alloc())? && frames_in_one_write(rt.alloc())?);
-    Ok(())
-}
-
-/// After how many bytes the writer below a buffer fails, at how many writes; whether two flushes succeed; and the bytes
-/// in the end.
-type Flushes<'a> = (usize, u32, [bool; 2], &'a [u8]);
-
-static LINE_FLUSHES: [Flushes; 3] = [
-    (0, 0, [true, true], LINES),
-    (10, 1, [false, true], LINES),
-    (10, 2, [false, false], b"<34>1 - - "),
-];
-
-static FRAME_FLUSHES: [Flushes; 3] = [
-    (0, 0, [true, true], FRAMES),
-    (10, 1, [false, true], FRAMES),
-    (10, 2, [false, false], b"17 <34>1 -"),
-];
-
-// Lines are taken by a buffer whose writer fails, and what a flush hands on reaches the writer.
-fn flushes_lines(alloc: Global, row: &Flushes) -> Result<bool, AllocError> {
-    let mut writer = Torn::new(alloc, row.0, row.1);
-    let mut sink = LineSink::new(alloc, Buffered::with_capacity(alloc, 100, &mut writer)?);
-    let taken = are_answered(alloc, &mut sink, ALL);
-    let answers = [sink.flush().is_ok(), sink.flush().is_ok()];
-    drop(sink);
-    let is_written = holds(writer, row.3);
-    Ok(taken? && answers == row.2 && is_written)
-}
-
-fn flushes_frames(alloc: Global, row: &Flushes) -> Result<bool, AllocError> {
-    let mut writer = Torn::new(alloc, row.0, row.1);
-    let mut sink = FrameSink::new(alloc, Buffered::with_capacity(alloc, 100, &mut writer)?);
-    let taken = are_answered(alloc, &mut sink, ALL);
-    let answers = [sink.flush().is_ok(), sink.flush().is_ok()];
-    drop(sink);
-    let is_written = holds(writer, row.3);
-    Ok(taken? && answers == row.2 && is_written)
-}
-
-#[test]
-fn flushes_of_a_buffer_below(rt: HostRuntime) -> Result<(), Fail> {
-    for row in &LINE_FLUSHES {
-        assert!(rt; flushes_lines(rt.alloc(), row)?);
-    }
-    for row in &FRAME_FLUSHES {
-        assert!(rt; flushes_frames(rt.alloc(), row)?);
-    }
-    Ok(())
-}
-
-// Offers a message, and again where memory was refused. Whether the last answer is this one: 0, or the fault's number.
-fn ends_with(device: &mut impl Device, message: &Arc<Message>, wanted: u8) -> bool {
-    let first = offered(device, message);
-    if first == 93 {
-        offered(device, message) == wanted
-    } else {
-        first == wanted
-    }
-}
-
-#[test]
-fn lines_where_memory_is_refused(rt: HostRuntime) -> Result<(), Fail> {
-    let alloc = rt.alloc();
-    let (a, b, c) = (read(alloc, A)?, read(alloc, B)?, read(alloc, C)?);
-    let mut sink = LineSink::new(alloc, Torn::into(Vec::with_capacity(alloc, 100)?, 0, 0));
-    assert!(rt;
-        ends_with(&mut sink, &a, 0) && ends_with(&mut sink, &b, 0) && ends_with(&mut sink, &c, 0)
-    );
-    assert_eq!(rt; taken(sink.into_writer()).as_slice(), LINES);
-    Ok(())
-}
-
-// Where the sink finds no memory for a line, another that was torn is ended, and the message that it was of begins anew.
-#[test]
-fn a_line_after_a_torn_one_where_memory_is_refused(rt: HostRuntime) -> Result<(), Fail> {
-    let alloc = rt.alloc();
-    let (a, c) = (read(alloc, A)?, read(alloc, C)?);
-    let mut sink = LineSink::new(alloc, Torn::into(Vec::with_capacity(alloc, 100)?, 10, 1));
-    assert!(rt; ends_with(&mut sink, &a, 91));
-    let wanted: &[u8] = if offered(&mut sink, &c) == 93 {
-        b"<34>1 - - \n<34>1 - - - - - -\n"
-    } else {
-        b"<34>1 - - \n<191>1 - - - - - - c\n<34>1 - - - - - -\n"
-    };
-    assert!(rt; ends_with(&mut sink, &a, 0));
-    assert_eq!(rt; taken(sink.into_writer()).as_slice(), wanted);
-    Ok(())
-}
-
-// A sink of frames finds another way where there is no memory, and takes each message all the same.
-#[test]
-fn frames_where_memory_is_refused(rt: HostRuntime) -> Result<(), Fail> {
-    let alloc = rt.alloc();
-    let (a, b, c) = (read(alloc, A)?, read(alloc, B)?, read(alloc, C)?);
-    let mut sink = FrameSink::new(alloc, Torn::into(Vec::with_capacity(alloc, 100)?, 0, 0));
-    assert!(rt;
-        offered(&mut sink, &a) == 0 && offered(&mut sink, &b) == 0 && offered(&mut sink, &c) == 0
-    );
-    let old = sink.renew(Torn::new(alloc, 0, 0));
-    assert_eq!(rt; taken(old).as_slice(), FRAMES);
     Ok(())
 }

@@ -3,9 +3,8 @@
 ghost use Rattle.std.specs.Prelude.{◌<◌, IfSome, length};
 ghost use Rattle.sy_board.specs.relay.Steps.{IsOfInput};
 
-use super::{
-    Calls, all_go_well, call_of, entry_at, is_hand, is_worker, list_of, message_of, opened, settle,
-};
+use super::answers::{message_of, settle};
+use super::{Calls, all_go_well, call_of, entry_at, is_hand, is_worker, list_of, opened};
 use crate::rows::{Judge, each_is_right_in, put_text};
 use std::alloc::{AllocError, Global};
 use std::str;

@@ -1,9 +1,8 @@
 use Rattle.std.proofs.Common.{◌≡◌, length}
-use Rattle.syc.proofs.serve_on.Given as goal
+use Rattle.syc.proofs.devices_of.Given as goal
 
 -- a device for each outlet so far
 abbrev pub invariant-loop-outlet : goal.invariant-loop-outlet
-invariant-loop-outlet g l = record {
+invariant-loop-outlet l = record {
   count : length l.devices.items ≡ l.outlet-index;
-  guard : l.guard ≡ l.fn.guard;
 }

@@ -1,11 +1,10 @@
 use Rattle.std.proofs.Common.{◌≡◌, ◌+◌, length}
-use Rattle.sy_host.proofs.serve.serve.Given as goal
+use Rattle.sy_host.proofs.serve.serve_at.Given as goal
 
 -- each device is in a box or still to be put into one
 abbrev pub invariant-loop-device : goal.invariant-loop-device
 invariant-loop-device g l = record {
   count : length l.boxes.items + length l.left.items ≡ length l.fn.served.devices.items;
-  guard : l.guard ≡ l.fn.served.guard;
 }
 
 abbrev pub decreases-loop-device : goal.decreases-loop-device

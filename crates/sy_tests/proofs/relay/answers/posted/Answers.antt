@@ -1,7 +1,7 @@
 use Rattle.std.proofs.Common.{◌∙◌}
 use Rattle.std.specs.Arc.{arc_value}
 use Rattle.sy_tests.proofs.Posts.{for_post, none_is_none, run_is_none}
-use Rattle.sy_tests.proofs.relay.posted.Goals as goal
+use Rattle.sy_tests.proofs.relay.answers.posted.Goals as goal
 
 pub returns-in-Some : goal.returns-in-Some
 returns-in-Some c = for_post c.args.board.now c.deref-in-Some-Post.result.now c.args.worker c.in-Some-Post.list c.in-Some-Post.input c.in-Some-Post.tag

@@ -7,7 +7,7 @@ use Rattle.sy_runtime.specs.Connections.{Counts}
 use Rattle.sy_runtime.specs.Stopping.{Stops}
 use Rattle.sy_host.specs.Totals.{EndsWithTotals}
 use Rattle.sy_host.specs.internal.Served.{IsLeft}
-use Rattle.sy_host.proofs.serve.serve.Goals as goal
+use Rattle.sy_host.proofs.serve.serve_started.Goals as goal
 
 -- what holds of an answer that is Ok goes on to hold
 left_of : {T E : Type 0} (answer : Result T E) {P Q : T → Type 0} → ((stopped : T) → P stopped → Q stopped) → IfOk answer P → IfOk answer Q
@@ -24,7 +24,7 @@ left_with old new ends account left made same stops =
 pub returns-clause-done : goal.returns-clause-done
 returns-clause-done g c = λ zero.
     subst
-    (λ actions. EndsWithTotals actions c.args.served.guard (g.W.Sink.contents c.args.writer.now) (g.W.Sink.contents c.finish.new.writer))
+    (λ actions. EndsWithTotals actions c.args.run.0 (g.W.Sink.contents c.args.writer.now) (g.W.Sink.contents c.finish.new.writer))
     (search rules)
-    (c.finish.ensures.done zero c.args.served.guard
-    (left_of c.stop-answer.result (λ stopped stops. left_with _ c.args.served.guard _ _ _ _ (search rules) stops) c.stop-answer.ensures))
+    (c.finish.ensures.done zero c.args.run.0
+    (left_of c.stop-answer.result (λ stopped stops. left_with _ c.args.run.0 _ _ _ _ (search rules) stops) c.stop-answer.ensures))
