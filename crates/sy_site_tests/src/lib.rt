@@ -5,17 +5,17 @@
 
 #[cfg(test)]
 mod cert;
+#[cfg(test)]
 mod checker;
+#[cfg(test)]
 mod guarded;
+#[cfg(test)]
 mod limits;
+#[cfg(test)]
 mod replay;
+#[cfg(test)]
 mod rows;
+#[cfg(test)]
 mod site;
+#[cfg(test)]
 mod verdicts;
-#[cfg(test)]
-#[cfg(test)]
-#[cfg(test)]
-#[cfg(test)]
-#[cfg(test)]
-#[cfg(test)]
-#[cfg(test)]

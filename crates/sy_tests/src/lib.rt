@@ -6,25 +6,25 @@
 
 #[cfg(test)]
 mod actions;
+#[cfg(test)]
 mod chain;
+#[cfg(test)]
 mod connections;
+#[cfg(test)]
 mod guards;
+#[cfg(test)]
 mod marks;
+#[cfg(test)]
 mod relay;
+#[cfg(test)]
 mod rows;
+#[cfg(test)]
 mod rules;
+#[cfg(test)]
 mod script;
+#[cfg(test)]
 mod select;
+#[cfg(test)]
 mod threads;
+#[cfg(test)]
 mod wire;
-#[cfg(test)]
-#[cfg(test)]
-#[cfg(test)]
-#[cfg(test)]
-#[cfg(test)]
-#[cfg(test)]
-#[cfg(test)]
-#[cfg(test)]
-#[cfg(test)]
-#[cfg(test)]
-#[cfg(test)]
