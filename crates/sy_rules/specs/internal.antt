@@ -16,4 +16,5 @@ pub mod PlanInside
 pub mod Loading
 pub mod Checking
 pub mod Objects
+pub mod Outline
 pub mod Texts

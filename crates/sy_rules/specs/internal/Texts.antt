@@ -1,12 +1,7 @@
--- What only parts of texts and of outlines say.
-use Rattle.std.specs.Prelude.{List}
+-- What only the parts of texts say.
 use Rattle.sy_script.specs.declared.tree.Block.{Block}
 use Rattle.sy_script.specs.declared.tree.Block.TheFolds.{fold-Block}
-use Rattle.sy_rules.specs.items.Outline.{Placed, block_step, stmt_step}
 use Rattle.sy_rules.specs.lists.Texts.{Text, Part, Front, block_step, stmt_step}
-
-abbrev pub placed_in_block : Block → List Placed
-placed_in_block = fold-Block (List Placed) (List Placed) block_step stmt_step
 
 -- ---- the lists of a file
 

@@ -4,7 +4,7 @@ ghost use Rattle.std.specs.Prelude.{◌≡◌, ◌++◌, ◌∷◌, [], map, IfO
 ghost use Rattle.sy_rules.specs.internal.ItemViews as view;
 ghost use Rattle.sy_rules.specs.internal.ItemViews.{item, placed};
 ghost use Rattle.sy_rules.specs.items.Outline as spec;
-ghost use Rattle.sy_rules.specs.internal.Texts as inside;
+ghost use Rattle.sy_rules.specs.internal.Outline as inside;
 
 use crate::fault::NOWHERE;
 use std::alloc::{AllocError, Global};

@@ -13,7 +13,8 @@ use Rattle.sy_script.specs.declared.tree.Top.TheVariants as top
 use Rattle.sy_rules.specs.declared.parameters.objects.RulesetParameters.{RulesetParameters}
 use Rattle.sy_rules.specs.items.Outline as outline
 use Rattle.sy_rules.specs.items.Outline.{Item, Placed, joined, placed, placed_in_stmt, placed_in_body, placed_in_tops, items_of, items_of_tops}
-use Rattle.sy_rules.specs.internal.Texts.{placed_in_block, front_of_block}
+use Rattle.sy_rules.specs.internal.Outline.{placed_in_block}
+use Rattle.sy_rules.specs.internal.Texts.{front_of_block}
 use Rattle.sy_rules.specs.Faults.{nowhere}
 use Rattle.sy_rules.specs.items.Expressions.{trees_of}
 use Rattle.sy_rules.specs.items.PartItems.{actions_of_parts, calls, calls_of_parts, name_of_call, names_of_calls, params_of, params_of_item, rulesets_in, tests_of_parts}
