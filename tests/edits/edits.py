@@ -15,6 +15,11 @@ class BadEdit(Exception):
     """An edit that can't be tried, with the reason."""
 
 
+def text_of(file):
+    with open(file, encoding="utf-8", errors="surrogateescape") as it:
+        return it.read()
+
+
 @dataclass
 class Item:
     """A function, or a constant or table, of a source: its name, the line (from 0) where its attributes begin, its
@@ -29,6 +34,13 @@ class Item:
     is_function: bool
     owner: str = ""
     cycle: str = ""
+
+    @property
+    def place(self):
+        return self.file, self.first
+
+    def has(self, file, line):
+        return self.file == file and self.head <= line <= self.last
 
 
 @dataclass
@@ -47,21 +59,18 @@ class Edit:
 
 def read_edit(crate, file):
     """Reads an edit; lines of another form are passed over, as `rt` does."""
-    edit, path, old = Edit(crate, os.path.basename(file)[: -len(".edit")]), "", None
-    with open(file, encoding="utf-8") as it:
-        lines = it.read().split("\n")
-    for line in lines:
+    edit, path, old = Edit(crate, os.path.basename(file).removesuffix(".edit")), "", None
+    for line in text_of(file).split("\n"):
         if line.startswith("function: "):
-            edit.function = line[len("function: ") :].strip()
+            edit.function = line.removeprefix("function: ").strip()
         elif line.startswith("file: "):
-            path = line[len("file: ") :].strip()
+            path = line.removeprefix("file: ").strip()
         elif line.startswith("old: "):
-            old = line[len("old: ") :]
+            old = line.removeprefix("old: ")
         elif line.startswith("new:"):
             if not path or not old:
                 raise BadEdit("a line 'new:' stands before any 'file:' or 'old:'")
-            new = line[len("new:") :]
-            edit.pairs.append((path, old, new[1:] if new.startswith(" ") else new))
+            edit.pairs.append((path, old, line.removeprefix("new:").removeprefix(" ")))
             old = None
     if not edit.function:
         raise BadEdit("it has no line 'function: PATH'")
@@ -79,8 +88,7 @@ class Sources:
     def text(self, path):
         if path not in self.texts:
             try:
-                with open(f"{self.folder}/{path}", encoding="utf-8") as it:
-                    self.texts[path] = it.read()
+                self.texts[path] = text_of(f"{self.folder}/{path}")
             except OSError:
                 raise BadEdit(f"there is no file {path}") from None
         return self.texts[path]
@@ -99,7 +107,7 @@ class Sources:
 
     def write(self, room):
         for path, text in self.texts.items():
-            with open(f"{room}/{path}", "w", encoding="utf-8") as it:
+            with open(f"{room}/{path}", "w", encoding="utf-8", errors="surrogateescape") as it:
                 it.write(text)
 
     def emptied(self, files, is_kept):
@@ -121,22 +129,17 @@ def items_of(file, text):
         function = FUNCTION.match(line)
         if function:
             indent, name = function.groups()
-            last = end_of_function(lines, at, indent)
-            head = head_of(lines, at)
+            head = at
+            while head > 0 and lines[head - 1].strip().startswith(("#[", "//")):
+                head -= 1
             cycle = CYCLE.search("\n".join(lines[head:at]))
+            last = end_of_function(lines, at, indent)
             found.append(Item(file, name, head, at, last, True, owner if indent else "", cycle[1] if cycle else ""))
         elif OWNER.match(line):
             owner = OWNER.match(line)[1]
         elif CONSTANT.match(line):
-            found.append(Item(file, CONSTANT.match(line)[1], at, at, end_of(lines, at, ""), False))
+            found.append(Item(file, CONSTANT.match(line)[1], at, at, end_of_constant(lines, at), False))
     return found
-
-
-def head_of(lines, at):
-    """The line where the attributes and comments right before a line begin."""
-    while at > 0 and lines[at - 1].strip().startswith(("#[", "//")):
-        at -= 1
-    return at
 
 
 def end_of_function(lines, at, indent):
@@ -151,6 +154,13 @@ def end_of_function(lines, at, indent):
             return at
         has_body = has_body or line.endswith("{")
     return len(lines) - 1
+
+
+def end_of_constant(lines, at):
+    """The last line of the constant or table that begins at a line: that one, or a closing bracket below its head."""
+    if lines[at].rstrip().endswith((";", "}")):
+        return at
+    return next((it for it in range(at + 1, len(lines)) if re.match(r"[\]})]+;?$", lines[it])), len(lines) - 1)
 
 
 def empty(lines, item):
@@ -175,32 +185,17 @@ def empty(lines, item):
     return True
 
 
-def end_of(lines, at, indent):
-    """The last line of the constant or table that begins at a line: the one that ends it, or a closing bracket below its head."""
-    for later in range(at, len(lines)):
-        line = lines[later]
-        if later == at and line.rstrip().endswith((";", "}")):
-            return at
-        if later > at and re.match(rf"^{indent}[\]}})]+;?$", line):
-            return later
-    return len(lines) - 1
-
-
 class Crate:
     """What the judge asks of a crate's sources: which functions an edit may change, and what is in a cycle."""
 
     def __init__(self, folder):
         self.folder, self.items, self.files = folder, [], []
         for at, _, names in sorted(os.walk(f"{folder}/src")):
-            for name in sorted(names):
-                if name.endswith(".rt"):
-                    path = os.path.relpath(f"{at}/{name}", folder)
-                    self.files.append(path)
-                    with open(f"{at}/{name}", encoding="utf-8") as it:
-                        text = it.read()
-                    for item in items_of(path, text):
-                        lines = text.split("\n")[item.first : item.last + 1]
-                        self.items.append((item, "\n".join(lines)))
+            self.files += [os.path.relpath(f"{at}/{it}", folder) for it in sorted(names) if it.endswith(".rt")]
+        for path in self.files:
+            text = text_of(f"{folder}/{path}")
+            for item in items_of(path, text):
+                self.items.append((item, "\n".join(text.split("\n")[item.first : item.last + 1])))
 
     def named(self, path):
         """The functions of the sources that a check calls by this path: of that name, and of that type or file."""
@@ -224,37 +219,23 @@ class Crate:
                 found.append(item)
         return found
 
-    def members(self, cycle):
-        """How many functions are declared to be in a cycle of calls."""
-        return sum(it.cycle == cycle for it, _ in self.items)
-
-    def using(self, names):
-        """Those names of items, and of all items that speak of them, directly or through constants."""
-        seen = set(names)
-        while True:
-            words = re.compile(r"\b(" + "|".join(map(re.escape, sorted(seen))) + r")\b")
-            more = {it.name for it, text in self.items if not it.is_function and words.search(text)} - seen
-            if not seen or not more:
-                break
-            seen |= more
-        users = [it for it, text in self.items if it.is_function and seen and words.search(text)]
-        return seen, users
+    def is_of_several(self, path):
+        """Whether a function is declared to be in a cycle of calls with others."""
+        cycles = {it.cycle for it in self.named(path) if it.cycle}
+        return any(sum(it.cycle == cycle for it, _ in self.items) > 1 for cycle in cycles)
 
     def is_of_body(self, path, line):
         """Whether a line is one of a function, of a constant or table, an import, or a comment."""
-        with open(f"{self.folder}/{path}", encoding="utf-8") as it:
-            text = it.read().split("\n")[line]
-        is_there = lambda it: it.file == path and it.head <= line <= it.last
-        return text.lstrip().startswith(("//", "use ")) or any(is_there(it) for it, _ in self.items)
+        text = text_of(f"{self.folder}/{path}").split("\n")[line]
+        return text.lstrip().startswith(("//", "use ")) or any(it.has(path, line) for it, _ in self.items)
 
-    def touched(self, places):
-        """What edits at these places change: functions, and the names of constants."""
-        functions, constants = [], set()
-        for path, line in places:
-            for item, _ in self.items:
-                if item.file == path and item.first <= line <= item.last:
-                    if item.is_function:
-                        functions.append(item)
-                    else:
-                        constants.add(item.name)
-        return functions, constants
+    def changed_by(self, places):
+        """The functions that edits at these places change, by a constant too, which they speak of directly or through
+        other constants."""
+        touched = [it for it, _ in self.items if any(it.file == path and it.first <= at <= it.last for path, at in places)]
+        functions, seen, more = [it for it in touched if it.is_function], set(), {it.name for it in touched if not it.is_function}
+        while more:
+            seen |= more
+            words = re.compile(r"\b(" + "|".join(map(re.escape, sorted(seen))) + r")\b")
+            more = {it.name for it, text in self.items if not it.is_function and words.search(text)} - seen
+        return functions + [it for it, text in self.items if it.is_function and seen and words.search(text)]
