@@ -34,11 +34,11 @@ def build_below(crate):
     return all(it.is_built() or not subprocess.run(["rt", "lib"], cwd=it.folder, **how).returncode for it in crate.below())
 
 
-def check(crate, room, kept, functions, jobs=1, tests=False):
-    """What a check of the crate in `room`, with its tests or without, says of these functions and those that they
-    call (where none is named, of all); `kept` has what earlier checks proved. Returns its status, its lines and its
-    processor seconds, those of its other jobs with them."""
-    words = [*crate.words(["--jobs", str(jobs)], tests=tests, keeps=False), "--incremental", kept]
+def check(crate, room, kept, functions, jobs=1):
+    """What a check of the crate in `room` says of these functions and those that they call (where none is named, of all);
+    `kept` has what earlier checks proved. Returns its status, its lines and its processor seconds, those of its other jobs
+    with them."""
+    words = [*crate.words(["--jobs", str(jobs)], keeps=False), "--incremental", kept]
     for it in functions:
         words += ["--only", it]
     how = {"cwd": room, "stdin": subprocess.DEVNULL, "stdout": subprocess.PIPE, "stderr": subprocess.STDOUT}
