@@ -2,7 +2,7 @@
 
 import os
 import re
-from dataclasses import dataclass, field
+from dataclasses import dataclass
 
 # The head of a function, of what methods stand in, of a constant or a table; as `rt fmt` lays them out.
 FUNCTION = re.compile(r"^(\s*)(?:pub(?:\([^)]*\))? )?(?:const )?(?:unsafe )?fn (\w+)")
@@ -22,9 +22,8 @@ def text_of(file):
 
 @dataclass
 class Item:
-    """A function, or a constant or table, of a source: its name, the line (from 0) where its attributes begin, its
-    first and last line, and of a function the type that it belongs to and the cycle of calls that it is declared
-    to be in."""
+    """A function, or a constant or table, of a source: the line (from 0) where its attributes begin, its first and last one,
+    and of a function the type that it belongs to and the cycle of calls that it is declared to be in."""
 
     file: str
     name: str
@@ -43,14 +42,11 @@ class Item:
         return self.file == file and self.head <= line <= self.last
 
 
-@dataclass
 class Edit:
     """An edit: the function that its crate's proof must refuse by itself, and the texts to replace."""
 
-    crate: str
-    name: str
-    function: str = ""
-    pairs: list = field(default_factory=list)
+    def __init__(self, crate, name):
+        self.crate, self.name, self.function, self.pairs = crate, name, "", []
 
     @property
     def label(self):
@@ -126,10 +122,9 @@ def items_of(file, text):
     """The functions and constants of a source."""
     lines, found, owner = text.split("\n"), [], ""
     for at, line in enumerate(lines):
-        function = FUNCTION.match(line)
+        function, constant, head = FUNCTION.match(line), CONSTANT.match(line), at
         if function:
             indent, name = function.groups()
-            head = at
             while head > 0 and lines[head - 1].strip().startswith(("#[", "//")):
                 head -= 1
             cycle = CYCLE.search("\n".join(lines[head:at]))
@@ -137,8 +132,8 @@ def items_of(file, text):
             found.append(Item(file, name, head, at, last, True, owner if indent else "", cycle[1] if cycle else ""))
         elif OWNER.match(line):
             owner = OWNER.match(line)[1]
-        elif CONSTANT.match(line):
-            found.append(Item(file, CONSTANT.match(line)[1], at, at, end_of_constant(lines, at), False))
+        elif constant:
+            found.append(Item(file, constant[1], at, at, end_of_constant(lines, at), False))
     return found
 
 
@@ -174,15 +169,21 @@ def empty(lines, item):
     has_body = last == indent + "}" and opened or last == indent + "{}" and item.first < item.last
     if not has_body or "const fn" in head:
         return False
-    for at in range(item.head, item.first):
-        if lines[at].lstrip().startswith(("#[cycle(", "#[tactic(")):
-            lines[at] = ""
-    lines[item.first] = f"{indent}#[tactic(none)] {head.lstrip()}"
+    search_not(lines, item, ("#[cycle(", "#[tactic("))
     if last == indent + "{}":
         lines[item.last] = indent + "{ unreachable!() }"
     else:
         lines[opened[0] + 1 : item.last] = [indent + "    unreachable!()", *[""] * (item.last - opened[0] - 2)]
     return True
+
+
+def search_not(lines, item, without=("#[tactic(",)):
+    """Leaves all goals of a function open, in place of a search for them, and takes such attributes away."""
+    for at in range(item.head, item.first):
+        if lines[at].lstrip().startswith(without):
+            lines[at] = ""
+    head = lines[item.first].lstrip()
+    lines[item.first] = f"{lines[item.first][: -len(head)]}#[tactic(none)] {head}"
 
 
 class Crate:
@@ -207,7 +208,7 @@ class Crate:
             if item.owner:
                 heads = item.owner.partition(" where ")[0].partition(" for ")
                 words, of_box = re.findall(r"\w+", " ".join(heads)), re.findall(r"\w+", heads[2] + heads[0])
-                fits = any(owner == it for it in words) or owner and owner in {a + b for a in words for b in words}
+                fits = owner in words or owner and owner in {a + b for a in words for b in words}
                 # `impl Tr for Box<dyn Tr + Send>` is called BoxDynTrSendTr
                 fits = fits or owner == "".join(it[0].upper() + it[1:] for it in of_box)
                 # the second `impl` of methods of one name, `impl<T> A<B<T>>`, is called A+B+T

@@ -27,8 +27,8 @@ BRANCH = re.compile(r"\b(?:if|match|while|for|loop|return|break|continue)\b|&&|\
 # How an answer is offered: the function's folder, then lines with a goal's name and its variables.
 OFFER = re.compile(r"^help: .*?\./proofs/(\S+)/Answers\.antt")
 OFFERED = re.compile(r"^    (\S+)((?: \S+)*) = \?$")
-# What answers cite, and what they open.
-IMPORT = re.compile(r"^use (Rattle\.\S+?)\.\{([^}]*)\}", re.M)
+# The lemmas that answers cite, and what they open.
+LEMMAS = re.compile(r"^use Rattle\.(?:\S+\.)?proofs\.\S+?(?<!\.Common)(?<!\.Goals)(?<!\.Given)\.\{([^}]*)\}", re.M)
 OPENED = re.compile(r"^unfolding (.+)$", re.M)
 # What offered answers are proved by beside what the stored ones cite.
 OF_STD = {"arith": "Rattle.std.proofs.Common", "common_steps": "Rattle.std.proofs.lemmas.Grind"}
@@ -52,20 +52,17 @@ class Refusal:
         return not self.false and (adds_a_path(self.edit) or bool(self.unnamed))
 
     def is_unanswered(self, of_the_right):
-        """Whether no goal is left that is proved by the search in the right body, which has these goals, and no answer
-        is wrong where no path was added: what is left is of a new path or name, or has an answer in the right body."""
-        is_refused_there = bool(self.open & of_the_right) or bool(self.wrong) and not adds_a_path(self.edit)
-        return self.is_unclear() and not is_refused_there
+        """Whether, of one that is unclear, no goal is left that is proved by the search in the right body, which has these,
+        and no answer is wrong where no path was added: what is left is of a new path or name, or has an answer there."""
+        return not self.open & of_the_right and not (self.wrong and not adds_a_path(self.edit))
 
     def takes(self, later):
         """Takes what a later check found of it; whether other answers are then to be tried."""
-        is_more = bool(later.offered.keys() - self.offered.keys() or later.unnamed - self.unnamed)
-        is_lost = bool(later.wrong & self.offered.keys())
-        self.open |= later.open
-        self.wrong |= later.wrong
-        self.unnamed |= later.unnamed
+        is_more = later.offered.keys() - self.offered.keys() or later.unnamed - self.unnamed
+        is_lost = later.wrong & self.offered.keys()
+        self.open, self.wrong, self.unnamed = self.open | later.open, self.wrong | later.wrong, self.unnamed | later.unnamed
         self.offered |= later.offered
-        return is_more and not is_lost
+        return bool(is_more and not is_lost)
 
 
 def adds_a_path(edit):
@@ -141,12 +138,12 @@ class Trial(rounds.Trial):
         places, cycles = {it.place for it in named}, {it.cycle for it in named if it.cycle}
         is_kept = lambda it: it.place in places or it.cycle in cycles
         sources, gone = edits.Sources(self.crate.folder).emptied(self.sources.files, is_kept)
-        for item, _ in self.sources.items:
-            if item.is_function and is_kept(item):
-                search_not(sources, item)
+        for item in [it for it, _ in self.sources.items if it.is_function and is_kept(it)]:
+            lines = sources.text(item.file).split("\n")
+            edits.search_not(lines, item)
+            sources.texts[item.file] = "\n".join(lines)
         self.check(sources, functions, gone, dict.fromkeys(functions, ""))
-        lines = filter(None, map(judge.FUNCTION.match, self.lines))
-        return {it[1].partition("::")[2]: listed(it[2]) for it in lines}
+        return {it[1].partition("::")[2]: listed(it[2]) for it in filter(None, map(judge.FUNCTION.match, self.lines))}
 
     def try_again(self, taken, left):
         """Tries edits without the answers that don't fit them, and with what the stored answers cite for the goals that
@@ -174,21 +171,9 @@ class Trial(rounds.Trial):
         return edits.text_of(file) if os.path.isfile(file) else ""
 
 
-def search_not(sources, item):
-    """Leaves all goals of a function open, in place of a search for them."""
-    lines = sources.text(item.file).split("\n")
-    for at in range(item.head, item.first):
-        if lines[at].lstrip().startswith("#[tactic("):
-            lines[at] = ""
-    head = lines[item.first].lstrip()
-    lines[item.first] = f"{lines[item.first][: -len(head)]}#[tactic(none)] {head}"
-    sources.texts[item.file] = "\n".join(lines)
-
-
 def answers_for(refusal, text):
     """These answers without those that don't fit an edit, and with what they cite and open for what it leaves."""
-    lemmas = [it.strip() for module, names in IMPORT.findall(text) if is_of_lemmas(module) for it in names.split(",")]
-    lemmas = [it for it in lemmas if re.fullmatch(r"[\w-]+", it)]
+    lemmas = [it.strip() for names in LEMMAS.findall(text) for it in names.split(",") if re.fullmatch(r"\s*[\w-]+\s*", it)]
     opened = [it.strip() for names in OPENED.findall(text) for it in names.split(",")]
     unfolding = f"unfolding {', '.join(dict.fromkeys(opened))}\n" if opened else ""
     tactic = f"grind ({', '.join(dict.fromkeys([*OF_STD, *lemmas]))})"
@@ -202,10 +187,6 @@ def answers_for(refusal, text):
     for name, variables in refusal.offered.items():
         text += f"\npub {name} : goal.{name}\n{unfolding}{name}{variables} = {tactic}\n"
     return text
-
-
-def is_of_lemmas(module):
-    return ".proofs." in module and not module.endswith((".Common", ".Goals", ".Given"))
 
 
 def try_crate(crate, given, controls, jobs=lambda: 1):

@@ -4,8 +4,10 @@ import hashlib
 import os
 import re
 import subprocess
+import sys
 
 import edits
+import rounds
 
 HERE = os.path.dirname(os.path.realpath(__file__))
 # What decides how an edit is tried and judged.
@@ -69,6 +71,20 @@ def sum_of(top, crate, below):
     return digest([("kit", kit), *judges, *controls, *own, *shown, *lemmas])
 
 
+def edits_of(top, crate, wanted=()):
+    """The crate's edits that are named (all where none is), and those that can't be read, with the reason."""
+    folder, good, bad = f"{top}/crates/{crate}/must-fail", [], []
+    found = sorted(it.removesuffix(".edit") for it in os.listdir(folder) if it.endswith(".edit")) if os.path.isdir(folder) else []
+    for name in wanted or found:
+        if name not in found:
+            sys.exit(f"tests/edits/run: {crate} has no edit {name}")
+        try:
+            good.append(edits.read_edit(crate, f"{folder}/{name}.edit"))
+        except edits.BadEdit as why:
+            bad.append(rounds.Tried(f"{crate}/{name}", False, f"BAD EDIT: {why}"))
+    return good, bad
+
+
 class Record:
     """Which edits of a crate were refused when all that this rests on was as it is now: a sum, and their names."""
 
@@ -76,12 +92,13 @@ class Record:
         self.file, self.given = f"{top}/tests/edits/refused/{crate}", (top, crate, set(below))
         self.sum, self.refused = sum_of(*self.given), set()
         if os.path.isfile(self.file):
-            state, *names = edits.text_of(self.file).split()
+            state, *names = edits.text_of(self.file).split() or [""]
             self.refused = set(names) if state == self.sum else set()
 
-    def has(self, names):
-        """Whether the record has all of these."""
-        return self.refused.issuperset(names)
+    def is_current(self):
+        """Whether every edit of the crate was refused as all is now."""
+        good, bad = edits_of(*self.given[:2])
+        return not bad and self.refused.issuperset(it.name for it in good)
 
     def write(self, tried, refused):
         """Writes which of the edits that were tried were refused; what is recorded of others stays. Where something has

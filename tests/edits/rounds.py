@@ -1,20 +1,14 @@
 """Tries a crate's edits: many of different functions in one check, what isn't clear there alone."""
 
+import collections
 import os
-from dataclasses import dataclass
 
 import edits
 import judge
 import toolchain
 
-
-@dataclass
-class Tried:
-    """What came of an edit: whether that is what must come of it, and the words for it."""
-
-    label: str
-    is_well: bool
-    text: str
+# What came of an edit: whether that is what must come of it, and the words for it.
+Tried = collections.namedtuple("Tried", "label is_well text")
 
 
 class Trial:
@@ -27,9 +21,8 @@ class Trial:
 
     def __init__(self, crate, given, controls, jobs, room):
         self.crate, self.room, self.kept, self.jobs = crate, f"{room}/source", f"{room}/kept", jobs
-        self.sources = edits.Crate(crate.folder)
-        self.controls, self.given, self.checks, self.seconds, self.found = controls, given, 0, 0.0, {}
-        self.alone, self.lines = [], []
+        self.sources, self.controls, self.given = edits.Crate(crate.folder), controls, given
+        self.checks, self.seconds, self.found, self.alone, self.lines = 0, 0.0, {}, [], []
         os.makedirs(self.room)
 
     def run(self):
@@ -146,8 +139,8 @@ class Trial:
         places, cycles = {it.place for it in gone}, {it.cycle for it in gone}
         for at, _, files in os.walk(f"{self.room}/proofs") if gone else []:
             path = os.path.relpath(at, f"{self.room}/proofs").split("/")
-            items = self.sources.named("::".join(path))
-            is_gone = bool(items) and all(it.place in places for it in items)
+            items = {it.place for it in self.sources.named("::".join(path))}
+            is_gone = bool(items) and items <= places
             if is_gone or path[-1].startswith("+") and path[-1][1:] in cycles:
                 for name in {"Answers.antt", "Invariants.antt", "Proof.antt"} & set(files):
                     os.remove(f"{at}/{name}")
@@ -169,12 +162,8 @@ class Trial:
         that it uses, or its cycle of calls; None where there is none."""
         changed = self.sources.changed_by(self.after(taken)[1])
         cycles, places = {it.cycle for it in changed if it.cycle}, {it.place for it in [*changed, *gone]}
-        for path, of_it in said.items():
-            items = self.sources.named(path)
-            is_excused = not items or any(it.place in places or it.cycle in cycles for it in items)
-            if of_it.is_refused and not is_excused:
-                return path
-        return None
+        is_excused = lambda items: not items or any(it.place in places or it.cycle in cycles for it in items)
+        return next((it for it in said if said[it].is_refused and not is_excused(self.sources.named(it))), None)
 
     def settle(self, edit, of_it):
         """Judges what a check said of an edit's function."""

@@ -1,25 +1,15 @@
 """The toolchain's own words for a check: which crates there are, what each stands on, how rattle is called."""
 
-import importlib.machinery
-import importlib.util
 import os
 import re
 import shutil
 import subprocess
 import sys
 
+rt = shutil.which("rt") or sys.exit("tests/edits/run: the command rt of the toolchain is not on PATH")
+sys.path.append(os.path.dirname(os.path.realpath(rt)))
 
-def _load():
-    rt = shutil.which("rt") or sys.exit("tests/edits/run: the command rt of the toolchain is not on PATH")
-    sys.dont_write_bytecode = True
-    loader = importlib.machinery.SourceFileLoader("rtlib", f"{os.path.dirname(os.path.realpath(rt))}/rtlib.py")
-    made = importlib.util.module_from_spec(importlib.util.spec_from_loader("rtlib", loader))
-    sys.modules["rtlib"] = made
-    loader.exec_module(made)
-    return made
-
-
-rtlib = _load()
+import rtlib  # noqa: E402
 
 
 def crates_of(root):
