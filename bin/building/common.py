@@ -2,17 +2,19 @@
 
 import contextlib
 import fcntl
-import glob
 import hashlib
 import os
-import re
 import shutil
 import signal
 import subprocess
 import tempfile
 import threading
+import time
 
 TOP = os.path.dirname(os.path.dirname(os.path.dirname(os.path.realpath(__file__))))
+# The crates of the libraries' tests, which are no crates of the repository: their folder, and what each stands on. The files
+# in it end with .text too.
+TESTS, USES = "tests/libraries", "tests/libraries/uses.txt"
 
 running = set()  # the processes that go on, each with a group of its own
 is_stopped = threading.Event()
@@ -52,12 +54,6 @@ def kit_name(kit):
     return text_of(f"{kit}/KIT-ID").strip() or "unknown"
 
 
-def keeps_proofs(kit):
-    """Whether the toolchain takes over what it proved in another tree on the machine: its command then says of a crate that
-    it is kept."""
-    return any("is kept" in text_of(it) for it in glob.glob(f"{glob.escape(kit)}/bin/rt*"))
-
-
 def needed_kit():
     kit = kit_folder()
     if not kit:
@@ -66,8 +62,10 @@ def needed_kit():
 
 
 def crates_of(root=TOP):
-    """What each line of crates.txt says that a crate stands on, crates of the repository and libraries of the toolchain."""
-    rows = [it.partition("#")[0].partition(":") for it in text_of(f"{root}/crates.txt").splitlines()]
+    """What a crate stands on, crates of the repository and libraries of the toolchain, as crates.txt says, and of the tests
+    of libraries their own file."""
+    lines = text_of(f"{root}/crates.txt").splitlines() + text_of(f"{root}/{USES}").splitlines()
+    rows = [it.partition("#")[0].partition(":") for it in lines]
     return {name.split()[0]: uses.replace(",", " ").split() for name, _, uses in rows if name.strip()}
 
 
@@ -94,32 +92,42 @@ def alone(path):
         yield
 
 
-def run(words, folder, room, ease=0):
-    """Runs a command that reads nothing: its status, and what it said, both streams together."""
+@contextlib.contextmanager
+def telling(how_far):
+    """Says every ten seconds how far a build is, and how many seconds it has taken."""
+    began, is_done = time.monotonic(), threading.Event()
+
+    def tell():
+        while not is_done.wait(10):
+            say(f"{how_far()}; {time.monotonic() - began:.0f} s so far")
+
+    threading.Thread(target=tell, daemon=True).start()
+    try:
+        yield
+    finally:
+        is_done.set()
+
+
+def run(words, folder, room, hear=lambda line: None):
+    """Runs a command that reads nothing: its status, and what it said, both streams together, each line once it comes."""
     how = {"stdin": subprocess.DEVNULL, "stdout": subprocess.PIPE, "stderr": subprocess.STDOUT, "errors": "replace"}
-    words = [*(["nice", "-n", str(ease)] if ease else []), *words]
+    said = []
     with subprocess.Popen(words, cwd=folder, env={**os.environ, "TMPDIR": room}, start_new_session=True, **how) as it:
         running.add(it)
         if is_stopped.is_set():
             end(it)
-        said = it.communicate()[0]
-        running.discard(it)
+        for line in it.stdout:
+            said.append(line)
+            hear(line)
+    running.discard(it)
     if is_stopped.is_set():
         raise Failed("stopped")
-    return it.returncode, said
+    return it.returncode, "".join(said)
 
 
 def end(process):
     with contextlib.suppress(ProcessLookupError):
         os.killpg(process.pid, signal.SIGKILL)
-
-
-def lanes(memory):
-    """How many go on beside each other that take so much memory each: as many as there are processors, and as it holds."""
-    number = os.environ.get("RT_JOBS", "")
-    processors = int(number) if number.isdigit() and int(number) else len(os.sched_getaffinity(0))
-    free = re.search(r"MemAvailable:\s+(\d+)", text_of("/proc/meminfo"))
-    return max(1, min(processors, 1024 * int(free[1]) // memory if free else 1))
 
 
 def rooms():

@@ -2,7 +2,7 @@
 
 import os
 import re
-from dataclasses import dataclass, field
+from dataclasses import dataclass
 
 # The head of a function, of what methods stand in, of a constant or a table; as `rt fmt` lays them out.
 FUNCTION = re.compile(r"^(\s*)(?:pub(?:\([^)]*\))? )?(?:const )?(?:unsafe )?fn (\w+)")
@@ -15,11 +15,15 @@ class BadEdit(Exception):
     """An edit that can't be tried, with the reason."""
 
 
+def text_of(file):
+    with open(file, encoding="utf-8", errors="surrogateescape") as it:
+        return it.read()
+
+
 @dataclass
 class Item:
-    """A function, or a constant or table, of a source: its name, the line (from 0) where its attributes begin, its
-    first and last line, and of a function the type that it belongs to and the cycle of calls that it is declared
-    to be in."""
+    """A function, or a constant or table, of a source: the line (from 0) where its attributes begin, its first and last one,
+    and of a function the type that it belongs to and the cycle of calls that it is declared to be in."""
 
     file: str
     name: str
@@ -30,15 +34,19 @@ class Item:
     owner: str = ""
     cycle: str = ""
 
+    @property
+    def place(self):
+        return self.file, self.first
 
-@dataclass
+    def has(self, file, line):
+        return self.file == file and self.head <= line <= self.last
+
+
 class Edit:
     """An edit: the function that its crate's proof must refuse by itself, and the texts to replace."""
 
-    crate: str
-    name: str
-    function: str = ""
-    pairs: list = field(default_factory=list)
+    def __init__(self, crate, name):
+        self.crate, self.name, self.function, self.pairs = crate, name, "", []
 
     @property
     def label(self):
@@ -47,21 +55,18 @@ class Edit:
 
 def read_edit(crate, file):
     """Reads an edit; lines of another form are passed over, as `rt` does."""
-    edit, path, old = Edit(crate, os.path.basename(file)[: -len(".edit")]), "", None
-    with open(file, encoding="utf-8") as it:
-        lines = it.read().split("\n")
-    for line in lines:
+    edit, path, old = Edit(crate, os.path.basename(file).removesuffix(".edit")), "", None
+    for line in text_of(file).split("\n"):
         if line.startswith("function: "):
-            edit.function = line[len("function: ") :].strip()
+            edit.function = line.removeprefix("function: ").strip()
         elif line.startswith("file: "):
-            path = line[len("file: ") :].strip()
+            path = line.removeprefix("file: ").strip()
         elif line.startswith("old: "):
-            old = line[len("old: ") :]
+            old = line.removeprefix("old: ")
         elif line.startswith("new:"):
             if not path or not old:
                 raise BadEdit("a line 'new:' stands before any 'file:' or 'old:'")
-            new = line[len("new:") :]
-            edit.pairs.append((path, old, new[1:] if new.startswith(" ") else new))
+            edit.pairs.append((path, old, line.removeprefix("new:").removeprefix(" ")))
             old = None
     if not edit.function:
         raise BadEdit("it has no line 'function: PATH'")
@@ -79,8 +84,7 @@ class Sources:
     def text(self, path):
         if path not in self.texts:
             try:
-                with open(f"{self.folder}/{path}", encoding="utf-8") as it:
-                    self.texts[path] = it.read()
+                self.texts[path] = text_of(f"{self.folder}/{path}")
             except OSError:
                 raise BadEdit(f"there is no file {path}") from None
         return self.texts[path]
@@ -99,7 +103,7 @@ class Sources:
 
     def write(self, room):
         for path, text in self.texts.items():
-            with open(f"{room}/{path}", "w", encoding="utf-8") as it:
+            with open(f"{room}/{path}", "w", encoding="utf-8", errors="surrogateescape") as it:
                 it.write(text)
 
     def emptied(self, files, is_kept):
@@ -118,25 +122,19 @@ def items_of(file, text):
     """The functions and constants of a source."""
     lines, found, owner = text.split("\n"), [], ""
     for at, line in enumerate(lines):
-        function = FUNCTION.match(line)
+        function, constant, head = FUNCTION.match(line), CONSTANT.match(line), at
         if function:
             indent, name = function.groups()
-            last = end_of_function(lines, at, indent)
-            head = head_of(lines, at)
+            while head > 0 and lines[head - 1].strip().startswith(("#[", "//")):
+                head -= 1
             cycle = CYCLE.search("\n".join(lines[head:at]))
+            last = end_of_function(lines, at, indent)
             found.append(Item(file, name, head, at, last, True, owner if indent else "", cycle[1] if cycle else ""))
         elif OWNER.match(line):
             owner = OWNER.match(line)[1]
-        elif CONSTANT.match(line):
-            found.append(Item(file, CONSTANT.match(line)[1], at, at, end_of(lines, at, ""), False))
+        elif constant:
+            found.append(Item(file, constant[1], at, at, end_of_constant(lines, at), False))
     return found
-
-
-def head_of(lines, at):
-    """The line where the attributes and comments right before a line begin."""
-    while at > 0 and lines[at - 1].strip().startswith(("#[", "//")):
-        at -= 1
-    return at
 
 
 def end_of_function(lines, at, indent):
@@ -153,6 +151,13 @@ def end_of_function(lines, at, indent):
     return len(lines) - 1
 
 
+def end_of_constant(lines, at):
+    """The last line of the constant or table that begins at a line: that one, or a closing bracket below its head."""
+    if lines[at].rstrip().endswith((";", "}")):
+        return at
+    return next((it for it in range(at + 1, len(lines)) if re.match(r"[\]})]+;?$", lines[it])), len(lines) - 1)
+
+
 def empty(lines, item):
     """Takes a function's body away, with the attributes that only a body has, and leaves its contract, so that nothing is
     to be proved of it, and those that call it are judged as before. No line is added or lost. Returns whether it has a
@@ -164,10 +169,7 @@ def empty(lines, item):
     has_body = last == indent + "}" and opened or last == indent + "{}" and item.first < item.last
     if not has_body or "const fn" in head:
         return False
-    for at in range(item.head, item.first):
-        if lines[at].lstrip().startswith(("#[cycle(", "#[tactic(")):
-            lines[at] = ""
-    lines[item.first] = f"{indent}#[tactic(none)] {head.lstrip()}"
+    search_not(lines, item, ("#[cycle(", "#[tactic("))
     if last == indent + "{}":
         lines[item.last] = indent + "{ unreachable!() }"
     else:
@@ -175,15 +177,13 @@ def empty(lines, item):
     return True
 
 
-def end_of(lines, at, indent):
-    """The last line of the constant or table that begins at a line: the one that ends it, or a closing bracket below its head."""
-    for later in range(at, len(lines)):
-        line = lines[later]
-        if later == at and line.rstrip().endswith((";", "}")):
-            return at
-        if later > at and re.match(rf"^{indent}[\]}})]+;?$", line):
-            return later
-    return len(lines) - 1
+def search_not(lines, item, without=("#[tactic(",)):
+    """Leaves all goals of a function open, in place of a search for them, and takes such attributes away."""
+    for at in range(item.head, item.first):
+        if lines[at].lstrip().startswith(without):
+            lines[at] = ""
+    head = lines[item.first].lstrip()
+    lines[item.first] = f"{lines[item.first][: -len(head)]}#[tactic(none)] {head}"
 
 
 class Crate:
@@ -192,15 +192,11 @@ class Crate:
     def __init__(self, folder):
         self.folder, self.items, self.files = folder, [], []
         for at, _, names in sorted(os.walk(f"{folder}/src")):
-            for name in sorted(names):
-                if name.endswith(".rt"):
-                    path = os.path.relpath(f"{at}/{name}", folder)
-                    self.files.append(path)
-                    with open(f"{at}/{name}", encoding="utf-8") as it:
-                        text = it.read()
-                    for item in items_of(path, text):
-                        lines = text.split("\n")[item.first : item.last + 1]
-                        self.items.append((item, "\n".join(lines)))
+            self.files += [os.path.relpath(f"{at}/{it}", folder) for it in sorted(names) if it.endswith(".rt")]
+        for path in self.files:
+            text = text_of(f"{folder}/{path}")
+            for item in items_of(path, text):
+                self.items.append((item, "\n".join(text.split("\n")[item.first : item.last + 1])))
 
     def named(self, path):
         """The functions of the sources that a check calls by this path: of that name, and of that type or file."""
@@ -212,7 +208,7 @@ class Crate:
             if item.owner:
                 heads = item.owner.partition(" where ")[0].partition(" for ")
                 words, of_box = re.findall(r"\w+", " ".join(heads)), re.findall(r"\w+", heads[2] + heads[0])
-                fits = any(owner == it for it in words) or owner and owner in {a + b for a in words for b in words}
+                fits = owner in words or owner and owner in {a + b for a in words for b in words}
                 # `impl Tr for Box<dyn Tr + Send>` is called BoxDynTrSendTr
                 fits = fits or owner == "".join(it[0].upper() + it[1:] for it in of_box)
                 # the second `impl` of methods of one name, `impl<T> A<B<T>>`, is called A+B+T
@@ -224,37 +220,23 @@ class Crate:
                 found.append(item)
         return found
 
-    def members(self, cycle):
-        """How many functions are declared to be in a cycle of calls."""
-        return sum(it.cycle == cycle for it, _ in self.items)
-
-    def using(self, names):
-        """Those names of items, and of all items that speak of them, directly or through constants."""
-        seen = set(names)
-        while True:
-            words = re.compile(r"\b(" + "|".join(map(re.escape, sorted(seen))) + r")\b")
-            more = {it.name for it, text in self.items if not it.is_function and words.search(text)} - seen
-            if not seen or not more:
-                break
-            seen |= more
-        users = [it for it, text in self.items if it.is_function and seen and words.search(text)]
-        return seen, users
+    def is_of_several(self, path):
+        """Whether a function is declared to be in a cycle of calls with others."""
+        cycles = {it.cycle for it in self.named(path) if it.cycle}
+        return any(sum(it.cycle == cycle for it, _ in self.items) > 1 for cycle in cycles)
 
     def is_of_body(self, path, line):
         """Whether a line is one of a function, of a constant or table, an import, or a comment."""
-        with open(f"{self.folder}/{path}", encoding="utf-8") as it:
-            text = it.read().split("\n")[line]
-        is_there = lambda it: it.file == path and it.head <= line <= it.last
-        return text.lstrip().startswith(("//", "use ")) or any(is_there(it) for it, _ in self.items)
+        text = text_of(f"{self.folder}/{path}").split("\n")[line]
+        return text.lstrip().startswith(("//", "use ")) or any(it.has(path, line) for it, _ in self.items)
 
-    def touched(self, places):
-        """What edits at these places change: functions, and the names of constants."""
-        functions, constants = [], set()
-        for path, line in places:
-            for item, _ in self.items:
-                if item.file == path and item.first <= line <= item.last:
-                    if item.is_function:
-                        functions.append(item)
-                    else:
-                        constants.add(item.name)
-        return functions, constants
+    def changed_by(self, places):
+        """The functions that edits at these places change, by a constant too, which they speak of directly or through
+        other constants."""
+        touched = [it for it, _ in self.items if any(it.file == path and it.first <= at <= it.last for path, at in places)]
+        functions, seen, more = [it for it in touched if it.is_function], set(), {it.name for it in touched if not it.is_function}
+        while more:
+            seen |= more
+            words = re.compile(r"\b(" + "|".join(map(re.escape, sorted(seen))) + r")\b")
+            more = {it.name for it, text in self.items if not it.is_function and words.search(text)} - seen
+        return functions + [it for it, text in self.items if it.is_function and seen and words.search(text)]

@@ -31,30 +31,22 @@ class Said:
         return not self.is_proved and bool(self.evidence)
 
 
-def files_of_proofs(functions):
-    """By the folder of its proof files, each function; of a cycle, its members."""
-    found = {}
-    for path in functions:
-        *above, name = path.split("::")
-        found.setdefault("/".join([*above, name]), []).append(path)
-    return found
-
-
 def judged(sources, lines):
     """What a check's lines say, by function (its path below the crate); None where the text could not be read."""
     names = [FUNCTION.match(it) for it in lines]
     said = {it[1].partition("::")[2]: Said(it[2]) for it in names if it}
     if not said or any(is_unread(it) for it in lines):
         return None
-    folders, places = files_of_proofs(said), {it: sources.named(it) for it in said}
+    places = {it: sources.named(it) for it in said}
     for line in lines:
         in_proof, goal, function = IN_PROOF.match(line), GOAL.match(line), FUNCTION.match(line)
         if in_proof:
-            for path in blamed(in_proof[1], in_proof[2] or "", said, folders):
+            for path in blamed(in_proof[1], in_proof[2] or "", said):
                 kind = said[path].taken_away if TAKEN_AWAY.search(in_proof[3]) else said[path].evidence
                 kind.append(line)
         elif goal:
-            for path in standing_at(goal[1], int(goal[2]) - 1, places):
+            # (no edit changes the number of lines)
+            for path in [it for it in said if any(item.has(goal[1], int(goal[2]) - 1) for item in places[it])]:
                 said[path].evidence.append(line)
         elif function and "expected answers" in function[2] and is_own(sources, function):
             said[function[1].partition("::")[2]].evidence.append(line)
@@ -65,14 +57,7 @@ def is_own(sources, function):
     """Whether a function's line speaks of a goal of its own. Those of a cycle of calls have one line, which names the
     goals of all: each begins with the member that it is of."""
     path = function[1].partition("::")[2]
-    is_one_of_several = any(sources.members(it.cycle) > 1 for it in sources.named(path) if it.cycle)
-    return not is_one_of_several or f"`{path.rpartition('::')[2]}-" in function[2]
-
-
-def standing_at(file, line, places):
-    """The functions whose text has this line. No edit changes the number of lines."""
-    is_there = lambda it: it.file == file and it.head <= line <= it.last
-    return [path for path, items in places.items() if any(is_there(it) for it in items)]
+    return not sources.is_of_several(path) or f"`{path.rpartition('::')[2]}-" in function[2]
 
 
 def is_unread(line):
@@ -83,13 +68,14 @@ def is_unread(line):
     return bool(at) and (not re.search(r"error: `[^`]*`: ", line) or bool(UNREAD.search(re.sub(r"`[^`]*`", "", line))))
 
 
-def blamed(file, declaration, said, folders):
+def blamed(file, declaration, said):
     """The functions that an error in a proof file speaks of: the one whose folder it is in, or, in the folder of a
     cycle (its name begins with +), the member that the declaration names first; the names of a cycle of one function
     don't begin so."""
     folder = file.rpartition("/")[0]
-    if folder in folders:
-        return folders[folder]
+    own = folder.replace("/", "::")
+    if own in said:
+        return [own]
     above, _, last = folder.rpartition("/")
     if not last.startswith("+"):
         return []

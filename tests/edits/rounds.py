@@ -1,116 +1,55 @@
 """Tries a crate's edits: many of different functions in one check, what isn't clear there alone."""
 
+import collections
 import os
-import tempfile
-from dataclasses import dataclass
 
 import edits
 import judge
 import toolchain
 
-
-@dataclass
-class Tried:
-    """What came of an edit: whether that is what must come of it, and the words for it."""
-
-    label: str
-    is_well: bool
-    text: str
-
-
-@dataclass
-class Round:
-    """Edits of different functions, applied to one copy of the crate's sources."""
-
-    sources: edits.Sources
-    taken: list
-    names: set
+# What came of an edit: whether that is what must come of it, and the words for it.
+Tried = collections.namedtuple("Tried", "label is_well text")
 
 
 class Trial:
     """The edits of one crate, tried in checks over the same kept work.
 
-    A function is judged by what those promise that it calls, not by how they keep it. So a round empties all functions
-    that it doesn't edit: nothing is to be proved of them, and they call nothing themselves. Such a round can only show
-    that an edit is refused. One of whose function no goal of its own is refused there, and a control that isn't proved,
+    A function is judged by what those promise that it calls, not by how they keep it. So a first round empties all
+    functions that it doesn't edit: nothing is to be proved of them, and they call nothing themselves. Such a round can only
+    show that an edit is refused. One of whose function no goal of its own is refused there, and a control that isn't proved,
     is tried again in a round of whole texts, and what isn't clear in that, alone."""
 
     def __init__(self, crate, given, controls, jobs, room):
         self.crate, self.room, self.kept, self.jobs = crate, f"{room}/source", f"{room}/kept", jobs
-        self.sources = edits.Crate(crate.folder)
-        self.controls, self.given, self.checks, self.seconds, self.found = controls, given, 0, 0.0, {}
-        self.unread = []
+        self.sources, self.controls, self.given = edits.Crate(crate.folder), controls, given
+        self.checks, self.seconds, self.found, self.alone, self.lines = 0, 0.0, {}, [], []
         os.makedirs(self.room)
 
     def run(self):
         """Tries all, and returns what came of each."""
-        left = []
-        for edit in [*self.controls, *self.given]:
-            try:
-                edits.Sources(self.crate.folder).with_edit(edit)
-                if not self.sources.named(edit.function):
-                    raise edits.BadEdit(f"the crate has no function {edit.function}")
-                left.append(edit)
-            except edits.BadEdit as why:
-                self.tell(edit, False, f"BAD EDIT: {why}")
+        left = list(filter(self.applies, [*self.controls, *self.given]))
         others = [it for it in left if not self.is_of_bodies(it)]
-        unclear = self.in_rounds([it for it in left if it not in others], self.try_emptied)
-        for edit in [*self.in_rounds(unclear + others, self.try_whole), *self.unread]:
+        unclear = self.in_rounds([it for it in left if it not in others], is_whole=False)
+        for edit in [*self.in_rounds(unclear + others, is_whole=True), *self.alone]:
             self.try_alone(edit)
         return [self.found[it.name] for it in [*self.controls, *self.given]]
+
+    def applies(self, edit):
+        """Whether an edit can be applied, to a function that is there."""
+        try:
+            self.after([edit])
+            if not self.sources.named(edit.function):
+                raise edits.BadEdit(f"the crate has no function {edit.function}")
+        except edits.BadEdit as why:
+            self.tell(edit, False, f"BAD EDIT: {why}")
+            return False
+        return True
 
     def is_of_bodies(self, edit):
         """Whether an edit changes functions, constants and comments alone: no type, no definition and no proof, which
         functions would show that a round empties."""
-        _, places = edits.Sources(self.crate.folder).with_edit(edit)
+        _, places = self.after([edit])
         return all(path.startswith("src/") and self.sources.is_of_body(path, line) for path, line in places)
-
-    def in_rounds(self, left, attempt):
-        """Tries edits in rounds of one kind; returns those that none of them clears."""
-        unclear = []
-        while left:
-            chosen, left = self.next_round(left)
-            again, more = attempt(chosen)
-            # A round that clears nothing would come again as it was.
-            left, unclear = (left + again, unclear) if len(again) < len(chosen.taken) else (left, unclear + again)
-            unclear += more
-        return unclear
-
-    def next_round(self, left):
-        """A round of those edits that go together, and those that are left for later ones."""
-        chosen, later = Round(edits.Sources(self.crate.folder), [], set()), []
-        for edit in left:
-            if not self.add(chosen, edit):
-                later.append(edit)
-        return chosen, later
-
-    def add(self, chosen, edit):
-        """Adds an edit to a round where no other edit there changes its function or a constant that it uses, and it
-        changes none of another's."""
-        try:
-            sources, places = chosen.sources.with_edit(edit)
-        except edits.BadEdit:
-            return False
-        functions, constants = self.sources.touched(places)
-        _, users = self.sources.using(constants) if constants else (set(), [])
-        changed = [*functions, *users, *self.sources.named(edit.function)]
-        names = {(it.file, it.name, it.owner) for it in changed}
-        if names & chosen.names:
-            return False
-        chosen.sources, chosen.names = sources, chosen.names | names
-        chosen.taken.append(edit)
-        return True
-
-    def emptied(self, chosen):
-        """The round's sources with all functions emptied that it doesn't edit and that are in no cycle with one that it
-        does; and those functions."""
-        _, places = self.after(chosen.taken)
-        named = {(it.file, it.first) for edit in chosen.taken for it in self.sources.named(edit.function)}
-        is_edited = lambda it: any(it.file == file and it.head <= line <= it.last for file, line in places)
-        is_named = lambda it: (it.file, it.first) in named
-        items = [it for file in self.sources.files for it in edits.items_of(file, chosen.sources.text(file))]
-        cycles = {it.cycle for it in items if it.cycle and (is_edited(it) or is_named(it))}
-        return chosen.sources.emptied(self.sources.files, lambda it: is_edited(it) or is_named(it) or it.cycle in cycles)
 
     def after(self, taken):
         """The sources with these edits, and the places that they change."""
@@ -120,107 +59,111 @@ class Trial:
             places += more
         return sources, places
 
-    def check(self, sources, functions, gone=()):
-        """Checks these functions in a copy of the crate with these sources, without the proofs of those that are gone."""
-        self.checks += 1
-        toolchain.copy_of(self.crate, self.room)
-        sources.write(self.room)
-        self.drop_proofs(gone)
-        status, lines, seconds = toolchain.check(self.crate, self.room, self.kept, functions, self.jobs())
-        self.seconds += seconds
-        return judge.judged(self.sources, lines) if status in (0, 1, 3) else None, lines
-
-    def drop_proofs(self, gone):
-        """Removes the proof files of emptied functions from the copy: they name what isn't there."""
-        places, cycles = {(it.file, it.first) for it in gone}, {it.cycle for it in gone}
-        for at, _, files in os.walk(f"{self.room}/proofs") if gone else []:
-            path = os.path.relpath(at, f"{self.room}/proofs").split("/")
-            items = self.sources.named("::".join(path))
-            is_gone = bool(items) and all((it.file, it.first) in places for it in items)
-            if is_gone or path[-1].startswith("+") and path[-1][1:] in cycles:
-                for name in {"Answers.antt", "Invariants.antt", "Proof.antt"} & set(files):
-                    os.remove(f"{at}/{name}")
-
-    def try_emptied(self, chosen):
-        """Tries a round in which all other functions are emptied; returns no edit to try in another such round, and
-        those that aren't clear."""
-        sources, gone = self.emptied(chosen)
-        said, _ = self.check(sources, [it.function for it in chosen.taken], gone)
-        if said is None:
-            return self.halved(chosen, self.try_emptied)
-        if self.stray(chosen.taken, said, gone):
-            return [], chosen.taken
+    def in_rounds(self, left, is_whole):
+        """Tries edits in rounds of those that go together; returns those that aren't clear then."""
         unclear = []
-        for edit in chosen.taken:
+        while left:
+            taken, left = self.next_round(left)
+            unclear += self.try_together(taken, is_whole)
+        return unclear
+
+    def next_round(self, left):
+        """Of these edits those that go together, none of which changes the function of another one or a constant that it
+        uses, and those that are left for later."""
+        sources, names, taken, later = edits.Sources(self.crate.folder), set(), [], []
+        for edit in left:
+            try:
+                after, places = sources.with_edit(edit)
+            except edits.BadEdit:
+                later.append(edit)
+                continue
+            own = {(it.file, it.name, it.owner) for it in [*self.sources.changed_by(places), *self.sources.named(edit.function)]}
+            if own & names:
+                later.append(edit)
+            else:
+                sources, names, taken = after, names | own, [*taken, edit]
+        return taken, later
+
+    def try_together(self, taken, is_whole):
+        """Tries edits in one check, in halves where the text can't be read; returns those that aren't clear there."""
+        gone, said = [], None
+        if not is_whole or len(taken) > 1:
+            sources, gone = (self.after(taken)[0], []) if is_whole else self.emptied(taken)
+            said = self.check(sources, [it.function for it in taken], gone)
+        if said is None and len(taken) == 1:
+            self.alone += taken
+            return []
+        if said is None:
+            half = len(taken) // 2
+            return self.try_together(taken[:half], is_whole) + self.try_together(taken[half:], is_whole)
+        if self.stray(taken, said, gone):
+            return taken
+        unclear = []
+        for edit in taken:
             of_it = said.get(edit.function, judge.Said())
             if of_it.is_proved or of_it.is_refused and edit not in self.controls:
                 self.settle(edit, of_it)
             else:
                 unclear.append(edit)
-        return [], unclear
+        return unclear
 
-    def try_whole(self, chosen):
-        """Tries a round in which no function is emptied; returns the edits to try in another one, and those to try
-        alone."""
-        if len(chosen.taken) == 1:
-            self.try_alone(chosen.taken[0])
-            return [], []
-        said, _ = self.check(chosen.sources, [it.function for it in chosen.taken])
-        if said is None:
-            return self.halved(chosen, self.try_whole)
-        if self.stray(chosen.taken, said):
-            return [], chosen.taken
-        again = []
-        for edit in chosen.taken:
-            of_it = said.get(edit.function, judge.Said())
-            if edit in self.controls or of_it.is_proved or of_it.is_refused:
-                self.settle(edit, of_it)
-            else:
-                again.append(edit)
-        return again, []
+    def emptied(self, taken):
+        """The sources with these edits and with all functions emptied that they don't change and that are in no cycle with
+        one that they do; and those functions."""
+        sources, places = self.after(taken)
+        named = {it.place for edit in taken for it in self.sources.named(edit.function)}
+        is_own = lambda it: it.place in named or any(it.has(*place) for place in places)
+        items = [it for file in self.sources.files for it in edits.items_of(file, sources.text(file))]
+        cycles = {it.cycle for it in items if it.cycle and is_own(it)}
+        return sources.emptied(self.sources.files, lambda it: is_own(it) or it.cycle in cycles)
 
-    def halved(self, chosen, attempt):
-        """Tries the halves of a round whose text could not be read, or whose check ended otherwise; a single edit of that
-        kind alone, at the end."""
-        if len(chosen.taken) == 1:
-            self.unread += chosen.taken
-            return [], []
-        half, again, alone = len(chosen.taken) // 2, [], []
-        for part in (chosen.taken[:half], chosen.taken[half:]):
-            smaller, rest = self.next_round(part)
-            more, unclear = attempt(smaller)
-            again, alone = again + more + rest, alone + unclear
-        return again, alone
+    def check(self, sources, functions, gone=(), answers=None):
+        """What a check says of these functions in a copy of the crate with these sources, without the proofs of those that
+        are gone, and with these answers in place of the stored ones (an empty text: none)."""
+        toolchain.copy_of(self.crate, self.room)
+        sources.write(self.room)
+        self.drop_proofs(gone)
+        for path, text in (answers or {}).items():
+            file = f"{self.room}/proofs/{path.replace('::', '/')}/Answers.antt"
+            if text:
+                with open(file, "w", encoding="utf-8") as it:
+                    it.write(text)
+            elif os.path.isfile(file):
+                os.remove(file)
+        status, self.lines, seconds = toolchain.check(self.crate, self.room, self.kept, functions, self.jobs())
+        self.checks, self.seconds = self.checks + 1, self.seconds + seconds
+        return judge.judged(self.sources, self.lines) if status in (0, 1, 3) else None
+
+    def drop_proofs(self, gone):
+        """Removes the proof files of emptied functions from the copy: they name what isn't there."""
+        places, cycles = {it.place for it in gone}, {it.cycle for it in gone}
+        for at, _, files in os.walk(f"{self.room}/proofs") if gone else []:
+            path = os.path.relpath(at, f"{self.room}/proofs").split("/")
+            items = {it.place for it in self.sources.named("::".join(path))}
+            is_gone = bool(items) and items <= places
+            if is_gone or path[-1].startswith("+") and path[-1][1:] in cycles:
+                for name in {"Answers.antt", "Invariants.antt", "Proof.antt"} & set(files):
+                    os.remove(f"{at}/{name}")
 
     def try_alone(self, edit):
         """Tries one edit in a check of its own."""
-        sources, _ = edits.Sources(self.crate.folder).with_edit(edit)
-        said, lines = self.check(sources, [edit.function])
+        said = self.check(self.after([edit])[0], [edit.function])
+        stray = said is not None and self.stray([edit], said)
         if said is None:
-            unread = next((it for it in lines if judge.is_unread(it)), lines[-1])
+            unread = next(filter(judge.is_unread, self.lines), self.lines[-1])
             self.tell(edit, False, f"BAD EDIT: it did not reach the prover, or could not be read: {unread[:200]}")
-            return
-        stray = self.stray([edit], said)
-        if stray:
+        elif stray:
             self.tell(edit, False, f"NOT CLEAR: {stray} is refused too, which the edit does not change")
-            return
-        self.settle(edit, said.get(edit.function, judge.Said()))
+        else:
+            self.settle(edit, said.get(edit.function, judge.Said()))
 
     def stray(self, taken, said, gone=()):
         """A function that is refused by itself though it wasn't emptied and none of these edits changes it, a constant
         that it uses, or its cycle of calls; None where there is none."""
-        _, places = self.after(taken)
-        functions, constants = self.sources.touched(places)
-        _, users = self.sources.using(constants) if constants else (set(), [])
-        changed = [*functions, *users]
-        cycles, emptied = {it.cycle for it in changed if it.cycle}, {(it.file, it.first) for it in gone}
-        for path, of_it in said.items():
-            items = self.sources.named(path)
-            is_changed = lambda it: it in changed or it.cycle in cycles or (it.file, it.first) in emptied
-            is_excused = any(map(is_changed, items)) or not items
-            if not of_it.is_proved and of_it.evidence and not is_excused:
-                return path
-        return None
+        changed = self.sources.changed_by(self.after(taken)[1])
+        cycles, places = {it.cycle for it in changed if it.cycle}, {it.place for it in [*changed, *gone]}
+        is_excused = lambda items: not items or any(it.place in places or it.cycle in cycles for it in items)
+        return next((it for it in said if said[it].is_refused and not is_excused(self.sources.named(it))), None)
 
     def settle(self, edit, of_it):
         """Judges what a check said of an edit's function."""
@@ -239,11 +182,3 @@ class Trial:
 
     def tell(self, edit, is_well, text):
         self.found[edit.name] = Tried(edit.label, is_well, text)
-
-
-def try_crate(crate, given, controls, jobs=lambda: 1):
-    """Tries a crate's edits and its controls, each check with as many jobs as there are by then; returns what came of
-    each, and what that took."""
-    with tempfile.TemporaryDirectory(prefix="syc-edits-") as room:
-        trial = Trial(crate, given, controls, jobs, room)
-        return trial.run(), f"{trial.checks} checks, {trial.seconds:.0f} processor seconds"

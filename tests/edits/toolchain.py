@@ -1,52 +1,34 @@
 """The toolchain's own words for a check: which crates there are, what each stands on, how rattle is called."""
 
-import importlib.machinery
-import importlib.util
 import os
 import re
 import shutil
 import subprocess
 import sys
 
-PARTS = ("src", "specs", "proofs")
+rt = shutil.which("rt") or sys.exit("tests/edits/run: the command rt of the toolchain is not on PATH")
+sys.path.append(os.path.dirname(os.path.realpath(rt)))
 
-
-def _load():
-    rt = shutil.which("rt") or sys.exit("tests/edits/run: the command rt of the toolchain is not on PATH")
-    file = os.path.join(os.path.dirname(os.path.realpath(rt)), "rtlib.py")
-    sys.dont_write_bytecode = True
-    loader = importlib.machinery.SourceFileLoader("rtlib", file)
-    made = importlib.util.module_from_spec(importlib.util.spec_from_loader("rtlib", loader))
-    sys.modules["rtlib"] = made
-    loader.exec_module(made)
-    return made
-
-
-rtlib = _load()
+import rtlib  # noqa: E402
 
 
 def crates_of(root):
     """The crates of a repository, each after those that it stands on, by name."""
     os.chdir(root)
-    found = sorted(rtlib.crates_below(root), key=lambda it: len(it.below()))
-    return {it.name: it for it in found}
+    return {it.name: it for it in sorted(rtlib.crates_below(root), key=lambda it: len(it.below()))}
 
 
 def build_below(crate):
-    """Builds the libraries that a crate stands on, over what earlier checks kept; whether all are there."""
-    return not any(it.build_rlib(["--jobs", "1"], anew=False) for it in crate.below())
+    """Has rt build the libraries that a crate stands on, over what earlier checks kept; whether all are there."""
+    how = {"stdin": subprocess.DEVNULL, "stdout": subprocess.DEVNULL}
+    return all(it.is_built() or not subprocess.run(["rt", "lib"], cwd=it.folder, **how).returncode for it in crate.below())
 
 
-def are_built(crate):
-    """Whether the libraries that a crate stands on are there, as a run of the gate leaves them."""
-    return all(os.path.isdir(it.rlib) for it in crate.below())
-
-
-def check(crate, room, kept, functions, jobs=1, tests=False):
-    """What a check of the crate in `room`, with its tests or without, says of these functions and those that they
-    call (where none is named, of all); `kept` has what earlier checks proved. Returns its status, its lines and its
-    processor seconds, those of its other jobs with them."""
-    words = [*crate.words(["--jobs", str(jobs)], tests=tests, keeps=False), "--incremental", kept]
+def check(crate, room, kept, functions, jobs=1):
+    """What a check of the crate in `room` says of these functions and those that they call (where none is named, of all);
+    `kept` has what earlier checks proved. Returns its status, its lines and its processor seconds, those of its other jobs
+    with them."""
+    words = [*crate.words(["--jobs", str(jobs)], keeps=False), "--incremental", kept]
     for it in functions:
         words += ["--only", it]
     how = {"cwd": room, "stdin": subprocess.DEVNULL, "stdout": subprocess.PIPE, "stderr": subprocess.STDOUT}
@@ -61,7 +43,7 @@ def check(crate, room, kept, functions, jobs=1, tests=False):
 
 def copy_of(crate, room):
     """Copies the crate's sources, definitions and proofs to `room`."""
-    for part in PARTS:
+    for part in ("src", "specs", "proofs"):
         shutil.rmtree(f"{room}/{part}", ignore_errors=True)
         if os.path.isdir(f"{crate.folder}/{part}"):
             shutil.copytree(f"{crate.folder}/{part}", f"{room}/{part}")
