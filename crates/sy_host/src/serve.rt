@@ -264,7 +264,7 @@ where
     R: Net<Listener = TcpListener, Stream = TcpStream>,
     requires exists { served.relay < length served.site.now.relays }
     ensures status { result ≤ 4 }
-    ensures done { result ≡ 0 → EndsWithTotals (plan_at served.site.now served.relay).actions run.0
+    ensures done { result ≡ 0 → EndsWithTotals (plan_at served.entry.site.now served.entry.relay).actions run.0
         (W.contents writer.old) (W.contents writer.new) }
 {
     let (relay, workers) = run;
@@ -312,6 +312,7 @@ where
     ensures done { result ≡ 0 → EndsWithTotals (plan_at served.entry.site.now served.entry.relay).actions served.entry.guard
         (W.contents writer.old) (W.contents writer.new) }
 {
+    let guard = served.guard.take();
     let mut boxes: Vec<BoxedDevice> = Vec::new(alloc);
     let mut left = VecDeque::from(mem::replace(&mut served.devices, Vec::new(alloc)));
     while let Some(device) = left.pop_front() {
@@ -323,7 +324,6 @@ where
         };
     }
     let plan = served.site.plan(served.relay);
-    let guard = served.guard.take();
     let Ok(run) = start(rt, alloc, plan, guard, boxes, serving.log()) else {
         return out_of_memory(&rt, serving);
     };
