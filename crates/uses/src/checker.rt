@@ -21,7 +21,11 @@ pub fn guarded_plan(alloc: Global) -> Option<(Arc<Plan>, Guard)>
     let Ok(accepted) = check_site(alloc, &site) else {
         return None;
     };
-    let plan = Arc::try_clone(Accepted::plan(&accepted, 0)).ok()?;
-    let guard = accepted.guard(alloc, 0).ok()?;
+    let Ok(plan) = Arc::try_clone(Accepted::plan(&accepted, 0)) else {
+        return None;
+    };
+    let Ok(guard) = accepted.guard(alloc, 0) else {
+        return None;
+    };
     Some((plan, guard))
 }

@@ -7,7 +7,7 @@ use std::sync::Wait;
 use std::thread::Threads;
 use std::time::Clock;
 use sy_actions::MemoryDevice;
-use sy_runtime::{BoxedDevice, Gate, Relay, Stopped};
+use sy_runtime::{BoxedDevice, Gate, Relay};
 
 /// A gate that does nothing.
 #[derive(Drop)]
@@ -30,25 +30,22 @@ pub fn guarded_relay_without_workers(alloc: Global) -> Option<Relay<NoGate>> {
     Relay::new(alloc, plan, Some(guard), NoGate).ok()
 }
 
-// A device.
-fn device(alloc: Global) -> Option<Vec<BoxedDevice>> {
+/// A relay that is started with a guard and a device for each of its actions, which is one, and stopped: how many messages it took.
+pub fn guarded_relay_that_is_started<
+    R: Threads + Wait + Clock + Copy + Drop + Send + Sync + 'static,
+>(rt: R, alloc: Global) -> Option<u64> {
+    let (plan, guard) = guarded_plan(alloc)?;
     let mut devices: Vec<BoxedDevice> = Vec::new(alloc);
     let device = Box::new(alloc, MemoryDevice::new(0, 0)).ok()?;
     devices.push(device).ok()?;
-    Some(devices)
-}
-
-/// A relay that is started with a guard and a device for each of its actions, and stopped.
-pub fn guarded_relay_that_is_started<
-    R: Threads + Wait + Clock + Copy + Drop + Send + Sync + 'static,
->(rt: R, alloc: Global) -> Option<Stopped> {
-    let (plan, guard) = guarded_plan(alloc)?;
-    let devices = device(alloc)?;
     if devices.len() != plan.actions().len() {
         return None;
     }
     match Relay::start(rt, alloc, plan, Some(guard), devices, NoGate) {
-        Ok((relay, workers)) => relay.stop(&rt, workers, Vec::new(alloc)).ok(),
+        Ok((relay, workers)) => match relay.stop(&rt, workers, Vec::new(alloc)) {
+            Ok(stopped) => Some(stopped.accounts.taken()),
+            Err(_) => None,
+        },
         Err(_) => None,
     }
 }
