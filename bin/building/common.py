@@ -12,8 +12,7 @@ import threading
 import time
 
 TOP = os.path.dirname(os.path.dirname(os.path.dirname(os.path.realpath(__file__))))
-# The crates of the libraries' tests, which are no crates of the repository: their folder, and what each stands on. The files
-# in it end with .text too.
+# The crates of the libraries' tests, which are no crates of the repository: their folder, and what each stands on.
 TESTS, USES = "tests/libraries", "tests/libraries/uses.txt"
 
 running = set()  # the processes that go on, each with a group of its own

@@ -1,5 +1,6 @@
 """Records of which edits of a crate were refused, by the sum of all that the refusals rest on."""
 
+import glob
 import hashlib
 import os
 import re
@@ -74,12 +75,11 @@ def sum_of(top, crate, below):
 def edits_of(top, crate, wanted=()):
     """The crate's edits that are named (all where none is), and those that can't be read, with the reason."""
     folder, good, bad = f"{top}/crates/{crate}/must-fail", [], []
-    found = sorted(it.removesuffix(".edit") for it in os.listdir(folder) if it.endswith(".edit")) if os.path.isdir(folder) else []
-    for name in wanted or found:
-        if name not in found:
-            sys.exit(f"tests/edits/run: {crate} has no edit {name}")
+    for name in wanted or sorted(os.path.basename(it).removesuffix(".edit") for it in glob.glob(f"{glob.escape(folder)}/*.edit")):
         try:
             good.append(edits.read_edit(crate, f"{folder}/{name}.edit"))
+        except FileNotFoundError:
+            sys.exit(f"tests/edits/run: {crate} has no edit {name}")
         except edits.BadEdit as why:
             bad.append(rounds.Tried(f"{crate}/{name}", False, f"BAD EDIT: {why}"))
     return good, bad
