@@ -19,15 +19,16 @@ impl Gate for NoGate {
     fn after(&self, _: u32) {}
 }
 
-/// A relay without workers.
-pub fn relay_without_workers(alloc: Global) -> Option<Relay<NoGate>> {
-    Relay::new(alloc, plan(alloc)?, None, NoGate).ok()
+/// Whether memory sufficed for a relay without workers.
+pub fn relay_without_workers(alloc: Global) -> Option<bool> {
+    let plan = plan(alloc)?;
+    Some(Relay::new(alloc, plan, None, NoGate).is_ok())
 }
 
-/// A relay without workers, with a guard.
-pub fn guarded_relay_without_workers(alloc: Global) -> Option<Relay<NoGate>> {
+/// Whether memory sufficed for a relay without workers, with a guard.
+pub fn guarded_relay_without_workers(alloc: Global) -> Option<bool> {
     let (plan, guard) = guarded_plan(alloc)?;
-    Relay::new(alloc, plan, Some(guard), NoGate).ok()
+    Some(Relay::new(alloc, plan, Some(guard), NoGate).is_ok())
 }
 
 /// A relay that is started with a guard and a device for each of its actions, which is one, and stopped: how many messages it took.
