@@ -1,9 +1,9 @@
 //! The arrows of a drawing.
 
-use crate::node::{Drawing, Node, Thing, is_marked, put_id};
+use crate::node::{Drawing, Node, Thing, is_marked, push_id};
 use crate::reach::{ACTIONS, How, INPUTS, LISTS, flows_of};
 use crate::relay::is_drawn;
-use crate::text::{RED, put_class_names, style_of};
+use crate::text::{RED, append_class_names, style_of};
 use std::alloc::AllocError;
 use sy_places::ways::relay_parts::{occurrences_of, queue_for};
 use sy_report::texts::words::Words;
@@ -11,11 +11,11 @@ use sy_rules::{Destination, Occurrence, Plan};
 use sy_site::{SiteAction, SiteInput};
 use sy_wire::Class;
 
-fn put_arrow(words: &mut Words, drawing: Drawing<'_>, from: Node, to: Node, how: How) {
+fn push_arrow(words: &mut Words, drawing: Drawing<'_>, from: Node, to: Node, how: How) {
     words.say("    ");
-    put_id(words, from);
+    push_id(words, from);
     words.say(" -> ");
-    put_id(words, to);
+    push_id(words, to);
     words.say(" [");
     words.say(style_of(how, drawing.is_one));
 }
@@ -29,7 +29,7 @@ fn how_for(classes: &[Class]) -> How {
 
 // ---- to queues and lists
 
-fn put_from_inputs(words: &mut Words, drawing: Drawing<'_>, relay: u32, plan: &Plan) {
+fn append_from_inputs(words: &mut Words, drawing: Drawing<'_>, relay: u32, plan: &Plan) {
     for number in 0..INPUTS {
         if let Some(input) = plan.inputs().get(number as usize) {
             let classes = drawing.reach.at_input(SiteInput {
@@ -44,7 +44,7 @@ fn put_from_inputs(words: &mut Words, drawing: Drawing<'_>, relay: u32, plan: &P
                 relay,
                 thing: Thing::Queue(input.queue),
             };
-            put_arrow(words, drawing, from, to, how_for(classes));
+            push_arrow(words, drawing, from, to, how_for(classes));
             words.say("];\n");
         }
     }
@@ -65,7 +65,7 @@ fn how_to_list(drawing: Drawing<'_>, relay: u32, plan: &Plan, list: u32) -> How 
     }
 }
 
-fn put_from_queues(words: &mut Words, drawing: Drawing<'_>, relay: u32, plan: &Plan) {
+fn append_from_queues(words: &mut Words, drawing: Drawing<'_>, relay: u32, plan: &Plan) {
     for list in 0..LISTS {
         if is_drawn(plan, list) {
             let from = Node {
@@ -77,7 +77,7 @@ fn put_from_queues(words: &mut Words, drawing: Drawing<'_>, relay: u32, plan: &P
                 thing: Thing::List(list),
             };
             let how = how_to_list(drawing, relay, plan, list);
-            put_arrow(words, drawing, from, to, how);
+            push_arrow(words, drawing, from, to, how);
             words.say("];\n");
         }
     }
@@ -113,7 +113,7 @@ fn how_of(plan: &Plan, list: u32, classes: &[Class], bits: u64) -> How {
     how
 }
 
-fn put_from_list(words: &mut Words, drawing: Drawing<'_>, relay: u32, plan: &Plan, list: u32) {
+fn push_from_list(words: &mut Words, drawing: Drawing<'_>, relay: u32, plan: &Plan, list: u32) {
     let occurrences = occurrences_of(plan, list);
     let classes = drawing.reach.at_list(relay, list);
     let mut met: u64 = 0;
@@ -131,7 +131,7 @@ fn put_from_list(words: &mut Words, drawing: Drawing<'_>, relay: u32, plan: &Pla
                 Occurrence::Post(to) => Thing::Queue(queue_for(plan, *to)),
             };
             let how = how_of(plan, list, classes, bits);
-            put_arrow(words, drawing, from, Node { relay, thing }, how);
+            push_arrow(words, drawing, from, Node { relay, thing }, how);
             words.say(if is_marked(drawing, from) && is_marked(drawing, Node { relay, thing }) {
                 RED
             } else {
@@ -143,19 +143,19 @@ fn put_from_list(words: &mut Words, drawing: Drawing<'_>, relay: u32, plan: &Pla
     }
 }
 
-fn put_from_lists(words: &mut Words, drawing: Drawing<'_>, relay: u32, plan: &Plan) {
+fn append_from_lists(words: &mut Words, drawing: Drawing<'_>, relay: u32, plan: &Plan) {
     for list in 0..LISTS {
         if is_drawn(plan, list) {
-            put_from_list(words, drawing, relay, plan, list);
+            push_from_list(words, drawing, relay, plan, list);
         }
     }
 }
 
 /// Puts the arrows from inputs to queues, from queues to lists, and from lists to actions and queues.
-pub fn put_inside(words: &mut Words, drawing: Drawing<'_>, relay: u32, plan: &Plan) {
-    put_from_inputs(words, drawing, relay, plan);
-    put_from_queues(words, drawing, relay, plan);
-    put_from_lists(words, drawing, relay, plan);
+pub fn push_inside(words: &mut Words, drawing: Drawing<'_>, relay: u32, plan: &Plan) {
+    append_from_inputs(words, drawing, relay, plan);
+    append_from_queues(words, drawing, relay, plan);
+    append_from_lists(words, drawing, relay, plan);
 }
 
 // ---- from actions
@@ -182,18 +182,22 @@ fn led_to(drawing: Drawing<'_>, action: SiteAction, destination: &Destination) -
 }
 
 // The names of classes, where they are not all that are drawn.
-fn put_label(words: &mut Words, drawing: Drawing<'_>, classes: &[Class]) -> Result<(), AllocError> {
+fn push_label(
+    words: &mut Words,
+    drawing: Drawing<'_>,
+    classes: &[Class],
+) -> Result<(), AllocError> {
     if classes.is_empty() || classes.len() == drawing.classes {
         return Ok(());
     }
     // (with a blank, so that the arrow doesn't touch it)
     words.say(", label=\" ");
-    put_class_names(drawing.alloc, words, classes)?;
+    append_class_names(drawing.alloc, words, classes)?;
     words.say("\"");
     Ok(())
 }
 
-fn put_from_action(
+fn push_from_action(
     words: &mut Words,
     drawing: Drawing<'_>,
     action: SiteAction,
@@ -205,9 +209,9 @@ fn put_from_action(
     };
     let to = led_to(drawing, action, destination);
     let how = drawing.reach.how(action.relay, action.action);
-    put_arrow(words, drawing, from, to, how);
+    push_arrow(words, drawing, from, to, how);
     let classes = drawing.reach.at_action(action.relay, action.action);
-    put_label(words, drawing, classes)?;
+    push_label(words, drawing, classes)?;
     if is_marked(drawing, from) {
         words.say(RED);
     }
@@ -216,7 +220,7 @@ fn put_from_action(
 }
 
 /// Puts the arrows from a relay's actions to files and inputs.
-pub fn put_outside(
+pub fn push_outside(
     words: &mut Words,
     drawing: Drawing<'_>,
     relay: u32,
@@ -228,7 +232,7 @@ pub fn put_outside(
                 relay,
                 action: number,
             };
-            put_from_action(words, drawing, from, &action.destination)?;
+            push_from_action(words, drawing, from, &action.destination)?;
         }
     }
     Ok(())

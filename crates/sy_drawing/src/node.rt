@@ -52,7 +52,7 @@ pub struct Drawing<'a> {
 }
 
 /// Puts the name of a node.
-pub fn put_id(words: &mut Words, node: Node) {
+pub fn push_id(words: &mut Words, node: Node) {
     let (letter, number) = match node.thing {
         Thing::Input(number) => ("i", number),
         Thing::Queue(number) => ("q", number),
@@ -72,7 +72,7 @@ pub fn put_id(words: &mut Words, node: Node) {
 /// Puts what stands before a node's label.
 pub fn begin_node(words: &mut Words, node: Node) {
     words.say("    ");
-    put_id(words, node);
+    push_id(words, node);
     words.say(" [label=\"");
 }
 
@@ -136,7 +136,7 @@ fn thing_at(
 }
 
 // Of a loop the last forward.
-fn put_forward(
+fn push_forward(
     mark: &mut Mark,
     alloc: Global,
     site: &Site,
@@ -155,7 +155,7 @@ fn put_forward(
 }
 
 // Of a circle of posts its lists and their queues.
-fn put_circle(
+fn append_circle(
     mark: &mut Mark,
     alloc: Global,
     site: &Site,
@@ -181,7 +181,7 @@ fn put_circle(
 }
 
 // What a finding is about at its input.
-fn put_at_input(
+fn push_at_input(
     mark: &mut Mark,
     alloc: Global,
     site: &Site,
@@ -203,7 +203,7 @@ fn put_at_input(
     Ok(())
 }
 
-fn put_found(
+fn push_found(
     mark: &mut Mark,
     alloc: Global,
     site: &Site,
@@ -213,9 +213,9 @@ fn put_found(
         return Ok(());
     };
     match finding.kind {
-        Kind::Loop => put_forward(mark, alloc, site, finding),
-        Kind::InnerLoop => put_circle(mark, alloc, site, spot, finding),
-        _ => put_at_input(mark, alloc, site, spot, finding),
+        Kind::Loop => push_forward(mark, alloc, site, finding),
+        Kind::InnerLoop => append_circle(mark, alloc, site, spot, finding),
+        _ => push_at_input(mark, alloc, site, spot, finding),
     }
 }
 
@@ -227,7 +227,7 @@ pub fn mark_of(alloc: Global, site: &Site, found: &Option<Finding>) -> Result<Ma
     };
     if let Some(finding) = found {
         mark.kind = finding.kind.words();
-        put_found(&mut mark, alloc, site, finding)?;
+        push_found(&mut mark, alloc, site, finding)?;
     }
     Ok(mark)
 }

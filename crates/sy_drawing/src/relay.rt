@@ -1,10 +1,10 @@
 //! The nodes of a relay in a drawing.
 
-use crate::arrow::put_inside;
-use crate::node::{Drawing, Node, Thing, begin_node, end_node, is_entry, is_marked, put_id};
+use crate::arrow::push_inside;
+use crate::node::{Drawing, Node, Thing, begin_node, end_node, is_entry, is_marked, push_id};
 use crate::reach::{ACTIONS, INPUTS, LISTS};
 use crate::text as style;
-use crate::text::{put_class_names, put_name};
+use crate::text::{append_class_names, push_name};
 use std::alloc::{AllocError, Global};
 use sy_places::ways::relay_parts::{name_of_list, queue_for};
 use sy_report::texts::parts::{Part, relay_name};
@@ -26,7 +26,7 @@ fn flow_text(flow: FlowControl) -> &'static str {
     }
 }
 
-fn put_input(words: &mut Words, drawing: Drawing<'_>, at: SiteInput, input: Input) {
+fn push_input(words: &mut Words, drawing: Drawing<'_>, at: SiteInput, input: Input) {
     let node = Node {
         relay: at.relay,
         thing: Thing::Input(at.input),
@@ -39,12 +39,12 @@ fn put_input(words: &mut Words, drawing: Drawing<'_>, at: SiteInput, input: Inpu
     end_node(words, drawing, node, !drawing.reach.at_input(at).is_empty());
     if is_entry && !is_marked(drawing, node) {
         words.say("    ");
-        put_id(words, node);
+        push_id(words, node);
         words.say(style::ENTRY);
     }
 }
 
-fn put_inputs(words: &mut Words, drawing: Drawing<'_>, relay: u32, plan: &Plan) {
+fn append_inputs(words: &mut Words, drawing: Drawing<'_>, relay: u32, plan: &Plan) {
     words.say(style::INPUTS);
     for number in 0..INPUTS {
         if let Some(input) = plan.inputs().get(number as usize) {
@@ -52,14 +52,14 @@ fn put_inputs(words: &mut Words, drawing: Drawing<'_>, relay: u32, plan: &Plan) 
                 relay,
                 input: number,
             };
-            put_input(words, drawing, at, *input);
+            push_input(words, drawing, at, *input);
         }
     }
 }
 
 // ---- queues and lists
 
-fn put_queue(
+fn push_queue(
     words: &mut Words,
     drawing: Drawing<'_>,
     node: Node,
@@ -92,7 +92,7 @@ fn is_main_reached(drawing: Drawing<'_>, relay: u32, plan: &Plan) -> bool {
     (0..LISTS).any(|l| queue_for(plan, l) == 0 && !drawing.reach.at_list(relay, l).is_empty())
 }
 
-fn put_main_queue(words: &mut Words, drawing: Drawing<'_>, relay: u32, plan: &Plan) {
+fn push_main_queue(words: &mut Words, drawing: Drawing<'_>, relay: u32, plan: &Plan) {
     let is_fed = plan.inputs().iter().any(|i| i.queue == 0);
     if let Some(queue) = plan.queues().get(0)
         && is_fed
@@ -101,7 +101,7 @@ fn put_main_queue(words: &mut Words, drawing: Drawing<'_>, relay: u32, plan: &Pl
             relay,
             thing: Thing::Queue(0),
         };
-        put_queue(
+        push_queue(
             words,
             drawing,
             node,
@@ -111,7 +111,7 @@ fn put_main_queue(words: &mut Words, drawing: Drawing<'_>, relay: u32, plan: &Pl
     }
 }
 
-fn put_own_queue(words: &mut Words, drawing: Drawing<'_>, relay: u32, plan: &Plan, list: u32) {
+fn push_own_queue(words: &mut Words, drawing: Drawing<'_>, relay: u32, plan: &Plan, list: u32) {
     let number = queue_for(plan, list);
     if number == 0 {
         return;
@@ -122,15 +122,15 @@ fn put_own_queue(words: &mut Words, drawing: Drawing<'_>, relay: u32, plan: &Pla
             thing: Thing::Queue(number),
         };
         let is_reached = !drawing.reach.at_list(relay, list).is_empty();
-        put_queue(words, drawing, node, queue, is_reached);
+        push_queue(words, drawing, node, queue, is_reached);
     }
 }
 
-fn put_queues(words: &mut Words, drawing: Drawing<'_>, relay: u32, plan: &Plan) {
+fn append_queues(words: &mut Words, drawing: Drawing<'_>, relay: u32, plan: &Plan) {
     words.say(style::QUEUES);
-    put_main_queue(words, drawing, relay, plan);
+    push_main_queue(words, drawing, relay, plan);
     for list in 0..LISTS {
-        put_own_queue(words, drawing, relay, plan, list);
+        push_own_queue(words, drawing, relay, plan, list);
     }
 }
 
@@ -139,7 +139,7 @@ pub fn is_drawn(plan: &Plan, list: u32) -> bool {
     is_given(plan, list) || queue_for(plan, list) != 0
 }
 
-fn put_list(words: &mut Words, drawing: Drawing<'_>, relay: u32, plan: &Plan, list: u32) {
+fn push_list(words: &mut Words, drawing: Drawing<'_>, relay: u32, plan: &Plan, list: u32) {
     let node = Node {
         relay,
         thing: Thing::List(list),
@@ -147,24 +147,24 @@ fn put_list(words: &mut Words, drawing: Drawing<'_>, relay: u32, plan: &Plan, li
     begin_node(words, node);
     match list {
         0 => words.say("default ruleset"),
-        _ => put_name(words, name_of_list(plan, list)),
+        _ => push_name(words, name_of_list(plan, list)),
     }
     let is_reached = !drawing.reach.at_list(relay, list).is_empty();
     end_node(words, drawing, node, is_reached);
 }
 
-fn put_lists(words: &mut Words, drawing: Drawing<'_>, relay: u32, plan: &Plan) {
+fn append_lists(words: &mut Words, drawing: Drawing<'_>, relay: u32, plan: &Plan) {
     words.say(style::LISTS);
     for list in 0..LISTS {
         if is_drawn(plan, list) {
-            put_list(words, drawing, relay, plan, list);
+            push_list(words, drawing, relay, plan, list);
         }
     }
 }
 
 // ---- actions, and where they lead
 
-fn put_action(
+fn push_action(
     words: &mut Words,
     drawing: Drawing<'_>,
     node: Node,
@@ -173,7 +173,7 @@ fn put_action(
     is_spare: bool,
 ) {
     begin_node(words, node);
-    put_name(words, action.name.as_slice());
+    push_name(words, action.name.as_slice());
     match action.retry {
         Some(0) => words.say("\\ntried once"),
         Some(count) => words.put(&[
@@ -189,12 +189,12 @@ fn put_action(
     end_node(words, drawing, node, is_run);
     if is_spare {
         words.say("    ");
-        put_id(words, node);
+        push_id(words, node);
         words.say(style::SPARE);
     }
 }
 
-fn put_actions(words: &mut Words, drawing: Drawing<'_>, relay: u32, plan: &Plan) {
+fn append_actions(words: &mut Words, drawing: Drawing<'_>, relay: u32, plan: &Plan) {
     words.say(style::ACTIONS);
     for number in 0..ACTIONS {
         if let Some(action) = plan.actions().get(number as usize) {
@@ -204,7 +204,7 @@ fn put_actions(words: &mut Words, drawing: Drawing<'_>, relay: u32, plan: &Plan)
             };
             let is_run = !drawing.reach.at_action(relay, number).is_empty();
             let is_spare = drawing.site.is_spare(relay, number);
-            put_action(words, drawing, node, action, is_run, is_spare);
+            push_action(words, drawing, node, action, is_run, is_spare);
         }
     }
 }
@@ -228,15 +228,15 @@ fn classes_kept(alloc: Global, site: &Site, archive: SiteAction) -> Result<Vec<C
     Ok(classes)
 }
 
-fn put_kept(words: &mut Words, alloc: Global, kept: &[Class]) -> Result<(), AllocError> {
+fn push_kept(words: &mut Words, alloc: Global, kept: &[Class]) -> Result<(), AllocError> {
     if kept.is_empty() {
         return Ok(());
     }
     words.say("\\narchive of ");
-    put_class_names(alloc, words, kept)
+    append_class_names(alloc, words, kept)
 }
 
-fn put_file(
+fn push_file(
     words: &mut Words,
     drawing: Drawing<'_>,
     archive: SiteAction,
@@ -248,13 +248,13 @@ fn put_file(
     };
     let kept = classes_kept(drawing.alloc, drawing.site, archive)?;
     begin_node(words, node);
-    put_name(words, name);
-    put_kept(words, drawing.alloc, kept.as_slice())?;
+    push_name(words, name);
+    push_kept(words, drawing.alloc, kept.as_slice())?;
     let classes = drawing.reach.at_action(archive.relay, archive.action);
     end_node(words, drawing, node, !classes.is_empty());
     if !kept.is_empty() && !is_marked(drawing, node) {
         words.say("    ");
-        put_id(words, node);
+        push_id(words, node);
         words.say(style::ARCHIVE);
     }
     Ok(())
@@ -267,7 +267,7 @@ fn file_of(plan: &Plan, action: u32) -> Option<&[u8]> {
     }
 }
 
-fn put_files(
+fn append_files(
     words: &mut Words,
     drawing: Drawing<'_>,
     relay: u32,
@@ -276,13 +276,13 @@ fn put_files(
     words.say(style::FILES);
     for action in 0..ACTIONS {
         if let Some(name) = file_of(plan, action) {
-            put_file(words, drawing, SiteAction { relay, action }, name)?;
+            push_file(words, drawing, SiteAction { relay, action }, name)?;
         }
     }
     Ok(())
 }
 
-fn put_nowhere(
+fn push_nowhere(
     words: &mut Words,
     drawing: Drawing<'_>,
     forward: SiteAction,
@@ -299,7 +299,7 @@ fn put_nowhere(
         thing: Thing::Nowhere(forward.action),
     };
     begin_node(words, node);
-    put_name(words, target.as_slice());
+    push_name(words, target.as_slice());
     words.put(&[
         Part::Text(b" "),
         Part::Number(u64::from(*port)),
@@ -309,7 +309,7 @@ fn put_nowhere(
     end_node(words, drawing, node, !classes.is_empty());
 }
 
-fn put_all_nowhere(words: &mut Words, drawing: Drawing<'_>, relay: u32, plan: &Plan) {
+fn append_all_nowhere(words: &mut Words, drawing: Drawing<'_>, relay: u32, plan: &Plan) {
     words.say(style::NOWHERE);
     for number in 0..ACTIONS {
         if let Some(action) = plan.actions().get(number as usize) {
@@ -317,13 +317,13 @@ fn put_all_nowhere(words: &mut Words, drawing: Drawing<'_>, relay: u32, plan: &P
                 relay,
                 action: number,
             };
-            put_nowhere(words, drawing, forward, &action.destination);
+            push_nowhere(words, drawing, forward, &action.destination);
         }
     }
 }
 
 /// Puts the box of a relay, with its nodes and the arrows between them.
-pub fn put_relay(
+pub fn push_relay(
     words: &mut Words,
     drawing: Drawing<'_>,
     relay: u32,
@@ -336,13 +336,13 @@ pub fn put_relay(
         Part::Text(relay_name(drawing.site, relay)),
     ]);
     words.say(style::BOX);
-    put_inputs(words, drawing, relay, plan);
-    put_queues(words, drawing, relay, plan);
-    put_lists(words, drawing, relay, plan);
-    put_actions(words, drawing, relay, plan);
-    put_files(words, drawing, relay, plan)?;
-    put_all_nowhere(words, drawing, relay, plan);
-    put_inside(words, drawing, relay, plan);
+    append_inputs(words, drawing, relay, plan);
+    append_queues(words, drawing, relay, plan);
+    append_lists(words, drawing, relay, plan);
+    append_actions(words, drawing, relay, plan);
+    append_files(words, drawing, relay, plan)?;
+    append_all_nowhere(words, drawing, relay, plan);
+    push_inside(words, drawing, relay, plan);
     words.say("  }\n");
     Ok(())
 }

@@ -3,7 +3,7 @@
 use crate::reach::How;
 use std::alloc::{AllocError, Global};
 use std::str;
-use sy_findings::verdicts::tally::put_classes;
+use sy_findings::verdicts::tally::append_classes;
 use sy_report::texts::parts::Part;
 use sy_report::texts::words::{DIGITS, Words};
 use sy_wire::Class;
@@ -12,7 +12,7 @@ use sy_wire::Class;
 const LONGEST: usize = 40;
 
 // Puts a byte of a name. A label gives a meaning to quotes, backslashes, and what begins an entity.
-fn put_byte(words: &mut Words, byte: u8, is_text: bool) {
+fn push_byte(words: &mut Words, byte: u8, is_text: bool) {
     match byte {
         b'"' => words.say("\\\""),
         b'\\' => words.say("\\\\"),
@@ -28,21 +28,21 @@ fn put_byte(words: &mut Words, byte: u8, is_text: bool) {
 }
 
 /// Puts a name into a label: escaped, and bytes that aren't printed, or are no UTF-8, as `\x0a`.
-pub fn put_name(words: &mut Words, name: &[u8]) {
+pub fn push_name(words: &mut Words, name: &[u8]) {
     let is_text = str::from_utf8(name).is_ok();
     for byte in name {
-        put_byte(words, *byte, is_text);
+        push_byte(words, *byte, is_text);
     }
 }
 
 /// Puts the names of classes into a label, or how many they are where these would be too long.
-pub fn put_class_names(
+pub fn append_class_names(
     alloc: Global,
     words: &mut Words,
     classes: &[Class],
 ) -> Result<(), AllocError> {
     let mut names = Words::new(alloc);
-    put_classes(alloc, &mut names, classes)?;
+    append_classes(alloc, &mut names, classes)?;
     let names = names.finish()?;
     if names.len() > LONGEST {
         words.put(&[Part::Number(classes.len() as u64), Part::Text(b" classes")]);

@@ -9,13 +9,12 @@ use crate::warnings::unwise::warn_of_item;
 use std::alloc::{AllocError, Global};
 use sy_places::relay_file::contents::{Item, items_of};
 use sy_places::relay_file::places::relay_line;
-use sy_places::site_file::texts::{RelayFile, SiteTexts, read_site_texts, relay_file};
+use sy_places::site_file::texts::{RelayFile, SiteTexts, relay_file};
 use sy_places::ways::executed::{
     Executed, all_classes, executed_from, executed_of, protected_classes, reached_inputs,
 };
 use sy_report::outcome::answer::Answer;
 use sy_report::outcome::halt::Halt;
-use sy_report::reading::files::Files;
 use sy_report::texts::note::{Note, put_line, put_place};
 use sy_report::texts::words::Words;
 use sy_rules::Plan;
@@ -102,7 +101,7 @@ impl Warnings {
     }
 
     /// Puts a warning behind the others.
-    pub fn put(&mut self, caution: Caution, note: Note) {
+    pub fn push(&mut self, caution: Caution, note: Note) {
         self.is_cut = self.is_cut || note.is_cut();
         match self.list.push(Warning { caution, note }) {
             Ok(()) => {}
@@ -206,11 +205,11 @@ fn warn_of_relay(
     }
     if let Some((line, _)) = relay_line(text, relay) {
         let note = unreached_relay(warnings.alloc, site, relay, site_name, line);
-        warnings.put(Caution::UnreachedRelay, note);
+        warnings.push(Caution::UnreachedRelay, note);
     }
 }
 
-// Warns of what stands in the file of a relay, where that can be read once more.
+// Warns of what stands in the file of a relay, where that was read.
 fn warn_of_file(
     warnings: &mut Warnings,
     texts: &SiteTexts<'_>,
@@ -262,7 +261,7 @@ pub fn warnings_of(
 }
 
 // Puts the lines of a warning.
-fn put_warning(words: &mut Words, warning: &Warning) {
+fn push_warning(words: &mut Words, warning: &Warning) {
     let note = &warning.note;
     words.say("warning: ");
     if let Some(place) = &note.place {
@@ -276,31 +275,18 @@ fn put_warning(words: &mut Words, warning: &Warning) {
 }
 
 // Puts warnings as lines, each with its place, why it is unwise, and what to write.
-fn put_warnings(words: &mut Words, warnings: &[Warning]) {
+fn append_warnings(words: &mut Words, warnings: &[Warning]) {
     for warning in warnings {
-        put_warning(words, warning);
+        push_warning(words, warning);
     }
 }
 
 // The lines of the warnings of a site with these texts.
-fn lines_from(alloc: Global, texts: &SiteTexts<'_>, site: &Site) -> Result<Vec<u8>, AllocError> {
+fn lines_of(alloc: Global, texts: &SiteTexts<'_>, site: &Site) -> Result<Vec<u8>, AllocError> {
     let warnings = warnings_of(alloc, texts, site)?;
     let mut words = Words::new(alloc);
-    put_warnings(&mut words, warnings.as_slice());
+    append_warnings(&mut words, warnings.as_slice());
     words.finish()
-}
-
-// The lines of the warnings of a site, whose files are read once more.
-fn lines_of<F: Files>(
-    alloc: Global,
-    files: &F,
-    site_name: &str,
-    site: &Site,
-) -> Result<Vec<u8>, AllocError> {
-    match read_site_texts(alloc, files, site_name) {
-        Ok(texts) => lines_from(alloc, &texts, site),
-        Err(why) => Err(why),
-    }
 }
 
 // An answer with these lines behind its text.
@@ -317,25 +303,23 @@ fn with_lines(answer: Answer, lines: &[u8]) -> Result<Answer, AllocError>
 }
 
 // The same with the lines of the warnings of a site.
-fn with_lines_of<F: Files>(
+fn with_lines_of(
     alloc: Global,
-    files: &F,
-    site_name: &str,
+    texts: &SiteTexts<'_>,
     site: &Site,
     answer: Answer,
 ) -> Result<Answer, AllocError>
     ensures same { IfOk result (λ a. a.is_accepted ≡ answer.is_accepted) }
     ensures more { IfOk result (λ a. (more : List ℕ) × (a.text.items ≡ answer.text.items ++ more)) }
 {
-    let lines = lines_of(alloc, files, site_name, site)?;
+    let lines = lines_of(alloc, texts, site)?;
     with_lines(answer, lines.as_slice())
 }
 
 /// An answer with the warnings of its site behind its text. They change no verdict.
-pub fn with_warnings<F: Files>(
+pub fn with_warnings(
     alloc: Global,
-    files: &F,
-    site_name: &str,
+    texts: &SiteTexts<'_>,
     site: &Site,
     answer: Answer,
 ) -> Result<Answer, Halt>
@@ -343,7 +327,7 @@ pub fn with_warnings<F: Files>(
     ensures more { IfOk result (λ a. (more : List ℕ) × (a.text.items ≡ answer.text.items ++ more)) }
     ensures err { IfErr result (λ halt. halt ≡ Halt.NoMemory) }
 {
-    match with_lines_of(alloc, files, site_name, site, answer) {
+    match with_lines_of(alloc, texts, site, answer) {
         Ok(answer) => Ok(answer),
         Err(_) => Err(Halt::NoMemory),
     }

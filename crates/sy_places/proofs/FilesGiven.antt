@@ -2,12 +2,12 @@
 use Rattle.std.proofs.Common.{◌≡◌, ℕ, length, map, arith, List, [], ◌∷◌, ◌++◌, refl, sym, ap, subst, ◌∙◌}
 use Rattle.std.specs.Prelude.{IfSome, Option, string_bytes}
 use Rattle.sy_site.specs.texts.Describes.{File}
-use Rattle.sy_places.specs.declared.site_file.site.RelayFile.{RelayFile}
+use Rattle.sy_places.specs.declared.site_file.texts.RelayText.{RelayText}
 use Rattle.std.proofs.lemmas.List.{append_assoc, append-nil, map_push}
 use Rattle.sy_places.specs.SiteFiles.{AreGiven}
 use Rattle.sy_places.specs.internal.Halts.{file_of}
 
-pub names_given : (files : List RelayFile) → map (λ (file : File). file.name) (map file_of files) ≡ map (λ (f : RelayFile). string_bytes f.name) files
+pub names_given : (files : List RelayText) → map (λ (file : File). file.name) (map file_of files) ≡ map (λ (f : RelayText). string_bytes f.name) files
 names_given [] = refl
 names_given (file ∷ files) = ap (λ names. string_bytes file.name ∷ names) (names_given files)
 
@@ -32,7 +32,7 @@ given_behind : (bytes_of : List ℕ → Option (List ℕ)) (files : List File) (
 given_behind bytes_of [] file given is = (is, tt)
 given_behind bytes_of (f ∷ files) file given is = (given.0, given_behind bytes_of files file given.1 is)
 
-pub given_more : (bytes_of : List ℕ → Option (List ℕ)) (files : List RelayFile) (file : RelayFile) → AreGiven bytes_of (map file_of files)
-    → IfSome (bytes_of (string_bytes file.name)) (λ bytes. file.bytes.items ≡ bytes) → AreGiven bytes_of (map file_of (files ++ file ∷ []))
+pub given_more : (bytes_of : List ℕ → Option (List ℕ)) (files : List RelayText) (file : RelayText) → AreGiven bytes_of (map file_of files)
+    → IfSome (bytes_of (string_bytes file.name)) (λ bytes. file.text.items ≡ bytes) → AreGiven bytes_of (map file_of (files ++ file ∷ []))
 given_more bytes_of files file given is =
     subst (AreGiven bytes_of) (sym (map_push file_of files file)) (given_behind bytes_of (map file_of files) (file_of file) given is)

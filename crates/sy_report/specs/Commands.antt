@@ -1,6 +1,6 @@
 -- Which words are no command, and what is taken of words that are given with options.
 use Rattle.std.specs.Prelude.{◌≡◌, ℕ, List, ◌∷◌, IfNone, IfSome, codes, map}
-use Rattle.sy_report.specs.Words.{AreAsking, ArePass, AreReplay, AreVerify, HaveOptions, bare_of}
+use Rattle.sy_report.specs.Words.{AreAsking, AreReplay, AreVerify, HaveOptions, bare_of}
 use Rattle.sy_report.specs.declared.command_line.command.Asked.{Asked}
 use Rattle.sy_report.specs.declared.command_line.options.GivenWords.{GivenWords}
 use Rattle.sy_report.specs.declared.command_line.options.Options.{Options}
@@ -10,11 +10,6 @@ pub record AreNoSiteCommand (words : List (List ℕ)) : Type 0 where
   pub no_asking : (question : Asked) (site : List ℕ) → AreAsking question words site → ⊥
   pub no_replay : (site events : List ℕ) → AreReplay words site events → ⊥
   pub no_verify : (site certificate : List ℕ) → AreVerify words site certificate → ⊥
-
--- no command
-pub record AreNoCommand (words : List (List ℕ)) : Type 0 where
-  pub no_pass : ArePass words → ⊥
-  pub over_no_site : AreNoSiteCommand words
 
 -- these words with the program's name before them, those that are no options, and the options among them
 pub record IsGiven (words : List (List ℕ)) (given : GivenWords) : Type 0 where

@@ -1,8 +1,6 @@
 -- The words of the command line: those of each command, and options.
 use Rattle.std.specs.Prelude.{◌≡◌, ℕ, Bool, true, false, not, ◌==◌, ◌+◌, ◌||◌, List, [], ◌∷◌, ◌++◌, codes, if◌then◌else◌}
 use Rattle.std.specs.Str.{bytes_eq}
-use Rattle.sy_report.specs.declared.command_line.command.Command.{Command}
-use Rattle.sy_report.specs.declared.command_line.command.Command.TheVariants as command
 use Rattle.sy_report.specs.declared.command_line.command.SiteCommand.{SiteCommand}
 use Rattle.sy_report.specs.declared.command_line.command.SiteCommand.TheVariants as of_site
 use Rattle.sy_report.specs.declared.command_line.command.Asked.{Asked}
@@ -77,8 +75,3 @@ abbrev pub IsSiteCommand : List (List ℕ) → SiteCommand → Type 0
 IsSiteCommand words (of_site.Ask question site) = AreAsking question words site.now
 IsSiteCommand words (of_site.Replay site events) = AreReplay words site.now events.now
 IsSiteCommand words (of_site.Verify site certificate) = AreVerify words site.now certificate.now
-
--- the command that the words name
-abbrev pub IsCommand : List (List ℕ) → Command → Type 0
-IsCommand words command.Pass = ArePass words
-IsCommand words (command.OverSite over) = IsSiteCommand words over

@@ -21,8 +21,8 @@ use Rattle.sy_report.specs.HaltTexts.{halt_report}
 use Rattle.syc.specs.Replays.{Ending, EndsReplay, IsLeft, IsReplayed, IsTold, Replays, end_line, lines_of, loss_lines, next, opened, status_of}
 use Rattle.syc.specs.Replays.Replays.{done, end_torn, faulty, full, no_memory, no_step, skips, steps, torn, unread, unwritten}
 use Rattle.syc.specs.SiteFiles.{HasNoAnswer}
-use Rattle.syc.specs.internal.Halts.{Comes, IsTorn, Turns, halt_of, with_lines}
-use Rattle.syc.specs.Halts.{Finishes, Halted, HasCause, IsCause, Place, Replayed, ReplaysFrom, Stops, ending_of, start}
+use Rattle.syc.specs.internal.Halts.{Comes, Halted, IsCause, IsTorn, Replayed, Turns, halt_of, with_lines}
+use Rattle.syc.specs.Halts.{Finishes, HasCause, Place, ReplaysFrom, Stops, ending_of, start}
 use Rattle.sy_places.specs.Halts.{IsNoSite, IsReadHalt}
 use Rattle.sy_report.specs.Halts.{status_at}
 use Rattle.sy_report.specs.declared.outcome.halt.Halt.{Halt}

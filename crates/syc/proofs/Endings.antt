@@ -15,7 +15,7 @@ use Rattle.sy_report.specs.declared.outcome.halt.Halt.{Halt}
 use Rattle.sy_report.specs.declared.outcome.halt.Halt.TheVariants as halt
 use Rattle.sy_places.specs.Halts.{IsNoSite, IsReadHalt}
 use Rattle.sy_report.specs.Halts.{status_at}
-use Rattle.syc.specs.Unverified.{HasNoVerdict, IsNoCertificate}
+use Rattle.syc.specs.internal.Unverified.{HasNoVerdict, IsNoCertificate}
 use Rattle.syc.proofs.Courses.{no_site}
 
 -- there is no site, which is told

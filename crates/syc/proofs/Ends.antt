@@ -4,16 +4,17 @@ use Rattle.std.specs.Prelude.{◌⊎◌, IfErr, IfOk, Option, Some, None, Result
 use Rattle.std.specs.List.{Any}
 use Rattle.sy_wire.specs.Streams.{Rose}
 use Rattle.sy_site.specs.Sites.{Site}
-use Rattle.syc.specs.Checks.{AskedInWordsIs, AskedIs, IsVerdict, SaysWith}
+use Rattle.syc.specs.Checks.{AskedIs, AskedReport, IsVerdict, SaysWith}
 use Rattle.sy_report.specs.HaltTexts.{halt_report}
 use Rattle.syc.specs.Outcomes.{FailsBy, MayEnd}
 use Rattle.sy_report.specs.Outcomes.{Prints, status_for}
-use Rattle.syc.specs.Reports.{TellsFirst}
+use Rattle.syc.specs.Reports.{TellsBy}
+use Rattle.syc.specs.Words.{is_any}
 use Rattle.sy_report.specs.Reports.{SinkState, Streams, Tells, said}
 use Rattle.sy_report.specs.internal.Reports.{streams}
 use Rattle.syc.specs.SiteFiles.{HasNoAnswer}
 use Rattle.sy_places.specs.SiteFiles.{IsSiteOf}
-use Rattle.syc.specs.Verdicts.{SaysOfFiles, VerifyInWordsIs, VerifyIs}
+use Rattle.syc.specs.Verdicts.{SaysOfFiles, VerifyIs, VerifyReport}
 use Rattle.sy_report.specs.declared.outcome.answer.Answer.{Answer}
 use Rattle.sy_report.specs.declared.command_line.command.Asked.{Asked}
 use Rattle.sy_report.specs.declared.outcome.halt.Halt.{Halt}
@@ -21,8 +22,8 @@ use Rattle.sy_report.specs.declared.outcome.halt.Halt.TheVariants as halt
 use Rattle.sy_report.specs.declared.command_line.options.Options.{Options}
 use Rattle.sy_places.specs.Halts.{IsNoSite, IsUnread}
 use Rattle.sy_report.specs.Halts.{status_at}
-use Rattle.syc.specs.Optioned.{DocumentEnds, HaltEnds, StopsFirst}
-use Rattle.syc.specs.Unverified.{HasNoVerdict}
+use Rattle.syc.specs.Optioned.{DocumentEnds, HaltEnds, StopsBy}
+use Rattle.syc.specs.internal.Unverified.{HasNoVerdict}
 use Rattle.syc.proofs.Endings.{no_verdict, no_verdict_told, site_gone}
 use Rattle.syc.proofs.Failing.{printing_fails, stops_by}
 
@@ -124,14 +125,14 @@ pub asked_says : (question : Asked) (options : Options) (bytes_of : List ℕ →
     → (site : Site) × IsSiteOf bytes_of t site × IsVerdict question site a.is_accepted × WordsOf question options site a)
     → IfErr answer (λ why. (t : List ℕ) → bytes_of name ≡ Some t → IsNoSite bytes_of t why)
     → IfOk answer (λ a. Prints a.text.items a.is_accepted status old new)
-    → (options.json ≡ false → IfErr answer (λ why. StopsFirst why status old new))
-    → options.json ≡ false → bytes_of name ≡ Some text → AskedInWordsIs question options bytes_of text status old new
+    → (options.json ≡ false → IfErr answer (λ why. StopsBy (is_any options) why status old new))
+    → options.json ≡ false → bytes_of name ≡ Some text → AskedReport question options bytes_of text status old new
 asked_says question options bytes_of name text (Ok a) status old new ok err printed told words known =
     let is = ok text known in
     inl (is.0, is.1, a.text.items, a.is_accepted, is.3 words, printed)
 asked_says question options bytes_of name text (Err why) status old new ok err printed told words known =
     let stops = told words in
-    inr (site_gone bytes_of text why status (TellsFirst old new) (err text known) stops.status_is stops.told, stops.same)
+    inr (site_gone bytes_of text why status (TellsBy (is_any options) old new) (err text known) stops.status_is stops.told, stops.same)
 
 -- ---- a verify
 
@@ -176,12 +177,12 @@ pub verify_says : (options : Options) (bytes_of : List ℕ → Option (List ℕ)
     → IfOk answer (λ a. (s t : List ℕ) → bytes_of name ≡ Some s → bytes_of other ≡ Some t → SaysOfFiles bytes_of s t a.text.items a.is_accepted)
     → IfErr answer (λ why. (s t : List ℕ) → bytes_of name ≡ Some s → bytes_of other ≡ Some t → HasNoVerdict bytes_of s t why)
     → IfOk answer (λ a. Prints a.text.items a.is_accepted status old new)
-    → IfErr answer (λ why. StopsFirst why status old new)
-    → bytes_of name ≡ Some site → bytes_of other ≡ Some text → VerifyInWordsIs bytes_of site text status old new
+    → IfErr answer (λ why. StopsBy (is_any options) why status old new)
+    → bytes_of name ≡ Some site → bytes_of other ≡ Some text → VerifyReport options bytes_of site text status old new
 verify_says options bytes_of name other site text (Ok a) status old new ok err printed stops is_site is_text =
     inl (a.text.items, a.is_accepted, ok site text is_site is_text, printed)
 verify_says options bytes_of name other site text (Err why) status old new ok err printed stops is_site is_text =
-    inr (stops.same, no_verdict_told bytes_of site text status (TellsFirst old new) why (err site text is_site is_text) stops.status_is stops.told)
+    inr (stops.same, no_verdict_told bytes_of site text status (TellsBy (is_any options) old new) why (err site text is_site is_text) stops.status_is stops.told)
 
 -- ---- status 4
 

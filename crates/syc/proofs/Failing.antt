@@ -13,8 +13,7 @@ use Rattle.sy_report.specs.Reports.{Streams, Tells}
 use Rattle.sy_report.specs.declared.outcome.answer.Answer.{Answer}
 use Rattle.sy_report.specs.declared.outcome.halt.Halt.{Halt}
 use Rattle.sy_report.specs.declared.outcome.halt.Halt.TheVariants as halt
-use Rattle.syc.specs.internal.Halts.{IsShorter, Reads}
-use Rattle.syc.specs.Halts.{IsCause}
+use Rattle.syc.specs.internal.Halts.{IsCause, IsShorter, Reads}
 use Rattle.sy_places.specs.Halts.{IsUnread}
 use Rattle.sy_report.specs.Halts.{status_at}
 

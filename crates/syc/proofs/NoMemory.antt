@@ -1,15 +1,16 @@
--- A command with options that finds no memory for its words.
+-- A command that finds no memory for its words.
 use Rattle.std.proofs.Common.{◌≡◌, ℕ, List, [], inl, inr, refl, sym, subst, ap, arith}
-use Rattle.std.specs.Prelude.{Option, codes}
+use Rattle.std.specs.Prelude.{Bool, Option, codes, false, true}
 use Rattle.std.specs.Io.KnownBytes.{Keeps}
 use Rattle.std.proofs.KnownBytes.{Keeps-refl}
 use Rattle.std.proofs.lemmas.List.{append-nil}
 use Rattle.syc.specs.Graphs.{GraphIs}
-use Rattle.syc.specs.Optioned.{EndsAs, KeepsAs, SaysAs}
+use Rattle.syc.specs.CommandReports.{SaysReport}
+use Rattle.syc.specs.Optioned.{EndsAs, FailsAs, KeepsAs}
 use Rattle.syc.specs.Outcomes.{FailsBy}
-use Rattle.syc.specs.Reports.{ReportedFirst}
+use Rattle.syc.specs.Reports.{ReportedBy, ReportedFirst}
 use Rattle.sy_report.specs.Reports.{Reported, SinkState, Streams, Tells, said}
-use Rattle.syc.specs.Words.{OverSite}
+use Rattle.syc.specs.Words.{OverSite, is_any}
 use Rattle.sy_report.specs.declared.command_line.command.Asked.TheVariants as asked
 use Rattle.sy_report.specs.declared.command_line.options.Options.{Options}
 use Rattle.syc.proofs.Ends.{asked_no_memory, verify_no_memory}
@@ -19,21 +20,31 @@ pub memory_ends : (bytes_of : List ℕ → Option (List ℕ)) (command : OverSit
 memory_ends bytes_of (OverSite.Ask question site) = λ text known. asked_no_memory question bytes_of text
 memory_ends bytes_of (OverSite.Replay site events) = λ text input known read. replay_no_memory bytes_of text input
 memory_ends bytes_of (OverSite.Verify site certificate) = λ site_text text known read. verify_no_memory bytes_of site_text text
+memory_ends bytes_of (OverSite.Draw class site) = tt
 
 first : (old new : SinkState) (line : List ℕ) → Reported old new line → ReportedFirst old new line
 first old new line told = ([], subst (Reported old new) (sym (append-nil line)) told)
 
+told_by : (tells_more : Bool) (old new : SinkState) (line : List ℕ) → Reported old new line → ReportedBy tells_more old new line
+told_by false old new line told = told
+told_by true old new line told = first old new line told
+
+pub memory_draws : (bytes_of : List ℕ → Option (List ℕ)) (class : Option (List ℕ)) (text : List ℕ) (old new : Streams)
+    → Tells old new (said (codes "no memory")) → new.output ≡ old.output → GraphIs class bytes_of text 3 old new
+memory_draws bytes_of class text old new told same = inl (inr (inr (inl (refl, told)), same))
+
 pub memory_says : (bytes_of : List ℕ → Option (List ℕ)) (old new : Streams) → Tells old new (said (codes "no memory")) → new.output ≡ old.output
-    → (options : Options) (command : OverSite) → SaysAs bytes_of options command 3 old new
+    → (options : Options) (command : OverSite) → SaysReport bytes_of options command 3 old new
 memory_says bytes_of old new told same options (OverSite.Ask question site) = λ words text known.
-    inr (inr (inl (refl, first old.errors new.errors _ told)), same)
+    inr (inr (inl (refl, told_by (is_any options) old.errors new.errors _ told)), same)
 memory_says bytes_of old new told same options (OverSite.Replay site events) = λ words text input known read.
     inl (
       subst (Keeps old.output.contents) (sym (ap (λ s. s.contents) same)) (Keeps-refl old.output.contents),
-      inr (inl (refl, same, first old.errors new.errors _ told)),
+      inr (inl (refl, same, told_by (is_any options) old.errors new.errors _ told)),
     )
 memory_says bytes_of old new told same options (OverSite.Verify site certificate) = λ words site_text text known read.
-    inr (same, inr (inr (inl (refl, first old.errors new.errors _ told))))
+    inr (same, inr (inr (inl (refl, told_by (is_any options) old.errors new.errors _ told))))
+memory_says bytes_of old new told same options (OverSite.Draw class site) = λ text known. memory_draws bytes_of class text old new told same
 
 pub three_or_four : (n : ℕ) → n ≡ 3 → n ≡ 4 → ⊥
 three_or_four n three four = omega (arith, three, four)
@@ -41,12 +52,14 @@ three_or_four n three four = omega (arith, three, four)
 pub memory_fails : (MayFail : Type 0) (status : ℕ) (old new : Streams) → status ≡ 3 → FailsBy MayFail status old new
 memory_fails MayFail status old new three four = absurd (three_or_four status three four)
 
-pub three_fails : {A : Type 0} → ◌≡◌ {A = ℕ} 3 4 → A
-three_fails same = absurd (three_or_four 3 refl same)
-
-pub memory_draws : (bytes_of : List ℕ → Option (List ℕ)) (class : Option (List ℕ)) (text : List ℕ) (old new : Streams)
-    → Tells old new (said (codes "no memory")) → new.output ≡ old.output → GraphIs class bytes_of text 3 old new
-memory_draws bytes_of class text old new told same = inl (inr (inr (inl (refl, told)), same))
+pub memory_fails_as : (bytes_of : List ℕ → Option (List ℕ)) (MayFail PiecesFail : List ℕ → Type 0) (status : ℕ) (old new : Streams) → status ≡ 3
+    → (command : OverSite) → FailsAs bytes_of MayFail PiecesFail command status old new
+memory_fails_as bytes_of MayFail PiecesFail status old new three (OverSite.Ask question site) = λ text known four. absurd (three_or_four status three four)
+memory_fails_as bytes_of MayFail PiecesFail status old new three (OverSite.Replay site events) = λ text input known read four.
+    absurd (three_or_four status three four)
+memory_fails_as bytes_of MayFail PiecesFail status old new three (OverSite.Verify site certificate) = λ text known four.
+    absurd (three_or_four status three four)
+memory_fails_as bytes_of MayFail PiecesFail status old new three (OverSite.Draw class site) = λ text known four. absurd (three_or_four status three four)
 
 three_or_zero : (n : ℕ) → n ≡ 3 → n ≡ 0 → ⊥
 three_or_zero n three zero = omega (arith, three, zero)
@@ -56,3 +69,4 @@ memory_keeps bytes_of status three (OverSite.Ask asked.Check site) = λ text kno
 memory_keeps bytes_of status three (OverSite.Ask asked.Certify site) = tt
 memory_keeps bytes_of status three (OverSite.Replay site events) = tt
 memory_keeps bytes_of status three (OverSite.Verify site certificate) = λ text known zero. absurd (three_or_zero status three zero)
+memory_keeps bytes_of status three (OverSite.Draw class site) = tt

@@ -122,6 +122,7 @@ certify_tells_no_more options (OverSite.Ask asked.Check site) are =
 certify_tells_no_more options (OverSite.Ask asked.Certify site) are = all_or_none options.all are.have.all are.allowed
 certify_tells_no_more options (OverSite.Replay site events) are = two_or_three _ _ _ _ _ (sym are.have.bare_are ∙ are.call.words_are)
 certify_tells_no_more options (OverSite.Verify site certificate) are = two_or_three _ _ _ _ _ (sym are.have.bare_are ∙ are.call.words_are)
+certify_tells_no_more options (OverSite.Draw class site) are = are.call
 
 -- ---- what is printed
 

@@ -1,23 +1,21 @@
--- Which options stand among words, and which command is called for with them.
+-- Which options are among words, and which command is called for with them.
 use Rattle.std.proofs.Common.{◌≡◌, ◌+◌, ◌<◌, ℕ, Bool, List, [], ◌∷◌, ◌++◌, refl, sym, subst, ap, ◌∙◌, arith, inl, inr}
-use Rattle.std.specs.Prelude.{◌||◌, Option, Some, None, IfNone, true, false, codes, if◌then◌else◌}
+use Rattle.std.specs.Prelude.{◌||◌, ◌⊎◌, Option, Some, None, IfNone, true, false, codes, if◌then◌else◌}
 use Rattle.std.specs.Str.{bytes_eq}
 use Rattle.std.proofs.lemmas.Slice.Eq.{bytes_eq-Decides}
-use Rattle.syc.specs.Optioned.{EndsAs, FailsAs, KeepsAs, SaysAs}
-use Rattle.sy_report.specs.Reports.{Streams}
-use Rattle.syc.specs.Words.{AreGraphWords, AreNoFurtherOf, AreOptioned, ArePassAlone, CallFor, OverSite, allows, is_any}
+use Rattle.syc.specs.Words.{AreAskingOf, AreGraphWords, AreNoBareCommandOf, AreNoCommand, AreNoCommandOf, AreOptioned, AreOver, ArePassAlone, AreReplayOf, AreVerifyOf, AreWithOptions, CallFor, OverSite, allows, is_any}
 use Rattle.sy_report.specs.Words.{HaveOptions, IsSiteCommand, asking, bare_of, is_option, is_plain, once_if, times}
 use Rattle.sy_report.specs.declared.command_line.command.Asked.{Asked}
 use Rattle.sy_report.specs.declared.command_line.command.Asked.TheVariants as asked
 use Rattle.sy_report.specs.declared.command_line.command.SiteCommand.{SiteCommand}
 use Rattle.sy_report.specs.declared.command_line.command.SiteCommand.TheVariants as of_site
-use Rattle.syc.specs.declared.commands_with_options.Further.{Further}
-use Rattle.syc.specs.declared.commands_with_options.Further.TheVariants as further
+use Rattle.syc.specs.declared.commands.Request.{Request}
+use Rattle.syc.specs.declared.commands.Request.TheVariants as request
 use Rattle.sy_report.specs.declared.command_line.options.Options.{Options}
-use Rattle.syc.specs.internal.Commands.{CallNamed, FurtherDraws, FurtherEnds, FurtherFails, FurtherKeeps, FurtherSays, IsFurther, IsSiteCommandOf, TakesOptions, over}
-use Rattle.syc.specs.Commands.{Draws}
+use Rattle.syc.specs.internal.Commands.{CallNamed, TakesOptions}
+use Rattle.syc.specs.Requests.{IsRequest, no_options, options_of, over, over_of}
 use Rattle.sy_report.specs.Commands.{AreNoSiteCommand}
-use Rattle.syc.proofs.Commands.{one_question, replay_no_question, replay_or_verify, rest_same, verify_no_question, first_same, head_same, others_same}
+use Rattle.syc.proofs.CommandWords.{one_question, pass_asks_nothing, pass_no_replay, pass_no_verify, replay_no_question, replay_or_verify, rest_same, verify_no_question, first_same, head_same, others_same}
 
 -- ---- one word more
 
@@ -60,6 +58,10 @@ same_ask a b s t e = ap (λ q. OverSite.Ask q s) e.0 ∙ ap (OverSite.Ask b) e.1
 
 -- the words fix what they call for
 pub same_call : (words : List (List ℕ)) (a b : OverSite) → CallNamed a words → CallNamed b words → a ≡ b
+same_call words (OverSite.Draw q s) b x y = absurd x
+same_call words (OverSite.Ask q s) (OverSite.Draw p t) x y = absurd y
+same_call words (OverSite.Replay s e) (OverSite.Draw p t) x y = absurd y
+same_call words (OverSite.Verify s c) (OverSite.Draw p t) x y = absurd y
 same_call words (OverSite.Ask q s) (OverSite.Ask p t) x y = same_ask q p s t (one_question q p s t (rest_same (sym x.words_are ∙ y.words_are)))
 same_call words (OverSite.Ask q s) (OverSite.Replay t e) x y = absurd (replay_no_question q s t e (rest_same (sym x.words_are ∙ y.words_are)))
 same_call words (OverSite.Ask q s) (OverSite.Verify t c) x y = absurd (verify_no_question q s t c (rest_same (sym x.words_are ∙ y.words_are)))
@@ -84,6 +86,7 @@ pub none_called : (words : List (List ℕ)) → AreNoSiteCommand words → (comm
 none_called words none (OverSite.Ask question site) h = none.no_asking question site h
 none_called words none (OverSite.Replay site events) h = none.no_replay site events h
 none_called words none (OverSite.Verify site certificate) h = none.no_verify site certificate h
+none_called words none (OverSite.Draw class site) h = absurd h
 
 -- with and without the program's name
 named : (words bare : List (List ℕ)) → words ≡ codes "syc" ∷ bare → (command : OverSite) → CallFor command bare → CallNamed command words
@@ -92,6 +95,7 @@ named words bare is (OverSite.Replay site events) h =
     record { words_are = is ∙ ap (λ w. codes "syc" ∷ w) h.words_are; site_plain = h.site_plain; events_plain = h.events_plain }
 named words bare is (OverSite.Verify site certificate) h =
     record { words_are = is ∙ ap (λ w. codes "syc" ∷ w) h.words_are; site_plain = h.site_plain; certificate_plain = h.certificate_plain }
+named words bare is (OverSite.Draw class site) h = absurd h
 
 unnamed : (words bare : List (List ℕ)) → words ≡ codes "syc" ∷ bare → (command : OverSite) → CallNamed command words → CallFor command bare
 unnamed words bare is (OverSite.Ask question site) h = record { words_are = rest_same (sym is ∙ h.words_are); site_plain = h.site_plain }
@@ -99,30 +103,57 @@ unnamed words bare is (OverSite.Replay site events) h =
     record { words_are = rest_same (sym is ∙ h.words_are); site_plain = h.site_plain; events_plain = h.events_plain }
 unnamed words bare is (OverSite.Verify site certificate) h =
     record { words_are = rest_same (sym is ∙ h.words_are); site_plain = h.site_plain; certificate_plain = h.certificate_plain }
+unnamed words bare is (OverSite.Draw class site) h = absurd h
 
 -- ---- with options
 
 -- the words with options, from those without
 pub with_options : (words all : List (List ℕ)) (options : Options) (command : OverSite) → all ≡ codes "syc" ∷ bare_of words
-    → HaveOptions words options (bare_of words) → TakesOptions options all command → AreOptioned words options command
+    → HaveOptions words options (bare_of words) → TakesOptions options all command → AreWithOptions words options command
 with_options words all options command is have takes = record {
   bare = bare_of words;
   have = have;
-  some = takes.some;
   allowed = takes.allowed;
   call = unnamed all (bare_of words) is command takes.call;
 }
 
 -- and back
 pub without_options : (words all : List (List ℕ)) (options given : Options) (command : OverSite) → all ≡ codes "syc" ∷ bare_of words
-    → HaveOptions words given (bare_of words) → AreOptioned words options command → TakesOptions given all command
+    → HaveOptions words given (bare_of words) → AreWithOptions words options command → TakesOptions given all command
 without_options words all options given command is have are =
     let same = same_options words options given are.bare (bare_of words) are.have have in
     record {
       call = named all are.bare (is ∙ ap (λ w. codes "syc" ∷ w) (sym are.have.bare_are)) command are.call;
-      some = subst (λ o. is_any o ≡ true) same are.some;
       allowed = subst (λ o. allows o command ≡ true) same are.allowed;
     }
+
+-- a drawing is none of these commands
+pub over_site : (words : List (List ℕ)) (options : Options) (command : SiteCommand) → AreWithOptions words options (over command)
+    → AreOver words options (over command)
+over_site words options (of_site.Ask question site) are = are
+over_site words options (of_site.Replay site events) are = are
+over_site words options (of_site.Verify site certificate) are = are
+
+pub over_any : (words : List (List ℕ)) (options : Options) (command : OverSite) → AreWithOptions words options command → AreOver words options command
+over_any words options (OverSite.Ask question site) are = are
+over_any words options (OverSite.Replay site events) are = are
+over_any words options (OverSite.Verify site certificate) are = are
+over_any words options (OverSite.Draw class site) are = absurd are.call
+
+-- the words of a drawing
+pub record AreDrawing (words : List (List ℕ)) (options : Options) (command : OverSite) : Type 0 where
+  pub class : Option (List ℕ)
+  pub site : List ℕ
+  pub command_is : command ≡ OverSite.Draw class site
+  pub none : is_any options ≡ false
+  pub words_are : AreGraphWords class words site
+
+pub either : (words : List (List ℕ)) (options : Options) (command : OverSite) → AreOver words options command
+    → AreWithOptions words options command ⊎ AreDrawing words options command
+either words options (OverSite.Ask question site) are = inl are
+either words options (OverSite.Replay site events) are = inl are
+either words options (OverSite.Verify site certificate) are = inl are
+either words options (OverSite.Draw class site) are = inr (record { class = class; site = site; command_is = refl; none = are.0; words_are = are.1 })
 
 -- ---- bare words have no options
 
@@ -153,56 +184,162 @@ three_none : (option a b c : List ℕ) → is_plain option ≡ false → is_plai
 three_none option a b c isnt first second third =
     both_zero (once_if (bytes_eq a option)) (times option (b ∷ c ∷ [])) (apart a option first isnt) (two_none option b c isnt second third)
 
-none_of_three : (a b c : Bool) → a ≡ false → b ≡ false → c ≡ false → (a || b || c) ≡ true → ⊥
-none_of_three false false false x y z e = both_ways e refl
-none_of_three true b c x y z e = both_ways refl x
-none_of_three false true c x y z e = both_ways refl y
-none_of_three false false true x y z e = both_ways refl z
-
-flag_of : (b : Bool) (n : ℕ) → n ≡ once_if b → n ≡ 0 → b ≡ false
-flag_of true n is zero = absurd (omega (arith, is, zero))
-flag_of false n is zero = refl
-
-no_any : (words bare : List (List ℕ)) (options : Options) → HaveOptions words options bare
-    → ((option : List ℕ) → is_plain option ≡ false → times option words ≡ 0) → is_any options ≡ true → ⊥
-no_any words bare options have none some =
-    none_of_three options.explain options.all options.json
-    (flag_of options.explain _ have.explain (none (codes "--explain") refl))
-    (flag_of options.all _ have.all (none (codes "--all") refl))
-    (flag_of options.json _ have.json (none (codes "--json") refl)) some
-
-on_words : (words others : List (List ℕ)) → words ≡ others → ((option : List ℕ) → is_plain option ≡ false → times option others ≡ 0)
-    → (option : List ℕ) → is_plain option ≡ false → times option words ≡ 0
-on_words words others is none option isnt = ap (times option) is ∙ none option isnt
-
-pub pass_has_none : (words : List (List ℕ)) (options : Options) (command : OverSite) → ArePassAlone words → AreOptioned words options command → ⊥
-pass_has_none words options command pass are =
-    no_any words are.bare options are.have (on_words words _ pass (λ option isnt. one_none option (codes "pass") isnt refl)) are.some
-
 plain_question : (question : Asked) → (s option : List ℕ) → is_plain option ≡ false → is_plain s ≡ true → times option (asking question ++ s ∷ []) ≡ 0
 plain_question asked.Check s option isnt plain = two_none option (codes "check") s isnt refl plain
 plain_question asked.Certify s option isnt plain = two_none option (codes "certify") s isnt refl plain
 
-pub site_has_none : (words : List (List ℕ)) (options : Options) (bare command : OverSite) → CallFor bare words → AreOptioned words options command → ⊥
-site_has_none words options (OverSite.Ask question site) command call are =
-    no_any words are.bare options are.have (on_words words _ call.words_are (λ option isnt. plain_question question site option isnt call.site_plain)) are.some
-site_has_none words options (OverSite.Replay site events) command call are =
-    no_any words are.bare options are.have
-    (on_words words _ call.words_are (λ option isnt. three_none option (codes "replay") site events isnt refl call.site_plain call.events_plain)) are.some
-site_has_none words options (OverSite.Verify site certificate) command call are =
-    no_any words are.bare options are.have
-    (on_words words _ call.words_are (λ option isnt. three_none option (codes "verify") site certificate isnt refl call.site_plain call.certificate_plain)) are.some
+three_false : (a b c : Bool) → a ≡ false → b ≡ false → c ≡ false → (a || b || c) ≡ false
+three_false false false false x y z = refl
+three_false true b c x y z = absurd (both_ways refl x)
+three_false false true c x y z = absurd (both_ways refl y)
+three_false false false true x y z = absurd (both_ways refl z)
 
-pub calls : (words : List (List ℕ)) (command : SiteCommand) → IsSiteCommandOf words command → CallFor (over command) words
-calls words (of_site.Ask question site) h = h
-calls words (of_site.Replay site events) h = h
-calls words (of_site.Verify site certificate) h = h
+no_option : (word : List ℕ) → bytes_eq word (codes "--explain") ≡ false → bytes_eq word (codes "--all") ≡ false → bytes_eq word (codes "--json") ≡ false
+    → is_option word ≡ false
+no_option word explain all json = three_false (bytes_eq word (codes "--explain")) (bytes_eq word (codes "--all")) (bytes_eq word (codes "--json")) explain all json
 
--- ---- what holds of a command with options holds of each that the words call for
+left_by : (is_it : Bool) (word : List ℕ) (rest : List (List ℕ)) → is_it ≡ false → (if is_it then rest else (word ∷ rest)) ≡ word ∷ rest
+left_by false word rest isnt = refl
+left_by true word rest isnt = absurd (both_ways refl isnt)
+
+-- a word that is no option stays
+stays : (word : List ℕ) (rest : List (List ℕ)) → is_option word ≡ false → bare_of (word ∷ rest) ≡ word ∷ bare_of rest
+stays word rest isnt = left_by (is_option word) word (bare_of rest) isnt
+
+unlike : (word option : List ℕ) → is_plain word ≡ true → is_plain option ≡ false → bytes_eq word option ≡ false
+unlike word option plain isnt =
+    decided (bytes_eq word option) (λ same. both_ways (subst (λ w. is_plain w ≡ true) ((bytes_eq-Decides word option).0 same) plain) isnt)
+
+plain_stays : (word : List ℕ) (rest : List (List ℕ)) → is_plain word ≡ true → bare_of (word ∷ rest) ≡ word ∷ bare_of rest
+plain_stays word rest plain = stays word rest
+    (no_option word (unlike word (codes "--explain") plain refl) (unlike word (codes "--all") plain refl) (unlike word (codes "--json") plain refl))
+
+one_stays : (a : List ℕ) → is_plain a ≡ true → bare_of (a ∷ []) ≡ a ∷ []
+one_stays a plain = plain_stays a [] plain
+
+two_stay : (a b : List ℕ) → is_plain a ≡ true → is_plain b ≡ true → bare_of (a ∷ b ∷ []) ≡ a ∷ b ∷ []
+two_stay a b first second = plain_stays a (b ∷ []) first ∙ ap (λ w. a ∷ w) (one_stays b second)
+
+three_stay : (a b c : List ℕ) → is_plain a ≡ true → is_plain b ≡ true → is_plain c ≡ true → bare_of (a ∷ b ∷ c ∷ []) ≡ a ∷ b ∷ c ∷ []
+three_stay a b c first second third = plain_stays a (b ∷ c ∷ []) first ∙ ap (λ w. a ∷ w) (two_stay b c second third)
+
+question_stays : (question : Asked) (s : List ℕ) → is_plain s ≡ true → bare_of (asking question ++ s ∷ []) ≡ asking question ++ s ∷ []
+question_stays asked.Check s plain = two_stay (codes "check") s refl plain
+question_stays asked.Certify s plain = two_stay (codes "certify") s refl plain
+
+have_none : (words others : List (List ℕ)) → words ≡ others → bare_of others ≡ others
+    → ((option : List ℕ) → is_plain option ≡ false → times option others ≡ 0) → HaveOptions words no_options words
+have_none words others is stay none = record {
+  bare_are = is ∙ sym stay ∙ sym (ap bare_of is);
+  explain = ap (times (codes "--explain")) is ∙ none (codes "--explain") refl;
+  all = ap (times (codes "--all")) is ∙ none (codes "--all") refl;
+  json = ap (times (codes "--json")) is ∙ none (codes "--json") refl;
+}
+
+-- words without options are words with none of them
+pub asking_over : (question : Asked) (words : List (List ℕ)) (site : List ℕ) → AreAskingOf question words site
+    → AreOver words no_options (OverSite.Ask question site)
+asking_over question words site are = record {
+  bare = words;
+  have = have_none words (asking question ++ site ∷ []) are.words_are (question_stays question site are.site_plain)
+      (λ option isnt. plain_question question site option isnt are.site_plain);
+  allowed = allowed question;
+  call = are;
+}
+  where
+    allowed : (q : Asked) → allows no_options (OverSite.Ask q site) ≡ true
+    allowed asked.Check = refl
+    allowed asked.Certify = refl
+
+pub replay_over : (words : List (List ℕ)) (site events : List ℕ) → AreReplayOf words site events → AreOver words no_options (OverSite.Replay site events)
+replay_over words site events are = record {
+  bare = words;
+  have = have_none words _ are.words_are (three_stay (codes "replay") site events refl are.site_plain are.events_plain)
+      (λ option isnt. three_none option (codes "replay") site events isnt refl are.site_plain are.events_plain);
+  allowed = refl;
+  call = are;
+}
+
+pub verify_over : (words : List (List ℕ)) (site certificate : List ℕ) → AreVerifyOf words site certificate
+    → AreOver words no_options (OverSite.Verify site certificate)
+verify_over words site certificate are = record {
+  bare = words;
+  have = have_none words _ are.words_are (three_stay (codes "verify") site certificate refl are.site_plain are.certificate_plain)
+      (λ option isnt. three_none option (codes "verify") site certificate isnt refl are.site_plain are.certificate_plain);
+  allowed = refl;
+  call = are;
+}
+
+pub optioned_over : (words : List (List ℕ)) (options : Options) (command : OverSite) → AreOptioned words options command → AreOver words options command
+optioned_over words options command are =
+    over_any words options command (record { bare = are.bare; have = are.have; allowed = are.allowed; call = are.call })
+
+-- ---- words among which no option is
+
+zero_first : (m n : ℕ) → m + n ≡ 0 → m ≡ 0
+zero_first m n is = omega (arith, is)
+
+zero_second : (m n : ℕ) → m + n ≡ 0 → n ≡ 0
+zero_second m n is = omega (arith, is)
+
+unset : (b : Bool) → once_if b ≡ 0 → b ≡ false
+unset true is = absurd (omega (arith, is))
+unset false is = refl
+
+all_stay : (words : List (List ℕ)) → times (codes "--explain") words ≡ 0 → times (codes "--all") words ≡ 0 → times (codes "--json") words ≡ 0
+    → bare_of words ≡ words
+all_stay [] explain all json = refl
+all_stay (word ∷ words) explain all json =
+    stays word words
+    (no_option word (unset _ (zero_first _ _ explain)) (unset _ (zero_first _ _ all)) (unset _ (zero_first _ _ json)))
+    ∙ ap (λ w. word ∷ w) (all_stay words (zero_second _ _ explain) (zero_second _ _ all) (zero_second _ _ json))
+
+none_set : (a b c : Bool) → (a || b || c) ≡ false → (a ≡ false) × (b ≡ false) × (c ≡ false)
+none_set false false false is = (refl, refl, refl)
+none_set true b c is = absurd (both_ways refl is)
+none_set false true c is = absurd (both_ways refl is)
+none_set false false true is = absurd (both_ways refl is)
+
+none_given : (words bare : List (List ℕ)) (options : Options) → HaveOptions words options bare → is_any options ≡ false → bare ≡ words
+none_given words bare options have none =
+    let unset = none_set options.explain options.all options.json none in
+    have.bare_are ∙ all_stay words (have.explain ∙ ap once_if unset.0) (have.all ∙ ap once_if unset.1) (have.json ∙ ap once_if unset.2)
+
+same_none : (a b : Options) → is_any a ≡ false → is_any b ≡ false → a ≡ b
+unfolding make
+same_none a b x y =
+    let first = none_set a.explain a.all a.json x in
+    let second = none_set b.explain b.all b.json y in
+    ap (λ e. make e a.all a.json) (first.0 ∙ sym second.0) ∙ ap (λ l. make b.explain l a.json) (first.1 ∙ sym second.1)
+    ∙ ap (λ j. make b.explain b.all j) (first.2 ∙ sym second.2)
+
+bare_calls_nothing : (words : List (List ℕ)) (command : OverSite) → AreNoBareCommandOf words → CallFor command words → ⊥
+bare_calls_nothing words (OverSite.Ask question site) none call = none.no_asking question site call
+bare_calls_nothing words (OverSite.Replay site events) none call = none.no_replay site events call
+bare_calls_nothing words (OverSite.Verify site certificate) none call = none.no_verify site certificate call
+bare_calls_nothing words (OverSite.Draw class site) none call = call
+
+with_nothing : (is_given : Bool) (words : List (List ℕ)) (options : Options) (command : OverSite) → is_any options ≡ is_given → AreNoCommandOf words
+    → AreWithOptions words options command → ⊥
+with_nothing true words options command given none are =
+    none.further.no_optioned options command (record { bare = are.bare; have = are.have; some = given; allowed = are.allowed; call = are.call })
+with_nothing false words options command given none are =
+    bare_calls_nothing words command none.bare (subst (CallFor command) (none_given words are.bare options are.have given) are.call)
+
+pub none_over : (words : List (List ℕ)) → AreNoCommandOf words → AreNoCommand words
+none_over words none = record {
+  no_pass = none.bare.no_pass;
+  no_over = λ options command are. elim (either words options command are) [
+    | inl with ↦ with_nothing (is_any options) words options command refl none with
+    | inr drawing ↦ none.further.no_graph drawing.class drawing.site drawing.words_are
+  ];
+}
+
+-- ---- what holds of a command holds of each that the words call for
 
 -- the words fix the options and the command
-pub one_optioned : (words : List (List ℕ)) (a b : Options) (c d : OverSite) → AreOptioned words a c → AreOptioned words b d → (a ≡ b) × (c ≡ d)
-one_optioned words a b c d x y =
+one_with : (words : List (List ℕ)) (a b : Options) (c d : OverSite) → AreWithOptions words a c → AreWithOptions words b d → (a ≡ b) × (c ≡ d)
+one_with words a b c d x y =
     let same = x.have.bare_are ∙ sym y.have.bare_are in (
       same_options words a b x.bare y.bare x.have y.have,
       same_call (codes "syc" ∷ x.bare) c d (named (codes "syc" ∷ x.bare) x.bare refl c x.call)
@@ -236,12 +373,13 @@ no_call bare rest (OverSite.Ask asked.Check site) is h = graph_or_check (first_s
 no_call bare rest (OverSite.Ask asked.Certify site) is h = graph_or_certify (first_same (sym is ∙ h.words_are))
 no_call bare rest (OverSite.Replay site events) is h = graph_or_replay (first_same (sym is ∙ h.words_are))
 no_call bare rest (OverSite.Verify site certificate) is h = graph_or_verify (first_same (sym is ∙ h.words_are))
+no_call bare rest (OverSite.Draw class site) is h = h
 
-begins_so : (words rest : List (List ℕ)) → words ≡ codes "graph" ∷ rest → (command : OverSite) (options : Options) → AreOptioned words options command → ⊥
+begins_so : (words rest : List (List ℕ)) → words ≡ codes "graph" ∷ rest → (command : OverSite) (options : Options) → AreWithOptions words options command → ⊥
 begins_so words rest is command options are = no_call are.bare (bare_of rest) command (are.have.bare_are ∙ ap bare_of is) are.call
 
 pub graph_has_none : (words : List (List ℕ)) (class : Option (List ℕ)) (site : List ℕ) → AreGraphWords class words site
-    → (options : Options) (command : OverSite) → AreOptioned words options command → ⊥
+    → (options : Options) (command : OverSite) → AreWithOptions words options command → ⊥
 graph_has_none words None site is options command are = begins_so words _ is.0 command options are
 graph_has_none words (Some class) site (inl is, plain, other) options command are = begins_so words _ is command options are
 graph_has_none words (Some class) site (inr is, plain, other) options command are = begins_so words _ is command options are
@@ -252,12 +390,6 @@ drawing_begins : (words : List (List ℕ)) (class : Option (List ℕ)) (site : L
 drawing_begins words None site is = (_, is.0)
 drawing_begins words (Some class) site (inl is, plain, other) = (_, is)
 drawing_begins words (Some class) site (inr is, plain, other) = (_, is)
-
-pub site_no_graph : (words : List (List ℕ)) (command : OverSite) → CallFor command words → (class : Option (List ℕ)) (site : List ℕ)
-    → AreGraphWords class words site → ⊥
-site_no_graph words command call class site are =
-    let begins = drawing_begins words class site are in
-    no_call words begins.0 command begins.1 call
 
 g_or_p : (a b : ℕ) → a ≡ 103 → b ≡ 112 → a ≡ b → ⊥
 g_or_p a b g p same = omega (arith, g, p, same)
@@ -304,64 +436,46 @@ one_drawing words (Some c) (Some d) s t (inl x, p, v) (inr y, q, w) =
 one_drawing words (Some c) (Some d) s t (inr x, p, v) (inl y, q, w) =
     absurd (option_is_plain (subst (λ w. is_plain w ≡ true) (second_same (sym x ∙ y)) p))
 
--- what holds of the command that was found holds of the one that the words call for
-pub for_further : (P : Options → OverSite → Type 0) (words : List (List ℕ)) (found : Further) → IsFurther words found
-    → ((options : Options) (command : SiteCommand) → found ≡ further.WithOptions options command → P options (over command))
-    → (options : Options) (command : OverSite) → AreOptioned words options command → P options command
-for_further P words (further.WithOptions given found) is holds options command are =
-    let both = one_optioned words given options (over found) command is are in
-    subst (λ c. P options c) both.1 (subst (λ o. P o (over found)) both.0 (holds given found refl))
-for_further P words (further.Graph site) is holds options command are = absurd (graph_has_none words None site.now is options command are)
-for_further P words (further.GraphOfClass site class) is holds options command are =
-    absurd (graph_has_none words (Some class.now) site.now is options command are)
+pub one_over : (words : List (List ℕ)) (a b : Options) (c d : OverSite) → AreOver words a c → AreOver words b d → (a ≡ b) × (c ≡ d)
+one_over words a b c d x y = elim (either words a c x) [
+  | inl first ↦ elim (either words b d y) [
+    | inl second ↦ one_with words a b c d first second
+    | inr second ↦ absurd (graph_has_none words second.class second.site second.words_are a c first)
+  ]
+  | inr first ↦ elim (either words b d y) [
+    | inl second ↦ absurd (graph_has_none words first.class first.site first.words_are b d second)
+    | inr second ↦ (
+      same_none a b first.none second.none,
+      first.command_is ∙ same_drawing words first.class second.class first.site second.site first.words_are second.words_are ∙ sym second.command_is,
+    )
+  ]
+]
+  where
+    same_drawing : (ws : List (List ℕ)) (k l : Option (List ℕ)) (s t : List ℕ) → AreGraphWords k ws s → AreGraphWords l ws t
+        → OverSite.Draw k s ≡ OverSite.Draw l t
+    same_drawing ws k l s t p q =
+        let same = one_drawing ws k l s t p q in
+        ap (λ n. OverSite.Draw n s) same.0 ∙ ap (OverSite.Draw l) same.1
 
-pub no_further : (words : List (List ℕ)) (found : Further) → IsFurther words found → AreNoFurtherOf words → ⊥
-no_further words (further.WithOptions given found) is none = none.no_optioned given (over found) is
-no_further words (further.Graph site) is none = none.no_graph None site.now is
-no_further words (further.GraphOfClass site class) is none = none.no_graph (Some class.now) site.now is
+-- the words of a pass call for nothing else
+pass_calls_nothing : (bare : List (List ℕ)) → ArePassAlone bare → (command : OverSite) → CallFor command bare → ⊥
+pass_calls_nothing bare pass (OverSite.Ask question site) call = pass_asks_nothing bare pass question site call
+pass_calls_nothing bare pass (OverSite.Replay site events) call = pass_no_replay bare pass site events call
+pass_calls_nothing bare pass (OverSite.Verify site certificate) call = pass_no_verify bare pass site certificate call
+pass_calls_nothing bare pass (OverSite.Draw class site) call = call
 
-module _ (bytes_of : List ℕ → Option (List ℕ)) (status : ℕ) (old new : Streams) (words : List (List ℕ)) (found : Further) (is : IsFurther words found) where
-  pub further_ends : FurtherEnds bytes_of found status
-      → (options : Options) (command : OverSite) → AreOptioned words options command → EndsAs bytes_of command status
-  further_ends ends = for_further (λ options command. EndsAs bytes_of command status) words found is
-      (λ options command e. subst (λ f. FurtherEnds bytes_of f status) e ends)
+pub pass_no_over : (words : List (List ℕ)) → ArePassAlone words → (options : Options) (command : OverSite) → AreOver words options command → ⊥
+pass_no_over words pass options command are = elim (either words options command are) [
+  | inl with ↦ pass_calls_nothing with.bare (with.have.bare_are ∙ ap bare_of pass) command with.call
+  | inr drawing ↦ pass_no_graph words pass drawing.class drawing.site drawing.words_are
+]
 
-  pub further_says : FurtherSays bytes_of found status old new
-      → (options : Options) (command : OverSite) → AreOptioned words options command → SaysAs bytes_of options command status old new
-  further_says says = for_further (λ options command. SaysAs bytes_of options command status old new) words found is
-      (λ options command e. subst (λ f. FurtherSays bytes_of f status old new) e says)
-
-  pub further_keeps : FurtherKeeps bytes_of found status
-      → (options : Options) (command : OverSite) → AreOptioned words options command → KeepsAs bytes_of command status
-  further_keeps keeps = for_further (λ options command. KeepsAs bytes_of command status) words found is
-      (λ options command e. subst (λ f. FurtherKeeps bytes_of f status) e keeps)
-
-  pub further_fails : (MayFail PiecesFail : List ℕ → Type 0) → FurtherFails bytes_of MayFail PiecesFail found status old new
-      → (options : Options) (command : OverSite) → AreOptioned words options command → FailsAs bytes_of MayFail PiecesFail command status old new
-  further_fails MayFail PiecesFail fails = for_further (λ options command. FailsAs bytes_of MayFail PiecesFail command status old new) words found is
-      (λ options command e. subst (λ f. FurtherFails bytes_of MayFail PiecesFail f status old new) e fails)
-
-module _ (bytes_of : List ℕ → Option (List ℕ)) (MayFail : List ℕ → Type 0) (status : ℕ) (old new : Streams) (words : List (List ℕ)) (found : Further)
-    (is : IsFurther words found) where
-  drawn_as : (found_class class : Option (List ℕ)) (found_site site text : List ℕ) → AreGraphWords found_class words found_site
-      → ((t : List ℕ) → bytes_of found_site ≡ Some t → Draws found_class bytes_of MayFail found_site t status old new) → AreGraphWords class words site
-      → bytes_of site ≡ Some text → Draws class bytes_of MayFail site text status old new
-  drawn_as found_class class found_site site text found_is draws are known =
-      let same = one_drawing words found_class class found_site site found_is are in
-      subst (λ c. Draws c bytes_of MayFail site text status old new) same.0
-      (subst (λ s. Draws found_class bytes_of MayFail s text status old new) same.1 (draws text (subst (λ s. bytes_of s ≡ Some text) (sym same.1) known)))
-
-  draws_found : (f : Further) → IsFurther words f → FurtherDraws bytes_of MayFail f status old new → (class : Option (List ℕ)) (site text : List ℕ)
-      → AreGraphWords class words site → bytes_of site ≡ Some text → Draws class bytes_of MayFail site text status old new
-  draws_found (further.WithOptions options command) are_optioned draws class site text are known =
-      absurd (graph_has_none words class site are options (over command) are_optioned)
-  draws_found (further.Graph s) found_is draws class site text are known = drawn_as None class s.now site text found_is draws are known
-  draws_found (further.GraphOfClass s c) found_is draws class site text are known = drawn_as (Some c.now) class s.now site text found_is draws are known
-
-  pub further_draws : FurtherDraws bytes_of MayFail found status old new
-      → (class : Option (List ℕ)) (site text : List ℕ) → AreGraphWords class words site → bytes_of site ≡ Some text
-      → Draws class bytes_of MayFail site text status old new
-  further_draws draws = draws_found found is draws
+-- what holds of the request that was found holds of the command that the words call for
+pub for_request : (P : Options → OverSite → Type 0) (words : List (List ℕ)) (found : Request) → IsRequest words found → P (options_of found) (over_of found)
+    → (options : Options) (command : OverSite) → AreOver words options command → P options command
+for_request P words found is holds options command are =
+    let both = one_over words (options_of found) options (over_of found) command is are in
+    subst (λ c. P options c) both.1 (subst (λ o. P o (over_of found)) both.0 holds)
 
 pub none_on : {X P Q : Type 0} (r : Option X) → IfNone r P → (P → Q) → IfNone r Q
 none_on (Some x) h f = tt

@@ -13,8 +13,7 @@ use Rattle.sy_report.specs.internal.Reports.{streams}
 use Rattle.syc.specs.SiteFiles.{HasNoAnswer}
 use Rattle.sy_report.specs.declared.outcome.halt.Halt.{Halt}
 use Rattle.sy_report.specs.declared.outcome.halt.Halt.TheVariants as halts
-use Rattle.syc.specs.internal.Halts.{HandedOn}
-use Rattle.syc.specs.Halts.{Halted, IsCause, Replayed}
+use Rattle.syc.specs.internal.Halts.{Halted, HandedOn, IsCause, Replayed}
 use Rattle.sy_report.specs.Halts.{status_at}
 use Rattle.syc.specs.internal.Optioned.{in_memory}
 use Rattle.syc.specs.Optioned.{HaltEnds}

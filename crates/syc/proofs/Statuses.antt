@@ -1,12 +1,13 @@
 -- What each exit status says.
-use Rattle.std.proofs.Common.{◌≡◌, ◌≢◌, ◌⊎◌, ℕ, ◌+◌, ◌≤◌, inl, inr, List, ◌++◌, refl, subst, arith}
-use Rattle.std.specs.Prelude.{Option}
+use Rattle.std.proofs.Common.{◌≡◌, ◌≢◌, ◌⊎◌, ℕ, ◌+◌, ◌≤◌, inl, inr, List, ◌++◌, refl, subst, sym, arith}
+use Rattle.std.specs.Prelude.{Option, true}
 use Rattle.std.specs.Io.KnownBytes.{Keeps}
 use Rattle.std.proofs.KnownBytes.{Appends-kept, Keeps-refl}
 use Rattle.sy_wire.specs.Streams.{Rose}
+use Rattle.syc.specs.CommandReports.{IsPassed}
 use Rattle.syc.specs.Pass.{Counts, EndsPass, HasFailed, NoneFailed, PartPassed, lines}
 use Rattle.syc.specs.internal.Pass.{GivesUpFailing}
-use Rattle.sy_report.specs.Reports.{report, status_shown}
+use Rattle.sy_report.specs.Reports.{SinkState, Streams, Tells, report, status_shown}
 use Rattle.syc.specs.internal.Stops.{PassCause, StopIs, StopsAt, StopsIn}
 use Rattle.sy_report.specs.declared.outcome.stop.Stop.{Stop}
 use Rattle.sy_report.specs.declared.outcome.stop.Stop.TheVariants.{Frame, Message, NoMemory, ReadFailed, WriteFailed}
@@ -63,6 +64,25 @@ module _ (input : List ℕ) (a b c : Option (List ℕ)) (kept : Keeps b c) (IsRe
 -- memory ran out before anything was read
 pub nothing_passed : (input : List ℕ) (a : Option (List ℕ)) (IsReported : List ℕ → Type 0) → IsReported (report NoMemory 0) → EndsPass 3 input a a IsReported
 nothing_passed input a IsReported reported = inr (inr (inl (refl, record { rest = input; n = 0; passed = passed_nothing input a a (Keeps-refl a); reported = reported })))
+
+three_done : ◌≡◌ {A = ℕ} 3 0 ⊎ ◌≡◌ {A = ℕ} 3 2 → ⊥
+three_done (inl e) = omega (arith, e)
+three_done (inr e) = omega (arith, e)
+
+three_four : ◌≡◌ {A = ℕ} 3 4 → ⊥
+three_four e = omega (arith, e)
+
+pub memory_passed : (input : Option (List ℕ)) (old new : Streams) (before after : Counts) → new.output ≡ old.output → Tells old new (report NoMemory 0)
+    → IsPassed input 3 old new before after
+memory_passed input old new before after same told = record {
+  says = λ bytes known. subst (λ (o : SinkState). EndsPass 3 bytes old.output.contents o.contents (Tells old new)) (sym same)
+      (nothing_passed bytes old.output.contents (Tells old new) told);
+  leaves = record {
+    flushed = inl (λ flushed. subst (λ (o : SinkState). o.is_flushed ≡ true) (sym same) flushed);
+    done = λ ended. absurd (three_done ended);
+    cause = λ four. absurd (three_four four);
+  };
+}
 
 rose_more : (a b c : ℕ) → b ≤ c → Rose a b → Rose a c
 rose_more a b c le (inl h) = inl (omega arith)

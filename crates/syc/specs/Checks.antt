@@ -12,7 +12,9 @@ use Rattle.sy_report.specs.declared.command_line.command.Asked.TheVariants as as
 use Rattle.sy_report.specs.declared.command_line.options.Options.{Options}
 use Rattle.sy_report.specs.Reports.{Streams}
 use Rattle.sy_findings.specs.Checks.{finding_text, IsTally, IsTallyInWords, SaysKept, SaysFit, SaysChecked, SaysCertified}
-use Rattle.syc.specs.Outcomes.{AnswersTellingFirst, AnswersOf}
+use Rattle.syc.specs.Outcomes.{AnswersTelling, AnswersTellingFirst, AnswersOf}
+use Rattle.syc.specs.Reports.{TellsBy}
+use Rattle.syc.specs.Words.{is_any}
 
 -- what is found in it, and words for people behind that, of which nothing is said
 pub record SaysFoundInWords (site : Site) (text : List ℕ) (is_accepted : Bool) : Type 0 where
@@ -78,10 +80,15 @@ BeginsInWords options site text is_accepted =
 abbrev pub SaysCertifiedInWords : Site → List ℕ → Bool → Type 0
 SaysCertifiedInWords site text is_accepted = SaysFit site text is_accepted ⊎ SaysFoundInWords site text is_accepted
 
+-- what a making of its certificate says, explained or not
+abbrev pub SaysCertifiedBy : (is_explained : Bool) → Site → List ℕ → Bool → Type 0
+SaysCertifiedBy false = SaysCertified
+SaysCertifiedBy true = SaysCertifiedInWords
+
 -- what is said of a site with options, but for a document, by what is asked
 abbrev pub SaysWith : Asked → Options → Site → List ℕ → Bool → Type 0
 SaysWith asked.Check options = BeginsInWords options
-SaysWith asked.Certify options = SaysCertifiedInWords
+SaysWith asked.Certify options = SaysCertifiedBy options.explain
 
 -- ---- the commands
 
@@ -92,3 +99,8 @@ AskedIs question = AnswersOf (Says question)
 -- the same with options, but for a document
 abbrev pub AskedInWordsIs : Asked → Options → (List ℕ → Option (List ℕ)) → List ℕ → ℕ → Streams → Streams → Type 0
 AskedInWordsIs question options = AnswersTellingFirst (SaysWith question options)
+
+-- The same with any options, or none, where the line that says why there is no answer stands alone.
+abbrev pub AskedReport : Asked → Options → (List ℕ → Option (List ℕ)) → List ℕ → ℕ → Streams → Streams → Type 0
+AskedReport question options bytes_of text status old new =
+    AnswersTelling (TellsBy (is_any options) old new) (SaysWith question options) bytes_of text status old new

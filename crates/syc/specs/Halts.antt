@@ -1,14 +1,12 @@
 -- Why a command over a site stops, and how far a replay has come.
-use Rattle.std.specs.Prelude.{◌≡◌, ℕ, List, ◌⊎◌, Option}
-use Rattle.std.specs.Io.KnownBytes.{Appends, Keeps}
+use Rattle.std.specs.Prelude.{◌≡◌, ℕ, List, Option}
+use Rattle.std.specs.Io.KnownBytes.{Appends}
 use Rattle.sy_wire.specs.Streams.{Rose}
 use Rattle.sy_site.specs.Sites.{Site}
 use Rattle.sy_replay.specs.States.{Contents}
 use Rattle.sy_report.specs.declared.outcome.halt.Halt.{Halt}
 use Rattle.sy_report.specs.declared.outcome.halt.Halt.TheVariants as halt
-use Rattle.sy_places.specs.SiteFiles.{IsSiteOf}
-use Rattle.sy_places.specs.Halts.{IsNoSite}
-use Rattle.syc.specs.Replays.{Ending, Replays, lines_of, opened}
+use Rattle.syc.specs.Replays.{Ending, Replays, opened}
 
 -- ---- how far a replay has come
 
@@ -67,19 +65,3 @@ pub record Finishes (site : Site) (from : Place) (written : Option (List ℕ)) (
   pub wrote : Appends from.written written out
   pub same : faults ≡ from.faults
   pub ends : ReplaysFrom site from out Ending.Done
-
--- the events were replayed over the site of the text
-abbrev pub Replayed : (List ℕ → Option (List ℕ)) → (text events : List ℕ) → Option (List ℕ) → ℕ → Option (List ℕ) → ℕ → Type 0
-Replayed bytes_of text events old before new after =
-    (site : Site) × IsSiteOf bytes_of text site × Finishes site (start site (lines_of events) old before) new after
-
--- there is no site, and nothing was written; or the replay stopped
-abbrev pub Halted : (List ℕ → Option (List ℕ)) → (text events : List ℕ) → Halt → Option (List ℕ) → ℕ → Option (List ℕ) → ℕ → Type 0
-Halted bytes_of text events why old before new after =
-    (IsNoSite bytes_of text why × Keeps old new × (after ≡ before))
-    ⊎ ((site : Site) × IsSiteOf bytes_of text site × Stops site (start site (lines_of events) old before) why new after)
-
--- A failed write has its cause, and at any other halt none failed.
-abbrev pub IsCause : Halt → ℕ → ℕ → Type 0
-IsCause halt.WriteFailed before after = Rose before after
-IsCause _ before after = after ≡ before

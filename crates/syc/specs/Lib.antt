@@ -9,10 +9,11 @@ pub mod Graphs
 pub mod Prepared
 pub mod Verdicts
 pub mod Optioned
+pub mod CommandReports
 pub mod Examples
+pub mod Requests
 pub mod Commands
 pub mod Halts
 pub mod Stops
-pub mod Unverified
 pub mod Ways
 pub mod internal

@@ -1,5 +1,5 @@
 -- What a command over a site answers that has options (this profile's own).
-use Rattle.std.specs.Prelude.{◌≡◌, ℕ, List, ◌∷◌, ◌⊎◌, Option, Some, false}
+use Rattle.std.specs.Prelude.{◌≡◌, ℕ, Bool, List, ◌∷◌, ◌⊎◌, Option, Some, false}
 use Rattle.std.specs.List.{Any}
 use Rattle.sy_wire.specs.Streams.{Rose}
 use Rattle.sy_site.specs.texts.Files.{file_names}
@@ -15,9 +15,9 @@ use Rattle.syc.specs.Outcomes.{FailsBy, MayEnd}
 use Rattle.syc.specs.Replays.{ReplayInWordsIs, ReplayIs}
 use Rattle.syc.specs.Verdicts.{DescribesKept, VerifyInWordsIs, VerifyIs}
 use Rattle.syc.specs.Words.{OverSite}
-use Rattle.syc.specs.Reports.{TellsFirst}
+use Rattle.syc.specs.Reports.{TellsBy}
 
--- The exit status is one that the command without options answers over these files.
+-- The exit status is one that the command without options answers over these files. A drawing has no options.
 abbrev pub EndsAs : (List ℕ → Option (List ℕ)) → OverSite → ℕ → Type 0
 EndsAs bytes_of (OverSite.Ask question site) status =
     (text : List ℕ) → bytes_of site ≡ Some text → MayEnd (AskedIs question bytes_of text) status
@@ -25,6 +25,7 @@ EndsAs bytes_of (OverSite.Replay site events) status =
     (text input : List ℕ) → bytes_of site ≡ Some text → bytes_of events ≡ Some input → MayEnd (ReplayIs bytes_of text input) status
 EndsAs bytes_of (OverSite.Verify site certificate) status =
     (site_text text : List ℕ) → bytes_of site ≡ Some site_text → bytes_of certificate ≡ Some text → MayEnd (VerifyIs bytes_of site_text text) status
+EndsAs bytes_of (OverSite.Draw class site) status = Unit {0}
 
 -- Status 4 has the same causes as there.
 abbrev pub FailsAs : (List ℕ → Option (List ℕ)) → (List ℕ → Type 0) → (List ℕ → Type 0) → OverSite → ℕ → Streams → Streams → Type 0
@@ -35,6 +36,8 @@ FailsAs bytes_of MayFail PiecesFail (OverSite.Replay site events) status old new
     → FailsBy (Any MayFail (site ∷ events ∷ file_names text) ⊎ PiecesFail input) status old new
 FailsAs bytes_of MayFail PiecesFail (OverSite.Verify site certificate) status old new =
     (text : List ℕ) → bytes_of site ≡ Some text → FailsBy (Any MayFail (site ∷ certificate ∷ file_names text)) status old new
+FailsAs bytes_of MayFail PiecesFail (OverSite.Draw class site) status old new =
+    (text : List ℕ) → bytes_of site ≡ Some text → FailsBy (Any MayFail (site ∷ file_names text)) status old new
 
 -- Where no document is wanted it answers the same, with words for people behind what is found in a site, and behind the line that says why it stopped.
 abbrev pub SaysAs : (List ℕ → Option (List ℕ)) → Options → OverSite → ℕ → Streams → Streams → Type 0
@@ -45,6 +48,7 @@ SaysAs bytes_of options (OverSite.Replay site events) status old new =
 SaysAs bytes_of options (OverSite.Verify site certificate) status old new =
     options.json ≡ false → (site_text text : List ℕ) → bytes_of site ≡ Some site_text → bytes_of certificate ≡ Some text
     → VerifyInWordsIs bytes_of site_text text status old new
+SaysAs bytes_of options (OverSite.Draw class site) status old new = Unit {0}
 
 -- A check that ends with 0 shows that the site is kept, and so does a verify, whatever the certificate's bytes are. Of the other commands nothing is
 -- said here.
@@ -62,8 +66,8 @@ DocumentEnds why end before after =
 abbrev pub HaltEnds : Halt → ℕ → ℕ → ℕ → Type 0
 HaltEnds why status before after = (end : Halt) × (status ≡ status_at end) × DocumentEnds why end before after
 
--- It ends with the status of the halt, whose line stands first on standard error, and standard output is as before.
-pub record StopsFirst (why : Halt) (status : ℕ) (old new : Streams) : Type 0 where
+-- It ends with the status of the halt, whose line is told, alone or with more after it, and standard output is as before.
+pub record StopsBy (tells_more : Bool) (why : Halt) (status : ℕ) (old new : Streams) : Type 0 where
   pub status_is : status ≡ status_at why
-  pub told : TellsFirst old new (halt_report why)
+  pub told : TellsBy tells_more old new (halt_report why)
   pub same : new.output ≡ old.output

@@ -9,20 +9,21 @@ use Rattle.sy_places.specs.SiteFiles.{IsSiteOf}
 use Rattle.syc.specs.Reports.{TellsFirst}
 use Rattle.syc.specs.SiteFiles.{HasNoAnswer}
 
--- What a command over one site answers, where these are the texts that may be printed of a site, with a verdict: such a text of the site that the
--- site file describes; or there is none, and standard output is as before.
-abbrev pub AnswersOf : (Site → List ℕ → Bool → Type 0) → (List ℕ → Option (List ℕ)) → List ℕ → ℕ → Streams → Streams → Type 0
-AnswersOf Says bytes_of site_text status old new =
+-- What a command over one site answers, where these are the texts that may be printed of a site, with a verdict, and a line is told so. Such a text is
+-- printed, of the site that the site file describes; or there is none, and standard output is as before.
+abbrev pub AnswersTelling : (List ℕ → Type 0) → (Site → List ℕ → Bool → Type 0) → (List ℕ → Option (List ℕ)) → List ℕ → ℕ → Streams → Streams → Type 0
+AnswersTelling IsReported Says bytes_of site_text status old new =
     ((site : Site) × IsSiteOf bytes_of site_text site
     × (text : List ℕ) × (is_accepted : Bool) × Says site text is_accepted × Prints text is_accepted status old new)
-    ⊎ (HasNoAnswer bytes_of site_text status (Tells old new) × (new.output ≡ old.output))
+    ⊎ (HasNoAnswer bytes_of site_text status IsReported × (new.output ≡ old.output))
 
--- The same where more may stand behind the line that says why there is none.
+-- The line that says why there is none stands alone.
+abbrev pub AnswersOf : (Site → List ℕ → Bool → Type 0) → (List ℕ → Option (List ℕ)) → List ℕ → ℕ → Streams → Streams → Type 0
+AnswersOf Says bytes_of site_text status old new = AnswersTelling (Tells old new) Says bytes_of site_text status old new
+
+-- More may stand after the line that says why there is none.
 abbrev pub AnswersTellingFirst : (Site → List ℕ → Bool → Type 0) → (List ℕ → Option (List ℕ)) → List ℕ → ℕ → Streams → Streams → Type 0
-AnswersTellingFirst Says bytes_of site_text status old new =
-    ((site : Site) × IsSiteOf bytes_of site_text site
-    × (text : List ℕ) × (is_accepted : Bool) × Says site text is_accepted × Prints text is_accepted status old new)
-    ⊎ (HasNoAnswer bytes_of site_text status (TellsFirst old new) × (new.output ≡ old.output))
+AnswersTellingFirst Says bytes_of site_text status old new = AnswersTelling (TellsFirst old new) Says bytes_of site_text status old new
 
 -- A status with which a command may end that answers so.
 pub record MayEnd (Is : ℕ → Streams → Streams → Type 0) (status : ℕ) : Type 0 where

@@ -16,7 +16,9 @@ use Rattle.sy_replay.specs.States.{Applies, Contents, IsIllegalAt, holding, stat
 use Rattle.sy_replay.specs.declared.event.Illegal.TheVariants as illegal
 use Rattle.sy_report.specs.HaltTexts.{in_line}
 use Rattle.syc.specs.Pass.{READS}
-use Rattle.syc.specs.Reports.{TellsFirst}
+use Rattle.syc.specs.Reports.{TellsBy, TellsFirst}
+use Rattle.syc.specs.Words.{is_any}
+use Rattle.sy_report.specs.declared.command_line.options.Options.{Options}
 use Rattle.sy_report.specs.Reports.{SinkState, Streams, Tells, line_feed, said}
 use Rattle.syc.specs.SiteFiles.{HasNoAnswer}
 use Rattle.sy_places.specs.SiteFiles.{IsSiteOf}
@@ -186,3 +188,8 @@ ReplayIs bytes_of site_text events status old new = EndsReplay bytes_of site_tex
 -- The same in words: more may stand behind the line that says why it stopped.
 abbrev pub ReplayInWordsIs : (List ℕ → Option (List ℕ)) → (site events : List ℕ) → ℕ → Streams → Streams → Type 0
 ReplayInWordsIs bytes_of site_text events status old new = EndsReplay bytes_of site_text events status old.output new.output (TellsFirst old new)
+
+-- The same with any options, or none, where that line stands alone.
+abbrev pub ReplayReport : Options → (List ℕ → Option (List ℕ)) → (site events : List ℕ) → ℕ → Streams → Streams → Type 0
+ReplayReport options bytes_of site_text events status old new =
+    EndsReplay bytes_of site_text events status old.output new.output (TellsBy (is_any options) old new)

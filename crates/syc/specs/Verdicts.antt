@@ -12,8 +12,10 @@ use Rattle.sy_report.specs.declared.outcome.halt.Halt.TheVariants as halt
 use Rattle.sy_places.specs.SiteFiles.{IsSiteOf}
 use Rattle.sy_findings.specs.Checks.{IsTextOf, KeepsAll}
 use Rattle.sy_findings.specs.Verdicts.{SaysOf}
-use Rattle.syc.specs.Reports.{TellsFirst}
+use Rattle.sy_report.specs.declared.command_line.options.Options.{Options}
+use Rattle.syc.specs.Reports.{TellsBy, TellsFirst}
 use Rattle.syc.specs.SiteFiles.{AreTold, HasNoAnswer}
+use Rattle.syc.specs.Words.{is_any}
 
 -- ---- the files
 
@@ -58,3 +60,8 @@ VerifyIs bytes_of site_text certificate status old new = VerifiesTelling (Tells 
 -- The same in words: more may stand behind the line that says why there is no verdict.
 abbrev pub VerifyInWordsIs : (List ℕ → Option (List ℕ)) → (site_text certificate : List ℕ) → ℕ → Streams → Streams → Type 0
 VerifyInWordsIs bytes_of site_text certificate status old new = VerifiesTelling (TellsFirst old new) bytes_of site_text certificate status old new
+
+-- The same with any options, or none, where that line stands alone.
+abbrev pub VerifyReport : Options → (List ℕ → Option (List ℕ)) → (site_text certificate : List ℕ) → ℕ → Streams → Streams → Type 0
+VerifyReport options bytes_of site_text certificate status old new =
+    VerifiesTelling (TellsBy (is_any options) old new) bytes_of site_text certificate status old new

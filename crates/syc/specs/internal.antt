@@ -4,5 +4,6 @@ pub mod Halts
 pub mod Optioned
 pub mod Stops
 pub mod Surveys
+pub mod Unverified
 pub mod Ways
 pub mod Pass

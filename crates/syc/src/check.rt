@@ -2,7 +2,6 @@
 
 pub mod documents;
 pub mod explain;
+pub mod explained_survey;
 pub mod question;
-pub mod question_in_words;
 pub mod survey;
-pub mod survey_in_words;

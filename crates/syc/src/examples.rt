@@ -11,7 +11,7 @@ ghost use Rattle.syc.specs.Words.{AreAskingOf, AreReplayOf, AreVerifyOf};
 ghost use Rattle.sy_report.specs.declared.command_line.command.Asked.{Asked};
 ghost use Rattle.sy_report.specs.declared.command_line.command.Asked.TheVariants as asked;
 
-use crate::run::run;
+use crate::laws::run_each;
 use std::alloc::{AllocError, Global};
 use sy_checker::laws::fit_is_sound;
 use sy_report::reading::memory::MemoryFiles;
@@ -148,7 +148,7 @@ fn run_words<W: Sink, E: Sink>(
 {
     let words = words_of(alloc, words)?;
     let mut nothing = FromRead::new([].as_slice());
-    Ok(run(alloc, words.as_slice(), &files(alloc), &mut nothing, out))
+    Ok(run_each(alloc, words.as_slice(), &files(alloc), &mut nothing, out))
 }
 
 /// A check of the example: with status 0 `accepted: 8 protected classes` was printed, and the texts describe one site,

@@ -12,13 +12,13 @@ ghost use Rattle.sy_places.specs.Halts.{IsNoSite, IsUnread};
 
 use std::alloc::{AllocError, Global};
 use sy_checker::check_site;
-use sy_drawing::arrow::put_outside;
+use sy_drawing::arrow::push_outside;
 use sy_drawing::class::{class_named, one_of};
 use sy_drawing::node::{Drawing, mark_of};
 use sy_drawing::reach::reach_of;
-use sy_drawing::relay::put_relay;
-use sy_drawing::text::{AROUND, HEAD, LEGEND, LEGEND_OF_ONE, MARKS, put_name};
-use sy_places::site_file::site::read_site;
+use sy_drawing::relay::push_relay;
+use sy_drawing::text::{AROUND, HEAD, LEGEND, LEGEND_OF_ONE, MARKS, push_name};
+use sy_places::site_file::site::{ReadSite, read_site};
 use sy_places::ways::executed::protected_classes;
 use sy_report::outcome::answer::{Answer, print};
 use sy_report::outcome::halt::Halt;
@@ -49,7 +49,7 @@ fn put_finding(words: &mut Words, site: &Site, finding: &Finding) {
             Part::Text(relay_name(site, archive.relay)),
             Part::Text(b" "),
         ]);
-        put_name(words, action_name(site, archive));
+        push_name(words, action_name(site, archive));
     }
 }
 
@@ -100,10 +100,10 @@ fn put_legend(words: &mut Words, is_one: bool) {
 
 fn put_all(words: &mut Words, drawing: Drawing<'_>) -> Result<(), AllocError> {
     for relay in 0..drawing.site.relays() {
-        put_relay(words, drawing, relay, drawing.site.plan(relay))?;
+        push_relay(words, drawing, relay, drawing.site.plan(relay))?;
     }
     for relay in 0..drawing.site.relays() {
-        put_outside(words, drawing, relay, drawing.site.plan(relay))?;
+        push_outside(words, drawing, relay, drawing.site.plan(relay))?;
     }
     Ok(())
 }
@@ -149,7 +149,8 @@ fn drawing_of<F: Files>(
     ensures err { IfErr result (λ halt. (text : List ℕ) → F.bytes_of files.now name.now ≡ Some text →
         IsNoSite (F.bytes_of files.now) text halt) }
 {
-    let site = read_site(alloc, files, name)?;
+    let ReadSite { site, .. } = read_site(alloc, files, name);
+    let site = site?;
     match draw(alloc, &site, class) {
         Ok(text) => Ok(Answer {
             text,

@@ -6,16 +6,18 @@ ghost use Rattle.sy_board.specs.relay.Guards.{MayGuard};
 ghost use Rattle.sy_site.specs.Sites.{plan_at};
 
 mod check;
-mod commands_with_options;
+mod commands;
 mod examples;
 mod graph;
+mod laws;
 mod pass;
+mod reading;
 mod replay;
+mod reporting;
 mod run;
 mod running;
 mod usage;
 mod verify;
-mod with_options;
 mod wrong_words;
 
 use run::run;

@@ -1,13 +1,15 @@
 //! Notes of findings: where what is found stands, why messages are lost by it, and what would change that.
 
 use crate::notes::object_meant::{Meant, find_meant, relay_meant};
-use crate::notes::objects::{put_with_place, stands_at};
+use crate::notes::objects::{push_with_place, stands_at};
 use crate::notes::queues::{
-    is_marked, put_discarding, put_mark_above_size, put_mark_off, put_not_full, put_post,
-    put_unmarked,
+    is_marked, push_discarding, push_mark_above_size, push_mark_off, push_not_full, push_post,
+    push_unmarked,
 };
-use crate::notes::remedies::{put_gives_up, put_inner_loop, put_loop, put_no_target, put_spare};
-use crate::notes::unmet::put_unmet;
+use crate::notes::remedies::{
+    push_gives_up, push_inner_loop, push_loop, push_no_target, push_spare,
+};
+use crate::notes::unmet::push_unmet;
 use crate::verdicts::tally::names_of;
 use std::alloc::{AllocError, Global};
 use sy_checker::survey;
@@ -74,11 +76,11 @@ fn object_meant(subject: Subject<'_>) -> Option<Object<'_>> {
 }
 
 // What feeds a queue that discards, and doesn't wait before.
-fn put_feeder(words: &mut Words, site: &Site, relay: u32, subject: Subject<'_>) {
+fn push_feeder(words: &mut Words, site: &Site, relay: u32, subject: Subject<'_>) {
     match free_feeder(subject.spot.plan, subject.number) {
         Some(Feeder::Input(number)) => {
             let thing = Thing::Input(number);
-            put_with_place(words, site, relay, subject.places, thing);
+            push_with_place(words, site, relay, subject.places, thing);
         }
         Some(Feeder::Post(list)) => {
             words.put(&[
@@ -101,7 +103,7 @@ fn tells_feeder(kind: Kind, queue: QueueParameters) -> bool {
 }
 
 // Of a queue that discards, what feeds it.
-fn put_fed_by(
+fn push_fed_by(
     alloc: Global,
     note: &mut Note,
     site: &Site,
@@ -113,26 +115,26 @@ fn put_fed_by(
         return Ok(());
     }
     let mut text = Words::new(alloc);
-    put_feeder(&mut text, site, relay, subject);
+    push_feeder(&mut text, site, relay, subject);
     note.put_line("fed by", text)
 }
 
 // Why a post loses messages.
-fn put_inner(note: &mut Note, site: &Site, subject: Subject<'_>, finding: &Finding) {
+fn push_inner(note: &mut Note, site: &Site, subject: Subject<'_>, finding: &Finding) {
     let (plan, queue) = (subject.spot.plan, subject.queue);
     let fed_freely = free_input(plan, subject.number).is_some();
     if !queue.waits {
-        put_post(note, queue, fed_freely);
+        push_post(note, queue, fed_freely);
     } else if !is_marked(queue) {
-        put_unmarked(note, queue, fed_freely);
+        push_unmarked(note, queue, fed_freely);
     } else {
-        put_discarding(note, plan, subject.number, queue);
+        push_discarding(note, plan, subject.number, queue);
     }
-    put_spare(note, site, finding.input.relay, subject.thing);
+    push_spare(note, site, finding.input.relay, subject.thing);
 }
 
 // Why a circle of posts does.
-fn put_circle(
+fn push_circle(
     alloc: Global,
     note: &mut Note,
     site: &Site,
@@ -141,13 +143,13 @@ fn put_circle(
 ) -> Result<(), AllocError> {
     let (relay, list, class) = (finding.input.relay, subject.spot.input.list, finding.class);
     if let Some(lists) = circle(alloc, site, relay, subject.spot.plan, list, class)? {
-        put_inner_loop(note, subject.spot.plan, lists.as_slice());
+        push_inner_loop(note, subject.spot.plan, lists.as_slice());
     }
     Ok(())
 }
 
 // Why messages are lost by an action, or at a queue, and what would change that.
-fn put_reason(
+fn push_reason(
     alloc: Global,
     note: &mut Note,
     site: &Site,
@@ -157,27 +159,27 @@ fn put_reason(
 ) -> Result<(), AllocError> {
     let (own, plan) = (finding.input.relay, subject.spot.plan);
     match finding.kind {
-        Kind::NotFull => put_not_full(note, subject.spot, subject.queue),
-        Kind::MarkOff => put_mark_off(note, subject.queue),
-        Kind::MarkAboveSize => put_mark_above_size(note, subject.queue),
-        Kind::Discards => put_discarding(note, plan, subject.number, subject.queue),
-        Kind::InnerQueue => put_inner(note, site, subject, finding),
+        Kind::NotFull => push_not_full(note, subject.spot, subject.queue),
+        Kind::MarkOff => push_mark_off(note, subject.queue),
+        Kind::MarkAboveSize => push_mark_above_size(note, subject.queue),
+        Kind::Discards => push_discarding(note, plan, subject.number, subject.queue),
+        Kind::InnerQueue => push_inner(note, site, subject, finding),
         Kind::GivesUp => {
-            put_gives_up(note, plan, subject.thing, object_meant(subject));
-            put_spare(note, site, own, subject.thing);
+            push_gives_up(note, plan, subject.thing, object_meant(subject));
+            push_spare(note, site, own, subject.thing);
         }
         Kind::NoTarget => {
-            return put_no_target(alloc, note, site, site_text, own, plan, subject.thing);
+            return push_no_target(alloc, note, site, site_text, own, plan, subject.thing);
         }
-        Kind::Loop => put_loop(note, site, finding),
-        Kind::InnerLoop => return put_circle(alloc, note, site, subject, finding),
+        Kind::Loop => push_loop(note, site, finding),
+        Kind::InnerLoop => return push_circle(alloc, note, site, subject, finding),
         Kind::Unmet(_) => {}
     }
     Ok(())
 }
 
 // What is said of a finding of another kind than the ninth.
-fn put_finding(
+fn push_finding(
     alloc: Global,
     texts: &SiteTexts<'_>,
     site: &Site,
@@ -195,8 +197,8 @@ fn put_finding(
     match subject_of(alloc, site, places, finding)? {
         Some(subject) => {
             stands_at(alloc, note, site, relay, places, subject.thing);
-            put_reason(alloc, note, site, text, subject, finding)?;
-            put_fed_by(alloc, note, site, relay, subject, finding.kind)
+            push_reason(alloc, note, site, text, subject, finding)?;
+            push_fed_by(alloc, note, site, relay, subject, finding.kind)
         }
         None => Ok(()),
     }
@@ -211,14 +213,14 @@ pub fn note_of_finding(
 ) -> Result<Note, AllocError> {
     let mut note = Note::new(alloc);
     match finding.kind {
-        Kind::Unmet(archive) => put_unmet(alloc, texts, site, &mut note, finding, archive),
-        _ => put_finding(alloc, texts, site, &mut note, finding),
+        Kind::Unmet(archive) => push_unmet(alloc, texts, site, &mut note, finding, archive),
+        _ => push_finding(alloc, texts, site, &mut note, finding),
     }?;
     note.finish()
 }
 
 // The classes of which the same is found at the same input, where they are several.
-fn put_group(
+fn push_group(
     alloc: Global,
     note: &mut Note,
     site: &Site,
@@ -245,7 +247,7 @@ pub fn explanation(
     finding: &Finding,
 ) -> Result<Vec<u8>, AllocError> {
     let mut note = note_of_finding(alloc, texts, site, finding)?;
-    put_group(alloc, &mut note, site, finding)?;
+    push_group(alloc, &mut note, site, finding)?;
     let note = note.finish()?;
     let mut words = Words::new(alloc);
     put_note(&mut words, &note);

@@ -37,7 +37,7 @@ fn parts_of(plan: &Plan, thing: Thing) -> [Part<'_>; 2] {
 }
 
 /// Puts an object of a relay, as `action up`.
-pub fn put_thing(words: &mut Words, site: &Site, relay: u32, thing: Thing) {
+pub fn push_thing(words: &mut Words, site: &Site, relay: u32, thing: Thing) {
     if relay < site.relays() {
         words.put(&parts_of(site.plan(relay), thing));
     }
@@ -63,19 +63,19 @@ pub fn stands_at(
     match places {
         Some(places) => {
             note.stands_at(alloc, places.file.as_bytes(), places.point(thing));
-            put_thing(&mut note.what, site, relay, thing);
+            push_thing(&mut note.what, site, relay, thing);
             note.what.say(said_by_defaults(places, thing));
         }
         None => {
             note.what
                 .put(&[Part::Text(relay_name(site, relay)), Part::Text(b": ")]);
-            put_thing(&mut note.what, site, relay, thing);
+            push_thing(&mut note.what, site, relay, thing);
         }
     }
 }
 
 /// Puts an object of a relay with its place, as `hub.conf:4:1: action audit`.
-pub fn put_with_place(
+pub fn push_with_place(
     words: &mut Words,
     site: &Site,
     relay: u32,
@@ -84,10 +84,10 @@ pub fn put_with_place(
 ) {
     if let Some(places) = places {
         match places.object(thing) {
-            Some(object) => places.put_point(words, object.start),
+            Some(object) => places.push_point(words, object.start),
             None => words.put(&[Part::Text(places.file.as_bytes())]),
         }
         words.say(": ");
     }
-    put_thing(words, site, relay, thing);
+    push_thing(words, site, relay, thing);
 }

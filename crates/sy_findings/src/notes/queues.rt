@@ -7,7 +7,7 @@ use sy_report::texts::words::Words;
 use sy_rules::{FlowControl, Plan, QueueParameters};
 
 // That a message is lost at a full queue after a while.
-fn put_wait(words: &mut Words, queue: QueueParameters) {
+fn push_wait(words: &mut Words, queue: QueueParameters) {
     words.put(&[
         Part::Text(b", so that messages may come to a full queue: there one waits "),
         Part::Number(u64::from(queue.timeout_enqueue)),
@@ -31,7 +31,7 @@ fn right_mark(queue: QueueParameters) -> u64 {
     mark.max(1)
 }
 
-fn put_right_mark(words: &mut Words, queue: QueueParameters) {
+fn push_right_mark(words: &mut Words, queue: QueueParameters) {
     words.put(&[
         Part::Text(b"queue.fullDelayMark=\""),
         Part::Number(right_mark(queue)),
@@ -48,47 +48,47 @@ fn flow_word(flow: FlowControl) -> &'static [u8] {
 }
 
 /// Of an input that isn't a full-delay one.
-pub fn put_not_full(note: &mut Note, spot: Spot<'_>, queue: QueueParameters) {
+pub fn push_not_full(note: &mut Note, spot: Spot<'_>, queue: QueueParameters) {
     note.why.put(&[
         Part::Text(b"its flowControl is "),
         Part::Text(flow_word(spot.input.flow)),
     ]);
-    put_wait(&mut note.why, queue);
+    push_wait(&mut note.why, queue);
     note.change.say(
         "flowControl=\"full\" there, which is a rule of Syc's own: rsyslogd's imtcp refuses that value",
     );
 }
 
-fn put_why_mark_off(note: &mut Note, queue: QueueParameters) {
+fn push_why_mark_off(note: &mut Note, queue: QueueParameters) {
     note.why.say("its queue.fullDelayMark is 0, which is off");
-    put_wait(&mut note.why, queue);
+    push_wait(&mut note.why, queue);
 }
 
 /// Of a queue without a full-delay mark.
-pub fn put_mark_off(note: &mut Note, queue: QueueParameters) {
-    put_why_mark_off(note, queue);
-    put_right_mark(&mut note.change, queue);
+pub fn push_mark_off(note: &mut Note, queue: QueueParameters) {
+    push_why_mark_off(note, queue);
+    push_right_mark(&mut note.change, queue);
 }
 
-fn put_why_mark_above_size(note: &mut Note, queue: QueueParameters) {
+fn push_why_mark_above_size(note: &mut Note, queue: QueueParameters) {
     note.why.put(&[
         Part::Text(b"its queue.fullDelayMark is "),
         Part::Number(u64::from(queue.full_delay_mark)),
         Part::Text(b" and its queue.size "),
         Part::Number(u64::from(queue.size)),
     ]);
-    put_wait(&mut note.why, queue);
+    push_wait(&mut note.why, queue);
 }
 
 /// Of a queue that is smaller than its full-delay mark.
-pub fn put_mark_above_size(note: &mut Note, queue: QueueParameters) {
-    put_why_mark_above_size(note, queue);
+pub fn push_mark_above_size(note: &mut Note, queue: QueueParameters) {
+    push_why_mark_above_size(note, queue);
     note.change.put(&[
         Part::Text(b"queue.size=\""),
         Part::Number(u64::from(queue.full_delay_mark)),
         Part::Text(b"\" there, or "),
     ]);
-    put_right_mark(&mut note.change, queue);
+    push_right_mark(&mut note.change, queue);
 }
 
 // What waits at a queue's full-delay mark.
@@ -101,7 +101,7 @@ fn waiting(queue: QueueParameters) -> &'static [u8] {
 }
 
 /// Of a queue that discards.
-pub fn put_discarding(note: &mut Note, plan: &Plan, number: u32, queue: QueueParameters) {
+pub fn push_discarding(note: &mut Note, plan: &Plan, number: u32, queue: QueueParameters) {
     note.why.put(&[
         Part::Text(b"with "),
         Part::Number(u64::from(queue.discard_mark)),
@@ -114,7 +114,7 @@ pub fn put_discarding(note: &mut Note, plan: &Plan, number: u32, queue: QueuePar
         Part::Text(b" (queue.fullDelayMark)"),
     ]);
     if free_feeder(plan, number).is_none() && queue.discard_mark > 1 {
-        put_right_mark(&mut note.change, queue);
+        push_right_mark(&mut note.change, queue);
         note.change.say(", or ");
     }
     note.change.say("queue.discardSeverity=\"8\" there, by which it discards nothing");
@@ -129,7 +129,7 @@ pub fn is_marked(queue: QueueParameters) -> bool {
 
 // What else a queue needs in which posts wait: a mark, and that it discards nothing below that. Where an input that doesn't
 // wait feeds it, nothing but the severity keeps it from discarding.
-fn put_marks_needed(words: &mut Words, queue: QueueParameters, fed_freely: bool) {
+fn push_marks_needed(words: &mut Words, queue: QueueParameters, fed_freely: bool) {
     let discards = has_discards(queue);
     if !is_marked(queue) || discards && queue.discard_mark <= queue.full_delay_mark {
         words.put(&[
@@ -144,23 +144,23 @@ fn put_marks_needed(words: &mut Words, queue: QueueParameters, fed_freely: bool)
 }
 
 /// Of a queue in which posts wait, but for a full-delay mark that isn't above the queue's size.
-pub fn put_unmarked(note: &mut Note, queue: QueueParameters, fed_freely: bool) {
+pub fn push_unmarked(note: &mut Note, queue: QueueParameters, fed_freely: bool) {
     if queue.full_delay_mark == 0 {
-        put_why_mark_off(note, queue);
+        push_why_mark_off(note, queue);
     } else {
-        put_why_mark_above_size(note, queue);
+        push_why_mark_above_size(note, queue);
     }
-    put_marks_needed(&mut note.change, queue, fed_freely);
+    push_marks_needed(&mut note.change, queue, fed_freely);
     note.change.say("there");
 }
 
 /// Of a queue in which posts don't wait.
-pub fn put_post(note: &mut Note, queue: QueueParameters, fed_freely: bool) {
+pub fn push_post(note: &mut Note, queue: QueueParameters, fed_freely: bool) {
     note.why.say(
         "messages are posted to its queue, and one that is posted while that is full is lost",
     );
     note.change.say("queue.workerFlow=\"full\" ");
-    put_marks_needed(&mut note.change, queue, fed_freely);
+    push_marks_needed(&mut note.change, queue, fed_freely);
     note.change.say(
         "there, by which a post waits for room, or without queue.type there, so that it has no queue of its own",
     );

@@ -36,7 +36,7 @@ fn leaves_out(object: Option<Object<'_>>, name: &[u8]) -> bool {
 }
 
 /// What else takes a finding away: that the action is spare, where nothing that is asked for hangs on it.
-pub fn put_spare(note: &mut Note, site: &Site, relay: u32, thing: Thing) {
+pub fn push_spare(note: &mut Note, site: &Site, relay: u32, thing: Thing) {
     let Thing::Action(action) = thing else {
         return;
     };
@@ -57,7 +57,7 @@ pub fn put_spare(note: &mut Note, site: &Site, relay: u32, thing: Thing) {
 }
 
 /// Of an action that is given up.
-pub fn put_gives_up(note: &mut Note, plan: &Plan, thing: Thing, object: Option<Object<'_>>) {
+pub fn push_gives_up(note: &mut Note, plan: &Plan, thing: Thing, object: Option<Object<'_>>) {
     let Some(action) = action_of(plan, thing) else {
         return;
     };
@@ -78,7 +78,7 @@ pub fn put_gives_up(note: &mut Note, plan: &Plan, thing: Thing, object: Option<O
 }
 
 // The ports of a relay's inputs.
-fn put_ports(words: &mut Words, site: &Site, plan: &Plan, relay: u32) {
+fn append_ports(words: &mut Words, site: &Site, plan: &Plan, relay: u32) {
     words.put(&[
         Part::Text(b"a port of "),
         Part::Text(relay_name(site, relay)),
@@ -109,7 +109,7 @@ fn likely<'n>(target: &[u8], names: &[&'n [u8]]) -> Option<&'n [u8]> {
 }
 
 // Names of which one may be a target: the one that is likely meant, or all.
-fn put_names(words: &mut Words, names: &[&[u8]], target: &[u8]) {
+fn append_names(words: &mut Words, names: &[&[u8]], target: &[u8]) {
     words.say("a target of the site there:");
     match likely(target, names) {
         Some(name) => words.put(&[Part::Text(b" "), Part::Text(name)]),
@@ -122,7 +122,7 @@ fn put_names(words: &mut Words, names: &[&[u8]], target: &[u8]) {
 }
 
 // The line of the site file that names a relay.
-fn put_line(words: &mut Words, site: &Site, site_text: &[u8], name: Option<&[u8]>) {
+fn push_line(words: &mut Words, site: &Site, site_text: &[u8], name: Option<&[u8]>) {
     let Some(name) = name else {
         return;
     };
@@ -139,7 +139,7 @@ fn put_line(words: &mut Words, site: &Site, site_text: &[u8], name: Option<&[u8]
 }
 
 // That a relay could be named as the target is written, if that looks like a host's address or name.
-fn put_address(
+fn push_address(
     words: &mut Words,
     site: &Site,
     site_text: &[u8],
@@ -152,13 +152,13 @@ fn put_address(
             Part::Text(target),
             Part::Text(b" in the site file"),
         ]);
-        put_line(words, site, site_text, name);
+        push_line(words, site, site_text, name);
         words.say(": a target is compared with relay names; ADDRESS isn't looked at");
     }
 }
 
 // What a forward may lead to in place of a target.
-fn put_targets(
+fn append_targets(
     alloc: Global,
     words: &mut Words,
     site: &Site,
@@ -168,21 +168,21 @@ fn put_targets(
 ) -> Result<(), AllocError> {
     match site.relay_named(target) {
         Some(relay) if relay < site.relays() => {
-            put_ports(words, site, site.plan(relay), relay);
+            append_ports(words, site, site.plan(relay), relay);
             Ok(())
         }
         _ => {
             let names = other_relays(alloc, site, own)?;
-            put_names(words, names.as_slice(), target);
+            append_names(words, names.as_slice(), target);
             let name = likely(target, names.as_slice());
-            put_address(words, site, site_text, target, name);
+            push_address(words, site, site_text, target, name);
             Ok(())
         }
     }
 }
 
 /// Of a forward that leads to no input of the site.
-pub fn put_no_target(
+pub fn push_no_target(
     alloc: Global,
     note: &mut Note,
     site: &Site,
@@ -204,7 +204,7 @@ pub fn put_no_target(
                     b", which is no input of the site, so that no archive of the site gets it",
                 ),
             ]);
-            put_targets(
+            append_targets(
                 alloc,
                 &mut note.change,
                 site,
@@ -217,7 +217,7 @@ pub fn put_no_target(
 }
 
 // The relays of a way.
-fn put_way(words: &mut Words, site: &Site, way: &[WayRow]) {
+fn push_way(words: &mut Words, site: &Site, way: &[WayRow]) {
     for row in way {
         words.put(&[
             Part::Text(relay_name(site, row.input.relay)),
@@ -227,10 +227,10 @@ fn put_way(words: &mut Words, site: &Site, way: &[WayRow]) {
 }
 
 /// Of a loop.
-pub fn put_loop(note: &mut Note, site: &Site, finding: &Finding) {
+pub fn push_loop(note: &mut Note, site: &Site, finding: &Finding) {
     note.why
         .say("by it a message may come to a relay once more: ");
-    put_way(&mut note.why, site, finding.way.as_slice());
+    push_way(&mut note.why, site, finding.way.as_slice());
     note.why.put(&[
         Part::Text(relay_name(site, finding.input.relay)),
         Part::Text(b"; what goes round fills the queues there"),
@@ -241,7 +241,7 @@ pub fn put_loop(note: &mut Note, site: &Site, finding: &Finding) {
 }
 
 /// Of a circle of posts, given by its lists: the last one first, the one where it begins at the end.
-pub fn put_inner_loop(note: &mut Note, plan: &Plan, circle: &[u32]) {
+pub fn push_inner_loop(note: &mut Note, plan: &Plan, circle: &[u32]) {
     note.why.say("by posts from queue to queue a message may come there once more: ");
     for list in circle.iter().rev() {
         note.why.put(&[Part::Text(name_of_list(plan, *list)), Part::Text(b", ")]);

@@ -1,9 +1,9 @@
 //! Why messages don't come to an archive: the statement, or the spare line, that keeps them from it, and the path up to
 //! there.
 
-use crate::notes::objects::{put_thing, put_with_place, stands_at};
+use crate::notes::objects::{push_thing, push_with_place, stands_at};
 use crate::notes::way_to_archive::{
-    Search, Wanted, archive_of, put_moved, put_name, put_path, put_wanted, search_of, spare_at,
+    Search, Wanted, archive_of, push_moved, push_name, push_path, push_wanted, search_of, spare_at,
     target_of, wanted_at,
 };
 use std::alloc::{AllocError, Global};
@@ -62,14 +62,14 @@ fn words_of_test(text: &[u8], place: usize) -> &[u8] {
     }
 }
 
-fn put_stop(note: &mut Note, search: Search<'_>, of: Wanted<'_>, is_sure: bool) {
+fn push_stop(note: &mut Note, search: Search<'_>, of: Wanted<'_>, is_sure: bool) {
     if is_sure {
         note.why.say(" and is stopped here, before ");
     } else {
         note.why.say(" and may be stopped here, before ");
     }
-    put_wanted(&mut note.why, search, of);
-    put_moved(&mut note.change, search, of);
+    push_wanted(&mut note.why, search, of);
+    push_moved(&mut note.change, search, of);
     note.change.say(" before that stop");
     if !is_sure {
         note.change
@@ -77,15 +77,15 @@ fn put_stop(note: &mut Note, search: Search<'_>, of: Wanted<'_>, is_sure: bool) 
     }
 }
 
-fn put_test(note: &mut Note, search: Search<'_>, of: Wanted<'_>, is_decided: bool) {
+fn push_test(note: &mut Note, search: Search<'_>, of: Wanted<'_>, is_decided: bool) {
     if is_decided {
         note.why
             .say(" and this test keeps every message of the class from ");
     } else {
         note.why.say(" and this test, which the class alone doesn't decide, may keep it from ");
     }
-    put_wanted(&mut note.why, search, of);
-    put_moved(&mut note.change, search, of);
+    push_wanted(&mut note.why, search, of);
+    push_moved(&mut note.change, search, of);
     note.change.say(" outside that test");
     if !is_decided {
         note.change
@@ -94,13 +94,13 @@ fn put_test(note: &mut Note, search: Search<'_>, of: Wanted<'_>, is_decided: boo
 }
 
 // Says what nothing there does: execute the archive, or forward to where it is executed.
-fn put_nothing(note: &mut Note, search: Search<'_>, of: Wanted<'_>, relay: u32) {
+fn push_nothing(note: &mut Note, search: Search<'_>, of: Wanted<'_>, relay: u32) {
     let archive = search.archive;
     if relay == archive.relay {
         note.why.say(" and no statement there brings it to ");
-        put_wanted(&mut note.why, search, of);
+        push_wanted(&mut note.why, search, of);
         note.change.say("put ");
-        put_thing(
+        push_thing(
             &mut note.change,
             search.site,
             archive.relay,
@@ -111,7 +111,7 @@ fn put_nothing(note: &mut Note, search: Search<'_>, of: Wanted<'_>, relay: u32) 
     }
     note.why
         .say(" and no forward there leads to an input that has ");
-    put_wanted(&mut note.why, search, of);
+    push_wanted(&mut note.why, search, of);
     note.change.put(&[
         Part::Text(b"a forward there to a port of "),
         Part::Text(relay_name(search.site, archive.relay)),
@@ -119,7 +119,7 @@ fn put_nothing(note: &mut Note, search: Search<'_>, of: Wanted<'_>, relay: u32) 
 }
 
 // Says where a statement stands, and what it does.
-fn put_hindrance(
+fn push_hindrance(
     alloc: Global,
     note: &mut Note,
     search: Search<'_>,
@@ -131,25 +131,25 @@ fn put_hindrance(
         Hindrance::Stop(place, is_sure) => {
             places.stands_at(alloc, note, place);
             note.what.say("stop");
-            put_stop(note, search, of, is_sure);
+            push_stop(note, search, of, is_sure);
         }
         Hindrance::Test(place) => {
             places.stands_at(alloc, note, place);
             note.what
                 .put(&[Part::Text(words_of_test(places.text, place))]);
-            put_test(note, search, of, false);
+            push_test(note, search, of, false);
         }
         Hindrance::Never(place) => {
             places.stands_at(alloc, note, place);
             note.what
                 .put(&[Part::Text(words_of_test(places.text, place))]);
-            put_test(note, search, of, true);
+            push_test(note, search, of, true);
         }
     }
 }
 
 // Says that what leads on is spare, by which line of the site file.
-fn put_spare_line(
+fn push_spare_line(
     alloc: Global,
     note: &mut Note,
     search: Search<'_>,
@@ -168,14 +168,14 @@ fn put_spare_line(
         Part::Text(action_name(search.site, spare)),
     ]);
     note.why.say(" and goes on by action ");
-    put_name(&mut note.why, search.site, spare.relay, spare.action);
+    push_name(&mut note.why, search.site, spare.relay, spare.action);
     note.why.say(" alone, which is spare, so that it may be lost there, or behind it, before ");
-    put_wanted(&mut note.why, search, archive_of(search));
+    push_wanted(&mut note.why, search, archive_of(search));
     note.change.say("leave out that line");
 }
 
 // Says what keeps messages off at a step.
-fn put_hindered(
+fn push_hindered(
     alloc: Global,
     texts: &SiteTexts<'_>,
     note: &mut Note,
@@ -194,18 +194,18 @@ fn put_hindered(
     };
     let found = hindrance_in(alloc, search.site, &file, target, finding, step)?;
     match (found, places) {
-        (Some(found), Some(places)) => put_hindrance(alloc, note, search, places, of, found),
+        (Some(found), Some(places)) => push_hindrance(alloc, note, search, places, of, found),
         _ => {
             let thing = Thing::Input(step.input.input);
             stands_at(alloc, note, search.site, relay, places, thing);
-            put_nothing(note, search, of, relay);
+            push_nothing(note, search, of, relay);
         }
     }
     Ok(())
 }
 
 // Says what keeps messages off at a step: that what leads on is spare, or a statement.
-fn put_culprit(
+fn push_culprit(
     alloc: Global,
     texts: &SiteTexts<'_>,
     note: &mut Note,
@@ -215,15 +215,15 @@ fn put_culprit(
 ) -> Result<(), AllocError> {
     match (spare_at(search, step), texts.text()) {
         (Some(spare), Some(text)) => {
-            put_spare_line(alloc, note, search, texts.name, text, spare);
+            push_spare_line(alloc, note, search, texts.name, text, spare);
             Ok(())
         }
-        _ => put_hindered(alloc, texts, note, search, finding, step),
+        _ => push_hindered(alloc, texts, note, search, finding, step),
     }
 }
 
 // Says what keeps messages off, where the way to the archive breaks off.
-fn put_search(
+fn push_search(
     alloc: Global,
     texts: &SiteTexts<'_>,
     note: &mut Note,
@@ -234,12 +234,12 @@ fn put_search(
     let Some(last) = back.as_slice().first().copied() else {
         return Ok(());
     };
-    put_path(&mut note.why, search.site, back.as_slice());
-    put_culprit(alloc, texts, note, search, finding, last)
+    push_path(&mut note.why, search.site, back.as_slice());
+    push_culprit(alloc, texts, note, search, finding, last)
 }
 
 /// Says of an archive that an entry doesn't lead to what keeps messages of the class from it.
-pub fn put_unmet(
+pub fn push_unmet(
     alloc: Global,
     texts: &SiteTexts<'_>,
     site: &Site,
@@ -252,7 +252,7 @@ pub fn put_unmet(
     let places = places_of(&file, objects.as_slice());
     let approach = approach_to(alloc, site, finding.class, finding.input, archive)?;
     let mut text = Words::new(alloc);
-    put_with_place(
+    push_with_place(
         &mut text,
         site,
         archive.relay,
@@ -261,5 +261,5 @@ pub fn put_unmet(
     );
     note.put_line("archive", text)?;
     let search = search_of(site, &approach, archive, places);
-    put_search(alloc, texts, note, search, finding)
+    push_search(alloc, texts, note, search, finding)
 }

@@ -1,6 +1,6 @@
 //! Where the way to an archive breaks off, in words: what leads on there, and the path up to there.
 
-use crate::notes::objects::put_thing;
+use crate::notes::objects::push_thing;
 use sy_places::relay_file::places::{Places, Thing};
 use sy_places::ways::hindrance::Target;
 use sy_places::ways::relay_parts::{is_spare, name_of_list, owner_of};
@@ -121,35 +121,35 @@ fn is_archive(search: Search<'_>, of: Wanted<'_>) -> bool {
 }
 
 /// Puts an action or a ruleset; the archive with its file and line, as `action audit (hub.conf:4:3)`.
-pub fn put_wanted(words: &mut Words, search: Search<'_>, of: Wanted<'_>) {
-    put_thing(words, search.site, of.relay, of.thing);
+pub fn push_wanted(words: &mut Words, search: Search<'_>, of: Wanted<'_>) {
+    push_thing(words, search.site, of.relay, of.thing);
     if !is_archive(search, of) {
         return;
     }
     if let Some(places) = search.archive_places {
         if let Some(object) = places.object(of.thing) {
             words.say(" (");
-            places.put_point(words, object.start);
+            places.push_point(words, object.start);
             words.say(")");
         }
     }
 }
 
 /// Puts what is to be moved in a file: an action, or the call of a ruleset.
-pub fn put_moved(words: &mut Words, search: Search<'_>, of: Wanted<'_>) {
+pub fn push_moved(words: &mut Words, search: Search<'_>, of: Wanted<'_>) {
     words.say("put ");
     match of.ruleset {
         Some(name) => words.put(&[Part::Text(b"call "), Part::Text(name)]),
-        None => put_thing(words, search.site, of.relay, of.thing),
+        None => push_thing(words, search.site, of.relay, of.thing),
     }
 }
 
 // Puts what leads to a step. The queue of an action has no name of its own.
-fn put_step(words: &mut Words, site: &Site, relay: u32, step: Step) {
+fn push_step(words: &mut Words, site: &Site, relay: u32, step: Step) {
     match step.from {
         Some((_, Occurrence::Run(action))) => {
             words.say(" -> ");
-            put_name(words, site, relay, action);
+            push_name(words, site, relay, action);
             words.put(&[Part::Text(b" -> "), input_part(site, step.input)]);
         }
         Some((_, Occurrence::Post(list))) if relay < site.relays() => {
@@ -164,17 +164,17 @@ fn put_step(words: &mut Words, site: &Site, relay: u32, step: Step) {
 }
 
 /// Puts the path up to a step: `edge 6514 -> up -> hub 6515`, with the rulesets that it is posted to.
-pub fn put_path(words: &mut Words, site: &Site, back: &[Step]) {
+pub fn push_path(words: &mut Words, site: &Site, back: &[Step]) {
     words.say("the message comes ");
     let mut relay = 0;
     for step in back.iter().rev() {
-        put_step(words, site, relay, *step);
+        push_step(words, site, relay, *step);
         relay = step.input.relay;
     }
 }
 
 /// Puts the name of an action.
-pub fn put_name(words: &mut Words, site: &Site, relay: u32, action: u32) {
+pub fn push_name(words: &mut Words, site: &Site, relay: u32, action: u32) {
     let action = SiteAction { relay, action };
     words.put(&[Part::Text(action_name(site, action))]);
 }

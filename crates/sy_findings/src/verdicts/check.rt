@@ -4,7 +4,7 @@ ghost use Rattle.sy_site.specs.machine.Soundness.{IsSound};
 ghost use Rattle.sy_site.specs.Finding.{IsTrueRefusal};
 ghost use Rattle.sy_findings.specs.Checks as spec;
 
-use crate::verdicts::findings::put_finding;
+use crate::verdicts::findings::push_finding;
 use std::alloc::{AllocError, Global};
 use sy_cert::{Certificate, write_cert};
 use sy_checker::{certify as make_certificate, check_site};
@@ -39,7 +39,7 @@ fn refused(alloc: Global, site: &Site, finding: &Finding) -> Result<Answer, Allo
     ensures refused { IfOk result (λ a. a.is_accepted ≡ false) }
 {
     let mut text = Vec::new(alloc);
-    put_finding(&mut text, site, finding)?;
+    push_finding(&mut text, site, finding)?;
     Ok(Answer {
         text,
         is_accepted: false,

@@ -8,7 +8,7 @@ use sy_site::finding::{Finding, Kind, WayRow};
 use sy_site::{Site, SiteAction};
 
 // Puts an archive's names behind a text.
-fn put_archive(text: &mut Vec<u8>, site: &Site, archive: SiteAction) -> Result<(), AllocError>
+fn push_archive(text: &mut Vec<u8>, site: &Site, archive: SiteAction) -> Result<(), AllocError>
     ensures { OnOk result (text.new.items ≡ text.old.items ++ spec.archive_text site.now (Kind.Unmet archive)) }
 {
     let parts = [
@@ -21,18 +21,18 @@ fn put_archive(text: &mut Vec<u8>, site: &Site, archive: SiteAction) -> Result<(
 }
 
 /// Puts what is found behind a text.
-pub fn put_kind(text: &mut Vec<u8>, site: &Site, kind: Kind) -> Result<(), AllocError>
+pub fn push_kind(text: &mut Vec<u8>, site: &Site, kind: Kind) -> Result<(), AllocError>
     ensures { OnOk result (text.new.items ≡ text.old.items ++ spec.kind_text site.now kind) }
 {
     text.extend_from_slice(kind.words().as_bytes())?;
     match kind {
-        Kind::Unmet(archive) => put_archive(text, site, archive),
+        Kind::Unmet(archive) => push_archive(text, site, archive),
         _ => Ok(()),
     }
 }
 
 // Puts the first line of a finding behind a text.
-fn put_found(text: &mut Vec<u8>, site: &Site, finding: &Finding) -> Result<(), AllocError>
+fn push_found(text: &mut Vec<u8>, site: &Site, finding: &Finding) -> Result<(), AllocError>
     ensures { OnOk result (text.new.items ≡ text.old.items ++ spec.finding_line site.now finding.now) }
 {
     let parts = [
@@ -43,12 +43,12 @@ fn put_found(text: &mut Vec<u8>, site: &Site, finding: &Finding) -> Result<(), A
         Part::Text(b": "),
     ];
     put_parts(text, &parts)?;
-    put_kind(text, site, finding.kind)?;
+    push_kind(text, site, finding.kind)?;
     text.extend_from_slice(b"\n")
 }
 
 // Puts the line of one part of the way behind a text.
-fn put_row(text: &mut Vec<u8>, site: &Site, row: WayRow) -> Result<(), AllocError>
+fn push_row(text: &mut Vec<u8>, site: &Site, row: WayRow) -> Result<(), AllocError>
     ensures { OnOk result (text.new.items ≡ text.old.items ++ spec.way_line site.now row) }
 {
     let parts = [
@@ -62,19 +62,19 @@ fn put_row(text: &mut Vec<u8>, site: &Site, row: WayRow) -> Result<(), AllocErro
 }
 
 // Puts a line for each part of a way behind a text.
-fn put_way(text: &mut Vec<u8>, site: &Site, way: &[WayRow]) -> Result<(), AllocError>
+fn push_way(text: &mut Vec<u8>, site: &Site, way: &[WayRow]) -> Result<(), AllocError>
     ensures { OnOk result (text.new.items ≡ text.old.items ++ flat_map (spec.way_line site.now) way.now) }
 {
     for row in way {
-        put_row(text, site, *row)?;
+        push_row(text, site, *row)?;
     }
     Ok(())
 }
 
 /// Puts a finding behind a text: what is found where, and a line for each part of the way there.
-pub fn put_finding(text: &mut Vec<u8>, site: &Site, finding: &Finding) -> Result<(), AllocError>
+pub fn push_finding(text: &mut Vec<u8>, site: &Site, finding: &Finding) -> Result<(), AllocError>
     ensures { OnOk result (text.new.items ≡ text.old.items ++ spec.finding_text site.now finding.now) }
 {
-    put_found(text, site, finding)?;
-    put_way(text, site, finding.way.as_slice())
+    push_found(text, site, finding)?;
+    push_way(text, site, finding.way.as_slice())
 }

@@ -2,7 +2,7 @@
 ghost use Rattle.std.specs.Prelude.{◌≡◌, ◌++◌, IfOk, OnOk};
 ghost use Rattle.sy_findings.specs.Checks as spec;
 
-use crate::verdicts::findings::put_kind;
+use crate::verdicts::findings::push_kind;
 use std::alloc::{AllocError, Global};
 use sy_checker::Group;
 use sy_report::texts::parts::{Part, input_part, put_parts};
@@ -48,7 +48,7 @@ fn sets_of(alloc: Global, classes: &[Class]) -> Result<Vec<u8>, AllocError> {
     Ok(sets)
 }
 
-fn put_facility(words: &mut Words, facility: usize) {
+fn push_facility(words: &mut Words, facility: usize) {
     if facility < FACILITIES as usize {
         let class = Class::of_number(facility as u8 * SEVERITIES);
         words.put(&[Part::Text(facility_text(class))]);
@@ -56,7 +56,7 @@ fn put_facility(words: &mut Words, facility: usize) {
 }
 
 // Puts the facilities with a set: `*` for all of them.
-fn put_facilities(words: &mut Words, sets: &[u8], set: u8) {
+fn append_facilities(words: &mut Words, sets: &[u8], set: u8) {
     if sets.iter().all(|s| *s == set) {
         words.say("*");
         return;
@@ -65,13 +65,13 @@ fn put_facilities(words: &mut Words, sets: &[u8], set: u8) {
     for facility in 0..sets.len() {
         if sets[facility] == set {
             words.say(separator);
-            put_facility(words, facility);
+            push_facility(words, facility);
             separator = ",";
         }
     }
 }
 
-fn put_severity(words: &mut Words, severity: u8) {
+fn push_severity(words: &mut Words, severity: u8) {
     if severity < SEVERITIES {
         words.put(&[Part::Text(severity_text(Class::of_number(severity)))]);
     }
@@ -83,7 +83,7 @@ fn has(set: u8, severity: u8) -> bool {
 }
 
 // Puts the severities of a set: `*` for all of them, and each run by its first and its last.
-fn put_severities(words: &mut Words, set: u8) {
+fn append_severities(words: &mut Words, set: u8) {
     if set == ALL {
         words.say("*");
         return;
@@ -93,12 +93,12 @@ fn put_severities(words: &mut Words, set: u8) {
         let follows = severity > 0 && has(set, severity - 1);
         if has(set, severity) && !follows {
             words.say(separator);
-            put_severity(words, severity);
+            push_severity(words, severity);
             separator = ",";
         }
         if has(set, severity) && follows && !has(set, severity + 1) {
             words.say("-");
-            put_severity(words, severity);
+            push_severity(words, severity);
         }
     }
 }
@@ -114,15 +114,15 @@ fn is_earlier(sets: &[u8], place: usize, set: u8) -> bool {
 }
 
 // Puts the facilities and severities of classes, those with the same severities together.
-fn put_sets(words: &mut Words, sets: &[u8]) {
+fn append_sets(words: &mut Words, sets: &[u8]) {
     let mut separator = "";
     for place in 0..sets.len() {
         let set = sets[place];
         if set != 0 && !is_earlier(sets, place, set) {
             words.say(separator);
-            put_facilities(words, sets, set);
+            append_facilities(words, sets, set);
             words.say(".");
-            put_severities(words, set);
+            append_severities(words, set);
             separator = ";";
         }
     }
@@ -134,16 +134,20 @@ fn word_for(count: u64, one: &'static [u8], more: &'static [u8]) -> Part<'static
 }
 
 /// Puts the names of classes.
-pub fn put_classes(alloc: Global, words: &mut Words, classes: &[Class]) -> Result<(), AllocError> {
+pub fn append_classes(
+    alloc: Global,
+    words: &mut Words,
+    classes: &[Class],
+) -> Result<(), AllocError> {
     let sets = sets_of(alloc, classes)?;
-    put_sets(words, sets.as_slice());
+    append_sets(words, sets.as_slice());
     Ok(())
 }
 
 /// The names of classes, and how many there are where they are more than one.
 pub fn names_of(alloc: Global, classes: &[Class]) -> Result<Vec<u8>, AllocError> {
     let mut words = Words::new(alloc);
-    put_classes(alloc, &mut words, classes)?;
+    append_classes(alloc, &mut words, classes)?;
     if classes.len() > 1 {
         words.put(&[
             Part::Text(b" ("),
@@ -155,7 +159,7 @@ pub fn names_of(alloc: Global, classes: &[Class]) -> Result<Vec<u8>, AllocError>
 }
 
 // Puts the line of a group behind a text, which begins with these names.
-fn put_line(text: &mut Vec<u8>, site: &Site, group: &Group, names: &[u8]) -> Result<(), AllocError>
+fn push_line(text: &mut Vec<u8>, site: &Site, group: &Group, names: &[u8]) -> Result<(), AllocError>
     ensures { OnOk result (text.new.items ≡ text.old.items ++ names.now ++ spec.group_text site.now group.now) }
 {
     text.extend_from_slice(names)?;
@@ -165,12 +169,12 @@ fn put_line(text: &mut Vec<u8>, site: &Site, group: &Group, names: &[u8]) -> Res
         Part::Text(b": "),
     ];
     put_parts(text, &parts)?;
-    put_kind(text, site, group.kind)?;
+    push_kind(text, site, group.kind)?;
     text.extend_from_slice(b"\n")
 }
 
 /// Puts the line of a group with the names of its classes behind a text.
-pub fn put_group(
+pub fn push_group(
     alloc: Global,
     text: &mut Vec<u8>,
     site: &Site,
@@ -179,7 +183,7 @@ pub fn put_group(
     ensures { OnOk result (spec.PutsLine site.now group.now text.old.items text.new.items) }
 {
     let names = names_of(alloc, group.classes.as_slice())?;
-    put_line(text, site, group, names.as_slice())?;
+    push_line(text, site, group, names.as_slice())?;
     Ok(())
 }
 
@@ -189,7 +193,7 @@ fn lines_of(alloc: Global, site: &Site, groups: &[Group]) -> Result<Vec<u8>, All
 {
     let mut text = Vec::new(alloc);
     for group in groups {
-        put_group(alloc, &mut text, site, group)?;
+        push_group(alloc, &mut text, site, group)?;
     }
     Ok(text)
 }

@@ -136,24 +136,24 @@ fn warn_of_queue(
     let name = param.name.text.as_slice();
     if is_idle(name) {
         let note = no_effect(warnings.alloc, looked, item, param);
-        warnings.put(Caution::NoEffect, note);
+        warnings.push(Caution::NoEffect, note);
         return;
     }
     let Some(own) = own else {
         if is_of_queue(name) {
             let note = no_queue(warnings.alloc, looked, item, param);
-            warnings.put(Caution::NoEffect, note);
+            warnings.push(Caution::NoEffect, note);
         }
         return;
     };
     if name.eq_ignore_ascii_case(b"queue.workerFlow") && !own.is_posted_to {
         let note = no_post(warnings.alloc, looked, item, param);
-        warnings.put(Caution::NoEffect, note);
+        warnings.push(Caution::NoEffect, note);
     }
     if let Some(mark) = mark_of(own, name) {
         if mark > own.queue.size {
             let note = mark_above_size(warnings.alloc, looked, item, param, own.queue, mark);
-            warnings.put(Caution::MarkAboveSize, note);
+            warnings.push(Caution::MarkAboveSize, note);
         }
     }
 }
@@ -170,12 +170,12 @@ fn warn_of_params(warnings: &mut Warnings, looked: Looked<'_>, item: Item<'_>) {
             What::Module | What::Call(_) => {}
             What::Global => {
                 let note = no_effect(warnings.alloc, looked, item, param);
-                warnings.put(Caution::NoEffect, note);
+                warnings.push(Caution::NoEffect, note);
             }
             What::Input(_) => {
                 if name.eq_ignore_ascii_case(b"name") {
                     let note = no_effect(warnings.alloc, looked, item, param);
-                    warnings.put(Caution::NoEffect, note);
+                    warnings.push(Caution::NoEffect, note);
                 }
             }
             _ => warn_of_queue(warnings, looked, item, param, own),
@@ -205,7 +205,7 @@ fn is_named(looked: Looked<'_>, ruleset: u32) -> bool {
 fn warn_of_ruleset(warnings: &mut Warnings, looked: Looked<'_>, item: Item<'_>, ruleset: u32) {
     if !is_named(looked, ruleset) {
         let note = uncalled_ruleset(warnings.alloc, looked, item, ruleset);
-        warnings.put(Caution::UncalledRuleset, note);
+        warnings.push(Caution::UncalledRuleset, note);
     }
 }
 
@@ -235,7 +235,7 @@ fn warn_of_input(warnings: &mut Warnings, looked: Looked<'_>, item: Item<'_>, nu
     };
     if let Some(port) = protected_port(looked, input.queue) {
         let note = outside_input(warnings.alloc, looked, item, *input, port);
-        warnings.put(Caution::OutsideInput, note);
+        warnings.push(Caution::OutsideInput, note);
     }
 }
 
@@ -245,7 +245,7 @@ fn warn_of_input(warnings: &mut Warnings, looked: Looked<'_>, item: Item<'_>, nu
 fn warn_behind_stop(warnings: &mut Warnings, looked: Looked<'_>, item: Item<'_>, stop: usize) {
     if item.is_first {
         let note = after_stop(warnings.alloc, looked, item, stop);
-        warnings.put(Caution::AfterStop, note);
+        warnings.push(Caution::AfterStop, note);
     }
 }
 
@@ -286,13 +286,13 @@ fn warn_of_action(warnings: &mut Warnings, looked: Looked<'_>, item: Item<'_>, a
         None => {
             if !looked.executed.has_action(action) && !is_left_out(looked, item.ruleset) {
                 let note = unreached_action(warnings.alloc, looked, item);
-                warnings.put(Caution::UnreachedAction, note);
+                warnings.push(Caution::UnreachedAction, note);
             }
         }
     }
     if let Some((file, earlier)) = same_as(looked, action) {
         let note = same_file(warnings.alloc, looked, item, file, earlier);
-        warnings.put(Caution::SameFile, note);
+        warnings.push(Caution::SameFile, note);
     }
 }
 

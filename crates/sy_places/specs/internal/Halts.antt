@@ -1,7 +1,17 @@
--- A file of a relay as it was read.
-use Rattle.std.specs.Prelude.{string_bytes}
+-- A file of a relay as it was read, and why what was read describes no site.
+use Rattle.std.specs.Prelude.{◌≡◌, ℕ, List, string_bytes}
 use Rattle.sy_site.specs.texts.Describes.{File}
-use Rattle.sy_places.specs.declared.site_file.site.RelayFile.{RelayFile}
+use Rattle.sy_site.specs.texts.HasFault.{HasFault}
+use Rattle.sy_site.specs.declared.fault.SiteFault.TheVariants as site_fault
+use Rattle.sy_report.specs.declared.outcome.halt.Halt.{Halt}
+use Rattle.sy_report.specs.declared.outcome.halt.Halt.TheVariants as halt
+use Rattle.sy_places.specs.declared.site_file.texts.RelayText.{RelayText}
 
-abbrev pub file_of : RelayFile → File
-file_of f = record { name = string_bytes f.name; bytes = f.bytes.items }
+abbrev pub file_of : RelayText → File
+file_of f = record { name = string_bytes f.name; bytes = f.text.items }
+
+-- the site file has this fault with these files, or memory ran out
+abbrev pub HasSiteHalt : List ℕ → List File → Halt → Type 0
+HasSiteHalt text files (halt.Site fault) = (fault ≡ site_fault.NoMemory → ⊥) × HasFault text files fault
+HasSiteHalt text files halt.NoMemory = Unit {0}
+HasSiteHalt text files _ = ⊥

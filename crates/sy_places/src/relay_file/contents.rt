@@ -44,7 +44,7 @@ struct Walk<'a> {
     is_cut: bool,
 }
 
-fn put<'a>(walk: &mut Walk<'a>, what: What<'a>, place: usize, params: &'a [Param]) {
+fn push_item<'a>(walk: &mut Walk<'a>, what: What<'a>, place: usize, params: &'a [Param]) {
     let item = Item {
         what,
         place,
@@ -62,51 +62,51 @@ fn put<'a>(walk: &mut Walk<'a>, what: What<'a>, place: usize, params: &'a [Param
     }
 }
 
-fn put_action<'a>(walk: &mut Walk<'a>, place: usize, params: &'a [Param]) {
+fn push_action<'a>(walk: &mut Walk<'a>, place: usize, params: &'a [Param]) {
     let number = walk.actions;
-    put(walk, What::Action(number), place, params);
+    push_item(walk, What::Action(number), place, params);
     walk.actions = number.saturating_add(1);
 }
 
-fn put_stop(walk: &mut Walk<'_>, place: usize) {
+fn set_stop(walk: &mut Walk<'_>, place: usize) {
     if walk.stop.is_none() {
         walk.stop = Some(place);
     }
 }
 
 #[cycle(items)]
-fn put_stmt<'a>(walk: &mut Walk<'a>, stmt: &'a Stmt) {
+fn append_stmt<'a>(walk: &mut Walk<'a>, stmt: &'a Stmt) {
     match stmt {
-        Stmt::Action(span, params) => put_action(walk, span.start, params.as_slice()),
-        Stmt::Call(name) => put(walk, What::Call(name.text.as_slice()), name.span.start, &[]),
-        Stmt::Stop(span) => put_stop(walk, span.start),
-        Stmt::If(_, done, None) => put_block(walk, done),
+        Stmt::Action(span, params) => push_action(walk, span.start, params.as_slice()),
+        Stmt::Call(name) => push_item(walk, What::Call(name.text.as_slice()), name.span.start, &[]),
+        Stmt::Stop(span) => set_stop(walk, span.start),
+        Stmt::If(_, done, None) => append_block(walk, done),
         Stmt::If(_, done, Some(otherwise)) => {
-            put_block(walk, done);
-            put_block(walk, otherwise);
+            append_block(walk, done);
+            append_block(walk, otherwise);
         }
     }
 }
 
 // A stop in a block says nothing of what stands behind the block.
 #[cycle(items)]
-fn put_block<'a>(walk: &mut Walk<'a>, block: &'a Block) {
+fn append_block<'a>(walk: &mut Walk<'a>, block: &'a Block) {
     let stop = walk.stop;
     match block {
-        Block::Single(stmt) => put_stmt(walk, stmt.get()),
-        Block::Braced(body) => put_body(walk, body.as_slice()),
+        Block::Single(stmt) => append_stmt(walk, stmt.get()),
+        Block::Braced(body) => append_body(walk, body.as_slice()),
     }
     walk.stop = stop;
 }
 
 #[cycle(items)]
-fn put_body<'a>(walk: &mut Walk<'a>, body: &'a [Stmt]) {
+fn append_body<'a>(walk: &mut Walk<'a>, body: &'a [Stmt]) {
     for stmt in body {
-        put_stmt(walk, stmt);
+        append_stmt(walk, stmt);
     }
 }
 
-fn put_object<'a>(walk: &mut Walk<'a>, object: &'a Object) {
+fn push_object<'a>(walk: &mut Walk<'a>, object: &'a Object) {
     let what = match object.kind {
         ObjectKind::Module => What::Module,
         ObjectKind::Global => What::Global,
@@ -116,37 +116,37 @@ fn put_object<'a>(walk: &mut Walk<'a>, object: &'a Object) {
     if let What::Input(number) = what {
         walk.inputs = number.saturating_add(1);
     }
-    put(walk, what, object.span.start, object.params.as_slice());
+    push_item(walk, what, object.span.start, object.params.as_slice());
 }
 
-fn put_ruleset<'a>(walk: &mut Walk<'a>, ruleset: &'a Ruleset) {
+fn append_ruleset<'a>(walk: &mut Walk<'a>, ruleset: &'a Ruleset) {
     let number = walk.rulesets;
     let stop = walk.stop;
     walk.stop = None;
     walk.ruleset = Some(number);
-    put(
+    push_item(
         walk,
         What::Ruleset(number),
         ruleset.span.start,
         ruleset.params.as_slice(),
     );
-    put_body(walk, ruleset.body.as_slice());
+    append_body(walk, ruleset.body.as_slice());
     walk.rulesets = number.saturating_add(1);
     walk.ruleset = None;
     walk.stop = stop;
 }
 
 // An object of the top stands behind no stop.
-fn put_top<'a>(walk: &mut Walk<'a>, top: &'a Top) {
+fn append_top<'a>(walk: &mut Walk<'a>, top: &'a Top) {
     match top {
         Top::Object(object) => {
             let stop = walk.stop;
             walk.stop = None;
-            put_object(walk, object);
+            push_object(walk, object);
             walk.stop = stop;
         }
-        Top::Ruleset(ruleset) => put_ruleset(walk, ruleset),
-        Top::Stmt(stmt) => put_stmt(walk, stmt),
+        Top::Ruleset(ruleset) => append_ruleset(walk, ruleset),
+        Top::Stmt(stmt) => append_stmt(walk, stmt),
     }
 }
 
@@ -163,7 +163,7 @@ pub fn items_of<'a>(alloc: Global, script: &'a Script) -> Result<Vec<Item<'a>>, 
         is_cut: false,
     };
     for top in script.tops.as_slice() {
-        put_top(&mut walk, top);
+        append_top(&mut walk, top);
     }
     let Walk { items, is_cut, .. } = walk;
     if is_cut {

@@ -22,7 +22,7 @@ pub struct Object<'s> {
     pub params: &'s [Param],
 }
 
-fn put<'s>(
+fn push_object<'s>(
     objects: &mut Vec<Object<'s>>,
     word: ObjectWord,
     start: usize,
@@ -37,33 +37,33 @@ fn put<'s>(
 }
 
 #[cycle(actions)]
-fn put_stmt<'s>(objects: &mut Vec<Object<'s>>, stmt: &'s Stmt) -> Result<(), AllocError> {
+fn append_stmt<'s>(objects: &mut Vec<Object<'s>>, stmt: &'s Stmt) -> Result<(), AllocError> {
     match stmt {
         Stmt::Action(span, params) => {
-            put(objects, ObjectWord::Action, span.start, params.as_slice())
+            push_object(objects, ObjectWord::Action, span.start, params.as_slice())
         }
         Stmt::Call(_) => Ok(()),
         Stmt::Stop(_) => Ok(()),
-        Stmt::If(_, done, None) => put_block(objects, done),
+        Stmt::If(_, done, None) => append_block(objects, done),
         Stmt::If(_, done, Some(otherwise)) => {
-            put_block(objects, done)?;
-            put_block(objects, otherwise)
+            append_block(objects, done)?;
+            append_block(objects, otherwise)
         }
     }
 }
 
 #[cycle(actions)]
-fn put_block<'s>(objects: &mut Vec<Object<'s>>, block: &'s Block) -> Result<(), AllocError> {
+fn append_block<'s>(objects: &mut Vec<Object<'s>>, block: &'s Block) -> Result<(), AllocError> {
     match block {
-        Block::Single(stmt) => put_stmt(objects, stmt.get()),
-        Block::Braced(body) => put_body(objects, body.as_slice()),
+        Block::Single(stmt) => append_stmt(objects, stmt.get()),
+        Block::Braced(body) => append_body(objects, body.as_slice()),
     }
 }
 
 #[cycle(actions)]
-fn put_body<'s>(objects: &mut Vec<Object<'s>>, body: &'s [Stmt]) -> Result<(), AllocError> {
+fn append_body<'s>(objects: &mut Vec<Object<'s>>, body: &'s [Stmt]) -> Result<(), AllocError> {
     for stmt in body {
-        put_stmt(objects, stmt)?;
+        append_stmt(objects, stmt)?;
     }
     Ok(())
 }
@@ -77,24 +77,24 @@ fn word_of(kind: ObjectKind) -> ObjectWord {
     }
 }
 
-fn put_top<'s>(objects: &mut Vec<Object<'s>>, top: &'s Top) -> Result<(), AllocError> {
+fn append_top<'s>(objects: &mut Vec<Object<'s>>, top: &'s Top) -> Result<(), AllocError> {
     match top {
-        Top::Object(object) => put(
+        Top::Object(object) => push_object(
             objects,
             word_of(object.kind),
             object.span.start,
             object.params.as_slice(),
         ),
         Top::Ruleset(ruleset) => {
-            put(
+            push_object(
                 objects,
                 ObjectWord::Ruleset,
                 ruleset.span.start,
                 ruleset.params.as_slice(),
             )?;
-            put_body(objects, ruleset.body.as_slice())
+            append_body(objects, ruleset.body.as_slice())
         }
-        Top::Stmt(stmt) => put_stmt(objects, stmt),
+        Top::Stmt(stmt) => append_stmt(objects, stmt),
     }
 }
 
@@ -105,7 +105,7 @@ pub fn outline_script<'s>(
 ) -> Result<Vec<Object<'s>>, AllocError> {
     let mut objects = Vec::new(alloc);
     for top in script.tops.as_slice() {
-        put_top(&mut objects, top)?;
+        append_top(&mut objects, top)?;
     }
     Ok(objects)
 }

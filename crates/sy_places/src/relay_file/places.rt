@@ -52,7 +52,7 @@ impl<'a> Places<'a> {
     }
 
     /// Puts the file with a place of it, as `hub.conf:4:1`.
-    pub fn put_point(&self, words: &mut Words, place: usize) {
+    pub fn push_point(&self, words: &mut Words, place: usize) {
         let point = point_at(self.text, place);
         put_point(words, self.file.as_bytes(), Some(point));
     }

@@ -40,24 +40,24 @@ fn set_sizes<'s>(rows: &mut Vec<Row<'s>>, at: usize, test: &'s ExprTree, done: u
     }
 }
 
-fn put<'s>(rows: &mut Vec<Row<'s>>, row: Row<'s>) -> Result<(), AllocError> {
+fn push_row<'s>(rows: &mut Vec<Row<'s>>, row: Row<'s>) -> Result<(), AllocError> {
     rows.push(row)?;
     Ok(())
 }
 
 #[cycle(statements)]
-fn put_stmt<'s>(rows: &mut Vec<Row<'s>>, stmt: &'s Stmt) -> Result<(), AllocError> {
+fn append_stmt<'s>(rows: &mut Vec<Row<'s>>, stmt: &'s Stmt) -> Result<(), AllocError> {
     match stmt {
-        Stmt::Action(span, _) => put(rows, Row::Action(span.start)),
-        Stmt::Call(name) => put(rows, Row::Call(name)),
-        Stmt::Stop(span) => put(rows, Row::Stop(span.start)),
+        Stmt::Action(span, _) => push_row(rows, Row::Action(span.start)),
+        Stmt::Call(name) => push_row(rows, Row::Call(name)),
+        Stmt::Stop(span) => push_row(rows, Row::Stop(span.start)),
         Stmt::If(test, done, otherwise) => {
             let at = rows.len();
-            put(rows, Row::If(test, 0, 0))?;
-            put_block(rows, done)?;
+            push_row(rows, Row::If(test, 0, 0))?;
+            append_block(rows, done)?;
             let middle = rows.len();
             if let Some(otherwise) = otherwise {
-                put_block(rows, otherwise)?;
+                append_block(rows, otherwise)?;
             }
             set_sizes(rows, at, test, middle);
             Ok(())
@@ -66,26 +66,26 @@ fn put_stmt<'s>(rows: &mut Vec<Row<'s>>, stmt: &'s Stmt) -> Result<(), AllocErro
 }
 
 #[cycle(statements)]
-fn put_block<'s>(rows: &mut Vec<Row<'s>>, block: &'s Block) -> Result<(), AllocError> {
+fn append_block<'s>(rows: &mut Vec<Row<'s>>, block: &'s Block) -> Result<(), AllocError> {
     match block {
-        Block::Single(stmt) => put_stmt(rows, stmt.get()),
-        Block::Braced(body) => put_body(rows, body.as_slice()),
+        Block::Single(stmt) => append_stmt(rows, stmt.get()),
+        Block::Braced(body) => append_body(rows, body.as_slice()),
     }
 }
 
 #[cycle(statements)]
-fn put_body<'s>(rows: &mut Vec<Row<'s>>, body: &'s [Stmt]) -> Result<(), AllocError> {
+fn append_body<'s>(rows: &mut Vec<Row<'s>>, body: &'s [Stmt]) -> Result<(), AllocError> {
     for stmt in body {
-        put_stmt(rows, stmt)?;
+        append_stmt(rows, stmt)?;
     }
     Ok(())
 }
 
 // Puts the statements outside every ruleset.
-fn put_default<'s>(found: &mut Statements<'s>, script: &'s Script) -> Result<(), AllocError> {
+fn append_default<'s>(found: &mut Statements<'s>, script: &'s Script) -> Result<(), AllocError> {
     for top in script.tops.as_slice() {
         if let Top::Stmt(stmt) = top {
-            put_stmt(&mut found.rows, stmt)?;
+            append_stmt(&mut found.rows, stmt)?;
         }
     }
     found.bodies.push(Body {
@@ -105,9 +105,9 @@ fn name_of(ruleset: &Ruleset) -> &[u8] {
     &[]
 }
 
-fn put_ruleset<'s>(found: &mut Statements<'s>, ruleset: &'s Ruleset) -> Result<(), AllocError> {
+fn append_ruleset<'s>(found: &mut Statements<'s>, ruleset: &'s Ruleset) -> Result<(), AllocError> {
     let start = found.rows.len();
-    put_body(&mut found.rows, ruleset.body.as_slice())?;
+    append_body(&mut found.rows, ruleset.body.as_slice())?;
     found.bodies.push(Body {
         name: name_of(ruleset),
         start,
@@ -122,10 +122,10 @@ pub fn statements_of<'s>(alloc: Global, script: &'s Script) -> Result<Statements
         rows: Vec::new(alloc),
         bodies: Vec::new(alloc),
     };
-    put_default(&mut found, script)?;
+    append_default(&mut found, script)?;
     for top in script.tops.as_slice() {
         if let Top::Ruleset(ruleset) = top {
-            put_ruleset(&mut found, ruleset)?;
+            append_ruleset(&mut found, ruleset)?;
         }
     }
     Ok(found)

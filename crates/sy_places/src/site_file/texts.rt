@@ -1,11 +1,11 @@
-//! The texts of a site, which are read once more where people are told of it: those of its file and of the files of its
-//! relays. They are read once, however much is told, and lent from then on. A script is read from its text where it is
-//! wanted, since those of all relays would take more memory than the site does.
+//! The texts of a command's files: those of a site file, of the files of its relays, and of the file beside a site's. They are
+//! read once, however much is said of them, and lent from then on. A script is read from its text where it is wanted, since
+//! those of all relays would take more memory than the site does.
 
 use crate::relay_file::places::{file_name_in, is_relay_line};
 use crate::site_file::source::{text_of, without_return};
 use std::alloc::{AllocError, Global};
-use sy_report::reading::files::Files;
+use sy_report::reading::files::{Files, Reason};
 use sy_script::tree::Script;
 use sy_script::{FaultCode, read_script};
 
@@ -24,15 +24,58 @@ pub struct RelayFile<'a> {
     pub script: Option<Script>,
 }
 
-/// The name of a site's file, its text, and the texts of its relays' files: what can be read of them.
+/// Why a file can't be read and, where it isn't there, the directory in which its name was looked for.
 #[derive(Drop)]
-pub struct SiteTexts<'a> {
-    pub name: &'a str,
-    text: Option<Vec<u8>>,
-    relay_texts: Vec<Option<RelayText>>,
+pub struct Unread {
+    pub name: String,
+    pub reason: Reason,
+    pub folder: Option<String>,
 }
 
-impl SiteTexts<'_> {
+/// The file beside a site's, of events or a certificate: its name, and its bytes where they were read.
+#[derive(Drop)]
+struct Second<'a> {
+    name: &'a str,
+    text: Option<Vec<u8>>,
+}
+
+/// The texts of a command's files, as far as they were read.
+#[derive(Drop)]
+pub struct SiteTexts<'a> {
+    /// The name of the site file.
+    pub name: &'a str,
+    text: Option<Vec<u8>>,
+    // the relays' files, in the order in which the site file names them first
+    files: Vec<RelayText>,
+    // the place of each relay's file among these, where it has one
+    relays: Vec<Option<usize>>,
+    unread: Vec<Unread>,
+    second: Option<Second<'a>>,
+}
+
+impl<'a> SiteTexts<'a> {
+    /// The texts of a site file of this name, and of the files that it names.
+    pub fn new(
+        alloc: Global,
+        name: &'a str,
+        text: Option<Vec<u8>>,
+        files: Vec<RelayText>,
+    ) -> SiteTexts<'a> {
+        SiteTexts {
+            name,
+            text,
+            files,
+            relays: Vec::new(alloc),
+            unread: Vec::new(alloc),
+            second: None,
+        }
+    }
+
+    /// None of the texts of a site file of this name.
+    pub fn empty(alloc: Global, name: &'a str) -> SiteTexts<'a> {
+        SiteTexts::new(alloc, name, None, Vec::new(alloc))
+    }
+
     /// The text of the site file.
     pub fn text(&self) -> Option<&[u8]> {
         match &self.text {
@@ -41,12 +84,48 @@ impl SiteTexts<'_> {
         }
     }
 
+    /// The text of the file of this name that the site file names.
+    pub fn file(&self, name: &str) -> Option<&RelayText> {
+        self.files.iter().find(|file| file.name.as_str() == name)
+    }
+
     /// The text of the file of a relay by its number.
     pub fn relay_text(&self, relay: u32) -> Option<&RelayText> {
-        match self.relay_texts.as_slice().get(relay as usize) {
-            Some(text) => text.as_ref(),
+        match self.relays.as_slice().get(relay as usize) {
+            Some(Some(at)) => self.files.as_slice().get(*at),
+            _ => None,
+        }
+    }
+
+    /// Why the file of this name couldn't be read; nothing where it was, or where that isn't known.
+    pub fn why_unread(&self, name: &str) -> Option<&Unread> {
+        self.unread.iter().find(|file| file.name.as_str() == name)
+    }
+
+    /// The name of the file beside a site's, where the command has one.
+    pub fn second_name(&self) -> Option<&'a str> {
+        match &self.second {
+            Some(second) => Some(second.name),
             None => None,
         }
+    }
+
+    /// The bytes of the file beside a site's.
+    pub fn second_text(&self) -> Option<&[u8]> {
+        match &self.second {
+            Some(
+                Second {
+                    text: Some(text),
+                    ..
+                },
+            ) => Some(text.as_slice()),
+            _ => None,
+        }
+    }
+
+    /// Sets the file beside a site's, with its bytes where they were read.
+    pub fn set_second(&mut self, name: &'a str, text: Option<Vec<u8>>) {
+        self.second = Some(Second { name, text });
     }
 }
 
@@ -79,66 +158,121 @@ pub fn relay_file<'a>(
     }
 }
 
-// A text with its name, where there is one.
-fn named(
+// Notes why a file can't be read, where that is known.
+fn note_unread<F: Files>(
     alloc: Global,
+    files: &F,
     name: &str,
-    text: Option<Vec<u8>>,
-) -> Result<Option<RelayText>, AllocError> {
-    let Some(text) = text else {
-        return Ok(None);
+    unread: &mut Vec<Unread>,
+) -> Result<(), AllocError> {
+    let Some(reason) = files.reason(name) else {
+        return Ok(());
     };
-    match String::from_str(alloc, name) {
-        Ok(name) => Ok(Some(RelayText { name, text })),
-        Err(why) => Err(why),
+    let is_looked_for = matches!(reason, Reason::Missing) && name.as_bytes().first() != Some(&b'/');
+    let folder = if is_looked_for { files.folder() } else { None };
+    let name = String::from_str(alloc, name)?;
+    unread.push(Unread {
+        name,
+        reason,
+        folder,
+    })?;
+    Ok(())
+}
+
+// The place of a file among those that were read, which it mostly is next.
+fn place_of(files: &[RelayText], next: usize, name: &str) -> Option<usize> {
+    let is_it = |file: &RelayText| file.name.as_str() == name;
+    match files.get(next) {
+        Some(file) if is_it(file) => Some(next),
+        _ => files.iter().position(is_it),
     }
 }
 
-/// The text of a relay's file by its name, where there is a name, and it can be read.
-pub fn read_relay_text<F: Files>(
+// The place of a relay's file among those that were read, where it can be read now if it wasn't.
+fn place_or_read<F: Files>(
     alloc: Global,
     files: &F,
-    name: Option<&str>,
-) -> Result<Option<RelayText>, AllocError> {
-    match name {
-        Some(name) => named(alloc, name, text_of(files, name)?),
-        None => Ok(None),
+    texts: &mut SiteTexts<'_>,
+    name: &str,
+) -> Result<Option<usize>, AllocError> {
+    let next = match texts.relays.as_slice() {
+        [.., Some(last)] => last.saturating_add(1),
+        _ => texts.relays.len(),
+    };
+    let found = place_of(texts.files.as_slice(), next, name);
+    if found.is_some() || texts.why_unread(name).is_some() {
+        return Ok(found);
+    }
+    match text_of(files, name)? {
+        Some(text) => {
+            let name = String::from_str(alloc, name)?;
+            texts.files.push(RelayText { name, text })?;
+            Ok(Some(texts.files.len() - 1))
+        }
+        None => {
+            note_unread(alloc, files, name, &mut texts.unread)?;
+            Ok(None)
+        }
     }
 }
 
-// The texts of the files that the relay lines of a site file name, one for each line.
-fn read_relay_texts<F: Files>(
+// Reads the files that the relay lines of a site file name, but for those that were read, and notes which is whose.
+fn read_relay_lines<F: Files>(
     alloc: Global,
     files: &F,
+    texts: &mut SiteTexts<'_>,
     site_text: &[u8],
-) -> Result<Vec<Option<RelayText>>, AllocError> {
-    let mut found = Vec::new(alloc);
+) -> Result<(), AllocError> {
     for line in site_text.split(|b| *b == b'\n') {
         let line = without_return(line);
         if is_relay_line(line) {
-            found.push(read_relay_text(alloc, files, file_name_in(line))?)?;
+            let place = match file_name_in(line) {
+                Some(name) => place_or_read(alloc, files, texts, name)?,
+                None => None,
+            };
+            texts.relays.push(place)?;
         }
     }
-    Ok(found)
+    Ok(())
 }
 
-/// Reads the site file of this name, and the files that it names.
-pub fn read_site_texts<'a, F: Files>(
+// A text without the byte order mark before its first line, after which `--all` goes on.
+fn without_mark(text: &[u8]) -> &[u8] {
+    match text {
+        [0xef, 0xbb, 0xbf, rest @ ..] => rest,
+        _ => text,
+    }
+}
+
+/// Reads what words on a site ask for beyond the site: the files that were not read as an earlier one wasn't, or as the site
+/// file is faulty; why a file can't be read; and which file is whose.
+pub fn read_rest<F: Files>(
     alloc: Global,
     files: &F,
-    name: &'a str,
-) -> Result<SiteTexts<'a>, AllocError> {
-    let text = text_of(files, name)?;
-    let relay_texts = match &text {
-        Some(text) => read_relay_texts(alloc, files, text.as_slice()),
-        None => Ok(Vec::new(alloc)),
-    };
-    match relay_texts {
-        Ok(relay_texts) => Ok(SiteTexts {
-            name,
-            text,
-            relay_texts,
-        }),
-        Err(why) => Err(why),
+    texts: &mut SiteTexts<'_>,
+) -> Result<(), AllocError> {
+    match texts.text.take() {
+        Some(text) => {
+            let site_text = without_mark(text.as_slice());
+            let read = read_relay_lines(alloc, files, texts, site_text);
+            texts.text = Some(text);
+            read
+        }
+        None => note_unread(alloc, files, texts.name, &mut texts.unread),
     }
+}
+
+/// Reads the file beside a site's, or notes why it can't be read.
+pub fn read_second<'a, F: Files>(
+    alloc: Global,
+    files: &F,
+    texts: &mut SiteTexts<'a>,
+    name: &'a str,
+) -> Result<(), AllocError> {
+    let text = text_of(files, name)?;
+    if text.is_none() {
+        note_unread(alloc, files, name, &mut texts.unread)?;
+    }
+    texts.set_second(name, text);
+    Ok(())
 }

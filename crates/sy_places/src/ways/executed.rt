@@ -165,7 +165,7 @@ pub fn executed_of(alloc: Global, plan: &Plan, classes: &[Class]) -> Result<Exec
 }
 
 // Puts an input behind the others, where it isn't among them.
-fn put_input(found: &mut Vec<SiteInput>, input: SiteInput) -> Result<(), AllocError> {
+fn insert_input(found: &mut Vec<SiteInput>, input: SiteInput) -> Result<(), AllocError> {
     if found.contains(&input) {
         return Ok(());
     }
@@ -174,7 +174,7 @@ fn put_input(found: &mut Vec<SiteInput>, input: SiteInput) -> Result<(), AllocEr
 }
 
 // Puts the input behind the others that an action leads to, where messages may execute it.
-fn put_target(
+fn insert_target(
     site: &Site,
     relay: u32,
     action: u32,
@@ -185,13 +185,13 @@ fn put_target(
         return Ok(());
     }
     match site.target(relay, action) {
-        Some(input) => put_input(found, input),
+        Some(input) => insert_input(found, input),
         None => Ok(()),
     }
 }
 
 // Puts the inputs behind the others that the forwards lead to which messages at an input may execute.
-fn put_targets(
+fn insert_targets(
     alloc: Global,
     site: &Site,
     at: SiteInput,
@@ -204,7 +204,7 @@ fn put_targets(
     let executed = executed_from(alloc, spot.plan, &[spot.input.list], classes)?;
     let mut action: u32 = 0;
     for _ in spot.plan.actions() {
-        put_target(site, at.relay, action, &executed, found)?;
+        insert_target(site, at.relay, action, &executed, found)?;
         action = action.saturating_add(1);
     }
     Ok(())
@@ -218,12 +218,12 @@ pub fn reached_inputs(
 ) -> Result<Vec<SiteInput>, AllocError> {
     let mut found = Vec::new(alloc);
     for entry in site.entries() {
-        put_input(&mut found, *entry)?;
+        insert_input(&mut found, *entry)?;
     }
     for at in 0..INPUTS {
         if at < found.len() {
             let input = found[at];
-            put_targets(alloc, site, input, classes, &mut found)?;
+            insert_targets(alloc, site, input, classes, &mut found)?;
         }
     }
     Ok(found)

@@ -21,7 +21,7 @@ fn is_there(lists: &[Followed], list: u32) -> bool {
 }
 
 // Puts the lists that the one at a place posts to behind the others, those left out that are there.
-fn put_posted(
+fn append_posted(
     lists: &mut Vec<Followed>,
     site: &Site,
     relay: u32,
@@ -59,7 +59,7 @@ pub fn lists_followed(
         let Some(here) = lists.get(next).copied() else {
             return Ok(lists);
         };
-        put_posted(&mut lists, site, relay, plan, class, next, here.list)?;
+        append_posted(&mut lists, site, relay, plan, class, next, here.list)?;
     }
     Ok(lists)
 }

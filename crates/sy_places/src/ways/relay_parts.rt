@@ -281,7 +281,7 @@ fn leading(
 }
 
 // Puts the lists that a list posts to behind the others, those left out that are there.
-fn put_posted(
+fn append_posted(
     lists: &mut Vec<u32>,
     plan: &Plan,
     list: u32,
@@ -318,7 +318,7 @@ fn leading_behind(
         if let Some(action) = leading(site, relay, plan, list, class, to) {
             return Ok(Some(action));
         }
-        put_posted(&mut lists, plan, list, class)?;
+        append_posted(&mut lists, plan, list, class)?;
     }
     Ok(None)
 }

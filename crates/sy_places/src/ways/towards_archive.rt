@@ -60,7 +60,7 @@ impl Steps {
     }
 
     // Puts a step behind the others, where its list isn't among theirs.
-    fn put(&mut self, step: Step) -> Result<(), AllocError> {
+    fn insert(&mut self, step: Step) -> Result<(), AllocError> {
         let place = (step.input.relay as usize)
             .saturating_mul(LISTS)
             .saturating_add(step.list as usize);
@@ -77,7 +77,7 @@ impl Steps {
 }
 
 // Puts the list to which an occurrence leads behind the others.
-fn put_led_to(
+fn insert_led_to(
     steps: &mut Steps,
     site: &Site,
     at: usize,
@@ -97,7 +97,7 @@ fn put_led_to(
             (input, spot.input.list)
         }
     };
-    steps.put(Step { input, list, from })
+    steps.insert(Step { input, list, from })
 }
 
 fn plan_of(site: &Site, step: Step) -> Option<&Plan> {
@@ -140,7 +140,7 @@ fn follow(
         let is_followed = matches!(choice, Choice::All)
             || !is_spare(site, step.input.relay, plan, *occurrence);
         if left % 2 == 1 && is_followed {
-            put_led_to(steps, site, at, step, *occurrence)?;
+            insert_led_to(steps, site, at, step, *occurrence)?;
         }
         left /= 2;
     }
@@ -242,7 +242,7 @@ pub fn approach_to(
 ) -> Result<Approach, AllocError> {
     let mut steps = Steps::new(alloc)?;
     if let Some(step) = first_step(site, entry) {
-        steps.put(step)?;
+        steps.insert(step)?;
     }
     follow_all(&mut steps, site, Choice::Sure(class))?;
     let sure = steps.all.len();

@@ -1,9 +1,9 @@
 //! The words of the command line.
-ghost use Rattle.std.specs.Prelude.{◌≡◌, [], ◌∷◌, ◌↔◌, ℕ, List, codes, map, string_bytes, IfErr, IfNone, IfOk, IfSome, IsTrue};
+ghost use Rattle.std.specs.Prelude.{◌≡◌, [], ◌∷◌, ◌↔◌, ℕ, List, codes, map, string_bytes, IfNone, IfSome, IsTrue};
 ghost use Rattle.sy_report.specs.Words as spec;
-ghost use Rattle.sy_report.specs.Words.{AreAsking, ArePass, AreReplay, AreVerify, AreWithName, IsCommand, IsSiteCommand};
+ghost use Rattle.sy_report.specs.Words.{AreAsking, ArePass, AreReplay, AreVerify, AreWithName, IsSiteCommand};
 ghost use Rattle.sy_report.specs.declared.command_line.command.Asked.{Asked as AnyAsked};
-ghost use Rattle.sy_report.specs.Commands.{AreNoCommand, AreNoSiteCommand};
+ghost use Rattle.sy_report.specs.Commands.{AreNoSiteCommand};
 
 /// What a command asks of a site.
 #[derive(Clone, Copy)]
@@ -25,19 +25,6 @@ pub enum SiteCommand<'a> {
     Verify(&'a str, &'a str),
 }
 
-/// What the program is to do.
-#[derive(Clone, Copy)]
-pub enum Command<'a> {
-    /// Frames on standard input to lines on standard output.
-    Pass,
-    /// What it says of a site.
-    OverSite(SiteCommand<'a>),
-}
-
-/// The words are those of no command without options.
-#[derive(Clone, Copy)]
-pub struct NoCommand;
-
 /// Whether a word is this one.
 pub fn is_word(word: &str, wanted: &str) -> bool
     ensures { IsTrue result ↔ (word.now ≡ wanted.now) }
@@ -45,8 +32,8 @@ pub fn is_word(word: &str, wanted: &str) -> bool
     word == wanted
 }
 
-// Whether the words are `pass` alone after the program's name.
-fn are_pass(words: &[&str]) -> bool
+/// Whether the words are `pass` alone after the program's name.
+pub fn are_pass(words: &[&str]) -> bool
     ensures { IsTrue result ↔ ArePass (map (λ s. s.now) words.now) }
 {
     match words {
@@ -167,20 +154,5 @@ pub fn site_command<'a>(words: &[&'a str]) -> Option<SiteCommand<'a>>
     match verified(words) {
         Some((site, certificate)) => Some(SiteCommand::Verify(site, certificate)),
         None => None,
-    }
-}
-
-/// The command that the words name, the program's name being the first of them, where they are those of a command without
-/// options.
-pub fn command_of<'a>(words: &[&'a str]) -> Result<Command<'a>, NoCommand>
-    ensures ok { IfOk result (IsCommand (map (λ s. s.now) words.now)) }
-    ensures err { IfErr result (λ _. AreNoCommand (map (λ s. s.now) words.now)) }
-{
-    if are_pass(words) {
-        return Ok(Command::Pass);
-    }
-    match site_command(words) {
-        Some(command) => Ok(Command::OverSite(command)),
-        None => Err(NoCommand),
     }
 }

@@ -18,13 +18,6 @@ pub struct Options {
     pub json: bool,
 }
 
-/// The words that name files: the site file, and the certificate or the events file, where the command has one.
-#[derive(Clone, Copy)]
-pub struct ReadNames<'a> {
-    pub site: &'a str,
-    pub second: Option<&'a str>,
-}
-
 /// The words of the command line, the program's name being the first of them.
 #[derive(Drop)]
 pub struct GivenWords<'a> {

@@ -12,7 +12,25 @@ use Rattle.sy_report.specs.declared.outcome.halt.Halt.{Halt}
 use Rattle.sy_report.specs.declared.outcome.halt.Halt.TheVariants as halt
 use Rattle.syc.specs.Replays.{Ending, lines_of, loss_line}
 use Rattle.syc.specs.declared.replay.events.Course.{Course}
-use Rattle.syc.specs.Halts.{Place, ReplaysFrom, Halted}
+use Rattle.sy_places.specs.SiteFiles.{IsSiteOf}
+use Rattle.sy_places.specs.Halts.{IsNoSite}
+use Rattle.syc.specs.Halts.{Finishes, Place, ReplaysFrom, Stops, start}
+
+-- the events were replayed over the site of the text
+abbrev pub Replayed : (List ℕ → Option (List ℕ)) → (text events : List ℕ) → Option (List ℕ) → ℕ → Option (List ℕ) → ℕ → Type 0
+Replayed bytes_of text events old before new after =
+    (site : Site) × IsSiteOf bytes_of text site × Finishes site (start site (lines_of events) old before) new after
+
+-- there is no site, and nothing was written; or the replay stopped
+abbrev pub Halted : (List ℕ → Option (List ℕ)) → (text events : List ℕ) → Halt → Option (List ℕ) → ℕ → Option (List ℕ) → ℕ → Type 0
+Halted bytes_of text events why old before new after =
+    (IsNoSite bytes_of text why × Keeps old new × (after ≡ before))
+    ⊎ ((site : Site) × IsSiteOf bytes_of text site × Stops site (start site (lines_of events) old before) why new after)
+
+-- A failed write has its cause, and at any other halt none failed.
+abbrev pub IsCause : Halt → ℕ → ℕ → Type 0
+IsCause halt.WriteFailed before after = Rose before after
+IsCause _ before after = after ≡ before
 
 abbrev pub place : Course → List (List ℕ) → Option (List ℕ) → ℕ → Place
 place course lines written faults = record {

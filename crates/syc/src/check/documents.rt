@@ -9,10 +9,10 @@ use sy_checker::{CertFault, certify as make_certificate};
 use sy_documents::json::{certify_document, check_document, verify_document};
 use sy_findings::verdicts::check::{say_fit, say_kept};
 use sy_findings::verdicts::verdict::{WrongRow, count_kept};
-use sy_report::command_line::options::{Options, ReadNames};
+use sy_places::site_file::texts::SiteTexts;
+use sy_report::command_line::options::Options;
 use sy_report::outcome::answer::Answer;
 use sy_report::outcome::halt::Halt;
-use sy_report::reading::files::Files;
 use sy_site::Site;
 use sy_site::finding::Refusal;
 
@@ -28,10 +28,9 @@ fn with_document(document: Result<Vec<u8>, AllocError>, is_accepted: bool) -> Re
 }
 
 /// What a check says of a site.
-pub fn document_of_check<F: Files>(
+pub fn document_of_check(
     alloc: Global,
-    files: &F,
-    names: ReadNames<'_>,
+    texts: &SiteTexts<'_>,
     options: Options,
     site: &Site,
 ) -> Result<Answer, Halt>
@@ -40,11 +39,11 @@ pub fn document_of_check<F: Files>(
 {
     match say_kept(alloc, site) {
         Ok(_) => {
-            let document = check_document(alloc, files, names, options, site, None);
+            let document = check_document(alloc, texts, options, site, None);
             with_document(document, true)
         }
         Err(Refusal::Finding(finding)) => {
-            let document = check_document(alloc, files, names, options, site, Some(&finding));
+            let document = check_document(alloc, texts, options, site, Some(&finding));
             with_document(document, false)
         }
         Err(Refusal::NoMemory) => Err(Halt::NoMemory),
@@ -52,10 +51,9 @@ pub fn document_of_check<F: Files>(
 }
 
 // The document of a certificate that is made.
-fn document_of_fit<F: Files>(
+fn document_of_fit(
     alloc: Global,
-    files: &F,
-    names: ReadNames<'_>,
+    texts: &SiteTexts<'_>,
     options: Options,
     site: &Site,
     certificate: &Certificate,
@@ -67,7 +65,7 @@ fn document_of_fit<F: Files>(
     match say_fit(alloc, certificate) {
         Ok(answer) => {
             let text = answer.text.as_slice();
-            let document = certify_document(alloc, files, names, options, site, Ok(text));
+            let document = certify_document(alloc, texts, options, site, Ok(text));
             with_document(document, true)
         }
         Err(halt) => Err(halt),
@@ -75,10 +73,9 @@ fn document_of_fit<F: Files>(
 }
 
 /// What the making of its certificate says of a site.
-pub fn document_of_certify<F: Files>(
+pub fn document_of_certify(
     alloc: Global,
-    files: &F,
-    names: ReadNames<'_>,
+    texts: &SiteTexts<'_>,
     options: Options,
     site: &Site,
 ) -> Result<Answer, Halt>
@@ -86,9 +83,9 @@ pub fn document_of_certify<F: Files>(
     ensures err { IfErr result (λ halt. halt ≡ Halt.NoMemory) }
 {
     match make_certificate(alloc, site) {
-        Ok(certificate) => document_of_fit(alloc, files, names, options, site, &certificate),
+        Ok(certificate) => document_of_fit(alloc, texts, options, site, &certificate),
         Err(Refusal::Finding(finding)) => {
-            let document = certify_document(alloc, files, names, options, site, Err(&finding));
+            let document = certify_document(alloc, texts, options, site, Err(&finding));
             with_document(document, false)
         }
         Err(Refusal::NoMemory) => Err(Halt::NoMemory),
@@ -96,11 +93,9 @@ pub fn document_of_certify<F: Files>(
 }
 
 /// The verdict on a certificate for a site.
-pub fn document_of_verify<F: Files>(
+pub fn document_of_verify(
     alloc: Global,
-    files: &F,
-    names: ReadNames<'_>,
-    options: Options,
+    texts: &SiteTexts<'_>,
     site: &Site,
     certificate: &Certificate,
 ) -> Result<Answer, Halt>
@@ -109,12 +104,12 @@ pub fn document_of_verify<F: Files>(
 {
     match count_kept(alloc, site, certificate) {
         Ok(_) => {
-            let document = verify_document(alloc, files, names, options, site, None);
+            let document = verify_document(alloc, texts, site, None);
             with_document(document, true)
         }
         Err(CertFault::Wrong { line, row }) => {
             let wrong = Some(WrongRow { line, row });
-            let document = verify_document(alloc, files, names, options, site, wrong);
+            let document = verify_document(alloc, texts, site, wrong);
             with_document(document, false)
         }
         Err(CertFault::NoMemory) => Err(Halt::NoMemory),

@@ -7,16 +7,15 @@ ghost use Rattle.sy_findings.specs.Checks as findings;
 use std::alloc::{AllocError, Global};
 use sy_findings::notes::explanation::explanation;
 use sy_findings::verdicts::check::say_kept;
-use sy_findings::verdicts::findings::put_finding;
-use sy_places::site_file::texts::read_site_texts;
+use sy_findings::verdicts::findings::push_finding;
+use sy_places::site_file::texts::SiteTexts;
 use sy_report::outcome::answer::Answer;
 use sy_report::outcome::halt::Halt;
-use sy_report::reading::files::Files;
 use sy_site::Site;
 use sy_site::finding::{Finding, Refusal};
 
-// What is found in a site, with words on it behind its lines.
-fn refused_in_words(
+// What is found in a site, with words on it after its lines.
+fn refused_with(
     alloc: Global,
     site: &Site,
     finding: &Finding,
@@ -26,7 +25,7 @@ fn refused_in_words(
     ensures refused { IfOk result (λ a. a.is_accepted ≡ false) }
 {
     let mut text = Vec::new(alloc);
-    put_finding(&mut text, site, finding)?;
+    push_finding(&mut text, site, finding)?;
     text.extend_from_slice(words)?;
     Ok(Answer {
         text,
@@ -34,41 +33,25 @@ fn refused_in_words(
     })
 }
 
-// The explanation of what is found, for which files are read once more.
-fn words_on<F: Files>(
-    alloc: Global,
-    files: &F,
-    name: &str,
-    site: &Site,
-    finding: &Finding,
-) -> Result<Vec<u8>, AllocError> {
-    match read_site_texts(alloc, files, name) {
-        Ok(texts) => explanation(alloc, &texts, site, finding),
-        Err(why) => Err(why),
-    }
-}
-
 // What is found in a site, with its explanation.
-fn found_in_words<F: Files>(
+fn found_explained(
     alloc: Global,
-    files: &F,
-    name: &str,
+    texts: &SiteTexts<'_>,
     site: &Site,
     finding: &Finding,
 ) -> Result<Answer, AllocError>
     requires found { IsTrueFinding site.now finding.now }
     ensures ok { IfOk result (λ a. spec.SaysFoundInWords site.now a.text.items a.is_accepted) }
 {
-    let words = words_on(alloc, files, name, site, finding)?;
-    let answer = refused_in_words(alloc, site, finding, words.as_slice())?;
+    let words = explanation(alloc, texts, site, finding)?;
+    let answer = refused_with(alloc, site, finding, words.as_slice())?;
     Ok(answer)
 }
 
 /// What is said in words of a site that is refused.
-pub fn say_in_words<F: Files>(
+pub fn say_found_explained(
     alloc: Global,
-    files: &F,
-    name: &str,
+    texts: &SiteTexts<'_>,
     site: &Site,
     why: Refusal,
 ) -> Result<Answer, Halt>
@@ -77,7 +60,7 @@ pub fn say_in_words<F: Files>(
     ensures err { IfErr result (λ halt. halt ≡ Halt.NoMemory) }
 {
     match why {
-        Refusal::Finding(finding) => match found_in_words(alloc, files, name, site, &finding) {
+        Refusal::Finding(finding) => match found_explained(alloc, texts, site, &finding) {
             Ok(answer) => Ok(answer),
             Err(_) => Err(Halt::NoMemory),
         },
@@ -85,19 +68,14 @@ pub fn say_in_words<F: Files>(
     }
 }
 
-/// What a check says in words of a site: its verdict, and behind a finding what it means, where it stands, why messages
+/// What a check says in words of a site: its verdict, and after a finding what it means, where it is, why messages
 /// are lost by it, and what would change that.
-pub fn say_explained<F: Files>(
-    alloc: Global,
-    files: &F,
-    name: &str,
-    site: &Site,
-) -> Result<Answer, Halt>
+pub fn say_explained(alloc: Global, texts: &SiteTexts<'_>, site: &Site) -> Result<Answer, Halt>
     ensures ok { IfOk result (λ a. spec.SaysExplained site.now a.text.items a.is_accepted) }
     ensures err { IfErr result (λ halt. halt ≡ Halt.NoMemory) }
 {
     match say_kept(alloc, site) {
         Ok(answer) => Ok(answer),
-        Err(why) => say_in_words(alloc, files, name, site, why),
+        Err(why) => say_found_explained(alloc, texts, site, why),
     }
 }

@@ -12,7 +12,7 @@ use std::alloc::Global;
 use sy_board::Guard;
 use sy_checker::check_site;
 use sy_findings::verdicts::check::say_found;
-use sy_places::site_file::site::read_site;
+use sy_places::site_file::site::{ReadSite, read_site};
 use sy_report::command_line::options::all_words;
 use sy_report::outcome::answer::print;
 use sy_report::outcome::halt::{status_of, tell};
@@ -78,7 +78,8 @@ fn named<F: Files, E: Sink>(
     ensures relay { IfOk result (λ found. relay_named found.0.relays words.entry.relay.now ≡ Some found.1) }
     ensures status { IfErr result (λ status. status ≤ 4) }
 {
-    let site = match read_site(alloc, files, words.site) {
+    let ReadSite { site, .. } = read_site(alloc, files, words.site);
+    let site = match site {
         Ok(site) => site,
         Err(halt) => {
             tell(errors, &halt);

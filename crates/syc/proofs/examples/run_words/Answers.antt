@@ -12,36 +12,36 @@ use Rattle.syc.proofs.examples.run_words.Goals as goal
 
 pub returns-clause-asked : goal.returns-clause-asked
 returns-clause-asked g c = λ question are.
-    subst (λ fs. AskedIs question (file_named fs) SITE.now c.run.result c.args.out.now c.run.new.out) c.files.ensures
-    (c.run.ensures.asked question (codes "site") SITE.now (subst (λ ws. AreAskingOf question ws (codes "site")) (sym (ap (map string_bytes) c.as_slice-2.ensures.value ∙ c.in_ok-words.ensures)) are)
+    subst (λ fs. AskedIs question (file_named fs) SITE.now c.run_each.result c.args.out.now c.run_each.new.out) c.files.ensures
+    (c.run_each.ensures.asked question (codes "site") SITE.now (subst (λ ws. AreAskingOf question ws (codes "site")) (sym (ap (map string_bytes) c.as_slice-2.ensures.value ∙ c.in_ok-words.ensures)) are)
     (ap (λ fs. file_named fs (codes "site")) c.files.ensures))
 
 pub returns-clause-asked_fails : goal.returns-clause-asked_fails
 returns-clause-asked_fails g c = λ question are.
-    asking_writes (given c.files.result) c.files.ensures c.run.result c.args.out.now c.run.new.out
-    (c.run.ensures.asked_fails question (codes "site") SITE.now (subst (λ ws. AreAskingOf question ws (codes "site")) (sym (ap (map string_bytes) c.as_slice-2.ensures.value ∙ c.in_ok-words.ensures)) are)
+    asking_writes (given c.files.result) c.files.ensures c.run_each.result c.args.out.now c.run_each.new.out
+    (c.run_each.ensures.asked_fails question (codes "site") SITE.now (subst (λ ws. AreAskingOf question ws (codes "site")) (sym (ap (map string_bytes) c.as_slice-2.ensures.value ∙ c.in_ok-words.ensures)) are)
     (ap (λ fs. file_named fs (codes "site")) c.files.ensures))
 
 pub returns-clause-verify : goal.returns-clause-verify
 returns-clause-verify g c = λ are.
-    subst (λ fs. VerifyIs (file_named fs) SITE.now CERTIFICATE.now c.run.result c.args.out.now c.run.new.out) c.files.ensures
-    (c.run.ensures.verify (codes "site") (codes "cert") SITE.now CERTIFICATE.now (subst (λ ws. AreVerifyOf ws (codes "site") (codes "cert")) (sym (ap (map string_bytes) c.as_slice-2.ensures.value ∙ c.in_ok-words.ensures)) are)
+    subst (λ fs. VerifyIs (file_named fs) SITE.now CERTIFICATE.now c.run_each.result c.args.out.now c.run_each.new.out) c.files.ensures
+    (c.run_each.ensures.verify (codes "site") (codes "cert") SITE.now CERTIFICATE.now (subst (λ ws. AreVerifyOf ws (codes "site") (codes "cert")) (sym (ap (map string_bytes) c.as_slice-2.ensures.value ∙ c.in_ok-words.ensures)) are)
     (ap (λ fs. file_named fs (codes "site")) c.files.ensures) (ap (λ fs. file_named fs (codes "cert")) c.files.ensures))
 
 pub returns-clause-verify_fails : goal.returns-clause-verify_fails
 returns-clause-verify_fails g c = λ are.
-    verifying_writes (given c.files.result) c.files.ensures c.run.result c.args.out.now c.run.new.out
-    (c.run.ensures.verify_fails (codes "site") (codes "cert") SITE.now (subst (λ ws. AreVerifyOf ws (codes "site") (codes "cert")) (sym (ap (map string_bytes) c.as_slice-2.ensures.value ∙ c.in_ok-words.ensures)) are)
+    verifying_writes (given c.files.result) c.files.ensures c.run_each.result c.args.out.now c.run_each.new.out
+    (c.run_each.ensures.verify_fails (codes "site") (codes "cert") SITE.now (subst (λ ws. AreVerifyOf ws (codes "site") (codes "cert")) (sym (ap (map string_bytes) c.as_slice-2.ensures.value ∙ c.in_ok-words.ensures)) are)
     (ap (λ fs. file_named fs (codes "site")) c.files.ensures))
 
 pub returns-clause-replay : goal.returns-clause-replay
 returns-clause-replay g c = λ are.
-    subst (λ fs. ReplayIs (file_named fs) SITE.now EVENTS.now c.run.result c.args.out.now c.run.new.out) c.files.ensures
-    (c.run.ensures.replay (codes "site") (codes "events") SITE.now EVENTS.now (subst (λ ws. AreReplayOf ws (codes "site") (codes "events")) (sym (ap (map string_bytes) c.as_slice-2.ensures.value ∙ c.in_ok-words.ensures)) are)
+    subst (λ fs. ReplayIs (file_named fs) SITE.now EVENTS.now c.run_each.result c.args.out.now c.run_each.new.out) c.files.ensures
+    (c.run_each.ensures.replay (codes "site") (codes "events") SITE.now EVENTS.now (subst (λ ws. AreReplayOf ws (codes "site") (codes "events")) (sym (ap (map string_bytes) c.as_slice-2.ensures.value ∙ c.in_ok-words.ensures)) are)
     (ap (λ fs. file_named fs (codes "site")) c.files.ensures) (ap (λ fs. file_named fs (codes "events")) c.files.ensures))
 
 pub returns-clause-replay_fails : goal.returns-clause-replay_fails
 returns-clause-replay_fails g c = λ are.
-    replaying_writes (given c.files.result) c.files.ensures c.run.result c.args.out.now c.run.new.out
-    (c.run.ensures.replay_fails (codes "site") (codes "events") SITE.now EVENTS.now (subst (λ ws. AreReplayOf ws (codes "site") (codes "events")) (sym (ap (map string_bytes) c.as_slice-2.ensures.value ∙ c.in_ok-words.ensures)) are)
+    replaying_writes (given c.files.result) c.files.ensures c.run_each.result c.args.out.now c.run_each.new.out
+    (c.run_each.ensures.replay_fails (codes "site") (codes "events") SITE.now EVENTS.now (subst (λ ws. AreReplayOf ws (codes "site") (codes "events")) (sym (ap (map string_bytes) c.as_slice-2.ensures.value ∙ c.in_ok-words.ensures)) are)
     (ap (λ fs. file_named fs (codes "site")) c.files.ensures) (ap (λ fs. file_named fs (codes "events")) c.files.ensures))

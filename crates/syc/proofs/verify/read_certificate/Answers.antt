@@ -5,5 +5,5 @@ use Rattle.syc.proofs.verify.read_certificate.Goals as goal
 
 pub returns-in-Ok-clause-unread : goal.returns-in-Ok-clause-unread
 returns-in-Ok-clause-unread g c =
-    if_err c.certificate_of.result c.certificate_of.ensures.unread (λ why unread.
+    if_err c.certificate_of-read.result c.certificate_of-read.ensures.unread (λ why unread.
     unread_no_file (g.F.Files.may_fail c.args.files.now) (c.args.name.now ∷ []) why unread)

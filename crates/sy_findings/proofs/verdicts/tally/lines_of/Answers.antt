@@ -8,7 +8,7 @@ loop-group-init c = subst (GoesOn c.args.site.now c.args.groups.now 0) (sym c.ne
 pub loop-group-preserved : goal.loop-group-preserved
 loop-group-preserved c =
     line_more c.args.site.now c.args.groups.now c.loop-group.group-index c.group-item.result c.loop-group.text.items
-    c.put_group.new.text.items c.loop-group-test.true c.group-item.is c.loop-group.invariant c.in_ok-put_group.ensures
+    c.push_group.new.text.items c.loop-group-test.true c.group-item.is c.loop-group.invariant c.in_ok-push_group.ensures
 
 pub returns : goal.returns
 returns c = lines_all c.args.site.now c.args.groups.now c.loop-group.group-index c.loop-group.text.items c.loop-group-test.false c.loop-group.invariant

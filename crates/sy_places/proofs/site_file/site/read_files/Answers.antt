@@ -3,7 +3,7 @@ use Rattle.std.proofs.lemmas.Result.{err_from_is_err_and}
 use Rattle.std.specs.Prelude.{IfSome, string_bytes}
 use Rattle.sy_places.specs.SiteFiles.{AreGiven}
 use Rattle.sy_places.specs.internal.Halts.{file_of}
-use Rattle.sy_places.specs.declared.site_file.site.RelayFile.{RelayFile}
+use Rattle.sy_places.specs.declared.site_file.texts.RelayText.{RelayText}
 use Rattle.sy_places.proofs.FilesGiven.{given_more, names_end, names_on}
 use Rattle.sy_places.proofs.Unread.{unread_within}
 use Rattle.sy_places.proofs.site_file.site.read_files.Goals as goal
@@ -11,8 +11,8 @@ use Rattle.sy_places.proofs.site_file.site.read_files.Goals as goal
 pub loop-name-preserved : goal.loop-name-preserved
 loop-name-preserved g c =
     let bytes_of = g.F.Files.bytes_of c.args.files.now in
-    let file : RelayFile = record { name = c.in-Some.name; bytes = c.in_ok-bytes.bytes } in
-    let known = subst (λ name. IfSome (bytes_of name) (λ bytes. c.in_ok-bytes.bytes.items ≡ bytes)) c.as_str.ensures.value c.in_ok-bytes.ensures.ok in
+    let file : RelayText = record { name = c.in-Some.name; text = c.in_ok-text.text } in
+    let known = subst (λ name. IfSome (bytes_of name) (λ bytes. c.in_ok-text.text.items ≡ bytes)) c.as_str.ensures.value c.in_ok-text.ensures.ok in
     record {
       given = subst (λ found. AreGiven bytes_of (map file_of found)) (sym c.in-Ok.ensures.items)
           (given_more bytes_of c.loop-name.found.items file c.loop-name.invariant.given known);
@@ -27,11 +27,11 @@ returns-clause-names g c =
     (sym c.loop-name.name-iterator.rest.ok.0 ∙ c.in-None.ensures.steps.0) (c.loop-name.invariant.names)
     ∙ ap (map string_bytes) whole
 
-pub returns-in_err-bytes-clause-unread : goal.returns-in_err-bytes-clause-unread
-returns-in_err-bytes-clause-unread g c =
+pub returns-in_err-text-clause-unread : goal.returns-in_err-text-clause-unread
+returns-in_err-text-clause-unread g c =
     let p = err_from_is_err_and c.from_residual.result c.from_residual.ensures.1 in
     let whole : c.into_iter-name-iterator.result.rest.items ≡ c.args.names.items = search rules in
     let found = map (λ f. string_bytes f.name) c.loop-name.found.items in
     let names = sym (ap (map string_bytes) whole) ∙ sym c.loop-name.invariant.names
     ∙ ap (λ rest. found ++ map string_bytes rest) c.in-Some.ensures.steps.0 in
-    rw (p.1, p.2) (unread_within (g.F.Files.may_fail c.args.files.now) _ _ found _ _ c.as_str.ensures.value names _ c.in_err-bytes.ensures.unread)
+    rw (p.1, p.2) (unread_within (g.F.Files.may_fail c.args.files.now) _ _ found _ _ c.as_str.ensures.value names _ c.in_err-text.ensures.unread)

@@ -1,5 +1,0 @@
-use Rattle.sy_findings.proofs.Lineup.{line_with_words}
-use Rattle.sy_findings.proofs.verdicts.tally_in_words.put_in_words.Goals as goal
-
-pub returns : goal.returns
-returns c = line_with_words c.args.site.now c.args.group.now _ _ _ _ c.in_ok-put_group.ensures c.in_ok-extend_from_slice.ensures.items
