@@ -2,7 +2,6 @@
 
 import contextlib
 import fcntl
-import hashlib
 import os
 import shutil
 import signal
@@ -11,7 +10,7 @@ import tempfile
 import threading
 import time
 
-TOP = os.path.dirname(os.path.dirname(os.path.dirname(os.path.realpath(__file__))))
+TOP = os.path.abspath(f"{os.path.realpath(__file__)}/../../..")
 # The crates of the libraries' tests, which are no crates of the repository: their folder, and what each stands on.
 TESTS, USES = "tests/libraries", "tests/libraries/uses.txt"
 
@@ -37,11 +36,6 @@ def text_of(path):
     return ""
 
 
-def sum_of(path):
-    with open(path, "rb", buffering=0) as it:
-        return hashlib.sha256(it.read()).hexdigest()
-
-
 def kit_folder():
     """The toolchain's folder, that of the command rt, or nothing."""
     rt = shutil.which("rt")
@@ -54,28 +48,22 @@ def kit_name(kit):
 
 
 def needed_kit():
-    kit = kit_folder()
-    if not kit:
+    if not kit_folder():
         raise Failed("the command rt of the toolchain is not on PATH")
-    return kit
+    return kit_folder()
 
 
 def crates_of(root=TOP):
-    """What a crate stands on, crates of the repository and libraries of the toolchain, as crates.txt says, and of the tests
-    of libraries their own file."""
+    """What each crate stands on, crates of the repository and libraries of the toolchain; those of tests, too."""
     lines = text_of(f"{root}/crates.txt").splitlines() + text_of(f"{root}/{USES}").splitlines()
     rows = [it.partition("#")[0].partition(":") for it in lines]
     return {name.split()[0]: uses.replace(",", " ").split() for name, _, uses in rows if name.strip()}
 
 
-def below(crates, name, found=None):
+def below(crates, name):
     """The repository's crates that one stands on, each after those that it stands on itself, and that one last."""
-    found = [] if found is None else found
-    for it in crates.get(name, ()):
-        if it in crates and it not in found:
-            below(crates, it, found)
-    found.append(name)
-    return found
+    found = [other for it in crates.get(name, ()) if it in crates for other in below(crates, it)]
+    return [*dict.fromkeys(found), name]
 
 
 @contextlib.contextmanager
@@ -111,7 +99,7 @@ def run(words, folder, room, hear=lambda line: None):
     """Runs a command that reads nothing: its status, and what it said, both streams together, each line once it comes."""
     how = {"stdin": subprocess.DEVNULL, "stdout": subprocess.PIPE, "stderr": subprocess.STDOUT, "errors": "replace"}
     said = []
-    with subprocess.Popen(words, cwd=folder, env={**os.environ, "TMPDIR": room}, start_new_session=True, **how) as it:
+    with subprocess.Popen(words, cwd=folder, env=os.environ | {"TMPDIR": room}, start_new_session=True, **how) as it:
         running.add(it)
         if is_stopped.is_set():
             end(it)

@@ -1,8 +1,9 @@
 """Records of which edits of a crate were refused, by the sum of all that the refusals rest on."""
 
-import glob
 import hashlib
+import json
 import os
+import pathlib
 import re
 import subprocess
 import sys
@@ -15,37 +16,41 @@ HERE = os.path.dirname(os.path.realpath(__file__))
 JUDGES = ("edits.py", "judge.py", "paths.py", "rounds.py", "toolchain.py")
 # A file of lemmas where another one imports it.
 LEMMAS = re.compile(r"\bRattle\.(\w+)\.proofs\.([\w.]*\w)")
+# How the lines begin that decide no refusal, after blanks: comments, and what says why an edit is there.
+COMMENTS = {".rt": "//", ".antt": "--", ".edit": "why:"}
+# Where empty lines may decide one: in sources, whose attributes end at them, and in answers, which paths.py parts by them.
+PARTED = re.compile(r"\.rt$|/proofs/.*/Answers\.antt$")
 
 
-def digest(parts):
-    """A sum of some texts, each with its name."""
-    found = hashlib.sha256()
-    for name, text in parts:
-        for it in (name, text):
-            data = it.encode("utf-8", "surrogateescape")
-            found.update(b"%d:" % len(data) + data)
-    return found.hexdigest()
+def deciding(path, text):
+    """What of a file's text may decide a refusal."""
+    comment, is_parted = COMMENTS.get(os.path.splitext(path)[1], "\n"), PARTED.search(path)
+    lines = [it for it in text.split("\n") if not it.lstrip().startswith(comment)]
+    return "\n".join(it for it in lines if is_parted or it.strip())
 
 
-def texts_of(top, *folders):
-    """The texts of the files in these folders below another one, each with its path there, in order."""
-    for folder in folders:
-        for at, inner, names in os.walk(f"{top}/{folder}"):
-            inner.sort()
-            for name in sorted(names):
-                yield os.path.relpath(f"{at}/{name}", top), edits.text_of(f"{at}/{name}")
+def part_of(top, path):
+    """A file below another folder: its path there, and what of its text may decide a refusal."""
+    return path, deciding(path, edits.text_of(f"{top}/{path}"))
+
+
+def parts_of(top, *folders):
+    """The files in these folders below another one, in order."""
+    found = [it for folder in folders for it in sorted(pathlib.Path(top, folder).rglob("*")) if it.is_file()]
+    return [part_of(top, str(it.relative_to(top))) for it in found]
 
 
 def shown_by(top, crate):
     """What a crate shows those above it, but for its lemmas: its definitions and its sources, with their functions emptied
-    down to their contracts, without comments and empty lines, and without what only says to the compiler which calls to
-    put into the callers."""
-    sources, parts = edits.Sources(top), list(texts_of(top, f"crates/{crate}/src", f"crates/{crate}/specs"))
-    after, _ = sources.emptied([path for path, _ in parts if path.endswith(".rt")], lambda _: False)
+    down to their contracts, without empty lines, and without what only says to the compiler which calls to put into the
+    callers."""
+    parts = parts_of(top, f"crates/{crate}/src", f"crates/{crate}/specs")
+    after, _ = edits.Sources(top).emptied([path for path, _ in parts if path.endswith(".rt")], lambda _: False)
     for path, text in parts:
-        lines = [it.rstrip() for it in after.texts.get(path, text).split("\n")]
-        is_shown = lambda it: bool(it) and not it.lstrip().startswith(("//", "#[inline"))
-        yield path, "\n".join(filter(is_shown, lines)) if path in after.texts else text
+        if path in after.texts:
+            lines = [it.rstrip() for it in deciding(path, after.texts[path]).split("\n")]
+            text = "\n".join(it for it in lines if it and not it.lstrip().startswith("#[inline"))
+        yield path, text
 
 
 def lemmas_named(top, below, texts):
@@ -55,29 +60,31 @@ def lemmas_named(top, below, texts):
         for crate, name in LEMMAS.findall(left.pop()):
             path = f"crates/{crate}/proofs/{name.replace('.', '/')}.antt"
             if crate in below and path not in found and os.path.isfile(f"{top}/{path}"):
-                found[path] = edits.text_of(f"{top}/{path}")
-                left.append(found[path])
-    return sorted(found.items())
+                found[path] = part_of(top, path)
+                left.append(found[path][1])
+    return [found[it] for it in sorted(found)]
 
 
 def sum_of(top, crate, below):
     """The sum of all that the refusals of a crate's edits rest on; `below` are the crates that it stands on."""
     kit = subprocess.run(["rt", "version"], stdout=subprocess.PIPE, stdin=subprocess.DEVNULL, text=True, check=True).stdout
-    own = list(texts_of(top, *(f"crates/{crate}/{it}" for it in ("src", "specs", "proofs", "must-fail"))))
+    own = parts_of(top, *(f"crates/{crate}/{it}" for it in ("src", "specs", "proofs", "must-fail")))
     shown = [it for name in sorted(below) for it in shown_by(top, name)]
     lemmas = lemmas_named(top, below, [text for _, text in own + shown])
     control = f"tests/edits/controls/{crate}.edit"
-    controls = [(control, edits.text_of(f"{top}/{control}"))] if os.path.isfile(f"{top}/{control}") else []
-    judges = [(it, edits.text_of(f"{HERE}/{it}")) for it in JUDGES]
-    return digest([("kit", kit), *judges, *controls, *own, *shown, *lemmas])
+    controls = [part_of(top, control)] if os.path.isfile(f"{top}/{control}") else []
+    judges = [edits.text_of(f"{HERE}/{it}") for it in JUDGES]
+    return hashlib.sha256(json.dumps([kit, judges, controls, own, shown, lemmas]).encode()).hexdigest()
 
 
 def edits_of(top, crate, wanted=()):
-    """The crate's edits that are named (all where none is), and those that can't be read, with the reason."""
-    folder, good, bad = f"{top}/crates/{crate}/must-fail", [], []
-    for name in wanted or sorted(os.path.basename(it).removesuffix(".edit") for it in glob.glob(f"{glob.escape(folder)}/*.edit")):
+    """The crate's edits that are named (all where none is), and those that can't be read or applied, with the reason."""
+    folder, good, bad = pathlib.Path(top, "crates", crate), [], []
+    for name in wanted or sorted(it.stem for it in folder.glob("must-fail/*.edit")):
         try:
-            good.append(edits.read_edit(crate, f"{folder}/{name}.edit"))
+            edit = edits.read_edit(crate, f"{folder}/must-fail/{name}.edit")
+            edits.Sources(folder).with_edit(edit)
+            good.append(edit)
         except FileNotFoundError:
             sys.exit(f"tests/edits/run: {crate} has no edit {name}")
         except edits.BadEdit as why:
@@ -106,5 +113,4 @@ class Record:
         if sum_of(*self.given) == self.sum:
             self.refused = self.refused - set(tried) | set(refused)
             os.makedirs(os.path.dirname(self.file), exist_ok=True)
-            with open(self.file, "w", encoding="utf-8") as it:
-                it.write("".join(f"{line}\n" for line in [self.sum, *sorted(self.refused)]))
+            pathlib.Path(self.file).write_text("\n".join([self.sum, *sorted(self.refused), ""]), encoding="utf-8")
