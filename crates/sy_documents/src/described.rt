@@ -57,13 +57,13 @@ pub fn number_of(word: &[u8]) -> Option<u64> {
 }
 
 /// Puts the number and the name of a kind or a fault.
-pub fn put_kind(members: &mut Members, words: &[u8]) {
+pub fn insert_kind(members: &mut Members, words: &[u8]) {
     let (number, name) = cut_number(words);
     members.number_if_any("kind", number);
     members.text("name", name);
 }
 
-fn put_place(members: &mut Members, place: &Option<Place>) {
+fn insert_place(members: &mut Members, place: &Option<Place>) {
     match place {
         Some(place) => {
             members.text("file", place.file.as_slice());
@@ -87,8 +87,8 @@ fn put_place(members: &mut Members, place: &Option<Place>) {
 }
 
 /// Puts a note: where it stands, what stands there, why, and what to write.
-pub fn put_note(alloc: Global, members: &mut Members, note: &Note) {
-    put_place(members, &note.place);
+pub fn insert_note(alloc: Global, members: &mut Members, note: &Note) {
+    insert_place(members, &note.place);
     members.text("what", note.what.as_slice());
     members.text("why", note.why.as_slice());
     members.text("change", note.change.as_slice());
@@ -103,7 +103,7 @@ pub fn put_note(alloc: Global, members: &mut Members, note: &Note) {
 }
 
 // Puts an input by its relay and port.
-fn put_input(members: &mut Members, site: &Site, input: SiteInput) {
+fn insert_input(members: &mut Members, site: &Site, input: SiteInput) {
     members.text("relay", relay_name(site, input.relay));
     members.number("port", u64::from(port_of(site, input)));
 }
@@ -116,7 +116,7 @@ fn action_of(alloc: Global, site: &Site, action: SiteAction) -> Members {
     members
 }
 
-fn put_archive(alloc: Global, members: &mut Members, site: &Site, kind: Kind) {
+fn insert_archive(alloc: Global, members: &mut Members, site: &Site, kind: Kind) {
     match kind {
         Kind::Unmet(archive) => members.object("archive", action_of(alloc, site, archive)),
         _ => members.null("archive"),
@@ -128,7 +128,7 @@ fn way_of(alloc: Global, site: &Site, way: &[WayRow]) -> Elements {
     let mut found = Elements::new(alloc);
     for row in way {
         let mut members = Members::new(alloc);
-        put_input(&mut members, site, row.input);
+        insert_input(&mut members, site, row.input);
         members.number("occurrence", u64::from(row.number));
         found.object(members);
     }
@@ -150,7 +150,7 @@ fn circle_of(alloc: Global, site: &Site, finding: &Finding) -> Result<Elements, 
     Ok(names)
 }
 
-fn put_circle(
+fn insert_circle(
     alloc: Global,
     members: &mut Members,
     site: &Site,
@@ -174,13 +174,13 @@ fn finding_of(
     let note = note_of_finding(alloc, texts, site, finding)?;
     let names = class_names(alloc, classes)?;
     let mut members = Members::new(alloc);
-    put_kind(&mut members, finding.kind.words().as_bytes());
+    insert_kind(&mut members, finding.kind.words().as_bytes());
     members.array("classes", names);
-    put_input(&mut members, site, finding.input);
-    put_archive(alloc, &mut members, site, finding.kind);
+    insert_input(&mut members, site, finding.input);
+    insert_archive(alloc, &mut members, site, finding.kind);
     members.array("way", way_of(alloc, site, finding.way.as_slice()));
-    put_circle(alloc, &mut members, site, finding)?;
-    put_note(alloc, &mut members, &note);
+    insert_circle(alloc, &mut members, site, finding)?;
+    insert_note(alloc, &mut members, &note);
     Ok(members)
 }
 
@@ -243,7 +243,7 @@ pub fn warning_elements(alloc: Global, warnings: &[Warning]) -> Elements {
     for warning in warnings {
         let mut members = Members::new(alloc);
         members.text("name", warning.caution.name().as_bytes());
-        put_note(alloc, &mut members, &warning.note);
+        insert_note(alloc, &mut members, &warning.note);
         found.object(members);
     }
     found

@@ -10,11 +10,10 @@ use sy_checker::survey;
 use sy_faults::all_faults::other_faults;
 use sy_findings::verdicts::verdict::WrongRow;
 use sy_findings::warnings::warnings_of;
-use sy_places::site_file::texts::{SiteTexts, read_site_texts};
+use sy_places::site_file::texts::SiteTexts;
 use sy_places::ways::executed::protected_classes;
-use sy_report::command_line::options::{Options, ReadNames};
+use sy_report::command_line::options::Options;
 use sy_report::outcome::halt::{Halt, status_of};
-use sy_report::reading::files::Files;
 use sy_site::Site;
 use sy_site::finding::Finding;
 
@@ -42,7 +41,7 @@ struct Parts {
 }
 
 // Puts the verdict that a status stands for.
-fn put_verdict(document: &mut Members, is_accepted: bool) {
+fn insert_verdict(document: &mut Members, is_accepted: bool) {
     if is_accepted {
         document.text("verdict", b"accepted");
     } else {
@@ -63,7 +62,7 @@ fn counts_of(alloc: Global, parts: &Parts) -> Members {
     counts
 }
 
-fn put_parts(document: &mut Members, parts: Parts) {
+fn insert_parts(document: &mut Members, parts: Parts) {
     let Parts {
         policy,
         spare,
@@ -101,7 +100,7 @@ fn judged(
     };
     let counts = counts_of(alloc, &parts);
     document.object("counts", counts);
-    put_parts(&mut document, parts);
+    insert_parts(&mut document, parts);
     Ok(document)
 }
 
@@ -134,29 +133,27 @@ fn verdict_of(
         None => Ok(Elements::new(alloc)),
     }?;
     let mut document = document_of(alloc, command, u8::from(found.is_some()));
-    put_verdict(&mut document, found.is_none());
+    insert_verdict(&mut document, found.is_none());
     judged(alloc, texts, site, findings, document)
 }
 
 /// What a check says of a site: that it is accepted, or what is found first. With `--all` the document has all that is
 /// found. It has also what is lawful and unwise.
-pub fn check_document<F: Files>(
+pub fn check_document(
     alloc: Global,
-    files: &F,
-    names: ReadNames<'_>,
+    texts: &SiteTexts<'_>,
     options: Options,
     site: &Site,
     found: Option<&Finding>,
 ) -> Result<Vec<u8>, AllocError> {
-    let texts = read_site_texts(alloc, files, names.site)?;
-    match verdict_of(alloc, &texts, options, site, "check", found) {
+    match verdict_of(alloc, texts, options, site, "check", found) {
         Ok(document) => document.finish(),
         Err(why) => Err(why),
     }
 }
 
-// The document of the making of a certificate.
-fn document_of_made(
+/// The same of the making of a certificate, whose text is given where the site is accepted.
+pub fn certify_document(
     alloc: Global,
     texts: &SiteTexts<'_>,
     options: Options,
@@ -175,21 +172,6 @@ fn document_of_made(
     document.finish()
 }
 
-/// The same of the making of a certificate, whose text is given where the site is accepted.
-pub fn certify_document<F: Files>(
-    alloc: Global,
-    files: &F,
-    names: ReadNames<'_>,
-    options: Options,
-    site: &Site,
-    made: Result<&[u8], &Finding>,
-) -> Result<Vec<u8>, AllocError> {
-    match read_site_texts(alloc, files, names.site) {
-        Ok(texts) => document_of_made(alloc, &texts, options, site, made),
-        Err(why) => Err(why),
-    }
-}
-
 // The first wrong row of a certificate.
 fn wrong_row(alloc: Global, wrong: WrongRow) -> Members {
     let mut row = Members::new(alloc);
@@ -198,15 +180,15 @@ fn wrong_row(alloc: Global, wrong: WrongRow) -> Members {
     row
 }
 
-// The document of a verdict on a certificate.
-fn document_of_verdict(
+/// What a verify says of a certificate for a site: that it is accepted, or its first wrong row.
+pub fn verify_document(
     alloc: Global,
     texts: &SiteTexts<'_>,
     site: &Site,
     wrong: Option<WrongRow>,
 ) -> Result<Vec<u8>, AllocError> {
     let mut document = document_of(alloc, "verify", u8::from(wrong.is_some()));
-    put_verdict(&mut document, wrong.is_none());
+    insert_verdict(&mut document, wrong.is_none());
     match wrong {
         Some(wrong) => document.object("wrong", wrong_row(alloc, wrong)),
         None => document.null("wrong"),
@@ -218,30 +200,14 @@ fn document_of_verdict(
     }
 }
 
-/// What a verify says of a certificate for a site: that it is accepted, or its first wrong row.
-pub fn verify_document<F: Files>(
-    alloc: Global,
-    files: &F,
-    names: ReadNames<'_>,
-    _options: Options,
-    site: &Site,
-    wrong: Option<WrongRow>,
-) -> Result<Vec<u8>, AllocError> {
-    match read_site_texts(alloc, files, names.site) {
-        Ok(texts) => document_of_verdict(alloc, &texts, site, wrong),
-        Err(why) => Err(why),
-    }
-}
-
 // Why a command stopped.
-fn first_fault<F: Files>(
+fn first_fault(
     alloc: Global,
-    files: &F,
-    names: ReadNames<'_>,
+    texts: &SiteTexts<'_>,
     halt: Option<&Halt>,
 ) -> Result<Elements, AllocError> {
     match halt {
-        Some(halt) => fault_element(alloc, files, names, halt),
+        Some(halt) => fault_element(alloc, texts, halt),
         None => Ok(Elements::new(alloc)),
     }
 }
@@ -259,18 +225,17 @@ fn parts_of_faults(alloc: Global, faults: Elements) -> Parts {
 }
 
 // The fault by which a command stopped and, where all are told, the others behind it.
-fn faults_of<F: Files>(
+fn faults_of(
     alloc: Global,
-    files: &F,
-    names: ReadNames<'_>,
+    texts: &SiteTexts<'_>,
     halt: &Halt,
     tells_all: bool,
 ) -> Result<Elements, AllocError> {
-    let faults = fault_element(alloc, files, names, halt)?;
+    let faults = fault_element(alloc, texts, halt)?;
     if !tells_all {
         return Ok(faults);
     }
-    match other_faults(alloc, files, names, halt) {
+    match other_faults(alloc, texts, halt) {
         Ok(others) => with_others(alloc, faults, others.as_slice()),
         Err(why) => Err(why),
     }
@@ -304,21 +269,19 @@ fn document_of_replay(
     document.null("verdict");
     document.object("counts", counts);
     document.array("losses", losses);
-    put_parts(&mut document, parts);
+    insert_parts(&mut document, parts);
     document.finish()
 }
 
 /// What a replay says, whose lines are these: one for each loss and, where all events were made, the last one; and why it
 /// stopped where it did. It may have stopped before the first event.
-pub fn replay_document<F: Files>(
+pub fn replay_document(
     alloc: Global,
-    files: &F,
-    names: ReadNames<'_>,
-    _options: Options,
+    texts: &SiteTexts<'_>,
     lines: &[u8],
     halt: Option<&Halt>,
 ) -> Result<Vec<u8>, AllocError> {
-    match first_fault(alloc, files, names, halt) {
+    match first_fault(alloc, texts, halt) {
         Ok(faults) => document_of_replay(alloc, lines, status_for(halt), faults),
         Err(why) => Err(why),
     }
@@ -336,21 +299,20 @@ fn document_of_faults(
     let mut document = document_of(alloc, command, status);
     document.null("verdict");
     document.object("counts", counts);
-    put_parts(&mut document, parts);
+    insert_parts(&mut document, parts);
     document.finish()
 }
 
 /// Why the command with this word (`check`, `certify` or `verify`) stopped. With `--all` the document of a check has all
 /// faults.
-pub fn fault_document<F: Files>(
+pub fn fault_document(
     alloc: Global,
-    files: &F,
+    texts: &SiteTexts<'_>,
     command: &str,
-    names: ReadNames<'_>,
     options: Options,
     halt: &Halt,
 ) -> Result<Vec<u8>, AllocError> {
-    match faults_of(alloc, files, names, halt, options.all) {
+    match faults_of(alloc, texts, halt, options.all) {
         Ok(faults) => document_of_faults(alloc, command, status_of(halt), faults),
         Err(why) => Err(why),
     }

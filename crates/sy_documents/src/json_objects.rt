@@ -29,7 +29,7 @@ impl Members {
         }
     }
 
-    fn put(&mut self, name: &str, value: Value) {
+    fn insert(&mut self, name: &str, value: Value) {
         match serde_json::put(&mut self.map, self.alloc, name, value) {
             Ok(()) => {}
             Err(_) => self.is_cut = true,
@@ -39,14 +39,14 @@ impl Members {
     /// A text. Each longest piece of it that is no UTF-8 becomes U+FFFD.
     pub fn text(&mut self, name: &str, bytes: &[u8]) {
         match String::from_utf8_lossy(self.alloc, bytes) {
-            Ok(text) => self.put(name, Value::String(text)),
+            Ok(text) => self.insert(name, Value::String(text)),
             Err(_) => self.is_cut = true,
         }
     }
 
     /// A number.
     pub fn number(&mut self, name: &str, number: u64) {
-        self.put(name, Value::from(number));
+        self.insert(name, Value::from(number));
     }
 
     /// A number, or null.
@@ -59,18 +59,18 @@ impl Members {
 
     /// True or false.
     pub fn truth(&mut self, name: &str, is_true: bool) {
-        self.put(name, Value::Bool(is_true));
+        self.insert(name, Value::Bool(is_true));
     }
 
     /// Null.
     pub fn null(&mut self, name: &str) {
-        self.put(name, Value::Null);
+        self.insert(name, Value::Null);
     }
 
     /// An array.
     pub fn array(&mut self, name: &str, elements: Elements) {
         let Elements { list, is_cut, .. } = elements;
-        self.put(name, Value::Array(list));
+        self.insert(name, Value::Array(list));
         self.is_cut = self.is_cut || is_cut;
     }
 
@@ -85,7 +85,7 @@ impl Members {
     /// An object.
     pub fn object(&mut self, name: &str, members: Members) {
         let Members { map, is_cut, .. } = members;
-        self.put(name, Value::Object(map));
+        self.insert(name, Value::Object(map));
         self.is_cut = self.is_cut || is_cut;
     }
 

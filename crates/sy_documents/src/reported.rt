@@ -1,13 +1,12 @@
 //! The faults and losses of a JSON document, by the lines that are printed of them.
 
-use crate::described::{number_of, put_kind, put_note};
+use crate::described::{insert_kind, insert_note, number_of};
 use crate::json_objects::{Elements, Members};
 use std::alloc::{AllocError, Global};
 use sy_faults::fault_note::note_of_fault;
 use sy_faults::faults_with_notes::ToldFault;
-use sy_report::command_line::options::ReadNames;
+use sy_places::site_file::texts::SiteTexts;
 use sy_report::outcome::halt::{Halt, tell};
-use sy_report::reading::files::Files;
 use sy_report::texts::note::Note;
 use sy_report::writing::kept_text::Gathered;
 
@@ -46,7 +45,7 @@ fn name_in(line: &[u8]) -> &[u8] {
 }
 
 // Puts a fault behind the others, with its note.
-fn put_noted(
+fn push_noted(
     alloc: Global,
     faults: &mut Elements,
     halt: &Halt,
@@ -59,9 +58,9 @@ fn put_noted(
     }
     let line = bare_line(told.text());
     let mut members = Members::new(alloc);
-    put_kind(&mut members, name_in(line));
+    insert_kind(&mut members, name_in(line));
     members.text("text", line);
-    put_note(alloc, &mut members, note);
+    insert_note(alloc, &mut members, note);
     faults.object(members);
     Ok(())
 }
@@ -73,20 +72,19 @@ fn noted(alloc: Global, halt: &Halt, note: Option<Note>) -> Result<Elements, All
         None => Note::new(alloc),
     };
     let mut faults = Elements::new(alloc);
-    match put_noted(alloc, &mut faults, halt, &note) {
+    match push_noted(alloc, &mut faults, halt, &note) {
         Ok(()) => Ok(faults),
         Err(why) => Err(why),
     }
 }
 
 /// The fault by which a command stopped.
-pub fn fault_element<F: Files>(
+pub fn fault_element(
     alloc: Global,
-    files: &F,
-    names: ReadNames<'_>,
+    texts: &SiteTexts<'_>,
     halt: &Halt,
 ) -> Result<Elements, AllocError> {
-    match note_of_fault(alloc, files, names, halt) {
+    match note_of_fault(alloc, texts, halt) {
         Ok(note) => noted(alloc, halt, note),
         Err(why) => Err(why),
     }
@@ -99,7 +97,7 @@ pub fn with_others(
     others: &[ToldFault],
 ) -> Result<Elements, AllocError> {
     for fault in others {
-        put_noted(alloc, &mut faults, &fault.halt, &fault.note)?;
+        push_noted(alloc, &mut faults, &fault.halt, &fault.note)?;
     }
     Ok(faults)
 }

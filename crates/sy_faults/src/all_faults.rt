@@ -3,15 +3,13 @@
 use crate::all_of_file::{FileSpot, all_of_file};
 use crate::all_of_site::{JudgedFile, SiteHunt, find_lines, find_references, leave_out, word_of};
 use crate::fault_notes::fault_words;
-use crate::faults_with_notes::{ToldFault, put_told, without};
-use crate::site::files::{Unread, put_unread_relay, why_unread};
+use crate::faults_with_notes::{ToldFault, push_told, without};
+use crate::site::files::push_unread_relay;
 use std::alloc::{AllocError, Global};
 use sy_places::relay_file::places::file_in;
-use sy_places::site_file::source::{text_of, without_return};
-use sy_places::site_file::texts::{RelayText, read_relay_text};
-use sy_report::command_line::options::ReadNames;
+use sy_places::site_file::source::without_return;
+use sy_places::site_file::texts::{RelayText, SiteTexts, Unread};
 use sy_report::outcome::halt::Halt;
-use sy_report::reading::files::Files;
 use sy_report::texts::note::Note;
 use sy_report::texts::parts::Part;
 use sy_report::texts::words::Words;
@@ -40,7 +38,7 @@ fn find_unread(
     let mut note = Note::new(alloc);
     if let Some(unread) = unread {
         let site = (site_name, spot.line as u64, spot.relay);
-        put_unread_relay(alloc, &mut note, site, spot.name, unread);
+        push_unread_relay(alloc, &mut note, site, unread);
     }
     let note = note.finish()?;
     Ok(ToldFault::new(spot.number, 0, Halt::ReadFailed, note))
@@ -88,39 +86,36 @@ fn find_in_file(
     }
 }
 
-// Reads a relay's file, finds its faults, and answers how others may speak of it.
-fn judge_file<F: Files>(
+// Finds the faults of a relay's file, and answers how others may speak of it.
+fn judge_file<'a>(
     alloc: Global,
-    files: &F,
+    texts: &'a SiteTexts<'_>,
     hunt: &mut SiteHunt<'_>,
     number: u64,
     name: String,
-) -> Result<JudgedFile, AllocError> {
-    let read = read_relay_text(alloc, files, Some(name.as_str()))?;
-    let text = match &read {
-        Some(read) => find_in_file(alloc, hunt, number, name.as_str(), Ok(read)),
-        None => {
-            let why = why_unread(files, name.as_str());
-            find_in_file(alloc, hunt, number, name.as_str(), Err(why.as_ref()))
-        }
+) -> Result<JudgedFile<'a>, AllocError> {
+    let read = texts.file(name.as_str());
+    let given = match read {
+        Some(read) => Ok(read),
+        None => Err(texts.why_unread(name.as_str())),
     };
-    match text {
+    match find_in_file(alloc, hunt, number, name.as_str(), given) {
         Ok(text) => Ok(JudgedFile { name, read, text }),
         Err(why) => Err(why),
     }
 }
 
 // Finds the faults of the relays' files.
-fn judge_files<F: Files>(
+fn judge_files<'a>(
     alloc: Global,
-    files: &F,
+    texts: &'a SiteTexts<'_>,
     hunt: &mut SiteHunt<'_>,
     names: Vec<String>,
-) -> Result<Vec<JudgedFile>, AllocError> {
+) -> Result<Vec<JudgedFile<'a>>, AllocError> {
     let mut judged = Vec::new(alloc);
     let mut number: u64 = 1;
     for name in names {
-        judged.push(judge_file(alloc, files, hunt, number, name)?)?;
+        judged.push(judge_file(alloc, texts, hunt, number, name)?)?;
         number = number.saturating_add(1);
     }
     Ok(judged)
@@ -131,7 +126,7 @@ fn judge_files<F: Files>(
 fn given_files<'a>(
     alloc: Global,
     hunt: &mut SiteHunt<'_>,
-    judged: &'a [JudgedFile],
+    judged: &'a [JudgedFile<'_>],
 ) -> Result<Vec<(&'a str, &'a [u8])>, AllocError> {
     let mut given: Vec<(&'a str, &'a [u8])> = Vec::new(alloc);
     for file in judged {
@@ -147,7 +142,11 @@ fn given_files<'a>(
 }
 
 // Finds the faults of a site file and of its relays' files.
-fn find_all<F: Files>(alloc: Global, files: &F, hunt: &mut SiteHunt<'_>) -> Result<(), AllocError> {
+fn find_all(
+    alloc: Global,
+    texts: &SiteTexts<'_>,
+    hunt: &mut SiteHunt<'_>,
+) -> Result<(), AllocError> {
     if !find_lines(alloc, hunt)? {
         return Ok(());
     }
@@ -156,7 +155,7 @@ fn find_all<F: Files>(alloc: Global, files: &F, hunt: &mut SiteHunt<'_>) -> Resu
         Err(SiteFault::NoMemory) => return Err(AllocError),
         Err(_) => return Ok(()),
     };
-    let judged = judge_files(alloc, files, hunt, names)?;
+    let judged = judge_files(alloc, texts, hunt, names)?;
     let given = given_files(alloc, hunt, judged.as_slice())?;
     find_references(alloc, hunt, judged.as_slice(), given.as_slice())
 }
@@ -171,55 +170,48 @@ fn has_others(halt: &Halt) -> bool {
 }
 
 // The lines by which a fault is known among others of the same line: of a failed read, which names no file.
-fn note_to_know<F: Files>(
-    alloc: Global,
-    files: &F,
-    names: ReadNames<'_>,
-    halt: &Halt,
-) -> Result<Vec<u8>, AllocError> {
+fn note_to_know(alloc: Global, texts: &SiteTexts<'_>, halt: &Halt) -> Result<Vec<u8>, AllocError> {
     match halt {
-        Halt::ReadFailed => fault_words(alloc, files, names, halt),
+        Halt::ReadFailed => fault_words(alloc, texts, halt),
         _ => Ok(Vec::new(alloc)),
     }
 }
 
 /// The faults beside the one by which a command stopped, in the order of files and places: the site file's, then those of
 /// each relay's file. Each of them is one that the reader has at that place.
-pub fn other_faults<F: Files>(
+pub fn other_faults(
     alloc: Global,
-    files: &F,
-    names: ReadNames<'_>,
+    texts: &SiteTexts<'_>,
     halt: &Halt,
 ) -> Result<Vec<ToldFault>, AllocError> {
     if !has_others(halt) {
         return Ok(Vec::new(alloc));
     }
-    let Some(text) = text_of(files, names.site)? else {
+    let Some(text) = texts.text() else {
         return Ok(Vec::new(alloc));
     };
-    let mut hunt = SiteHunt::new(alloc, names.site, text)?;
-    find_all(alloc, files, &mut hunt)?;
+    let mut hunt = SiteHunt::new(alloc, texts.name, Vec::from_slice(alloc, text)?)?;
+    find_all(alloc, texts, &mut hunt)?;
     let SiteHunt { found, .. } = hunt;
-    let note = note_to_know(alloc, files, names, halt)?;
+    let note = note_to_know(alloc, texts, halt)?;
     without(alloc, found, halt, note.as_slice())
 }
 
 /// The lines behind the first one on standard error: of that fault, where it is to be explained, and of the others.
-pub fn all_fault_words<F: Files>(
+pub fn all_fault_words(
     alloc: Global,
-    files: &F,
-    names: ReadNames<'_>,
+    texts: &SiteTexts<'_>,
     is_explained: bool,
     halt: &Halt,
 ) -> Result<Vec<u8>, AllocError> {
     let mut words = Words::new(alloc);
     if is_explained {
-        let first = fault_words(alloc, files, names, halt)?;
+        let first = fault_words(alloc, texts, halt)?;
         words.put(&[Part::Text(first.as_slice())]);
     }
-    let others = other_faults(alloc, files, names, halt)?;
+    let others = other_faults(alloc, texts, halt)?;
     for fault in others.as_slice() {
-        put_told(alloc, &mut words, fault, is_explained)?;
+        push_told(alloc, &mut words, fault, is_explained)?;
     }
     words.finish()
 }

@@ -4,9 +4,9 @@ use crate::faults_with_notes::ToldFault;
 use crate::mending::mend_script;
 use crate::mending::mended_text::Draft;
 use crate::mending::plan::{Mended, follows, mend_plan, object_with};
-use crate::plan::notes::{example, object_at, put_plan_fault};
+use crate::plan::notes::{example, object_at, push_plan_fault};
 use crate::plan::parameter_rows::{row_of, tables_of};
-use crate::script::notes::put_script_fault;
+use crate::script::notes::push_script_fault;
 use std::alloc::{AllocError, Global};
 use sy_places::relay_file::outline::{Object, ObjectWord, outline_script, value_of};
 use sy_places::relay_file::places::Places;
@@ -56,7 +56,7 @@ fn step_of(goes_on: bool) -> Step {
 }
 
 // Puts a fault behind the others.
-fn put(
+fn push_fault(
     alloc: Global,
     hunt: &mut Hunt<'_>,
     place: usize,
@@ -107,7 +107,7 @@ fn step_script(alloc: Global, hunt: &mut Hunt<'_>, fault: ScriptFault) -> Result
     let is_told = !script_follows(hunt, &fault, place);
     let mut note = Note::new(alloc);
     if is_told {
-        put_script_fault(
+        push_script_fault(
             alloc,
             &mut note,
             hunt.spot.name,
@@ -121,7 +121,7 @@ fn step_script(alloc: Global, hunt: &mut Hunt<'_>, fault: ScriptFault) -> Result
     let Mended { draft, cuts, .. } = &mut hunt.mended;
     let goes_on = mend_script(alloc, draft, &fault, place, cuts)?;
     if is_told {
-        put(alloc, hunt, place, note, RelayFault::Script(fault))?;
+        push_fault(alloc, hunt, place, note, RelayFault::Script(fault))?;
     }
     Ok(step_of(goes_on))
 }
@@ -141,12 +141,12 @@ fn plan_note(
         text: hunt.mended.draft.text(),
         objects,
     };
-    put_plan_fault(alloc, &mut note, places, fault)?;
+    push_plan_fault(alloc, &mut note, places, fault)?;
     Ok(note)
 }
 
 // Puts a parameter that an object misses behind further ones, with a value that it may have.
-fn put_further(further: &mut Vec<u8>, object: Object<'_>, name: &[u8]) -> Result<(), AllocError> {
+fn push_further(further: &mut Vec<u8>, object: Object<'_>, name: &[u8]) -> Result<(), AllocError> {
     let tables = tables_of(object.word, value_of(object.params, b"type"));
     if let Some(row) = row_of(&tables, name) {
         further.extend_from_slice(b" ")?;
@@ -200,12 +200,12 @@ fn others_missing(
 ) -> Result<Vec<(Note, PlanFault)>, AllocError> {
     let mut missing = Vec::new(alloc);
     let mut further = Vec::new(alloc);
-    put_further(&mut further, object, first)?;
+    push_further(&mut further, object, first)?;
     for _ in 0..8 {
         let Some(fault) = next_missing(alloc, hunt, object, further.as_slice())? else {
             return Ok(missing);
         };
-        put_further(&mut further, object, fault.word.as_slice())?;
+        push_further(&mut further, object, fault.word.as_slice())?;
         if !follows(&hunt.mended, objects, &fault) {
             let note = plan_note(alloc, hunt, objects, &fault)?;
             missing.push((note, fault))?;
@@ -252,10 +252,10 @@ fn step_plan(
     let goes_on = mend_plan(alloc, &mut hunt.mended, script, objects, &fault)?;
     let place = fault.span.start;
     if let Some(note) = told {
-        put(alloc, hunt, place, note, RelayFault::Plan(fault))?;
+        push_fault(alloc, hunt, place, note, RelayFault::Plan(fault))?;
     }
     for (note, fault) in missing {
-        put(alloc, hunt, place, note, RelayFault::Plan(fault))?;
+        push_fault(alloc, hunt, place, note, RelayFault::Plan(fault))?;
     }
     Ok(step_of(goes_on))
 }

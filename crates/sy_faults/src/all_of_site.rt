@@ -1,6 +1,6 @@
 //! All faults of the lines of a site file that can be found without guessing.
 
-use crate::fault_note::{faulty_line, file_meant, put_site_fault};
+use crate::fault_note::{faulty_line, file_meant, push_site_fault};
 use crate::faults_with_notes::ToldFault;
 use crate::mending::mended_text::Draft;
 use crate::site::lines::SiteLine;
@@ -46,9 +46,9 @@ impl<'a> SiteHunt<'a> {
 
 /// A relay's file: as it could be read, and its text so far as others may speak of it, which is without what is faulty.
 #[derive(Drop)]
-pub struct JudgedFile {
+pub struct JudgedFile<'a> {
     pub name: String,
-    pub read: Option<RelayText>,
+    pub read: Option<&'a RelayText>,
     pub text: Option<Vec<u8>>,
 }
 
@@ -102,14 +102,14 @@ fn cut_lines(draft: &mut Draft, numbers: &[usize]) -> Result<(), AllocError> {
 
 // The file that is spoken of with a fault of a line, as it was read.
 fn file_with<'a>(
-    judged: &'a [JudgedFile],
+    judged: &[JudgedFile<'a>],
     at: SiteLine<'_>,
     fault: &SiteFault,
 ) -> Option<&'a RelayText> {
     let name = file_meant(at, fault)?;
     for file in judged {
         if file.name.as_str() == name {
-            return file.read.as_ref();
+            return file.read;
         }
     }
     None
@@ -119,20 +119,20 @@ fn file_with<'a>(
 fn note_of(
     alloc: Global,
     hunt: &SiteHunt<'_>,
-    judged: &[JudgedFile],
+    judged: &[JudgedFile<'_>],
     fault: &SiteFault,
 ) -> Result<Note, AllocError> {
     let at = faulty_line(hunt.name, hunt.draft.text(), fault);
     let mut note = Note::new(alloc);
-    put_site_fault(alloc, &mut note, at, file_with(judged, at, fault), fault)?;
+    push_site_fault(alloc, &mut note, at, file_with(judged, at, fault), fault)?;
     note.finish()
 }
 
 // Puts a fault of a line behind the others.
-fn put(
+fn push_fault(
     alloc: Global,
     hunt: &mut SiteHunt<'_>,
-    judged: &[JudgedFile],
+    judged: &[JudgedFile<'_>],
     line: usize,
     fault: SiteFault,
 ) -> Result<(), AllocError> {
@@ -224,7 +224,7 @@ fn judge_lines(alloc: Global, hunt: &mut SiteHunt<'_>) -> Result<bool, AllocErro
     match Site::read(alloc, hunt.draft.text(), &[]) {
         Err(SiteFault::Line(number)) => meet_line(alloc, hunt, number),
         Err(SiteFault::Duplicate(number)) => {
-            put(alloc, hunt, &[], number, SiteFault::Duplicate(number))?;
+            push_fault(alloc, hunt, &[], number, SiteFault::Duplicate(number))?;
             cut_line(&mut hunt.draft, number)?;
             Ok(true)
         }
@@ -313,14 +313,14 @@ fn is_named_before(hunt: &SiteHunt<'_>, line: &[u8], is_relay: bool) -> bool {
 fn meet_reference(
     alloc: Global,
     hunt: &mut SiteHunt<'_>,
-    judged: &[JudgedFile],
+    judged: &[JudgedFile<'_>],
     number: usize,
     fault: SiteFault,
 ) -> Result<(), AllocError> {
     let line = line_of(hunt.draft.text(), number);
     let is_relay = matches!(fault, SiteFault::Line(_));
     if !is_named_before(hunt, line, is_relay) {
-        put(alloc, hunt, judged, number, fault)?;
+        push_fault(alloc, hunt, judged, number, fault)?;
     }
     cut_line(&mut hunt.draft, number)
 }
@@ -329,7 +329,7 @@ fn meet_reference(
 fn judge_references(
     alloc: Global,
     hunt: &mut SiteHunt<'_>,
-    judged: &[JudgedFile],
+    judged: &[JudgedFile<'_>],
     given: &[(&str, &[u8])],
 ) -> Result<bool, AllocError> {
     let Err(fault) = Site::read(alloc, hunt.draft.text(), given) else {
@@ -345,7 +345,7 @@ fn judge_references(
             Ok(true)
         }
         SiteFault::NothingProtected if hunt.draft.is_whole() => {
-            put(alloc, hunt, judged, 1, SiteFault::NothingProtected)?;
+            push_fault(alloc, hunt, judged, 1, SiteFault::NothingProtected)?;
             Ok(false)
         }
         SiteFault::NoMemory => Err(AllocError),
@@ -370,7 +370,7 @@ fn most_reads(given: &[(&str, &[u8])]) -> usize {
 pub fn find_references(
     alloc: Global,
     hunt: &mut SiteHunt<'_>,
-    judged: &[JudgedFile],
+    judged: &[JudgedFile<'_>],
     given: &[(&str, &[u8])],
 ) -> Result<(), AllocError> {
     for _ in 0..most_reads(given) {

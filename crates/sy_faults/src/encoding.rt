@@ -8,7 +8,7 @@ fn is_utf16(text: &[u8]) -> bool {
 }
 
 /// Says what a text is that no line of can be read, where it is that, and answers whether it is.
-pub fn put_encoding(note: &mut Note, file: &[u8], text: &[u8]) -> bool {
+pub fn push_encoding(note: &mut Note, file: &[u8], text: &[u8]) -> bool {
     if text.starts_with(&[0xef, 0xbb, 0xbf]) {
         note.what.say("byte order mark");
         note.why.say("the byte 0xEF: the file begins with a UTF-8 byte order mark");
@@ -36,7 +36,7 @@ pub fn put_encoding(note: &mut Note, file: &[u8], text: &[u8]) -> bool {
 }
 
 /// Says of a line that ends with CR LF that it does, where it does, and answers whether it does.
-pub fn put_return(note: &mut Note, file: &[u8], line: &[u8]) -> bool {
+pub fn push_return(note: &mut Note, file: &[u8], line: &[u8]) -> bool {
     if line.last() != Some(&b'\r') {
         return false;
     }

@@ -1,14 +1,12 @@
 //! Notes of the lines of an events file, and of a certificate.
 
-use crate::encoding::{put_encoding, put_return};
+use crate::encoding::{push_encoding, push_return};
 use crate::site::lines::relay_names;
-use crate::site::reference::{file_named, put_no_port};
+use crate::site::reference::{file_named, push_no_port};
 use std::alloc::{AllocError, Global};
 use sy_cert::{FaultCode, TextFault};
-use sy_places::site_file::source::{behind, line_at, text_of, word_in};
-use sy_places::site_file::texts::{RelayText, read_relay_text};
-use sy_report::command_line::options::ReadNames;
-use sy_report::reading::files::Files;
+use sy_places::site_file::source::{behind, line_at, word_in};
+use sy_places::site_file::texts::{RelayText, SiteTexts};
 use sy_report::texts::near::nearest;
 use sy_report::texts::note::{Note, Point};
 use sy_report::texts::parts::Part;
@@ -64,7 +62,7 @@ fn raw_of(line: &[u8]) -> Option<(usize, &[u8])> {
 }
 
 // Says of a RAW that is no message what is wrong with it, where something is, and answers whether it is.
-fn put_raw(alloc: Global, note: &mut Note, at: OtherLine<'_>) -> Result<bool, AllocError> {
+fn push_raw(alloc: Global, note: &mut Note, at: OtherLine<'_>) -> Result<bool, AllocError> {
     let Some((start, raw)) = raw_of(at.line) else {
         return Ok(false);
     };
@@ -90,7 +88,7 @@ fn put_raw(alloc: Global, note: &mut Note, at: OtherLine<'_>) -> Result<bool, Al
 }
 
 // Says that no relay of the site has the name that a line gives, where that is so, and answers whether it is.
-fn put_relay(
+fn push_relay(
     alloc: Global,
     note: &mut Note,
     at: OtherLine<'_>,
@@ -127,7 +125,7 @@ fn shape_of(word: &[u8]) -> &'static str {
 }
 
 // Says that the relay has no input of the port that a line gives, where that is so, and answers whether it is.
-fn put_port(
+fn push_port(
     alloc: Global,
     note: &mut Note,
     at: OtherLine<'_>,
@@ -136,7 +134,7 @@ fn put_port(
     let (Some((_, relay)), Some((_, port))) = (word_in(at.line, 1), word_in(at.line, 2)) else {
         return Ok(false);
     };
-    if !put_no_port(alloc, note, file, relay, port)? {
+    if !push_no_port(alloc, note, file, relay, port)? {
         return Ok(false);
     }
     stands_at_word(alloc, note, at, 2);
@@ -159,7 +157,7 @@ fn is_hand(word: &[u8]) -> bool {
 }
 
 // Says that an event of an input has no hand there, where that is so, and answers whether it is.
-fn put_hand(alloc: Global, note: &mut Note, at: OtherLine<'_>, word: &[u8]) -> bool {
+fn push_hand(alloc: Global, note: &mut Note, at: OtherLine<'_>, word: &[u8]) -> bool {
     if let Some((_, hand)) = word_in(at.line, 3)
         && is_hand(hand)
     {
@@ -183,7 +181,7 @@ fn doubtful(at: OtherLine<'_>, word: &[u8]) -> usize {
 }
 
 // Says of a line that begins with an event's word what is wrong with it.
-fn put_event(
+fn push_event(
     alloc: Global,
     note: &mut Note,
     at: OtherLine<'_>,
@@ -191,16 +189,16 @@ fn put_event(
     site_text: &[u8],
     file: Option<&RelayText>,
 ) -> Result<(), AllocError> {
-    if put_relay(alloc, note, at, site_text)? {
+    if push_relay(alloc, note, at, site_text)? {
         return Ok(());
     }
-    if is_of_input(word) && put_port(alloc, note, at, file)? {
+    if is_of_input(word) && push_port(alloc, note, at, file)? {
         return Ok(());
     }
-    if is_of_input(word) && put_hand(alloc, note, at, word) {
+    if is_of_input(word) && push_hand(alloc, note, at, word) {
         return Ok(());
     }
-    if word == b"take".as_slice() && put_raw(alloc, note, at)? {
+    if word == b"take".as_slice() && push_raw(alloc, note, at)? {
         return Ok(());
     }
     stands_at_word(alloc, note, at, doubtful(at, word));
@@ -211,7 +209,7 @@ fn put_event(
 }
 
 // Says of a line which of its causes it is.
-fn put_line(
+fn push_line(
     alloc: Global,
     note: &mut Note,
     at: OtherLine<'_>,
@@ -223,7 +221,7 @@ fn put_line(
         None => &[],
     };
     if EVENTS.iter().any(|known| *known == word) {
-        return put_event(alloc, note, at, word, site_text, file);
+        return push_event(alloc, note, at, word, site_text, file);
     }
     stands_at_word(alloc, note, at, 0);
     note.why.say(
@@ -236,17 +234,17 @@ fn put_line(
 }
 
 // Whether a line is refused for its end, or its beginning, alone.
-fn put_bytes(alloc: Global, note: &mut Note, at: OtherLine<'_>, text: &[u8]) -> bool {
+fn push_bytes(alloc: Global, note: &mut Note, at: OtherLine<'_>, text: &[u8]) -> bool {
     let point = Point {
         line: at.number,
         column: 1,
     };
     note.stands_at(alloc, at.file.as_bytes(), Some(point));
     let file = at.file.as_bytes();
-    if at.number == 1 && put_encoding(note, file, text) {
+    if at.number == 1 && push_encoding(note, file, text) {
         return true;
     }
-    put_return(note, file, at.line)
+    push_return(note, file, at.line)
 }
 
 // What is said of a line of a file beside a site's.
@@ -270,36 +268,32 @@ fn file_meant<'t>(at: OtherLine<'_>, site_text: &'t [u8]) -> Option<&'t str> {
 }
 
 /// Says of a line of an events file that is no event which of its causes it is.
-pub fn put_no_event<F: Files>(
+pub fn push_no_event(
     alloc: Global,
-    files: &F,
+    texts: &SiteTexts<'_>,
     note: &mut Note,
-    names: ReadNames<'_>,
     number: u64,
 ) -> Result<(), AllocError> {
-    let Some(file) = names.second else {
+    let (Some(file), Some(text)) = (texts.second_name(), texts.second_text()) else {
         return Ok(());
     };
-    let Some(text) = text_of(files, file)? else {
+    let Some(site_text) = texts.text() else {
         return Ok(());
     };
-    let Some(site_text) = text_of(files, names.site)? else {
-        return Ok(());
-    };
-    let at = other_line(file, text.as_slice(), number);
+    let at = other_line(file, text, number);
     let is_raw = raw_of(at.line).is_some();
-    if !is_raw && put_bytes(alloc, note, at, text.as_slice()) {
+    if !is_raw && push_bytes(alloc, note, at, text) {
         return Ok(());
     }
-    let site_text = site_text.as_slice();
-    match read_relay_text(alloc, files, file_meant(at, site_text)) {
-        Ok(relay) => put_line(alloc, note, at, site_text, relay.as_ref()),
-        Err(why) => Err(why),
-    }
+    let relay = match file_meant(at, site_text) {
+        Some(name) => texts.file(name),
+        None => None,
+    };
+    push_line(alloc, note, at, site_text, relay)
 }
 
 /// Says of an event that isn't made where it stands, in the events file of that name and text.
-pub fn put_illegal(
+pub fn push_illegal(
     alloc: Global,
     note: &mut Note,
     file: &str,
@@ -313,7 +307,7 @@ pub fn put_illegal(
 }
 
 // Says of a line that has no row's shape what the lines of a certificate are.
-fn put_no_shape(note: &mut Note, at: OtherLine<'_>) {
+fn push_no_shape(note: &mut Note, at: OtherLine<'_>) {
     if at.number == 1 {
         note.why.say(
             "the first line is cert 1, or cert 2 for a site file with policy 2, with an LF behind it",
@@ -331,7 +325,7 @@ fn put_no_shape(note: &mut Note, at: OtherLine<'_>) {
     }
 }
 
-fn put_row(note: &mut Note, at: OtherLine<'_>, fault: TextFault) {
+fn push_row(note: &mut Note, at: OtherLine<'_>, fault: TextFault) {
     match fault.code {
         FaultCode::Order => {
             note.why.say(
@@ -341,16 +335,16 @@ fn put_row(note: &mut Note, at: OtherLine<'_>, fault: TextFault) {
         FaultCode::Number => {
             note.why.say("a number of the line is out of its range, or has a leading zero");
         }
-        _ => put_no_shape(note, at),
+        _ => push_no_shape(note, at),
     }
 }
 
 /// Says of a line of a certificate, in the file of that name and text, why it is none.
-pub fn put_no_row(alloc: Global, note: &mut Note, file: &str, text: &[u8], fault: TextFault) {
+pub fn push_no_row(alloc: Global, note: &mut Note, file: &str, text: &[u8], fault: TextFault) {
     let at = other_line(file, text, fault.line as u64);
-    if put_bytes(alloc, note, at, text) {
+    if push_bytes(alloc, note, at, text) {
         return;
     }
     stands_at_word(alloc, note, at, 0);
-    put_row(note, at, fault);
+    push_row(note, at, fault);
 }

@@ -1,29 +1,26 @@
 //! Notes of faults: what `--explain` says where a command over a site stops early.
 
-use crate::events::{put_illegal, put_no_event, put_no_row};
-use crate::plan::notes::put_plan_fault;
-use crate::script::notes::put_script_fault;
-use crate::site::files::put_unread;
+use crate::events::{push_illegal, push_no_event, push_no_row};
+use crate::plan::notes::push_plan_fault;
+use crate::script::notes::push_script_fault;
+use crate::site::files::push_unread;
 use crate::site::lines::{
-    SiteLine, put_duplicate_line, put_faulty_line, site_line, stands_at_word,
+    SiteLine, push_duplicate_line, push_faulty_line, site_line, stands_at_word,
 };
 use crate::site::reference::{
-    file_of_word, put_no_action, put_no_archive, put_no_entry, put_nothing_protected,
+    file_of_word, push_no_action, push_no_archive, push_no_entry, push_nothing_protected,
 };
-use crate::site::spare::put_spare_archive;
+use crate::site::spare::push_spare_archive;
 use std::alloc::{AllocError, Global};
 use sy_places::relay_file::places::{file_name_in, objects_of, places_of};
-use sy_places::site_file::source::text_of;
-use sy_places::site_file::texts::{RelayText, read_relay_text, relay_file};
-use sy_report::command_line::options::ReadNames;
+use sy_places::site_file::texts::{RelayText, SiteTexts, relay_file};
 use sy_report::outcome::halt::Halt;
-use sy_report::reading::files::Files;
 use sy_report::texts::note::Note;
 use sy_rules::PlanFault;
 use sy_site::{RelayFault, SiteFault};
 
 // Of the plan of a relay's file.
-fn put_fault_of_plan(
+fn push_fault_of_plan(
     alloc: Global,
     note: &mut Note,
     text: &RelayText,
@@ -32,13 +29,13 @@ fn put_fault_of_plan(
     let file = relay_file(alloc, Some(text))?;
     let objects = objects_of(alloc, &file)?;
     match places_of(&file, objects.as_slice()) {
-        Some(places) => put_plan_fault(alloc, note, places, fault),
+        Some(places) => push_plan_fault(alloc, note, places, fault),
         None => Ok(()),
     }
 }
 
 // Of a relay's file.
-fn put_relay_fault(
+fn push_relay_fault(
     alloc: Global,
     note: &mut Note,
     file: &RelayText,
@@ -46,10 +43,10 @@ fn put_relay_fault(
 ) -> Result<(), AllocError> {
     match why {
         RelayFault::Script(fault) => {
-            put_script_fault(alloc, note, file.name.as_str(), file.text.as_slice(), fault);
+            push_script_fault(alloc, note, file.name.as_str(), file.text.as_slice(), fault);
             Ok(())
         }
-        RelayFault::Plan(fault) => put_fault_of_plan(alloc, note, file, fault),
+        RelayFault::Plan(fault) => push_fault_of_plan(alloc, note, file, fault),
     }
 }
 
@@ -84,7 +81,7 @@ pub fn file_meant<'a>(at: SiteLine<'a>, fault: &SiteFault) -> Option<&'a str> {
 }
 
 /// Puts what is known of a fault of a line of a site file. The file is the one that is spoken of with it.
-pub fn put_site_fault(
+pub fn push_site_fault(
     alloc: Global,
     note: &mut Note,
     at: SiteLine<'_>,
@@ -92,56 +89,56 @@ pub fn put_site_fault(
     fault: &SiteFault,
 ) -> Result<(), AllocError> {
     match fault {
-        SiteFault::Line(_) => put_faulty_line(alloc, note, at),
+        SiteFault::Line(_) => push_faulty_line(alloc, note, at),
         SiteFault::Duplicate(_) => {
-            put_duplicate_line(alloc, note, at);
+            push_duplicate_line(alloc, note, at);
             Ok(())
         }
         SiteFault::NoFile(_) => {
             stands_at_word(alloc, note, at, 2);
             Ok(())
         }
-        SiteFault::NoSuchEntry(_) => put_no_entry(alloc, note, at, file),
-        SiteFault::NoSuchArchive(_) => put_no_archive(alloc, note, at, file),
-        SiteFault::NoSuchAction(_) => put_no_action(alloc, note, at, file),
+        SiteFault::NoSuchEntry(_) => push_no_entry(alloc, note, at, file),
+        SiteFault::NoSuchArchive(_) => push_no_archive(alloc, note, at, file),
+        SiteFault::NoSuchAction(_) => push_no_action(alloc, note, at, file),
         SiteFault::SpareArchive(_) => {
-            put_spare_archive(alloc, note, at);
+            push_spare_archive(alloc, note, at);
             Ok(())
         }
         SiteFault::NothingProtected => {
-            put_nothing_protected(alloc, note, at.file, at.text);
+            push_nothing_protected(alloc, note, at.file, at.text);
             Ok(())
         }
         SiteFault::Relay(_, _, why) => match file {
-            Some(file) => put_relay_fault(alloc, note, file, why),
+            Some(file) => push_relay_fault(alloc, note, file, why),
             None => Ok(()),
         },
         SiteFault::NoMemory => Ok(()),
     }
 }
 
-fn put_site<F: Files>(
+fn push_site(
     alloc: Global,
-    files: &F,
+    texts: &SiteTexts<'_>,
     note: &mut Note,
-    site_name: &str,
     fault: &SiteFault,
 ) -> Result<(), AllocError> {
-    let Some(text) = text_of(files, site_name)? else {
+    let Some(text) = texts.text() else {
         return Ok(());
     };
-    let at = faulty_line(site_name, text.as_slice(), fault);
-    match read_relay_text(alloc, files, file_meant(at, fault)) {
-        Ok(file) => put_site_fault(alloc, note, at, file.as_ref(), fault),
-        Err(why) => Err(why),
-    }
+    let at = faulty_line(texts.name, text, fault);
+    let file = match file_meant(at, fault) {
+        Some(name) => texts.file(name),
+        None => None,
+    };
+    push_site_fault(alloc, note, at, file, fault)
 }
 
 // Of a certificate or an events file of that name and text.
-fn put_in_other(alloc: Global, note: &mut Note, file: &str, text: &[u8], halt: &Halt) {
+fn push_in_other(alloc: Global, note: &mut Note, file: &str, text: &[u8], halt: &Halt) {
     match halt {
-        Halt::Certificate(fault) => put_no_row(alloc, note, file, text, *fault),
-        Halt::Illegal(number) => put_illegal(
+        Halt::Certificate(fault) => push_no_row(alloc, note, file, text, *fault),
+        Halt::Illegal(number) => push_illegal(
             alloc,
             note,
             file,
@@ -150,57 +147,48 @@ fn put_in_other(alloc: Global, note: &mut Note, file: &str, text: &[u8], halt: &
             "the event is no step of the site, as it stands after the events before",
         ),
         Halt::TotalsFull(number) => {
-            put_illegal(alloc, note, file, text, *number, "a total is full");
+            push_illegal(alloc, note, file, text, *number, "a total is full");
         }
         _ => {}
     }
 }
 
-// Of the file beside a site's, where there is one that can be read.
-fn put_other<F: Files>(
-    alloc: Global,
-    files: &F,
-    note: &mut Note,
-    name: Option<&str>,
-    halt: &Halt,
-) -> Result<(), AllocError> {
-    let Some(name) = name else {
-        return Ok(());
-    };
-    if let Some(text) = text_of(files, name)? {
-        put_in_other(alloc, note, name, text.as_slice(), halt);
+// Of the file beside a site's, where there is one that was read.
+fn push_other(alloc: Global, texts: &SiteTexts<'_>, note: &mut Note, halt: &Halt) {
+    if let (Some(name), Some(text)) = (texts.second_name(), texts.second_text()) {
+        push_in_other(alloc, note, name, text, halt);
     }
-    Ok(())
 }
 
-fn put_halt<F: Files>(
+fn push_halt(
     alloc: Global,
-    files: &F,
+    texts: &SiteTexts<'_>,
     note: &mut Note,
-    names: ReadNames<'_>,
     halt: &Halt,
 ) -> Result<(), AllocError> {
     match halt {
-        Halt::Site(fault) => put_site(alloc, files, note, names.site, fault),
-        Halt::Line(number) => put_no_event(alloc, files, note, names, *number),
+        Halt::Site(fault) => push_site(alloc, texts, note, fault),
+        Halt::Line(number) => push_no_event(alloc, texts, note, *number),
         Halt::Certificate(_) | Halt::Illegal(_) | Halt::TotalsFull(_) => {
-            put_other(alloc, files, note, names.second, halt)
+            push_other(alloc, texts, note, halt);
+            Ok(())
         }
-        Halt::ReadFailed => put_unread(alloc, note, files, names),
+        Halt::ReadFailed => {
+            push_unread(alloc, note, texts);
+            Ok(())
+        }
         Halt::NoMemory | Halt::WriteFailed => Ok(()),
     }
 }
 
-/// The note of why a command over a site stopped, where something is known beyond its first line. Files are read once
-/// more for it.
-pub fn note_of_fault<F: Files>(
+/// The note of why a command over a site stopped, where something is known beyond its first line.
+pub fn note_of_fault(
     alloc: Global,
-    files: &F,
-    names: ReadNames<'_>,
+    texts: &SiteTexts<'_>,
     halt: &Halt,
 ) -> Result<Option<Note>, AllocError> {
     let mut note = Note::new(alloc);
-    put_halt(alloc, files, &mut note, names, halt)?;
+    push_halt(alloc, texts, &mut note, halt)?;
     if note.is_silent() {
         return Ok(None);
     }

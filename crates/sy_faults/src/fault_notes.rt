@@ -2,9 +2,8 @@
 
 use crate::fault_note::note_of_fault;
 use std::alloc::{AllocError, Global};
-use sy_report::command_line::options::ReadNames;
+use sy_places::site_file::texts::SiteTexts;
 use sy_report::outcome::halt::Halt;
-use sy_report::reading::files::Files;
 use sy_report::texts::note::{Note, put_note};
 use sy_report::texts::words::Words;
 
@@ -19,13 +18,12 @@ fn words_of(alloc: Global, note: Option<Note>) -> Result<Vec<u8>, AllocError> {
 
 /// The lines behind the first one on standard error, of a command that stopped: where the fault stands, why it is one, and
 /// what to change.
-pub fn fault_words<F: Files>(
+pub fn fault_words(
     alloc: Global,
-    files: &F,
-    names: ReadNames<'_>,
+    texts: &SiteTexts<'_>,
     halt: &Halt,
 ) -> Result<Vec<u8>, AllocError> {
-    match note_of_fault(alloc, files, names, halt) {
+    match note_of_fault(alloc, texts, halt) {
         Ok(note) => words_of(alloc, note),
         Err(why) => Err(why),
     }

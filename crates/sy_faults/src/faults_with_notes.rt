@@ -40,7 +40,7 @@ fn line_of(alloc: Global, halt: &Halt) -> Result<Gathered, AllocError> {
 }
 
 /// Puts the line of a fault and, where it is to be explained, its note.
-pub fn put_told(
+pub fn push_told(
     alloc: Global,
     words: &mut Words,
     fault: &ToldFault,

@@ -1,10 +1,10 @@
 //! Notes of the faults of a relay's plan: a script that is read, and says nothing that a relay can do.
 
-use crate::plan::parameter_rows::{Values, names_of, put_list, put_parameter, row_of, tables_of};
+use crate::plan::parameter_rows::{Values, names_of, push_list, push_parameter, row_of, tables_of};
 use crate::plan::tests::{
-    put_facility, put_operator, put_severity, put_shape, put_unknown_property,
+    push_facility, push_operator, push_severity, push_shape, push_unknown_property,
 };
-use crate::plan::values::{put_bad_value, put_out_of_range};
+use crate::plan::values::{push_bad_value, push_out_of_range};
 use std::alloc::{AllocError, Global};
 use sy_places::relay_file::outline::{Object, ObjectWord, value_of};
 use sy_places::relay_file::places::Places;
@@ -41,7 +41,7 @@ fn bare(word: ObjectWord) -> &'static str {
 }
 
 /// Puts an object by its word and its name, or its port.
-pub fn put_object(words: &mut Words, object: Object<'_>) {
+pub fn push_object(words: &mut Words, object: Object<'_>) {
     let (word, name): (&str, &[u8]) = match object.word {
         ObjectWord::Input => ("input at port ", b"port"),
         ObjectWord::Ruleset => ("ruleset ", b"name"),
@@ -91,7 +91,7 @@ fn rulesets<'a>(alloc: Global, objects: &[Object<'a>]) -> Result<Vec<&'a [u8]>, 
     Ok(names)
 }
 
-fn put_unknown_ruleset(
+fn push_unknown_ruleset(
     alloc: Global,
     note: &mut Note,
     objects: &[Object<'_>],
@@ -107,13 +107,13 @@ fn put_unknown_ruleset(
         None if names.is_empty() => note.change.say("a ruleset of this name"),
         None => {
             note.change.say("the name of a ruleset of the file: ");
-            put_list(&mut note.change, names.as_slice());
+            push_list(&mut note.change, names.as_slice());
         }
     }
     Ok(())
 }
 
-fn put_unknown_parameter(
+fn push_unknown_parameter(
     alloc: Global,
     note: &mut Note,
     object: Object<'_>,
@@ -144,7 +144,7 @@ fn put_unknown_parameter(
 }
 
 // Says that a parameter, a ruleset or a property isn't known.
-fn put_unknown(
+fn push_unknown(
     alloc: Global,
     note: &mut Note,
     places: Places<'_>,
@@ -152,12 +152,12 @@ fn put_unknown(
 ) -> Result<(), AllocError> {
     let word = fault.word.as_slice();
     if word.first() == Some(&b'$') {
-        put_unknown_property(note, word);
+        push_unknown_property(note, word);
         return Ok(());
     }
     match param_at(places.objects, fault.span.start) {
-        Some((object, _)) => put_unknown_parameter(alloc, note, object, word),
-        None => put_unknown_ruleset(alloc, note, places.objects, word),
+        Some((object, _)) => push_unknown_parameter(alloc, note, object, word),
+        None => push_unknown_ruleset(alloc, note, places.objects, word),
     }
 }
 
@@ -180,14 +180,14 @@ fn example_in(object: Object<'_>, name: &[u8], values: Values) -> &'static [u8] 
     example(values)
 }
 
-fn put_missing(note: &mut Note, object: Option<Object<'_>>, name: &[u8]) {
+fn push_missing(note: &mut Note, object: Option<Object<'_>>, name: &[u8]) {
     note.why.put(&[Part::Text(name), Part::Text(b" isn't given, and must be")]);
     let Some(object) = object else {
         return;
     };
     let tables = tables_of(object.word, value_of(object.params, b"type"));
     if let Some(row) = row_of(&tables, name) {
-        put_parameter(
+        push_parameter(
             &mut note.change,
             row.name,
             example_in(object, row.name, row.values),
@@ -218,13 +218,13 @@ fn earlier<'a>(objects: &[Object<'a>], of: Object<'_>, name: &[u8]) -> Option<Ob
     None
 }
 
-fn put_duplicate(note: &mut Note, places: Places<'_>, fault: &PlanFault) {
+fn push_duplicate(note: &mut Note, places: Places<'_>, fault: &PlanFault) {
     let word = fault.word.as_slice();
     if let Some((object, _)) = param_at(places.objects, fault.span.start) {
         if let Some(first) = first_param(object, word) {
             note.why
                 .put(&[Part::Text(word), Part::Text(b" is given already, at ")]);
-            places.put_point(&mut note.why, first.name.span.start);
+            places.push_point(&mut note.why, first.name.span.start);
         }
         note.change.say("one of the two");
         return;
@@ -234,7 +234,7 @@ fn put_duplicate(note: &mut Note, places: Places<'_>, fault: &PlanFault) {
     if let Some(object) = object_at(places.objects, fault.span.start) {
         if let Some(first) = earlier(places.objects, object, b"name") {
             note.why.say(", at ");
-            places.put_point(&mut note.why, first.start);
+            places.push_point(&mut note.why, first.start);
         }
     }
     note.change.say("another name, or one of the two");
@@ -251,13 +251,13 @@ fn number(digits: &[u8]) -> u64 {
     number
 }
 
-fn put_same_port(note: &mut Note, places: Places<'_>, fault: &PlanFault) {
+fn push_same_port(note: &mut Note, places: Places<'_>, fault: &PlanFault) {
     note.why.say("the input at ");
     for object in places.objects {
         if object.word == ObjectWord::Input && object.start < fault.span.start {
             if let Some(port) = value_of(object.params, b"port") {
                 if number(port) == number(fault.word.as_slice()) {
-                    places.put_point(&mut note.why, object.start);
+                    places.push_point(&mut note.why, object.start);
                     break;
                 }
             }
@@ -267,7 +267,7 @@ fn put_same_port(note: &mut Note, places: Places<'_>, fault: &PlanFault) {
     note.change.say("another port");
 }
 
-fn put_lists(note: &mut Note, fault: &PlanFault) {
+fn push_lists(note: &mut Note, fault: &PlanFault) {
     match fault.code {
         FaultCode::CallDepth => {
             note.why
@@ -286,34 +286,34 @@ fn put_lists(note: &mut Note, fault: &PlanFault) {
 }
 
 // What is said of a fault that has no parameter of its own.
-fn put_other(note: &mut Note, places: Places<'_>, fault: &PlanFault) {
+fn push_other(note: &mut Note, places: Places<'_>, fault: &PlanFault) {
     let word = fault.word.as_slice();
     match fault.code {
-        FaultCode::Facility => put_facility(note, word),
-        FaultCode::Severity => put_severity(note, word),
-        FaultCode::Shape => put_shape(note, word),
-        FaultCode::Operator => put_operator(note, word),
+        FaultCode::Facility => push_facility(note, word),
+        FaultCode::Severity => push_severity(note, word),
+        FaultCode::Shape => push_shape(note, word),
+        FaultCode::Operator => push_operator(note, word),
         FaultCode::Missing => {
-            put_missing(note, object_at(places.objects, fault.span.start), word);
+            push_missing(note, object_at(places.objects, fault.span.start), word);
         }
-        FaultCode::SamePort => put_same_port(note, places, fault),
+        FaultCode::SamePort => push_same_port(note, places, fault),
         FaultCode::NotLoaded => {
             note.why.say("imtcp is loaded nowhere in the file");
             note.change.say("module(load=\"imtcp\")");
         }
-        FaultCode::CallDepth | FaultCode::TooManyDeeds => put_lists(note, fault),
+        FaultCode::CallDepth | FaultCode::TooManyDeeds => push_lists(note, fault),
         _ => {}
     }
 }
 
 // What stands at the place of a fault.
-fn put_what(note: &mut Note, places: Places<'_>, fault: &PlanFault) {
+fn push_what(note: &mut Note, places: Places<'_>, fault: &PlanFault) {
     if let Some((object, _)) = param_at(places.objects, fault.span.start) {
-        put_object(&mut note.what, object);
+        push_object(&mut note.what, object);
         return;
     }
     match object_at(places.objects, fault.span.start) {
-        Some(object) => put_object(&mut note.what, object),
+        Some(object) => push_object(&mut note.what, object),
         None => note.what.put(&[Part::Text(between(
             places.text,
             fault.span.start,
@@ -323,30 +323,30 @@ fn put_what(note: &mut Note, places: Places<'_>, fault: &PlanFault) {
 }
 
 /// Says of a fault of a plan where it stands, why it is one, and what to write.
-pub fn put_plan_fault(
+pub fn push_plan_fault(
     alloc: Global,
     note: &mut Note,
     places: Places<'_>,
     fault: &PlanFault,
 ) -> Result<(), AllocError> {
     places.stands_at(alloc, note, fault.span.start);
-    put_what(note, places, fault);
+    push_what(note, places, fault);
     match fault.code {
-        FaultCode::Unknown => put_unknown(alloc, note, places, fault),
+        FaultCode::Unknown => push_unknown(alloc, note, places, fault),
         FaultCode::Duplicate => {
-            put_duplicate(note, places, fault);
+            push_duplicate(note, places, fault);
             Ok(())
         }
         FaultCode::BadValue => {
-            put_bad_value(note, places, fault);
+            push_bad_value(note, places, fault);
             Ok(())
         }
         FaultCode::Range => {
-            put_out_of_range(note, places, fault);
+            push_out_of_range(note, places, fault);
             Ok(())
         }
         _ => {
-            put_other(note, places, fault);
+            push_other(note, places, fault);
             Ok(())
         }
     }

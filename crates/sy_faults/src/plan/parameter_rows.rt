@@ -236,7 +236,7 @@ pub fn names_of(
 }
 
 /// Puts names one behind the other with commas between them.
-pub fn put_list(words: &mut Words, names: &[&[u8]]) {
+pub fn push_list(words: &mut Words, names: &[&[u8]]) {
     let mut separator: &[u8] = b"";
     for name in names {
         words.put(&[Part::Text(separator), Part::Text(name)]);
@@ -245,9 +245,9 @@ pub fn put_list(words: &mut Words, names: &[&[u8]]) {
 }
 
 /// Puts which values a parameter takes.
-pub fn put_values(words: &mut Words, values: Values) {
+pub fn append_values(words: &mut Words, values: Values) {
     match values {
-        Values::OneOf(names) => put_list(words, names),
+        Values::OneOf(names) => push_list(words, names),
         Values::Number(lowest, highest) => words.put(&[
             Part::Number(lowest),
             Part::Text(b" to "),
@@ -261,7 +261,7 @@ pub fn put_values(words: &mut Words, values: Values) {
 }
 
 /// Puts a parameter with a value, as `queue.size="100"`.
-pub fn put_parameter<'a>(words: &mut Words, name: &'a [u8], value: &'a [u8]) {
+pub fn push_parameter<'a>(words: &mut Words, name: &'a [u8], value: &'a [u8]) {
     words.put(&[
         Part::Text(name),
         Part::Text(b"=\""),

@@ -1,6 +1,6 @@
 //! Notes of selectors and tests that are none.
 
-use crate::plan::parameter_rows::put_list;
+use crate::plan::parameter_rows::push_list;
 use sy_report::texts::near::nearest;
 use sy_report::texts::note::Note;
 use sy_report::texts::parts::Part;
@@ -52,30 +52,30 @@ static PROPERTIES: [&[u8]; 10] = [
 ];
 
 /// Says that a name is no facility, or no severity, and what it may be.
-pub fn put_name(note: &mut Note, name: &[u8], names: &[&'static [u8]], is_no: &str) {
+pub fn push_name(note: &mut Note, name: &[u8], names: &[&'static [u8]], is_no: &str) {
     note.why
         .put(&[Part::Text(name), Part::Text(is_no.as_bytes())]);
     match nearest(name, names) {
         Some(near) => note.change.put(&[Part::Text(near)]),
         None => {
             note.change.say("one of ");
-            put_list(&mut note.change, names);
+            push_list(&mut note.change, names);
         }
     }
 }
 
 /// Says that a piece of a selector is no facility.
-pub fn put_facility(note: &mut Note, name: &[u8]) {
-    put_name(note, name, &FACILITIES, " is no facility");
+pub fn push_facility(note: &mut Note, name: &[u8]) {
+    push_name(note, name, &FACILITIES, " is no facility");
 }
 
 /// Says that a piece of a selector is no severity.
-pub fn put_severity(note: &mut Note, name: &[u8]) {
-    put_name(note, name, &SEVERITIES, " is no severity");
+pub fn push_severity(note: &mut Note, name: &[u8]) {
+    push_name(note, name, &SEVERITIES, " is no severity");
 }
 
 /// Says that a text is no selector.
-pub fn put_shape(note: &mut Note, selector: &[u8]) {
+pub fn push_shape(note: &mut Note, selector: &[u8]) {
     note.why.put(&[
         Part::Text(b"\""),
         Part::Text(selector),
@@ -85,7 +85,7 @@ pub fn put_shape(note: &mut Note, selector: &[u8]) {
 }
 
 /// Says that an operator doesn't go with its property.
-pub fn put_operator(note: &mut Note, word: &[u8]) {
+pub fn push_operator(note: &mut Note, word: &[u8]) {
     note.why.put(&[
         Part::Text(word),
         Part::Text(b" doesn't go with this property, or with what it is compared with here"),
@@ -96,7 +96,7 @@ pub fn put_operator(note: &mut Note, word: &[u8]) {
 }
 
 /// Says that a property isn't one of this profile's.
-pub fn put_unknown_property(note: &mut Note, name: &[u8]) {
+pub fn push_unknown_property(note: &mut Note, name: &[u8]) {
     note.why.put(&[
         Part::Text(name),
         Part::Text(b" is no property of this profile"),
@@ -105,7 +105,7 @@ pub fn put_unknown_property(note: &mut Note, name: &[u8]) {
         Some(near) => note.change.put(&[Part::Text(near)]),
         None => {
             note.change.say("one of ");
-            put_list(&mut note.change, &PROPERTIES);
+            push_list(&mut note.change, &PROPERTIES);
         }
     }
 }

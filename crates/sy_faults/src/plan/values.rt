@@ -1,7 +1,9 @@
 //! Notes of values that a parameter doesn't take.
 
 use crate::plan::notes::param_at;
-use crate::plan::parameter_rows::{Values, put_list, put_parameter, put_values, row_of, tables_of};
+use crate::plan::parameter_rows::{
+    Values, append_values, push_list, push_parameter, row_of, tables_of,
+};
 use sy_places::relay_file::outline::{Object, value_of};
 use sy_places::relay_file::places::Places;
 use sy_report::texts::near::nearest;
@@ -30,7 +32,7 @@ fn values_of(object: Object<'_>, name: &[u8]) -> Option<Values> {
 }
 
 // A value with its quotes.
-fn put_value(words: &mut Words, value: &[u8]) {
+fn push_value(words: &mut Words, value: &[u8]) {
     words.put(&[Part::Text(b"\""), Part::Text(value), Part::Text(b"\"")]);
 }
 
@@ -55,7 +57,7 @@ fn sizes_of(value: &[u8]) -> Option<(u64, u64)> {
 }
 
 // Puts a parameter with a number.
-fn put_number(words: &mut Words, name: &[u8], number: u64) {
+fn push_number(words: &mut Words, name: &[u8], number: u64) {
     words.put(&[
         Part::Text(name),
         Part::Text(b"=\""),
@@ -64,12 +66,12 @@ fn put_number(words: &mut Words, name: &[u8], number: u64) {
     ]);
 }
 
-fn put_no_number(note: &mut Note, name: &[u8], value: &[u8]) {
+fn push_no_number(note: &mut Note, name: &[u8], value: &[u8]) {
     note.why.say(" is no number of 1 to 10 digits");
     match sizes_of(value) {
         Some((plain, read)) => {
             note.why.say("; suffixes aren't read");
-            put_number(&mut note.change, name, plain);
+            push_number(&mut note.change, name, plain);
             if plain != read {
                 note.change.put(&[
                     Part::Text(b" (rsyslog reads "),
@@ -85,7 +87,7 @@ fn put_no_number(note: &mut Note, name: &[u8], value: &[u8]) {
 }
 
 // Of a module that isn't one of this profile's.
-fn put_module(note: &mut Note, value: &[u8]) {
+fn push_module(note: &mut Note, value: &[u8]) {
     note.why.say(": this profile has imtcp, builtin:omfile and builtin:omfwd");
     match value {
         b"imudp" | b"imptcp" | b"imrelp" => note.change.say(
@@ -97,17 +99,17 @@ fn put_module(note: &mut Note, value: &[u8]) {
     }
 }
 
-fn put_no_word(note: &mut Note, name: &[u8], value: &[u8], allowed: &[&[u8]]) {
+fn push_no_word(note: &mut Note, name: &[u8], value: &[u8], allowed: &[&[u8]]) {
     note.why.say(" is none of its values: ");
-    put_list(&mut note.why, allowed);
+    push_list(&mut note.why, allowed);
     match nearest(value, allowed) {
-        Some(near) => put_parameter(&mut note.change, name, near),
+        Some(near) => push_parameter(&mut note.change, name, near),
         None => match allowed {
-            [only] => put_parameter(&mut note.change, name, only),
+            [only] => push_parameter(&mut note.change, name, only),
             _ => {
                 note.change.say("one of them, as ");
                 if let Some(first) = allowed.first() {
-                    put_parameter(&mut note.change, name, first);
+                    push_parameter(&mut note.change, name, first);
                 }
             }
         },
@@ -115,32 +117,32 @@ fn put_no_word(note: &mut Note, name: &[u8], value: &[u8], allowed: &[&[u8]]) {
 }
 
 // Of a parameter whose value is of the wrong shape.
-fn put_shape(note: &mut Note, object: Object<'_>, param: &Param) {
+fn push_shape(note: &mut Note, object: Object<'_>, param: &Param) {
     let name = param.name.text.as_slice();
     let value = param.value.bytes.as_slice();
-    put_value(&mut note.why, value);
+    push_value(&mut note.why, value);
     match values_of(object, name) {
-        Some(Values::OneOf(_)) if name.eq_ignore_ascii_case(b"load") => put_module(note, value),
-        Some(Values::OneOf(allowed)) => put_no_word(note, name, value, allowed),
+        Some(Values::OneOf(_)) if name.eq_ignore_ascii_case(b"load") => push_module(note, value),
+        Some(Values::OneOf(allowed)) => push_no_word(note, name, value, allowed),
         Some(Values::NumberOrMinusOne(_)) => {
             note.why
                 .say(" is neither -1 nor a number of 1 to 10 digits");
-            put_parameter(&mut note.change, name, b"-1");
+            push_parameter(&mut note.change, name, b"-1");
         }
-        Some(_) => put_no_number(note, name, value),
+        Some(_) => push_no_number(note, name, value),
         None => {}
     }
 }
 
 /// Says why a value isn't one of its parameter, and what to write.
-pub fn put_bad_value(note: &mut Note, places: Places<'_>, fault: &PlanFault) {
+pub fn push_bad_value(note: &mut Note, places: Places<'_>, fault: &PlanFault) {
     if let Some((object, param)) = param_at(places.objects, fault.span.start) {
-        put_shape(note, object, param);
+        push_shape(note, object, param);
     }
 }
 
 // What is too many.
-fn put_too_many(note: &mut Note, word: &[u8]) {
+fn push_too_many(note: &mut Note, word: &[u8]) {
     let most: &str = match word {
         b"input" => "a relay has 64 inputs at most",
         b"ruleset" => "a relay has 256 rulesets at most, beside the default one",
@@ -152,17 +154,17 @@ fn put_too_many(note: &mut Note, word: &[u8]) {
 }
 
 /// Says of a number out of its range what the range is.
-pub fn put_out_of_range(note: &mut Note, places: Places<'_>, fault: &PlanFault) {
+pub fn push_out_of_range(note: &mut Note, places: Places<'_>, fault: &PlanFault) {
     let Some((object, param)) = param_at(places.objects, fault.span.start) else {
-        put_too_many(note, fault.word.as_slice());
+        push_too_many(note, fault.word.as_slice());
         return;
     };
     let name = param.name.text.as_slice();
-    put_value(&mut note.why, param.value.bytes.as_slice());
+    push_value(&mut note.why, param.value.bytes.as_slice());
     note.why.say(" is out of its range");
     if let Some(values) = values_of(object, name) {
         note.why.say(": ");
-        put_values(&mut note.why, values);
+        append_values(&mut note.why, values);
         note.change.say("a number in that range");
     }
 }

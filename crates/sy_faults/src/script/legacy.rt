@@ -55,12 +55,12 @@ pub fn selector_line(text: &[u8], place: usize) -> Option<&[u8]> {
 }
 
 // Puts the page that says more.
-fn put_page(note: &mut Note) {
+fn push_page(note: &mut Note) {
     note.change.say(" (docs/MIGRATING.md)");
 }
 
 // Puts the action for what a selector line names behind its selector.
-fn put_action(note: &mut Note, target: &[u8]) {
+fn push_action(note: &mut Note, target: &[u8]) {
     match target {
         [b'-', b'/', ..] => note.change.put(&[
             Part::Text(b"action(type=\"omfile\" file=\""),
@@ -81,7 +81,7 @@ fn put_action(note: &mut Note, target: &[u8]) {
 }
 
 /// Says of a selector line what to write instead.
-pub fn put_selector_line(note: &mut Note, line: &[u8]) {
+pub fn push_selector_line(note: &mut Note, line: &[u8]) {
     note.why.say("selector lines are left out of this profile");
     let selector = word_in(line, 0);
     let target = word_in(line, 1);
@@ -92,13 +92,13 @@ pub fn put_selector_line(note: &mut Note, line: &[u8]) {
             Part::Text(selector),
             Part::Text(b"\") then "),
         ]);
-        put_action(note, target);
+        push_action(note, target);
     }
-    put_page(note);
+    push_page(note);
 }
 
 /// Says of a line of an older format that begins with & or : what to write instead, and answers whether it is one.
-pub fn put_filter_line(note: &mut Note, text: &[u8], place: usize) -> bool {
+pub fn push_filter_line(note: &mut Note, text: &[u8], place: usize) -> bool {
     let (start, line) = line_around(text, place);
     let (why, change): (&str, &str) = match line.first() {
         Some(b'&') => (
@@ -116,12 +116,12 @@ pub fn put_filter_line(note: &mut Note, text: &[u8], place: usize) -> bool {
     }
     note.why.say(why);
     note.change.say(change);
-    put_page(note);
+    push_page(note);
     true
 }
 
 // Puts an object with one parameter.
-fn put_with<'a>(note: &mut Note, before: &'a str, value: &'a [u8]) {
+fn push_with<'a>(note: &mut Note, before: &'a str, value: &'a [u8]) {
     note.change.put(&[
         Part::Text(before.as_bytes()),
         Part::Text(value),
@@ -130,12 +130,12 @@ fn put_with<'a>(note: &mut Note, before: &'a str, value: &'a [u8]) {
 }
 
 // What to write for a line that begins with $.
-fn put_directive(note: &mut Note, word: &[u8], value: &[u8]) {
+fn push_directive(note: &mut Note, word: &[u8], value: &[u8]) {
     if word.eq_ignore_ascii_case(b"$WorkDirectory") {
-        put_with(note, "global(workDirectory=\"", value);
+        push_with(note, "global(workDirectory=\"", value);
     } else if word.eq_ignore_ascii_case(b"$ModLoad") {
         match value {
-            b"imtcp" | b"imtcp.so" => put_with(note, "module(load=\"", b"imtcp"),
+            b"imtcp" | b"imtcp.so" => push_with(note, "module(load=\"", b"imtcp"),
             b"imudp" | b"imudp.so" => note.change.say(
                 "module(load=\"imtcp\"), and senders that speak octet-counted TCP",
             ),
@@ -144,7 +144,7 @@ fn put_directive(note: &mut Note, word: &[u8], value: &[u8]) {
             ),
         }
     } else if word.eq_ignore_ascii_case(b"$InputTCPServerRun") {
-        put_with(note, "input(type=\"imtcp\" port=\"", value);
+        push_with(note, "input(type=\"imtcp\" port=\"", value);
     } else {
         note.change
             .say("leave it out, or write the parameter that stands for it");
@@ -152,7 +152,7 @@ fn put_directive(note: &mut Note, word: &[u8], value: &[u8]) {
 }
 
 /// Says of a statement that is left out what to write instead.
-pub fn put_left_out(note: &mut Note, text: &[u8], place: usize, word: &[u8]) {
+pub fn push_left_out(note: &mut Note, text: &[u8], place: usize, word: &[u8]) {
     let (_, line) = line_around(text, place);
     if word.first() == Some(&b'$') {
         note.why
@@ -161,8 +161,8 @@ pub fn put_left_out(note: &mut Note, text: &[u8], place: usize, word: &[u8]) {
             Some((_, value)) => value,
             None => &[],
         };
-        put_directive(note, word, without_return(value));
-        put_page(note);
+        push_directive(note, word, without_return(value));
+        push_page(note);
         return;
     }
     note.why.put(&[
@@ -175,5 +175,5 @@ pub fn put_left_out(note: &mut Note, text: &[u8], place: usize, word: &[u8]) {
         note.change
             .say("leave it out, or write if, call and rulesets for it");
     }
-    put_page(note);
+    push_page(note);
 }

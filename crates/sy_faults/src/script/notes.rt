@@ -1,7 +1,7 @@
 //! Notes of the faults of a script: what was expected, and where what is open was opened.
 
-use crate::encoding::put_encoding;
-use crate::script::legacy::{put_filter_line, put_left_out, put_selector_line, selector_line};
+use crate::encoding::push_encoding;
+use crate::script::legacy::{push_filter_line, push_left_out, push_selector_line, selector_line};
 use crate::script::opened::{Open, Opening, open_at};
 use std::alloc::Global;
 use sy_places::site_file::source::{behind, between, find, place_of_line, point_at};
@@ -47,7 +47,7 @@ pub fn token_at(text: &[u8], place: usize) -> &[u8] {
 }
 
 // Puts what stands at a place, or that the text ends there.
-fn put_found(words: &mut Words, token: &[u8]) {
+fn push_found(words: &mut Words, token: &[u8]) {
     if token.is_empty() || token == b"\n".as_slice() {
         words.say("the end of the text");
     } else {
@@ -70,7 +70,7 @@ fn closing(opening: Opening) -> &'static [u8] {
 }
 
 // Says that what is open isn't closed.
-fn put_not_closed(note: &mut Note, text: &[u8], open: Open) {
+fn push_not_closed(note: &mut Note, text: &[u8], open: Open) {
     let point = point_at(text, open.place);
     note.why.put(&[
         Part::Text(opening_word(open.opening)),
@@ -83,12 +83,12 @@ fn put_not_closed(note: &mut Note, text: &[u8], open: Open) {
     note.change.put(&[Part::Text(closing(open.opening)), Part::Text(b" before it")]);
 }
 
-fn put_expected(note: &mut Note, expected: &str, token: &[u8]) {
+fn push_expected(note: &mut Note, expected: &str, token: &[u8]) {
     note.why.put(&[
         Part::Text(expected.as_bytes()),
         Part::Text(b" is expected, found "),
     ]);
-    put_found(&mut note.why, token);
+    push_found(&mut note.why, token);
 }
 
 // What is likely meant as a value at a place: the bytes between quotes, or the token, where that is no other name.
@@ -109,7 +109,7 @@ fn value_at(text: &[u8], place: usize) -> &[u8] {
 }
 
 // Puts the parameter before a place with the value that is likely meant there.
-fn put_value(note: &mut Note, text: &[u8], place: usize, open: Open) {
+fn push_value(note: &mut Note, text: &[u8], place: usize, open: Open) {
     note.change.put(&[
         Part::Text(open.name(text)),
         Part::Text(b"=\""),
@@ -120,55 +120,55 @@ fn put_value(note: &mut Note, text: &[u8], place: usize, open: Open) {
 
 // Puts what is missing where = is expected: a quote before, where the string that begins here is what stood between two
 // values.
-fn put_no_equals(note: &mut Note, text: &[u8], place: usize, open: Open) {
+fn push_no_equals(note: &mut Note, text: &[u8], place: usize, open: Open) {
     let value = value_at(text, place);
     if value.iter().any(|byte| *byte == b'=' || *byte == b'\n') {
         note.change.say("\" where a value before it ends");
     } else {
-        put_value(note, text, place, open);
+        push_value(note, text, place, open);
     }
 }
 
 // What is expected among parameters.
-fn put_in_parameters(note: &mut Note, text: &[u8], place: usize, open: Open, token: &[u8]) {
+fn push_in_parameters(note: &mut Note, text: &[u8], place: usize, open: Open, token: &[u8]) {
     match (open.before, token.first()) {
         (Some(b'='), _) => {
-            put_expected(note, "a value in double quotes", token);
-            put_value(note, text, place, open);
+            push_expected(note, "a value in double quotes", token);
+            push_value(note, text, place, open);
         }
-        (_, Some(b'}' | b'{')) | (_, None) => put_not_closed(note, text, open),
+        (_, Some(b'}' | b'{')) | (_, None) => push_not_closed(note, text, open),
         (Some(byte), _) if is_word_byte(byte) => {
-            put_expected(note, "= with a value in double quotes", token);
-            put_no_equals(note, text, place, open);
+            push_expected(note, "= with a value in double quotes", token);
+            push_no_equals(note, text, place, open);
         }
-        (_, Some(byte)) if is_word_byte(*byte) => put_not_closed(note, text, open),
+        (_, Some(byte)) if is_word_byte(*byte) => push_not_closed(note, text, open),
         _ => {
-            put_expected(note, "a parameter NAME=\"VALUE\", or )", token);
+            push_expected(note, "a parameter NAME=\"VALUE\", or )", token);
             note.change.say(") or a parameter there");
         }
     }
 }
 
 // What is expected at a token that may not stand where it stands.
-fn put_unexpected(note: &mut Note, text: &[u8], place: usize) {
+fn push_unexpected(note: &mut Note, text: &[u8], place: usize) {
     let token = token_at(text, place);
     match open_at(text, place) {
         Some(open) => match open.opening {
-            Opening::Parameters => put_in_parameters(note, text, place, open, token),
+            Opening::Parameters => push_in_parameters(note, text, place, open, token),
             Opening::Parenthesis => {
-                put_expected(note, "a test, and, or, or )", token);
+                push_expected(note, "a test, and, or, or )", token);
                 note.change
                     .say("a test, as $msg contains \"x\" or prifilt(\"auth.*\")");
             }
-            Opening::Brace => put_no_statement(note, token),
+            Opening::Brace => push_no_statement(note, token),
         },
-        None => put_no_statement(note, token),
+        None => push_no_statement(note, token),
     }
 }
 
 // What is expected outside parentheses.
-fn put_no_statement(note: &mut Note, token: &[u8]) {
-    put_expected(
+fn push_no_statement(note: &mut Note, token: &[u8]) {
+    push_expected(
         note,
         "an object, a statement or what goes on with the one before",
         token,
@@ -180,12 +180,12 @@ fn put_no_statement(note: &mut Note, token: &[u8]) {
         b"}" => note.change.say(
             "without it: no brace is open here, or a statement is missing before it",
         ),
-        _ => put_statement(note, token),
+        _ => push_statement(note, token),
     }
 }
 
 // Puts the word that a statement is likely meant to begin with.
-fn put_statement(note: &mut Note, token: &[u8]) {
+fn push_statement(note: &mut Note, token: &[u8]) {
     match nearest(token, &STATEMENTS) {
         // (the word itself is right)
         Some(near) if near == token => note.change.say(
@@ -199,7 +199,7 @@ fn put_statement(note: &mut Note, token: &[u8]) {
 }
 
 // A byte in hexadecimal digits.
-fn put_byte(words: &mut Words, byte: u8) {
+fn push_byte(words: &mut Words, byte: u8) {
     let digits: &[u8] = b"0123456789ABCDEF";
     let high = digits.get((byte >> 4) as usize);
     let low = digits.get((byte & 15) as usize);
@@ -209,7 +209,7 @@ fn put_byte(words: &mut Words, byte: u8) {
 }
 
 // Of a byte that begins no token.
-fn put_byte_fault(note: &mut Note, text: &[u8], place: usize) {
+fn push_byte_fault(note: &mut Note, text: &[u8], place: usize) {
     let Some(byte) = behind(text, place).first() else {
         return;
     };
@@ -219,16 +219,16 @@ fn put_byte_fault(note: &mut Note, text: &[u8], place: usize) {
         note.change.say("\\\\ for a \\ that stands for itself");
         return;
     }
-    if put_filter_line(note, text, place) {
+    if push_filter_line(note, text, place) {
         return;
     }
     note.why.say("the byte ");
-    put_byte(&mut note.why, *byte);
+    push_byte(&mut note.why, *byte);
     note.why.say(" begins nothing that may stand here");
     note.change.say("without it");
 }
 
-fn put_unclosed(note: &mut Note, text: &[u8], place: usize) {
+fn push_unclosed(note: &mut Note, text: &[u8], place: usize) {
     let (what, change): (&str, &str) = match behind(text, place).first() {
         Some(b'(') => ("the parenthesis", ")"),
         Some(b'{') => ("the brace", "}"),
@@ -244,7 +244,7 @@ fn put_unclosed(note: &mut Note, text: &[u8], place: usize) {
 }
 
 // Of a text that is too long.
-fn put_too_large(note: &mut Note, file: &[u8], text: &[u8]) {
+fn push_too_large(note: &mut Note, file: &[u8], text: &[u8]) {
     note.why.put(&[
         Part::Text(file),
         Part::Text(b" has "),
@@ -257,24 +257,24 @@ fn put_too_large(note: &mut Note, file: &[u8], text: &[u8]) {
 }
 
 // What is said by the fault's code.
-fn put_by_code(note: &mut Note, file: &[u8], text: &[u8], place: usize, fault: &ScriptFault) {
+fn push_by_code(note: &mut Note, file: &[u8], text: &[u8], place: usize, fault: &ScriptFault) {
     match fault.code {
-        FaultCode::TooLarge => put_too_large(note, file, text),
-        FaultCode::LeftOut => put_left_out(note, text, place, fault.word.as_slice()),
-        FaultCode::Unclosed => put_unclosed(note, text, place),
+        FaultCode::TooLarge => push_too_large(note, file, text),
+        FaultCode::LeftOut => push_left_out(note, text, place, fault.word.as_slice()),
+        FaultCode::Unclosed => push_unclosed(note, text, place),
         FaultCode::TooDeep => {
             note.why.say("blocks, parentheses and not lie in one another more than 32 deep here");
             note.change
                 .say("rulesets that are called, or fewer parentheses");
         }
-        FaultCode::Byte => put_byte_fault(note, text, place),
-        FaultCode::Unexpected => put_unexpected(note, text, place),
+        FaultCode::Byte => push_byte_fault(note, text, place),
+        FaultCode::Unexpected => push_unexpected(note, text, place),
         FaultCode::NoMemory => {}
     }
 }
 
 /// Says of a fault of a script where it stands, why it is one, and what to write.
-pub fn put_script_fault(
+pub fn push_script_fault(
     alloc: Global,
     note: &mut Note,
     file: &str,
@@ -288,18 +288,18 @@ pub fn put_script_fault(
     let start = place_of_line(text, point.line);
     let place = start.saturating_add(fault.column.saturating_sub(1));
     note.stands_at(alloc, file.as_bytes(), Some(point));
-    if put_encoding(note, file.as_bytes(), text) {
+    if push_encoding(note, file.as_bytes(), text) {
         return;
     }
     match selector_line(text, place) {
         Some(line) if matches!(fault.code, FaultCode::Byte | FaultCode::Unexpected) => {
-            put_selector_line(note, line);
+            push_selector_line(note, line);
         }
         _ => {
             if !matches!(fault.code, FaultCode::TooLarge) {
-                put_found(&mut note.what, token_at(text, place));
+                push_found(&mut note.what, token_at(text, place));
             }
-            put_by_code(note, file.as_bytes(), text, place, fault);
+            push_by_code(note, file.as_bytes(), text, place, fault);
         }
     }
 }

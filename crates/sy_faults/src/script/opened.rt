@@ -91,7 +91,7 @@ fn is_object(word: &[u8]) -> bool {
         || word.eq_ignore_ascii_case(b"action")
 }
 
-fn put_opening(scan: &mut Scan, opening: Opening, place: usize) {
+fn push_opening(scan: &mut Scan, opening: Opening, place: usize) {
     if let Some(found) = scan.open.get_mut(scan.depth) {
         *found = Some((opening, place));
     }
@@ -110,13 +110,13 @@ fn close(scan: &mut Scan, byte: u8) {
 fn take(scan: &mut Scan, text: &[u8], place: usize, byte: u8) {
     let (start, end) = scan.word;
     match byte {
-        b'(' if is_object(between(text, start, end)) => put_opening(
+        b'(' if is_object(between(text, start, end)) => push_opening(
             scan,
             Opening::Parameters,
             place,
         ),
-        b'(' => put_opening(scan, Opening::Parenthesis, place),
-        b'{' => put_opening(scan, Opening::Brace, place),
+        b'(' => push_opening(scan, Opening::Parenthesis, place),
+        b'{' => push_opening(scan, Opening::Brace, place),
         b')' | b'}' => close(scan, byte),
         b' ' | b'\t' | b'\r' | b'\n' => {}
         _ => {

@@ -1,9 +1,9 @@
 //! Notes of the faults of a site file's lines.
 
-use crate::encoding::put_encoding;
-use crate::plan::parameter_rows::put_list;
-use crate::plan::tests::{put_facility, put_severity, put_shape};
-use crate::site::spare::{put_policy_line, put_spare_line};
+use crate::encoding::push_encoding;
+use crate::plan::parameter_rows::push_list;
+use crate::plan::tests::{push_facility, push_severity, push_shape};
+use crate::site::spare::{push_policy_line, push_spare_line};
 use std::alloc::{AllocError, Global};
 use sy_places::site_file::source::{find, line_at, without_return, word_in};
 use sy_report::texts::near::nearest;
@@ -92,7 +92,7 @@ pub fn words_in(line: &[u8]) -> usize {
 }
 
 // Says that a line begins with no word that a line begins with.
-fn put_first_word(alloc: Global, note: &mut Note, at: SiteLine<'_>, word: &[u8]) {
+fn push_first_word(alloc: Global, note: &mut Note, at: SiteLine<'_>, word: &[u8]) {
     stands_at_word(alloc, note, at, 0);
     note.why.say("a line begins with relay, entry, protect, policy or spare");
     match nearest(word, &FIRST_WORDS) {
@@ -104,21 +104,21 @@ fn put_first_word(alloc: Global, note: &mut Note, at: SiteLine<'_>, word: &[u8])
 }
 
 /// Says which words a line has, at the first word that is too many, or where one is lacking.
-pub fn put_words(alloc: Global, note: &mut Note, at: SiteLine<'_>, number: usize, shape: &str) {
+pub fn push_words(alloc: Global, note: &mut Note, at: SiteLine<'_>, number: usize, shape: &str) {
     stands_at_word(alloc, note, at, number);
     note.why.say("the words of such a line are ");
     note.why.say(shape);
     note.change.say(shape);
 }
 
-fn put_relay_line(alloc: Global, note: &mut Note, at: SiteLine<'_>) {
+fn push_relay_line(alloc: Global, note: &mut Note, at: SiteLine<'_>) {
     let name: &[u8] = match word_in(at.line, 1) {
         Some((_, name)) => name,
         None => &[],
     };
     let count = words_in(at.line);
     if count < 3 || count > 4 {
-        put_words(alloc, note, at, count.min(4), "relay NAME FILE [ADDRESS]");
+        push_words(alloc, note, at, count.min(4), "relay NAME FILE [ADDRESS]");
     } else if !is_name(name) {
         stands_at_word(alloc, note, at, 1);
         note.why
@@ -138,7 +138,7 @@ fn put_relay_line(alloc: Global, note: &mut Note, at: SiteLine<'_>) {
 }
 
 /// Says that no relay line has the name that a line gives, where that is so, and answers whether it is.
-pub fn put_unknown_relay(
+pub fn push_unknown_relay(
     alloc: Global,
     note: &mut Note,
     at: SiteLine<'_>,
@@ -157,20 +157,20 @@ pub fn put_unknown_relay(
         Some(near) => note.change.put(&[Part::Text(near)]),
         None => {
             note.change.say("one of ");
-            put_list(&mut note.change, names.as_slice());
+            push_list(&mut note.change, names.as_slice());
         }
     }
     Ok(true)
 }
 
-fn put_entry_line(alloc: Global, note: &mut Note, at: SiteLine<'_>) -> Result<(), AllocError> {
+fn push_entry_line(alloc: Global, note: &mut Note, at: SiteLine<'_>) -> Result<(), AllocError> {
     let port: &[u8] = match word_in(at.line, 2) {
         Some((_, port)) => port,
         None => &[],
     };
     let count = words_in(at.line);
     if count != 3 {
-        put_words(alloc, note, at, count.min(3), "entry RELAY PORT");
+        push_words(alloc, note, at, count.min(3), "entry RELAY PORT");
         return Ok(());
     }
     if !is_port(port) {
@@ -179,7 +179,7 @@ fn put_entry_line(alloc: Global, note: &mut Note, at: SiteLine<'_>) -> Result<()
         note.change.say("the number of a port");
         return Ok(());
     }
-    if !put_unknown_relay(alloc, note, at, 1)? {
+    if !push_unknown_relay(alloc, note, at, 1)? {
         stands_at_word(alloc, note, at, 0);
         note.why.say("a site has 256 entry lines at most");
         note.change.say("fewer entry lines");
@@ -188,27 +188,27 @@ fn put_entry_line(alloc: Global, note: &mut Note, at: SiteLine<'_>) -> Result<()
 }
 
 // Says what is wrong with a selector, where something is, and answers whether it is.
-fn put_selector(alloc: Global, note: &mut Note, at: SiteLine<'_>, word: &[u8]) -> bool {
+fn push_selector(alloc: Global, note: &mut Note, at: SiteLine<'_>, word: &[u8]) -> bool {
     let Err(fault) = Selector::read(alloc, word) else {
         return false;
     };
     stands_at_word(alloc, note, at, 1);
     match fault.code {
-        FaultCode::Facility => put_facility(note, fault.word.as_slice()),
-        FaultCode::Severity => put_severity(note, fault.word.as_slice()),
-        _ => put_shape(note, word),
+        FaultCode::Facility => push_facility(note, fault.word.as_slice()),
+        FaultCode::Severity => push_severity(note, fault.word.as_slice()),
+        _ => push_shape(note, word),
     }
     true
 }
 
-fn put_protect_line(alloc: Global, note: &mut Note, at: SiteLine<'_>) -> Result<(), AllocError> {
+fn push_protect_line(alloc: Global, note: &mut Note, at: SiteLine<'_>) -> Result<(), AllocError> {
     let selector: &[u8] = match word_in(at.line, 1) {
         Some((_, selector)) => selector,
         None => &[],
     };
     let count = words_in(at.line);
     if count != 4 {
-        put_words(
+        push_words(
             alloc,
             note,
             at,
@@ -217,10 +217,10 @@ fn put_protect_line(alloc: Global, note: &mut Note, at: SiteLine<'_>) -> Result<
         );
         return Ok(());
     }
-    if put_selector(alloc, note, at, selector) {
+    if push_selector(alloc, note, at, selector) {
         return Ok(());
     }
-    if !put_unknown_relay(alloc, note, at, 2)? {
+    if !push_unknown_relay(alloc, note, at, 2)? {
         stands_at_word(alloc, note, at, 0);
         note.why.say("a site has 256 protect lines at most");
         note.change.say("fewer protect lines");
@@ -229,7 +229,11 @@ fn put_protect_line(alloc: Global, note: &mut Note, at: SiteLine<'_>) -> Result<
 }
 
 /// Says of a line that is none of a site file which of its causes it is.
-pub fn put_faulty_line(alloc: Global, note: &mut Note, at: SiteLine<'_>) -> Result<(), AllocError> {
+pub fn push_faulty_line(
+    alloc: Global,
+    note: &mut Note,
+    at: SiteLine<'_>,
+) -> Result<(), AllocError> {
     if at.text.len() > MOST {
         note.stands_at(alloc, at.file.as_bytes(), None);
         note.why.put(&[
@@ -246,24 +250,24 @@ pub fn put_faulty_line(alloc: Global, note: &mut Note, at: SiteLine<'_>) -> Resu
             at.file.as_bytes(),
             Some(Point { line: 1, column: 1 }),
         );
-        if put_encoding(note, at.file.as_bytes(), at.text) {
+        if push_encoding(note, at.file.as_bytes(), at.text) {
             return Ok(());
         }
     }
     match word_in(at.line, 0) {
         Some((_, b"relay")) => {
-            put_relay_line(alloc, note, at);
+            push_relay_line(alloc, note, at);
             Ok(())
         }
-        Some((_, b"entry")) => put_entry_line(alloc, note, at),
-        Some((_, b"protect")) => put_protect_line(alloc, note, at),
+        Some((_, b"entry")) => push_entry_line(alloc, note, at),
+        Some((_, b"protect")) => push_protect_line(alloc, note, at),
         Some((_, b"policy")) => {
-            put_policy_line(alloc, note, at);
+            push_policy_line(alloc, note, at);
             Ok(())
         }
-        Some((_, b"spare")) => put_spare_line(alloc, note, at),
+        Some((_, b"spare")) => push_spare_line(alloc, note, at),
         Some((_, word)) => {
-            put_first_word(alloc, note, at, word);
+            push_first_word(alloc, note, at, word);
             Ok(())
         }
         None => Ok(()),
@@ -304,7 +308,7 @@ fn same_words(line: &[u8], other: &[u8]) -> bool {
 }
 
 /// Says of a line that repeats another which one that is.
-pub fn put_duplicate_line(alloc: Global, note: &mut Note, at: SiteLine<'_>) {
+pub fn push_duplicate_line(alloc: Global, note: &mut Note, at: SiteLine<'_>) {
     let is_relay = find(at.line, b"relay").is_some()
         && matches!(word_in(at.line, 0), Some((_, b"relay")));
     stands_at_word(alloc, note, at, if is_relay { 1 } else { 0 });

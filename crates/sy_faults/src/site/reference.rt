@@ -55,7 +55,7 @@ fn has_port(objects: &[Object<'_>], wanted: &[u8]) -> bool {
 }
 
 // Puts the ports of inputs.
-fn put_ports(words: &mut Words, objects: &[Object<'_>]) {
+fn append_ports(words: &mut Words, objects: &[Object<'_>]) {
     for object in objects {
         if object.word == ObjectWord::Input {
             if let Some(port) = value_of(object.params, b"port") {
@@ -67,7 +67,7 @@ fn put_ports(words: &mut Words, objects: &[Object<'_>]) {
 
 /// Says that a relay with this file has no input of this port, and which it has, where that is so, and answers whether it
 /// is.
-pub fn put_no_port(
+pub fn push_no_port(
     alloc: Global,
     note: &mut Note,
     file: Option<&RelayText>,
@@ -85,12 +85,12 @@ pub fn put_no_port(
         Part::Text(relay),
         Part::Text(b":"),
     ]);
-    put_ports(&mut note.change, objects.as_slice());
+    append_ports(&mut note.change, objects.as_slice());
     Ok(true)
 }
 
 /// Says of an entry line that its relay has no input of that port, and which ports there are.
-pub fn put_no_entry(
+pub fn push_no_entry(
     alloc: Global,
     note: &mut Note,
     at: SiteLine<'_>,
@@ -100,7 +100,7 @@ pub fn put_no_entry(
     let (Some((_, relay)), Some((_, port))) = (word_in(at.line, 1), word_in(at.line, 2)) else {
         return Ok(());
     };
-    match put_no_port(alloc, note, file, relay, port) {
+    match push_no_port(alloc, note, file, relay, port) {
         Ok(_) => Ok(()),
         Err(why) => Err(why),
     }
@@ -124,13 +124,13 @@ fn is_sought(object: Object<'_>, sought: Sought) -> bool {
 }
 
 // Puts the name of an action with its place; `action-N` by its number where it has none.
-fn put_found(words: &mut Words, places: Places<'_>, object: Object<'_>, number: u64) {
+fn push_found(words: &mut Words, places: Places<'_>, object: Object<'_>, number: u64) {
     match value_of(object.params, b"name") {
         Some(name) => words.put(&[Part::Text(b" "), Part::Text(name)]),
         None => words.put(&[Part::Text(b" action-"), Part::Number(number)]),
     }
     words.say(" (");
-    places.put_point(words, object.start);
+    places.push_point(words, object.start);
     words.say(")");
 }
 
@@ -152,7 +152,7 @@ fn names_of<'a>(
 }
 
 // Puts what is sought in a file: the one that is likely meant, or all.
-fn put_all_found(
+fn append_all_found(
     alloc: Global,
     note: &mut Note,
     places: Places<'_>,
@@ -166,7 +166,7 @@ fn put_all_found(
         if object.word == ObjectWord::Action {
             let is_meant = near.is_none() || value_of(object.params, b"name") == near;
             if is_sought(*object, sought) && is_meant {
-                put_found(&mut note.change, places, *object, number);
+                push_found(&mut note.change, places, *object, number);
             }
             number = number.saturating_add(1);
         }
@@ -175,7 +175,7 @@ fn put_all_found(
 }
 
 // Puts what a relay with this file has of what is sought.
-fn put_choice(
+fn push_choice(
     alloc: Global,
     note: &mut Note,
     file: Option<&RelayText>,
@@ -194,13 +194,13 @@ fn put_choice(
         note.change.say(" it has none");
     }
     match places_of(&file, objects.as_slice()) {
-        Some(places) => put_all_found(alloc, note, places, wanted, sought),
+        Some(places) => append_all_found(alloc, note, places, wanted, sought),
         None => Ok(()),
     }
 }
 
 /// Says of a protect line that its relay has no archive of that name, and which there are.
-pub fn put_no_archive(
+pub fn push_no_archive(
     alloc: Global,
     note: &mut Note,
     at: SiteLine<'_>,
@@ -215,11 +215,11 @@ pub fn put_no_archive(
         Part::Text(b" has no omfile action of this name"),
     ]);
     note.change.say("an omfile action");
-    put_choice(alloc, note, file, relay, wanted, Sought::Archive)
+    push_choice(alloc, note, file, relay, wanted, Sought::Archive)
 }
 
 /// Says of a spare line that its relay has no action of that name, and which there are.
-pub fn put_no_action(
+pub fn push_no_action(
     alloc: Global,
     note: &mut Note,
     at: SiteLine<'_>,
@@ -234,7 +234,7 @@ pub fn put_no_action(
         Part::Text(b" has no action of this name"),
     ]);
     note.change.say("an action");
-    put_choice(alloc, note, file, relay, wanted, Sought::Action)
+    push_choice(alloc, note, file, relay, wanted, Sought::Action)
 }
 
 // Whether a line begins with a word.
@@ -246,7 +246,7 @@ fn has_line(text: &[u8], word: &[u8]) -> bool {
 }
 
 /// Says of a site that protects nothing what it lacks.
-pub fn put_nothing_protected(alloc: Global, note: &mut Note, file: &str, text: &[u8]) {
+pub fn push_nothing_protected(alloc: Global, note: &mut Note, file: &str, text: &[u8]) {
     note.stands_at(alloc, file.as_bytes(), None);
     note.what.say("the site");
     if !has_line(text, b"entry") {
