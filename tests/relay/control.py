@@ -1,11 +1,9 @@
-"""What standard input asks, what is left and kept for the next run, and relays that empty before they stop."""
+"""What standard input asks, and relays that empty before they stop."""
 
-import os
 import re
-import subprocess
 import time
 
-from peers import Pump, Receiver, Sender, frames, message, messages, send_all
+from peers import Pump, Receiver, Sender, messages, send_all
 from room import Failure, imtcp, is_listening, main_queue, module, omfile, omfwd, same, test, totals, until
 from statuses import hub_files, refuses
 from stops import balanced
@@ -34,14 +32,6 @@ def asked(relay, times):
         until("totals come", lambda: len(printed(relay)) == before + 2, came=relay.errors)
         found.append("".join(printed(relay)[before:]))
     return found
-
-
-def left_by(room, name, wanted):
-    """The frames of a file, which have to be those of these messages, as `syc pass` reads them too."""
-    same(name, room.read(name), frames(wanted))
-    with open(room.path(name), "rb") as it:
-        passed = subprocess.run([room.program, "pass"], stdin=it, stdout=subprocess.PIPE, stderr=subprocess.PIPE, check=False)
-    same(f"syc pass of {name}", (passed.returncode, passed.stdout, passed.stderr), (0, b"".join(it + b"\n" for it in wanted), b""))
 
 
 def is_free(port):
@@ -116,92 +106,6 @@ def status_and_lines_that_mean_nothing(room):
     same("the totals", "".join(printed(relay)), totals(0, 0, 0, ("audit", 0, 0, 0, 0)))
 
 
-# ---- what is left
-
-@test
-def left_while_the_receiver_is_down(room):
-    relay, port, inner = edge(room, ["--left", "left"], dequeueBatchSize=8)
-    sent = [message(it, "x" * (it * 37 % 400)) for it in range(300)]
-    send_all(port, sent)
-    # (it has its batch then)
-    relay.says("syc: action up fails: connection refused")
-    relay.stops_with(totals(300, 0, 300, ("up", 8, 0, 0, 8)))
-    # (hands come first, then queues, then what workers have)
-    left_by(room, "left", sent[8:] + sent[:8])
-    same("files", sorted(it for it in os.listdir(room.folder) if it.startswith("left")), ["left"])
-    again = room.start("edge", port, words=["site", "edge", "--unchecked"])
-    receiver = Receiver(inner)
-    Sender(port).send_bytes(room.read("left")).end()
-    receiver.has(sent[8:] + sent[:8])
-    again.stops_with(totals(300, 0, 0, ("up", 300, 300, 0, 0)))
-
-
-@test
-def left_takes_the_place_of_an_earlier_file(room):
-    room.write("left", "an earlier one, which is longer than what comes")
-    relay, port, inner = edge(room, ["--left", "left"])
-    send_all(port, messages(1))
-    relay.says("syc: action up fails: connection refused")
-    relay.stops_with(totals(1, 0, 1, ("up", 1, 0, 0, 1)))
-    left_by(room, "left", messages(1))
-
-
-@test
-def nothing_left_makes_no_file(room):
-    port = room.port()
-    hub_files(room, port)
-    relay = room.start("hub", port, words=["site", "--left", "left", "hub"])
-    send_all(port, messages(3))
-    room.holds("audit.log", messages(3))
-    relay.rests(port)
-    relay.stops_with(totals(3, 0, 0, ("audit", 3, 3, 0, 0)))
-    same("files", [it for it in os.listdir(room.folder) if it.startswith("left")], [])
-
-
-@test
-def nothing_left_changes_no_file(room):
-    room.write("left", "an earlier one")
-    port = room.port()
-    hub_files(room, port)
-    relay = room.start("hub", port, words=["site", "hub", "--left", "left"])
-    relay.stops_with(totals(0, 0, 0, ("audit", 0, 0, 0, 0)))
-    same("the file", room.read("left"), b"an earlier one")
-
-
-@test
-def left_in_a_folder_that_is_not_there(room):
-    relay, port, inner = edge(room, ["--left", "none/left"])
-    send_all(port, messages(2))
-    relay.process.stdin.close()
-    same("status", relay.ends(), 4)
-    balanced("totals", relay.output())
-    same("faults", relay.faults(), ["syc: write failed"])
-
-
-@test
-def left_in_the_place_of_a_folder(room):
-    os.mkdir(room.path("left"))
-    relay, port, inner = edge(room, ["--left", "left"])
-    send_all(port, messages(2))
-    relay.process.stdin.close()
-    same("status", relay.ends(), 4)
-    same("faults", relay.faults(), ["syc: write failed"])
-    same("files", sorted(it for it in os.listdir(room.folder) if it.startswith("left")), ["left"])
-
-
-@test
-def message_that_is_left_at_two_places(room):
-    port, inner = room.port(), room.port()
-    text = (module() + f'ruleset(name="later" queue.type="LinkedList") {{\n{omfwd("up", "hub", inner, -1, 30)}}}\n'
-            + imtcp(port) + "call later\n" + omfwd("too", "hub", inner, -1, 30))
-    room.site({"edge": text, "hub": module() + imtcp(inner) + omfile("audit", "audit.log")})
-    relay = room.start("edge", port, words=["--unchecked", "site", "edge", "--left", "left"])
-    send_all(port, messages(1))
-    relay.rests(port)
-    relay.stop()
-    left_by(room, "left", messages(1) * 2)
-
-
 # ---- relays that empty
 
 @test
@@ -257,34 +161,36 @@ def drain_with_a_receiver_that_is_down(room):
 
 
 @test
-def drain_empties_hands(room):
+def drain_takes_what_senders_had_sent(room):
+    # (its sender ends its side, so all that it sent is taken, also what was behind a message that was held)
     relay, port, inner = edge(room, ["--drain", "30"], size=100, fullDelayMark=4, dequeueBatchSize=1)
-    sender = Sender(port).send(*messages(20))
+    sender = Sender(port).send(*messages(20)).half_close()
     until("an input is held", lambda: asked(relay, 1) == [totals(6, 0, 6, ("up", 1, 0, 0, 1))], came=relay.errors)
     relay.process.stdin.close()
     until("the port is free", lambda: is_free(port))
     receiver = Receiver(inner)
-    same("status", relay.ends(30), 0)
-    taken, lost, held, done, given_up = balanced("totals", relay.output())
-    same("lost, held and given up", (lost, held, given_up), (0, 0, 0))
-    if taken < 6:
-        raise Failure(f"{taken} were taken, and six had been before")
-    receiver.has(messages(taken))
+    same("status", relay.ends(40), 0)
+    same("totals", relay.output(), totals(20, 0, 0, ("up", 20, 20, 0, 0)))
+    receiver.has(messages(20))
     sender.is_ended()
 
 
 @test
 def drain_with_a_sender_that_goes_on(room):
+    # (it never ends its side, so the relay goes on reading until the time is over)
     port = room.port()
     hub_files(room, port)
-    relay = room.start("hub", port, words=["site", "hub", "--drain", "20"])
+    relay = room.start("hub", port, words=["site", "hub", "--drain", "3"])
     pump = Pump(port, 0)
     room.has("audit.log", 100)
+    begun = time.monotonic()
     relay.process.stdin.close()
-    same("status", relay.ends(), 0)
+    same("status", relay.ends(20), 0)
+    if time.monotonic() - begun < 3:
+        raise Failure("it ended before its time was over")
     taken, lost, held, done, given_up = balanced("totals", relay.output())
-    same("lost, held and given up", (lost, held, given_up), (0, 0, 0))
-    same("the archive", room.lines("audit.log"), messages(taken))
+    same("lost and given up", (lost, given_up), (0, 0))
+    same("the archive", room.lines("audit.log"), messages(taken - held))
     pump.end()
 
 
@@ -295,7 +201,8 @@ def options_at_any_place(room):
     port = room.port()
     hub_files(room, port)
     for words in (["--drain", "0", "--left", "left", "site", "hub"], ["site", "--left", "left", "hub", "--drain", "005"],
-                  ["--unchecked", "site", "--drain", "86400", "hub", "--left", "left"], ["site", "hub", "--unchecked", "--drain", "1"]):
+                  ["--unchecked", "site", "--drain", "86400", "hub", "--left", "left"], ["site", "hub", "--unchecked", "--drain", "1"],
+                  ["--explain", "--metrics-every", "86400", "site", "--metrics", "metrics", "hub", "--left", "left", "--drain", "0"]):
         room.start("hub", port, words=words).stops_with(totals(0, 0, 0, ("audit", 0, 0, 0, 0)))
 
 
@@ -307,7 +214,10 @@ def words_that_are_none(room):
                   ["site", "hub", "--drain", "-1"], ["site", "hub", "--drain", ""], ["site", "hub", "--drain", "1s"],
                   ["site", "hub", "--left"], ["site", "--left", "--unchecked", "hub"], ["site", "hub", "--left", "--drain", "1"],
                   ["site", "hub", "--left", "a", "--left", "b"], ["site", "hub", "--drain", "1", "--drain", "1"],
-                  ["site", "hub", "--unchecked", "--unchecked"], ["--left", "site", "hub"], ["site", "hub", "other"]):
+                  ["site", "hub", "--unchecked", "--unchecked"], ["--left", "site", "hub"], ["site", "hub", "other"],
+                  ["site", "hub", "--explain", "--explain"], ["site", "hub", "--metrics"], ["site", "--metrics", "--explain", "hub"],
+                  ["site", "hub", "--metrics", "a", "--metrics", "b"], ["site", "hub", "--metrics-every", "5"],
+                  ["site", "hub", "--metrics", "a", "--metrics-every", "0"], ["site", "hub", "--metrics", "a", "--metrics-every", "86401"]):
         refuses(room, words, 2, "", None)
 
 

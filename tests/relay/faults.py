@@ -3,7 +3,7 @@
 import re
 
 from peers import Sender, frame, frames, message, messages, send_all
-from room import Failure, same, test, totals
+from room import Failure, imtcp, module, omfile, same, test, totals
 
 # Of each fault its code and name, its place, and a message that has it.
 MESSAGE_FAULTS = [
@@ -35,9 +35,13 @@ def says(relay, wanted):
 
 @test
 def each_message_fault(room):
-    relay, port = room.hub()
+    # (each at an input of its own, of which a line is told at once)
+    ports = [room.port() for _ in MESSAGE_FAULTS]
+    room.site({"hub": module() + "".join(map(imtcp, ports)) + omfile("audit", "audit.log")})
+    relay = room.start_unchecked("hub", *ports)
     good, wanted = [], []
     for number, (fault, place, text) in enumerate(MESSAGE_FAULTS):
+        port = ports[number]
         pair = messages(2, 2 * number)
         send_all(port, [pair[0], text, pair[1]])
         good += pair

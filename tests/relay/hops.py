@@ -216,7 +216,7 @@ def hub_restarted_in_order_while_it_is_held(room):
     until("nothing is accepted and read any more", lambda: len(hub.threads()) == before - 2, came=hub.threads)
     pipe.reads()
     same("status of hub", hub.ends(), 0)
-    held, rest = split(room.read("left"))
+    held, rest = split(room.read(f"left.{inner}"))
     same("behind the last message that is left", rest, b"")
     hub = room.start("hub", inner)
     pump.finish()

@@ -181,7 +181,7 @@ def senders_wait_for_descriptors(room):
     relay.stops_with(totals(count, 0, 0, ("audit", count, count, 0, 0)))
     same("archive", sorted(room.lines("audit.log")), sorted([message("first"), *messages(2 * FREE)]))
     # (what is said of it is said once, until one is accepted)
-    if len(relay.errors().splitlines()) > len(senders):
+    if len(relay.lines()) > len(senders):
         raise Failure(f"wanted a line as connections begin to wait, came {relay.errors()!r}")
 
 

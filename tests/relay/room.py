@@ -17,6 +17,10 @@ TESTS = []
 
 # A line on standard error that is a fault, or a connection's count of frames that are no messages.
 FAULT = re.compile(r"syc: (\d+ \w+ (at|in|of) .*|\d+ unread at .*|no relay .*|no memory|read failed|write failed|totals differ)")
+# How often a fault came besides, behind its line.
+OTHERS = re.compile(r"(syc: \d+ \w+ at \d+), and (\d+) others")
+# A line of a start.
+START = re.compile(r"syc: (input \d+ listening at .*|relay \S+ runs: site [0-9a-f]{64}, \d+ files)")
 
 
 class Failure(Exception):
@@ -148,9 +152,21 @@ class Relay:
         with open(self.err_path, "rb") as it:
             return it.read().decode("latin-1")
 
-    def faults(self):
+    def lines(self):
+        """The lines on standard error, but for those of its start."""
+        return [it for it in self.errors().splitlines() if not START.fullmatch(it)]
+
+    def faults_as_told(self):
         """The lines on standard error that are faults."""
-        return [it for it in self.errors().splitlines() if FAULT.fullmatch(it)]
+        return [it for it in self.lines() if FAULT.fullmatch(it)]
+
+    def faults(self):
+        """The same, but a line that tells of several connections stands there once for each."""
+        found = []
+        for line in self.faults_as_told():
+            several = OTHERS.fullmatch(line)
+            found += [several.group(1)] * (1 + int(several.group(2))) if several else [line]
+        return found
 
     def says(self, line, times=1):
         """Waits for a line on standard error."""

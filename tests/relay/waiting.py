@@ -74,7 +74,7 @@ def what_inner_queues_hold_is_left(room):
     relay.rests(port)
     relay.stops_with(totals(12, 0, 12, ("first", 6, 6, 0, 0), ("up", 1, 0, 0, 1)))
     sender.is_ended()
-    left = room.read("left")
+    left = room.read(f"left.{port}")
     for place, it in enumerate(messages(12)):
         if left.count(frame(it)) != 1:
             raise Failure(f"message {place} of 12 is left {left.count(frame(it))} times")

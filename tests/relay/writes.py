@@ -125,7 +125,7 @@ def archive_that_fails_and_works_many_times(room):
     room.holds("after.log", texts)
     relay.stops_with(totals(100, 0, 0, ("audit", 100, 100, 0, 0), ("after", 100, 100, 0, 0)))
     same("writes that failed", answered(room), 100)
-    took, lines = time.monotonic() - begun, relay.errors().splitlines()
+    took, lines = time.monotonic() - begun, relay.lines()
     # (a line a second at most, and what is left to be told as it ends)
     if not 1 <= len(lines) <= took + 2 or [it for it in lines if not it.startswith("syc: action audit ")]:
         raise Failure(f"a hundred failures were told within {took:.1f} s by {lines}")
@@ -208,15 +208,16 @@ def link_that_fails_each_third_time_under_load(room):
 # ---- What is left, totals, lines about what happens, and connections that are accepted
 
 def left_by(room, calls, error, when):
-    """A relay that leaves sixty messages, with an earlier file in their file's place, one of whose calls answers an error.
+    """A relay that leaves sixty messages, beside an earlier file, one of whose calls answers an error.
 
-    Answers its status, its faults, how many messages the file then has, and the other files of that name."""
+    Answers its status, its faults, how many messages its file then has, and the files there are, without their ports."""
     port, inner = room.port(), room.port()
     room.site({"edge": module() + imtcp(port) + omfwd("up", "hub", inner, -1, 0),
                "hub": module() + imtcp(inner) + omfile("audit", "audit.log")})
     room.write("left", "before")
+    name = f"left.{port}.new"
     # (a call names the file as the relay does, or by its descriptor)
-    under = ["strace", "-P", "left.new", *answering(room, calls, error, when, "left.new")[1:]]
+    under = ["strace", "-P", name, *answering(room, calls, error, when, name)[1:]]
     relay = room.start("edge", port, words=["--unchecked", "site", "edge", "--left", "left"], under=under)
     texts = messages(60, text="x" * 3000)
     send_all(port, texts)
@@ -225,21 +226,27 @@ def left_by(room, calls, error, when):
     status = relay.ends()
     same("totals", relay.output().splitlines()[0], "taken 60 lost 0 held 60")
     same(f"calls that answered {error} ({calls} {when})", answered(room), 1)
-    whole = room.read("left")
-    if whole != b"before":
-        found, rest = split(whole)
-        same("messages that are left, and what is behind them", (sorted(found), rest), (sorted(texts), b""))
-    return status, relay.faults(), whole != b"before", sorted(it for it in os.listdir(room.folder) if it.startswith("left"))
+    same("the earlier file", room.read("left"), b"before")
+    for it in (name, f"left.{port}"):
+        if os.path.exists(room.path(it)):
+            same(f"messages of {it}, and what is behind them", split(room.read(it)), (texts, b""))
+    found = sorted(it.replace(f".{port}", "") for it in os.listdir(room.folder) if it.startswith(f"left.{port}"))
+    for it in os.listdir(room.folder):
+        if it.startswith(f"left.{port}"):
+            os.remove(room.path(it))
+    return status, relay.faults(), found
 
 
 @test(limit=80)
 def left_whose_calls_fail_one_by_one(room):
     needs_strace(room)
-    # it is opened, written in blocks of 64 KiB, closed, opened to be synced, and renamed
-    for calls, count in ("openat", 2), (TO_FILES, 3), ("fsync,fdatasync", 1), ("rename,renameat,renameat2", 1):
+    # it is made, written in blocks of 64 KiB, opened to be synced, and gets its name; what is whole stays, under the name that it has
+    for calls, count in ("openat", 2), (TO_FILES, 3), ("fsync,fdatasync", 1), ("link,linkat", 1):
         for when in range(1, count + 1):
             for error in "ENOSPC", "EIO":
-                same(f"{error} at call {when} of {calls}", left_by(room, calls, error, when), (4, ["syc: write failed"], False, ["left"]))
+                is_whole = calls != TO_FILES and (calls, when) != ("openat", 1)
+                wanted = (4, ["syc: write failed"], ["left.new"] if is_whole else [])
+                same(f"{error} at call {when} of {calls}", left_by(room, calls, error, when), wanted)
 
 
 @test
@@ -247,7 +254,7 @@ def left_whose_writes_are_interrupted(room):
     needs_strace(room)
     for calls, count in ("openat", 2), (TO_FILES, 3), ("fsync,fdatasync", 1):
         for when in range(1, count + 1):
-            same(f"interrupted at call {when} of {calls}", left_by(room, calls, "EINTR", when), (0, [], True, ["left"]))
+            same(f"interrupted at call {when} of {calls}", left_by(room, calls, "EINTR", when), (0, [], ["left"]))
 
 
 @test

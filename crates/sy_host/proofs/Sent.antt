@@ -4,24 +4,62 @@ use denote.Param.Object.{Ghosts, table_of}
 use denote.Param.Sent.{Sends}
 use denote.Param.Send.{IsSend, IsSync, sendable}
 use Rattle.std.proofs.Crossing.{crosses}
+use Rattle.sy_chain.specs.contracts.node.Node as Node
 use Rattle.sy_runtime.specs.contracts.relay.Relay as Relay
+use Rattle.sy_runtime.specs.contracts.untaken.Item as Item
+use Rattle.sy_runtime.specs.contracts.untaken.Untaken as Untaken
+use Rattle.sy_host.specs.contracts.ending.remaining.Rest as Rest
 use Rattle.sy_runtime.proofs.Sent.{relay_send, relay_sync}
 use Rattle.sy_host.specs.contracts.listening.accepting.Acceptor as Acceptor
 use Rattle.sy_host.specs.contracts.listening.connections.Connections as Connections
 use Rattle.sy_host.specs.contracts.log.Log as Log
 use Rattle.sy_host.specs.contracts.log.LogGate as Gate
+use Rattle.sy_host.specs.contracts.listening.served_threads.ServedThreads as ServedThreads
 use Rattle.sy_host.specs.contracts.listening.serving.Connection as Connection
 use Rattle.sy_host.specs.contracts.listening.serving.Serving as Serving
+use Rattle.sy_host.specs.contracts.log.printer.Printer as Printer
+use Rattle.sy_host.specs.contracts.log.printing.Printing as Printing
+use Rattle.sy_host.specs.contracts.log.printing_thread.Printed as Printed
 use Rattle.sy_host.specs.contracts.log.telling.Teller as Teller
+use Rattle.sy_host.specs.contracts.log.untold.Untold as Untold
+use Rattle.sy_host.specs.contracts.watching.writing.Writer as Writer
+use Rattle.sy_watched.proofs.Sent.{file_send, watch_send, watch_sync}
+
+node_send : IsSend Node.the_row
+node_send = search (sendable, crosses) depth 30 fits 2000
+
+item_send : IsSend Item.the_row
+item_send = search (node_send, sendable, crosses) depth 30 fits 2000
+
+untaken_send : IsSend Untaken.the_row
+untaken_send = search (item_send, sendable, crosses) depth 30 fits 2000
+
+rest_send : IsSend Rest.the_row
+rest_send = search (node_send, item_send, untaken_send, sendable, crosses) depth 40 fits 8000
 
 connections_send : IsSend Connections.the_row
-connections_send = search (sendable, crosses) depth 40 fits 5000
+connections_send = search (node_send, item_send, untaken_send, rest_send, sendable, crosses) depth 60 fits 20000
+
+printing_send : IsSend Printing.the_row
+printing_send = search (sendable, crosses) depth 40 fits 5000
+
+printing_sync : IsSync Printing.the_row
+printing_sync = search (sendable, crosses) depth 40 fits 5000
+
+threads_send : IsSend ServedThreads.the_row
+threads_send = search (sendable, crosses) depth 40 fits 5000
+
+threads_sync : IsSync ServedThreads.the_row
+threads_sync = search (sendable, crosses) depth 40 fits 5000
+
+untold_send : IsSend Untold.the_row
+untold_send = search (sendable, crosses) depth 40 fits 5000
 
 log_send : IsSend Log.the_row
-log_send = search (sendable, crosses) depth 40 fits 5000
+log_send = search (untold_send, sendable, crosses) depth 40 fits 5000
 
 log_sync : IsSync Log.the_row
-log_sync = search (sendable, crosses) depth 40 fits 5000
+log_sync = search (untold_send, sendable, crosses) depth 40 fits 5000
 
 gate_send : IsSend Gate.the_row
 gate_send = search (log_send, log_sync, sendable, crosses) depth 20
@@ -30,22 +68,37 @@ gate_sync : IsSync Gate.the_row
 gate_sync = search (log_send, log_sync, sendable, crosses) depth 20
 
 module _ (E : RattleType) where
+  printer_send : IsSend E → IsSend (Printer.the_row E)
+  printer_send a = search (sendable, crosses) depth 40 fits 5000
+
+module _ (E : RattleType) where
   pub serving_send : IsSend E → IsSend (Serving.the_row E)
-  serving_send a = search (connections_send, log_send, log_sync, sendable, crosses) depth 40 fits 5000
+  serving_send a =
+      search (printer_send, printing_send, printing_sync, connections_send, log_send, log_sync, watch_send, watch_sync, sendable, crosses) depth 40
+      fits 5000
 
   pub serving_sync : IsSend E → IsSync (Serving.the_row E)
-  serving_sync a = search (connections_send, log_send, log_sync, sendable, crosses) depth 40 fits 5000
+  serving_sync a =
+      search (printer_send, printing_send, printing_sync, connections_send, log_send, log_sync, watch_send, watch_sync, sendable, crosses) depth 40
+      fits 5000
 
 module _ (E : RattleType) where
   pub teller_send : IsSend E → IsSend (Teller.the_row E)
   teller_send a = search (serving_send, serving_sync, sendable, crosses) depth 30 fits 5000
 
+module _ (E : RattleType) where
+  pub printed_send : IsSend E → IsSend (Printed.the_row E)
+  printed_send a = search (serving_send, serving_sync, sendable, crosses) depth 30 fits 5000
+
 module _ (C E : RattleType) where
+  pub writer_send : IsSend C → IsSync C → IsSend E → IsSend (Writer.the_row C E)
+  writer_send a b d = search (file_send, serving_send, serving_sync, sendable, crosses) depth 30 fits 5000
+
   pub connection_send : IsSend C → IsSync C → IsSend E → IsSend (Connection.the_row C E)
-  connection_send a b d = search (serving_send, serving_sync, sendable, crosses) depth 30 fits 5000
+  connection_send a b d = search (threads_send, threads_sync, serving_send, serving_sync, sendable, crosses) depth 30 fits 5000
 
   pub acceptor_send : IsSend C → IsSync C → IsSend E → IsSend (Acceptor.the_row C E)
-  acceptor_send a b d = search (serving_send, serving_sync, sendable, crosses) depth 30 fits 5000
+  acceptor_send a b d = search (threads_send, threads_sync, serving_send, serving_sync, sendable, crosses) depth 30 fits 5000
 
 module _ (T : RattleType) (g : Ghosts T.Denot) (s : Sends (table_of T.Denot g)) (t : IsSend T) where
   pub open_send : IsSend (Relay.the_row Gate.the_row T g)

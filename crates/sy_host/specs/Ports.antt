@@ -12,6 +12,11 @@ use Rattle.sy_report.specs.Reports.{joined, line_feed}
 abbrev pub at_port : List ℕ → ℕ → List ℕ
 at_port words port = joined (codes "syc: " ∷ words ∷ codes " at " ∷ decimal port ∷ (line_feed ∷ []) ∷ [])
 
+-- the same, and how often it happened besides: syc: WORDS at PORT, and N others
+abbrev pub at_port_often : List ℕ → ℕ → ℕ → List ℕ
+at_port_often words port others =
+    joined (codes "syc: " ∷ words ∷ codes " at " ∷ decimal port ∷ codes ", and " ∷ decimal others ∷ codes " others" ∷ (line_feed ∷ []) ∷ [])
+
 -- the number and the name of what ended a connection: of a frame's fault its own
 abbrev pub end_words : RunFault → List ℕ
 end_words (fault.Frame why) = frame_fault_words why
@@ -27,3 +32,20 @@ unread_at count port words offset frame =
 abbrev pub unread_line : ℕ → ℕ → Unread → List ℕ
 unread_line count port first =
     unread_at (decimal count) (decimal port) (message_fault_words first.fault.code) (decimal first.fault.offset) (decimal first.frame)
+
+-- the same, and how many frames of how many other connections carried none: .. in frame F, and N of C others
+abbrev pub unread_often : ℕ → ℕ → Unread → ℕ → ℕ → List ℕ
+unread_often count port first more others =
+    joined (codes "syc: " ∷ decimal count ∷ codes " unread at " ∷ decimal port ∷ codes ": " ∷ message_fault_words first.fault.code ∷ codes " at "
+    ∷ decimal first.fault.offset ∷ codes " in frame " ∷ decimal first.frame ∷ codes ", and " ∷ decimal more ∷ codes " of " ∷ decimal others
+    ∷ codes " others" ∷ (line_feed ∷ []) ∷ [])
+
+-- an input at this port listens at this address: syc: input PORT listening at ADDRESS
+abbrev pub listening_line : ℕ → List ℕ → List ℕ
+listening_line port address =
+    joined (codes "syc: input " ∷ decimal port ∷ codes " listening at " ∷ address ∷ (line_feed ∷ []) ∷ [])
+
+-- which files a relay of this name runs, by the digits of their sum and their number: syc: relay NAME runs: site SUM, N files
+abbrev pub runs_line : List ℕ → List ℕ → ℕ → List ℕ
+runs_line name sum files =
+    joined (codes "syc: relay " ∷ name ∷ codes " runs: site " ∷ sum ∷ codes ", " ∷ decimal files ∷ codes " files" ∷ (line_feed ∷ []) ∷ [])

@@ -1,14 +1,16 @@
 -- The totals that a relay prints (this profile's own).
-use Rattle.std.specs.Prelude.{◌≡◌, ℕ, ◌+◌, ◌-◌, ◌<◌, ◌^◌, List, [], ◌∷◌, ◌++◌, Option, codes, length}
+use Rattle.std.specs.Prelude.{◌≡◌, ℕ, ◌+◌, ◌-◌, ◌<◌, ◌^◌, Bool, true, List, [], ◌∷◌, ◌++◌, Option, codes, length}
 use Rattle.std.specs.Fmt.{decimal}
 use Rattle.std.specs.Io.KnownBytes.{Appends}
 use Rattle.sy_rules.specs.declared.parts.Action.{Action}
+use Rattle.sy_rules.specs.declared.parts.Input.{Input}
 use Rattle.sy_chain.specs.Entries.{Entry}
 use Rattle.sy_board.specs.relay.Boards.{Account}
 use Rattle.sy_board.specs.relay.Totals.{Counts, GuardState, Totals}
 use Rattle.sy_runtime.specs.Connections as connections
 use Rattle.sy_runtime.specs.Stopping.{Stops}
 use Rattle.sy_report.specs.Reports.{line_feed}
+use Rattle.sy_host.specs.Left.{Keeps}
 
 -- the losses: at an input or in its hand, by a post, and as an entry left a queue
 abbrev pub lost : Totals → ℕ
@@ -52,11 +54,14 @@ pub record WroteTotals (actions : List Action) (totals : Totals) (left : List En
   pub wrote : Appends old new (totals_text actions totals held)
 
 -- What was written is the totals of a relay that was started with this guard, or with none, and has stopped: they meet the laws, and agree with what
--- its connections and the hatches of its actions counted.
-pub record EndsWithTotals (actions : List Action) (guard : Option GuardState) (old new : Option (List ℕ)) : Type 0 where
+-- its connections and the hatches of its actions counted. Where what is left is wanted, all that it still held was kept, with what the connections of
+-- its inputs had read and not taken.
+pub record EndsWithTotals {S : Type 0} (actions : List Action) (guard : Option GuardState) (old new : Option (List ℕ)) (wanted : Bool)
+    (Kept : S → ℕ → Option (List ℕ) → S → Type 0) (inputs : List Input) (store store' : S) : Type 0 where
   pub ends : List connections.Counts
   pub account : Account
   pub left : List Entry
   pub made : List ℕ
   pub stops : Stops guard ends account left made
   pub wrote : WroteTotals actions account.totals left old new
+  pub keeps : wanted ≡ true → Keeps Kept inputs left store store'

@@ -3,8 +3,10 @@
 pub mod control;
 pub mod left;
 pub mod left_file;
+pub mod remaining;
 pub mod status;
 pub mod totals;
+pub mod unfinished;
 
 use crate::listening::serving::Serving;
 use crate::listening::socket_address;
@@ -14,12 +16,12 @@ use std::sync::atomic::{AtomicBool, Ordering};
 use std::sync::{Arc, Wait};
 use std::thread;
 use std::thread::Threads;
-use std::time::{Clock, Duration};
+use std::time::{Clock, Duration, Instant};
 use sy_rules::Input;
 use sy_runtime::ConnEnd;
 use sy_wire::Sink;
 
-/// For how many milliseconds connections may go on giving what is under way.
+/// For how many milliseconds connections may go on giving what is under way, where nothing else is said.
 const CONNECTIONS_WAIT: u64 = 2000;
 
 /// For how many milliseconds an offer may go on once the relay is closed.
@@ -76,10 +78,30 @@ fn start_ending_links<R: Threads + Clock + Copy + Send + 'static>(
     }
 }
 
-/// Gives the connections some time to give what is under way.
-pub fn half_close<R: Wait + Clock, E: Sink + Drop>(rt: &R, serving: &Serving<E>) {
+// How much of a time is left that began then; nothing where no clock says it.
+fn left_of<R: Clock>(rt: &R, began: Option<Instant>, most: Duration) -> Duration {
+    let Some(Ok(spent)) = began.map(|it| it.elapsed(rt)) else {
+        return Duration::ZERO;
+    };
+    most.saturating_sub(spent)
+}
+
+/// Ends this side of each connection, and gives them time to give what is under way: two seconds, or as many as the relay may empty. It waits
+/// until each has ended, but no longer. The answer is how long the relay may empty from then on.
+pub fn half_close<R: Wait + Clock, E: Sink + Drop>(
+    rt: &R,
+    serving: &Serving<E>,
+    drain: Option<u32>,
+) -> Duration {
     serving.shut_down(rt, Shutdown::Write);
-    serving.wait_for_connections(rt, Duration::from_millis(CONNECTIONS_WAIT));
+    let Some(seconds) = drain else {
+        serving.wait_for_connections(rt, Duration::from_millis(CONNECTIONS_WAIT));
+        return Duration::ZERO;
+    };
+    let most = Duration::from_secs(u64::from(seconds));
+    let began = Instant::now(rt).ok();
+    serving.wait_for_connections(rt, most);
+    left_of(rt, began, most)
 }
 
 /// Ends the connections of a relay that is closed: what waits in a read at once, and some time later what waits for a link.

@@ -5,4 +5,6 @@ pub mod devices;
 pub mod ending;
 pub mod listening;
 pub mod log;
+pub mod rotation;
 pub mod serve;
+pub mod watching;

@@ -6,11 +6,13 @@ pub mod accepting;
 pub mod at_port;
 pub mod connections;
 pub mod connector;
+pub mod served_threads;
 pub mod serving;
 
 use crate::listening::serving::Port;
 use std::alloc::Global;
 use std::net::{Ipv4Addr, Net, SocketAddr, SocketAddrV4, TcpListener, TcpStream};
+use sy_report::texts::reason::Reason;
 use sy_rules::Input;
 
 /// An input and what listens at its port.
@@ -23,8 +25,8 @@ pub struct Listening {
 /// Why a relay doesn't listen.
 #[derive(Clone, Copy)]
 pub enum ListenFault {
-    /// This port can't be listened at.
-    Bind(u16),
+    /// This port can't be listened at, for this reason.
+    Bind(u16, Reason),
     NoMemory,
 }
 
@@ -43,7 +45,7 @@ fn listen<R: Net<Listener = TcpListener, Stream = TcpStream>>(
 {
     match TcpListener::bind(rt, socket_address(address, at.port)) {
         Ok(listener) => Ok(Listening { at, listener }),
-        Err(_) => Err(ListenFault::Bind(at.port)),
+        Err(error) => Err(ListenFault::Bind(at.port, Reason::of(&error))),
     }
 }
 

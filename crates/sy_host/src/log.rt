@@ -3,11 +3,19 @@
 pub mod lines;
 pub mod notices;
 pub mod pauses;
+pub mod port_lines;
+pub mod printer;
+pub mod printing;
+pub mod printing_thread;
 pub mod spell;
+pub mod start_lines;
 pub mod subject;
 pub mod telling;
+pub mod untold;
+pub mod waiting_lines;
 
 use crate::log::subject::{Kind, Subject};
+use crate::log::untold::Untold;
 use std::alloc::{AllocError, Global};
 use std::net::SocketAddr;
 use std::sync::atomic::{AtomicBool, AtomicU64, Ordering};
@@ -18,7 +26,7 @@ use sy_marks::Hold;
 use sy_places::ways::relay_parts::name_of_list;
 use sy_report::texts::parts::{Part, put_parts};
 use sy_report::texts::reason::Reason;
-use sy_rules::Plan;
+use sy_rules::{Input, Plan};
 use sy_runtime::{Gate, RunFault, Unread};
 
 /// How often the last lines are waited for, and how long each time, in milliseconds.
@@ -35,11 +43,15 @@ pub struct PeerEnd {
     pub fault: Option<RunFault>,
 }
 
-/// How the first of the connections ended that ended so and weren't told yet, and how many others there are.
-#[derive(Clone, Copy)]
+/// How the first of the connections ended that ended so and weren't told yet, and how many others there are; and with what
+/// connections ended.
+#[derive(Drop)]
 pub struct Ended {
+    /// the input's
+    pub port: u16,
     pub first: Option<PeerEnd>,
     pub others: u64,
+    pub untold: Untold,
 }
 
 /// What an operator is told of a relay. Devices, workers and connections note here what happens; a thread looks, and prints.
@@ -116,12 +128,14 @@ fn subjects_of(alloc: Global, plan: &Plan) -> Result<Vec<Subject>, AllocError> {
     Ok(subjects)
 }
 
-fn ended_of(alloc: Global, inputs: usize) -> Result<Vec<Mutex<Ended>>, AllocError> {
-    let mut ended = Vec::with_capacity(alloc, inputs)?;
-    for _ in 0..inputs {
+fn ended_of(alloc: Global, inputs: &[Input]) -> Result<Vec<Mutex<Ended>>, AllocError> {
+    let mut ended = Vec::with_capacity(alloc, inputs.len())?;
+    for input in inputs {
         ended.push(Mutex::new(Ended {
+            port: input.port,
             first: None,
             others: 0,
+            untold: Untold::new(alloc)?,
         }))?;
     }
     Ok(ended)
@@ -132,7 +146,7 @@ impl Log {
     pub fn new(alloc: Global, plan: &Plan) -> Result<Arc<Log>, AllocError> {
         let log = Log {
             subjects: subjects_of(alloc, plan)?,
-            ended: ended_of(alloc, plan.inputs().len())?,
+            ended: ended_of(alloc, plan.inputs())?,
             actions: plan.actions().len(),
             change: Parker::new(),
             is_ending: AtomicBool::new(false),
@@ -178,14 +192,15 @@ impl Log {
         } else {
             ended.others = ended.others.saturating_add(1);
         }
+        ended.untold.add(&end);
         drop(ended);
         if let Some(subject) = self.input(input) {
             self.note(subject);
         }
     }
 
-    // Of the input that is the subject of this number.
-    fn ended_at(&self, number: usize) -> Option<&Mutex<Ended>> {
+    /// How connections ended of the input that is the subject of this number.
+    pub fn ended_at(&self, number: usize) -> Option<&Mutex<Ended>> {
         self.ended.get(number.checked_sub(self.actions)?)
     }
 
@@ -213,6 +228,7 @@ impl Log {
 
     /// Waits until something changes, for so many milliseconds at most where that is given.
     pub fn wait<R: Wait + Clock>(&self, rt: &R, most: Option<u64>) {
+        self.date(rt);
         match most {
             Some(most) => self.change.park_timeout(rt, Duration::from_millis(most)),
             None => self.change.park(rt),
@@ -314,6 +330,14 @@ impl ActionLog {
             action: self.action,
             reason: Arc::try_clone(&self.reason)?,
         })
+    }
+
+    /// What the action is called in lines, as `action audit`.
+    pub fn name(&self) -> &[u8] {
+        match self.log.subjects.get(self.action) {
+            Some(subject) => subject.name.as_slice(),
+            None => b"",
+        }
     }
 
     /// That is why the present offer will fail.

@@ -1,36 +1,44 @@
 //! Serving a relay until its reader ends.
-ghost use Rattle.std.specs.Prelude.{◌≡◌, ◌≢◌, ◌<◌, ◌≤◌, Option, IfOk, IfSome, length};
+ghost use Rattle.std.specs.Prelude.{◌≡◌, ◌≢◌, ◌<◌, ◌≤◌, Option, true, IfOk, IfSome, length};
 ghost use Rattle.std.specs.Arc.{arc_value};
 ghost use Rattle.sy_board.specs.relay.Guards.{MayGuard};
 ghost use Rattle.sy_board.specs.relay.Totals.{GuardState};
 ghost use Rattle.sy_site.specs.Sites.{plan_at};
+ghost use Rattle.sy_host.specs.Left.{Keeps};
 ghost use Rattle.sy_host.specs.Totals.{EndsWithTotals, WroteTotals};
 ghost use Rattle.sy_host.specs.internal.Served.{IsLeft};
 
 use crate::devices::host_device::HostDevice;
 use crate::ending::control::{Controlled, read_control};
-use crate::ending::left::{Store, keep_left};
+use crate::ending::left::{KeepFault, Store, keep_left};
+use crate::ending::remaining::sort;
 use crate::ending::totals::{TotalsFault, numbers_of, write_totals};
+use crate::ending::unfinished::report_unfinished;
 use crate::ending::{end_connections, end_loops, half_close};
 use crate::listening::accepting::start_accepting;
 use crate::listening::connector::Connector;
 use crate::listening::serving::Serving;
 use crate::listening::{ListenFault, Listening, listen_all};
+use crate::log::printing_thread::{end_printing, start_printing};
+use crate::log::start_lines::start_lines;
 use crate::log::telling::{end_telling, start_telling};
 use crate::log::{Log, LogGate};
+use crate::rotation::reopens::Reopens;
+use crate::rotation::watching::start_watching;
+use crate::watching::writing::{end_metrics, start_metrics};
 use std::alloc::{AllocError, Global};
 use std::collections::VecDeque;
 use std::mem;
 use std::net::{Net, TcpListener, TcpStream};
-use std::sync::atomic::{AtomicBool, AtomicU64};
+use std::sync::atomic::AtomicBool;
 use std::sync::{Arc, Wait};
 use std::thread::Threads;
-use std::time::{Clock, Duration};
+use std::time::Clock;
 use sy_board::Guard;
 use sy_chain::Chain;
 use sy_rules::laws::plans_are_whole;
-use sy_rules::{Action, Plan};
-use sy_runtime::{BoxedDevice, Mismatch, Relay, RunFault, Stopped, Workers};
+use sy_rules::{Action, Input, Plan};
+use sy_runtime::{BoxedDevice, Mismatch, Relay, RunFault, Stopped, Untaken, Workers};
 use sy_site::Site;
 use sy_wire::{Sink, Source};
 
@@ -45,8 +53,8 @@ pub struct Served<'a> {
     pub devices: Vec<HostDevice>,
     /// Set once no device is to wait.
     pub is_ending: Arc<AtomicBool>,
-    /// How often archives are to be opened anew.
-    pub reopens: Arc<AtomicU64>,
+    /// What asks for archives to be opened anew.
+    pub reopens: Arc<Reopens>,
     /// For how many seconds it may empty before it stops.
     pub drain: Option<u32>,
 }
@@ -65,8 +73,9 @@ fn listen_failed<R: Wait, E: Sink + Drop>(rt: &R, serving: &Serving<E>, fault: L
     ensures failed { result ≢ 0 }
 {
     match fault {
-        ListenFault::Bind(port) => {
+        ListenFault::Bind(port, reason) => {
             serving.tell(rt, RunFault::Bind.words().as_bytes(), port);
+            serving.set_refused(rt, port, reason);
             4
         }
         ListenFault::NoMemory => out_of_memory(rt, serving),
@@ -95,6 +104,21 @@ fn accept_at_all<
 fn reserve(all: &[Listening]) -> Option<TcpListener> {
     let first = all.first()?;
     first.listener.try_clone().ok()
+}
+
+// What a relay leaves.
+#[derive(Drop)]
+struct Left {
+    held: Chain,
+    // of each input what its connections had read and not taken
+    untaken: VecDeque<VecDeque<Untaken>>,
+}
+
+// How a relay ended, and what the connections of each input had read and not taken.
+#[derive(Drop)]
+struct Ended {
+    answer: Result<Stopped, Mismatch>,
+    untaken: VecDeque<VecDeque<Untaken>>,
 }
 
 // Prints the totals of a relay with these actions that has stopped, and answers the exit status.
@@ -156,7 +180,7 @@ fn accept_to_end<
     all: Vec<Listening>,
     reader: &mut S,
     actions: &[Action],
-    reopens: &AtomicU64,
+    reopens: &Arc<Reopens>,
     serving: &Arc<Serving<E>>,
 ) -> bool {
     let Ok(relay) = Arc::new(alloc, relay) else {
@@ -165,12 +189,14 @@ fn accept_to_end<
     // (its descriptor is free when the accept loops are to end)
     let reserve = reserve(all.as_slice());
     let is_accepting = start_telling(rt, alloc, serving).is_ok()
+        && start_watching(rt, alloc, serving, reopens).is_ok()
         && accept_at_all(rt, alloc, &relay, serving, all).is_ok();
     if is_accepting {
+        start_metrics(rt, alloc, &relay, serving);
         let of = Controlled {
             relay: &*relay,
             actions,
-            reopens,
+            reopens: &**reopens,
             serving: &**serving,
         };
         read_control(&rt, alloc, &of, reader);
@@ -191,60 +217,85 @@ fn accept_for<
     all: Vec<Listening>,
     reader: &mut S,
     actions: &[Action],
-    reopens: &AtomicU64,
+    reopens: &Arc<Reopens>,
     serving: &Arc<Serving<E>>,
 ) -> bool {
     accept_to_end(rt, alloc, relay, all, reader, actions, reopens, serving)
 }
 
-// Keeps what a relay still held, and answers the exit status, where it was this before.
+// Keeps what a relay with these inputs still held, and what its connections had read and not taken, and answers the exit status, where it was this
+// before.
 fn keep<R: Wait, T: Store, E: Sink + Drop>(
     rt: &R,
+    alloc: Global,
     serving: &Serving<E>,
-    store: Option<&T>,
-    left: Chain,
+    store: &mut T,
+    inputs: &[Input],
+    left: Left,
     status: u8,
 ) -> u8
-    requires { status ≤ 4 }
+    requires status { status ≤ 4 }
+    requires inputs { length inputs.now ≤ 64 }
     ensures status { result ≤ 4 }
-    ensures done { result ≡ 0 → status ≡ 0 }
+    ensures done { result ≡ 0 → (status ≡ 0) × (T.wanted store.old ≡ true → Keeps T.kept inputs.now left.held store.old store.new) }
 {
-    let Some(store) = store else {
+    if !store.is_wanted() {
         return status;
-    };
-    match keep_left(store, left) {
+    }
+    match keep_left(alloc, store, inputs, left.held, left.untaken) {
         Ok(()) => status,
-        Err(_) => {
+        Err(KeepFault::NoMemory) => out_of_memory(rt, serving),
+        Err(KeepFault::Write) => {
             serving.tell_text(rt, "write failed");
             4
         }
     }
 }
 
-// Prints the totals of a relay with these actions, or why there are none, keeps what it still held, and answers the exit status.
+// Prints the totals of a relay of this plan, or why there are none, keeps what it leaves, and answers the exit status.
 fn finish<R: Wait, T: Store, W: Sink, E: Sink + Drop>(
     rt: &R,
     alloc: Global,
     serving: &Serving<E>,
-    store: Option<&T>,
+    store: &mut T,
     writer: &mut W,
-    actions: &[Action],
-    answer: Result<Stopped, Mismatch>,
+    plan: &Plan,
+    ended: Ended,
 ) -> u8
     ensures status { result ≤ 4 }
-    ensures done { result ≡ 0 → (guard : Option GuardState) → IfOk answer (λ stopped. IsLeft guard stopped.accounts stopped.left)
-        → EndsWithTotals actions.now guard (W.contents writer.old) (W.contents writer.new) }
+    ensures done { result ≡ 0 → (guard : Option GuardState) → IfOk ended.answer (λ stopped. IsLeft guard stopped.accounts stopped.left)
+        → EndsWithTotals plan.now.actions guard (W.contents writer.old) (W.contents writer.new)
+        (T.wanted store.old) T.kept plan.now.inputs store.old store.new }
 {
+    plans_are_whole(plan);
+    let Ended { answer, untaken } = ended;
     match answer {
         Ok(stopped) => {
-            let status = print_totals(rt, alloc, serving, writer, actions, &stopped);
-            keep(rt, serving, store, stopped.left, status)
+            let status = print_totals(rt, alloc, serving, writer, plan.actions(), &stopped);
+            let left = Left {
+                held: stopped.left,
+                untaken,
+            };
+            keep(rt, alloc, serving, store, plan.inputs(), left, status)
         }
         Err(Mismatch) => {
             serving.tell_text(rt, "totals differ");
             4
         }
     }
+}
+
+// What the connections of these inputs had read and not taken, of each input; what they leave is told. None where memory runs out.
+fn sum_up<R: Wait, E: Sink + Drop>(
+    rt: &R,
+    alloc: Global,
+    serving: &Serving<E>,
+    inputs: &[Input],
+) -> Option<VecDeque<VecDeque<Untaken>>> {
+    let rests = serving.take_rests(rt, alloc);
+    let sorted = sort(alloc, inputs.len(), rests).ok()?;
+    report_unfinished(rt, alloc, serving, inputs, sorted.counted.as_slice());
+    Some(sorted.untaken)
 }
 
 // Serves a relay that was started, with its workers, until there is nothing more to read.
@@ -254,7 +305,7 @@ fn serve_started<R, T: Store, S: Source, W: Sink, E: Sink + Drop + Send + 'stati
     run: (Relay<LogGate>, Workers),
     served: Served<'_>,
     all: Vec<Listening>,
-    store: Option<&T>,
+    store: &mut T,
     reader: &mut S,
     writer: &mut W,
     serving: &Arc<Serving<E>>,
@@ -265,29 +316,37 @@ where
     requires exists { served.relay < length served.site.now.relays }
     ensures status { result ≤ 4 }
     ensures done { result ≡ 0 → EndsWithTotals (plan_at served.entry.site.now served.entry.relay).actions run.0
-        (W.contents writer.old) (W.contents writer.new) }
+        (W.contents writer.old) (W.contents writer.new)
+        (T.wanted store.old) T.kept (plan_at served.entry.site.now served.entry.relay).inputs store.old store.new }
 {
-    let (relay, workers) = run;
-    let plan = served.site.plan(served.relay);
+    let plan = &**served.site.plan(served.relay);
     let address = served.site.address(served.relay);
     let (actions, reopens) = (plan.actions(), &served.reopens);
+    let lines = start_lines(alloc, address, plan.inputs(), serving.runs());
+    serving.print(&rt, lines);
+    let (relay, workers) = run;
     let is_accepting = match relay.try_clone() {
         Ok(theirs) => accept_for(rt, alloc, theirs, all, reader, actions, reopens, serving),
         Err(_) => false,
     };
     end_loops(&rt, serving, address, plan.inputs());
-    half_close(&rt, serving);
-    if let Some(seconds) = served.drain {
-        relay.drain(&rt, Duration::from_secs(u64::from(seconds)));
-    }
+    let most = half_close(&rt, serving, served.drain);
+    relay.drain(&rt, most);
     relay.close(&rt);
     let ends = end_connections(rt, alloc, serving, &served.is_ending);
     let answer = relay.stop(&rt, workers, ends);
+    end_metrics(&rt, alloc, serving, &answer);
+    let untaken = sum_up(&rt, alloc, serving, plan.inputs());
+    served.reopens.finish(&rt);
     end_telling(&rt, serving);
+    let Some(untaken) = untaken else {
+        return out_of_memory(&rt, serving);
+    };
     if !is_accepting {
         return out_of_memory(&rt, serving);
     }
-    finish(&rt, alloc, serving, store, writer, actions, answer)
+    let ended = Ended { answer, untaken };
+    finish(&rt, alloc, serving, store, writer, plan, ended)
 }
 
 // Starts a relay that listens, and serves it.
@@ -297,7 +356,7 @@ fn serve_at<R, T: Store, S: Source, W: Sink, E: Sink + Drop + Send + 'static>(
     alloc: Global,
     mut served: Served<'_>,
     all: Vec<Listening>,
-    store: Option<&T>,
+    store: &mut T,
     reader: &mut S,
     writer: &mut W,
     serving: &Arc<Serving<E>>,
@@ -310,7 +369,8 @@ where
     requires devices { length served.devices.items ≡ length (plan_at served.site.now served.relay).actions }
     ensures status { result ≤ 4 }
     ensures done { result ≡ 0 → EndsWithTotals (plan_at served.entry.site.now served.entry.relay).actions served.entry.guard
-        (W.contents writer.old) (W.contents writer.new) }
+        (W.contents writer.old) (W.contents writer.new)
+        (T.wanted store.old) T.kept (plan_at served.entry.site.now served.entry.relay).inputs store.old store.new }
 {
     let guard = served.guard.take();
     let mut boxes: Vec<BoxedDevice> = Vec::new(alloc);
@@ -351,7 +411,7 @@ pub fn serve<
     rt: R,
     alloc: Global,
     served: Served<'_>,
-    store: Option<&T>,
+    store: &mut T,
     reader: &mut S,
     writer: &mut W,
     serving: &Arc<Serving<E>>,
@@ -361,13 +421,21 @@ pub fn serve<
     requires devices { length served.devices.items ≡ length (plan_at served.site.now served.relay).actions }
     ensures status { result ≤ 4 }
     ensures done { result ≡ 0 → EndsWithTotals (plan_at served.entry.site.now served.entry.relay).actions served.entry.guard
-        (W.contents writer.old) (W.contents writer.new) }
+        (W.contents writer.old) (W.contents writer.new)
+        (T.wanted store.old) T.kept (plan_at served.entry.site.now served.entry.relay).inputs store.old store.new }
 {
     let plan = served.site.plan(served.relay);
     plans_are_whole(plan);
     let address = served.site.address(served.relay);
-    match listen_all(&rt, alloc, address, plan.inputs()) {
+    if start_printing(rt, serving).is_err() {
+        let status = out_of_memory(&rt, serving);
+        end_printing(&rt, serving);
+        return status;
+    }
+    let status = match listen_all(&rt, alloc, address, plan.inputs()) {
         Ok(all) => serve_at(rt, alloc, served, all, store, reader, writer, serving),
         Err(fault) => listen_failed(&rt, serving, fault),
-    }
+    };
+    end_printing(&rt, serving);
+    status
 }

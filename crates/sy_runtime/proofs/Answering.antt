@@ -4,7 +4,7 @@ use Rattle.std.specs.Prelude.{Option, Ok, Err, Bool, true, false}
 use Rattle.std.specs.Io.KnownBytes.{IsAtEnd, Keeps}
 use Rattle.std.proofs.KnownBytes.{Consumes-kept, Consumes-trans}
 use Rattle.sy_wire.specs.Frames.{Held, IsOpen, stream}
-use Rattle.sy_wire.specs.Steps.{Fills}
+use Rattle.sy_wire.specs.Steps.{Breaks, Ends, Fills, Refuses}
 use Rattle.sy_wire.specs.Streams.{Rose}
 use Rattle.sy_wire.specs.declared.framer.FrameFault.TheVariants.{Truncated}
 use Rattle.sy_runtime.specs.Connections.{Begins, Connects, Counts}
@@ -12,20 +12,24 @@ use Rattle.sy_runtime.specs.declared.connection_end.Finish.TheVariants as finish
 use Rattle.sy_runtime.specs.declared.fault.RunFault.TheVariants as fault
 use Rattle.sy_runtime.specs.internal.Reading.{MayGoOn, Serves}
 
-pub ended : (ahead ahead' : Option (List ℕ)) (failed failed' : ℕ) (end : Counts) (left : List ℕ) → Serves ahead ahead' end left → left ≡ [] → IsAtEnd ahead'
-    → Connects (Ok finish.Ended) end ahead ahead' failed failed'
-ended ahead ahead' failed failed' end left s over at_end =
-    record { read = s.read; rest = left; consumed = s.consumed; begins = s.begins; ends = (over, at_end) }
+pub ended : (ahead ahead' : Option (List ℕ)) (failed failed' : ℕ) (end : Counts) (old new : Held) → Serves ahead ahead' end old.left → Ends old new
+    → IsAtEnd ahead' → Connects (Ok finish.Ended) end new.left ahead ahead' failed failed'
+ended ahead ahead' failed failed' end old new s over at_end =
+    let same : new.left ≡ old.left = ap (λ h. h.left) over.same in
+    record { read = s.read; consumed = s.consumed; begins = subst (Begins s.read end) (sym same) s.begins; ends = (same ∙ over.none_left, at_end) }
 
-pub truncated : (ahead ahead' : Option (List ℕ)) (failed failed' : ℕ) (end : Counts) (left : List ℕ) → Serves ahead ahead' end left → left ≢ [] → IsOpen left
-    → IsAtEnd ahead' → Connects (Err (fault.Frame Truncated)) end ahead ahead' failed failed'
-truncated ahead ahead' failed failed' end left s some is_open at_end =
-    record { read = s.read; rest = left; consumed = s.consumed; begins = s.begins; ends = (some, is_open, at_end) }
+pub truncated : (ahead ahead' : Option (List ℕ)) (failed failed' : ℕ) (end : Counts) (old new : Held) → Serves ahead ahead' end old.left → old.left ≢ []
+    → IsOpen old.left → Breaks old new → IsAtEnd ahead' → Connects (Err (fault.Frame Truncated)) end new.left ahead ahead' failed failed'
+truncated ahead ahead' failed failed' end old new s some is_open breaks at_end =
+    let same : new.left ≡ old.left = ap (λ h. h.left) breaks.after in
+    subst (λ left. Connects (Err (fault.Frame Truncated)) end left ahead ahead' failed failed') (sym same)
+    (record { read = s.read; consumed = s.consumed; begins = s.begins; ends = (some, is_open, at_end) })
 
-pub failed_read : (ahead a a' : Option (List ℕ)) (failed failed' : ℕ) (end : Counts) (left : List ℕ) → Serves ahead a end left → Keeps a a' → Rose failed failed'
-    → Connects (Err fault.Read) end ahead a' failed failed'
-failed_read ahead a a' failed failed' end left s keeps rose =
-    record { read = s.read; rest = left; consumed = Consumes-kept ahead a a' s.read s.consumed keeps; begins = s.begins; ends = rose }
+pub failed_read : (ahead a a' : Option (List ℕ)) (failed failed' : ℕ) (end : Counts) (old new : Held) → Serves ahead a end old.left → Refuses old new
+    → Keeps a a' → Rose failed failed' → Connects (Err fault.Read) end new.left ahead a' failed failed'
+failed_read ahead a a' failed failed' end old new s refuses keeps rose =
+    subst (λ h. Connects (Err fault.Read) end h.left ahead a' failed failed') (sym refuses.same)
+    (record { read = s.read; consumed = Consumes-kept ahead a a' s.read s.consumed keeps; begins = s.begins; ends = rose })
 
 more : (read piece : List ℕ) (end : Counts) (left : List ℕ) → Begins read end left → Begins (read ++ piece) end (left ++ piece)
 more read piece end left b = record {

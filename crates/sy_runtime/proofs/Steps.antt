@@ -1,21 +1,20 @@
 -- What the steps of a connection do to what it holds.
 use Rattle.std.proofs.Common.{◌≡◌, ℕ, List, [], ◌∷◌, ◌++◌, sym, ap, ◌∙◌, append_assoc, append-nil, length, subst}
-use Rattle.std.specs.Prelude.{Option}
 use Rattle.std.proofs.lemmas.List.Concat.{flat_map-append}
-use Rattle.sy_chain.specs.Entries.{Entry}
+use Rattle.sy_runtime.specs.declared.untaken.Item.{Item}
 use Rattle.sy_wire.specs.Frames.{Held as Framed, IsSize, frame, stream}
 use Rattle.sy_wire.specs.Steps.{GivesFrame}
 use Rattle.sy_runtime.specs.Connections.{Counts}
 use Rattle.sy_runtime.specs.internal.Held.{Holds, IsItem, Stand}
 
-stand_more : (raws : List (List ℕ)) (items : List (Option Entry)) (raw : List ℕ) (item : Option Entry) → Stand raws items → IsItem raw item
+stand_more : (raws : List (List ℕ)) (items : List Item) (raw : List ℕ) (item : Item) → Stand raws items → IsItem raw item
     → IsSize (length raw) → Stand (raws ++ raw ∷ []) (items ++ item ∷ [])
 stand_more _ _ raw item Stand.nothing is size = Stand.one raw item is size Stand.nothing
 stand_more _ _ raw item (Stand.one {raws} {items} first one first_is first_size later) is size =
     Stand.one first one first_is first_size (stand_more raws items raw item later is size)
 
 -- one frame more was gathered
-gathered : (read : List ℕ) (end : Counts) (batch : List (Option Entry)) (left raw left' : List ℕ) (item : Option Entry)
+gathered : (read : List ℕ) (end : Counts) (batch : List Item) (left raw left' : List ℕ) (item : Item)
     → Holds read end batch left → IsSize (length raw) → left ≡ frame raw ++ left' → IsItem raw item → Holds read end (batch ++ item ∷ []) left'
 gathered read end batch left raw left' item h size taken is = record {
   frames = h.frames;
@@ -30,12 +29,7 @@ gathered read end batch left raw left' item h size taken is = record {
   stand = stand_more h.pending batch raw item h.stand is size;
 }
 
-pub gathered_one : (read : List ℕ) (end : Counts) (batch batch' : List (Option Entry)) (old new : Framed) (raw : List ℕ) (item : Option Entry)
+pub gathered_one : (read : List ℕ) (end : Counts) (batch batch' : List Item) (old new : Framed) (raw : List ℕ) (item : Item)
     → Holds read end batch old.left → GivesFrame old raw new → IsItem raw item → batch' ≡ batch ++ item ∷ [] → Holds read end batch' new.left
 gathered_one read end batch batch' old new raw item h gives is e =
     subst (λ b. Holds read end b new.left) (sym e) (gathered read end batch old.left raw new.left item h gives.size gives.taken is)
-
--- whatever the framer has left, what was read is held
-pub holds_somehow : (read : List ℕ) (end : Counts) (batch : List (Option Entry)) (left : List ℕ) → Holds read end batch left
-    → (left' : List ℕ) × Holds read end batch left'
-holds_somehow read end batch left h = (left, h)

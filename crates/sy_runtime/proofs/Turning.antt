@@ -2,14 +2,14 @@
 use Rattle.std.proofs.Common.{◌≡◌, ℕ, List, [], refl, sym, ap, ◌∙◌, subst, true≢false}
 use Rattle.std.specs.Prelude.{Option, None, Some, Result, Ok, Err, Bool, false, ⊤, OnOk, IfSome}
 use Rattle.std.proofs.KnownBytes.{Consumes-nil}
-use Rattle.sy_chain.specs.Entries.{Entry}
+use Rattle.sy_runtime.specs.declared.untaken.Item.{Item}
 use Rattle.sy_wire.specs.Frames.{Held}
 use Rattle.sy_wire.specs.declared.framer.FrameFault.{FrameFault}
 use Rattle.sy_wire.specs.declared.framer.FrameFault.TheVariants as frame
-use Rattle.sy_runtime.specs.Connections.{Begins, Connects, Counts, EndsWith, GoesOnWith, Sorted}
+use Rattle.sy_runtime.specs.Connections.{Begins, Connects, Counts, EndsWith, GoesOnWith, Sorted, rest_of}
 use Rattle.sy_runtime.specs.internal.Turning.{nothing_counted, Goes, IsEarly, RoundIs, TurnIs, Turns, round_of}
 use Rattle.sy_runtime.specs.internal.Gathering.{GatherIs, IsAtFront}
-use Rattle.sy_runtime.specs.internal.Halting.{BatchIs, halted, halted_at}
+use Rattle.sy_runtime.specs.internal.Halting.{halted, halted_at}
 use Rattle.sy_runtime.specs.internal.Held.{Holds}
 use Rattle.sy_runtime.specs.internal.Reading.{MayGoOn, Serves}
 use Rattle.sy_runtime.specs.declared.connection_end.Finish.{Finish}
@@ -21,54 +21,56 @@ use Rattle.sy_runtime.specs.declared.connection.gathering.Gathered.TheVariants a
 use Rattle.sy_runtime.specs.declared.connection.halt.Halt.{Halt}
 use Rattle.sy_runtime.specs.declared.connection.halt.Halt.TheVariants as halt
 use Rattle.sy_runtime.specs.declared.connection.turns.Round.{Round}
-use Rattle.sy_runtime.proofs.Taken.{settled}
+use Rattle.sy_runtime.proofs.Taken.{begins, settled}
 
 halted_early : (h : Halt) (rest : List ℕ) → IsEarly (halted h) rest
 halted_early halt.Closed rest = tt
 halted_early halt.TotalsFull rest = tt
 halted_early halt.Hands rest = tt
+halted_early halt.NoMemory rest = tt
 
 halted_at_early : (h : Halt) (stop : Gathered) (rest : List ℕ) → IsEarly (halted_at h stop) rest
 halted_at_early halt.Closed gathered.Open rest = tt
 halted_at_early halt.Closed gathered.Full rest = tt
 halted_at_early halt.Closed (gathered.Fault f) rest = tt
 halted_at_early halt.Closed gathered.NoMemory rest = tt
-halted_at_early halt.Closed gathered.Lost rest = tt
 halted_at_early halt.TotalsFull stop rest = tt
 halted_at_early halt.Hands stop rest = tt
+halted_at_early halt.NoMemory stop rest = tt
 
 -- whatever ended the gathering, what was read is held
-gathered_holds : (stop : Gathered) (read : List ℕ) (end : Counts) (batch : List (Option Entry)) (held : Held) → GatherIs stop read end batch held
-    → (left : List ℕ) × Holds read end batch left
-gathered_holds gathered.Open read end batch held g = (held.left, g.0)
-gathered_holds gathered.Full read end batch held g = (held.left, g.0)
-gathered_holds (gathered.Fault f) read end batch held g = (held.left, g.0)
-gathered_holds gathered.NoMemory read end batch held g = (held.left, g.0)
-gathered_holds gathered.Lost read end batch held g = g
+gathered_holds : (stop : Gathered) (read : List ℕ) (end : Counts) (batch : List Item) (held : Held) → GatherIs stop read end batch held
+    → Holds read end batch held.left
+gathered_holds gathered.Open read end batch held g = g.0
+gathered_holds gathered.Full read end batch held g = g.0
+gathered_holds (gathered.Fault f) read end batch held g = g.0
+gathered_holds gathered.NoMemory read end batch held g = g.0
 
-taken_in : (stop : Gathered) (read : List ℕ) (end end' : Counts) (batch batch' : List (Option Entry)) (held : Held) → GatherIs stop read end batch held
-    → ((left : List ℕ) → Holds read end batch left → Holds read end' batch' left) → batch' ≡ [] → RoundIs (round_of stop (Ok tt)) read end' held batch'
+-- with nothing in the batch, the rest is what the framer has left
+pub bare : (P : List ℕ → Type 0) (batch : List Item) (left : List ℕ) → batch ≡ [] → P left → P (rest_of batch left)
+bare P batch left none p = subst (λ b. P (rest_of b left)) (sym none) p
+
+taken_in : (stop : Gathered) (read : List ℕ) (end end' : Counts) (batch batch' : List Item) (held : Held) → GatherIs stop read end batch held
+    → (Holds read end batch held.left → Holds read end' batch' held.left) → batch' ≡ [] → RoundIs (round_of stop (Ok tt)) read end' held batch'
 taken_in gathered.Open read end end' batch batch' held g p none =
-    (record { begins = settled read end' batch' held.left none (p held.left g.0); good = g.1; empty = none }, g.2)
+    (record { begins = settled read end' batch' held.left none (p g.0); good = g.1; empty = none }, g.2)
 taken_in gathered.Full read end end' batch batch' held g p none =
-    record { begins = settled read end' batch' held.left none (p held.left g.0); good = g.1; empty = none }
+    record { begins = settled read end' batch' held.left none (p g.0); good = g.1; empty = none }
 taken_in gathered.NoMemory read end end' batch batch' held g p none =
-    record { begins = settled read end' batch' held.left none (p held.left g.0); good = g.1; empty = none }
-taken_in (gathered.Fault f) read end end' batch batch' held g p none = (held.left, settled read end' batch' held.left none (p held.left g.0), g.1)
-taken_in gathered.Lost read end end' batch batch' held g p none = (g.0, settled read end' batch' g.0 none (p g.0 g.1), tt)
+    record { begins = settled read end' batch' held.left none (p g.0); good = g.1; empty = none }
+taken_in (gathered.Fault f) read end end' batch batch' held g p none =
+    (begins read end' batch' held.left (p g.0), bare (λ rest. IsAtFront f rest) batch' held.left none g.1)
 
-rounds : (stop : Gathered) (put : Result ⊤ Halt) (read : List ℕ) (end end' : Counts) (batch batch' : List (Option Entry)) (held : Held)
-    → GatherIs stop read end batch held → ((read left : List ℕ) → Holds read end batch left → BatchIs put read end' batch' left) → OnOk put (batch' ≡ [])
+rounds : (stop : Gathered) (put : Result ⊤ Halt) (read : List ℕ) (end end' : Counts) (batch batch' : List Item) (held : Held)
+    → GatherIs stop read end batch held → ((read left : List ℕ) → Holds read end batch left → Holds read end' batch' left) → OnOk put (batch' ≡ [])
     → RoundIs (round_of stop put) read end' held batch'
-rounds stop (Ok _) read end end' batch batch' held g p all = taken_in stop read end end' batch batch' held g (p read) all
+rounds stop (Ok _) read end end' batch batch' held g p all = taken_in stop read end end' batch batch' held g (p read held.left) all
 rounds stop (Err h) read end end' batch batch' held g p all =
-    let held_somehow = gathered_holds stop read end batch held g in
-    let begun = p read held_somehow.0 held_somehow.1 in
-    (begun.0, begun.1, halted_at_early h stop begun.0)
+    (begins read end' batch' held.left (p read held.left (gathered_holds stop read end batch held g)), halted_at_early h stop (rest_of batch' held.left))
 
 -- after a batch
-pub rounded : (made : Round) (stop : Gathered) (put : Result ⊤ Halt) (read : List ℕ) (end end' : Counts) (batch batch' : List (Option Entry)) (held : Held)
-    → made ≡ round_of stop put → GatherIs stop read end batch held → ((read left : List ℕ) → Holds read end batch left → BatchIs put read end' batch' left)
+pub rounded : (made : Round) (stop : Gathered) (put : Result ⊤ Halt) (read : List ℕ) (end end' : Counts) (batch batch' : List Item) (held : Held)
+    → made ≡ round_of stop put → GatherIs stop read end batch held → ((read left : List ℕ) → Holds read end batch left → Holds read end' batch' left)
     → OnOk put (batch' ≡ []) → RoundIs made read end' held batch'
 rounded made stop put read end end' batch batch' held is g p all =
     subst (λ r. RoundIs r read end' held batch') (sym is) (rounds stop put read end end' batch batch' held g p all)
@@ -92,19 +94,22 @@ ends_early (Err fault.NoMemory) rest ahead failed failed' e = tt
 ends_early (Err fault.TotalsFull) rest ahead failed failed' e = tt
 
 -- a connection that never began
-pub refused : (answer : Result Finish RunFault) (h : Halt) (end : Counts) (ahead : Option (List ℕ)) (failed : ℕ) → answer ≡ halted h
-    → end ≡ nothing_counted → Connects answer end ahead ahead failed failed
-refused answer h end ahead failed is new = subst (λ e. Connects answer e ahead ahead failed failed) (sym new)
-    (subst (λ a. Connects a nothing_counted ahead ahead failed failed) (sym is) (record {
+pub refused : (answer : Result Finish RunFault) (h : Halt) (end : Counts) (items : List Item) (held : Held) (ahead : Option (List ℕ)) (failed : ℕ)
+    → answer ≡ halted h → end ≡ nothing_counted → items ≡ [] → held ≡ record { left = []; has_failed = false }
+    → Connects answer end (rest_of items held.left) ahead ahead failed failed
+refused answer h end items held ahead failed is new none empty =
+    bare (λ rest. Connects answer end rest ahead ahead failed failed) items held.left none
+    (subst (λ x. Connects answer end x.left ahead ahead failed failed) (sym empty)
+    (subst (λ e. Connects answer e [] ahead ahead failed failed) (sym new)
+    (subst (λ a. Connects a nothing_counted [] ahead ahead failed failed) (sym is) (record {
       read = [];
-      rest = [];
       consumed = Consumes-nil ahead;
       begins = record { frames = []; whole = refl; count = refl; sorted = Sorted.nothing };
       ends = ends_early (halted h) [] ahead failed failed (halted_early h []);
-    }))
+    }))))
 
 -- before the first turn
-pub first : (ahead : Option (List ℕ)) (failed : ℕ) (end : Counts) (held : Held) (is_over : Bool) (batch : List (Option Entry)) → end ≡ nothing_counted
+pub first : (ahead : Option (List ℕ)) (failed : ℕ) (end : Counts) (held : Held) (is_over : Bool) (batch : List Item) → end ≡ nothing_counted
     → held ≡ record { left = []; has_failed = false } → batch ≡ [] → is_over ≡ false → Turns ahead ahead failed failed end held is_over batch
 first ahead failed end held is_over batch is new empty not_over = record {
   goes = record {
@@ -122,18 +127,17 @@ first ahead failed end held is_over batch is new empty not_over = record {
 }
 
 -- a batch that ended it
-pub over_early : (ahead ahead' : Option (List ℕ)) (failed failed' : ℕ) (end end' : Counts) (held : Held) (is_over : Bool) (batch : List (Option Entry))
-    (answer : Result Finish RunFault) → Turns ahead ahead' failed failed' end held is_over batch
-    → ((read : List ℕ) → Begins read end held.left → (rest : List ℕ) × Begins read end' rest × IsEarly answer rest)
-    → Connects answer end' ahead ahead' failed failed'
-over_early ahead ahead' failed failed' end end' held is_over batch answer t kept =
+pub over_early : (ahead ahead' : Option (List ℕ)) (failed failed' : ℕ) (end end' : Counts) (held : Held) (is_over : Bool) (batch : List Item)
+    (answer : Result Finish RunFault) (rest : List ℕ) → Turns ahead ahead' failed failed' end held is_over batch
+    → ((read : List ℕ) → Begins read end held.left → Begins read end' rest × IsEarly answer rest) → Connects answer end' rest ahead ahead' failed failed'
+over_early ahead ahead' failed failed' end end' held is_over batch answer rest t kept =
     let s = t.goes.serves in
     let r = kept s.read s.begins in
-    record { read = s.read; rest = r.0; consumed = s.consumed; begins = r.1; ends = ends_early answer r.0 ahead' failed failed' r.2 }
+    record { read = s.read; consumed = s.consumed; begins = r.0; ends = ends_early answer rest ahead' failed failed' r.1 }
 
 -- a batch after which it goes on
 pub goes_on : (ahead ahead' : Option (List ℕ)) (failed failed' : ℕ) (end end' : Counts) (held held' : Held) (is_over is_over' : Bool)
-    (batch batch' : List (Option Entry)) → Turns ahead ahead' failed failed' end held is_over batch → is_over' ≡ is_over
+    (batch batch' : List Item) → Turns ahead ahead' failed failed' end held is_over batch → is_over' ≡ is_over
     → ((read : List ℕ) → Begins read end held.left → Goes read end' held' batch') → Turns ahead ahead' failed failed' end' held' is_over' batch'
 goes_on ahead ahead' failed failed' end end' held held' is_over is_over' batch batch' t same kept =
     let m = t.goes in
@@ -150,7 +154,7 @@ goes_on ahead ahead' failed failed' end end' held held' is_over is_over' batch b
     }
 
 -- a read after which it goes on
-pub reads_on : (ahead a a' : Option (List ℕ)) (failed f f' : ℕ) (end : Counts) (held held' : Held) (is_over is_over' : Bool) (batch : List (Option Entry))
+pub reads_on : (ahead a a' : Option (List ℕ)) (failed f f' : ℕ) (end : Counts) (held held' : Held) (is_over is_over' : Bool) (batch : List Item)
     → Turns ahead a failed f end held is_over batch
     → ((ahead : Option (List ℕ)) (end : Counts) → Serves ahead a end held.left → MayGoOn ahead a' f f' end held' is_over')
     → Turns ahead a' failed f' end held' is_over' batch
@@ -160,24 +164,27 @@ reads_on ahead a a' failed f f' end held held' is_over is_over' batch t kept = r
 }
 
 -- a read that ended it
-pub over_read : (ahead a a' : Option (List ℕ)) (failed f f' : ℕ) (end : Counts) (held : Held) (is_over : Bool) (batch : List (Option Entry))
+pub over_read : (ahead a a' : Option (List ℕ)) (failed f f' : ℕ) (end : Counts) (held held' : Held) (is_over : Bool) (batch : List Item)
     (answer : Result Finish RunFault) → Turns ahead a failed f end held is_over batch
-    → ((ahead : Option (List ℕ)) (end : Counts) → Serves ahead a end held.left → Connects answer end ahead a' f f')
-    → Connects answer end ahead a' failed f'
-over_read ahead a a' failed f f' end held is_over batch answer t kept =
-    subst (λ x. Connects answer end ahead a' x f') t.goes.same (kept ahead end t.goes.serves)
+    → ((ahead : Option (List ℕ)) (end : Counts) → Serves ahead a end held.left → Connects answer end held'.left ahead a' f f')
+    → Connects answer end (rest_of batch held'.left) ahead a' failed f'
+over_read ahead a a' failed f f' end held held' is_over batch answer t kept =
+    bare (λ rest. Connects answer end rest ahead a' failed f') batch held'.left t.empty
+    (subst (λ x. Connects answer end held'.left ahead a' x f') t.goes.same (kept ahead end t.goes.serves))
 
 -- it goes on, but the relay closes
-gives_up : (ahead ahead' : Option (List ℕ)) (failed failed' : ℕ) (end : Counts) (held : Held) (is_over : Bool) (batch : List (Option Entry))
-    → Turns ahead ahead' failed failed' end held is_over batch → Connects (Err fault.NoMemory) end ahead ahead' failed failed'
+gives_up : (ahead ahead' : Option (List ℕ)) (failed failed' : ℕ) (end : Counts) (held : Held) (is_over : Bool) (batch : List Item)
+    → Turns ahead ahead' failed failed' end held is_over batch → Connects (Err fault.NoMemory) end (rest_of batch held.left) ahead ahead' failed failed'
 gives_up ahead ahead' failed failed' end held is_over batch t =
     let s = t.goes.serves in
-    record { read = s.read; rest = held.left; consumed = s.consumed; begins = s.begins; ends = tt }
+    bare (λ rest. Connects (Err fault.NoMemory) end rest ahead ahead' failed failed') batch held.left t.empty
+    (record { read = s.read; consumed = s.consumed; begins = s.begins; ends = tt })
 
 -- after a wait for memory
 pub waits : (answer : Option (Result Finish RunFault)) (ahead ahead' : Option (List ℕ)) (failed failed' : ℕ) (end : Counts) (held : Held) (is_over : Bool)
-    (batch : List (Option Entry)) → IfSome answer (λ a. a ≡ Err fault.NoMemory) → Turns ahead ahead' failed failed' end held is_over batch
+    (batch : List Item) → IfSome answer (λ a. a ≡ Err fault.NoMemory) → Turns ahead ahead' failed failed' end held is_over batch
     → TurnIs answer ahead ahead' failed failed' end held is_over batch
 waits None ahead ahead' failed failed' end held is_over batch is t = t
 waits (Some answer) ahead ahead' failed failed' end held is_over batch is t =
-    subst (λ a. Connects a end ahead ahead' failed failed') (sym is) (gives_up ahead ahead' failed failed' end held is_over batch t)
+    subst (λ a. Connects a end (rest_of batch held.left) ahead ahead' failed failed') (sym is)
+    (gives_up ahead ahead' failed failed' end held is_over batch t)

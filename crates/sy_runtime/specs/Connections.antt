@@ -1,5 +1,5 @@
 -- What a connection reads, what it counts of that, and how it ends.
-use Rattle.std.specs.Prelude.{◌≡◌, ◌≢◌, ◌≤◌, ◌^◌, ◌⊎◌, ℕ, ◌+◌, List, [], ◌∷◌, ◌++◌, length, Option, Result, Ok, Err}
+use Rattle.std.specs.Prelude.{◌≡◌, ◌≢◌, ◌≤◌, ◌^◌, ◌⊎◌, ℕ, ◌+◌, List, [], ◌∷◌, ◌++◌, length, map, Option, Result, Ok, Err}
 use Rattle.std.specs.Io.KnownBytes.{Consumes, IsAtEnd}
 use Rattle.sy_wire.specs.Frames.{IsBadLength, IsOpen, IsSize, IsTooLong, stream}
 use Rattle.sy_wire.specs.Messages.{IsFault, IsMessage, Said}
@@ -9,6 +9,8 @@ use Rattle.sy_wire.specs.declared.framer.FrameFault.{FrameFault}
 use Rattle.sy_wire.specs.declared.framer.FrameFault.TheVariants.{BadLength, TooLong, Truncated, NoMemory, Failed}
 use Rattle.sy_runtime.specs.declared.connection_end.Finish.{Finish}
 use Rattle.sy_runtime.specs.declared.connection_end.Finish.TheVariants as finish
+use Rattle.sy_runtime.specs.declared.untaken.Item.{Item}
+use Rattle.sy_runtime.specs.declared.untaken.Item.TheVariants as item
 use Rattle.sy_runtime.specs.declared.fault.RunFault.{RunFault}
 use Rattle.sy_runtime.specs.declared.fault.RunFault.TheVariants as fault
 
@@ -63,8 +65,18 @@ GoesOnWith Truncated rest ahead = (rest ≢ []) × IsOpen rest × IsAtEnd ahead
 GoesOnWith NoMemory rest ahead = ⊥
 GoesOnWith Failed rest ahead = ⊥
 
+-- the text that a frame carried
+abbrev pub text_of : Item → List ℕ
+text_of (item.Message node) = node.message.raw
+text_of (item.Other text) = text.items
+text_of (item.Unmade text) = text.items
+
+-- what a connection read and didn't take: the frames that it had gathered, and then what its framer has left
+abbrev pub rest_of : List Item → List ℕ → List ℕ
+rest_of items left = stream (map text_of items) ++ left
+
 -- How a connection ended, by the rest of what it read, what its reader has left, and how many reads had failed before and after. Where the relay
--- closed, memory ran out, no hand was free or a total is full, the rest may be anything.
+-- closed, memory ran out, no hand was free or a total is full, nothing more is said of the rest.
 abbrev pub EndsWith : Result Finish RunFault → List ℕ → Option (List ℕ) → ℕ → ℕ → Type 0
 EndsWith (Ok finish.Ended) rest ahead failed failed' = (rest ≡ []) × IsAtEnd ahead
 EndsWith (Ok finish.Closed) rest ahead failed failed' = Unit {0}
@@ -75,10 +87,10 @@ EndsWith (Err fault.NoMemory) rest ahead failed failed' = Unit {0}
 EndsWith (Err (fault.Frame why)) rest ahead failed failed' = GoesOnWith why rest ahead
 EndsWith (Err fault.TotalsFull) rest ahead failed failed' = Unit {0}
 
--- What a connection read begins with the frames that it counted, and it ended so.
-pub record Connects (answer : Result Finish RunFault) (end : Counts) (ahead ahead' : Option (List ℕ)) (failed failed' : ℕ) : Type 0 where
+-- What a connection read is the frames that it counted and then this rest, and it ended so.
+pub record Connects (answer : Result Finish RunFault) (end : Counts) (rest : List ℕ) (ahead ahead' : Option (List ℕ)) (failed failed' : ℕ) :
+    Type 0 where
   pub read : List ℕ
-  pub rest : List ℕ
   pub consumed : Consumes ahead ahead' read
   pub begins : Begins read end rest
   pub ends : EndsWith answer rest ahead' failed failed'

@@ -16,6 +16,7 @@ pub mod shared;
 pub mod standing;
 pub mod starting;
 pub mod stopping;
+pub mod untaken;
 mod waiting;
 mod worker;
 
@@ -25,3 +26,4 @@ pub use relay::Relay;
 pub use shared::{BoxedDevice, Gate};
 pub use standing::Standing;
 pub use stopping::{Mismatch, Stopped, Workers};
+pub use untaken::{Item, Untaken};

@@ -17,8 +17,6 @@ pub(crate) struct Locked {
     // none once the relay has stopped
     pub(crate) board: Option<Board>,
     pub(crate) is_closing: bool,
-    // connections take nothing more, but go on with what is in their hands
-    pub(crate) is_ending: bool,
     // entries that have left the relay, whose memory may be used again
     pub(crate) used: Vec<Node>,
     // of each input the hands that connections have: bit k stands for hand k
@@ -28,11 +26,6 @@ pub(crate) struct Locked {
 }
 
 impl Locked {
-    /// Whether a connection goes on, which has a message in its hand or none.
-    pub(crate) fn takes(&self, is_in_hand: bool) -> bool {
-        !self.is_closing && (!self.is_ending || is_in_hand)
-    }
-
     /// Whether the board holds nothing. One that is no longer here does so.
     pub(crate) fn is_empty(&self) -> bool
         ensures { IsTrue result → IfSome self.now.board (λ board. held_by (account_of board) ≡ 0) }
@@ -64,7 +57,7 @@ impl Locked {
     pub(crate) fn claim(&mut self, input: u32) -> Result<Hand, Halt>
         ensures { IfOk result (λ hand. (hand.input ≡ input) × (hand.number < 64)) }
     {
-        if !self.takes(false) || self.board.is_none() {
+        if self.is_closing || self.board.is_none() {
             return Err(Halt::Closed);
         }
         let Some(hands) = self.hands.get_mut(input as usize) else {

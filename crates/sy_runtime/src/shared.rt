@@ -1,6 +1,7 @@
 //! What the threads of a relay share.
 
 use crate::locked::Locked;
+use std::sync::atomic::AtomicU64;
 use std::sync::{Condvar, Mutex};
 use sy_actions::{Device, Hatch};
 use sy_board::Guard;
@@ -42,6 +43,8 @@ pub(crate) struct Shared {
     pub(crate) idle: Condvar,
     // the hatch of each action, in their order; none once the relay has stopped
     pub(crate) hatches: Vec<Mutex<Option<Hatch<BoxedDevice>>>>,
+    // the tag of the next frame that is gathered
+    pub(crate) frames: AtomicU64,
     // a copy of the board's guard, as it was given
     pub(crate) guard: Option<Guard>,
 }

@@ -16,6 +16,8 @@ pub struct Standing {
     pub taken: u64,
     pub lost: u128,
     pub held: u128,
+    /// those of what it holds that wait in queues
+    pub queued: u64,
     pub actions: Vec<ActionCounts>,
 }
 
@@ -72,6 +74,7 @@ fn standing_of(alloc: Global, board: &Board) -> Option<Standing>
             taken: accounts.taken(),
             lost: lost_of(accounts),
             held,
+            queued: accounts.in_queues(),
             actions,
         }),
         Err(_) => None,

@@ -10,6 +10,7 @@ use crate::shared::{BoxedDevice, Gate, Shared};
 use crate::stopping::Workers;
 use crate::worker::work;
 use std::alloc::{AllocError, Global};
+use std::sync::atomic::AtomicU64;
 use std::sync::{Arc, Condvar, Mutex, Wait};
 use std::thread;
 use std::thread::{JoinHandle, Threads};
@@ -69,7 +70,6 @@ pub(crate) fn share(
         locked: Mutex::new(Locked {
             board: Some(board),
             is_closing: false,
-            is_ending: false,
             used: Vec::new(alloc),
             hands,
             lost: None,
@@ -79,6 +79,7 @@ pub(crate) fn share(
         idle: Condvar::new(),
         hatches,
         guard: copy,
+        frames: AtomicU64::new(0),
     })
 }
 

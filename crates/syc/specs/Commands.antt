@@ -5,7 +5,14 @@ use Rattle.syc.specs.declared.running.words.RunWords.{RunWords}
 
 -- the options of the command that runs a relay
 abbrev pub options_of : RunWords → RunOptions
-options_of found = record { is_unchecked = found.is_unchecked; left = option_map (λ file. file.now) found.left; drain = found.drain }
+options_of found = record {
+  is_unchecked = found.is_unchecked;
+  is_explained = found.is_explained;
+  left = option_map (λ file. file.now) found.left;
+  drain = found.drain;
+  metrics = option_map (λ file. file.now) found.metrics;
+  metrics_every = found.metrics_every;
+}
 
 -- the words of that command, with the program's name before them
 pub record IsRun (words : List (List ℕ)) (found : RunWords) : Type 0 where

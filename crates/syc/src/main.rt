@@ -21,11 +21,15 @@ mod verify;
 mod wrong_words;
 
 use run::run;
+use running::explaining::{
+    NoDevice, explain_no_device, explain_no_memory, explain_refused, explain_status, explained_by,
+};
+use running::identity::runs_line;
 use running::prepare::prepare;
-use running::words::is_run;
+use running::words::{RunWords, is_run};
 use std::alloc::{AllocError, Global};
 use std::env;
-use std::fs::File;
+use std::fs::{self, File};
 use std::io::{self, BufWriter};
 use std::net::{Net, TcpListener, TcpStream};
 use std::process::ExitCode;
@@ -38,21 +42,31 @@ use sy_board::Guard;
 use sy_host::devices::host_device::HostDevice;
 use sy_host::devices::opening::{OpenFault, Signals, taker};
 use sy_host::devices::outlets::{Outlet, outlets};
-use sy_host::ending::left_file::LeftFile;
+use sy_host::ending::left_file::{LeftFault, LeftFiles};
 use sy_host::listening::serving::Serving;
 use sy_host::log::{ActionLog, Log};
 use sy_host::serve::{Served, serve};
+use sy_host::watching::noted::watch_of;
+use sy_report::outcome::report::{tell_text, tell_texts};
 use sy_report::outcome::stop;
 use sy_report::reading::files::HostFiles;
 use sy_report::writing::outputs::Outputs;
 use sy_site::Site;
+use sy_watched::file::MetricsFile;
+use sy_watched::watch::Watch;
 use sy_wire::{Buffered, FromRead, FromWrite, Sink, Source};
 
 /// How many bytes of lines are held back until the next read.
 const OUTPUT_BUFFER: usize = 65536;
 
+/// After how many seconds the metrics are written again, where that isn't given.
+const METRICS_EVERY: u32 = 10;
+
 /// Room for the longest line on standard error, so that it is written at once.
 const ERROR_BUFFER: usize = 512;
+
+/// What this process's standard input is.
+const STANDARD_INPUT: &str = "/proc/self/fd/0";
 
 type HostOutputs = Outputs<Buffered<FromWrite<Stdout>>, FromWrite<BufWriter<Stderr>>>;
 
@@ -65,7 +79,7 @@ fn main(rt: HostRuntime) -> ExitCode {
         return ExitCode::from(start(&rt, words.as_slice(), &mut out));
     }
     let alloc = rt.alloc();
-    let (site, relay, guard, found) = match prepare(
+    let (site, relay, guard, found, identity) = match prepare(
         alloc,
         words.as_slice(),
         &HostFiles::new(&rt),
@@ -75,17 +89,27 @@ fn main(rt: HostRuntime) -> ExitCode {
         Err(status) => return ExitCode::from(status),
     };
     let _taken = take_closed_streams(&rt);
+    report_input(&rt, &mut out.errors);
     let Ok(outlets) = outlets(alloc, &site, relay) else {
-        return ExitCode::from(stop::out_of_memory(&mut out.errors));
+        return no_memory(&rt, found, &mut out);
     };
-    let Ok(store) = store_of(rt, found.left) else {
-        return ExitCode::from(stop::out_of_memory(&mut out.errors));
+    let store = match store_of(rt, found.left, &mut out.errors) {
+        Ok(store) => store,
+        Err(status) => return ExitCode::from(status),
+    };
+    let Ok(runs) = runs_line(alloc, found.relay.as_bytes(), identity) else {
+        return no_memory(&rt, found, &mut out);
     };
     let with = With {
         drain: found.drain,
         store,
+        runs,
+        metrics: found.metrics,
+        metrics_every: found.metrics_every.unwrap_or(METRICS_EVERY),
+        explained: explained_by(found),
     };
-    ExitCode::from(serve_on(rt, rt, &site, relay, guard, outlets.as_slice(), &with, out))
+    let status = serve_on(rt, rt, &site, relay, guard, outlets.as_slice(), with, out);
+    ExitCode::from(explain_status(&rt, &rt, found, status))
 }
 
 // The process's own words and streams, or the exit status where memory ran out.
@@ -108,6 +132,13 @@ fn begin(rt: &HostRuntime) -> Result<(Vec<String>, HostOutputs), u8> {
     Ok((words, Outputs { writer, errors }))
 }
 
+// Tells that a relay that was to run found no memory, explained where the words ask for that, and answers the exit status.
+fn no_memory(rt: &HostRuntime, words: RunWords<'_>, out: &mut HostOutputs) -> ExitCode {
+    let status = stop::out_of_memory(&mut out.errors);
+    explain_no_memory(rt, words);
+    ExitCode::from(status)
+}
+
 // Runs the commands other than `run` on the process's own words and streams.
 fn start(rt: &HostRuntime, words: &[String], out: &mut HostOutputs) -> u8 {
     let mut reader = FromRead::new(rt.stdin());
@@ -122,6 +153,22 @@ fn no_devices<E: Sink>(errors: &mut E, fault: OpenFault) -> u8 {
     }
 }
 
+// The same for an action of a relay, with an explanation, where that is asked for.
+fn no_device(
+    host: HostRuntime,
+    site: &Site,
+    relay: u32,
+    with: &With<'_>,
+    why: NoDevice,
+    out: &mut HostOutputs,
+) -> u8 {
+    let status = no_devices(&mut out.errors, why.fault);
+    if let Some(name) = with.explained {
+        explain_no_device(&host, name, site, relay, why, &mut out.errors);
+    }
+    status
+}
+
 // Takes the numbers of those standard streams that were closed when the process began: a file or a link that got one would
 // have written into it what belongs on that stream. They are kept until the process ends; writing to them fails.
 fn take_closed_streams(rt: &HostRuntime) -> [io::Result<File>; 3] {
@@ -132,6 +179,27 @@ fn take_closed_streams(rt: &HostRuntime) -> [io::Result<File>; 3] {
     ]
 }
 
+// Whether standard input has nothing from the beginning on: it is closed, or empty.
+fn has_no_input(rt: &HostRuntime) -> bool {
+    match fs::read_link(rt, STANDARD_INPUT) {
+        Ok(name) if name.as_str() == "/dev/null" => true,
+        _ => match fs::metadata(rt, STANDARD_INPUT) {
+            Ok(found) => found.is_file() && found.len() == 0,
+            Err(_) => false,
+        },
+    }
+}
+
+// Tells where nothing keeps a relay running.
+fn report_input<E: Sink>(rt: &HostRuntime, errors: &mut E) {
+    if has_no_input(rt) {
+        tell_text(
+            errors,
+            "standard input is at its end: nothing keeps the relay running; see syc-run",
+        );
+    }
+}
+
 // The device of an action of this number, which notes in the log whether it fails.
 fn device_of(
     host: HostRuntime,
@@ -140,36 +208,97 @@ fn device_of(
     signals: &Signals,
     log: &Arc<Log>,
     action: usize,
-) -> Result<HostDevice, OpenFault> {
+) -> Result<HostDevice, NoDevice> {
     let Ok(noted) = ActionLog::new(alloc, log, action) else {
-        return Err(OpenFault::NoMemory);
+        return Err(NoDevice::without_memory(action));
     };
     let Ok(theirs) = noted.try_clone() else {
-        return Err(OpenFault::NoMemory);
+        return Err(NoDevice::without_memory(action));
     };
     match taker(host, alloc, outlet, signals, theirs) {
         Ok(taker) => Ok(HostDevice::new(taker, noted)),
-        Err(fault) => Err(fault),
+        Err(fault) => Err(NoDevice {
+            action,
+            fault,
+            reason: noted.take_reason(),
+        }),
     }
 }
 
 // What the options of a relay that runs ask for.
 #[derive(Drop)]
-struct With {
+struct With<'a> {
     // for how many seconds it may empty before it stops
     drain: Option<u32>,
-    // where what is left is written
-    store: Option<LeftFile>,
+    // where what is left is kept
+    store: LeftFiles,
+    // the line that says which files it runs
+    runs: Vec<u8>,
+    // the name of the file of the metrics, and after how many seconds it is written again
+    metrics: Option<&'a str>,
+    metrics_every: u32,
+    // the name of the site file, where a fault of the start is explained
+    explained: Option<&'a str>,
 }
 
-// The file of that name for what is left, if there is to be one.
-fn store_of(rt: HostRuntime, name: Option<&str>) -> Result<Option<LeftFile>, AllocError> {
-    match name {
-        Some(name) => match LeftFile::new(rt, rt.alloc(), name) {
-            Some(store) => Ok(Some(store)),
-            None => Err(AllocError),
-        },
-        None => Ok(None),
+// What tells of a relay: its log, the line that says which files it runs, and what is watched beside them.
+#[derive(Drop)]
+struct Notices<'a> {
+    log: Arc<Log>,
+    runs: Vec<u8>,
+    watch: Watch,
+    // the name of the site file, where a fault of the start is explained
+    explained: Option<&'a str>,
+}
+
+// What is watched of a relay, with its file, if there is to be one.
+fn watch_with(
+    host: HostRuntime,
+    alloc: Global,
+    site: &Site,
+    relay: u32,
+    log: &Log,
+    with: &With<'_>,
+) -> Result<Watch, AllocError>
+    requires { relay < length site.now.relays }
+{
+    let file = match with.metrics {
+        Some(name) => Some(MetricsFile::new(host, alloc, name, with.metrics_every)?),
+        None => None,
+    };
+    watch_of(alloc, site.name(relay), site.plan(relay), log, file)
+}
+
+fn report_left<'a, E: Sink>(errors: &mut E, name: &'a str, words: &'a str) {
+    tell_texts(
+        errors,
+        &[
+            b"syc: left file ",
+            name.as_bytes(),
+            b": ",
+            words.as_bytes(),
+            b"\n",
+        ],
+    );
+}
+
+// Tells why nothing can be left there, and answers the exit status.
+fn no_store<E: Sink>(errors: &mut E, name: &str, fault: LeftFault) -> u8 {
+    if fault == LeftFault::NoMemory {
+        return stop::out_of_memory(errors);
+    }
+    report_left(errors, name, fault.words());
+    4
+}
+
+// The files of that name for what is left, if there are to be any, where they can be written; or the exit status.
+fn store_of<E: Sink>(rt: HostRuntime, name: Option<&str>, errors: &mut E) -> Result<LeftFiles, u8> {
+    let Ok(store) = LeftFiles::new(rt, rt.alloc(), name) else {
+        return Err(stop::out_of_memory(errors));
+    };
+    match store.try_out() {
+        Ok(()) => Ok(store),
+        Err(fault) => Err(no_store(errors, name.unwrap_or(""), fault)),
     }
 }
 
@@ -180,14 +309,15 @@ fn devices_of(
     outlets: &[Outlet<'_>],
     signals: &Signals,
     log: &Arc<Log>,
-) -> Result<Vec<HostDevice>, OpenFault>
+) -> Result<Vec<HostDevice>, NoDevice>
     ensures { IfOk result (λ devices. length devices.items ≡ length outlets.now) }
 {
     let mut devices = Vec::new(alloc);
     for outlet in outlets {
-        let device = device_of(host, alloc, *outlet, signals, log, devices.len())?;
+        let action = devices.len();
+        let device = device_of(host, alloc, *outlet, signals, log, action)?;
         let Ok(()) = devices.push(device) else {
-            return Err(OpenFault::NoMemory);
+            return Err(NoDevice::without_memory(action));
         };
     }
     Ok(devices)
@@ -201,7 +331,7 @@ fn serve_on<R>(
     relay: u32,
     guard: Option<Guard>,
     outlets: &[Outlet<'_>],
-    with: &With,
+    with: With<'_>,
     mut out: HostOutputs,
 ) -> u8
 where
@@ -218,11 +348,21 @@ where
     let Ok(log) = Log::new(alloc, site.plan(relay)) else {
         return stop::out_of_memory(&mut out.errors);
     };
+    let Ok(watch) = watch_with(host, alloc, site, relay, &log, &with) else {
+        return stop::out_of_memory(&mut out.errors);
+    };
     let devices = match devices_of(host, alloc, outlets, &signals, &log) {
         Ok(devices) => devices,
-        Err(fault) => return no_devices(&mut out.errors, fault),
+        Err(why) => return no_device(host, site, relay, &with, why, &mut out),
     };
     let Signals { is_ending, reopens } = signals;
+    let With {
+        drain,
+        store,
+        runs,
+        explained,
+        ..
+    } = with;
     let served = Served {
         site,
         relay,
@@ -230,9 +370,15 @@ where
         devices,
         is_ending,
         reopens,
-        drain: with.drain,
+        drain,
     };
-    serve_devices(rt, host, served, with.store.as_ref(), log, out)
+    let told = Notices {
+        log,
+        runs,
+        watch,
+        explained,
+    };
+    serve_devices(rt, host, served, store, told, out)
 }
 
 // Serves a relay with the process's own streams.
@@ -248,8 +394,8 @@ fn serve_devices<
     rt: R,
     host: HostRuntime,
     served: Served<'_>,
-    store: Option<&LeftFile>,
-    log: Arc<Log>,
+    mut store: LeftFiles,
+    told: Notices<'_>,
     out: HostOutputs,
 ) -> u8
     requires exists { served.relay < length served.site.now.relays }
@@ -257,10 +403,34 @@ fn serve_devices<
     requires devices { length served.devices.items ≡ length (plan_at served.site.now served.relay).actions }
 {
     let alloc = host.alloc();
-    let Outputs { mut writer, errors } = out;
-    let Ok(serving) = Arc::new(alloc, Serving::new(alloc, errors, log)) else {
-        return 3;
+    let Outputs {
+        mut writer,
+        mut errors,
+    } = out;
+    let Notices {
+        log,
+        runs,
+        watch,
+        explained,
+    } = told;
+    // (lines come to it in pieces; without a buffer it is known which of them were written)
+    let unbuffered = FromWrite::new(host.stderr());
+    let Ok(serving) = Arc::new(alloc, Serving::new(alloc, unbuffered, log, runs, watch)) else {
+        return stop::out_of_memory(&mut errors);
     };
     let mut reader = FromRead::new(host.stdin());
-    serve(rt, alloc, served, store, &mut reader, &mut writer, &serving)
+    let (site, relay) = (served.site, served.relay);
+    let status = serve(
+        rt,
+        alloc,
+        served,
+        &mut store,
+        &mut reader,
+        &mut writer,
+        &serving,
+    );
+    if let (Some(name), Some(refusal)) = (explained, serving.refused(&rt)) {
+        explain_refused(&host, name, site, relay, refusal);
+    }
+    status
 }

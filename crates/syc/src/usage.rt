@@ -1,5 +1,6 @@
 //! What clap says of the program and of each command: a help, the version, and what is wrong with other words.
 
+use crate::running::words::{period, seconds};
 use clap::error::ErrorKind;
 use clap::{Arg, ArgAction, Command as Parser, Error};
 use std::alloc::{AllocError, Global};
@@ -22,6 +23,12 @@ const LEFT: &str = "Write what the relay still holds at its end to this file, as
 
 const DRAIN: &str =
     "Wait until the relay holds nothing, before it ends, but so many seconds at most: 0 to 86400";
+
+const METRICS: &str =
+    "Write the totals and what they are of to this file again and again, as text for Prometheus";
+
+const METRICS_EVERY: &str =
+    "Write that file again after so many seconds, in place of 10: 1 to 86400; only with --metrics";
 
 const JSON: &str = "Print one JSON document in place of the text";
 
@@ -145,7 +152,10 @@ static COMMANDS: [(&str, &str, &[(&str, &str)], &[(&str, &str)], &str); 7] = [
             ("SITE", SITE),
             ("RELAY", "The name of the relay that is run"),
         ],
-        &[("unchecked", "Run it without a check")],
+        &[
+            ("unchecked", "Run it without a check"),
+            ("explain", EXPLAIN),
+        ],
         RUN_BEHIND,
     ),
     (
@@ -220,7 +230,9 @@ fn with_values<'a>(
     }
     if is_word(word, "run") {
         let parser = with_value(alloc, parser, "left", "FILE", LEFT);
-        return with_value(alloc, parser, "drain", "SECONDS", DRAIN);
+        let parser = with_value(alloc, parser, "drain", "SECONDS", DRAIN);
+        let parser = with_value(alloc, parser, "metrics", "FILE", METRICS);
+        return with_value(alloc, parser, "metrics-every", "SECONDS", METRICS_EVERY);
     }
     parser
 }
@@ -298,16 +310,46 @@ fn whole_parser<'a>(alloc: Global) -> Result<Parser<'a>, AllocError> {
     parser
 }
 
+// What is wrong with a word behind an option that takes a time, if anything is.
+fn wrong_time(option: &str, word: &str) -> Option<&'static str> {
+    if is_word(option, "--drain") && seconds(word.as_bytes()).is_none() {
+        return Some("--drain takes decimal digits: 86400 seconds at most");
+    }
+    if is_word(option, "--metrics-every") && period(word.as_bytes()).is_none() {
+        return Some("--metrics-every takes decimal digits: 1 to 86400 seconds");
+    }
+    None
+}
+
+// Whether a time between two files of metrics stands among words without their name.
+fn is_unpaired(words: &[&str]) -> bool {
+    let mut is_timed = false;
+    for word in words {
+        if is_word(word, "--metrics") {
+            return false;
+        }
+        if is_word(word, "--metrics-every") {
+            is_timed = true;
+        }
+    }
+    is_timed
+}
+
 // Why words are refused that clap reads as a command: it reads `pass --` as `pass`, an option before the command's word
 // as one behind it, and the value of an option behind `=`.
 fn unread(words: &[&str]) -> &'static str {
+    let mut option = "";
     for word in words {
         if is_word(word, "--") {
             return "unexpected argument '--' found: write the command's word, its options and its names, without '--'";
         }
-        if is_word(word, "--drain") {
-            return "--drain takes decimal digits: 86400 seconds at most";
+        if let Some(why) = wrong_time(option, word) {
+            return why;
         }
+        option = word;
+    }
+    if is_unpaired(words) {
+        return "--metrics-every stands beside --metrics alone: name its file too";
     }
     "these words are read in no other order or form: write the command's word first, and an option as syc --help has it"
 }

@@ -6,26 +6,27 @@ use crate::devices::link::Link;
 use crate::devices::outlets::Outlet;
 use crate::listening::socket_address;
 use crate::log::ActionLog;
+use crate::rotation::reopens::Reopens;
 use std::alloc::Global;
 use std::net::SocketAddr;
 use std::str;
 use std::sync::Arc;
-use std::sync::atomic::{AtomicBool, AtomicU64};
+use std::sync::atomic::AtomicBool;
 
 /// What devices look at.
 #[derive(Drop)]
 pub struct Signals {
     /// Set once none of their writes is to wait.
     pub is_ending: Arc<AtomicBool>,
-    /// How often archives are to be opened anew.
-    pub reopens: Arc<AtomicU64>,
+    /// What asks for archives to be opened anew.
+    pub reopens: Arc<Reopens>,
 }
 
 impl Signals {
     /// Nothing is asked yet; none where memory runs out.
     pub fn new(alloc: Global) -> Option<Signals> {
         let is_ending = Arc::new(alloc, AtomicBool::new(false)).ok()?;
-        let reopens = Arc::new(alloc, AtomicU64::new(0)).ok()?;
+        let reopens = Arc::new(alloc, Reopens::new(alloc)).ok()?;
         Some(Signals { is_ending, reopens })
     }
 }
@@ -42,7 +43,7 @@ fn archive(
     rt: HostRuntime,
     alloc: Global,
     name: &[u8],
-    reopens: &Arc<AtomicU64>,
+    reopens: &Arc<Reopens>,
     log: ActionLog,
 ) -> Result<Taker, OpenFault> {
     let Ok(name) = str::from_utf8(name) else {
@@ -73,7 +74,7 @@ fn link(
     }
 }
 
-/// What takes the messages that are brought there. A file is opened for appending, and anew as that is counted; a link is
+/// What takes the messages that are brought there. A file is opened for appending, and anew as that is asked for; a link is
 /// connected when it is needed. Why an offer fails is noted.
 pub fn taker(
     rt: HostRuntime,

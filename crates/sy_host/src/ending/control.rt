@@ -2,9 +2,10 @@
 
 use crate::listening::connector::Connector;
 use crate::listening::serving::Serving;
+use crate::rotation::reopens::Reopens;
 use std::alloc::Global;
 use std::sync::Wait;
-use std::sync::atomic::{AtomicU64, Ordering};
+use std::time::Clock;
 use sy_rules::Action;
 use sy_wire::{Sink, Source};
 
@@ -14,14 +15,18 @@ const REOPEN: &[u8] = b"reopen";
 /// The line that asks for the totals as they stand.
 const STATUS: &[u8] = b"status";
 
+/// The line that asks for all that is watched, as a JSON document.
+const STATUS_JSON: &[u8] = b"status json";
+
 /// How many bytes of a line are kept: one more than the longest line has that asks for something.
-const KEPT: usize = 7;
+const KEPT: usize = 12;
 
 /// What a line asks for.
 #[derive(Clone, Copy)]
 enum Request {
     Reopen,
     Status,
+    StatusJson,
 }
 
 // The beginning of a line.
@@ -46,6 +51,8 @@ impl Line {
             Some(Request::Reopen)
         } else if line == STATUS {
             Some(Request::Status)
+        } else if line == STATUS_JSON {
+            Some(Request::StatusJson)
         } else {
             None
         }
@@ -72,31 +79,30 @@ pub struct Controlled<'a, C: Drop, E: Drop> {
     pub relay: &'a C,
     /// The actions of the relay.
     pub actions: &'a [Action],
-    /// How often archives are to be opened anew.
-    pub reopens: &'a AtomicU64,
+    /// What asks for archives to be opened anew.
+    pub reopens: &'a Reopens,
     pub serving: &'a Serving<E>,
 }
 
 // Does what a line asks for.
-fn answer<R: Wait, C: Connector, E: Sink + Drop>(
+fn answer<R: Wait + Clock, C: Connector, E: Sink + Drop>(
     rt: &R,
     alloc: Global,
     of: &Controlled<'_, C, E>,
     request: Request,
 ) {
     match request {
-        Request::Reopen => {
-            let _ = of.reopens.fetch_add(1, Ordering::SeqCst);
-        }
+        Request::Reopen => of.reopens.ask(),
         Request::Status => match of.relay.status(rt, alloc) {
             Some(standing) => of.serving.tell_totals(rt, alloc, of.actions, &standing),
             None => of.serving.tell_text(rt, "no memory"),
         },
+        Request::StatusJson => of.serving.report_document(rt, alloc, of.relay),
     }
 }
 
 // Does what each line asks for that ends in these bytes.
-fn answer_all<R: Wait, C: Connector, E: Sink + Drop>(
+fn answer_all<R: Wait + Clock, C: Connector, E: Sink + Drop>(
     rt: &R,
     alloc: Global,
     of: &Controlled<'_, C, E>,
@@ -111,7 +117,7 @@ fn answer_all<R: Wait, C: Connector, E: Sink + Drop>(
 }
 
 /// Reads until there is nothing more, and does what each line asks for; other lines mean nothing.
-pub fn read_control<R: Wait, C: Connector, S: Source, E: Sink + Drop>(
+pub fn read_control<R: Wait + Clock, C: Connector, S: Source, E: Sink + Drop>(
     rt: &R,
     alloc: Global,
     of: &Controlled<'_, C, E>,

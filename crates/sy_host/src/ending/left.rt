@@ -1,61 +1,233 @@
-//! What a relay still held when it stopped, kept for its next run.
-ghost use Rattle.std.specs.Prelude.{◌≡◌, OnOk, map};
-ghost use Rattle.std.specs.Io.KnownBytes.{Appends};
+//! What a relay leaves when it stops, kept for its next run: a file for each input that has anything.
+ghost use Rattle.std.specs.Prelude.{◌≡◌, ◌≤◌, ◌∷◌, [], false, Bool, IsPermutation, List, ℕ, Option, IfOk, OnOk, length, map};
+ghost use Rattle.std.specs.Io.KnownBytes.{Appends, IsAtEnd};
 ghost use Rattle.sy_wire.specs.Frames.{frame, stream};
+ghost use Rattle.sy_runtime.specs.Connections.{text_of};
+ghost use Rattle.sy_host.specs.Left.{AreRests, IsInOrder, IsOfInput, IsRest, Keeps, KeepsEach, texts_of};
 
+use crate::ending::remaining::{AtInput, at_inputs, cut_frames};
 use itoa::Buffer;
-use sy_chain::Chain;
+use std::alloc::{AllocError, Global};
+use std::collections::VecDeque;
+use sy_chain::{Chain, Node};
 use sy_report::writing::output::write_texts;
+use sy_rules::Input;
+use sy_runtime::{Item, Untaken};
 use sy_wire::{Sink, WriteFault};
 
-/// Where that is written. What stands there changes at once, or not at all.
+/// Where that is kept.
 pub trait Store {
-    /// What is written, before it is put there.
+    /// A file that is written, before it is kept.
     type Opened: Sink + Drop;
 
-    /// Begins to write.
-    fn create(&self) -> Result<Self::Opened, WriteFault>;
+    // whether anything is to be kept
+    ghost wanted: { Self → Bool };
+    // what there is once a file was kept: of the input of this port, with these bytes, where they are known
+    ghost kept: { Self → ℕ → Option (List ℕ) → Self → Type 0 } = { λ _ _ _ _. Unit {0} };
 
-    /// Puts what was written there.
-    fn put(&self, written: Self::Opened) -> Result<(), WriteFault>;
+    /// Whether anything is to be kept.
+    fn is_wanted(&self) -> bool
+        ensures { result ≡ wanted self.now };
+
+    /// Begins a file for what is left at the input of this port.
+    fn create(&self, port: u16) -> Result<Self::Opened, WriteFault>
+        ensures { IfOk result (λ opened. IsAtEnd (Self.Opened.contents opened)) };
+
+    /// Keeps what was written there.
+    fn keep(&mut self, port: u16, written: Self::Opened) -> Result<(), WriteFault>
+        ensures { OnOk result (kept self.old port (Self.Opened.contents written) self.new) };
 
     /// Drops what was written.
-    fn discard(&self, written: Self::Opened);
+    fn discard(&self, port: u16, written: Self::Opened);
 }
 
-// Writes a message as a frame.
-fn write_frame<W: Sink>(writer: &mut W, message: &[u8]) -> Result<(), WriteFault>
-    ensures { OnOk result (Appends (W.contents writer.old) (W.contents writer.new) (frame message.now)) }
+/// Why something isn't kept.
+#[derive(Clone, Copy)]
+pub enum KeepFault {
+    NoMemory,
+    Write,
+}
+
+// Writes a text as a frame.
+fn write_frame<W: Sink>(writer: &mut W, text: &[u8]) -> Result<(), KeepFault>
+    ensures { OnOk result (Appends (W.contents writer.old) (W.contents writer.new) (frame text.now)) }
 {
     let mut digits = Buffer::new();
-    write_texts(
-        writer,
-        &[digits.format(message.len()).as_bytes(), b" ", message],
-    )
+    let length = digits.format(text.len()).as_bytes();
+    match write_texts(writer, &[length, b" ", text]) {
+        Ok(()) => Ok(()),
+        Err(WriteFault) => Err(KeepFault::Write),
+    }
 }
 
-/// Writes the messages of entries as frames, in their order, and hands them on. A message is written once for each entry.
-#[tactic(auto, using(crate::proofs::LeftFrames::frames_more, crate::proofs::LeftFrames::nothing_more))]
-pub fn write_left<W: Sink>(writer: &mut W, mut left: Chain) -> Result<(), WriteFault>
-    ensures { OnOk result (Appends (W.contents writer.old) (W.contents writer.new) (stream (map (λ entry. entry.message.raw) left))) }
+// The entries of a chain, in its order.
+fn entries_of(alloc: Global, mut left: Chain) -> Result<Vec<Node>, AllocError>
+    ensures { IfOk result (λ entries. entries.items ≡ left) }
 {
+    let mut entries = Vec::with_capacity(alloc, left.len())?;
     while let Some(node) = left.pop_front() {
-        write_frame(writer, node.message().raw())?;
+        entries.push(node)?;
     }
-    writer.flush()
+    Ok(entries)
 }
 
-/// Keeps what is left: nothing is written where nothing is.
-pub fn keep_left<T: Store>(store: &T, left: Chain) -> Result<(), WriteFault> {
-    if left.is_empty() {
-        return Ok(());
-    }
-    let mut written = store.create()?;
-    match write_left(&mut written, left) {
-        Ok(()) => store.put(written),
-        Err(fault) => {
-            store.discard(written);
-            Err(fault)
+// The entries that a relay held, in the order in which it had read them.
+fn in_order(alloc: Global, left: Chain) -> Result<Vec<Node>, AllocError>
+    ensures same { IfOk result (λ entries. IsPermutation left entries.items) }
+    ensures order { IfOk result (λ entries. IsInOrder entries.items) }
+{
+    let mut entries = entries_of(alloc, left)?;
+    entries.sort_unstable_by_key(|entry| entry.tag());
+    Ok(entries)
+}
+
+// Whether one of these came by this input.
+fn has_entry(entries: &[Node], input: u32) -> bool
+    ensures { result ≡ false → texts_of input entries.now ≡ [] }
+{
+    for entry in entries {
+        if entry.input() == input {
+            return true;
         }
     }
+    false
+}
+
+// Whether a connection is among these.
+fn has_rest(untaken: &VecDeque<Untaken>) -> bool
+    ensures { result ≡ false → untaken.now.items ≡ [] }
+{
+    match untaken.front() {
+        Some(_) => true,
+        None => false,
+    }
+}
+
+// Writes the messages of those entries as frames that came by this input, in their order. A message is written once for each entry.
+fn write_held<W: Sink>(writer: &mut W, entries: &[Node], input: u32) -> Result<(), KeepFault>
+    ensures { OnOk result (Appends (W.contents writer.old) (W.contents writer.new) (stream (texts_of input entries.now))) }
+{
+    for entry in entries {
+        if entry.input() == input {
+            write_frame(writer, entry.message().raw())?;
+        }
+    }
+    Ok(())
+}
+
+// Writes the texts of what was gathered as frames.
+fn write_items<W: Sink>(writer: &mut W, mut items: VecDeque<Item>) -> Result<(), KeepFault>
+    ensures { OnOk result (Appends (W.contents writer.old) (W.contents writer.new) (stream (map text_of items.items))) }
+{
+    while let Some(item) = items.pop_front() {
+        write_frame(writer, item.text())?;
+    }
+    Ok(())
+}
+
+// Writes the whole frames that a connection had read and not taken.
+fn write_rest<W: Sink>(alloc: Global, writer: &mut W, untaken: Untaken) -> Result<(), KeepFault>
+    ensures { OnOk result ((texts : List (List ℕ)) × IsRest untaken texts
+        × Appends (W.contents writer.old) (W.contents writer.new) (stream texts)) }
+{
+    match cut_frames(alloc, untaken) {
+        Ok(cut) => write_items(writer, cut.untaken.items),
+        Err(_) => Err(KeepFault::NoMemory),
+    }
+}
+
+// The same, of some connections.
+fn write_rests<W: Sink>(
+    alloc: Global,
+    writer: &mut W,
+    mut all: VecDeque<Untaken>,
+) -> Result<(), KeepFault>
+    ensures { OnOk result ((texts : List (List ℕ)) × AreRests all.items texts
+        × Appends (W.contents writer.old) (W.contents writer.new) (stream texts)) }
+{
+    while let Some(untaken) = all.pop_front() {
+        write_rest(alloc, writer, untaken)?;
+    }
+    Ok(())
+}
+
+// Writes what is left at an input, and hands it on.
+fn write_input<W: Sink>(
+    alloc: Global,
+    writer: &mut W,
+    entries: &[Node],
+    input: AtInput,
+) -> Result<(), KeepFault>
+    ensures { OnOk result ((texts : List (List ℕ)) × IsOfInput input entries.now texts
+        × Appends (W.contents writer.old) (W.contents writer.new) (stream texts)) }
+{
+    let AtInput { at, untaken } = input;
+    write_held(writer, entries, at.input)?;
+    write_rests(alloc, writer, untaken)?;
+    match writer.flush() {
+        Ok(()) => Ok(()),
+        Err(WriteFault) => Err(KeepFault::Write),
+    }
+}
+
+// Keeps what is left at an input, where anything is.
+fn keep_input<T: Store>(
+    alloc: Global,
+    store: &mut T,
+    entries: &[Node],
+    input: AtInput,
+) -> Result<(), KeepFault>
+    ensures { OnOk result (KeepsEach T.kept entries.now store.old (input ∷ []) store.new) }
+{
+    if !has_rest(&input.untaken) && !has_entry(entries, input.at.input) {
+        return Ok(());
+    }
+    let port = input.at.port;
+    let Ok(mut written) = store.create(port) else {
+        return Err(KeepFault::Write);
+    };
+    if let Err(fault) = write_input(alloc, &mut written, entries, input) {
+        store.discard(port, written);
+        return Err(fault);
+    }
+    match store.keep(port, written) {
+        Ok(()) => Ok(()),
+        Err(WriteFault) => Err(KeepFault::Write),
+    }
+}
+
+// Keeps what is left at each of these inputs.
+fn keep_all<T: Store>(
+    alloc: Global,
+    store: &mut T,
+    entries: &[Node],
+    mut all: VecDeque<AtInput>,
+) -> Result<(), KeepFault>
+    ensures { OnOk result (KeepsEach T.kept entries.now store.old all.items store.new) }
+{
+    while let Some(input) = all.pop_front() {
+        keep_input(alloc, store, entries, input)?;
+    }
+    Ok(())
+}
+
+/// Keeps what a relay with these inputs still held, in the order in which it had read it, and behind that, of each input, what its connections
+/// had read and not taken: a file for each input that has anything.
+pub fn keep_left<T: Store>(
+    alloc: Global,
+    store: &mut T,
+    inputs: &[Input],
+    held: Chain,
+    untaken: VecDeque<VecDeque<Untaken>>,
+) -> Result<(), KeepFault>
+    requires { length inputs.now ≤ 64 }
+    ensures { OnOk result (Keeps T.kept inputs.now held store.old store.new) }
+{
+    let Ok(entries) = in_order(alloc, held) else {
+        return Err(KeepFault::NoMemory);
+    };
+    let Ok(all) = at_inputs(alloc, inputs, untaken) else {
+        return Err(KeepFault::NoMemory);
+    };
+    keep_all(alloc, store, entries.as_slice(), all)
 }

@@ -1,15 +1,26 @@
 //! The totals of a relay as they stand, on standard error.
 
-use crate::ending::totals::{Numbers, TotalsFault, write_totals};
+use crate::ending::totals::{Numbers, put_totals};
 use crate::listening::serving::Serving;
-use std::alloc::Global;
+use std::alloc::{AllocError, Global};
 use std::sync::Wait;
 use sy_rules::Action;
 use sy_runtime::Standing;
 use sy_wire::Sink;
 
+// Appends which files a relay runs, and its totals.
+fn append_standing(
+    text: &mut Vec<u8>,
+    runs: &[u8],
+    actions: &[Action],
+    numbers: Numbers<'_>,
+) -> Result<(), AllocError> {
+    text.extend_from_slice(runs)?;
+    put_totals(text, actions, numbers)
+}
+
 impl<E: Sink + Drop> Serving<E> {
-    /// Prints the totals of a relay with these actions as they stand.
+    /// Prints which files the relay runs, and the totals of a relay with these actions as they stand.
     pub fn tell_totals<R: Wait>(
         &self,
         rt: &R,
@@ -23,9 +34,11 @@ impl<E: Sink + Drop> Serving<E> {
             held: standing.held,
             actions: standing.actions.as_slice(),
         };
-        let written = write_totals(alloc, &mut *self.errors.lock(rt), actions, numbers);
-        if let Err(TotalsFault::NoMemory) = written {
-            self.tell_text(rt, "no memory");
+        let mut text = Vec::new(alloc);
+        let written = append_standing(&mut text, self.runs(), actions, numbers);
+        match written {
+            Ok(()) => self.print(rt, Ok(text)),
+            Err(_) => self.tell_text(rt, "no memory"),
         }
     }
 }

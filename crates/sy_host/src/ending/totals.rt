@@ -127,7 +127,7 @@ fn put_actions(
 }
 
 // Puts the totals of a relay with these actions behind a text.
-fn put_totals(
+pub(crate) fn put_totals(
     text: &mut Vec<u8>,
     actions: &[Action],
     numbers: Numbers<'_>,

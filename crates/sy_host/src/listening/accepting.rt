@@ -2,6 +2,7 @@
 
 use crate::listening::Listening;
 use crate::listening::connector::Connector;
+use crate::listening::served_threads::ServedThreads;
 use crate::listening::serving::{Connection, Port, Serving, serve_connection};
 use std::alloc::{AllocError, Global};
 use std::net::{SocketAddr, TcpListener, TcpStream};
@@ -17,6 +18,41 @@ const ACCEPT_PAUSE: u64 = 100;
 /// For how many connections there is room before one is accepted: one for each accept loop that there may be.
 const ROOM: usize = 64;
 
+// What accepts the connections of an input.
+#[derive(Drop)]
+struct Acceptor<C: Drop, E: Drop> {
+    relay: Arc<C>,
+    serving: Arc<Serving<E>>,
+    at: Port,
+    threads: Arc<ServedThreads>,
+    listener: TcpListener,
+}
+
+// A connection that was accepted, with its place.
+fn connection_of<R: Wait, C: Connector, E: Sink + Drop>(
+    rt: &R,
+    alloc: Global,
+    of: &Acceptor<C, E>,
+    peer: SocketAddr,
+    stream: TcpStream,
+) -> Result<Connection<C, E>, AllocError> {
+    let stream = Arc::new(alloc, stream)?;
+    let written = Arc::try_clone(&stream)?;
+    let relay = Arc::try_clone(&of.relay)?;
+    let serving = Arc::try_clone(&of.serving)?;
+    let threads = Arc::try_clone(&of.threads)?;
+    let place = of.serving.enter(rt, written)?;
+    Ok(Connection {
+        relay,
+        serving,
+        at: of.at,
+        peer,
+        stream,
+        place,
+        threads,
+    })
+}
+
 // Has a thread of its own serve a connection.
 fn start_connection<
     R: Threads + Wait + Clock + Copy + Send + 'static,
@@ -25,29 +61,18 @@ fn start_connection<
 >(
     rt: R,
     alloc: Global,
-    relay: &Arc<C>,
-    serving: &Arc<Serving<E>>,
-    at: Port,
+    of: &Acceptor<C, E>,
     peer: SocketAddr,
     stream: TcpStream,
 ) -> Result<(), AllocError> {
-    let stream = Arc::new(alloc, stream)?;
-    let written = Arc::try_clone(&stream)?;
-    let relay = Arc::try_clone(relay)?;
-    let theirs = Arc::try_clone(serving)?;
-    let place = serving.enter(&rt, written)?;
-    let connection = Connection {
-        relay,
-        serving: theirs,
-        at,
-        peer,
-        stream,
-        place,
-    };
+    let connection = connection_of(&rt, alloc, of, peer, stream)?;
+    let place = connection.place;
+    of.threads.begin();
     match thread::spawn(&rt, move || serve_connection(rt, alloc, connection)) {
         Ok(_thread) => Ok(()),
         Err(_) => {
-            serving.leave(&rt, place);
+            of.threads.end();
+            of.serving.leave(&rt, place);
             Err(AllocError)
         }
     }
@@ -58,53 +83,40 @@ fn accept<
     R: Threads + Wait + Clock + Copy + Send + 'static,
     C: Connector + Send + Sync + 'static,
     E: Sink + Drop + Send + 'static,
->(
-    rt: R,
-    alloc: Global,
-    relay: &Arc<C>,
-    serving: &Arc<Serving<E>>,
-    at: Port,
-    listener: &TcpListener,
-) -> Result<(), AllocError> {
-    serving.make_room(&rt, ROOM)?;
-    let Ok((stream, peer)) = listener.accept() else {
+>(rt: R, alloc: Global, of: &Acceptor<C, E>) -> Result<(), AllocError> {
+    of.serving.make_room(&rt, ROOM)?;
+    let Ok((stream, peer)) = of.listener.accept() else {
         return Err(AllocError);
     };
-    if serving.is_stopping() {
+    if of.serving.is_stopping() {
         return Ok(());
     }
-    start_connection(rt, alloc, relay, serving, at, peer, stream)
+    start_connection(rt, alloc, of, peer, stream)
 }
 
-// What accepts the connections of an input.
-#[derive(Drop)]
-struct Acceptor<C: Drop, E: Drop> {
-    relay: Arc<C>,
-    serving: Arc<Serving<E>>,
-    listening: Listening,
-}
-
-// Accepts connections until nothing new is to be accepted. An accept that fails is tried again, and said once until one
-// succeeds.
+// Accepts connections until nothing new is to be accepted, each once there may be one thread more. An accept that fails is
+// tried again, and said once until one succeeds.
 fn accept_all<
     R: Threads + Wait + Clock + Copy + Send + 'static,
     C: Connector + Send + Sync + 'static,
     E: Sink + Drop + Send + 'static,
->(rt: R, alloc: Global, relay: &Arc<C>, serving: &Arc<Serving<E>>, listening: &Listening) {
+>(rt: R, alloc: Global, of: &Acceptor<C, E>) {
+    let pause = Duration::from_millis(ACCEPT_PAUSE);
     let mut has_failed = false;
     for _ in rt.forever() {
-        if serving.is_stopping() {
+        if of.serving.is_stopping() {
             return;
         }
-        let at = listening.at;
-        let has_accepted = accept(rt, alloc, relay, serving, at, &listening.listener).is_ok();
-        if !has_accepted {
-            if !has_failed {
-                serving.tell(&rt, b"accept failed", at.port);
+        if of.threads.wait(&rt, pause) {
+            let has_accepted = accept(rt, alloc, of).is_ok();
+            if !has_accepted {
+                if !has_failed {
+                    of.serving.tell(&rt, b"accept failed", of.at.port);
+                }
+                thread::sleep(&rt, pause);
             }
-            thread::sleep(&rt, Duration::from_millis(ACCEPT_PAUSE));
+            has_failed = !has_accepted;
         }
-        has_failed = !has_accepted;
     }
 }
 
@@ -113,14 +125,14 @@ fn accept_and_close<
     R: Threads + Wait + Clock + Copy + Send + 'static,
     C: Connector + Send + Sync + 'static,
     E: Sink + Drop + Send + 'static,
->(rt: R, alloc: Global, acceptor: Acceptor<C, E>) {
+>(rt: R, alloc: Global, of: Acceptor<C, E>) {
+    accept_all(rt, alloc, &of);
     let Acceptor {
-        relay,
         serving,
-        listening,
-    } = acceptor;
-    accept_all(rt, alloc, &relay, &serving, &listening);
-    drop(listening);
+        listener,
+        ..
+    } = of;
+    drop(listener);
     serving.end_loop(&rt);
 }
 
@@ -136,10 +148,13 @@ pub fn start_accepting<
     serving: &Arc<Serving<E>>,
     listening: Listening,
 ) -> Result<(), AllocError> {
+    let Listening { at, listener } = listening;
     let acceptor = Acceptor {
         relay: Arc::try_clone(relay)?,
         serving: Arc::try_clone(serving)?,
-        listening,
+        at,
+        threads: Arc::new(alloc, ServedThreads::new())?,
+        listener,
     };
     serving.begin_loop(&rt);
     match thread::spawn(&rt, move || accept_and_close(rt, alloc, acceptor)) {

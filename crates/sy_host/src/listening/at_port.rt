@@ -1,22 +1,47 @@
 //! The lines on standard error that say what happened at a port.
-ghost use Rattle.std.specs.Prelude.{◌≡◌};
+ghost use Rattle.std.specs.Prelude.{◌≡◌, ◌++◌, OnOk};
 ghost use Rattle.sy_host.specs.Ports as spec;
-ghost use Rattle.sy_report.specs.Reports.{Reported, seen};
 
-use itoa::Buffer;
-use sy_report::outcome::report::tell_texts;
+use std::alloc::AllocError;
+use sy_report::texts::parts::{Part, put_parts};
 use sy_runtime::{RunFault, Unread};
-use sy_wire::Sink;
 
-/// Prints what happened at a port.
-pub fn tell_at_port<E: Sink>(errors: &mut E, words: &[u8], port: u16)
-    ensures { Reported
-        (seen E.contents E.is_flushed E.faults errors.old) (seen E.contents E.is_flushed E.faults errors.new)
-        (spec.at_port words.now port) }
+/// Appends the line that says what happened at a port.
+pub fn append_at_port(text: &mut Vec<u8>, words: &[u8], port: u16) -> Result<(), AllocError>
+    ensures { OnOk result (text.new.items ≡ text.old.items ++ spec.at_port words.now port) }
 {
-    let mut digits = Buffer::new();
-    let port = digits.format(port).as_bytes();
-    tell_texts(errors, &[b"syc: ", words, b" at ", port, b"\n"]);
+    let place = u64::from(port);
+    let parts = [
+        Part::Text(b"syc: "),
+        Part::Text(words),
+        Part::Text(b" at "),
+        Part::Number(place),
+        Part::Text(b"\n"),
+    ];
+    put_parts(text, &parts)
+}
+
+/// Appends the line that says what happened at a port, and how often it did besides.
+pub fn append_at_port_often(
+    text: &mut Vec<u8>,
+    words: &[u8],
+    port: u16,
+    others: u64,
+) -> Result<(), AllocError>
+    ensures { OnOk result (text.new.items ≡ text.old.items ++ spec.at_port_often words.now port others) }
+{
+    let besides = Part::Number(others);
+    let parts = [
+        Part::Text(b"syc: "),
+        Part::Text(words),
+        Part::Text(b" at "),
+        Part::Number(u64::from(port)),
+        Part::Text(b", and "),
+        besides,
+        Part::Text(b" others"),
+        Part::Text(b"\n"),
+    ];
+    put_parts(text, &parts)
 }
 
 /// The number and the name of what ended a connection: of a frame's fault its own.
@@ -29,53 +54,60 @@ pub fn end_words(fault: RunFault) -> &'static str
     }
 }
 
-// All numbers in digits.
-fn tell_count<'a, E: Sink>(
-    errors: &mut E,
-    count: &'a [u8],
-    port: &'a [u8],
-    words: &'a [u8],
-    offset: &'a [u8],
-    frame: &'a [u8],
-)
-    ensures { Reported
-        (seen E.contents E.is_flushed E.faults errors.old) (seen E.contents E.is_flushed E.faults errors.new)
-        (spec.unread_at count.now port.now words.now offset.now frame.now) }
+/// Appends the line that says how many frames of a connection carried no message, and why the first of them doesn't.
+pub fn append_unread(
+    text: &mut Vec<u8>,
+    count: u64,
+    port: u16,
+    first: Unread,
+) -> Result<(), AllocError>
+    ensures { OnOk result (text.new.items ≡ text.old.items ++ spec.unread_line count port first) }
 {
-    tell_texts(
-        errors,
-        &[
-            b"syc: ",
-            count,
-            b" unread at ",
-            port,
-            b": ",
-            words,
-            b" at ",
-            offset,
-            b" in frame ",
-            frame,
-            b"\n",
-        ],
-    );
+    let why = first.fault.code.words();
+    let parts = [
+        Part::Text(b"syc: "),
+        Part::Number(count),
+        Part::Text(b" unread at "),
+        Part::Number(u64::from(port)),
+        Part::Text(b": "),
+        Part::Text(why.as_bytes()),
+        Part::Text(b" at "),
+        Part::Number(first.fault.offset as u64),
+        Part::Text(b" in frame "),
+        Part::Number(first.frame),
+        Part::Text(b"\n"),
+    ];
+    put_parts(text, &parts)
 }
 
-/// Prints how many frames of a connection carried no message, and why the first of them doesn't.
-pub fn tell_unread<E: Sink>(errors: &mut E, count: u64, port: u16, first: Unread)
-    ensures { Reported
-        (seen E.contents E.is_flushed E.faults errors.old) (seen E.contents E.is_flushed E.faults errors.new)
-        (spec.unread_line count port first) }
+/// Appends the same line, and how many frames of how many other connections carried none.
+pub fn append_unread_often(
+    text: &mut Vec<u8>,
+    count: u64,
+    port: u16,
+    first: Unread,
+    more: u64,
+    others: u64,
+) -> Result<(), AllocError>
+    ensures { OnOk result (text.new.items ≡ text.old.items ++ spec.unread_often count port first more others) }
 {
-    let mut count_digits = Buffer::new();
-    let mut port_digits = Buffer::new();
-    let mut offset_digits = Buffer::new();
-    let mut frame_digits = Buffer::new();
-    tell_count(
-        errors,
-        count_digits.format(count).as_bytes(),
-        port_digits.format(port).as_bytes(),
-        first.fault.code.words().as_bytes(),
-        offset_digits.format(first.fault.offset as u64).as_bytes(),
-        frame_digits.format(first.frame).as_bytes(),
-    );
+    let parts = [
+        Part::Text(b"syc: "),
+        Part::Number(count),
+        Part::Text(b" unread at "),
+        Part::Number(u64::from(port)),
+        Part::Text(b": "),
+        Part::Text(first.fault.code.words().as_bytes()),
+        Part::Text(b" at "),
+        Part::Number(first.fault.offset as u64),
+        Part::Text(b" in frame "),
+        Part::Number(first.frame),
+        Part::Text(b", and "),
+        Part::Number(more),
+        Part::Text(b" of "),
+        Part::Number(others),
+        Part::Text(b" others"),
+        Part::Text(b"\n"),
+    ];
+    put_parts(text, &parts)
 }

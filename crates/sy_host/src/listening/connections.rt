@@ -2,6 +2,7 @@
 ghost use Rattle.std.specs.Prelude.{◌<◌, IfOk};
 ghost use Rattle.std.specs.Vec.{vec_len};
 
+use crate::ending::remaining::Rest;
 use std::alloc::{AllocError, Global};
 use std::net::{Shutdown, TcpStream};
 use std::sync::Arc;
@@ -14,6 +15,8 @@ pub struct Connections {
     streams: Vec<Option<Arc<TcpStream>>>,
     open: usize,
     ends: Vec<ConnEnd>,
+    // what those leave that the relay ended
+    rests: Vec<Rest>,
     // how many accept loops there are
     loops: usize,
 }
@@ -25,6 +28,7 @@ impl Connections {
             streams: Vec::new(alloc),
             open: 0,
             ends: Vec::new(alloc),
+            rests: Vec::new(alloc),
             loops: 0,
         }
     }
@@ -52,7 +56,9 @@ impl Connections {
     /// Makes room for so many more connections, and for the ends of all that are open then.
     pub fn make_room(&mut self, more: usize) -> Result<(), AllocError> {
         self.streams.reserve(more)?;
-        self.ends.reserve(self.open.saturating_add(more))
+        let ends = self.open.saturating_add(more);
+        self.rests.reserve(ends)?;
+        self.ends.reserve(ends)
     }
 
     // A place that no connection has.
@@ -92,6 +98,17 @@ impl Connections {
             }
         }
         let _ = self.ends.push(end);
+    }
+
+    /// Keeps what a connection leaves that the relay ended.
+    pub fn keep_rest(&mut self, rest: Rest) {
+        // (the room that `make_room` made is there)
+        let _ = self.rests.push(rest);
+    }
+
+    /// What those leave that the relay ended.
+    pub fn take_rests(&mut self, alloc: Global) -> Vec<Rest> {
+        std::mem::replace(&mut self.rests, Vec::new(alloc))
     }
 
     /// Shuts this side down of each connection that is open.

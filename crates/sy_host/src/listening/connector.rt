@@ -7,7 +7,7 @@ use crate::log::LogGate;
 use std::alloc::Global;
 use std::sync::Wait;
 use std::time::Clock;
-use sy_runtime::{ConnEnd, Finish, Relay, RunFault, Standing};
+use sy_runtime::{ConnEnd, Finish, Relay, RunFault, Standing, Untaken};
 use sy_wire::Source;
 
 /// What serves connections, on the thread of each, and tells its totals: a relay. (Behind it stand boxed devices, which a function's contract
@@ -20,7 +20,7 @@ pub trait Connector: Drop {
         alloc: Global,
         input: u32,
         reader: &mut S,
-    ) -> (ConnEnd, Result<Finish, RunFault>);
+    ) -> (ConnEnd, Untaken, Result<Finish, RunFault>);
 
     /// The totals as they stand; none where there is no memory for them.
     fn status<R: Wait>(&self, rt: &R, alloc: Global) -> Option<Standing>
@@ -34,7 +34,7 @@ impl Connector for Relay<LogGate> {
         alloc: Global,
         input: u32,
         reader: &mut S,
-    ) -> (ConnEnd, Result<Finish, RunFault>) {
+    ) -> (ConnEnd, Untaken, Result<Finish, RunFault>) {
         Relay::connect(self, rt, alloc, input, reader)
     }
 

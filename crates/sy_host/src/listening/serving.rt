@@ -1,27 +1,41 @@
 //! What the threads of a relay that is served share, and what each connection's does.
 
-use crate::listening::at_port::{end_words, tell_at_port, tell_unread};
+use crate::ending::remaining::{Rest, count_unread};
+use crate::listening::at_port::append_at_port;
 use crate::listening::connections::Connections;
 use crate::listening::connector::Connector;
+use crate::listening::served_threads::ServedThreads;
+use crate::log::printer::Printer;
+use crate::log::printing::Printing;
 use crate::log::{Log, PeerEnd};
 use std::alloc::{AllocError, Global};
 use std::net::{Shutdown, SocketAddr, TcpStream};
 use std::sync::atomic::{AtomicBool, Ordering};
 use std::sync::{Arc, Condvar, CondvarTimeouts, Mutex, Wait};
 use std::time::{Clock, Duration};
-use sy_report::outcome::report::{tell_text, tell_texts};
-use sy_runtime::{ConnEnd, Finish, RunFault};
+use sy_report::texts::parts::{Part, put_parts};
+use sy_report::texts::reason::Reason;
+use sy_runtime::{ConnEnd, Finish, RunFault, Untaken};
+use sy_watched::watch::Watch;
 use sy_wire::{FromRead, Sink};
 
 /// What the threads of a relay that is served share.
 #[derive(Drop)]
 pub struct Serving<E: Drop> {
-    pub(crate) errors: Mutex<E>,
+    alloc: Global,
+    // what waits to be printed, and what prints it, which its thread alone does while the relay runs
+    printing: Printing,
+    printer: Mutex<Printer<E>>,
+    // the line that says which files the relay runs
+    runs: Vec<u8>,
     log: Arc<Log>,
+    watch: Watch,
     connections: Mutex<Connections>,
     // told when a connection or an accept loop has ended
     ended: Condvar,
     is_stopping: AtomicBool,
+    // the port that can't be listened at, and why
+    refused: Mutex<Option<(u16, Reason)>>,
 }
 
 /// An input of a relay, by its number and its port.
@@ -31,15 +45,37 @@ pub struct Port {
     pub port: u16,
 }
 
+// The line that says this.
+fn said(alloc: Global, words: &[u8]) -> Result<Vec<u8>, AllocError> {
+    let mut text = Vec::new(alloc);
+    put_parts(
+        &mut text,
+        &[Part::Text(b"syc: "), Part::Text(words), Part::Text(b"\n")],
+    )?;
+    Ok(text)
+}
+
+// The line that says what happened at a port.
+fn said_at(alloc: Global, words: &[u8], port: u16) -> Result<Vec<u8>, AllocError> {
+    let mut text = Vec::new(alloc);
+    append_at_port(&mut text, words, port)?;
+    Ok(text)
+}
+
 impl<E: Sink + Drop> Serving<E> {
-    /// Nothing is served yet. What happens is noted there and printed here.
-    pub fn new(alloc: Global, errors: E, log: Arc<Log>) -> Serving<E> {
+    /// Nothing is served yet. What happens is noted there and printed here; the line says which files the relay runs.
+    pub fn new(alloc: Global, errors: E, log: Arc<Log>, runs: Vec<u8>, watch: Watch) -> Serving<E> {
         Serving {
-            errors: Mutex::new(errors),
+            alloc,
+            printing: Printing::new(alloc),
+            printer: Mutex::new(Printer::new(errors)),
+            runs,
             log,
+            watch,
             connections: Mutex::new(Connections::new(alloc)),
             ended: Condvar::new(),
             is_stopping: AtomicBool::new(false),
+            refused: Mutex::new(None),
         }
     }
 
@@ -48,48 +84,61 @@ impl<E: Sink + Drop> Serving<E> {
         &self.log
     }
 
+    /// What waits to be printed.
+    pub fn printing(&self) -> &Printing {
+        &self.printing
+    }
+
+    /// The line that says which files the relay runs.
+    pub fn runs(&self) -> &[u8] {
+        self.runs.as_slice()
+    }
+
+    /// Has one or more whole lines printed, which stay together, and waits for nobody. Lines for which there is no room, or no
+    /// memory, are counted, and their number is printed.
+    pub fn print<R: Wait>(&self, rt: &R, text: Result<Vec<u8>, AllocError>) {
+        match text {
+            Ok(text) => self.printing.push(rt, text),
+            Err(_) => self.printing.leave_out(rt, 1),
+        }
+    }
+
+    /// What is watched of the relay beside its totals and its log.
+    pub fn watch(&self) -> &Watch {
+        &self.watch
+    }
+
     /// Prints this line.
     pub fn tell_line<R: Wait>(&self, rt: &R, line: &[u8]) {
-        tell_texts(&mut *self.errors.lock(rt), &[line]);
+        self.print(rt, Vec::from_slice(self.alloc, line));
     }
 
     /// Prints what happened at a port.
     pub fn tell<R: Wait>(&self, rt: &R, words: &[u8], port: u16) {
-        tell_at_port(&mut *self.errors.lock(rt), words, port);
+        self.print(rt, said_at(self.alloc, words, port));
     }
 
     /// Prints what happened.
     pub fn tell_text<R: Wait>(&self, rt: &R, text: &str) {
-        tell_text(&mut *self.errors.lock(rt), text);
+        self.print(rt, said(self.alloc, text.as_bytes()));
     }
 
-    // Prints how a connection ended, where there is something to say. (Where nothing is, whatever reads the lines isn't waited for.)
-    fn tell_end<R: Wait>(
-        &self,
-        rt: &R,
-        at: Port,
-        peer: SocketAddr,
-        end: &ConnEnd,
-        answer: Result<Finish, RunFault>,
-    ) {
-        let first = end.first_unread();
-        let fault = answer.err();
-        if first.is_none() && fault.is_none() {
-            return;
-        }
-        if let Some(first) = first {
-            tell_unread(&mut *self.errors.lock(rt), end.unread(), at.port, first);
-        }
-        if let Some(fault) = fault {
-            self.tell(rt, end_words(fault).as_bytes(), at.port);
-        }
-        let ended = PeerEnd {
-            peer,
-            unread: end.unread(),
-            first,
-            fault,
+    /// Waits for lines, and prints them; whether more may come.
+    pub fn print_next<R: Wait>(&self, rt: &R) -> bool {
+        let Some(lines) = self.printing.next(rt) else {
+            return false;
         };
-        self.log.connection_ended(rt, at.input, ended);
+        self.watch.leave_out(lines.left_out());
+        self.printer.lock(rt).print(self.alloc, lines);
+        self.printing.set_printed(rt);
+        true
+    }
+
+    /// Prints what waits on this thread, where no other does.
+    pub fn print_here<R: Wait>(&self, rt: &R) {
+        let lines = self.printing.take(rt);
+        self.watch.leave_out(lines.left_out());
+        self.printer.lock(rt).print(self.alloc, lines);
     }
 
     /// Whether nothing new is to be accepted.
@@ -138,11 +187,26 @@ impl<E: Sink + Drop> Serving<E> {
         self.ended.notify_all();
     }
 
-    // Frees a connection's place, and keeps what it counted.
-    fn end<R: Wait>(&self, rt: &R, place: usize, end: ConnEnd) {
+    // Frees a connection's place, keeps what it counted, and what it leaves where the relay ended it, and notes how it ended, where there is
+    // something to say. A stop finds the place free once that is noted.
+    fn end<R: Wait>(
+        &self,
+        rt: &R,
+        input: u32,
+        place: usize,
+        end: ConnEnd,
+        rest: Option<Rest>,
+        noted: PeerEnd,
+    ) {
         let mut connections = self.connections.lock(rt);
         connections.keep(end);
+        if let Some(rest) = rest {
+            connections.keep_rest(rest);
+        }
         connections.leave(place);
+        if noted.first.is_some() || noted.fault.is_some() {
+            self.log.connection_ended(rt, input, noted);
+        }
         drop(connections);
         self.ended.notify_all();
     }
@@ -166,9 +230,24 @@ impl<E: Sink + Drop> Serving<E> {
         let _ = self.ended.wait_while(rt, connections, |it| !it.is_empty());
     }
 
+    /// What those connections leave that the relay ended.
+    pub fn take_rests<R: Wait>(&self, rt: &R, alloc: Global) -> Vec<Rest> {
+        self.connections.lock(rt).take_rests(alloc)
+    }
+
     /// What the connections counted that ended.
     pub fn take_ends<R: Wait>(&self, rt: &R, alloc: Global) -> Vec<ConnEnd> {
         self.connections.lock(rt).take_ends(alloc)
+    }
+
+    /// Notes that a port can't be listened at, and why.
+    pub fn set_refused<R: Wait>(&self, rt: &R, port: u16, reason: Reason) {
+        *self.refused.lock(rt) = Some((port, reason));
+    }
+
+    /// The port that couldn't be listened at, and why, where there is one.
+    pub fn refused<R: Wait>(&self, rt: &R) -> Option<(u16, Reason)> {
+        *self.refused.lock(rt)
     }
 }
 
@@ -182,6 +261,38 @@ pub struct Connection<C: Drop, E: Drop> {
     pub stream: Arc<TcpStream>,
     /// its place among those that are open
     pub place: usize,
+    /// those of its input, of which its own is one
+    pub threads: Arc<ServedThreads>,
+}
+
+// How a connection ended.
+fn noted_end(peer: SocketAddr, end: &ConnEnd, answer: Result<Finish, RunFault>) -> PeerEnd {
+    PeerEnd {
+        peer,
+        unread: end.unread(),
+        first: end.first_unread(),
+        fault: answer.err(),
+    }
+}
+
+// What a connection leaves that ended so, where the relay ended it.
+fn rest_of(
+    alloc: Global,
+    input: u32,
+    untaken: Untaken,
+    answer: Result<Finish, RunFault>,
+    stream: &TcpStream,
+) -> Option<Rest> {
+    let unread = match answer {
+        Ok(Finish::Closed) => count_unread(alloc, stream),
+        Err(RunFault::Hands | RunFault::NoMemory | RunFault::TotalsFull) => 0,
+        Ok(Finish::Ended) | Err(_) => return None,
+    };
+    Some(Rest {
+        input,
+        untaken,
+        unread,
+    })
 }
 
 /// Serves a connection until it ends.
@@ -197,9 +308,14 @@ pub fn serve_connection<R: Wait + Clock + Drop, C: Connector, E: Sink + Drop>(
         peer,
         stream,
         place,
+        threads,
     } = connection;
+    serving.watch().connection_begins(at.input);
     let mut reader = FromRead::new(&*stream);
-    let (end, answer) = relay.connect(&rt, alloc, at.input, &mut reader);
-    serving.tell_end(&rt, at, peer, &end, answer);
-    serving.end(&rt, place, end);
+    let (end, untaken, answer) = relay.connect(&rt, alloc, at.input, &mut reader);
+    serving.watch().connection_ended(at.input, end.unread());
+    let rest = rest_of(alloc, at.input, untaken, answer, &stream);
+    let noted = noted_end(peer, &end, answer);
+    serving.end(&rt, at.input, place, end, rest, noted);
+    threads.end();
 }

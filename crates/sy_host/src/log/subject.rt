@@ -24,6 +24,9 @@ pub struct Subject {
     lost: AtomicU64,
     // whether a change was noted that hasn't been looked at
     is_noted: AtomicBool,
+    // the state whose beginning is dated, and its date
+    dated: AtomicU64,
+    since: AtomicU64,
 }
 
 /// What stands there at one moment.
@@ -44,6 +47,8 @@ impl Subject {
             why: AtomicU64::new(0),
             lost: AtomicU64::new(0),
             is_noted: AtomicBool::new(false),
+            dated: AtomicU64::new(0),
+            since: AtomicU64::new(0),
         }
     }
 
@@ -84,5 +89,20 @@ impl Subject {
 
     pub fn why(&self) -> u64 {
         self.why.load(Ordering::SeqCst)
+    }
+
+    /// Dates its state by this time, where it isn't the one that was dated last.
+    pub fn date(&self, now: u64) {
+        let seen = self.seen();
+        let state = seen.begun.wrapping_mul(2) | u64::from(seen.on > 0);
+        let is_first = self.since() == 0;
+        if self.dated.swap(state, Ordering::SeqCst) != state || is_first {
+            self.since.store(now, Ordering::SeqCst);
+        }
+    }
+
+    /// Since when it is in its state, as that was dated; 0 where it wasn't.
+    pub fn since(&self) -> u64 {
+        self.since.load(Ordering::SeqCst)
     }
 }

@@ -5,6 +5,8 @@ use crate::listening::serving::Serving;
 use crate::log::Log;
 use crate::log::lines::{peer_line, subject_line};
 use crate::log::notices::{Line, Told};
+use crate::log::port_lines::{PortPace, earlier, print_due, print_left};
+use crate::log::printing_thread::wait_for_printing;
 use crate::log::subject::Subject;
 use std::alloc::{AllocError, Global};
 use std::sync::{Arc, Wait};
@@ -13,12 +15,19 @@ use std::thread::Threads;
 use std::time::{Clock, Instant};
 use sy_wire::Sink;
 
+// What was told of a subject, and when the lines of its port may be.
+#[derive(Clone, Copy)]
+struct Paced {
+    told: Told,
+    port: PortPace,
+}
+
 // What tells of a relay.
 #[derive(Drop)]
 struct Teller<E: Drop> {
     serving: Arc<Serving<E>>,
     // of each of the log's subjects
-    told: Vec<Told>,
+    told: Vec<Paced>,
 }
 
 fn tell<R: Wait, E: Sink + Drop>(
@@ -28,9 +37,7 @@ fn tell<R: Wait, E: Sink + Drop>(
     subject: &Subject,
     line: Line,
 ) {
-    if let Ok(text) = subject_line(alloc, subject, line) {
-        serving.tell_line(rt, text.as_slice());
-    }
+    serving.print(rt, subject_line(alloc, subject, line));
 }
 
 // Tells of connections that ended, where there are any.
@@ -48,9 +55,7 @@ fn tell_ended<R: Wait, E: Sink + Drop>(
         Some(fault) => end_words(fault),
         None => "ended",
     };
-    if let Ok(text) = peer_line(alloc, subject, &end, words, others) {
-        serving.tell_line(rt, text.as_slice());
-    }
+    serving.print(rt, peer_line(alloc, subject, &end, words, others));
 }
 
 // Tells what is due of one subject, and answers when to look again, where that is known.
@@ -59,11 +64,13 @@ fn look_at<R: Wait, E: Sink + Drop>(
     alloc: Global,
     serving: &Serving<E>,
     number: usize,
-    told: &mut Told,
+    paced: &mut Paced,
     now: u64,
 ) -> Option<u64> {
     let log = serving.log();
     let subject = log.subjects().get(number)?;
+    let port = print_due(rt, alloc, serving, number, &mut paced.port, now);
+    let told = &mut paced.told;
     told.see(now, subject.seen());
     match told.line(now) {
         Some(line) => tell(rt, alloc, serving, subject, line),
@@ -74,9 +81,9 @@ fn look_at<R: Wait, E: Sink + Drop>(
         }
     }
     if log.has_untold_end(rt, number) {
-        return Some(told.next());
+        return earlier(Some(told.next()), port);
     }
-    let wake = told.wake();
+    let wake = earlier(told.wake(), port);
     if wake.is_some() {
         return wake;
     }
@@ -88,14 +95,6 @@ fn look_at<R: Wait, E: Sink + Drop>(
     Some(now)
 }
 
-fn earlier(one: Option<u64>, other: Option<u64>) -> Option<u64> {
-    match (one, other) {
-        (Some(one), Some(other)) => Some(one.min(other)),
-        (Some(one), None) => Some(one),
-        (None, other) => other,
-    }
-}
-
 // Tells what is due, and answers when to look again, where that is known.
 fn look<R: Wait, E: Sink + Drop>(
     rt: &R,
@@ -105,8 +104,8 @@ fn look<R: Wait, E: Sink + Drop>(
 ) -> Option<u64> {
     let mut wake = None;
     let mut number: usize = 0;
-    for told in teller.told.iter_mut() {
-        let next = look_at(rt, alloc, &teller.serving, number, told, now);
+    for paced in teller.told.iter_mut() {
+        let next = look_at(rt, alloc, &teller.serving, number, paced, now);
         wake = earlier(wake, next);
         number = number.wrapping_add(1);
     }
@@ -138,14 +137,15 @@ fn finish_one<R: Wait, E: Sink + Drop>(
 // Tells what is left to be told as the relay ends.
 fn finish<R: Wait, E: Sink + Drop>(rt: &R, alloc: Global, teller: &mut Teller<E>, now: u64) {
     let mut number: usize = 0;
-    for told in teller.told.iter_mut() {
-        finish_one(rt, alloc, &teller.serving, number, told, now);
+    for paced in teller.told.iter_mut() {
+        print_left(rt, alloc, &teller.serving, number);
+        finish_one(rt, alloc, &teller.serving, number, &mut paced.told, now);
         number = number.wrapping_add(1);
     }
 }
 
-// How many milliseconds have passed since then.
-fn millis<R: Clock>(rt: &R, start: &Option<Instant>) -> u64 {
+/// How many milliseconds have passed since then.
+pub fn millis<R: Clock>(rt: &R, start: &Option<Instant>) -> u64 {
     let Some(start) = start else {
         return 0;
     };
@@ -184,7 +184,10 @@ fn teller_of<E: Sink + Drop>(
 ) -> Result<Teller<E>, AllocError> {
     let mut told = Vec::new(alloc);
     for _ in serving.log().subjects() {
-        told.push(Told::new())?;
+        told.push(Paced {
+            told: Told::new(),
+            port: PortPace::new(),
+        })?;
     }
     Ok(Teller {
         serving: Arc::try_clone(serving)?,
@@ -204,7 +207,8 @@ pub fn start_telling<
     }
 }
 
-/// Has what is left told, and waits for that for a while.
+/// Has what is left told, and waits for that for a while, and until it is printed.
 pub fn end_telling<R: Wait + Clock, E: Sink + Drop>(rt: &R, serving: &Serving<E>) {
     serving.log().finish(rt);
+    wait_for_printing(rt, serving);
 }

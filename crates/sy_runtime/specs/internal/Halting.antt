@@ -1,8 +1,5 @@
--- What a connection that was halted answers, and what it then holds.
-use Rattle.std.specs.Prelude.{ℕ, List, Option, Result, Ok, Err, ⊤}
-use Rattle.sy_chain.specs.Entries.{Entry}
-use Rattle.sy_runtime.specs.Connections.{Begins, Counts}
-use Rattle.sy_runtime.specs.internal.Held.{Holds}
+-- What a connection that was halted answers.
+use Rattle.std.specs.Prelude.{Result, Ok, Err}
 use Rattle.sy_runtime.specs.declared.connection_end.Finish.{Finish}
 use Rattle.sy_runtime.specs.declared.connection_end.Finish.TheVariants as finish
 use Rattle.sy_runtime.specs.declared.fault.RunFault.{RunFault}
@@ -17,6 +14,7 @@ abbrev pub halted : Halt → Result Finish RunFault
 halted halt.Closed = Ok finish.Closed
 halted halt.TotalsFull = Err fault.TotalsFull
 halted halt.Hands = Err fault.Hands
+halted halt.NoMemory = Err fault.NoMemory
 
 -- the same, of one whose gathering ended so
 abbrev pub halted_at : Halt → Gathered → Result Finish RunFault
@@ -24,8 +22,4 @@ halted_at halt.Closed gathered.NoMemory = Err fault.NoMemory
 halted_at halt.Closed _ = Ok finish.Closed
 halted_at halt.TotalsFull stop = Err fault.TotalsFull
 halted_at halt.Hands stop = Err fault.Hands
-
--- what it holds after a batch was put, or after it was halted
-abbrev pub BatchIs : Result ⊤ Halt → List ℕ → Counts → List (Option Entry) → List ℕ → Type 0
-BatchIs (Ok _) read end batch left = Holds read end batch left
-BatchIs (Err why) read end batch left = (rest : List ℕ) × Begins read end rest
+halted_at halt.NoMemory stop = Err fault.NoMemory

@@ -23,4 +23,4 @@ pub record MayGoOn (ahead ahead' : Option (List ℕ)) (failed failed' : ℕ) (en
 abbrev pub StepIs : Step → Option (List ℕ) → Option (List ℕ) → ℕ → ℕ → Counts → Held → Bool → Type 0
 StepIs GoesOn ahead ahead' failed failed' end held is_over = MayGoOn ahead ahead' failed failed' end held is_over
 StepIs NoMemory ahead ahead' failed failed' end held is_over = MayGoOn ahead ahead' failed failed' end held is_over
-StepIs (Over answer) ahead ahead' failed failed' end held is_over = Connects answer end ahead ahead' failed failed'
+StepIs (Over answer) ahead ahead' failed failed' end held is_over = Connects answer end held.left ahead ahead' failed failed'

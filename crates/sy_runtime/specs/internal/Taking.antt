@@ -1,27 +1,33 @@
 -- What a connection holds when it stops putting messages in.
-use Rattle.std.specs.Prelude.{◌≡◌, ◌⊎◌, ℕ, List, [], ◌∷◌, ◌++◌, Option, None, Some, Result, Ok, Err, ⊤}
+use Rattle.std.specs.Prelude.{◌≡◌, ◌⊎◌, ℕ, Bool, false, List, [], ◌∷◌, ◌++◌, option_to_list, Option, None, Result, Ok, Err, ⊤}
 use Rattle.sy_board.specs.declared.relay.answers.Taken.{Taken}
 use Rattle.sy_board.specs.declared.relay.answers.Entry.TheVariants as entry
 use Rattle.sy_board.specs.relay.Boards.{BoardState, EnterIs, TakeIs}
 use Rattle.sy_chain.specs.Entries.{Entry}
 use Rattle.sy_wire.specs.Messages.{Said}
-use Rattle.sy_runtime.specs.Connections.{Begins, Counts}
+use Rattle.sy_runtime.specs.Connections.{Counts}
 use Rattle.sy_runtime.specs.internal.Held.{Holds}
+use Rattle.sy_runtime.specs.declared.untaken.Item.{Item}
+use Rattle.sy_runtime.specs.declared.untaken.Item.TheVariants as item
 use Rattle.sy_runtime.specs.declared.connection.taking.Hand.{Hand}
 use Rattle.sy_runtime.specs.declared.connection.taking.Pause.{Pause}
-use Rattle.sy_runtime.specs.declared.connection.taking.Pause.TheVariants.{Held, TotalsFull, Hands}
+use Rattle.sy_runtime.specs.declared.connection.taking.Pause.TheVariants.{Held, TotalsFull, Hands, NoMemory}
 
--- While a mark or a full queue holds its message it holds all that it read; after the other two, which end it, it may have dropped one.
-abbrev pub PutIs : Result ⊤ Pause → List ℕ → Counts → List (Option Entry) → List ℕ → Type 0
+-- what it holds once an item was taken, or stands first still
+abbrev pub TakenIs : Result Bool (Pause × Item) → List ℕ → Counts → List Item → List ℕ → Type 0
+TakenIs (Ok stays) read end later left = Holds read end later left
+TakenIs (Err e) read end later left = Holds read end (e.1 ∷ later) left
+
+-- the same, of one that goes on
+abbrev pub PutIs : Result ⊤ (Pause × Option Item) → List ℕ → Counts → List Item → List ℕ → Type 0
 PutIs (Ok _) read end later left = Holds read end later left
-PutIs (Err (Held hold)) read end later left = Holds read end later left
-PutIs (Err TotalsFull) read end later left = (rest : List ℕ) × Begins read end rest
-PutIs (Err Hands) read end later left = (rest : List ℕ) × Begins read end rest
+PutIs (Err e) read end later left = Holds read end (option_to_list e.1 ++ later) left
 
 -- after these a connection takes nothing more
 abbrev pub IsLast : Pause → Type 0
 IsLast TotalsFull = Unit {0}
 IsLast Hands = Unit {0}
+IsLast NoMemory = Unit {0}
 IsLast (Held hold) = ⊥
 
 -- ---- what the board then holds
@@ -38,35 +44,48 @@ Enters old hand new = EnterIs entry.Entered old hand.input hand.number new
 abbrev pub MayEnter : BoardState → Hand → BoardState → Type 0
 MayEnter old hand new = (new ≡ old) ⊎ Enters old hand new
 
--- the board after an item: its message came to the hand, and may have gone on; one that is no message changes nothing
-abbrev pub ItemPut : Option Entry → BoardState → Hand → BoardState → Type 0
-ItemPut None old hand new = new ≡ old
-ItemPut (Some item) old hand new = (between : BoardState) × Takes old hand item.message between × MayEnter between hand new
+-- the board after an item: its message came to the hand, where it may stay; one that is no message changes nothing
+abbrev pub ItemTaken : Bool → Item → BoardState → Hand → BoardState → Type 0
+ItemTaken stays (item.Message node) old hand new = Takes old hand node.message new
+ItemTaken stays (item.Other text) old hand new = (stays ≡ false) × (new ≡ old)
+ItemTaken stays (item.Unmade text) old hand new = ⊥
+
+-- the same, where its message may have gone on
+abbrev pub ItemPut : Item → BoardState → Hand → BoardState → Type 0
+ItemPut (item.Message node) old hand new = (between : BoardState) × Takes old hand node.message between × MayEnter between hand new
+ItemPut (item.Other text) old hand new = new ≡ old
+ItemPut (item.Unmade text) old hand new = ⊥
 
 -- the board after these items, one after the other
-pub data ItemsPut : List (Option Entry) → BoardState → Hand → BoardState → Type 0 where
+pub data ItemsPut : List Item → BoardState → Hand → BoardState → Type 0 where
   none : {board : BoardState} {hand : Hand} → ItemsPut [] board hand board
   more :
-      {items : List (Option Entry)} {old between new : BoardState} {hand : Hand} (item : Option Entry)
+      {items : List Item} {old between new : BoardState} {hand : Hand} (item : Item)
       → ItemsPut items old hand between → ItemPut item between hand new → ItemsPut (items ++ item ∷ []) old hand new
 
 -- the message that was in the hand may have gone on, and then these of a batch were put, one after the other
-pub record BatchPut (batch later : List (Option Entry)) (old : BoardState) (hand : Hand) (new : BoardState) : Type 0 where
+pub record BatchPut (batch later : List Item) (old : BoardState) (hand : Hand) (new : BoardState) : Type 0 where
   pub before : BoardState
-  pub items : List (Option Entry)
+  pub items : List Item
   pub first : MayEnter old hand before
   pub parts : batch ≡ items ++ later
   pub put : ItemsPut items before hand new
 
--- The same by what was answered. After the answers that end a connection nothing is said.
-abbrev pub OnePut : Result ⊤ Pause → Option Entry → BoardState → Hand → BoardState → Type 0
-OnePut (Ok _) item old hand new = ItemPut item old hand new
-OnePut (Err (Held hold)) item old hand new = ItemPut item old hand new
-OnePut (Err TotalsFull) item old hand new = Unit {0}
-OnePut (Err Hands) item old hand new = Unit {0}
+-- where something holds the message in the hand, it was taken, and no item stands first again
+abbrev pub IsHeldPut : Pause → Option Item → Item → BoardState → Hand → BoardState → Type 0
+IsHeldPut (Held hold) back item old hand new = (back ≡ None) × ItemPut item old hand new
+IsHeldPut TotalsFull back item old hand new = Unit {0}
+IsHeldPut Hands back item old hand new = Unit {0}
+IsHeldPut NoMemory back item old hand new = Unit {0}
 
-abbrev pub SomePut : Result ⊤ Pause → List (Option Entry) → List (Option Entry) → BoardState → Hand → BoardState → Type 0
+-- The same by what was answered. After the answers that end a connection nothing is said.
+abbrev pub OnePut : Result ⊤ (Pause × Option Item) → Item → BoardState → Hand → BoardState → Type 0
+OnePut (Ok _) item old hand new = ItemPut item old hand new
+OnePut (Err e) item old hand new = IsHeldPut e.0 e.1 item old hand new
+
+abbrev pub SomePut : Result ⊤ Pause → List Item → List Item → BoardState → Hand → BoardState → Type 0
 SomePut (Ok _) batch later old hand new = BatchPut batch later old hand new
 SomePut (Err (Held hold)) batch later old hand new = BatchPut batch later old hand new
 SomePut (Err TotalsFull) batch later old hand new = Unit {0}
 SomePut (Err Hands) batch later old hand new = Unit {0}
+SomePut (Err NoMemory) batch later old hand new = Unit {0}

@@ -1,8 +1,7 @@
 -- What a connection holds after a batch, and after a turn.
 use Rattle.std.specs.Prelude.{◌≡◌, ℕ, Bool, List, [], Option, None, Some, Result, Ok, Err, false, ⊤}
 use Rattle.sy_wire.specs.Frames.{Held, IsOpen}
-use Rattle.sy_chain.specs.Entries.{Entry}
-use Rattle.sy_runtime.specs.Connections.{Begins, Connects, Counts}
+use Rattle.sy_runtime.specs.Connections.{Begins, Connects, Counts, rest_of}
 use Rattle.sy_runtime.specs.internal.Gathering.{IsAtFront}
 use Rattle.sy_runtime.specs.internal.Halting.{halted_at}
 use Rattle.sy_runtime.specs.internal.Reading.{MayGoOn}
@@ -10,6 +9,7 @@ use Rattle.sy_runtime.specs.declared.connection_end.Finish.{Finish}
 use Rattle.sy_runtime.specs.declared.connection_end.Finish.TheVariants as finish
 use Rattle.sy_runtime.specs.declared.fault.RunFault.{RunFault}
 use Rattle.sy_runtime.specs.declared.fault.RunFault.TheVariants as fault
+use Rattle.sy_runtime.specs.declared.untaken.Item.{Item}
 use Rattle.sy_runtime.specs.declared.connection.gathering.Gathered.{Gathered}
 use Rattle.sy_runtime.specs.declared.connection.gathering.Gathered.TheVariants as gathered
 use Rattle.sy_runtime.specs.declared.connection.halt.Halt.{Halt}
@@ -23,7 +23,6 @@ round_of gathered.Open (Ok _) = round.Reads
 round_of gathered.Full (Ok _) = round.Again
 round_of gathered.NoMemory (Ok _) = round.NoMemory
 round_of (gathered.Fault f) (Ok _) = round.Over (Err (fault.Frame f))
-round_of gathered.Lost (Ok _) = round.Over (Err fault.NoMemory)
 
 -- an answer that asks nothing of the reader: of a frame fault only that it stands in front
 abbrev pub IsEarly : Result Finish RunFault → List ℕ → Type 0
@@ -37,29 +36,29 @@ IsEarly (Err fault.NoMemory) rest = Unit {0}
 IsEarly (Err fault.TotalsFull) rest = Unit {0}
 
 -- the batch is taken, and what the framer has left follows what was counted
-pub record Goes (read : List ℕ) (end : Counts) (held : Held) (batch : List (Option Entry)) : Type 0 where
+pub record Goes (read : List ℕ) (end : Counts) (held : Held) (batch : List Item) : Type 0 where
   pub begins : Begins read end held.left
   pub good : held.has_failed ≡ false
   pub empty : batch ≡ []
 
 -- what it holds after a batch, or that it may answer so
-abbrev pub RoundIs : Round → List ℕ → Counts → Held → List (Option Entry) → Type 0
+abbrev pub RoundIs : Round → List ℕ → Counts → Held → List Item → Type 0
 RoundIs round.Reads read end held batch = Goes read end held batch × IsOpen held.left
 RoundIs round.Again read end held batch = Goes read end held batch
 RoundIs round.NoMemory read end held batch = Goes read end held batch
-RoundIs (round.Over answer) read end held batch = (rest : List ℕ) × Begins read end rest × IsEarly answer rest
+RoundIs (round.Over answer) read end held batch = Begins read end (rest_of batch held.left) × IsEarly answer (rest_of batch held.left)
 
 -- What a connection holds between its turns.
-pub record Turns (ahead ahead' : Option (List ℕ)) (failed failed' : ℕ) (end : Counts) (held : Held) (is_over : Bool) (batch : List (Option Entry)) :
+pub record Turns (ahead ahead' : Option (List ℕ)) (failed failed' : ℕ) (end : Counts) (held : Held) (is_over : Bool) (batch : List Item) :
     Type 0 where
   pub goes : MayGoOn ahead ahead' failed failed' end held is_over
   pub empty : batch ≡ []
 
 -- what it holds after a turn, or how it ended
 abbrev pub TurnIs :
-    Option (Result Finish RunFault) → Option (List ℕ) → Option (List ℕ) → ℕ → ℕ → Counts → Held → Bool → List (Option Entry) → Type 0
+    Option (Result Finish RunFault) → Option (List ℕ) → Option (List ℕ) → ℕ → ℕ → Counts → Held → Bool → List Item → Type 0
 TurnIs None ahead ahead' failed failed' end held is_over batch = Turns ahead ahead' failed failed' end held is_over batch
-TurnIs (Some answer) ahead ahead' failed failed' end held is_over batch = Connects answer end ahead ahead' failed failed'
+TurnIs (Some answer) ahead ahead' failed failed' end held is_over batch = Connects answer end (rest_of batch held.left) ahead ahead' failed failed'
 
 -- what it counted before the first frame
 abbrev pub nothing_counted : Counts

@@ -5,9 +5,9 @@ ghost use Rattle.sy_runtime.specs.internal.Held.{Holds};
 ghost use Rattle.sy_runtime.specs.internal.Gathering.{GatherIs};
 
 use crate::connection::makings::Makings;
+use crate::untaken::Item;
 use std::alloc::Global;
 use std::collections::VecDeque;
-use sy_chain::Node;
 use sy_wire::{FrameFault, Framer};
 
 /// What ended a gathering.
@@ -18,20 +18,18 @@ pub(crate) enum Gathered {
     // the batch has as many as it may
     Full,
     Fault(FrameFault),
-    // memory ran out, and nothing is lost
+    // memory ran out
     NoMemory,
-    // a frame left the framer, and there was no entry for its message
-    Lost,
 }
 
 // Gathers one frame. Whatever memory it takes it has before the frame leaves the framer.
-#[tactic(auto, using(crate::proofs::Steps::gathered_one, crate::proofs::Steps::holds_somehow))]
+#[tactic(auto, using(crate::proofs::Steps::gathered_one))]
 fn gather_one(
     alloc: Global,
     framer: &mut Framer,
     raw: &mut Vec<u8>,
     makings: &mut Makings,
-    batch: &mut VecDeque<Option<Node>>,
+    batch: &mut VecDeque<Item>,
 ) -> Result<(), Gathered>
     requires { framer.old.has_failed ≡ false }
     ensures kept { (read : List ℕ) (end : Counts) → Holds read end batch.old.items framer.old.left →
@@ -49,21 +47,17 @@ fn gather_one(
         Err(FrameFault::NoMemory) => return Err(Gathered::NoMemory),
         Err(fault) => return Err(Gathered::Fault(fault)),
     }
-    let Some(item) = makings.item_of(raw) else {
-        return Err(Gathered::Lost);
-    };
-    batch.push_back_reserved(item);
+    batch.push_back_reserved(makings.item_of(alloc, raw));
     Ok(())
 }
 
 /// Gathers the whole frames that the framer holds, up to so many.
-#[tactic(auto, using(crate::proofs::Steps::holds_somehow))]
 pub(crate) fn gather(
     alloc: Global,
     framer: &mut Framer,
     raw: &mut Vec<u8>,
     makings: &mut Makings,
-    batch: &mut VecDeque<Option<Node>>,
+    batch: &mut VecDeque<Item>,
     most: usize,
 ) -> Gathered
     requires { framer.old.has_failed ≡ false }

@@ -12,6 +12,8 @@ pub(crate) enum Halt {
     Closed,
     TotalsFull,
     Hands,
+    // there was no entry for a message
+    NoMemory,
 }
 
 /// What a connection answers that was halted.
@@ -22,6 +24,7 @@ pub(crate) fn answer_of(halt: Halt) -> Result<Finish, RunFault>
         Halt::Closed => Ok(Finish::Closed),
         Halt::TotalsFull => Err(RunFault::TotalsFull),
         Halt::Hands => Err(RunFault::Hands),
+        Halt::NoMemory => Err(RunFault::NoMemory),
     }
 }
 
@@ -32,10 +35,8 @@ pub(crate) fn answer_at(halt: Halt, stop: Gathered) -> Result<Finish, RunFault>
     match halt {
         Halt::Closed => match stop {
             Gathered::NoMemory => Err(RunFault::NoMemory),
-            Gathered::Open | Gathered::Full | Gathered::Fault(_) | Gathered::Lost => {
-                Ok(Finish::Closed)
-            }
+            Gathered::Open | Gathered::Full | Gathered::Fault(_) => Ok(Finish::Closed),
         },
-        Halt::TotalsFull | Halt::Hands => answer_of(halt),
+        Halt::TotalsFull | Halt::Hands | Halt::NoMemory => answer_of(halt),
     }
 }

@@ -1,8 +1,10 @@
 //! What entries are made of without memory.
-ghost use Rattle.std.specs.Prelude.{◌≡◌, IfSome};
+ghost use Rattle.std.specs.Prelude.{◌≡◌};
 ghost use Rattle.sy_runtime.specs.internal.Held.{IsItem, RenewIs};
 
+use crate::untaken::Item;
 use std::alloc::{AllocError, Global};
+use std::mem;
 use std::sync::Arc;
 use sy_chain::{Node, RenewFault};
 use sy_wire::{Message, MsgFault};
@@ -19,6 +21,8 @@ pub(crate) struct Makings {
     fresh: Option<Node>,
     // why the first text that was no message is none
     pub(crate) fault: Option<MsgFault>,
+    // the tag of the next entry
+    tag: u64,
 }
 
 // What came of a text and an entry.
@@ -30,14 +34,21 @@ pub(crate) enum Renewal {
 }
 
 // Makes an entry of that text, in the memory of this one. Its list and input are chosen where it is taken.
-fn renew(node: &mut Node, raw: &mut Vec<u8>) -> Renewal
+fn renew(node: &mut Node, raw: &mut Vec<u8>, tag: u64) -> Renewal
     ensures { RenewIs result raw.old.items node.new raw.new.items }
 {
-    match node.renew(raw, 0, 0, 0, 0) {
+    match node.renew(raw, 0, 0, 0, tag) {
         Ok(()) => Renewal::Message,
         Err(RenewFault::Message(fault)) => Renewal::NoMessage(fault),
         Err(RenewFault::Shared) => Renewal::Shared,
     }
+}
+
+// The text that stands there, which leaves no memory behind.
+fn take_text(alloc: Global, raw: &mut Vec<u8>) -> Vec<u8>
+    ensures { result.items ≡ raw.old.items }
+{
+    mem::replace(raw, Vec::new(alloc))
 }
 
 fn blank_entry(alloc: Global) -> Result<Option<Node>, AllocError> {
@@ -59,7 +70,13 @@ impl Makings {
             used: Vec::new(alloc),
             fresh: None,
             fault: None,
+            tag: 0,
         }
+    }
+
+    /// The entries that are made from now on have this tag and those after it.
+    pub(crate) fn set_tag(&mut self, tag: u64) {
+        self.tag = tag;
     }
 
     /// Takes the memory that one entry more may need.
@@ -77,39 +94,42 @@ impl Makings {
         }
     }
 
-    // The item of a text, in the memory of the fresh entry; none where that isn't there.
-    fn item_of_fresh(&mut self, raw: &mut Vec<u8>) -> Option<Option<Node>>
-        ensures { IfSome result (λ item. IsItem raw.old.items item) }
+    // The item of a text, in the memory of the fresh entry, where that is there.
+    fn item_of_fresh(&mut self, alloc: Global, raw: &mut Vec<u8>) -> Item
+        ensures { IsItem raw.old.items result }
     {
-        let mut node = self.fresh.take()?;
-        match renew(&mut node, raw) {
-            Renewal::Message => Some(Some(node)),
+        let Some(mut node) = self.fresh.take() else {
+            return Item::Unmade(take_text(alloc, raw));
+        };
+        match renew(&mut node, raw, self.tag) {
+            Renewal::Message => Item::Message(node),
             Renewal::NoMessage(fault) => {
                 self.fresh = Some(node);
                 self.keep_fault(fault);
-                Some(None)
+                Item::Other(take_text(alloc, raw))
             }
-            Renewal::Shared => None,
+            Renewal::Shared => Item::Unmade(take_text(alloc, raw)),
         }
     }
 
-    /// The item of a text: an entry of its message, or that it is no message. It takes no memory. It is none only
-    /// where nothing was prepared.
-    pub(crate) fn item_of(&mut self, raw: &mut Vec<u8>) -> Option<Option<Node>>
-        ensures { IfSome result (λ item. IsItem raw.old.items item) }
+    /// The item of a text: an entry of its message, or the text where it is no message. It takes no memory. There is no entry
+    /// only where nothing was prepared.
+    pub(crate) fn item_of(&mut self, alloc: Global, raw: &mut Vec<u8>) -> Item
+        ensures { IsItem raw.old.items result }
     {
+        self.tag = self.tag.wrapping_add(1);
         let Some(mut node) = self.used.pop() else {
-            return self.item_of_fresh(raw);
+            return self.item_of_fresh(alloc, raw);
         };
-        match renew(&mut node, raw) {
-            Renewal::Message => Some(Some(node)),
+        match renew(&mut node, raw, self.tag) {
+            Renewal::Message => Item::Message(node),
             Renewal::NoMessage(fault) => {
                 // (the room that it had is there)
                 let _ = self.used.push(node);
                 self.keep_fault(fault);
-                Some(None)
+                Item::Other(take_text(alloc, raw))
             }
-            Renewal::Shared => self.item_of_fresh(raw),
+            Renewal::Shared => self.item_of_fresh(alloc, raw),
         }
     }
 }

@@ -1,6 +1,5 @@
 //! A batch goes into the board under the lock.
 ghost use Rattle.std.specs.Prelude.{◌≡◌, [], ℕ, List, OnOk};
-ghost use Rattle.sy_runtime.specs.internal.Halting.{BatchIs};
 ghost use Rattle.sy_runtime.specs.internal.Held.{Holds};
 
 use crate::connection::halt::Halt;
@@ -8,6 +7,7 @@ use crate::connection::taking::{Hand, Pause, put_some};
 use crate::connection_end::ConnEnd;
 use crate::losing::tell_lost;
 use crate::shared::{Gate, Shared};
+use crate::untaken::Item;
 use crate::waiting::{Waiting, wait_and_tell};
 use std::collections::VecDeque;
 use std::mem;
@@ -21,18 +21,18 @@ pub(crate) fn put<R: Wait + Clock, G: Gate>(
     shared: &Shared,
     gate: &G,
     hand: Hand,
-    batch: &mut VecDeque<Option<Node>>,
+    batch: &mut VecDeque<Item>,
     end: &mut ConnEnd,
     is_in_hand: &mut bool,
     used: &mut Vec<Node>,
 ) -> Result<(), Halt>
     ensures kept { (read left : List ℕ) → Holds read end.old batch.old.items left →
-        BatchIs result read end.new batch.new.items left }
+        Holds read end.new batch.new.items left }
     ensures all { OnOk result (batch.new.items ≡ []) }
 {
     let mut locked = shared.locked.lock(rt);
     for _ in rt.forever() {
-        if !locked.takes(*is_in_hand) {
+        if locked.is_closing {
             return Err(Halt::Closed);
         }
         let lost = locked.lost_in();
@@ -56,6 +56,7 @@ pub(crate) fn put<R: Wait + Clock, G: Gate>(
             }
             Err(Pause::TotalsFull) => return Err(Halt::TotalsFull),
             Err(Pause::Hands) => return Err(Halt::Hands),
+            Err(Pause::NoMemory) => return Err(Halt::NoMemory),
         }
     }
     unreachable!()

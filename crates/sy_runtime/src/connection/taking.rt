@@ -1,13 +1,15 @@
 //! What a connection does with the board: messages come to a hand of its input, and go into the queue.
-ghost use Rattle.std.specs.Prelude.{◌≡◌, ◌+◌, ◌<◌, ◌∷◌, [], ℕ, List, Option, length, IfErr, IsTrue, OnErr, OnOk};
+ghost use Rattle.std.specs.Prelude.{◌≡◌, ◌+◌, ◌<◌, ◌∷◌, ◌++◌, [], ℕ, List, length, option_to_list, IfErr, IfOk, IsTrue, OnErr, OnOk};
+ghost use Rattle.std.specs.VecDeque.{deque_capacity, deque_len};
 ghost use Rattle.sy_board.specs.relay.Plans.{input_at};
 ghost use Rattle.sy_board.specs.relay.Steps.{IsHand, IsOfInput};
-ghost use Rattle.sy_chain.specs.Entries.{Entry as Kept};
+ghost use Rattle.sy_runtime.specs.declared.untaken.Item.{Item as Kept};
 ghost use Rattle.sy_runtime.specs.internal.Held.{Holds};
-ghost use Rattle.sy_runtime.specs.internal.Taking.{Enters, IsLast, MayEnter, OnePut, PutIs, SomePut, Takes};
+ghost use Rattle.sy_runtime.specs.internal.Taking.{Enters, IsLast, ItemTaken, MayEnter, OnePut, PutIs, SomePut, TakenIs, Takes};
 
 use crate::connection::used::keep;
 use crate::connection_end::ConnEnd;
+use crate::untaken::Item;
 use std::collections::VecDeque;
 use sy_board::{Board, BoardFault, Entry, Taken};
 use sy_chain::Node;
@@ -30,6 +32,8 @@ pub(crate) enum Pause {
     TotalsFull,
     // the board has no such hand, or it isn't free
     Hands,
+    // there is no entry for its message
+    NoMemory,
 }
 
 /// Whether the board has this hand. Of a board that comes out of a lock no more is known than that it is one.
@@ -61,12 +65,18 @@ fn follow_input(plan: &Plan, input: u32, node: &mut Node)
 }
 
 // A message comes to the hand; the answer is whether it stays there.
-fn take(board: &mut Board, hand: Hand, mut node: Node, used: &mut Vec<Node>) -> Result<bool, Pause>
+fn take(
+    board: &mut Board,
+    hand: Hand,
+    mut node: Node,
+    used: &mut Vec<Node>,
+) -> Result<bool, (Pause, Node)>
     requires { IsHand board.old.plan hand.input hand.number }
     ensures ok { OnOk result (board.new.totals.taken ≡ board.old.totals.taken + 1) }
     ensures message { OnOk result (Takes board.old hand node.message board.new) }
     ensures err { OnErr result (board.new ≡ board.old) }
-    ensures last { IfErr result IsLast }
+    ensures last { IfErr result (λ e. IsLast e.0) }
+    ensures back { IfErr result (λ e. e.1.message ≡ node.message) }
     ensures plan { board.new.plan ≡ board.old.plan }
 {
     follow_input(board.plan(), hand.input, &mut node);
@@ -77,8 +87,8 @@ fn take(board: &mut Board, hand: Hand, mut node: Node, used: &mut Vec<Node>) -> 
             keep(used, node);
             Ok(false)
         }
-        Err((_, BoardFault::TotalsFull)) => Err(Pause::TotalsFull),
-        Err((_, _)) => Err(Pause::Hands),
+        Err((node, BoardFault::TotalsFull)) => Err((Pause::TotalsFull, node)),
+        Err((node, _)) => Err((Pause::Hands, node)),
     }
 }
 
@@ -125,37 +135,64 @@ fn enter_left(board: &mut Board, hand: Hand, is_in_hand: &mut bool) -> Result<()
     }
 }
 
-// Takes one item: it is counted where it is no message, or once it was taken.
-#[tactic(auto, using(crate::proofs::Taken::took_one, crate::proofs::Taken::unread_one, crate::proofs::Taken::pauses, crate::proofs::Taken::ends_last, crate::proofs::Puts::item_put, crate::proofs::Puts::one_put, crate::proofs::Puts::last_put))]
+// Takes one item: it is counted where it is no message, or once it was taken. The answer is whether its message stays in the hand; or why
+// the item wasn't taken, and the item.
+#[tactic(auto, using(crate::proofs::Taken::took_one, crate::proofs::Taken::unread_one, crate::proofs::Taken::back))]
+fn take_item(
+    board: &mut Board,
+    hand: Hand,
+    item: Item,
+    end: &mut ConnEnd,
+    used: &mut Vec<Node>,
+) -> Result<bool, (Pause, Item)>
+    requires { IsHand board.old.plan hand.input hand.number }
+    ensures kept { (read left : List ℕ) (later : List Kept) → Holds read end.old (item ∷ later) left →
+        TakenIs result read end.new later left }
+    ensures ok { IfOk result (λ stays. ItemTaken stays item board.old hand board.new) }
+    ensures last { IfErr result (λ e. IsLast e.0) }
+    ensures err { OnErr result (board.new ≡ board.old) }
+    ensures taken { board.new.totals.taken + end.old.took ≡ board.old.totals.taken + end.new.took }
+    ensures plan { board.new.plan ≡ board.old.plan }
+{
+    if end.is_full() {
+        return Err((Pause::TotalsFull, item));
+    }
+    match item {
+        Item::Other(_) => {
+            end.count_unread();
+            Ok(false)
+        }
+        Item::Unmade(text) => Err((Pause::NoMemory, Item::Unmade(text))),
+        Item::Message(node) => match take(board, hand, node, used) {
+            Ok(stays) => {
+                end.count_message();
+                Ok(stays)
+            }
+            Err((pause, node)) => Err((pause, Item::Message(node))),
+        },
+    }
+}
+
+// The same, and a message that stays in the hand goes on, unless something holds it there.
 fn put_one(
     board: &mut Board,
     hand: Hand,
-    item: Option<Node>,
+    item: Item,
     end: &mut ConnEnd,
     is_in_hand: &mut bool,
     used: &mut Vec<Node>,
-) -> Result<(), Pause>
+) -> Result<(), (Pause, Option<Item>)>
     requires { IsHand board.old.plan hand.input hand.number }
-    ensures kept { (read left : List ℕ) (later : List (Option Kept)) → Holds read end.old (item ∷ later) left →
+    ensures kept { (read left : List ℕ) (later : List Kept) → Holds read end.old (item ∷ later) left →
         PutIs result read end.new later left }
     ensures put { OnePut result item board.old hand board.new }
     ensures taken { board.new.totals.taken + end.old.took ≡ board.old.totals.taken + end.new.took }
     ensures plan { board.new.plan ≡ board.old.plan }
 {
-    if end.is_full() {
-        return Err(Pause::TotalsFull);
-    }
-    let Some(node) = item else {
-        end.count_unread();
-        return Ok(());
-    };
-    let stays = match take(board, hand, node, used) {
-        Ok(stays) => stays,
-        Err(pause) => return Err(pause),
-    };
-    end.count_message();
-    if !stays {
-        return Ok(());
+    match take_item(board, hand, item, end, used) {
+        Ok(false) => return Ok(()),
+        Ok(true) => {}
+        Err((pause, item)) => return Err((pause, Some(item))),
     }
     *is_in_hand = true;
     match enter(board, hand, false) {
@@ -163,23 +200,33 @@ fn put_one(
             *is_in_hand = false;
             Ok(())
         }
-        Err(pause) => Err(pause),
+        Err(pause) => Err((pause, None)),
+    }
+}
+
+// An item that wasn't taken stands first again.
+fn put_back(batch: &mut VecDeque<Item>, item: Option<Item>)
+    requires { deque_len batch.old < deque_capacity batch.old }
+    ensures { batch.new.items ≡ option_to_list item ++ batch.old.items }
+{
+    if let Some(item) = item {
+        batch.push_front_reserved(item);
     }
 }
 
 /// Takes a batch, item after item, up to where the connection has to pause. `is_in_hand` says whether its last
 /// message is still in the hand, where it goes on from there.
-#[tactic(auto, using(crate::proofs::Taken::pauses, crate::proofs::Taken::ends_now, crate::proofs::Puts::some_put, crate::proofs::Puts::first_put))]
+#[tactic(auto, using(crate::proofs::Puts::some_put, crate::proofs::Puts::first_put))]
 pub(crate) fn put_some(
     board: &mut Board,
     hand: Hand,
-    batch: &mut VecDeque<Option<Node>>,
+    batch: &mut VecDeque<Item>,
     end: &mut ConnEnd,
     is_in_hand: &mut bool,
     used: &mut Vec<Node>,
 ) -> Result<(), Pause>
     ensures kept { (read left : List ℕ) → Holds read end.old batch.old.items left →
-        PutIs result read end.new batch.new.items left }
+        Holds read end.new batch.new.items left }
     ensures all { OnOk result (batch.new.items ≡ []) }
     ensures put { SomePut result batch.old.items batch.new.items board.old hand board.new }
     ensures taken { board.new.totals.taken + end.old.took ≡ board.old.totals.taken + end.new.took }
@@ -195,7 +242,10 @@ pub(crate) fn put_some(
     while let Some(item) = batch.pop_front() {
         match put_one(board, hand, item, end, is_in_hand, used) {
             Ok(()) => {}
-            Err(pause) => return Err(pause),
+            Err((pause, item)) => {
+                put_back(batch, item);
+                return Err(pause);
+            }
         }
     }
     Ok(())

@@ -1,6 +1,6 @@
 //! The turns of a connection: a batch, and a read where no whole frame is left.
 ghost use Rattle.std.specs.Prelude.{◌≡◌, [], ℕ, List, Option, Err, IfSome, false};
-ghost use Rattle.sy_runtime.specs.Connections.{Begins, Connects};
+ghost use Rattle.sy_runtime.specs.Connections.{Begins, Connects, rest_of};
 ghost use Rattle.sy_runtime.specs.internal.Turning.{nothing_counted, RoundIs, TurnIs, Turns, round_of};
 
 use crate::connection::gathering::{Gathered, gather};
@@ -12,12 +12,13 @@ use crate::connection::taking::Hand;
 use crate::connection_end::{ConnEnd, Finish, Unread};
 use crate::fault::RunFault;
 use crate::shared::{Gate, Shared};
+use crate::untaken::{Item, Untaken};
 use crate::waiting::wait_for_memory;
 use std::alloc::Global;
 use std::collections::VecDeque;
 use std::sync::Wait;
+use std::sync::atomic::Ordering;
 use std::time::Clock;
-use sy_chain::Node;
 use sy_wire::{Framer, Source};
 
 /// How many frames are gathered before the lock is taken, at most.
@@ -40,7 +41,7 @@ struct Intake {
     // the text of a frame on its way into an entry
     raw: Vec<u8>,
     makings: Makings,
-    batch: VecDeque<Option<Node>>,
+    batch: VecDeque<Item>,
     // whether the reader has ended
     is_over: bool,
     // whether a message is in the connection's hand
@@ -67,11 +68,11 @@ impl Intake {
 }
 
 // The first frame of a batch that carries no message, where so many were counted before it.
-fn frame_of(batch: &VecDeque<Option<Node>>, counted: u64) -> u64 {
+fn frame_of(batch: &VecDeque<Item>, counted: u64) -> u64 {
     let mut frame = counted;
     for item in batch {
         frame = frame.saturating_add(1);
-        if item.is_none() {
+        if matches!(item, Item::Other(_)) {
             return frame;
         }
     }
@@ -79,7 +80,7 @@ fn frame_of(batch: &VecDeque<Option<Node>>, counted: u64) -> u64 {
 }
 
 // The first frame that carries no message, where it isn't known yet and is in this batch.
-fn unread_of(makings: &Makings, batch: &VecDeque<Option<Node>>, end: &ConnEnd) -> Option<Unread> {
+fn unread_of(makings: &Makings, batch: &VecDeque<Item>, end: &ConnEnd) -> Option<Unread> {
     let fault = makings.fault?;
     let frame = frame_of(batch, end.frames());
     Some(Unread { frame, fault })
@@ -96,7 +97,6 @@ fn sum_up(stop: Gathered, put: Result<(), Halt>) -> Round
             Gathered::Full => Round::Again,
             Gathered::NoMemory => Round::NoMemory,
             Gathered::Fault(fault) => Round::Over(Err(RunFault::Frame(fault))),
-            Gathered::Lost => Round::Over(Err(RunFault::NoMemory)),
         },
     }
 }
@@ -126,6 +126,7 @@ fn take_in<R: Wait + Clock, G: Gate>(
         first_unread,
         ..
     } = intake;
+    makings.set_tag(shared.frames.fetch_add(BATCH as u64, Ordering::SeqCst));
     let stop = gather(alloc, framer, raw, makings, batch, BATCH);
     if first_unread.is_none() {
         *first_unread = unread_of(makings, batch, end);
@@ -183,7 +184,8 @@ fn turn<R: Wait + Clock, G: Gate, S: Source>(
     }
 }
 
-/// Serves a connection that has a hand, which is given back with nothing in it, or kept with a message.
+/// Serves a connection that has a hand, which is given back with nothing in it, or kept with a message. The answer is what it read and didn't
+/// take, and how it ended.
 pub(crate) fn serve<R: Wait + Clock, G: Gate, S: Source>(
     rt: &R,
     alloc: Global,
@@ -192,9 +194,9 @@ pub(crate) fn serve<R: Wait + Clock, G: Gate, S: Source>(
     hand: Hand,
     reader: &mut S,
     end: &mut ConnEnd,
-) -> Result<Finish, RunFault>
+) -> (Untaken, Result<Finish, RunFault>)
     requires { end.old ≡ nothing_counted }
-    ensures { Connects result end.new (S.remaining reader.old) (S.remaining reader.new) (S.faults reader.old) (S.faults reader.new) }
+    ensures { Connects result.1 end.new (rest_of result.0.items.items result.0.framer.left) (S.remaining reader.old) (S.remaining reader.new) (S.faults reader.old) (S.faults reader.new) }
 {
     let mut intake = Intake::new(alloc);
     for _ in rt.forever() {
@@ -203,7 +205,12 @@ pub(crate) fn serve<R: Wait + Clock, G: Gate, S: Source>(
                 shared.locked.lock(rt).give_back(hand);
             }
             end.set_first_unread(intake.first_unread);
-            return answer;
+            let Intake { batch, framer, .. } = intake;
+            let untaken = Untaken {
+                items: batch,
+                framer,
+            };
+            return (untaken, answer);
         }
     }
     unreachable!()

@@ -12,7 +12,14 @@ use Rattle.syc.specs.declared.running.words.Args.{Args}
 abbrev pub AreArgs : List (List ℕ) → Args → Type 0
 AreArgs words found =
     AreRunArgs words (option_to_list (option_map (λ word. word.now) found.first) ++ option_to_list (option_map (λ word. word.now) found.second))
-    (record { is_unchecked = found.is_unchecked; left = option_map (λ file. file.now) found.left; drain = found.drain })
+    (record {
+      is_unchecked = found.is_unchecked;
+      is_explained = found.is_explained;
+      left = option_map (λ file. file.now) found.left;
+      drain = found.drain;
+      metrics = option_map (λ file. file.now) found.metrics;
+      metrics_every = found.metrics_every;
+    })
 
 -- no words of a drawing
 abbrev pub AreNoGraph : List (List ℕ) → Type 0

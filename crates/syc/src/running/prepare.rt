@@ -5,17 +5,18 @@ ghost use Rattle.sy_site.specs.Finding.{IsTrueRefusal};
 ghost use Rattle.syc.specs.Prepared.{HasGuard, IsGuardOf, IsPrepared};
 ghost use Rattle.sy_places.specs.SiteFiles.{IsSiteOf};
 
+use crate::reading::read_for;
+use crate::running::explaining::{options_for, print_found, print_halt, print_words};
+use crate::running::identity::{Identity, identity_of};
+use crate::running::start_notes::no_relay_words;
 use crate::running::words::{RunWords, run_words};
 use crate::usage::refusal;
 use crate::wrong_words::refuse;
 use std::alloc::Global;
 use sy_board::Guard;
 use sy_checker::check_site;
-use sy_findings::verdicts::check::say_found;
-use sy_places::site_file::site::{ReadSite, read_site};
+use sy_places::site_file::texts::SiteTexts;
 use sy_report::command_line::options::all_words;
-use sy_report::outcome::answer::print;
-use sy_report::outcome::halt::{status_of, tell};
 use sy_report::outcome::report::tell_texts;
 use sy_report::outcome::stop::out_of_memory;
 use sy_report::reading::files::Files;
@@ -25,10 +26,14 @@ use sy_site::finding::Refusal;
 use sy_wire::Sink;
 
 // Tells that the site has no relay of that name, and answers the exit status.
-fn no_relay<E: Sink>(errors: &mut E, name: &str) -> u8
+fn no_relay<E: Sink>(alloc: Global, site: &Site, words: RunWords<'_>, errors: &mut E) -> u8
     ensures { result ≡ 2 }
 {
+    let name = words.relay;
     tell_texts(errors, &[b"syc: no relay ", name.as_bytes(), b"\n"]);
+    if words.is_explained {
+        print_words(errors, no_relay_words(alloc, site, name));
+    }
     2
 }
 
@@ -48,9 +53,10 @@ fn guard_of(alloc: Global, site: &Site, relay: u32) -> Result<Guard, Refusal>
     }
 }
 
-// The guard of a relay, or the exit status where the site is refused, which is told.
+// The guard of a relay, or the exit status where the site is refused, which is told, and explained where its texts are given.
 fn checked<W: Sink, E: Sink>(
     alloc: Global,
+    explained: Option<&SiteTexts<'_>>,
     site: &Site,
     relay: u32,
     out: &mut Outputs<W, E>,
@@ -61,40 +67,42 @@ fn checked<W: Sink, E: Sink>(
 {
     match guard_of(alloc, site, relay) {
         Ok(guard) => Ok(guard),
-        Err(why) => Err(print(say_found(alloc, site, why), out)),
+        Err(why) => Err(print_found(alloc, explained, site, why, out)),
     }
 }
 
-// The site of that name and the number of its relay, or the exit status.
+// The site of that name, the number of its relay, and which files these are, or the exit status. The texts are those that were read.
 #[tactic(auto, using(crate::proofs::Halted::at_most_four))]
-fn named<F: Files, E: Sink>(
+fn named<'a, F: Files, E: Sink>(
     alloc: Global,
-    words: RunWords<'_>,
+    words: RunWords<'a>,
     files: &F,
+    texts: &mut SiteTexts<'a>,
     errors: &mut E,
-) -> Result<(Site, u32), u8>
+) -> Result<(Site, u32, Identity), u8>
     ensures site { IfOk result (λ found. (text : List ℕ) → F.bytes_of files.now words.entry.site.now ≡ Some text →
         IsSiteOf (F.bytes_of files.now) text found.0) }
     ensures relay { IfOk result (λ found. relay_named found.0.relays words.entry.relay.now ≡ Some found.1) }
     ensures status { IfErr result (λ status. status ≤ 4) }
 {
-    let ReadSite { site, .. } = read_site(alloc, files, words.site);
-    let site = match site {
+    let options = options_for(words.is_explained);
+    let site = match read_for(alloc, files, texts, options, words.site) {
         Ok(site) => site,
-        Err(halt) => {
-            tell(errors, &halt);
-            return Err(status_of(&halt));
-        }
+        Err(halt) => return Err(print_halt(alloc, texts, words, &halt, errors)),
+    };
+    let Some(identity) = identity_of(alloc, texts) else {
+        return Err(out_of_memory(errors));
     };
     match site.relay_named(words.relay.as_bytes()) {
-        Some(relay) => Ok((site, relay)),
-        None => Err(no_relay(errors, words.relay)),
+        Some(relay) => Ok((site, relay, identity)),
+        None => Err(no_relay(alloc, &site, words, errors)),
     }
 }
 
 // The guard of a relay where the site is checked, or the exit status.
 fn guard_if<W: Sink, E: Sink>(
     alloc: Global,
+    explained: Option<&SiteTexts<'_>>,
     site: &Site,
     relay: u32,
     is_unchecked: bool,
@@ -107,7 +115,7 @@ fn guard_if<W: Sink, E: Sink>(
     if is_unchecked {
         return Ok(None);
     }
-    match checked(alloc, site, relay, out) {
+    match checked(alloc, explained, site, relay, out) {
         Ok(guard) => Ok(Some(guard)),
         Err(status) => Err(status),
     }
@@ -120,25 +128,31 @@ fn ready<F: Files, W: Sink, E: Sink>(
     words: RunWords<'_>,
     files: &F,
     out: &mut Outputs<W, E>,
-) -> Result<(Site, u32, Option<Guard>), u8>
+) -> Result<(Site, u32, Option<Guard>, Identity), u8>
     ensures site { IfOk result (λ found. (text : List ℕ) → F.bytes_of files.now words.entry.site.now ≡ Some text →
         IsSiteOf (F.bytes_of files.now) text found.0) }
     ensures relay { IfOk result (λ found. relay_named found.0.relays words.entry.relay.now ≡ Some found.1) }
     ensures guard { IfOk result (λ found. IsGuardOf words.entry.is_unchecked found.0 found.1 found.2) }
     ensures status { IfErr result (λ status. status ≤ 4) }
 {
-    let (site, relay) = match named(alloc, words, files, &mut out.errors) {
+    let mut texts = SiteTexts::empty(alloc, words.site);
+    let (site, relay, identity) = match named(alloc, words, files, &mut texts, &mut out.errors) {
         Ok(found) => found,
         Err(status) => return Err(status),
     };
-    match guard_if(alloc, &site, relay, words.is_unchecked, out) {
-        Ok(guard) => Ok((site, relay, guard)),
+    let explained = if words.is_explained {
+        Some(&texts)
+    } else {
+        None
+    };
+    match guard_if(alloc, explained, &site, relay, words.is_unchecked, out) {
+        Ok(guard) => Ok((site, relay, guard, identity)),
         Err(status) => Err(status),
     }
 }
 
 /// What the command that runs a relay needs: the site that the words name, the number of its relay, the relay's guard,
-/// where the site is checked and sound, and what the words say. With `--unchecked` among the words no check is made, and there is no guard. Else
+/// where the site is checked and sound, what the words say, and which files were read. With `--unchecked` among the words no check is made, and there is no guard. Else
 /// an exit status, and what is to be said of it is printed: 1 for a site that is refused, 2 for a faulty site, a relay that it doesn't have
 /// or other words (0 where they ask for help), 3 where memory runs out, and 4 where a read or write failed.
 pub fn prepare<'a, F: Files, W: Sink, E: Sink>(
@@ -146,7 +160,7 @@ pub fn prepare<'a, F: Files, W: Sink, E: Sink>(
     args: &'a [String],
     files: &F,
     out: &mut Outputs<W, E>,
-) -> Result<(Site, u32, Option<Guard>, RunWords<'a>), u8>
+) -> Result<(Site, u32, Option<Guard>, RunWords<'a>, Identity), u8>
     ensures ok { IfOk result (λ found. IsPrepared (F.bytes_of files.now) (map string_bytes args.now) found.0 found.1 found.2 found.3) }
     ensures status { IfErr result (λ status. status ≤ 4) }
 {
@@ -155,7 +169,7 @@ pub fn prepare<'a, F: Files, W: Sink, E: Sink>(
     };
     match run_words(words.as_slice()) {
         Some(found) => match ready(alloc, found, files, out) {
-            Ok((site, relay, guard)) => Ok((site, relay, guard, found)),
+            Ok((site, relay, guard, identity)) => Ok((site, relay, guard, found, identity)),
             Err(status) => Err(status),
         },
         None => Err(refuse(alloc, out, &refusal(alloc, words.as_slice()))),

@@ -1,6 +1,6 @@
 //! The words of the command that runs a relay.
-ghost use Rattle.std.specs.Prelude.{◌≡◌, ℕ, List, ◌∷◌, codes, map, true, IfSome};
-ghost use Rattle.syc.specs.Words.{AreRunOf, IsSeconds};
+ghost use Rattle.std.specs.Prelude.{◌≡◌, ℕ, List, ◌∷◌, None, codes, map, option_map, true, IfSome};
+ghost use Rattle.syc.specs.Words.{AreRunOf, IsPeriod, IsSeconds};
 ghost use Rattle.sy_report.specs.Words.{is_plain as is_plain_word};
 ghost use Rattle.syc.specs.internal.Commands.{AreArgs};
 ghost use Rattle.syc.specs.Commands.{IsRun, options_of};
@@ -14,7 +14,7 @@ const MOST_SECONDS: u32 = 86400;
 const DIGITS: usize = 5;
 
 /// How many words may stand behind that of the command: two names, and each option with what belongs to it.
-const MOST_WORDS: usize = 7;
+const MOST_WORDS: usize = 12;
 
 /// What the words of that command say.
 #[derive(Clone, Copy)]
@@ -25,10 +25,16 @@ pub struct RunWords<'a> {
     pub relay: &'a str,
     /// whether the site isn't to be checked
     pub is_unchecked: bool,
+    /// whether a fault of the start is to be explained
+    pub is_explained: bool,
     /// the name of the file for what is left
     pub left: Option<&'a str>,
     /// for how many seconds the relay may empty before it stops
     pub drain: Option<u32>,
+    /// the name of the file for the metrics
+    pub metrics: Option<&'a str>,
+    /// after how many seconds that file is written again: 1 at least
+    pub metrics_every: Option<u32>,
 }
 
 // What words say that stand behind some of them.
@@ -37,12 +43,15 @@ struct Args<'a> {
     first: Option<&'a str>,
     second: Option<&'a str>,
     is_unchecked: bool,
+    is_explained: bool,
     left: Option<&'a str>,
     drain: Option<u32>,
+    metrics: Option<&'a str>,
+    metrics_every: Option<u32>,
 }
 
-// The number that digits make, as far as it is a time that may be given.
-fn seconds(word: &[u8]) -> Option<u32>
+/// The number that digits make, as far as it is a time that may be given.
+pub fn seconds(word: &[u8]) -> Option<u32>
     ensures { IfSome result (IsSeconds word.now) }
 {
     if word.is_empty() || word.len() > DIGITS {
@@ -56,6 +65,17 @@ fn seconds(word: &[u8]) -> Option<u32>
         number = number * 10 + u32::from(*digit - b'0');
     }
     if number > MOST_SECONDS {
+        return None;
+    }
+    Some(number)
+}
+
+/// The same of a time between two files, which is no less than a second.
+pub fn period(word: &[u8]) -> Option<u32>
+    ensures { IfSome result (IsPeriod word.now) }
+{
+    let number = seconds(word)?;
+    if number == 0 {
         return None;
     }
     Some(number)
@@ -88,6 +108,18 @@ fn with_unchecked<'a>(args: Args<'a>) -> Option<Args<'a>>
     })
 }
 
+fn with_explained<'a>(args: Args<'a>) -> Option<Args<'a>>
+    ensures { IfSome result (λ found. (words : List (List ℕ)) → AreArgs words args.entry → AreArgs (codes "--explain" ∷ words) found) }
+{
+    if args.is_explained {
+        return None;
+    }
+    Some(Args {
+        is_explained: true,
+        ..args
+    })
+}
+
 fn with_left<'a>(file: &'a str, args: Args<'a>) -> Option<Args<'a>>
     ensures { IfSome result (λ found. (words : List (List ℕ)) → AreArgs words args.entry → AreArgs (codes "--left" ∷ file.entry.now ∷ words) found) }
 {
@@ -116,6 +148,34 @@ fn with_drain<'a>(word: &'a str, args: Args<'a>) -> Option<Args<'a>>
     })
 }
 
+fn with_metrics<'a>(file: &'a str, args: Args<'a>) -> Option<Args<'a>>
+    ensures { IfSome result (λ found. (words : List (List ℕ)) → AreArgs words args.entry → AreArgs (codes "--metrics" ∷ file.entry.now ∷ words) found) }
+{
+    if args.metrics.is_some() {
+        return None;
+    }
+    if !is_plain(file) {
+        return None;
+    }
+    Some(Args {
+        metrics: Some(file),
+        ..args
+    })
+}
+
+fn with_metrics_every<'a>(word: &'a str, args: Args<'a>) -> Option<Args<'a>>
+    ensures { IfSome result (λ found. (words : List (List ℕ)) → AreArgs words args.entry → AreArgs (codes "--metrics-every" ∷ word.entry.now ∷ words) found) }
+{
+    if args.metrics_every.is_some() {
+        return None;
+    }
+    let seconds = period(word.as_bytes())?;
+    Some(Args {
+        metrics_every: Some(seconds),
+        ..args
+    })
+}
+
 // One option more, in front of these, with the word that belongs to it.
 fn with_value<'a>(option: &str, value: &'a str, args: Args<'a>) -> Option<Args<'a>>
     ensures { IfSome result (λ found. (words : List (List ℕ)) → AreArgs words args.entry → AreArgs (option.now ∷ value.entry.now ∷ words) found) }
@@ -124,6 +184,10 @@ fn with_value<'a>(option: &str, value: &'a str, args: Args<'a>) -> Option<Args<'
         with_left(value, args)
     } else if is_word(option, "--drain") {
         with_drain(value, args)
+    } else if is_word(option, "--metrics") {
+        with_metrics(value, args)
+    } else if is_word(option, "--metrics-every") {
+        with_metrics_every(value, args)
     } else {
         None
     }
@@ -138,8 +202,11 @@ fn args_of<'a>(words: &[&'a str]) -> Option<Args<'a>>
             first: None,
             second: None,
             is_unchecked: false,
+            is_explained: false,
             left: None,
             drain: None,
+            metrics: None,
+            metrics_every: None,
         }),
         [word, rest @ ..] => {
             if is_plain(word) {
@@ -148,11 +215,24 @@ fn args_of<'a>(words: &[&'a str]) -> Option<Args<'a>>
             if is_word(word, "--unchecked") {
                 return with_unchecked(args_of(rest)?);
             }
+            if is_word(word, "--explain") {
+                return with_explained(args_of(rest)?);
+            }
             match rest {
                 [value, rest @ ..] => with_value(word, value, args_of(rest)?),
                 [] => None,
             }
         }
+    }
+}
+
+// Whether a time between two files is given with a file, if at all.
+fn is_paired(metrics: Option<&str>, every: Option<u32>) -> bool
+    ensures { result ≡ true → option_map (λ file. file.now) metrics.entry ≡ None → every ≡ None }
+{
+    match metrics {
+        Some(_) => true,
+        None => every.is_none(),
     }
 }
 
@@ -167,15 +247,24 @@ fn behind<'a>(words: &[&'a str]) -> Option<RunWords<'a>>
         first,
         second,
         is_unchecked,
+        is_explained,
         left,
         drain,
+        metrics,
+        metrics_every,
     } = args_of(words)?;
+    if !is_paired(metrics, metrics_every) {
+        return None;
+    }
     Some(RunWords {
         site: first?,
         relay: second?,
         is_unchecked,
+        is_explained,
         left,
         drain,
+        metrics,
+        metrics_every,
     })
 }
 

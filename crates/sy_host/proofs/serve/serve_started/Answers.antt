@@ -5,6 +5,8 @@ use Rattle.sy_board.specs.relay.Boards.{Account}
 use Rattle.sy_board.specs.relay.Totals.{GuardState}
 use Rattle.sy_runtime.specs.Connections.{Counts}
 use Rattle.sy_runtime.specs.Stopping.{Stops}
+use Rattle.sy_rules.specs.PlanValue.{Plan}
+use Rattle.sy_site.specs.Sites.{plan_at}
 use Rattle.sy_host.specs.Totals.{EndsWithTotals}
 use Rattle.sy_host.specs.internal.Served.{IsLeft}
 use Rattle.sy_host.proofs.serve.serve_started.Goals as goal
@@ -24,7 +26,8 @@ left_with old new ends account left made same stops =
 pub returns-clause-done : goal.returns-clause-done
 returns-clause-done g c = λ zero.
     subst
-    (λ actions. EndsWithTotals actions c.args.run.0 (g.W.Sink.contents c.args.writer.now) (g.W.Sink.contents c.finish.new.writer))
-    (search rules)
-    (c.finish.ensures.done zero c.args.run.0
+    (λ (plan : Plan). EndsWithTotals plan.actions c.args.run.0 (g.W.Sink.contents c.args.writer.now) (g.W.Sink.contents c.finish-2.new.writer)
+    (g.T.Store.wanted c.args.store.now) g.T.Store.kept plan.inputs c.args.store.now c.finish-2.new.store)
+    {x = c.deref-plan.result.now} {y = plan_at c.args.served.site.now c.args.served.relay} (search rules)
+    (c.finish-2.ensures.done zero c.args.run.0
     (left_of c.stop-answer.result (λ stopped stops. left_with _ c.args.run.0 _ _ _ _ (search rules) stops) c.stop-answer.ensures))

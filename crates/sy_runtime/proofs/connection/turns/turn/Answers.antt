@@ -3,7 +3,7 @@ use Rattle.sy_runtime.proofs.Turning.{over_early, goes_on, reads_on, over_read, 
 use Rattle.sy_runtime.proofs.connection.turns.turn.Goals as goal
 
 pub returns-in-Over : goal.returns-in-Over
-returns-in-Over g c = record { kept = λ ahead failed t. over_early ahead _ failed _ _ _ _ _ _ _ t c.in-Over.ensures.kept }
+returns-in-Over g c = record { kept = λ ahead failed t. over_early ahead _ failed _ _ _ _ _ _ _ _ t c.in-Over.ensures.kept }
 
 pub returns-in-Again : goal.returns-in-Again
 returns-in-Again g c = record {
@@ -29,7 +29,7 @@ read_more-requires-clause-over g c = λ yes. c.requires.turns.2.goes.over (sym c
 pub returns-in-Over-read_more : goal.returns-in-Over-read_more
 returns-in-Over-read_more g c = record {
   kept = λ ahead failed t.
-      over_read ahead _ _ failed _ _ _ _ _ _ _ (goes_on ahead _ failed _ _ _ _ _ _ _ _ _ t c.in-Reads.ensures.same (λ read begun. (c.in-Reads.ensures.kept read begun).0))
+      over_read ahead _ _ failed _ _ _ _ c.read_more.new.framer _ _ _ (goes_on ahead _ failed _ _ _ _ _ _ _ _ _ t c.in-Reads.ensures.same (λ read begun. (c.in-Reads.ensures.kept read begun).0))
       c.in-Over-read_more.ensures.kept;
 }
 

@@ -1,0 +1,11 @@
+use Rattle.std.proofs.Common.{length}
+use Rattle.sy_host.specs.Left.{KeepsEach}
+use Rattle.sy_host.proofs.ending.left.keep_all.Given as goal
+
+-- with what is left at the other inputs, all is kept
+abbrev pub invariant-loop-input : goal.invariant-loop-input
+invariant-loop-input g l =
+    (end : _) → KeepsEach g.T.Store.kept l.entries l.store l.all.items end → KeepsEach g.T.Store.kept l.entries l.initial.store l.initial.all.items end
+
+abbrev pub decreases-loop-input : goal.decreases-loop-input
+decreases-loop-input g l = length l.all.items

@@ -1,0 +1,74 @@
+-- What a relay that stopped keeps for its next run: a file for each input that has anything (this profile's own).
+use Rattle.std.specs.Prelude.{◌≡◌, ◌≤◌, ◌<◌, ◌⊎◌, ℕ, Bool, true, ◌==◌, if◌then◌else◌, IsPermutation, length, slice_index_or, List, [], ◌∷◌, ◌++◌, map, Option}
+use Rattle.std.specs.Io.KnownBytes.{Appends, IsAtEnd}
+use Rattle.sy_rules.specs.declared.parts.Input.{Input}
+use Rattle.sy_chain.specs.Entries.{Entry}
+use Rattle.sy_wire.specs.Frames.{Held, IsOpen, stream}
+use Rattle.sy_runtime.specs.Connections.{rest_of}
+use Rattle.sy_runtime.specs.declared.untaken.Untaken.{Untaken}
+use Rattle.sy_host.specs.Listened.{ports_from}
+use Rattle.sy_host.specs.declared.ending.remaining.AtInput.{AtInput}
+use Rattle.sy_host.specs.declared.listening.serving.Port.{Port}
+
+-- the texts of the messages of these entries that came by this input, in their order
+abbrev pub texts_of : ℕ → List Entry → List (List ℕ)
+texts_of input [] = []
+texts_of input (e ∷ later) = if e.input == input then e.message.raw ∷ texts_of input later else texts_of input later
+
+-- no entry was read before one in front of it: an entry's tag counts what was read before it
+abbrev pub IsInOrder : List Entry → Type 0
+IsInOrder entries = (i j : ℕ) (d : Entry) → i ≤ j → j < length entries → (slice_index_or entries i d).tag ≤ (slice_index_or entries j d).tag
+
+-- No whole frame stands at the front: the framer failed at what does, or more bytes must come first.
+abbrev pub IsCut : Held → Type 0
+IsCut held = (held.has_failed ≡ true) ⊎ IsOpen held.left
+
+-- the texts of the whole frames that a connection had read and not taken; what follows them is none
+pub record IsRest (untaken : Untaken) (texts : List (List ℕ)) : Type 0 where
+  pub behind : Held
+  pub whole : rest_of untaken.items.items untaken.framer.left ≡ stream texts ++ behind.left
+  pub cut : IsCut behind
+
+-- those of some connections, one after the other
+pub data AreRests : List Untaken → List (List ℕ) → Type 0 where
+  none : AreRests [] []
+  more :
+      {later : List Untaken} {texts others : List (List ℕ)} (untaken : Untaken)
+      → IsRest untaken texts → AreRests later others → AreRests (untaken ∷ later) (texts ++ others)
+
+-- What is kept of an input: what the relay still held, in the order in which it had read it, and then what its connections had read and not taken.
+pub record IsOfInput (input : AtInput) (entries : List Entry) (texts : List (List ℕ)) : Type 0 where
+  pub others : List (List ℕ)
+  pub rests : AreRests input.untaken.items others
+  pub texts_are : texts ≡ texts_of input.at.input entries ++ others
+
+-- a file that was empty has these bytes
+pub record HasBytes (contents : Option (List ℕ)) (bytes : List ℕ) : Type 0 where
+  pub begun : Option (List ℕ)
+  pub empty : IsAtEnd begun
+  pub wrote : Appends begun contents bytes
+
+-- A store keeps a file of its own for each input that has anything, in the order of the inputs: `Kept store port contents store'` is what its
+-- `keep` says of one file.
+pub data KeepsEach {S : Type 0} (Kept : S → ℕ → Option (List ℕ) → S → Type 0) (entries : List Entry) : S → List AtInput → S → Type 0 where
+  none : {store : S} → KeepsEach Kept entries store [] store
+  kept :
+      {store between store' : S} {later : List AtInput} (input : AtInput) (texts : List (List ℕ)) (contents : Option (List ℕ))
+      → IsOfInput input entries texts → HasBytes contents (stream texts) → Kept store input.at.port contents between
+      → KeepsEach Kept entries between later store' → KeepsEach Kept entries store (input ∷ later) store'
+  nothing :
+      {store store' : S} {later : List AtInput} (input : AtInput)
+      → IsOfInput input entries [] → KeepsEach Kept entries store later store' → KeepsEach Kept entries store (input ∷ later) store'
+
+abbrev pub port_of : AtInput → Port
+port_of input = input.at
+
+-- What was held was kept, and with it what the connections of these inputs had read and not taken.
+pub record Keeps {S : Type 0} (Kept : S → ℕ → Option (List ℕ) → S → Type 0) (inputs : List Input) (held : List Entry) (store store' : S) :
+    Type 0 where
+  pub entries : List Entry
+  pub same : IsPermutation held entries
+  pub in_order : IsInOrder entries
+  pub all : List AtInput
+  pub ports : map port_of all ≡ ports_from 0 inputs
+  pub each : KeepsEach Kept entries store all store'

@@ -1,0 +1,70 @@
+//! The lines of what connections had sent and the relay didn't take when it stopped.
+
+use crate::ending::remaining::Counted;
+use crate::listening::serving::Serving;
+use std::alloc::{AllocError, Global};
+use std::sync::Wait;
+use sy_report::texts::parts::{Part, put_parts};
+use sy_rules::Input;
+use sy_wire::Sink;
+
+// What was read of an input and not taken.
+fn untaken_line(alloc: Global, port: u16, counted: Counted) -> Result<Vec<u8>, AllocError> {
+    let mut line = Vec::new(alloc);
+    let parts = [
+        Part::Text(b"syc: input "),
+        Part::Number(u64::from(port)),
+        Part::Text(b" not taken at the stop: "),
+        Part::Number(counted.frames),
+        Part::Text(b" frames, and a part of one from "),
+        Part::Number(counted.parts),
+        Part::Text(b" connections\n"),
+    ];
+    put_parts(&mut line, &parts)?;
+    Ok(line)
+}
+
+// What was sent to an input and not read.
+fn unread_line(alloc: Global, port: u16, counted: Counted) -> Result<Vec<u8>, AllocError> {
+    let mut line = Vec::new(alloc);
+    let parts = [
+        Part::Text(b"syc: input "),
+        Part::Number(u64::from(port)),
+        Part::Text(b" unread at the stop: "),
+        Part::Number(counted.connections),
+        Part::Text(b" connections, "),
+        Part::Number(counted.bytes),
+        Part::Text(b" bytes or more\n"),
+    ];
+    put_parts(&mut line, &parts)?;
+    Ok(line)
+}
+
+fn report<R: Wait, E: Sink + Drop>(
+    rt: &R,
+    serving: &Serving<E>,
+    line: Result<Vec<u8>, AllocError>,
+) {
+    match line {
+        Ok(line) => serving.tell_line(rt, line.as_slice()),
+        Err(_) => serving.tell_text(rt, "no memory"),
+    }
+}
+
+/// Prints of each of these inputs what its connections had sent and the relay didn't take, where there is anything.
+pub fn report_unfinished<R: Wait, E: Sink + Drop>(
+    rt: &R,
+    alloc: Global,
+    serving: &Serving<E>,
+    inputs: &[Input],
+    counted: &[Counted],
+) {
+    for (input, counted) in inputs.iter().zip(counted) {
+        if counted.frames > 0 || counted.parts > 0 {
+            report(rt, serving, untaken_line(alloc, input.port, *counted));
+        }
+        if counted.connections > 0 {
+            report(rt, serving, unread_line(alloc, input.port, *counted));
+        }
+    }
+}

@@ -1,0 +1,83 @@
+//! The lines about the files of archives.
+
+use crate::rotation::opened::Refusal;
+use crate::rotation::troubles::{Notice, Trouble};
+use std::alloc::{AllocError, Global};
+use sy_report::texts::parts::Part;
+use sy_report::texts::words::Words;
+
+// Why a file can't be opened.
+fn say_refusal(alloc: Global, words: &mut Words, refusal: Refusal) -> Result<(), AllocError> {
+    match refusal {
+        Refusal::NoFolder => words.say("no such folder"),
+        Refusal::Host(reason) => {
+            let mut text = Vec::new(alloc);
+            reason.put(alloc, &mut text)?;
+            words.put(&[Part::Text(text.as_slice())]);
+        }
+    }
+    Ok(())
+}
+
+fn say_notice(
+    alloc: Global,
+    words: &mut Words,
+    path: &[u8],
+    notice: Notice,
+) -> Result<(), AllocError> {
+    match notice {
+        Notice::Is(Trouble::Refused(refusal)) => {
+            words.say(" can't reopen ");
+            words.put_in_line(path);
+            words.say(": ");
+            say_refusal(alloc, words, refusal)?;
+            words.say("; lines go on to the file that was renamed");
+        }
+        Notice::Is(Trouble::Nameless) => words.say(" writes to a file that has no name any more"),
+        Notice::Reopened => {
+            words.say(" reopened ");
+            words.put_in_line(path);
+        }
+        Notice::Named => {
+            words.say(" writes to ");
+            words.put_in_line(path);
+            words.say(" again");
+        }
+    }
+    Ok(())
+}
+
+/// A line about the file of an archive, of the action of this name (`action audit`). Control characters of the path stand
+/// there as `\x0a`.
+pub fn notice_line(
+    alloc: Global,
+    action: &[u8],
+    path: &[u8],
+    notice: Notice,
+) -> Result<Vec<u8>, AllocError> {
+    let mut words = Words::new(alloc);
+    words.say("syc: ");
+    words.put(&[Part::Text(action)]);
+    say_notice(alloc, &mut words, path, notice)?;
+    words.say("\n");
+    words.finish()
+}
+
+/// The answer once so many archives were opened anew. Others wait for who writes to them, or for a pipe's reader.
+pub fn answer_line(alloc: Global, reopened: u64, later: u64) -> Result<Vec<u8>, AllocError> {
+    let mut words = Words::new(alloc);
+    words.put(&[
+        Part::Text(b"syc: reopened "),
+        Part::Number(reopened),
+        Part::Text(b" archives"),
+    ]);
+    if later > 0 {
+        words.put(&[
+            Part::Text(b", "),
+            Part::Number(later),
+            Part::Text(b" not yet"),
+        ]);
+    }
+    words.say("\n");
+    words.finish()
+}

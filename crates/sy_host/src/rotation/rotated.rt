@@ -1,0 +1,228 @@
+//! The file of an archive, as its device and who watches over it share it.
+
+use crate::devices::file_writer::FileWriter;
+use crate::log::ActionLog;
+use crate::rotation::opened::{Node, Refusal, has_lost_name, is_pipe, node_of_file, open_file};
+use std::alloc::Global;
+use std::fs::File;
+use std::sync::atomic::{AtomicBool, Ordering};
+use std::sync::{Mutex, MutexGuard};
+use std::thread;
+use std::time::Duration;
+use sy_actions::LineSink;
+use sy_report::texts::reason::Reason;
+
+/// After how many milliseconds a lock is tried again.
+const TURN: u64 = 1;
+
+/// What is known of the file that is open. Requests to open archives anew are counted from 1 on.
+#[derive(Clone, Copy)]
+pub struct Known {
+    /// The last request for which that was tried, and the last for which it was done.
+    pub tried: u64,
+    pub followed: u64,
+    /// Why the last try failed.
+    pub refusal: Option<Refusal>,
+    pub node: Option<Node>,
+}
+
+/// What lines are written to.
+#[derive(Drop)]
+pub struct Open {
+    pub sink: LineSink<FileWriter>,
+    followed: u64,
+}
+
+/// The file of an archive. Its device writes to it under a lock. Who watches over it tries that lock and doesn't wait for it: so
+/// an archive that isn't written to is opened anew by who watches, and one that is by its device.
+#[derive(Drop)]
+pub struct Rotated {
+    rt: HostRuntime,
+    alloc: Global,
+    path: String,
+    log: ActionLog,
+    open: Mutex<Open>,
+    known: Mutex<Known>,
+    // whether lines were written since its name was looked at
+    is_written: AtomicBool,
+}
+
+// A lock, once nobody else has it. (A device has no handle to wait by. Who else has this lock opens a file, or copies.)
+fn locked<'a, T>(rt: &HostRuntime, lock: &'a Mutex<T>) -> Option<MutexGuard<'a, T>> {
+    for _ in 0..u64::MAX {
+        if let Some(guard) = lock.try_lock() {
+            return Some(guard);
+        }
+        thread::sleep(rt, Duration::from_millis(TURN));
+    }
+    None
+}
+
+impl Rotated {
+    /// Of the file that was opened by that name for requests up to this one.
+    pub fn new(
+        rt: HostRuntime,
+        alloc: Global,
+        path: String,
+        file: File,
+        followed: u64,
+        log: ActionLog,
+        theirs: ActionLog,
+    ) -> Rotated {
+        let known = Known {
+            tried: followed,
+            followed,
+            refusal: None,
+            node: node_of_file(&file),
+        };
+        let sink = LineSink::new(alloc, FileWriter::new(file, theirs));
+        Rotated {
+            rt,
+            alloc,
+            path,
+            log,
+            open: Mutex::new(Open { sink, followed }),
+            known: Mutex::new(known),
+            is_written: AtomicBool::new(false),
+        }
+    }
+
+    /// Its file's name.
+    pub fn path(&self) -> &str {
+        self.path.as_str()
+    }
+
+    /// What notes of its action.
+    pub fn log(&self) -> &ActionLog {
+        &self.log
+    }
+
+    /// What is known of its file.
+    pub fn known(&self) -> Option<Known> {
+        match locked(&self.rt, &self.known) {
+            Some(known) => Some(*known),
+            None => None,
+        }
+    }
+
+    // Notes how a try to open it ended, and answers whether that is new.
+    fn note(&self, now: Known) -> bool {
+        let Some(mut known) = locked(&self.rt, &self.known) else {
+            return false;
+        };
+        let code = match known.refusal {
+            Some(refusal) => refusal.code(),
+            None => 0,
+        };
+        let is_new = match now.refusal {
+            Some(refusal) => {
+                known.refusal.is_none() || known.tried != now.tried || code != refusal.code()
+            }
+            None => true,
+        };
+        *known = now;
+        is_new
+    }
+
+    // The file of its name, opened anew.
+    fn open_anew(&self) -> Result<(LineSink<FileWriter>, Option<Node>), Refusal> {
+        let Ok(log) = self.log.try_clone() else {
+            return Err(Refusal::Host(Reason::NoMemory));
+        };
+        match open_file(&self.rt, self.path.as_str()) {
+            Ok(file) => {
+                let node = node_of_file(&file);
+                Ok((LineSink::new(self.alloc, FileWriter::new(file, log)), node))
+            }
+            Err(error) => Err(Refusal::of(&error)),
+        }
+    }
+
+    // Opens it anew for requests up to this one, and answers whether how that ended is new. What was open is closed then.
+    fn follow(&self, open: &mut Open, asked: u64) -> bool {
+        let node = match self.known() {
+            Some(known) => known.node,
+            None => None,
+        };
+        match self.open_anew() {
+            Ok((sink, node)) => {
+                open.sink = sink;
+                open.followed = asked;
+                self.note(Known {
+                    tried: asked,
+                    followed: asked,
+                    refusal: None,
+                    node,
+                })
+            }
+            Err(refusal) => self.note(Known {
+                tried: asked,
+                followed: open.followed,
+                refusal: Some(refusal),
+                node,
+            }),
+        }
+    }
+
+    // A pipe stands in its place. Where that one is open, it is the new one for requests up to this one.
+    fn keep_pipe(&self, open: &mut Open, asked: u64) {
+        let Some(known) = self.known() else {
+            return;
+        };
+        let Some(node) = known.node else {
+            return;
+        };
+        if has_lost_name(&self.rt, self.path.as_str(), node) {
+            return;
+        }
+        open.followed = asked;
+        let _ = self.note(Known {
+            tried: asked,
+            followed: asked,
+            refusal: None,
+            node: known.node,
+        });
+    }
+
+    /// What lines are written to, once nobody else has it: opened anew for requests up to this one, where it can be. Beside it
+    /// stands whether there is something to be told.
+    pub fn enter(&self, asked: u64) -> Option<(MutexGuard<'_, Open>, bool)> {
+        let mut open = locked(&self.rt, &self.open)?;
+        let is_new = asked > open.followed && self.follow(&mut open, asked);
+        Some((open, is_new))
+    }
+
+    /// Opens it anew for requests up to this one, where nobody has it and nothing is to be waited for.
+    pub fn reopen(&self, asked: u64) {
+        let Some(mut open) = self.open.try_lock() else {
+            return;
+        };
+        if asked <= open.followed {
+            return;
+        }
+        if is_pipe(&self.rt, self.path.as_str()) {
+            self.keep_pipe(&mut open, asked);
+        } else {
+            let _ = self.follow(&mut open, asked);
+        }
+    }
+
+    /// Notes that lines were written; whether that wasn't noted yet.
+    pub fn set_written(&self) -> bool {
+        !self.is_written.load(Ordering::SeqCst) && !self.is_written.swap(true, Ordering::SeqCst)
+    }
+
+    /// Whether lines were written since its name was looked at.
+    pub fn is_written(&self) -> bool {
+        self.is_written.load(Ordering::SeqCst)
+    }
+
+    /// Looks at its name: whether it is gone, or another file's.
+    pub fn look(&self, known: &Known) -> bool {
+        self.is_written.store(false, Ordering::SeqCst);
+        match known.node {
+            Some(node) => has_lost_name(&self.rt, self.path.as_str(), node),
+            None => false,
+        }
+    }
+}

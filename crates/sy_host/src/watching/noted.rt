@@ -1,0 +1,91 @@
+//! What the log knows of a relay's actions, inputs and queues, for who watches.
+
+use crate::log::Log;
+use crate::log::subject::{Kind, Subject};
+use std::alloc::{AllocError, Global};
+use std::time::Clock;
+use sy_rules::Plan;
+use sy_watched::file::MetricsFile;
+use sy_watched::look::{Noted, NotedOfAll, now};
+use sy_watched::watch::Watch;
+
+/// What the log knew at one moment.
+#[derive(Drop)]
+pub struct NotedLists {
+    actions: Vec<Noted>,
+    inputs: Vec<Noted>,
+    queues: Vec<Noted>,
+}
+
+impl NotedLists {
+    /// What is known of all.
+    pub fn all(&self) -> NotedOfAll<'_> {
+        NotedOfAll {
+            actions: self.actions.as_slice(),
+            inputs: self.inputs.as_slice(),
+            queues: self.queues.as_slice(),
+        }
+    }
+}
+
+fn noted_of(subject: &Subject) -> Noted {
+    let seen = subject.seen();
+    Noted {
+        on: seen.on,
+        begun: seen.begun,
+        why: subject.why(),
+        lost: seen.lost,
+        since: subject.since(),
+    }
+}
+
+impl Log {
+    /// Notes the time at what has changed since this was last noted.
+    pub fn date<R: Clock>(&self, rt: &R) {
+        let now = now(rt);
+        for subject in self.subjects() {
+            subject.date(now);
+        }
+    }
+
+    /// What it knows now.
+    pub fn noted<R: Clock>(&self, rt: &R, alloc: Global) -> Result<NotedLists, AllocError> {
+        self.date(rt);
+        let mut lists = NotedLists {
+            actions: Vec::new(alloc),
+            inputs: Vec::new(alloc),
+            queues: Vec::new(alloc),
+        };
+        for subject in self.subjects() {
+            let noted = noted_of(subject);
+            match subject.kind {
+                Kind::Action => lists.actions.push(noted)?,
+                Kind::Input => lists.inputs.push(noted)?,
+                Kind::Queue => lists.queues.push(noted)?,
+            }
+        }
+        Ok(lists)
+    }
+}
+
+/// What is watched of a relay of that name and plan, whose queues are named as in its log. Its metrics are written to that file, where there is
+/// one.
+pub fn watch_of(
+    alloc: Global,
+    relay: &[u8],
+    plan: &Plan,
+    log: &Log,
+    file: Option<MetricsFile>,
+) -> Result<Watch, AllocError> {
+    let mut watch = Watch::new(alloc, relay, plan, file)?;
+    let mut number: usize = 0;
+    for subject in log.subjects() {
+        if subject.kind == Kind::Queue {
+            if let Some(parameters) = plan.queues().get(number) {
+                watch.push_queue(alloc, subject.name.as_slice(), parameters)?;
+            }
+            number = number.saturating_add(1);
+        }
+    }
+    Ok(watch)
+}

@@ -1,0 +1,13 @@
+//! What is watched of a relay at one moment, as Prometheus reads it and as a JSON document.
+#![tactic(auto)]
+
+pub mod document;
+mod families;
+pub mod file;
+pub mod look;
+pub mod metrics;
+mod numbers;
+mod text;
+pub mod told;
+pub mod watch;
+pub mod watched;
