@@ -218,6 +218,17 @@ impl Board {
         Some(first.list())
     }
 
+    /// How many entries wait in each queue, in their order.
+    pub fn queue_lens(&self, alloc: Global) -> Result<Vec<usize>, AllocError>
+        ensures { IfOk result (λ lens. lens.items ≡ map length self.now.state.queues) }
+    {
+        let mut lens = Vec::with_capacity(alloc, self.queues.len())?;
+        for queue in &self.queues {
+            lens.push(queue.len())?;
+        }
+        Ok(lens)
+    }
+
     /// What holds a message of an input now: first the full-delay mark, then a full queue, then the light-delay mark.
     pub fn gate(&self, input: u32) -> Hold
         requires { input < length self.now.plan.inputs }
