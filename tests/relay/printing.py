@@ -192,6 +192,16 @@ def answers(lines, relay_line):
     return len(whole)
 
 
+def left_out(lines):
+    """How many lines were left out, as these say."""
+    return sum(int(it.group(1)) for it in map(LEFT_OUT.fullmatch, lines) if it)
+
+
+def told(lines):
+    """How many lines there are, with those that were left out."""
+    return sum(not LEFT_OUT.fullmatch(it) for it in lines) + left_out(lines)
+
+
 @test
 def lines_that_are_left_out_are_counted(room):
     relay, _, outer = pipe(room)
@@ -200,17 +210,16 @@ def lines_that_are_left_out_are_counted(room):
     relay.process.stdin.flush()
     until("standard input is read", lambda: not relay.unread(), came=relay.unread)
     reader = Reader(outer)
-    until("lines are left out", lambda: LEFT_OUT.fullmatch(reader.lines()[-1]), came=lambda: reader.lines()[-3:])
+    until("lines are left out", lambda: left_out(reader.lines()), came=lambda: reader.lines()[-3:])
     relay.process.stdin.write(b"status\n")
     relay.process.stdin.flush()
-    until("status is answered", lambda: LEFT_OUT.fullmatch(reader.lines()[-4]) and reader.lines()[-1].startswith("audit "),
-          came=lambda: reader.lines()[-5:])
+    # (two of the start)
+    wanted = 2 + 3 * (asked + 1)
+    until("all lines are printed or counted", lambda: told(reader.lines()) == wanted, came=lambda: reader.lines()[-5:])
     stops_soon(relay, totals(0, 0, 0, ("audit", 0, 0, 0, 0)))
     lines = reader.end()
-    counts = [int(it.group(1)) for it in map(LEFT_OUT.fullmatch, lines) if it]
+    same("lines printed and left out", told(lines), wanted)
     printed = [it for it in lines if not LEFT_OUT.fullmatch(it)]
-    same("lines printed and left out", len(printed) + sum(counts), 2 + 3 * (asked + 1))
-    # (the first is that of the start)
     same("answers", 1 + answers(printed[2:], printed[1]), (len(printed) - 2) // 3 + 1)
     if len(printed) < QUEUE:
         raise Failure(f"{len(printed)} lines found room")
@@ -232,8 +241,7 @@ def lines_left_out_are_told_at_the_end(room):
         return  # (no stop waits longer for who reads the last lines, and on a busy machine that may not be enough)
     if not LEFT_OUT.fullmatch(lines[-1]):
         raise Failure(f"the last line is {lines[-1]!r}")
-    counts = [int(it.group(1)) for it in map(LEFT_OUT.fullmatch, lines) if it]
-    same("lines printed and left out", len(lines) - len(counts) + sum(counts), 2 + 3 * 6000)
+    same("lines printed and left out", told(lines), 2 + 3 * 6000)
 
 
 @test

@@ -1,5 +1,5 @@
 -- What a relay that stopped keeps for its next run: a file for each input that has anything (this profile's own).
-use Rattle.std.specs.Prelude.{◌≡◌, ◌≤◌, ◌<◌, ◌⊎◌, ℕ, Bool, true, ◌==◌, if◌then◌else◌, IsPermutation, length, slice_index_or, List, [], ◌∷◌, ◌++◌, map, Option}
+use Rattle.std.specs.Prelude.{◌≡◌, ◌≤◌, ◌<◌, ◌⊎◌, ℕ, Bool, true, ◌==◌, if◌then◌else◌, IsPermutation, length, slice_index_or, List, [], ◌∷◌, ◌++◌, drop, map, Option}
 use Rattle.std.specs.Io.KnownBytes.{Appends, IsAtEnd}
 use Rattle.sy_rules.specs.declared.parts.Input.{Input}
 use Rattle.sy_chain.specs.Entries.{Entry}
@@ -15,7 +15,7 @@ abbrev pub texts_of : ℕ → List Entry → List (List ℕ)
 texts_of input [] = []
 texts_of input (e ∷ later) = if e.input == input then e.message.raw ∷ texts_of input later else texts_of input later
 
--- no entry was read before one in front of it: an entry's tag counts what was read before it
+-- no entry was taken before one in front of it: an entry's tag is the number of the messages that were taken before it
 abbrev pub IsInOrder : List Entry → Type 0
 IsInOrder entries = (i j : ℕ) (d : Entry) → i ≤ j → j < length entries → (slice_index_or entries i d).tag ≤ (slice_index_or entries j d).tag
 
@@ -36,7 +36,7 @@ pub data AreRests : List Untaken → List (List ℕ) → Type 0 where
       {later : List Untaken} {texts others : List (List ℕ)} (untaken : Untaken)
       → IsRest untaken texts → AreRests later others → AreRests (untaken ∷ later) (texts ++ others)
 
--- What is kept of an input: what the relay still held, in the order in which it had read it, and then what its connections had read and not taken.
+-- What is kept of an input: what the relay still held, in the order in which it had taken it, and then what its connections had read and not taken.
 pub record IsOfInput (input : AtInput) (entries : List Entry) (texts : List (List ℕ)) : Type 0 where
   pub others : List (List ℕ)
   pub rests : AreRests input.untaken.items others
@@ -63,12 +63,21 @@ pub data KeepsEach {S : Type 0} (Kept : S → ℕ → Option (List ℕ) → S �
 abbrev pub port_of : AtInput → Port
 port_of input = input.at
 
--- What was held was kept, and with it what the connections of these inputs had read and not taken.
-pub record Keeps {S : Type 0} (Kept : S → ℕ → Option (List ℕ) → S → Type 0) (inputs : List Input) (held : List Entry) (store store' : S) :
-    Type 0 where
+abbrev pub rests_of : AtInput → List Untaken
+rests_of input = input.untaken.items
+
+-- what the connections of each of these inputs had read and not taken: the first list is of the first input; where there is no list there is nothing
+abbrev pub rests_for : List Input → List (List Untaken) → List (List Untaken)
+rests_for [] untaken = []
+rests_for (input ∷ inputs) untaken = slice_index_or untaken 0 [] ∷ rests_for inputs (drop 1 untaken)
+
+-- What was held was kept, and with it what the connections of each of these inputs had read and not taken.
+pub record Keeps {S : Type 0} (Kept : S → ℕ → Option (List ℕ) → S → Type 0) (inputs : List Input) (held : List Entry)
+    (untaken : List (List Untaken)) (store store' : S) : Type 0 where
   pub entries : List Entry
   pub same : IsPermutation held entries
   pub in_order : IsInOrder entries
   pub all : List AtInput
   pub ports : map port_of all ≡ ports_from 0 inputs
+  pub rests : map rests_of all ≡ rests_for inputs untaken
   pub each : KeepsEach Kept entries store all store'

@@ -9,6 +9,7 @@ use Rattle.sy_board.specs.relay.Boards.{Account}
 use Rattle.sy_board.specs.relay.Totals.{Counts, GuardState, Totals}
 use Rattle.sy_runtime.specs.Connections as connections
 use Rattle.sy_runtime.specs.Stopping.{Stops}
+use Rattle.sy_runtime.specs.declared.untaken.Untaken.{Untaken}
 use Rattle.sy_report.specs.Reports.{line_feed}
 use Rattle.sy_host.specs.Left.{Keeps}
 
@@ -61,7 +62,8 @@ pub record EndsWithTotals {S : Type 0} (actions : List Action) (guard : Option G
   pub ends : List connections.Counts
   pub account : Account
   pub left : List Entry
+  pub untaken : List (List Untaken)
   pub made : List ℕ
   pub stops : Stops guard ends account left made
   pub wrote : WroteTotals actions account.totals left old new
-  pub keeps : wanted ≡ true → Keeps Kept inputs left store store'
+  pub keeps : wanted ≡ true → Keeps Kept inputs left untaken store store'

@@ -286,6 +286,12 @@ impl Gate for LogGate {
         }
     }
 
+    fn takes(&self, input: u32, messages: u64, unread: u64) {
+        if let Some(subject) = self.log.input(input) {
+            subject.take(messages, unread);
+        }
+    }
+
     fn loses(&self, input: u32, count: u64) {
         if let Some(subject) = self.log.input(input) {
             subject.lose(count);

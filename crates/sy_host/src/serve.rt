@@ -1,5 +1,5 @@
 //! Serving a relay until its reader ends.
-ghost use Rattle.std.specs.Prelude.{◌≡◌, ◌≢◌, ◌<◌, ◌≤◌, Option, true, IfOk, IfSome, length};
+ghost use Rattle.std.specs.Prelude.{◌≡◌, ◌≢◌, ◌<◌, ◌≤◌, Option, true, IfOk, IfSome, length, map};
 ghost use Rattle.std.specs.Arc.{arc_value};
 ghost use Rattle.sy_board.specs.relay.Guards.{MayGuard};
 ghost use Rattle.sy_board.specs.relay.Totals.{GuardState};
@@ -237,7 +237,8 @@ fn keep<R: Wait, T: Store, E: Sink + Drop>(
     requires status { status ≤ 4 }
     requires inputs { length inputs.now ≤ 64 }
     ensures status { result ≤ 4 }
-    ensures done { result ≡ 0 → (status ≡ 0) × (T.wanted store.old ≡ true → Keeps T.kept inputs.now left.held store.old store.new) }
+    ensures done { result ≡ 0 → (status ≡ 0) × (T.wanted store.old ≡ true
+        → Keeps T.kept inputs.now left.held (map (λ rests. rests.items) left.untaken.items) store.old store.new) }
 {
     if !store.is_wanted() {
         return status;
@@ -339,14 +340,15 @@ where
     let untaken = sum_up(&rt, alloc, serving, plan.inputs());
     served.reopens.finish(&rt);
     end_telling(&rt, serving);
-    let Some(untaken) = untaken else {
-        return out_of_memory(&rt, serving);
-    };
-    if !is_accepting {
+    let is_whole = is_accepting && untaken.is_some();
+    // (what was held is kept also where there was no memory for the rest)
+    let untaken = untaken.unwrap_or(VecDeque::new(alloc));
+    let ended = Ended { answer, untaken };
+    let status = finish(&rt, alloc, serving, store, writer, plan, ended);
+    if !is_whole {
         return out_of_memory(&rt, serving);
     }
-    let ended = Ended { answer, untaken };
-    finish(&rt, alloc, serving, store, writer, plan, ended)
+    status
 }
 
 // Starts a relay that listens, and serves it.

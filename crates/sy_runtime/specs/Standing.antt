@@ -1,5 +1,5 @@
 -- The totals of a relay as they stand.
-use Rattle.std.specs.Prelude.{◌≡◌, ℕ, ◌+◌, ◌-◌, List, sum_by}
+use Rattle.std.specs.Prelude.{◌≡◌, ℕ, ◌+◌, ◌-◌, List, length, map, sum_by}
 use Rattle.sy_board.specs.relay.Boards.{Account, BoardState, account_of}
 use Rattle.sy_board.specs.relay.Cells.{IsShaped}
 use Rattle.sy_board.specs.relay.Totals.{Counts, Laws, Totals}
@@ -16,13 +16,14 @@ runs_left counts = counts.due - (counts.done + counts.given_up)
 abbrev pub held_by : Account → ℕ
 held_by account = account.held_in_hands + account.held_in_queues + posts_left account.totals + sum_by runs_left account.totals.actions
 
--- What a relay tells of itself: messages taken, losses, what it holds, and what it counted of each action. They are of one board, whose totals meet
+-- What a relay tells of itself: messages taken, losses, what it holds, how many entries wait in each queue, and what it counted of each action. They are of one board, whose totals meet
 -- the laws of accounts with what it holds then, and which has lost nothing guarded.
-pub record Stands (taken lost held : ℕ) (actions : List Counts) : Type 0 where
+pub record Stands (taken lost held : ℕ) (queues : List ℕ) (actions : List Counts) : Type 0 where
   pub board : BoardState
   pub taken_is : taken ≡ board.totals.taken
   pub lost_is : lost ≡ board.totals.lost_in + board.totals.lost_post + board.totals.lost_out
   pub held_is : held ≡ held_by (account_of board)
+  pub queues_are : queues ≡ map length board.state.queues
   pub actions_are : actions ≡ board.totals.actions
   pub laws : Laws board.plan board.state board.totals
   pub shaped : IsShaped board.plan board.state

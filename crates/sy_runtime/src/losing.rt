@@ -1,6 +1,7 @@
 //! What is lost at inputs and queues, and who is told.
 ghost use Rattle.std.specs.Prelude.{◌<◌, length};
 
+use crate::connection_end::ConnEnd;
 use crate::locked::Locked;
 use crate::shared::{Gate, Shared};
 use std::sync::{MutexGuard, Wait};
@@ -72,6 +73,42 @@ impl Locked {
             None => 0,
         }
     }
+}
+
+/// How many messages of an input were taken and lost, and how many frames carried none.
+#[derive(Clone, Copy)]
+pub(crate) struct Moved {
+    took: u64,
+    unread: u64,
+    lost: u64,
+}
+
+impl Moved {
+    /// What a connection has counted so far, whose input has lost so many.
+    pub(crate) fn of(end: &ConnEnd, lost: u64) -> Moved {
+        Moved {
+            took: end.took(),
+            unread: end.unread(),
+            lost,
+        }
+    }
+
+    /// What came since there was that.
+    pub(crate) fn since(self, before: Moved) -> Moved {
+        Moved {
+            took: self.took.wrapping_sub(before.took),
+            unread: self.unread.wrapping_sub(before.unread),
+            lost: self.lost.wrapping_sub(before.lost),
+        }
+    }
+}
+
+/// Tells what was taken and lost at an input, where there is anything.
+pub(crate) fn tell_moved<G: Gate>(gate: &G, input: u32, moved: Moved) {
+    if moved.took > 0 || moved.unread > 0 {
+        gate.takes(input, moved.took, moved.unread);
+    }
+    tell_lost(gate, input, moved.lost);
 }
 
 /// Tells of messages that an input lost, where there are any.

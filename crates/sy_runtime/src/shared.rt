@@ -1,7 +1,6 @@
 //! What the threads of a relay share.
 
 use crate::locked::Locked;
-use std::sync::atomic::AtomicU64;
 use std::sync::{Condvar, Mutex};
 use sy_actions::{Device, Hatch};
 use sy_board::Guard;
@@ -24,6 +23,9 @@ pub trait Gate: Drop {
     /// It waits no more. (Where the relay closes, this isn't called.)
     fn goes_on(&self, _input: u32) {}
 
+    /// So many messages of this input were taken, and so many frames of it carried none.
+    fn takes(&self, _input: u32, _messages: u64, _unread: u64) {}
+
     /// So many messages of this input were lost: discarded, or held by a full queue for too long.
     fn loses(&self, _input: u32, _count: u64) {}
 
@@ -43,8 +45,6 @@ pub(crate) struct Shared {
     pub(crate) idle: Condvar,
     // the hatch of each action, in their order; none once the relay has stopped
     pub(crate) hatches: Vec<Mutex<Option<Hatch<BoxedDevice>>>>,
-    // the tag of the next frame that is gathered
-    pub(crate) frames: AtomicU64,
     // a copy of the board's guard, as it was given
     pub(crate) guard: Option<Guard>,
 }

@@ -9,15 +9,15 @@ use std::alloc::{AllocError, Global};
 use std::sync::Wait;
 use sy_board::{Accounts, ActionCounts, Board};
 
-/// The totals of a relay as they stand: messages taken, losses, what it holds, and what it counted of each action. What it holds is each entry in a hand
-/// or in a queue, and of those that workers have all that is still to be done.
+/// The totals of a relay as they stand: messages taken, losses, what it holds, how many entries wait in each queue, and what it counted of
+/// each action. What it holds is each entry in a hand or in a queue, and of those that workers have all that is still to be done.
 #[derive(Drop)]
 pub struct Standing {
     pub taken: u64,
     pub lost: u128,
     pub held: u128,
-    /// those of what it holds that wait in queues
-    pub queued: u64,
+    /// of each queue how many of those wait there
+    pub queues: Vec<usize>,
     pub actions: Vec<ActionCounts>,
 }
 
@@ -65,26 +65,29 @@ fn copy_of(alloc: Global, actions: &[ActionCounts]) -> Result<Vec<ActionCounts>,
 
 // What a board counts and holds; none where there is no memory for it.
 fn standing_of(alloc: Global, board: &Board) -> Option<Standing>
-    ensures { IfSome result (λ s. Stands s.taken s.lost s.held (map counts_of s.actions.items)) }
+    ensures { IfSome result (λ s. Stands s.taken s.lost s.held s.queues.items (map counts_of s.actions.items)) }
 {
     let accounts = board.accounts();
     let held = held_of(accounts)?;
-    match copy_of(alloc, accounts.actions()) {
-        Ok(actions) => Some(Standing {
-            taken: accounts.taken(),
-            lost: lost_of(accounts),
-            held,
-            queued: accounts.in_queues(),
-            actions,
-        }),
-        Err(_) => None,
-    }
+    let Ok(queues) = board.queue_lens(alloc) else {
+        return None;
+    };
+    let Ok(actions) = copy_of(alloc, accounts.actions()) else {
+        return None;
+    };
+    Some(Standing {
+        taken: accounts.taken(),
+        lost: lost_of(accounts),
+        held,
+        queues,
+        actions,
+    })
 }
 
 impl<G: Gate> Relay<G> {
     /// The totals as they stand, which it looks at once; none where there is no memory for them, or where the relay has stopped.
     pub fn status<R: Wait>(&self, rt: &R, alloc: Global) -> Option<Standing>
-        ensures { IfSome result (λ s. Stands s.taken s.lost s.held (map counts_of s.actions.items)) }
+        ensures { IfSome result (λ s. Stands s.taken s.lost s.held s.queues.items (map counts_of s.actions.items)) }
     {
         let locked = self.common.shared.locked.lock(rt);
         match &locked.board {

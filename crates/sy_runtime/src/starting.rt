@@ -10,7 +10,6 @@ use crate::shared::{BoxedDevice, Gate, Shared};
 use crate::stopping::Workers;
 use crate::worker::work;
 use std::alloc::{AllocError, Global};
-use std::sync::atomic::AtomicU64;
 use std::sync::{Arc, Condvar, Mutex, Wait};
 use std::thread;
 use std::thread::{JoinHandle, Threads};
@@ -79,7 +78,6 @@ pub(crate) fn share(
         idle: Condvar::new(),
         hatches,
         guard: copy,
-        frames: AtomicU64::new(0),
     })
 }
 

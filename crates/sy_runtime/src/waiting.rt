@@ -3,7 +3,7 @@
 use crate::connection::taking::{Hand, enter, has_hand};
 use crate::connection::used::keep;
 use crate::locked::Locked;
-use crate::losing::{tell_lost, tell_lost_at_queue};
+use crate::losing::{Moved, tell_lost, tell_lost_at_queue, tell_moved};
 use crate::shared::{Gate, Shared};
 use std::alloc::Global;
 use std::sync::{MutexGuard, Wait};
@@ -78,12 +78,12 @@ fn wait_out<'a, R: Wait + Clock>(
     locked
 }
 
-/// Why a connection waits, and how many messages it lost right before.
+/// Why a connection waits, and what it took and lost right before.
 #[derive(Clone, Copy)]
 pub(crate) struct Waiting {
     pub(crate) hand: Hand,
     pub(crate) hold: Hold,
-    pub(crate) lost: u64,
+    pub(crate) moved: Moved,
 }
 
 // The same; it is told that the input is held and then goes on, and what it lost.
@@ -121,9 +121,9 @@ pub(crate) fn wait_and_tell<'a, R: Wait + Clock, G: Gate>(
     waiting: Waiting,
     is_in_hand: &mut bool,
 ) -> MutexGuard<'a, Locked> {
-    let Waiting { hand, hold, lost } = waiting;
+    let Waiting { hand, hold, moved } = waiting;
     drop(locked);
-    tell_lost(gate, hand.input, lost);
+    tell_moved(gate, hand.input, moved);
     match hold {
         Hold::FullDelay | Hold::Full => wait_told(rt, shared, gate, waiting, is_in_hand),
         Hold::LightDelay | Hold::Clear => {

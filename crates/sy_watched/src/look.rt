@@ -17,6 +17,9 @@ pub struct Noted {
     pub begun: u64,
     /// the number of the reason
     pub why: u64,
+    /// how many messages were taken, and how many frames carried none
+    pub taken: u64,
+    pub unread: u64,
     /// how many messages were lost
     pub lost: u64,
     /// since when it is so, in seconds since the beginning of 1970
@@ -50,7 +53,8 @@ pub struct Moment<'a> {
     pub taken: u64,
     pub lost: u128,
     pub held: u128,
-    pub queued: u64,
+    // how many entries wait in each queue; none does where there is no number
+    queues: &'a [usize],
     pub actions: &'a [ActionCounts],
 }
 
@@ -62,7 +66,7 @@ pub fn running(at: u64, standing: &Standing) -> Moment<'_> {
         taken: standing.taken,
         lost: standing.lost,
         held: standing.held,
-        queued: standing.queued,
+        queues: standing.queues.as_slice(),
         actions: standing.actions.as_slice(),
     }
 }
@@ -83,7 +87,7 @@ pub fn stopped(at: u64, stopped: &Stopped) -> Moment<'_> {
         taken: accounts.taken(),
         lost: lost(accounts),
         held: stopped.left.len() as u128,
-        queued: 0,
+        queues: &[],
         actions: accounts.actions(),
     }
 }
@@ -139,10 +143,11 @@ fn input_of(traffic: &Traffic, noted: Noted) -> WatchedInput {
     let came = traffic.came();
     WatchedInput {
         port: traffic.port,
+        taken: noted.taken,
         open: came.accepted.saturating_sub(came.ended),
         accepted: came.accepted,
         held: noted.on,
-        unread: came.unread,
+        unread: noted.unread,
         lost: noted.lost,
     }
 }
@@ -164,7 +169,7 @@ fn inputs_of(
     Ok(inputs)
 }
 
-fn queue_of<'a>(queue: &'a NamedQueue, length: Option<u64>, noted: Noted) -> WatchedQueue<'a> {
+fn queue_of<'a>(queue: &'a NamedQueue, length: u64, noted: Noted) -> WatchedQueue<'a> {
     WatchedQueue {
         name: queue.name.as_str().as_bytes(),
         length,
@@ -176,27 +181,36 @@ fn queue_of<'a>(queue: &'a NamedQueue, length: Option<u64>, noted: Noted) -> Wat
     }
 }
 
-// The length of each queue; known where there is one alone, which has all that waits.
-fn length_of(watch: &Watch, queued: u64) -> Option<u64> {
-    match watch.queues.as_slice() {
-        [_] => Some(queued),
-        _ => None,
+// How many entries wait in the queue of this number.
+fn length_of(lens: &[usize], number: usize) -> u64 {
+    match lens.get(number) {
+        Some(length) => *length as u64,
+        None => 0,
     }
+}
+
+// How many wait in queues, in all.
+fn queued(lens: &[usize]) -> u64 {
+    let mut queued: u64 = 0;
+    for length in lens {
+        queued = queued.saturating_add(*length as u64);
+    }
+    queued
 }
 
 fn queues_of<'a>(
     alloc: Global,
     watch: &'a Watch,
     noted: &[Noted],
-    queued: u64,
+    lens: &[usize],
 ) -> Result<Vec<WatchedQueue<'a>>, AllocError> {
-    let length = length_of(watch, queued);
     let mut queues = Vec::new(alloc);
     let mut number: usize = 0;
     for queue in &watch.queues {
         let Some(noted) = noted.get(number) else {
             return Ok(queues);
         };
+        let length = length_of(lens, number);
         queues.push(queue_of(queue, length, *noted))?;
         number = number.saturating_add(1);
     }
@@ -217,10 +231,10 @@ pub fn watched<'a>(
         taken: moment.taken,
         lost: moment.lost,
         held: moment.held,
-        queued: moment.queued,
+        queued: queued(moment.queues),
         left_out: watch.left_out(),
         inputs: inputs_of(alloc, watch, noted.inputs)?,
         actions: actions_of(alloc, watch, noted.actions, moment.actions)?,
-        queues: queues_of(alloc, watch, noted.queues, moment.queued)?,
+        queues: queues_of(alloc, watch, noted.queues, moment.queues)?,
     })
 }

@@ -1,7 +1,7 @@
 //! What is watched of a relay in Prometheus' text format, version 0.0.4.
 
 use crate::families::{Family, gauge};
-use crate::numbers::{ACTION_NUMBERS, INPUT_NUMBERS, QUEUE_NUMBERS, RELAY_NUMBERS, RelayNumber};
+use crate::numbers::{ACTION_NUMBERS, INPUT_NUMBERS, QUEUE_NUMBERS, RELAY_NUMBERS};
 use crate::text::{append, append_number};
 use crate::watched::Watched;
 use std::alloc::{AllocError, Global};
@@ -84,14 +84,6 @@ fn append_sample(
     append(text, "\n")
 }
 
-// What a number of a relay belongs to: messages taken to their input, where all came to one.
-fn of_relay<'a>(watched: &Watched<'_>, number: RelayNumber) -> Of<'a> {
-    match (number, watched.only_input()) {
-        (RelayNumber::Taken, Some(port)) => Of::Input(port),
-        _ => Of::Relay,
-    }
-}
-
 fn append_relay(text: &mut Vec<u8>, watched: &Watched<'_>) -> Result<(), AllocError> {
     let running = gauge(
         "running",
@@ -101,10 +93,11 @@ fn append_relay(text: &mut Vec<u8>, watched: &Watched<'_>) -> Result<(), AllocEr
     let is_running = u128::from(watched.is_running);
     append_sample(text, running, watched.relay, Of::Relay, is_running)?;
     for number in &RELAY_NUMBERS {
-        let family = number.family();
-        append_head(text, family)?;
-        let of = of_relay(watched, *number);
-        append_sample(text, family, watched.relay, of, number.value(watched))?;
+        if let Some(family) = number.family() {
+            append_head(text, family)?;
+            let value = number.value(watched);
+            append_sample(text, family, watched.relay, Of::Relay, value)?;
+        }
     }
     Ok(())
 }

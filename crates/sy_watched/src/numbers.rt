@@ -23,22 +23,23 @@ pub const RELAY_NUMBERS: [RelayNumber; 5] = [
 ];
 
 impl RelayNumber {
-    /// Its metric.
-    pub fn family(self) -> Family {
+    /// Its metric; none of messages taken, which are counted of each input.
+    pub fn family(self) -> Option<Family> {
         match self {
-            RelayNumber::Taken => counter("messages_taken_total", "Messages taken."),
-            RelayNumber::Lost => counter("messages_lost_total", "Messages and posts lost."),
-            RelayNumber::Held => gauge(
+            RelayNumber::Taken => None,
+            RelayNumber::Lost => Some(counter("messages_lost_total", "Messages and posts lost.")),
+            RelayNumber::Held => Some(gauge(
                 "messages_held",
                 "Messages held, and runs and posts that are due of those that workers have.",
-            ),
-            RelayNumber::Queued => gauge(
+            )),
+            RelayNumber::Queued => Some(gauge(
                 "messages_queued",
                 "Messages that wait in queues, in all.",
-            ),
-            RelayNumber::LeftOut => {
-                counter("log_lines_left_out_total", "Lines of the log left out.")
-            }
+            )),
+            RelayNumber::LeftOut => Some(counter(
+                "log_lines_left_out_total",
+                "Lines of the log left out.",
+            )),
         }
     }
 
@@ -68,6 +69,7 @@ impl RelayNumber {
 /// A number of an input.
 #[derive(Clone, Copy)]
 pub enum InputNumber {
+    Taken,
     Open,
     Accepted,
     Held,
@@ -76,7 +78,8 @@ pub enum InputNumber {
 }
 
 /// All numbers of an input.
-pub const INPUT_NUMBERS: [InputNumber; 5] = [
+pub const INPUT_NUMBERS: [InputNumber; 6] = [
+    InputNumber::Taken,
     InputNumber::Open,
     InputNumber::Accepted,
     InputNumber::Held,
@@ -88,6 +91,7 @@ impl InputNumber {
     /// Its metric.
     pub fn family(self) -> Family {
         match self {
+            InputNumber::Taken => counter("messages_taken_total", "Messages taken."),
             InputNumber::Open => gauge("input_connections", "Connections that are open."),
             InputNumber::Accepted => {
                 counter("input_connections_accepted_total", "Connections accepted.")
@@ -95,7 +99,7 @@ impl InputNumber {
             InputNumber::Held => gauge("input_connections_held", "Connections that are held."),
             InputNumber::Unread => counter(
                 "input_frames_unread_total",
-                "Frames that carried no message, of connections that have ended.",
+                "Frames that carried no message.",
             ),
             InputNumber::Lost => counter(
                 "input_messages_lost_total",
@@ -107,6 +111,7 @@ impl InputNumber {
     /// Its name in a document.
     pub fn key(self) -> &'static str {
         match self {
+            InputNumber::Taken => "taken",
             InputNumber::Open => "open",
             InputNumber::Accepted => "accepted",
             InputNumber::Held => "held",
@@ -118,6 +123,7 @@ impl InputNumber {
     /// Its value.
     pub fn value(self, input: &WatchedInput) -> u128 {
         u128::from(match self {
+            InputNumber::Taken => input.taken,
             InputNumber::Open => input.open,
             InputNumber::Accepted => input.accepted,
             InputNumber::Held => input.held,
@@ -220,11 +226,6 @@ fn mark(mark: u32) -> Option<u128> {
     Some(u128::from(mark))
 }
 
-// A length that is known.
-fn length(length: Option<u64>) -> Option<u128> {
-    Some(u128::from(length?))
-}
-
 impl QueueNumber {
     /// Its metric.
     pub fn family(self) -> Family {
@@ -262,10 +263,10 @@ impl QueueNumber {
         }
     }
 
-    /// Its value; none of a mark that is off, or of a length that isn't known.
+    /// Its value; none of a mark that is off.
     pub fn value(self, queue: &WatchedQueue<'_>) -> Option<u128> {
         match self {
-            QueueNumber::Length => length(queue.length),
+            QueueNumber::Length => Some(u128::from(queue.length)),
             QueueNumber::Size => Some(u128::from(queue.size)),
             QueueNumber::FullDelayMark => mark(queue.full_delay_mark),
             QueueNumber::LightDelayMark => mark(queue.light_delay_mark),

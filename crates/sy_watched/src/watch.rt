@@ -19,15 +19,13 @@ pub struct Traffic {
     pub port: u16,
     accepted: AtomicU64,
     ended: AtomicU64,
-    unread: AtomicU64,
 }
 
-/// What came to an input up to one moment: connections, those that have ended, and their frames that carried no message.
+/// What came to an input up to one moment: connections, and those that have ended.
 #[derive(Clone, Copy)]
 pub struct Came {
     pub accepted: u64,
     pub ended: u64,
-    pub unread: u64,
 }
 
 /// A queue, and the name that the log has for it.
@@ -64,7 +62,6 @@ impl Traffic {
             port,
             accepted: AtomicU64::new(0),
             ended: AtomicU64::new(0),
-            unread: AtomicU64::new(0),
         }
     }
 
@@ -74,7 +71,6 @@ impl Traffic {
         Came {
             accepted: self.accepted.load(Ordering::SeqCst),
             ended,
-            unread: self.unread.load(Ordering::SeqCst),
         }
     }
 }
@@ -140,10 +136,9 @@ impl Watch {
         }
     }
 
-    /// A connection of an input has ended, with so many frames that carried no message.
-    pub fn connection_ended(&self, input: u32, unread: u64) {
+    /// A connection of an input has ended.
+    pub fn connection_ended(&self, input: u32) {
         if let Some(traffic) = self.inputs.get(input as usize) {
-            let _ = traffic.unread.fetch_add(unread, Ordering::SeqCst);
             let _ = traffic.ended.fetch_add(1, Ordering::SeqCst);
         }
     }

@@ -24,12 +24,14 @@ pub struct Watched<'a> {
 #[derive(Clone, Copy)]
 pub struct WatchedInput {
     pub port: u16,
+    /// The messages that were taken there.
+    pub taken: u64,
     /// The connections that are open now, and those that were accepted in all.
     pub open: u64,
     pub accepted: u64,
     /// The connections that are held now.
     pub held: u64,
-    /// The frames that carried no message, of connections that have ended.
+    /// The frames that carried no message.
     pub unread: u64,
     /// The messages that were lost at the input.
     pub lost: u64,
@@ -55,22 +57,12 @@ pub struct WatchedAction<'a> {
 #[derive(Clone, Copy)]
 pub struct WatchedQueue<'a> {
     pub name: &'a [u8],
-    /// How many entries wait in it, where that is known.
-    pub length: Option<u64>,
+    /// How many entries wait in it.
+    pub length: u64,
     pub size: u32,
     pub full_delay_mark: u32,
     pub light_delay_mark: u32,
     pub discard_mark: u32,
     /// The messages that it lost: posts, and entries that left it.
     pub lost: u64,
-}
-
-impl Watched<'_> {
-    /// The input that all messages came to, where there is one alone.
-    pub fn only_input(&self) -> Option<u16> {
-        match self.inputs.as_slice() {
-            [input] => Some(input.port),
-            _ => None,
-        }
-    }
 }

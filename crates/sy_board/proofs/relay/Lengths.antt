@@ -1,8 +1,9 @@
 -- What a step does to the lengths of queues, and to workers that it isn't about.
-use Rattle.std.proofs.Common.{◌≡◌, ℕ, ◌+◌, ◌<◌, ◌==◌, Bool, true, false, if◌then◌else◌, List, [], ◌∷◌, ◌++◌, length, drop, refl, sym, subst, ap, arith, length-append, length-drop, Some}
+use Rattle.std.proofs.Common.{◌≡◌, ℕ, ◌+◌, map, ◌<◌, ◌==◌, Bool, true, false, if◌then◌else◌, List, [], ◌∷◌, ◌++◌, length, drop, refl, sym, subst, ap, arith, length-append, length-drop, Some}
 use Rattle.std.specs.Prelude.{◌≢◌, min}
 use Rattle.std.proofs.lemmas.Bool.{eqb-true, eqb-false}
 use Rattle.sy_chain.specs.Entries.{Entry}
+use Rattle.sy_marks.specs.Marks.{QueueState}
 use Rattle.sy_rules.specs.declared.lists.occurrence.Occurrence.{Occurrence}
 use Rattle.sy_rules.specs.declared.lists.occurrence.Occurrence.TheVariants as occurrence
 use Rattle.sy_rules.specs.PlanValue.{Plan}
@@ -108,3 +109,8 @@ alone_step plan old (Event.Post w) new outs (l, node, lost, posts, is) v n = sub
     go true = other_advanced plan old w v _ posts.job (apart w v n)
     go false = let o = other_advanced plan old w v _ posts.job (apart w v n) in record { entries = o.entries; failures = o.failures }
 alone_step plan old (Event.PostLost w no_memory) new outs (l, e, loses, is) v n = subst (IsLeftAlone v old) (sym loses.after) (other_advanced plan old w v _ loses.job (apart w v n))
+
+-- the lengths of queues are those of their entries
+pub lens_are : (queues : List QueueState) → map (λ (queue : QueueState). length queue.entries) queues ≡ map length (map (λ (queue : QueueState). queue.entries) queues)
+lens_are [] = refl
+lens_are (queue ∷ later) = ap (λ lens. length queue.entries ∷ lens) (lens_are later)

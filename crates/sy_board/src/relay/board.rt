@@ -89,6 +89,17 @@ fn empty_queues(alloc: Global, plan: &Plan) -> Result<Vec<MarkQueue>, AllocError
     Ok(queues)
 }
 
+// How many entries wait in each of these queues.
+fn lens_of(alloc: Global, queues: &[MarkQueue]) -> Result<Vec<usize>, AllocError>
+    ensures { IfOk result (λ lens. lens.items ≡ map (λ queue. length queue.entries) queues.now) }
+{
+    let mut lens = Vec::with_capacity(alloc, queues.len())?;
+    for queue in queues {
+        lens.push(queue.len())?;
+    }
+    Ok(lens)
+}
+
 fn idle_workers(alloc: Global, count: usize) -> Result<Vec<Worker>, AllocError>
     ensures entries { IfOk result (λ workers. map (λ w. w.entries) workers.items ≡ replicate count []) }
     ensures failures { IfOk result (λ workers. map (λ w. w.failures) workers.items ≡ replicate count 0) }
@@ -219,14 +230,11 @@ impl Board {
     }
 
     /// How many entries wait in each queue, in their order.
+    #[tactic(auto, using(crate::proofs::relay::Lengths::lens_are))]
     pub fn queue_lens(&self, alloc: Global) -> Result<Vec<usize>, AllocError>
         ensures { IfOk result (λ lens. lens.items ≡ map length self.now.state.queues) }
     {
-        let mut lens = Vec::with_capacity(alloc, self.queues.len())?;
-        for queue in &self.queues {
-            lens.push(queue.len())?;
-        }
-        Ok(lens)
+        lens_of(alloc, self.queues.as_slice())
     }
 
     /// What holds a message of an input now: first the full-delay mark, then a full queue, then the light-delay mark.

@@ -71,7 +71,7 @@ fn entries_of(alloc: Global, mut left: Chain) -> Result<Vec<Node>, AllocError>
     Ok(entries)
 }
 
-// The entries that a relay held, in the order in which it had read them.
+// The entries that a relay held, in the order in which it had taken them.
 fn in_order(alloc: Global, left: Chain) -> Result<Vec<Node>, AllocError>
     ensures same { IfOk result (λ entries. IsPermutation left entries.items) }
     ensures order { IfOk result (λ entries. IsInOrder entries.items) }
@@ -196,7 +196,7 @@ fn keep_input<T: Store>(
     }
 }
 
-// Keeps what is left at each of these inputs.
+// Keeps what is left at each of these inputs, also of those behind one that can't be kept.
 fn keep_all<T: Store>(
     alloc: Global,
     store: &mut T,
@@ -205,13 +205,16 @@ fn keep_all<T: Store>(
 ) -> Result<(), KeepFault>
     ensures { OnOk result (KeepsEach T.kept entries.now store.old all.items store.new) }
 {
+    let mut answer = Ok(());
     while let Some(input) = all.pop_front() {
-        keep_input(alloc, store, entries, input)?;
+        if let Err(fault) = keep_input(alloc, store, entries, input) {
+            answer = Err(fault);
+        }
     }
-    Ok(())
+    answer
 }
 
-/// Keeps what a relay with these inputs still held, in the order in which it had read it, and behind that, of each input, what its connections
+/// Keeps what a relay with these inputs still held, in the order in which it had taken it, and behind that, of each input, what its connections
 /// had read and not taken: a file for each input that has anything.
 pub fn keep_left<T: Store>(
     alloc: Global,
@@ -221,7 +224,7 @@ pub fn keep_left<T: Store>(
     untaken: VecDeque<VecDeque<Untaken>>,
 ) -> Result<(), KeepFault>
     requires { length inputs.now ≤ 64 }
-    ensures { OnOk result (Keeps T.kept inputs.now held store.old store.new) }
+    ensures { OnOk result (Keeps T.kept inputs.now held (map (λ rests. rests.items) untaken.items) store.old store.new) }
 {
     let Ok(entries) = in_order(alloc, held) else {
         return Err(KeepFault::NoMemory);

@@ -2,7 +2,7 @@
 
 use crate::listening::Listening;
 use crate::listening::connector::Connector;
-use crate::listening::served_threads::ServedThreads;
+use crate::listening::served_threads::{EndedThreads, ServedThreads};
 use crate::listening::serving::{Connection, Port, Serving, serve_connection};
 use std::alloc::{AllocError, Global};
 use std::net::{SocketAddr, TcpListener, TcpStream};
@@ -24,7 +24,8 @@ struct Acceptor<C: Drop, E: Drop> {
     relay: Arc<C>,
     serving: Arc<Serving<E>>,
     at: Port,
-    threads: Arc<ServedThreads>,
+    // where threads that served a connection say that they end
+    ended: Arc<EndedThreads>,
     listener: TcpListener,
 }
 
@@ -33,6 +34,7 @@ fn connection_of<R: Wait, C: Connector, E: Sink + Drop>(
     rt: &R,
     alloc: Global,
     of: &Acceptor<C, E>,
+    thread: usize,
     peer: SocketAddr,
     stream: TcpStream,
 ) -> Result<Connection<C, E>, AllocError> {
@@ -40,7 +42,7 @@ fn connection_of<R: Wait, C: Connector, E: Sink + Drop>(
     let written = Arc::try_clone(&stream)?;
     let relay = Arc::try_clone(&of.relay)?;
     let serving = Arc::try_clone(&of.serving)?;
-    let threads = Arc::try_clone(&of.threads)?;
+    let ended = Arc::try_clone(&of.ended)?;
     let place = of.serving.enter(rt, written)?;
     Ok(Connection {
         relay,
@@ -49,11 +51,12 @@ fn connection_of<R: Wait, C: Connector, E: Sink + Drop>(
         peer,
         stream,
         place,
-        threads,
+        thread,
+        ended,
     })
 }
 
-// Has a thread of its own serve a connection.
+// Has the thread of this number serve a connection.
 fn start_connection<
     R: Threads + Wait + Clock + Copy + Send + 'static,
     C: Connector + Send + Sync + 'static,
@@ -62,28 +65,37 @@ fn start_connection<
     rt: R,
     alloc: Global,
     of: &Acceptor<C, E>,
+    threads: &mut ServedThreads,
+    number: usize,
     peer: SocketAddr,
     stream: TcpStream,
 ) -> Result<(), AllocError> {
-    let connection = connection_of(&rt, alloc, of, peer, stream)?;
+    let connection = connection_of(&rt, alloc, of, number, peer, stream)?;
     let place = connection.place;
-    of.threads.begin();
     match thread::spawn(&rt, move || serve_connection(rt, alloc, connection)) {
-        Ok(_thread) => Ok(()),
+        Ok(handle) => {
+            threads.insert(number, handle);
+            Ok(())
+        }
         Err(_) => {
-            of.threads.end();
             of.serving.leave(&rt, place);
             Err(AllocError)
         }
     }
 }
 
-// Accepts the next connection.
+// Accepts the next connection, which the thread of this number serves.
 fn accept<
     R: Threads + Wait + Clock + Copy + Send + 'static,
     C: Connector + Send + Sync + 'static,
     E: Sink + Drop + Send + 'static,
->(rt: R, alloc: Global, of: &Acceptor<C, E>) -> Result<(), AllocError> {
+>(
+    rt: R,
+    alloc: Global,
+    of: &Acceptor<C, E>,
+    threads: &mut ServedThreads,
+    number: usize,
+) -> Result<(), AllocError> {
     of.serving.make_room(&rt, ROOM)?;
     let Ok((stream, peer)) = of.listener.accept() else {
         return Err(AllocError);
@@ -91,7 +103,7 @@ fn accept<
     if of.serving.is_stopping() {
         return Ok(());
     }
-    start_connection(rt, alloc, of, peer, stream)
+    start_connection(rt, alloc, of, threads, number, peer, stream)
 }
 
 // Accepts connections until nothing new is to be accepted, each once there may be one thread more. An accept that fails is
@@ -100,15 +112,15 @@ fn accept_all<
     R: Threads + Wait + Clock + Copy + Send + 'static,
     C: Connector + Send + Sync + 'static,
     E: Sink + Drop + Send + 'static,
->(rt: R, alloc: Global, of: &Acceptor<C, E>) {
+>(rt: R, alloc: Global, of: &Acceptor<C, E>, threads: &mut ServedThreads) {
     let pause = Duration::from_millis(ACCEPT_PAUSE);
     let mut has_failed = false;
     for _ in rt.forever() {
         if of.serving.is_stopping() {
             return;
         }
-        if of.threads.wait(&rt, pause) {
-            let has_accepted = accept(rt, alloc, of).is_ok();
+        if let Some(number) = threads.free_number(&rt, &of.ended, pause) {
+            let has_accepted = accept(rt, alloc, of, threads, number).is_ok();
             if !has_accepted {
                 if !has_failed {
                     of.serving.tell(&rt, b"accept failed", of.at.port);
@@ -125,8 +137,8 @@ fn accept_and_close<
     R: Threads + Wait + Clock + Copy + Send + 'static,
     C: Connector + Send + Sync + 'static,
     E: Sink + Drop + Send + 'static,
->(rt: R, alloc: Global, of: Acceptor<C, E>) {
-    accept_all(rt, alloc, &of);
+>(rt: R, alloc: Global, of: Acceptor<C, E>, mut threads: ServedThreads) {
+    accept_all(rt, alloc, &of, &mut threads);
     let Acceptor {
         serving,
         listener,
@@ -153,11 +165,12 @@ pub fn start_accepting<
         relay: Arc::try_clone(relay)?,
         serving: Arc::try_clone(serving)?,
         at,
-        threads: Arc::new(alloc, ServedThreads::new())?,
+        ended: Arc::new(alloc, EndedThreads::new(alloc)?)?,
         listener,
     };
+    let threads = ServedThreads::new(alloc)?;
     serving.begin_loop(&rt);
-    match thread::spawn(&rt, move || accept_and_close(rt, alloc, acceptor)) {
+    match thread::spawn(&rt, move || accept_and_close(rt, alloc, acceptor, threads)) {
         Ok(_thread) => Ok(()),
         Err(_) => {
             serving.end_loop(&rt);

@@ -24,7 +24,7 @@ pub trait Connector: Drop {
 
     /// The totals as they stand; none where there is no memory for them.
     fn status<R: Wait>(&self, rt: &R, alloc: Global) -> Option<Standing>
-        ensures { IfSome result (λ s. Stands s.taken s.lost s.held (map counts_of s.actions.items)) };
+        ensures { IfSome result (λ s. Stands s.taken s.lost s.held s.queues.items (map counts_of s.actions.items)) };
 }
 
 impl Connector for Relay<LogGate> {

@@ -1,51 +1,105 @@
-//! How many threads serve connections of an input.
+//! The threads that serve the connections of an input.
 
-use std::sync::Wait;
-use std::sync::atomic::{AtomicU64, Ordering};
-use std::thread::Parker;
+use std::alloc::{AllocError, Global};
+use std::collections::VecDeque;
+use std::sync::{Mutex, Wait};
+use std::thread::{JoinHandle, Parker, Threads};
 use std::time::{Clock, Duration};
 
 /// How many there may be: one for each hand of an input, and two for connections that get none, which end at once.
-const MOST: u64 = 66;
+const MOST: usize = 66;
 
-/// How many there are. One thread, which accepts connections, starts them and waits for them.
+/// The numbers of the threads that have served their connection, and end.
+#[derive(Drop)]
+pub struct EndedThreads {
+    numbers: Mutex<VecDeque<usize>>,
+    // wakes who waits for one
+    change: Parker,
+}
+
+impl EndedThreads {
+    /// None, and room for all.
+    pub fn new(alloc: Global) -> Result<EndedThreads, AllocError> {
+        let mut numbers = VecDeque::new(alloc);
+        numbers.reserve(MOST)?;
+        Ok(EndedThreads {
+            numbers: Mutex::new(numbers),
+            change: Parker::new(),
+        })
+    }
+
+    /// The thread of this number ends: it does nothing behind this.
+    pub fn push<R: Wait>(&self, rt: &R, number: usize) {
+        // (the room for it is there)
+        let _ = self.numbers.lock(rt).push_back(number);
+        self.change.unpark();
+    }
+
+    fn pop<R: Wait>(&self, rt: &R) -> Option<usize> {
+        self.numbers.lock(rt).pop_front()
+    }
+}
+
+/// The threads that serve the connections of an input, each at its number. One thread, which accepts connections, starts them and waits for them,
+/// so that there are never more than these.
 #[derive(Drop)]
 pub struct ServedThreads {
-    count: AtomicU64,
-    // wakes who waits
-    change: Parker,
+    handles: Vec<Option<JoinHandle<()>>>,
 }
 
 impl ServedThreads {
     /// None.
-    pub fn new() -> ServedThreads {
-        ServedThreads {
-            count: AtomicU64::new(0),
-            change: Parker::new(),
+    pub fn new(alloc: Global) -> Result<ServedThreads, AllocError> {
+        let mut handles = Vec::with_capacity(alloc, MOST)?;
+        for _ in 0..MOST {
+            handles.push(None)?;
+        }
+        Ok(ServedThreads { handles })
+    }
+
+    /// A number that no thread has. Where each has one it waits for one that ends, but no longer than this.
+    pub fn free_number<R: Threads + Wait + Clock>(
+        &mut self,
+        rt: &R,
+        ended: &EndedThreads,
+        most: Duration,
+    ) -> Option<usize> {
+        self.join_ended(rt, ended);
+        let number = self.unused();
+        if number.is_some() {
+            return number;
+        }
+        ended.change.park_timeout(rt, most);
+        self.join_ended(rt, ended);
+        self.unused()
+    }
+
+    /// The thread that was started has this number.
+    pub fn insert(&mut self, number: usize, handle: JoinHandle<()>) {
+        if let Some(place) = self.handles.get_mut(number) {
+            *place = Some(handle);
         }
     }
 
-    /// Waits until one more may be started, but no longer than this, and answers whether it may.
-    pub fn wait<R: Wait + Clock>(&self, rt: &R, most: Duration) -> bool {
-        if self.has_room() {
-            return true;
+    // Waits for those that end, to their last step.
+    fn join_ended<R: Threads + Wait>(&mut self, rt: &R, ended: &EndedThreads) {
+        while let Some(number) = ended.pop(rt) {
+            if let Some(place) = self.handles.get_mut(number) {
+                if let Some(handle) = place.take() {
+                    handle.join(rt);
+                }
+            }
         }
-        self.change.park_timeout(rt, most);
-        self.has_room()
     }
 
-    fn has_room(&self) -> bool {
-        self.count.load(Ordering::SeqCst) < MOST
-    }
-
-    /// Counts one that is started.
-    pub fn begin(&self) {
-        let _ = self.count.fetch_add(1, Ordering::SeqCst);
-    }
-
-    /// Counts one that ends.
-    pub fn end(&self) {
-        let _ = self.count.fetch_sub(1, Ordering::SeqCst);
-        self.change.unpark();
+    fn unused(&self) -> Option<usize> {
+        let mut number: usize = 0;
+        for handle in &self.handles {
+            if handle.is_none() {
+                return Some(number);
+            }
+            number = number.saturating_add(1);
+        }
+        None
     }
 }

@@ -4,7 +4,7 @@ use crate::ending::remaining::{Rest, count_unread};
 use crate::listening::at_port::append_at_port;
 use crate::listening::connections::Connections;
 use crate::listening::connector::Connector;
-use crate::listening::served_threads::ServedThreads;
+use crate::listening::served_threads::EndedThreads;
 use crate::log::printer::Printer;
 use crate::log::printing::Printing;
 use crate::log::{Log, PeerEnd};
@@ -261,8 +261,9 @@ pub struct Connection<C: Drop, E: Drop> {
     pub stream: Arc<TcpStream>,
     /// its place among those that are open
     pub place: usize,
-    /// those of its input, of which its own is one
-    pub threads: Arc<ServedThreads>,
+    /// the number of its thread among those of its input, and where it says that it ends
+    pub thread: usize,
+    pub ended: Arc<EndedThreads>,
 }
 
 // How a connection ended.
@@ -308,14 +309,15 @@ pub fn serve_connection<R: Wait + Clock + Drop, C: Connector, E: Sink + Drop>(
         peer,
         stream,
         place,
-        threads,
+        thread,
+        ended,
     } = connection;
     serving.watch().connection_begins(at.input);
     let mut reader = FromRead::new(&*stream);
     let (end, untaken, answer) = relay.connect(&rt, alloc, at.input, &mut reader);
-    serving.watch().connection_ended(at.input, end.unread());
+    serving.watch().connection_ended(at.input);
     let rest = rest_of(alloc, at.input, untaken, answer, &stream);
     let noted = noted_end(peer, &end, answer);
     serving.end(&rt, at.input, place, end, rest, noted);
-    threads.end();
+    ended.push(&rt, thread);
 }

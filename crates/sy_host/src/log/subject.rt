@@ -20,6 +20,9 @@ pub struct Subject {
     // how often that began
     begun: AtomicU64,
     why: AtomicU64,
+    // how many messages of an input were taken, and how many of its frames carried none
+    taken: AtomicU64,
+    unread: AtomicU64,
     // how many messages were lost
     lost: AtomicU64,
     // whether a change was noted that hasn't been looked at
@@ -45,6 +48,8 @@ impl Subject {
             on: AtomicU64::new(0),
             begun: AtomicU64::new(0),
             why: AtomicU64::new(0),
+            taken: AtomicU64::new(0),
+            unread: AtomicU64::new(0),
             lost: AtomicU64::new(0),
             is_noted: AtomicBool::new(false),
             dated: AtomicU64::new(0),
@@ -62,6 +67,22 @@ impl Subject {
     /// It works again, or one connection fewer is held.
     pub fn end(&self) {
         let _ = self.on.fetch_sub(1, Ordering::SeqCst);
+    }
+
+    /// So many messages were taken, and so many frames carried none.
+    pub fn take(&self, messages: u64, unread: u64) {
+        let _ = self.taken.fetch_add(messages, Ordering::SeqCst);
+        let _ = self.unread.fetch_add(unread, Ordering::SeqCst);
+    }
+
+    /// How many messages were taken.
+    pub fn taken(&self) -> u64 {
+        self.taken.load(Ordering::SeqCst)
+    }
+
+    /// How many frames carried no message.
+    pub fn unread(&self) -> u64 {
+        self.unread.load(Ordering::SeqCst)
     }
 
     /// So many messages were lost.

@@ -34,6 +34,8 @@ fn noted_of(subject: &Subject) -> Noted {
         on: seen.on,
         begun: seen.begun,
         why: subject.why(),
+        taken: subject.taken(),
+        unread: subject.unread(),
         lost: seen.lost,
         since: subject.since(),
     }

@@ -32,10 +32,11 @@ IsLast (Held hold) = ⊥
 
 -- ---- what the board then holds
 
--- an entry of this message came to the hand, or was discarded there
+-- an entry of this message came to the hand, or was discarded there; its tag is the number of the messages that were taken before it
 abbrev pub Takes : BoardState → Hand → Said → BoardState → Type 0
 Takes old hand message new =
-    (answer : Taken) × (node : Entry) × (node.message ≡ message) × TakeIs answer old hand.input hand.number node new
+    (answer : Taken) × (node : Entry) × (node.message ≡ message) × (node.tag ≡ old.totals.taken)
+    × TakeIs answer old hand.input hand.number node new
 
 -- the hand's message went into the queue
 abbrev pub Enters : BoardState → Hand → BoardState → Type 0

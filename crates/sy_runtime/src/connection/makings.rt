@@ -21,8 +21,6 @@ pub(crate) struct Makings {
     fresh: Option<Node>,
     // why the first text that was no message is none
     pub(crate) fault: Option<MsgFault>,
-    // the tag of the next entry
-    tag: u64,
 }
 
 // What came of a text and an entry.
@@ -33,11 +31,11 @@ pub(crate) enum Renewal {
     Shared,
 }
 
-// Makes an entry of that text, in the memory of this one. Its list and input are chosen where it is taken.
-fn renew(node: &mut Node, raw: &mut Vec<u8>, tag: u64) -> Renewal
+// Makes an entry of that text, in the memory of this one. Its list, its input and its tag are chosen where it is taken.
+fn renew(node: &mut Node, raw: &mut Vec<u8>) -> Renewal
     ensures { RenewIs result raw.old.items node.new raw.new.items }
 {
-    match node.renew(raw, 0, 0, 0, tag) {
+    match node.renew(raw, 0, 0, 0, 0) {
         Ok(()) => Renewal::Message,
         Err(RenewFault::Message(fault)) => Renewal::NoMessage(fault),
         Err(RenewFault::Shared) => Renewal::Shared,
@@ -70,13 +68,7 @@ impl Makings {
             used: Vec::new(alloc),
             fresh: None,
             fault: None,
-            tag: 0,
         }
-    }
-
-    /// The entries that are made from now on have this tag and those after it.
-    pub(crate) fn set_tag(&mut self, tag: u64) {
-        self.tag = tag;
     }
 
     /// Takes the memory that one entry more may need.
@@ -101,7 +93,7 @@ impl Makings {
         let Some(mut node) = self.fresh.take() else {
             return Item::Unmade(take_text(alloc, raw));
         };
-        match renew(&mut node, raw, self.tag) {
+        match renew(&mut node, raw) {
             Renewal::Message => Item::Message(node),
             Renewal::NoMessage(fault) => {
                 self.fresh = Some(node);
@@ -117,11 +109,10 @@ impl Makings {
     pub(crate) fn item_of(&mut self, alloc: Global, raw: &mut Vec<u8>) -> Item
         ensures { IsItem raw.old.items result }
     {
-        self.tag = self.tag.wrapping_add(1);
         let Some(mut node) = self.used.pop() else {
             return self.item_of_fresh(alloc, raw);
         };
-        match renew(&mut node, raw, self.tag) {
+        match renew(&mut node, raw) {
             Renewal::Message => Item::Message(node),
             Renewal::NoMessage(fault) => {
                 // (the room that it had is there)

@@ -5,7 +5,7 @@ ghost use Rattle.sy_runtime.specs.internal.Held.{Holds};
 use crate::connection::halt::Halt;
 use crate::connection::taking::{Hand, Pause, put_some};
 use crate::connection_end::ConnEnd;
-use crate::losing::tell_lost;
+use crate::losing::{Moved, tell_moved};
 use crate::shared::{Gate, Shared};
 use crate::untaken::Item;
 use crate::waiting::{Waiting, wait_and_tell};
@@ -14,6 +14,16 @@ use std::mem;
 use std::sync::Wait;
 use std::time::Clock;
 use sy_chain::Node;
+
+// Why a connection ends at this pause, which nothing ends that holds its message.
+fn halt_at(pause: Pause) -> Halt {
+    match pause {
+        Pause::TotalsFull => Halt::TotalsFull,
+        Pause::Hands => Halt::Hands,
+        Pause::NoMemory => Halt::NoMemory,
+        Pause::Held(_) => Halt::Closed,
+    }
+}
 
 /// Puts a batch in, however long it waits. It looks whether the relay closes with an empty batch too.
 pub(crate) fn put<R: Wait + Clock, G: Gate>(
@@ -35,29 +45,22 @@ pub(crate) fn put<R: Wait + Clock, G: Gate>(
         if locked.is_closing {
             return Err(Halt::Closed);
         }
-        let lost = locked.lost_in();
+        let before = Moved::of(end, locked.lost_in());
         let Some(board) = locked.board.as_mut() else {
             return Err(Halt::Closed);
         };
-        match put_some(board, hand, batch, end, is_in_hand, used) {
-            Ok(()) => {
-                let lost = locked.lost_in().wrapping_sub(lost);
-                mem::swap(&mut locked.used, used);
-                drop(locked);
-                shared.work.notify_all();
-                tell_lost(gate, hand.input, lost);
-                return Ok(());
-            }
-            Err(Pause::Held(hold)) => {
-                shared.work.notify_all();
-                let lost = locked.lost_in().wrapping_sub(lost);
-                let waiting = Waiting { hand, hold, lost };
-                locked = wait_and_tell(rt, shared, gate, locked, waiting, is_in_hand);
-            }
-            Err(Pause::TotalsFull) => return Err(Halt::TotalsFull),
-            Err(Pause::Hands) => return Err(Halt::Hands),
-            Err(Pause::NoMemory) => return Err(Halt::NoMemory),
-        }
+        let put = put_some(board, hand, batch, end, is_in_hand, used);
+        let moved = Moved::of(end, locked.lost_in()).since(before);
+        let Err(Pause::Held(hold)) = put else {
+            mem::swap(&mut locked.used, used);
+            drop(locked);
+            shared.work.notify_all();
+            tell_moved(gate, hand.input, moved);
+            return put.map_err(halt_at);
+        };
+        shared.work.notify_all();
+        let waiting = Waiting { hand, hold, moved };
+        locked = wait_and_tell(rt, shared, gate, locked, waiting, is_in_hand);
     }
     unreachable!()
 }

@@ -58,6 +58,7 @@ fn follow_input(plan: &Plan, input: u32, node: &mut Node)
     requires { input < length plan.now.inputs }
     ensures made { IsOfInput plan.now input node.new }
     ensures message { node.new.message ≡ node.old.message }
+    ensures tag { node.new.tag ≡ node.old.tag }
 {
     let list = list_of(plan, input);
     let due = plan.due(list, node.message());
@@ -79,6 +80,8 @@ fn take(
     ensures back { IfErr result (λ e. e.1.message ≡ node.message) }
     ensures plan { board.new.plan ≡ board.old.plan }
 {
+    // (so the tags tell in which order messages were taken)
+    node.set_tag(board.accounts().taken());
     follow_input(board.plan(), hand.input, &mut node);
     match board.take(hand.input, hand.number, node) {
         Ok(Taken::InHand) => Ok(true),

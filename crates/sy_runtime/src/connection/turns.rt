@@ -17,7 +17,6 @@ use crate::waiting::wait_for_memory;
 use std::alloc::Global;
 use std::collections::VecDeque;
 use std::sync::Wait;
-use std::sync::atomic::Ordering;
 use std::time::Clock;
 use sy_wire::{Framer, Source};
 
@@ -126,7 +125,6 @@ fn take_in<R: Wait + Clock, G: Gate>(
         first_unread,
         ..
     } = intake;
-    makings.set_tag(shared.frames.fetch_add(BATCH as u64, Ordering::SeqCst));
     let stop = gather(alloc, framer, raw, makings, batch, BATCH);
     if first_unread.is_none() {
         *first_unread = unread_of(makings, batch, end);

@@ -26,8 +26,8 @@ left_with old new ends account left made same stops =
 pub returns-clause-done : goal.returns-clause-done
 returns-clause-done g c = λ zero.
     subst
-    (λ (plan : Plan). EndsWithTotals plan.actions c.args.run.0 (g.W.Sink.contents c.args.writer.now) (g.W.Sink.contents c.finish-2.new.writer)
-    (g.T.Store.wanted c.args.store.now) g.T.Store.kept plan.inputs c.args.store.now c.finish-2.new.store)
+    (λ (plan : Plan). EndsWithTotals plan.actions c.args.run.0 (g.W.Sink.contents c.args.writer.now) (g.W.Sink.contents c.finish-status.new.writer)
+    (g.T.Store.wanted c.args.store.now) g.T.Store.kept plan.inputs c.args.store.now c.finish-status.new.store)
     {x = c.deref-plan.result.now} {y = plan_at c.args.served.site.now c.args.served.relay} (search rules)
-    (c.finish-2.ensures.done zero c.args.run.0
+    (c.finish-status.ensures.done zero c.args.run.0
     (left_of c.stop-answer.result (λ stopped stops. left_with _ c.args.run.0 _ _ _ _ (search rules) stops) c.stop-answer.ensures))
