@@ -125,7 +125,7 @@ def metrics_agree_with_status(room):
     found = document(relay)
     same("a document", [found[it] for it in ("format", "command", "relay", "taken", "lost", "held", "queued", "left_out")],
          [1, "status", "hub", 9, 0, 0, 0, 0])
-    same("its input", found["inputs"], [{"port": port, "open": 1, "accepted": 3, "held": 0, "unread": 2, "lost": 0}])
+    same("its input", found["inputs"], [{"port": port, "taken": 9, "open": 1, "accepted": 3, "held": 0, "unread": 2, "lost": 0}])
     same("the same as metrics", [shown[f'input_{it}{{relay="hub",input="{port}"}}'] for it in
                                  ("connections", "connections_accepted_total", "connections_held", "frames_unread_total", "messages_lost_total")],
          [1, 3, 0, 2, 0])
@@ -236,13 +236,17 @@ def two_inputs_and_two_queues(room):
     file = Watched(room, relay)
     send_all(first, messages(2))
     send_all(second, messages(3))
-    # (all that came to two inputs is told of the relay)
-    file.shows("messages_taken_total", 5)
+    file.shows("messages_taken_total", 2, input=first)
+    file.shows("messages_taken_total", 3, input=second)
     same("connections", [file.number("input_connections_accepted_total", input=it) for it in (first, second)], [1, 1])
-    same("lengths of queues", [file.number("queue_messages", queue=it) for it in ("main queue", "queue of up")], [None, None])
+    # (nobody listens there: one is offered, and the others wait)
+    file.shows("queue_messages", 4, queue="queue of up")
+    same("the other queue", file.number("queue_messages", queue="main queue"), 0)
     same("sizes of queues", [file.number("queue_size", queue=it) for it in ("queue of up",)], [10])
     found = document(relay)
-    same("queues", [(it["name"], it["length"]) for it in found["queues"]], [("main queue", None), ("queue of up", None)])
+    same("queues", [(it["name"], it["length"]) for it in found["queues"]], [("main queue", 0), ("queue of up", 4)])
+    same("messages taken", [it["taken"] for it in found["inputs"]], [2, 3])
+    same("what waits in all", (found["taken"], found["queued"]), (5, 4))
     same("an action", [named(found["actions"], "all")[it] for it in ("due", "done")], [5, 5])
     relay.stop()
 

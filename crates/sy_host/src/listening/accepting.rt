@@ -97,6 +97,7 @@ fn accept<
     number: usize,
 ) -> Result<(), AllocError> {
     of.serving.make_room(&rt, ROOM)?;
+    threads.make_room()?;
     let Ok((stream, peer)) = of.listener.accept() else {
         return Err(AllocError);
     };
@@ -137,7 +138,8 @@ fn accept_and_close<
     R: Threads + Wait + Clock + Copy + Send + 'static,
     C: Connector + Send + Sync + 'static,
     E: Sink + Drop + Send + 'static,
->(rt: R, alloc: Global, of: Acceptor<C, E>, mut threads: ServedThreads) {
+>(rt: R, alloc: Global, of: Acceptor<C, E>) {
+    let mut threads = ServedThreads::new(alloc);
     accept_all(rt, alloc, &of, &mut threads);
     let Acceptor {
         serving,
@@ -168,9 +170,8 @@ pub fn start_accepting<
         ended: Arc::new(alloc, EndedThreads::new(alloc)?)?,
         listener,
     };
-    let threads = ServedThreads::new(alloc)?;
     serving.begin_loop(&rt);
-    match thread::spawn(&rt, move || accept_and_close(rt, alloc, acceptor, threads)) {
+    match thread::spawn(&rt, move || accept_and_close(rt, alloc, acceptor)) {
         Ok(_thread) => Ok(()),
         Err(_) => {
             serving.end_loop(&rt);

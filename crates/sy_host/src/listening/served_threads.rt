@@ -48,13 +48,19 @@ pub struct ServedThreads {
 }
 
 impl ServedThreads {
-    /// None.
-    pub fn new(alloc: Global) -> Result<ServedThreads, AllocError> {
-        let mut handles = Vec::with_capacity(alloc, MOST)?;
-        for _ in 0..MOST {
-            handles.push(None)?;
+    /// None, and no room yet.
+    pub fn new(alloc: Global) -> ServedThreads {
+        ServedThreads {
+            handles: Vec::new(alloc),
         }
-        Ok(ServedThreads { handles })
+    }
+
+    /// Makes room for all.
+    pub fn make_room(&mut self) -> Result<(), AllocError> {
+        for _ in self.handles.len()..MOST {
+            self.handles.push(None)?;
+        }
+        Ok(())
     }
 
     /// A number that no thread has. Where each has one it waits for one that ends, but no longer than this.
@@ -74,7 +80,7 @@ impl ServedThreads {
         self.unused()
     }
 
-    /// The thread that was started has this number.
+    /// The thread that was started has this number, for which there is room.
     pub fn insert(&mut self, number: usize, handle: JoinHandle<()>) {
         if let Some(place) = self.handles.get_mut(number) {
             *place = Some(handle);
@@ -100,6 +106,6 @@ impl ServedThreads {
             }
             number = number.saturating_add(1);
         }
-        None
+        if number < MOST { Some(number) } else { None }
     }
 }
