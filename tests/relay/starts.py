@@ -41,6 +41,23 @@ def faults_of_files(room):
 
 
 @test
+def left_files_that_cannot_be_made(room):
+    hub_files(room, room.port())
+    where = f"(looked for in {os.path.realpath(room.folder)}, the working directory)"
+    explains(room, ["--left", "gone/left", "site", "hub"], 4, "syc: left file gone/left: no such folder\n",
+             "where: the command line: --left gone/left", f"why: gone/left: no such folder {where}",
+             "change: make that folder, or another name on the command line")
+    os.symlink("elsewhere", room.path("left"))
+    explains(room, ["--left", "left", "site", "hub"], 4, "syc: left file left: a symbolic link\n",
+             "where: the command line: --left left", "why: left: a symbolic link has this name, or the name with .new",
+             "change: remove the link, or another name on the command line")
+    room.write("file", "")
+    explains(room, ["--left", "file/left", "site", "hub"], 4, "syc: left file file/left: can't be written\n",
+             "where: the command line: --left file/left", "why: file/left: no file can be made beside it",
+             "change: a folder that can be written (StateDirectory= or ReadWritePaths= of a unit)")
+
+
+@test
 def faulty_files_explained_as_by_check(room):
     port = room.port()
     hub_files(room, port)

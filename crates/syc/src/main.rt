@@ -25,12 +25,13 @@ use running::explaining::{
     NoDevice, explain_no_device, explain_no_memory, explain_refused, explain_status, explained_by,
 };
 use running::identity::runs_line;
+use running::left_store::store_of;
 use running::prepare::prepare;
+use running::streams::{report_input, take_closed_streams};
 use running::words::{RunWords, is_run};
 use std::alloc::{AllocError, Global};
 use std::env;
-use std::fs::{self, File};
-use std::io::{self, BufWriter};
+use std::io::BufWriter;
 use std::net::{Net, TcpListener, TcpStream};
 use std::process::ExitCode;
 use std::rt::{Stderr, Stdout};
@@ -42,12 +43,11 @@ use sy_board::Guard;
 use sy_host::devices::host_device::HostDevice;
 use sy_host::devices::opening::{OpenFault, Signals, taker};
 use sy_host::devices::outlets::{Outlet, outlets};
-use sy_host::ending::left_file::{LeftFault, LeftFiles};
+use sy_host::ending::left_file::LeftFiles;
 use sy_host::listening::serving::Serving;
 use sy_host::log::{ActionLog, Log};
 use sy_host::serve::{Served, serve};
 use sy_host::watching::noted::watch_of;
-use sy_report::outcome::report::{tell_text, tell_texts};
 use sy_report::outcome::stop;
 use sy_report::reading::files::HostFiles;
 use sy_report::writing::outputs::Outputs;
@@ -64,9 +64,6 @@ const METRICS_EVERY: u32 = 10;
 
 /// Room for the longest line on standard error, so that it is written at once.
 const ERROR_BUFFER: usize = 512;
-
-/// What this process's standard input is.
-const STANDARD_INPUT: &str = "/proc/self/fd/0";
 
 type HostOutputs = Outputs<Buffered<FromWrite<Stdout>>, FromWrite<BufWriter<Stderr>>>;
 
@@ -93,7 +90,7 @@ fn main(rt: HostRuntime) -> ExitCode {
     let Ok(outlets) = outlets(alloc, &site, relay) else {
         return no_memory(&rt, found, &mut out);
     };
-    let store = match store_of(rt, found.left, &mut out.errors) {
+    let store = match store_of(&rt, found, &mut out.errors) {
         Ok(store) => store,
         Err(status) => return ExitCode::from(status),
     };
@@ -169,37 +166,6 @@ fn no_device(
     status
 }
 
-// Takes the numbers of those standard streams that were closed when the process began: a file or a link that got one would
-// have written into it what belongs on that stream. They are kept until the process ends; writing to them fails.
-fn take_closed_streams(rt: &HostRuntime) -> [io::Result<File>; 3] {
-    [
-        File::open(rt, "/dev/null"),
-        File::open(rt, "/dev/null"),
-        File::open(rt, "/dev/null"),
-    ]
-}
-
-// Whether standard input has nothing from the beginning on: it is closed, or empty.
-fn has_no_input(rt: &HostRuntime) -> bool {
-    match fs::read_link(rt, STANDARD_INPUT) {
-        Ok(name) if name.as_str() == "/dev/null" => true,
-        _ => match fs::metadata(rt, STANDARD_INPUT) {
-            Ok(found) => found.is_file() && found.len() == 0,
-            Err(_) => false,
-        },
-    }
-}
-
-// Tells where nothing keeps a relay running.
-fn report_input<E: Sink>(rt: &HostRuntime, errors: &mut E) {
-    if has_no_input(rt) {
-        tell_text(
-            errors,
-            "standard input is at its end: nothing keeps the relay running; see syc-run",
-        );
-    }
-}
-
 // The device of an action of this number, which notes in the log whether it fails.
 fn device_of(
     host: HostRuntime,
@@ -267,39 +233,6 @@ fn watch_with(
         None => None,
     };
     watch_of(alloc, site.name(relay), site.plan(relay), log, file)
-}
-
-fn report_left<'a, E: Sink>(errors: &mut E, name: &'a str, words: &'a str) {
-    tell_texts(
-        errors,
-        &[
-            b"syc: left file ",
-            name.as_bytes(),
-            b": ",
-            words.as_bytes(),
-            b"\n",
-        ],
-    );
-}
-
-// Tells why nothing can be left there, and answers the exit status.
-fn no_store<E: Sink>(errors: &mut E, name: &str, fault: LeftFault) -> u8 {
-    if fault == LeftFault::NoMemory {
-        return stop::out_of_memory(errors);
-    }
-    report_left(errors, name, fault.words());
-    4
-}
-
-// The files of that name for what is left, if there are to be any, where they can be written; or the exit status.
-fn store_of<E: Sink>(rt: HostRuntime, name: Option<&str>, errors: &mut E) -> Result<LeftFiles, u8> {
-    let Ok(store) = LeftFiles::new(rt, rt.alloc(), name) else {
-        return Err(stop::out_of_memory(errors));
-    };
-    match store.try_out() {
-        Ok(()) => Ok(store),
-        Err(fault) => Err(no_store(errors, name.unwrap_or(""), fault)),
-    }
 }
 
 // A device for each of a relay's actions, in their order.

@@ -3,7 +3,9 @@
 mod archive_note;
 pub mod explaining;
 pub mod identity;
+pub mod left_store;
 mod port_note;
 pub mod prepare;
 mod start_notes;
+pub mod streams;
 pub mod words;

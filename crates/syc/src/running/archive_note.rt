@@ -1,6 +1,6 @@
 //! The note of an archive that can't be opened.
 
-use crate::running::start_notes::{kind_of, lines_of, note_at, push_reason};
+use crate::running::start_notes::{kind_of, lines_of, note_at, push_folder, push_reason};
 use std::alloc::{AllocError, Global};
 use std::io::ErrorKind;
 use sy_places::relay_file::places::Thing;
@@ -38,15 +38,7 @@ fn push_no_folder(note: &mut Note, name: &[u8], folder: Option<&str>) {
     if !own.is_empty() {
         note.why.put(&[Part::Text(b" as "), Part::Text(own)]);
     }
-    if let Some(folder) = folder {
-        if name.first() != Some(&b'/') {
-            note.why.put(&[
-                Part::Text(b" (looked for in "),
-                Part::Text(folder.as_bytes()),
-                Part::Text(b", the working directory)"),
-            ]);
-        }
-    }
+    push_folder(&mut note.why, name, folder);
     note.change
         .say("make that folder, or another name in that line");
 }

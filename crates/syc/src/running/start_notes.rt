@@ -62,6 +62,19 @@ pub fn push_reason(
     Ok(())
 }
 
+/// Appends where a file's name is looked for, where it isn't absolute and that is known.
+pub fn push_folder(words: &mut Words, name: &[u8], folder: Option<&str>) {
+    if let Some(folder) = folder {
+        if name.first() != Some(&b'/') {
+            words.put(&[
+                Part::Text(b" (looked for in "),
+                Part::Text(folder.as_bytes()),
+                Part::Text(b", the working directory)"),
+            ]);
+        }
+    }
+}
+
 // The names of a site's relays.
 fn names_of(alloc: Global, site: &Site) -> Result<Vec<&[u8]>, AllocError> {
     let mut names = Vec::new(alloc);
