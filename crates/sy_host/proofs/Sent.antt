@@ -12,17 +12,14 @@ use Rattle.sy_host.specs.contracts.ending.remaining.Rest as Rest
 use Rattle.sy_runtime.proofs.Sent.{relay_send, relay_sync}
 use Rattle.sy_host.specs.contracts.listening.accepting.Acceptor as Acceptor
 use Rattle.sy_host.specs.contracts.listening.connections.Connections as Connections
-use Rattle.sy_host.specs.contracts.log.Log as Log
-use Rattle.sy_host.specs.contracts.log.LogGate as Gate
 use Rattle.sy_host.specs.contracts.listening.served_threads.ServedThreads as ServedThreads
 use Rattle.sy_host.specs.contracts.listening.serving.Connection as Connection
 use Rattle.sy_host.specs.contracts.listening.serving.Serving as Serving
-use Rattle.sy_host.specs.contracts.log.printer.Printer as Printer
-use Rattle.sy_host.specs.contracts.log.printing.Printing as Printing
-use Rattle.sy_host.specs.contracts.log.printing_thread.Printed as Printed
-use Rattle.sy_host.specs.contracts.log.telling.Teller as Teller
-use Rattle.sy_host.specs.contracts.log.untold.Untold as Untold
+use Rattle.sy_host.specs.contracts.telling.printing_thread.Printed as Printed
+use Rattle.sy_host.specs.contracts.telling.Teller as Teller
 use Rattle.sy_host.specs.contracts.watching.writing.Writer as Writer
+use Rattle.sy_log.specs.contracts.log.LogGate as Gate
+use Rattle.sy_log.proofs.Sent.{gate_send, gate_sync, log_send, log_sync, printer_send, printing_send, printing_sync}
 use Rattle.sy_watched.proofs.Sent.{file_send, watch_send, watch_sync}
 
 node_send : IsSend Node.the_row
@@ -40,36 +37,11 @@ rest_send = search (node_send, item_send, untaken_send, sendable, crosses) depth
 connections_send : IsSend Connections.the_row
 connections_send = search (node_send, item_send, untaken_send, rest_send, sendable, crosses) depth 60 fits 20000
 
-printing_send : IsSend Printing.the_row
-printing_send = search (sendable, crosses) depth 40 fits 5000
-
-printing_sync : IsSync Printing.the_row
-printing_sync = search (sendable, crosses) depth 40 fits 5000
-
 threads_send : IsSend ServedThreads.the_row
 threads_send = search (sendable, crosses) depth 40 fits 5000
 
 threads_sync : IsSync ServedThreads.the_row
 threads_sync = search (sendable, crosses) depth 40 fits 5000
-
-untold_send : IsSend Untold.the_row
-untold_send = search (sendable, crosses) depth 40 fits 5000
-
-log_send : IsSend Log.the_row
-log_send = search (untold_send, sendable, crosses) depth 40 fits 5000
-
-log_sync : IsSync Log.the_row
-log_sync = search (untold_send, sendable, crosses) depth 40 fits 5000
-
-gate_send : IsSend Gate.the_row
-gate_send = search (log_send, log_sync, sendable, crosses) depth 20
-
-gate_sync : IsSync Gate.the_row
-gate_sync = search (log_send, log_sync, sendable, crosses) depth 20
-
-module _ (E : RattleType) where
-  printer_send : IsSend E → IsSend (Printer.the_row E)
-  printer_send a = search (sendable, crosses) depth 40 fits 5000
 
 module _ (E : RattleType) where
   pub serving_send : IsSend E → IsSend (Serving.the_row E)

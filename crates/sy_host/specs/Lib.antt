@@ -1,5 +1,4 @@
 pub mod Outlets
-pub mod Ports
 pub mod Totals
 pub mod Left
 pub mod Listened

@@ -4,7 +4,7 @@
 pub mod devices;
 pub mod ending;
 pub mod listening;
-pub mod log;
 pub mod rotation;
 pub mod serve;
+pub mod telling;
 pub mod watching;

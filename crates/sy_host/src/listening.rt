@@ -3,7 +3,6 @@ ghost use Rattle.std.specs.Prelude.{◌≡◌, ◌≤◌, IfOk, length, map};
 ghost use Rattle.sy_host.specs.Listened.{at_of, ports_from};
 
 pub mod accepting;
-pub mod at_port;
 pub mod connections;
 pub mod connector;
 pub mod served_threads;

@@ -1,13 +1,13 @@
 //! The file of an archive.
 ghost use Rattle.std.specs.Prelude.{◌≡◌, ◌≢◌, ◌<◌, length, IfErr, IfNone, IfSome, OnSome};
 
-use crate::log::ActionLog;
 use crate::rotation::opened::open_file;
 use crate::rotation::reopens::Reopens;
 use crate::rotation::rotated::{Open, Rotated};
 use std::alloc::Global;
 use std::sync::{Arc, MutexGuard};
 use sy_actions::{Device, DeviceFault};
+use sy_log::log::ActionLog;
 use sy_report::texts::reason::Reason;
 use sy_wire::Message;
 

@@ -1,9 +1,9 @@
 //! What writes to the file of an archive.
 ghost use Rattle.std.specs.Prelude.{None};
 
-use crate::log::ActionLog;
 use std::fs::File;
 use std::io::Write;
+use sy_log::log::ActionLog;
 use sy_report::texts::reason::Reason;
 use sy_wire::{Sink, WriteFault};
 

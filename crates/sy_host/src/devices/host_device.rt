@@ -4,9 +4,9 @@ ghost use Rattle.sy_wire.specs.Streams.{count_after};
 
 use crate::devices::archive::Archive;
 use crate::devices::link::Link;
-use crate::log::ActionLog;
 use std::sync::Arc;
 use sy_actions::{Device, DeviceFault};
+use sy_log::log::ActionLog;
 use sy_report::texts::reason::Reason;
 use sy_wire::Message;
 

@@ -2,7 +2,6 @@
 ghost use Rattle.std.specs.Prelude.{◌≡◌, ◌≢◌, ◌<◌, length, IfErr, IfNone, IfSome, OnSome};
 
 use crate::devices::link_writer::{LinkWriter, end, is_open};
-use crate::log::ActionLog;
 use std::alloc::{AllocError, Global};
 use std::io;
 use std::net::{SocketAddr, TcpStream};
@@ -10,6 +9,7 @@ use std::sync::Arc;
 use std::sync::atomic::AtomicBool;
 use std::time::Duration;
 use sy_actions::{Device, DeviceFault, FrameSink};
+use sy_log::log::ActionLog;
 use sy_report::texts::reason::Reason;
 use sy_wire::Message;
 

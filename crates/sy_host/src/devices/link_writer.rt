@@ -1,11 +1,11 @@
 //! What writes to a link.
 ghost use Rattle.std.specs.Prelude.{None, ◌<◌, ◌≤◌, length, IfOk};
 
-use crate::log::ActionLog;
 use std::io::{Error, ErrorKind, Read, Write};
 use std::net::{Shutdown, TcpStream};
 use std::sync::Arc;
 use std::sync::atomic::{AtomicBool, Ordering};
+use sy_log::log::ActionLog;
 use sy_report::texts::reason::Reason;
 use sy_wire::{Sink, WriteFault};
 

@@ -5,13 +5,13 @@ use crate::devices::host_device::Taker;
 use crate::devices::link::Link;
 use crate::devices::outlets::Outlet;
 use crate::listening::socket_address;
-use crate::log::ActionLog;
 use crate::rotation::reopens::Reopens;
 use std::alloc::Global;
 use std::net::SocketAddr;
 use std::str;
 use std::sync::Arc;
 use std::sync::atomic::AtomicBool;
+use sy_log::log::ActionLog;
 
 /// What devices look at.
 #[derive(Drop)]

@@ -3,10 +3,10 @@ ghost use Rattle.std.specs.Prelude.{IfSome, map};
 ghost use Rattle.sy_board.specs.relay.Boards.{counts_of};
 ghost use Rattle.sy_runtime.specs.Standing.{Stands};
 
-use crate::log::LogGate;
 use std::alloc::Global;
 use std::sync::Wait;
 use std::time::Clock;
+use sy_log::log::LogGate;
 use sy_runtime::{ConnEnd, Finish, Relay, RunFault, Standing, Untaken};
 use sy_wire::Source;
 

@@ -1,18 +1,18 @@
 //! What the threads of a relay that is served share, and what each connection's does.
 
 use crate::ending::remaining::{Rest, count_unread};
-use crate::listening::at_port::append_at_port;
 use crate::listening::connections::Connections;
 use crate::listening::connector::Connector;
 use crate::listening::served_threads::EndedThreads;
-use crate::log::printer::Printer;
-use crate::log::printing::Printing;
-use crate::log::{Log, PeerEnd};
 use std::alloc::{AllocError, Global};
 use std::net::{Shutdown, SocketAddr, TcpStream};
 use std::sync::atomic::{AtomicBool, Ordering};
 use std::sync::{Arc, Condvar, CondvarTimeouts, Mutex, Wait};
 use std::time::{Clock, Duration};
+use sy_log::at_port::append_at_port;
+use sy_log::log::{Log, PeerEnd};
+use sy_log::printer::Printer;
+use sy_log::printing::Printing;
 use sy_report::texts::parts::{Part, put_parts};
 use sy_report::texts::reason::Reason;
 use sy_runtime::{ConnEnd, Finish, RunFault, Untaken};

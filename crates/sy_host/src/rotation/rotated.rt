@@ -1,7 +1,6 @@
 //! The file of an archive, as its device and who watches over it share it.
 
 use crate::devices::file_writer::FileWriter;
-use crate::log::ActionLog;
 use crate::rotation::opened::{Node, Refusal, has_lost_name, is_pipe, node_of_file, open_file};
 use std::alloc::Global;
 use std::fs::File;
@@ -10,6 +9,7 @@ use std::sync::{Mutex, MutexGuard};
 use std::thread;
 use std::time::Duration;
 use sy_actions::LineSink;
+use sy_log::log::ActionLog;
 use sy_report::texts::reason::Reason;
 
 /// After how many milliseconds a lock is tried again.

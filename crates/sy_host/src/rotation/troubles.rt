@@ -1,8 +1,8 @@
 //! What was told of an archive's file, and what is to be told next.
 
-use crate::log::pauses::Pace;
 use crate::rotation::opened::Refusal;
 use crate::rotation::rotated::Known;
+use sy_log::pauses::Pace;
 
 /// How many milliseconds lie between two looks at an archive's name, at least.
 const LOOK: u64 = 1000;

@@ -1,9 +1,9 @@
 //! What the log knows of a relay's actions, inputs and queues, for who watches.
 
-use crate::log::Log;
-use crate::log::subject::{Kind, Subject};
 use std::alloc::{AllocError, Global};
 use std::time::Clock;
+use sy_log::log::Log;
+use sy_log::subject::{Kind, Subject};
 use sy_rules::Plan;
 use sy_watched::file::MetricsFile;
 use sy_watched::look::{Noted, NotedOfAll, now};
@@ -41,33 +41,28 @@ fn noted_of(subject: &Subject) -> Noted {
     }
 }
 
-impl Log {
-    /// Notes the time at what has changed since this was last noted.
-    pub fn date<R: Clock>(&self, rt: &R) {
-        let now = now(rt);
-        for subject in self.subjects() {
-            subject.date(now);
-        }
-    }
+/// Notes the time at what of a log has changed since that was last noted.
+pub fn date<R: Clock>(rt: &R, log: &Log) {
+    log.date(now(rt));
+}
 
-    /// What it knows now.
-    pub fn noted<R: Clock>(&self, rt: &R, alloc: Global) -> Result<NotedLists, AllocError> {
-        self.date(rt);
-        let mut lists = NotedLists {
-            actions: Vec::new(alloc),
-            inputs: Vec::new(alloc),
-            queues: Vec::new(alloc),
-        };
-        for subject in self.subjects() {
-            let noted = noted_of(subject);
-            match subject.kind {
-                Kind::Action => lists.actions.push(noted)?,
-                Kind::Input => lists.inputs.push(noted)?,
-                Kind::Queue => lists.queues.push(noted)?,
-            }
+/// What a log knows now.
+pub fn noted<R: Clock>(rt: &R, alloc: Global, log: &Log) -> Result<NotedLists, AllocError> {
+    date(rt, log);
+    let mut lists = NotedLists {
+        actions: Vec::new(alloc),
+        inputs: Vec::new(alloc),
+        queues: Vec::new(alloc),
+    };
+    for subject in log.subjects() {
+        let noted = noted_of(subject);
+        match subject.kind {
+            Kind::Action => lists.actions.push(noted)?,
+            Kind::Input => lists.inputs.push(noted)?,
+            Kind::Queue => lists.queues.push(noted)?,
         }
-        Ok(lists)
     }
+    Ok(lists)
 }
 
 /// What is watched of a relay of that name and plan, whose queues are named as in its log. Its metrics are written to that file, where there is

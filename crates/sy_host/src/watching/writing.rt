@@ -2,6 +2,7 @@
 
 use crate::listening::connector::Connector;
 use crate::listening::serving::Serving;
+use crate::watching::noted::noted;
 use std::alloc::{AllocError, Global};
 use std::sync::{Arc, Wait};
 use std::thread;
@@ -32,7 +33,7 @@ fn metrics_of<R: Clock, E: Sink + Drop>(
     serving: &Serving<E>,
     moment: Moment<'_>,
 ) -> Result<Vec<u8>, AllocError> {
-    let noted = serving.log().noted(rt, alloc)?;
+    let noted = noted(rt, alloc, serving.log())?;
     let seen = watched(alloc, serving.watch(), noted.all(), moment)?;
     metrics(alloc, &seen)
 }
@@ -203,7 +204,7 @@ impl<E: Sink + Drop> Serving<E> {
         alloc: Global,
         moment: Moment<'_>,
     ) -> Result<Vec<u8>, AllocError> {
-        let noted = self.log().noted(rt, alloc)?;
+        let noted = noted(rt, alloc, self.log())?;
         let seen = watched(alloc, self.watch(), noted.all(), moment)?;
         document(alloc, &seen)
     }

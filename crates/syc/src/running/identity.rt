@@ -3,7 +3,7 @@
 use hex::encode;
 use sha2::{Digest, Sha256};
 use std::alloc::{AllocError, Global};
-use sy_host::log::start_lines::append_runs;
+use sy_log::start_lines::append_runs;
 use sy_places::site_file::texts::SiteTexts;
 use sy_site::file_names;
 

@@ -1,0 +1,136 @@
+//! When the lines about frames without a message and about faults of an input's connections are printed.
+
+use crate::listening::serving::Serving;
+use std::alloc::{AllocError, Global};
+use std::sync::{Mutex, Wait};
+use sy_log::at_port::{
+    append_at_port, append_at_port_often, append_unread, append_unread_often, end_words,
+};
+use sy_log::log::Ended;
+use sy_log::pauses::Pace;
+use sy_log::untold::{FAULTS, Faulted, UnreadFrames};
+use sy_wire::Sink;
+
+/// When the next line of each kind may be printed about an input.
+#[derive(Clone, Copy)]
+pub struct PortPace {
+    unread: Pace,
+    faults: Pace,
+}
+
+impl PortPace {
+    /// The first ones may be printed at once.
+    pub fn new() -> PortPace {
+        PortPace {
+            unread: Pace::new(),
+            faults: Pace::new(),
+        }
+    }
+}
+
+/// The earlier of two times, where they are known.
+pub fn earlier(one: Option<u64>, other: Option<u64>) -> Option<u64> {
+    match (one, other) {
+        (Some(one), Some(other)) => Some(one.min(other)),
+        (Some(one), None) => Some(one),
+        (None, other) => other,
+    }
+}
+
+fn unread_line(alloc: Global, port: u16, of: UnreadFrames) -> Result<Vec<u8>, AllocError> {
+    let mut text = Vec::new(alloc);
+    if of.others == 0 {
+        append_unread(&mut text, of.count, port, of.first)?;
+    } else {
+        append_unread_often(&mut text, of.count, port, of.first, of.more, of.others)?;
+    }
+    Ok(text)
+}
+
+fn fault_line(alloc: Global, port: u16, of: Faulted) -> Result<Vec<u8>, AllocError> {
+    let mut text = Vec::new(alloc);
+    let words = end_words(of.fault).as_bytes();
+    if of.others == 0 {
+        append_at_port(&mut text, words, port)?;
+    } else {
+        append_at_port_often(&mut text, words, port, of.others)?;
+    }
+    Ok(text)
+}
+
+// Prints the line about frames without a message, where there are any.
+fn print_unread<R: Wait, E: Sink + Drop>(
+    rt: &R,
+    alloc: Global,
+    serving: &Serving<E>,
+    ended: &Mutex<Ended>,
+) {
+    let mut locked = ended.lock(rt);
+    let (port, frames) = (locked.port, locked.untold.take_unread());
+    drop(locked);
+    if let Some(frames) = frames {
+        serving.print(rt, unread_line(alloc, port, frames));
+    }
+}
+
+// Prints the line about the oldest fault, where there is one.
+fn print_fault<R: Wait, E: Sink + Drop>(
+    rt: &R,
+    alloc: Global,
+    serving: &Serving<E>,
+    ended: &Mutex<Ended>,
+) {
+    let mut locked = ended.lock(rt);
+    let (port, fault) = (locked.port, locked.untold.take_fault());
+    drop(locked);
+    if let Some(fault) = fault {
+        serving.print(rt, fault_line(alloc, port, fault));
+    }
+}
+
+/// Prints the lines that are due of the input that is the subject of this number of the log; answers when to look again,
+/// where some are left.
+pub fn print_due<R: Wait, E: Sink + Drop>(
+    rt: &R,
+    alloc: Global,
+    serving: &Serving<E>,
+    number: usize,
+    pace: &mut PortPace,
+    now: u64,
+) -> Option<u64> {
+    let ended = serving.log().ended_at(number)?;
+    if ended.lock(rt).untold.has_unread() && pace.unread.take(now) {
+        print_unread(rt, alloc, serving, ended);
+    }
+    if ended.lock(rt).untold.has_faults() && pace.faults.take(now) {
+        print_fault(rt, alloc, serving, ended);
+    }
+    let locked = ended.lock(rt);
+    let unread = if locked.untold.has_unread() {
+        Some(pace.unread.next)
+    } else {
+        None
+    };
+    let faults = if locked.untold.has_faults() {
+        Some(pace.faults.next)
+    } else {
+        None
+    };
+    earlier(unread, faults)
+}
+
+/// Prints all of them that are left, as the relay ends.
+pub fn print_left<R: Wait, E: Sink + Drop>(
+    rt: &R,
+    alloc: Global,
+    serving: &Serving<E>,
+    number: usize,
+) {
+    let Some(ended) = serving.log().ended_at(number) else {
+        return;
+    };
+    print_unread(rt, alloc, serving, ended);
+    for _ in 0..FAULTS {
+        print_fault(rt, alloc, serving, ended);
+    }
+}

@@ -1,0 +1,34 @@
+-- What is told of a relay, and what prints it, may cross threads.
+use denote.RattleType.{RattleType}
+use denote.Param.Send.{IsSend, IsSync, sendable}
+use Rattle.std.proofs.Crossing.{crosses}
+use Rattle.sy_log.specs.contracts.log.Log as Log
+use Rattle.sy_log.specs.contracts.log.LogGate as Gate
+use Rattle.sy_log.specs.contracts.printer.Printer as Printer
+use Rattle.sy_log.specs.contracts.printing.Printing as Printing
+use Rattle.sy_log.specs.contracts.untold.Untold as Untold
+
+pub printing_send : IsSend Printing.the_row
+printing_send = search (sendable, crosses) depth 40 fits 5000
+
+pub printing_sync : IsSync Printing.the_row
+printing_sync = search (sendable, crosses) depth 40 fits 5000
+
+untold_send : IsSend Untold.the_row
+untold_send = search (sendable, crosses) depth 40 fits 5000
+
+pub log_send : IsSend Log.the_row
+log_send = search (untold_send, sendable, crosses) depth 40 fits 5000
+
+pub log_sync : IsSync Log.the_row
+log_sync = search (untold_send, sendable, crosses) depth 40 fits 5000
+
+pub gate_send : IsSend Gate.the_row
+gate_send = search (log_send, log_sync, sendable, crosses) depth 20
+
+pub gate_sync : IsSync Gate.the_row
+gate_sync = search (log_send, log_sync, sendable, crosses) depth 20
+
+module _ (E : RattleType) where
+  pub printer_send : IsSend E → IsSend (Printer.the_row E)
+  printer_send a = search (sendable, crosses) depth 40 fits 5000

@@ -1,0 +1,141 @@
+//! The lines of a relay's log.
+
+use crate::log::{MARK, PeerEnd};
+use crate::notices::Line;
+use crate::subject::{Kind, Subject};
+use std::alloc::{AllocError, Global};
+use sy_report::texts::parts::{Part, put_parts};
+use sy_report::texts::reason::Reason;
+
+fn put(text: &mut Vec<u8>, words: &'static str) -> Result<(), AllocError> {
+    text.extend_from_slice(words.as_bytes())
+}
+
+fn put_seconds(text: &mut Vec<u8>, words: &str, seconds: u64) -> Result<(), AllocError> {
+    let parts = [
+        Part::Text(words.as_bytes()),
+        Part::Number(seconds),
+        Part::Text(b" s"),
+    ];
+    put_parts(text, &parts)
+}
+
+// An action fails, or an input is held.
+fn put_begin(alloc: Global, text: &mut Vec<u8>, subject: &Subject) -> Result<(), AllocError> {
+    let why = subject.why();
+    if subject.kind == Kind::Action {
+        put(text, " fails: ")?;
+        return Reason::from_code(why).put(alloc, text);
+    }
+    if why == MARK {
+        put(text, " held: full-delay mark")
+    } else {
+        put(text, " held: full queue")
+    }
+}
+
+fn put_lost(text: &mut Vec<u8>, count: u64, seconds: u64) -> Result<(), AllocError> {
+    put_parts(text, &[Part::Text(b" lost "), Part::Number(count)])?;
+    put_seconds(text, " in ", seconds)
+}
+
+fn put_line(
+    alloc: Global,
+    text: &mut Vec<u8>,
+    subject: &Subject,
+    line: Line,
+) -> Result<(), AllocError> {
+    match line {
+        Line::Begins => put_begin(alloc, text, subject),
+        Line::Ends(seconds) => {
+            if subject.kind == Kind::Action {
+                put_seconds(text, " works after ", seconds)
+            } else {
+                put_seconds(text, " goes on after ", seconds)
+            }
+        }
+        Line::Loses => put(text, " loses"),
+        Line::Lost(count, seconds) => put_lost(text, count, seconds),
+    }
+}
+
+/// A line about an action, an input or a queue.
+pub fn subject_line(alloc: Global, subject: &Subject, line: Line) -> Result<Vec<u8>, AllocError> {
+    let mut text = Vec::new(alloc);
+    put_parts(
+        &mut text,
+        &[Part::Text(b"syc: "), Part::Text(subject.name.as_slice())],
+    )?;
+    put_line(alloc, &mut text, subject, line)?;
+    put(&mut text, "\n")?;
+    Ok(text)
+}
+
+// The first frame that carried no message, and why.
+fn put_unread(text: &mut Vec<u8>, end: &PeerEnd) -> Result<(), AllocError> {
+    let Some(first) = end.first else {
+        return Ok(());
+    };
+    let parts = [
+        Part::Text(b", "),
+        Part::Number(end.unread),
+        Part::Text(b" unread, the first "),
+        Part::Text(first.fault.code.words().as_bytes()),
+        Part::Text(b" at "),
+        Part::Number(first.fault.offset as u64),
+        Part::Text(b" in frame "),
+        Part::Number(first.frame),
+    ];
+    put_parts(text, &parts)
+}
+
+fn put_others(text: &mut Vec<u8>, others: u64) -> Result<(), AllocError> {
+    if others == 0 {
+        return Ok(());
+    }
+    let parts = [
+        Part::Text(b", and "),
+        Part::Number(others),
+        Part::Text(b" others"),
+    ];
+    put_parts(text, &parts)
+}
+
+fn put_peer<'a>(
+    text: &mut Vec<u8>,
+    name: &'a [u8],
+    peer: &'a [u8],
+    words: &'a [u8],
+) -> Result<(), AllocError> {
+    let parts = [
+        Part::Text(b"syc: "),
+        Part::Text(name),
+        Part::Text(b" peer "),
+        Part::Text(peer),
+        Part::Text(b": "),
+        Part::Text(words),
+    ];
+    put_parts(text, &parts)
+}
+
+/// A line about a connection of an input that ended with a fault or with frames that carried no message, and about how many others did.
+pub fn peer_line(
+    alloc: Global,
+    subject: &Subject,
+    end: &PeerEnd,
+    words: &str,
+    others: u64,
+) -> Result<Vec<u8>, AllocError> {
+    let peer = end.peer.to_string(alloc)?;
+    let mut text = Vec::new(alloc);
+    put_peer(
+        &mut text,
+        subject.name.as_slice(),
+        peer.as_str().as_bytes(),
+        words.as_bytes(),
+    )?;
+    put_unread(&mut text, end)?;
+    put_others(&mut text, others)?;
+    put(&mut text, "\n")?;
+    Ok(text)
+}

@@ -1,0 +1,310 @@
+//! What threads note of a relay: of its actions, inputs and queues, and of connections that ended with a fault.
+
+use crate::subject::Subject;
+use crate::subjects::subjects_of;
+use crate::untold::Untold;
+use std::alloc::{AllocError, Global};
+use std::net::SocketAddr;
+use std::sync::atomic::{AtomicBool, AtomicU64, Ordering};
+use std::sync::{Arc, Mutex, Wait};
+use std::thread::Parker;
+use std::time::{Clock, Duration};
+use sy_marks::Hold;
+use sy_report::texts::reason::Reason;
+use sy_rules::{Input, Plan};
+use sy_runtime::{Gate, RunFault, Unread};
+
+/// How often the last lines are waited for, and how long each time, in milliseconds.
+const LAST_WAITS: u32 = 10;
+
+const LAST_WAIT: u64 = 100;
+
+/// How a connection ended: with frames that carried no message, or with a fault, or both.
+#[derive(Clone, Copy)]
+pub struct PeerEnd {
+    pub peer: SocketAddr,
+    pub unread: u64,
+    pub first: Option<Unread>,
+    pub fault: Option<RunFault>,
+}
+
+/// How the first of the connections ended that ended so and weren't told yet, and how many others there are; and with what
+/// connections ended.
+#[derive(Drop)]
+pub struct Ended {
+    /// the input's
+    pub port: u16,
+    pub first: Option<PeerEnd>,
+    pub others: u64,
+    pub untold: Untold,
+}
+
+/// What an operator is told of a relay. Devices, workers and connections note here what happens; a thread looks, and prints.
+#[derive(Drop)]
+pub struct Log {
+    // the actions, then the inputs, then the queues
+    subjects: Vec<Subject>,
+    // of each input
+    ended: Vec<Mutex<Ended>>,
+    actions: usize,
+    // wakes who looks
+    change: Parker,
+    is_ending: AtomicBool,
+    // tells that the last lines are printed
+    end: Parker,
+    has_ended: AtomicBool,
+}
+
+fn ended_of(alloc: Global, inputs: &[Input]) -> Result<Vec<Mutex<Ended>>, AllocError> {
+    let mut ended = Vec::with_capacity(alloc, inputs.len())?;
+    for input in inputs {
+        ended.push(Mutex::new(Ended {
+            port: input.port,
+            first: None,
+            others: 0,
+            untold: Untold::new(alloc)?,
+        }))?;
+    }
+    Ok(ended)
+}
+
+impl Log {
+    /// Nothing has happened yet to a relay of this plan.
+    pub fn new(alloc: Global, plan: &Plan) -> Result<Arc<Log>, AllocError> {
+        let log = Log {
+            subjects: subjects_of(alloc, plan)?,
+            ended: ended_of(alloc, plan.inputs())?,
+            actions: plan.actions().len(),
+            change: Parker::new(),
+            is_ending: AtomicBool::new(false),
+            end: Parker::new(),
+            has_ended: AtomicBool::new(false),
+        };
+        match Arc::new(alloc, log) {
+            Ok(log) => Ok(log),
+            Err(_) => Err(AllocError),
+        }
+    }
+
+    /// The actions, then the inputs, then the queues.
+    pub fn subjects(&self) -> &[Subject] {
+        self.subjects.as_slice()
+    }
+
+    // Wakes who looks, where a change of this wasn't noted yet.
+    fn note(&self, subject: &Subject) {
+        if subject.note() {
+            self.change.unpark();
+        }
+    }
+
+    fn input(&self, input: u32) -> Option<&Subject> {
+        self.subjects
+            .get(self.actions.saturating_add(input as usize))
+    }
+
+    fn queue(&self, queue: u32) -> Option<&Subject> {
+        let inputs = self.actions.saturating_add(self.ended.len());
+        self.subjects.get(inputs.saturating_add(queue as usize))
+    }
+
+    /// A connection of an input has ended so.
+    pub fn connection_ended<R: Wait>(&self, rt: &R, input: u32, end: PeerEnd) {
+        let Some(ended) = self.ended.get(input as usize) else {
+            return;
+        };
+        let mut ended = ended.lock(rt);
+        if ended.first.is_none() {
+            ended.first = Some(end);
+        } else {
+            ended.others = ended.others.saturating_add(1);
+        }
+        ended.untold.add(&end);
+        drop(ended);
+        if let Some(subject) = self.input(input) {
+            self.note(subject);
+        }
+    }
+
+    /// How connections ended of the input that is the subject of this number.
+    pub fn ended_at(&self, number: usize) -> Option<&Mutex<Ended>> {
+        self.ended.get(number.checked_sub(self.actions)?)
+    }
+
+    /// Whether a connection of the subject of this number has ended so and wasn't told.
+    pub fn has_untold_end<R: Wait>(&self, rt: &R, number: usize) -> bool {
+        match self.ended_at(number) {
+            Some(ended) => ended.lock(rt).first.is_some(),
+            None => false,
+        }
+    }
+
+    /// The same connections, which are told now.
+    pub fn take_untold_ends<R: Wait>(&self, rt: &R, number: usize) -> Option<(PeerEnd, u64)> {
+        let mut ended = self.ended_at(number)?.lock(rt);
+        let first = ended.first.take()?;
+        let others = ended.others;
+        ended.others = 0;
+        Some((first, others))
+    }
+
+    /// Notes this time at what has changed since it was last noted.
+    pub fn date(&self, now: u64) {
+        for subject in self.subjects() {
+            subject.date(now);
+        }
+    }
+
+    /// Whether the relay ends.
+    pub fn is_ending(&self) -> bool {
+        self.is_ending.load(Ordering::SeqCst)
+    }
+
+    /// Waits until something changes, for so many milliseconds at most where that is given.
+    pub fn wait<R: Wait + Clock>(&self, rt: &R, most: Option<u64>) {
+        match most {
+            Some(most) => self.change.park_timeout(rt, Duration::from_millis(most)),
+            None => self.change.park(rt),
+        }
+    }
+
+    /// The last lines are printed.
+    pub fn set_ended(&self) {
+        self.has_ended.store(true, Ordering::SeqCst);
+        self.end.unpark();
+    }
+
+    /// Has the last lines printed, and waits for that, but not for long: nobody may read them.
+    pub fn finish<R: Wait + Clock>(&self, rt: &R) {
+        self.is_ending.store(true, Ordering::SeqCst);
+        self.change.unpark();
+        for _ in 0..LAST_WAITS {
+            if self.has_ended.load(Ordering::SeqCst) {
+                return;
+            }
+            self.end.park_timeout(rt, Duration::from_millis(LAST_WAIT));
+        }
+    }
+}
+
+/// Notes what is held and lost, and does nothing around an offer.
+#[derive(Drop)]
+pub struct LogGate {
+    pub log: Arc<Log>,
+}
+
+/// The number of a full-delay mark that holds an input; a full queue has another.
+pub const MARK: u64 = 1;
+
+fn why_of(hold: Hold) -> u64 {
+    if hold == Hold::FullDelay { MARK } else { 0 }
+}
+
+impl Gate for LogGate {
+    fn before(&self, _worker: u32) {}
+
+    fn after(&self, _worker: u32) {}
+
+    fn held(&self, input: u32, hold: Hold) {
+        if let Some(subject) = self.log.input(input) {
+            subject.begin(why_of(hold));
+            self.log.note(subject);
+        }
+    }
+
+    fn goes_on(&self, input: u32) {
+        if let Some(subject) = self.log.input(input) {
+            subject.end();
+            self.log.note(subject);
+        }
+    }
+
+    fn takes(&self, input: u32, messages: u64, unread: u64) {
+        if let Some(subject) = self.log.input(input) {
+            subject.take(messages, unread);
+        }
+    }
+
+    fn loses(&self, input: u32, count: u64) {
+        if let Some(subject) = self.log.input(input) {
+            subject.lose(count);
+            self.log.note(subject);
+        }
+    }
+
+    fn queue_loses(&self, queue: u32, count: u64) {
+        if let Some(subject) = self.log.queue(queue) {
+            subject.lose(count);
+            self.log.note(subject);
+        }
+    }
+}
+
+/// What notes of an action whether it fails. Its device alone has it, and what that writes to.
+#[derive(Drop)]
+pub struct ActionLog {
+    log: Arc<Log>,
+    action: usize,
+    // why the present offer fails
+    reason: Arc<AtomicU64>,
+}
+
+impl ActionLog {
+    /// Of this action, which doesn't fail.
+    pub fn new(alloc: Global, log: &Arc<Log>, action: usize) -> Result<ActionLog, AllocError> {
+        let Ok(reason) = Arc::new(alloc, AtomicU64::new(0)) else {
+            return Err(AllocError);
+        };
+        Ok(ActionLog {
+            log: Arc::try_clone(log)?,
+            action,
+            reason,
+        })
+    }
+
+    /// Another handle of it.
+    pub fn try_clone(&self) -> Result<ActionLog, AllocError> {
+        Ok(ActionLog {
+            log: Arc::try_clone(&self.log)?,
+            action: self.action,
+            reason: Arc::try_clone(&self.reason)?,
+        })
+    }
+
+    /// What the action is called in lines, as `action audit`.
+    pub fn name(&self) -> &[u8] {
+        match self.log.subjects.get(self.action) {
+            Some(subject) => subject.name.as_slice(),
+            None => b"",
+        }
+    }
+
+    /// That is why the present offer will fail.
+    pub fn because(&self, reason: Reason) {
+        self.reason.store(reason.code(), Ordering::SeqCst);
+    }
+
+    /// Takes the reason that was given last, if one was.
+    pub fn take_reason(&self) -> Option<Reason> {
+        match self.reason.swap(0, Ordering::SeqCst) {
+            0 => None,
+            code => Some(Reason::from_code(code)),
+        }
+    }
+
+    /// The action begins to fail.
+    pub fn begin(&self, reason: Reason) {
+        if let Some(subject) = self.log.subjects.get(self.action) {
+            subject.begin(reason.code());
+            self.log.note(subject);
+        }
+    }
+
+    /// It works again.
+    pub fn end(&self) {
+        if let Some(subject) = self.log.subjects.get(self.action) {
+            subject.end();
+            self.log.note(subject);
+        }
+    }
+}
