@@ -11,7 +11,7 @@ from peers import Sender, message, messages, send_all
 from room import Failure, imtcp, module, omfile, same, test, totals, until
 from told import full_pipe
 
-MANY, AT_ONCE = 12_000, 8
+MANY, AT_ONCE = 12_000, 64
 THREADS, MEMORY, STOP = 80, 64 * 1024, 3  # what a relay has at most: threads, KiB, and seconds for a stop
 QUEUE = 4096  # lines that may wait
 LEFT_OUT = re.compile(r"syc: (\d+) lines left out")

@@ -1,6 +1,6 @@
 -- Frames one behind the other.
 use Rattle.std.proofs.Common.{◌≡◌, ℕ, Bool, true, false, List, [], ◌∷◌, ◌++◌, map, refl, sym, subst, ap, ◌∙◌}
-use Rattle.std.specs.Prelude.{Option, Some, None, ◌==◌}
+use Rattle.std.specs.Prelude.{OnOk, Option, Some, None, Result, Ok, Err, ◌==◌}
 use Rattle.std.specs.Io.KnownBytes.{Appends, IsAtEnd, Keeps}
 use Rattle.std.proofs.KnownBytes.{Appends-trans}
 use Rattle.std.proofs.lemmas.List.{append-nil}
@@ -111,3 +111,14 @@ pub keeps_one : {S : Type 0} (Kept : S → ℕ → Option (List ℕ) → S → T
     → KeepsEach Kept entries a (input ∷ []) b
 keeps_one Kept entries a b input begun contents texts empty is wrote kept =
     KeepsEach.kept input texts contents is (record { begun = begun; empty = empty; wrote = wrote }) kept KeepsEach.none
+
+-- where nothing failed yet, what is left to do may be one step more
+pub so_far : {T E S : Type 0} (answer : Result T E) (P Q R : S → Type 0) → OnOk answer ((end : S) → P end → R end) → ((end : S) → Q end → P end)
+    → OnOk answer ((end : S) → Q end → R end)
+so_far (Ok done) P Q R before next = λ end more. before end (next end more)
+so_far (Err fault) P Q R before next = tt
+
+-- and at the end it is all done
+pub at_end : {T E S : Type 0} (answer : Result T E) (P R : S → Type 0) (end : S) → OnOk answer ((end : S) → P end → R end) → P end → OnOk answer (R end)
+at_end (Ok done) P R end before is = before end is
+at_end (Err fault) P R end before is = tt

@@ -12,7 +12,7 @@ use Rattle.sy_host.specs.contracts.ending.remaining.Rest as Rest
 use Rattle.sy_runtime.proofs.Sent.{relay_send, relay_sync}
 use Rattle.sy_host.specs.contracts.listening.accepting.Acceptor as Acceptor
 use Rattle.sy_host.specs.contracts.listening.connections.Connections as Connections
-use Rattle.sy_host.specs.contracts.listening.served_threads.ServedThreads as ServedThreads
+use Rattle.sy_host.specs.contracts.listening.served_threads.EndedThreads as EndedThreads
 use Rattle.sy_host.specs.contracts.listening.serving.Connection as Connection
 use Rattle.sy_host.specs.contracts.listening.serving.Serving as Serving
 use Rattle.sy_host.specs.contracts.telling.printing_thread.Printed as Printed
@@ -37,11 +37,11 @@ rest_send = search (node_send, item_send, untaken_send, sendable, crosses) depth
 connections_send : IsSend Connections.the_row
 connections_send = search (node_send, item_send, untaken_send, rest_send, sendable, crosses) depth 60 fits 20000
 
-threads_send : IsSend ServedThreads.the_row
-threads_send = search (sendable, crosses) depth 40 fits 5000
+ended_send : IsSend EndedThreads.the_row
+ended_send = search (sendable, crosses) depth 40 fits 5000
 
-threads_sync : IsSync ServedThreads.the_row
-threads_sync = search (sendable, crosses) depth 40 fits 5000
+ended_sync : IsSync EndedThreads.the_row
+ended_sync = search (sendable, crosses) depth 40 fits 5000
 
 module _ (E : RattleType) where
   pub serving_send : IsSend E → IsSend (Serving.the_row E)
@@ -67,10 +67,10 @@ module _ (C E : RattleType) where
   writer_send a b d = search (file_send, serving_send, serving_sync, sendable, crosses) depth 30 fits 5000
 
   pub connection_send : IsSend C → IsSync C → IsSend E → IsSend (Connection.the_row C E)
-  connection_send a b d = search (threads_send, threads_sync, serving_send, serving_sync, sendable, crosses) depth 30 fits 5000
+  connection_send a b d = search (ended_send, ended_sync, serving_send, serving_sync, sendable, crosses) depth 30 fits 5000
 
   pub acceptor_send : IsSend C → IsSync C → IsSend E → IsSend (Acceptor.the_row C E)
-  acceptor_send a b d = search (threads_send, threads_sync, serving_send, serving_sync, sendable, crosses) depth 30 fits 5000
+  acceptor_send a b d = search (ended_send, ended_sync, serving_send, serving_sync, sendable, crosses) depth 30 fits 5000
 
 module _ (T : RattleType) (g : Ghosts T.Denot) (s : Sends (table_of T.Denot g)) (t : IsSend T) where
   pub open_send : IsSend (Relay.the_row Gate.the_row T g)

@@ -89,7 +89,10 @@ impl ServedThreads {
 
     // Waits for those that end, to their last step.
     fn join_ended<R: Threads + Wait>(&mut self, rt: &R, ended: &EndedThreads) {
-        while let Some(number) = ended.pop(rt) {
+        for _ in 0..MOST {
+            let Some(number) = ended.pop(rt) else {
+                return;
+            };
             if let Some(place) = self.handles.get_mut(number) {
                 if let Some(handle) = place.take() {
                     handle.join(rt);
