@@ -1,6 +1,7 @@
 //! How a relay that is served ends.
 
 pub mod control;
+pub mod finishing;
 pub mod left;
 pub mod left_file;
 pub mod remaining;

@@ -1,0 +1,143 @@
+//! How a relay that was served ends: its totals are printed, and what it leaves is kept.
+ghost use Rattle.std.specs.Prelude.{◌≡◌, ◌≤◌, Option, true, IfOk, length, map};
+ghost use Rattle.sy_board.specs.relay.Totals.{GuardState};
+ghost use Rattle.sy_host.specs.Left.{Keeps};
+ghost use Rattle.sy_host.specs.Totals.{EndsWithTotals, WroteTotals};
+ghost use Rattle.sy_host.specs.internal.Served.{IsLeft};
+
+use crate::ending::left::{KeepFault, Store, keep_left};
+use crate::ending::remaining::sort;
+use crate::ending::totals::{TotalsFault, numbers_of, write_totals};
+use crate::ending::unfinished::report_unfinished;
+use crate::listening::serving::Serving;
+use std::alloc::Global;
+use std::collections::VecDeque;
+use std::sync::Wait;
+use sy_chain::Chain;
+use sy_rules::laws::plans_are_whole;
+use sy_rules::{Action, Input, Plan};
+use sy_runtime::{Mismatch, Stopped, Untaken};
+use sy_wire::Sink;
+
+/// Tells that memory ran out, and answers the exit status for that.
+pub(crate) fn out_of_memory<R: Wait, E: Sink + Drop>(rt: &R, serving: &Serving<E>) -> u8
+    ensures { result ≡ 3 }
+{
+    serving.tell_text(rt, "no memory");
+    3
+}
+
+// What a relay leaves.
+#[derive(Drop)]
+struct Left {
+    held: Chain,
+    // of each input what its connections had read and not taken
+    untaken: VecDeque<VecDeque<Untaken>>,
+}
+
+/// How a relay ended, and what the connections of each input had read and not taken.
+#[derive(Drop)]
+pub(crate) struct Ended {
+    pub(crate) answer: Result<Stopped, Mismatch>,
+    pub(crate) untaken: VecDeque<VecDeque<Untaken>>,
+}
+
+// Prints the totals of a relay with these actions that has stopped, and answers the exit status.
+fn print_totals<R: Wait, W: Sink, E: Sink + Drop>(
+    rt: &R,
+    alloc: Global,
+    serving: &Serving<E>,
+    writer: &mut W,
+    actions: &[Action],
+    stopped: &Stopped,
+) -> u8
+    ensures status { result ≤ 4 }
+    ensures done { result ≡ 0 → WroteTotals actions.now stopped.now.accounts.totals stopped.now.left
+        (W.contents writer.old) (W.contents writer.new) }
+{
+    let numbers = numbers_of(&stopped.accounts, stopped.left.len() as u128);
+    match write_totals(alloc, writer, actions, numbers) {
+        Ok(()) => 0,
+        Err(TotalsFault::NoMemory) => out_of_memory(rt, serving),
+        Err(TotalsFault::Write) => {
+            serving.tell_text(rt, "write failed");
+            4
+        }
+    }
+}
+
+// Keeps what a relay with these inputs still held, and what its connections had read and not taken, and answers the exit status, where it was this
+// before.
+fn keep<R: Wait, T: Store, E: Sink + Drop>(
+    rt: &R,
+    alloc: Global,
+    serving: &Serving<E>,
+    store: &mut T,
+    inputs: &[Input],
+    left: Left,
+    status: u8,
+) -> u8
+    requires status { status ≤ 4 }
+    requires inputs { length inputs.now ≤ 64 }
+    ensures status { result ≤ 4 }
+    ensures done { result ≡ 0 → (status ≡ 0) × (T.wanted store.old ≡ true
+        → Keeps T.kept inputs.now left.held (map (λ rests. rests.items) left.untaken.items) store.old store.new) }
+{
+    if !store.is_wanted() {
+        return status;
+    }
+    match keep_left(alloc, store, inputs, left.held, left.untaken) {
+        Ok(()) => status,
+        Err(KeepFault::NoMemory) => out_of_memory(rt, serving),
+        Err(KeepFault::Write) => {
+            serving.tell_text(rt, "write failed");
+            4
+        }
+    }
+}
+
+/// Prints the totals of a relay of this plan, or why there are none, keeps what it leaves, and answers the exit status.
+pub(crate) fn finish<R: Wait, T: Store, W: Sink, E: Sink + Drop>(
+    rt: &R,
+    alloc: Global,
+    serving: &Serving<E>,
+    store: &mut T,
+    writer: &mut W,
+    plan: &Plan,
+    ended: Ended,
+) -> u8
+    ensures status { result ≤ 4 }
+    ensures done { result ≡ 0 → (guard : Option GuardState) → IfOk ended.answer (λ stopped. IsLeft guard stopped.accounts stopped.left)
+        → EndsWithTotals plan.now.actions guard (W.contents writer.old) (W.contents writer.new)
+        (T.wanted store.old) T.kept plan.now.inputs store.old store.new }
+{
+    plans_are_whole(plan);
+    let Ended { answer, untaken } = ended;
+    match answer {
+        Ok(stopped) => {
+            let status = print_totals(rt, alloc, serving, writer, plan.actions(), &stopped);
+            let left = Left {
+                held: stopped.left,
+                untaken,
+            };
+            keep(rt, alloc, serving, store, plan.inputs(), left, status)
+        }
+        Err(Mismatch) => {
+            serving.tell_text(rt, "totals differ");
+            4
+        }
+    }
+}
+
+/// What the connections of these inputs had read and not taken, of each input; what they leave is told. None where memory runs out.
+pub(crate) fn sum_up<R: Wait, E: Sink + Drop>(
+    rt: &R,
+    alloc: Global,
+    serving: &Serving<E>,
+    inputs: &[Input],
+) -> Option<VecDeque<VecDeque<Untaken>>> {
+    let rests = serving.take_rests(rt, alloc);
+    let sorted = sort(alloc, inputs.len(), rests).ok()?;
+    report_unfinished(rt, alloc, serving, inputs, sorted.counted.as_slice());
+    Some(sorted.untaken)
+}
