@@ -4,15 +4,15 @@ use Rattle.std.specs.Fmt.{decimal}
 use Rattle.sy_wire.specs.Frames.{IsSize, frame, stream}
 use Rattle.sy_wire.proofs.CuttingLaws.{one_frame}
 use Rattle.sy_wire.proofs.OneReading.{no_message}
-use Rattle.sy_runtime.specs.Connections.{Begins, Counts, IsNoText, IsText, Sorted}
+use Rattle.sy_runtime.specs.Connections.{Begins, Counts, IsNoText, IsText, Kept, Sorted}
 
-adds_up : (frames : List (List ℕ)) (unread took : ℕ) → Sorted frames unread took → length frames ≡ unread + took
+adds_up : (frames unread : List (List ℕ)) (took : ℕ) → Sorted frames unread took → length frames ≡ length unread + took
 adds_up _ _ _ Sorted.nothing = refl
 adds_up _ _ _ (Sorted.unread {later} {unread} {took} raw is size sorted) = let e = adds_up later unread took sorted in omega arith
 adds_up _ _ _ (Sorted.message {later} {unread} {took} raw is size sorted) = let e = adds_up later unread took sorted in omega arith
 
-pub counts_add : (bytes : List ℕ) (end : Counts) (rest : List ℕ) → Begins bytes end rest → end.frames ≡ end.unread + end.took
-counts_add bytes end rest b = sym b.count ∙ adds_up b.frames end.unread end.took b.sorted
+pub counts_add : (bytes : List ℕ) (end : Counts) (kept : Kept) (rest : List ℕ) → Begins bytes end kept rest → end.frames ≡ end.unread + end.took
+counts_add bytes end kept rest b = sym b.count ∙ adds_up b.frames b.unread end.took b.sorted ∙ ap (λ n. n + end.took) b.none
 
 -- a text is a message's or none's
 not_both : (raw : List ℕ) → IsNoText raw → IsText raw → ⊥
@@ -25,7 +25,7 @@ same_frame m n ms ns x y size nize e = one_frame m n (stream ms ++ x) (stream ns
     (sym (append_assoc (frame m) (stream ms) x) ∙ e ∙ append_assoc (frame n) (stream ns) y)
 
 -- as many frames at the front of the same bytes are sorted in one way
-one_front : (ms ns : List (List ℕ)) (u t v w : ℕ) (x y : List ℕ) → Sorted ms u t → Sorted ns v w → length ms ≡ length ns → stream ms ++ x ≡ stream ns ++ y
+one_front : (ms ns u : List (List ℕ)) (t : ℕ) (v : List (List ℕ)) (w : ℕ) (x y : List ℕ) → Sorted ms u t → Sorted ns v w → length ms ≡ length ns → stream ms ++ x ≡ stream ns ++ y
     → (u ≡ v) × (t ≡ w) × (x ≡ y)
 one_front _ _ _ _ _ _ x y Sorted.nothing Sorted.nothing same e = (refl, refl, e)
 one_front _ _ _ _ _ _ x y Sorted.nothing (Sorted.unread n is size q) same e = absurd (omega arith)
@@ -33,8 +33,9 @@ one_front _ _ _ _ _ _ x y Sorted.nothing (Sorted.message n is size q) same e = a
 one_front _ _ _ _ _ _ x y (Sorted.unread m is size p) Sorted.nothing same e = absurd (omega arith)
 one_front _ _ _ _ _ _ x y (Sorted.message m is size p) Sorted.nothing same e = absurd (omega arith)
 one_front _ _ _ _ _ _ x y (Sorted.unread {later = ms} {unread = u} {took = t} m is size p) (Sorted.unread {later = ns} {unread = v} {took = w} n js nize q) same e =
-    let parts = one_front ms ns u t v w x y p q (omega arith) (same_frame m n ms ns x y size nize e).1 in
-    (ap (λ k. k + 1) parts.0, parts.1, parts.2)
+    let first = same_frame m n ms ns x y size nize e in
+    let parts = one_front ms ns u t v w x y p q (omega arith) first.1 in
+    (ap (λ k. m ∷ k) parts.0 ∙ ap (λ k. k ∷ v) first.0, parts.1, parts.2)
 one_front _ _ _ _ _ _ x y (Sorted.message {later = ms} {unread = u} {took = t} m is size p) (Sorted.message {later = ns} {unread = v} {took = w} n js nize q) same e =
     let parts = one_front ms ns u t v w x y p q (omega arith) (same_frame m n ms ns x y size nize e).1 in
     (parts.0, ap (λ k. k + 1) parts.1, parts.2)
@@ -49,12 +50,12 @@ same_counts one other f u t =
     ∙ ap (λ n. record { frames = other.frames; unread = n; took = one.took }) u
     ∙ ap (λ n. record { frames = other.frames; unread = other.unread; took = n }) t
 
-pub counted_once : (bytes : List ℕ) (one other : Counts) (rest behind : List ℕ) → one.frames ≡ other.frames → Begins bytes one rest
-    → Begins bytes other behind → (one ≡ other) × (rest ≡ behind)
-counted_once bytes one other rest behind same a b =
-    let parts = one_front a.frames b.frames one.unread one.took other.unread other.took rest behind a.sorted b.sorted (a.count ∙ same ∙ sym b.count)
+pub counted_once : (bytes : List ℕ) (one other : Counts) (kept kept' : Kept) (rest behind : List ℕ) → one.frames ≡ other.frames
+    → Begins bytes one kept rest → Begins bytes other kept' behind → (one ≡ other) × (rest ≡ behind)
+counted_once bytes one other kept kept' rest behind same a b =
+    let parts = one_front a.frames b.frames a.unread one.took b.unread other.took rest behind a.sorted b.sorted (a.count ∙ same ∙ sym b.count)
     (sym a.whole ∙ b.whole) in
-    (same_counts one other same parts.0 parts.1, parts.2)
+    (same_counts one other same (sym a.none ∙ ap length parts.0 ∙ b.none) parts.1, parts.2)
 
 frame_is_some : (m x : List ℕ) → [] ≡ frame m ++ x → ⊥
 frame_is_some m x e =
@@ -62,7 +63,7 @@ frame_is_some m x e =
     omega (arith, length-append (frame m) x, length-append (decimal (length m)) (32 ∷ m), size)
 
 -- bytes that are frames to their end are as many frames in one way
-one_length : (ms ns : List (List ℕ)) (u t v w : ℕ) → Sorted ms u t → Sorted ns v w → stream ms ++ [] ≡ stream ns ++ [] → length ms ≡ length ns
+one_length : (ms ns u : List (List ℕ)) (t : ℕ) (v : List (List ℕ)) (w : ℕ) → Sorted ms u t → Sorted ns v w → stream ms ++ [] ≡ stream ns ++ [] → length ms ≡ length ns
 one_length _ _ _ _ _ _ Sorted.nothing Sorted.nothing e = refl
 one_length _ _ _ _ _ _ Sorted.nothing (Sorted.unread {later = ns} n is size q) e =
     absurd (frame_is_some n (stream ns ++ []) (e ∙ append_assoc (frame n) (stream ns) []))
@@ -81,7 +82,7 @@ one_length _ _ _ _ _ _ (Sorted.message {later = ms} {unread = u} {took = t} m is
 one_length _ _ _ _ _ _ (Sorted.message {later = ms} {unread = u} {took = t} m is size p) (Sorted.message {later = ns} {unread = v} {took = w} n js nize q) e =
     let rests = one_length ms ns u t v w p q (same_frame m n ms ns [] [] size nize e).1 in omega arith
 
-pub counted_to_the_end : (bytes : List ℕ) (one other : Counts) → Begins bytes one [] → Begins bytes other [] → one ≡ other
-counted_to_the_end bytes one other a b =
-    let same = one_length a.frames b.frames one.unread one.took other.unread other.took a.sorted b.sorted (sym a.whole ∙ b.whole) in
-    (counted_once bytes one other [] [] (sym a.count ∙ same ∙ b.count) a b).0
+pub counted_to_the_end : (bytes : List ℕ) (one other : Counts) (kept kept' : Kept) → Begins bytes one kept [] → Begins bytes other kept' [] → one ≡ other
+counted_to_the_end bytes one other kept kept' a b =
+    let same = one_length a.frames b.frames a.unread one.took b.unread other.took a.sorted b.sorted (sym a.whole ∙ b.whole) in
+    (counted_once bytes one other kept kept' [] [] (sym a.count ∙ same ∙ b.count) a b).0

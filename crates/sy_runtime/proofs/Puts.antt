@@ -1,5 +1,5 @@
 -- What the board holds once items were put.
-use Rattle.std.proofs.Common.{◌≡◌, List, [], ◌∷◌, ◌++◌, Some, None, inl, refl, sym, ap, ◌∙◌, append_assoc, true≢false}
+use Rattle.std.proofs.Common.{◌≡◌, List, [], ◌∷◌, ◌++◌, Some, None, inl, refl, sym, ap, ◌∙◌, append_assoc}
 use Rattle.std.specs.Prelude.{Bool, true, false, Option, Err, option_to_list}
 use Rattle.sy_board.specs.relay.Boards.{BoardState}
 use Rattle.sy_runtime.specs.internal.Taking.{BatchPut, IsLast, ItemPut, ItemTaken, ItemsPut, MayEnter, OnePut, SomePut}
@@ -12,13 +12,13 @@ use Rattle.sy_runtime.specs.declared.connection.taking.Pause.TheVariants.{Held, 
 pub item_put : (stays : Bool) (item : Item) (old between new : BoardState) (hand : Hand) → ItemTaken stays item old hand between
     → MayEnter between hand new → stays ≡ true → ItemPut item old hand new
 item_put stays (Message node) old between new hand took enters is = (between, took, enters)
-item_put stays (Other text) old between new hand took enters is = absurd (true≢false (sym is ∙ took.0))
+item_put stays (Other text why) old between new hand took enters is = absurd took
 item_put stays (Unmade text) old between new hand took enters is = absurd took
 
 -- an item after which nothing stays in the hand
 pub item_gone : (item : Item) (old new : BoardState) (hand : Hand) → ItemTaken false item old hand new → ItemPut item old hand new
 item_gone (Message node) old new hand took = (new, took, inl refl)
-item_gone (Other text) old new hand took = took.1
+item_gone (Other text why) old new hand took = absurd took
 item_gone (Unmade text) old new hand took = absurd took
 
 -- whatever holds it, the item was put

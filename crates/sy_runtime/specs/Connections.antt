@@ -1,5 +1,5 @@
 -- What a connection reads, what it counts of that, and how it ends.
-use Rattle.std.specs.Prelude.{◌≡◌, ◌≢◌, ◌≤◌, ◌^◌, ◌⊎◌, ℕ, ◌+◌, List, [], ◌∷◌, ◌++◌, length, map, Option, Result, Ok, Err}
+use Rattle.std.specs.Prelude.{◌≡◌, ◌≢◌, ◌≤◌, ◌^◌, ◌⊎◌, ℕ, ◌+◌, List, [], ◌∷◌, ◌++◌, length, map, Option, None, Some, Result, Ok, Err}
 use Rattle.std.specs.Io.KnownBytes.{Consumes, IsAtEnd}
 use Rattle.sy_wire.specs.Frames.{IsBadLength, IsOpen, IsSize, IsTooLong, stream}
 use Rattle.sy_wire.specs.Messages.{IsFault, IsMessage, Said}
@@ -40,22 +40,39 @@ IsText raw = (said : Said) × IsMessage said × (said.raw ≡ raw)
 abbrev pub IsNoText : List ℕ → Type 0
 IsNoText raw = (code : MsgCode) × (offset : ℕ) × IsFault raw code offset
 
--- Of the texts that these frames carry so many are no message's, and so many are one's.
-pub data Sorted : List (List ℕ) → ℕ → ℕ → Type 0 where
-  nothing : Sorted [] 0 0
+-- Of the texts that these frames carry these are no message's, and so many are one's.
+pub data Sorted : List (List ℕ) → List (List ℕ) → ℕ → Type 0 where
+  nothing : Sorted [] [] 0
   unread :
-      {later : List (List ℕ)} {unread took : ℕ} (raw : List ℕ)
-      → IsNoText raw → IsSize (length raw) → Sorted later unread took → Sorted (raw ∷ later) (unread + 1) took
+      {later unread : List (List ℕ)} {took : ℕ} (raw : List ℕ)
+      → IsNoText raw → IsSize (length raw) → Sorted later unread took → Sorted (raw ∷ later) (raw ∷ unread) took
   message :
-      {later : List (List ℕ)} {unread took : ℕ} (raw : List ℕ)
+      {later unread : List (List ℕ)} {took : ℕ} (raw : List ℕ)
       → IsText raw → IsSize (length raw) → Sorted later unread took → Sorted (raw ∷ later) unread (took + 1)
 
--- The bytes begin with the frames that were counted, each of which is no message or was taken, and go on with the rest.
-pub record Begins (bytes : List ℕ) (end : Counts) (rest : List ℕ) : Type 0 where
+-- what keeps the texts of frames that carry no message had kept first, and these texts more now, where that is known
+abbrev pub KeepsMore : Option (List (List ℕ)) → Option (List (List ℕ)) → List (List ℕ) → Type 0
+KeepsMore None kept more = Unit {0}
+KeepsMore (Some texts) None more = ⊥
+KeepsMore (Some texts) (Some kept) more = kept ≡ texts ++ more
+
+-- what keeps them had kept that before, and this after
+pub record Kept : Type 0 where
+  pub before : Option (List (List ℕ))
+  pub after : Option (List (List ℕ))
+
+abbrev pub since : Option (List (List ℕ)) → Option (List (List ℕ)) → Kept
+since before after = record { before = before; after = after }
+
+-- The bytes begin with the frames that were counted, each of which is no message and was kept, or was taken, and go on with the rest.
+pub record Begins (bytes : List ℕ) (end : Counts) (kept : Kept) (rest : List ℕ) : Type 0 where
   pub frames : List (List ℕ)
+  pub unread : List (List ℕ)
   pub whole : bytes ≡ stream frames ++ rest
   pub count : length frames ≡ end.frames
-  pub sorted : Sorted frames end.unread end.took
+  pub none : length unread ≡ end.unread
+  pub sorted : Sorted frames unread end.took
+  pub keeps : KeepsMore kept.before kept.after unread
 
 -- bytes go on with a fault of a frame, where nothing is known to come behind them; 14 and 15 are never one
 abbrev pub GoesOnWith : FrameFault → List ℕ → Option (List ℕ) → Type 0
@@ -68,7 +85,7 @@ GoesOnWith Failed rest ahead = ⊥
 -- the text that a frame carried
 abbrev pub text_of : Item → List ℕ
 text_of (item.Message node) = node.message.raw
-text_of (item.Other text) = text.items
+text_of (item.Other text fault) = text.items
 text_of (item.Unmade text) = text.items
 
 -- what a connection read and didn't take: the frames that it had gathered, and then what its framer has left
@@ -87,10 +104,10 @@ EndsWith (Err fault.NoMemory) rest ahead failed failed' = Unit {0}
 EndsWith (Err (fault.Frame why)) rest ahead failed failed' = GoesOnWith why rest ahead
 EndsWith (Err fault.TotalsFull) rest ahead failed failed' = Unit {0}
 
--- What a connection read is the frames that it counted and then this rest, and it ended so.
-pub record Connects (answer : Result Finish RunFault) (end : Counts) (rest : List ℕ) (ahead ahead' : Option (List ℕ)) (failed failed' : ℕ) :
-    Type 0 where
+-- What a connection read is the frames that it counted, of which those that carry no message were kept, and then this rest; and it ended so.
+pub record Connects (answer : Result Finish RunFault) (end : Counts) (kept : Kept) (rest : List ℕ) (ahead ahead' : Option (List ℕ))
+    (failed failed' : ℕ) : Type 0 where
   pub read : List ℕ
   pub consumed : Consumes ahead ahead' read
-  pub begins : Begins read end rest
+  pub begins : Begins read end kept rest
   pub ends : EndsWith answer rest ahead' failed failed'

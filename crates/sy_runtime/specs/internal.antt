@@ -1,5 +1,6 @@
 pub mod Held
 pub mod Gathering
+pub mod Keeping
 pub mod Taking
 pub mod Halting
 pub mod Reading

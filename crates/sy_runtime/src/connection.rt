@@ -2,6 +2,7 @@
 
 pub mod gathering;
 pub mod halt;
+pub mod keeping;
 pub mod makings;
 pub mod putting;
 pub mod reading;

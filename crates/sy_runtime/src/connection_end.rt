@@ -83,12 +83,6 @@ impl ConnEnd {
         self.first_unread
     }
 
-    pub(crate) fn set_first_unread(&mut self, first: Option<Unread>)
-        ensures { self.new ≡ self.old }
-    {
-        self.first_unread = first;
-    }
-
     /// Adds what another connection counted, so that one stands for both. Where a count would pass 2^64 - 1 nothing has changed, and
     /// the answer is `TotalsFull`.
     pub fn merge(&mut self, other: &ConnEnd) -> Result<(), RunFault>
@@ -139,12 +133,15 @@ impl ConnEnd {
         self.took += 1;
     }
 
-    pub(crate) fn count_unread(&mut self)
+    pub(crate) fn count_unread(&mut self, why: Unread)
         requires frames { self.old.frames + 1 < 2 ^ 64 }
         requires unread { self.old.unread + 1 < 2 ^ 64 }
         ensures { self.new ≡ record self.old { frames = self.old.frames + 1; unread = self.old.unread + 1 } }
     {
         self.count_frame();
         self.unread += 1;
+        if self.first_unread.is_none() {
+            self.first_unread = Some(why);
+        }
     }
 }

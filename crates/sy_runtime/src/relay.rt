@@ -2,7 +2,7 @@
 ghost use Rattle.std.specs.Prelude.{◌≡◌, IfOk, IfSome};
 ghost use Rattle.std.specs.Arc.{arc_value};
 ghost use Rattle.sy_board.specs.relay.Guards.{MayGuard};
-ghost use Rattle.sy_runtime.specs.Connections.{Connects, rest_of};
+ghost use Rattle.sy_runtime.specs.Connections.{Connects, rest_of, since};
 
 use crate::connection::halt::{Halt, answer_of};
 use crate::connection::taking::Hand;
@@ -11,6 +11,7 @@ use crate::connection_end::{ConnEnd, Finish};
 use crate::fault::RunFault;
 use crate::shared::{Gate, Shared};
 use crate::starting::share;
+use crate::unread_sink::UnreadSink;
 use crate::untaken::Untaken;
 use std::alloc::{AllocError, Global};
 use std::marker::Model;
@@ -76,18 +77,20 @@ impl<G: Gate> Relay<G> {
     }
 
     /// Serves one connection of an input on the caller's thread: reads its frames to the end of its reader, takes their messages, and says what it
-    /// counted, what it had read and not taken, and how it ended. A frame that carries no message is counted, and the connection goes on.
+    /// counted, what it had read and not taken, and how it ended. A frame that carries no message is kept there before anything behind it is taken,
+    /// and counted then.
     ///
     /// It waits while a mark or a full queue holds a message (the full-delay mark without limit, a full queue for queue.timeoutEnqueue, after which
     /// the message is lost, the light-delay mark for 1,000 ms), and while there is no memory; `close` ends each of these waits.
-    pub fn connect<R: Wait + Clock, S: Source>(
+    pub fn connect<R: Wait + Clock, S: Source, U: UnreadSink>(
         &self,
         rt: &R,
         alloc: Global,
         input: u32,
         reader: &mut S,
+        unread: &mut U,
     ) -> (ConnEnd, Untaken, Result<Finish, RunFault>)
-        ensures { Connects result.2 result.0 (rest_of result.1.items.items result.1.framer.left) (S.remaining reader.old) (S.remaining reader.new) (S.faults reader.old) (S.faults reader.new) }
+        ensures { Connects result.2 result.0 (since (U.kept unread.old) (U.kept unread.new)) (rest_of result.1.items.items result.1.framer.left) (S.remaining reader.old) (S.remaining reader.new) (S.faults reader.old) (S.faults reader.new) }
     {
         let mut end = ConnEnd::new();
         let hand = match claim(rt, &self.common.shared, input) {
@@ -95,7 +98,7 @@ impl<G: Gate> Relay<G> {
             Err(halt) => return (end, Untaken::new(alloc), answer_of(halt)),
         };
         let Common { shared, gate } = &*self.common;
-        let (untaken, answer) = serve(rt, alloc, shared, gate, hand, reader, &mut end);
+        let (untaken, answer) = serve(rt, alloc, shared, gate, unread, hand, reader, &mut end);
         (end, untaken, answer)
     }
 

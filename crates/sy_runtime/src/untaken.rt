@@ -5,15 +5,15 @@ ghost use Rattle.sy_runtime.specs.Connections.{text_of};
 use std::alloc::Global;
 use std::collections::VecDeque;
 use sy_chain::Node;
-use sy_wire::Framer;
+use sy_wire::{Framer, MsgFault};
 
 /// What a connection has of a frame that it read.
 #[derive(Drop)]
 pub enum Item {
     /// An entry of its message.
     Message(Node),
-    /// Its text, which is no message.
-    Other(Vec<u8>),
+    /// Its text, which is no message, and why it is none.
+    Other(Vec<u8>, MsgFault),
     /// Its text, for whose message there was no entry.
     Unmade(Vec<u8>),
 }
@@ -25,7 +25,7 @@ impl Item {
     {
         match self {
             Item::Message(node) => node.message().raw(),
-            Item::Other(text) | Item::Unmade(text) => text.as_slice(),
+            Item::Other(text, _) | Item::Unmade(text) => text.as_slice(),
         }
     }
 }

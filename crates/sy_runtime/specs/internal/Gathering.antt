@@ -3,7 +3,7 @@ use Rattle.std.specs.Prelude.{◌≡◌, ℕ, List, false}
 use Rattle.sy_wire.specs.Frames.{Held, IsBadLength, IsOpen, IsTooLong}
 use Rattle.sy_wire.specs.declared.framer.FrameFault.{FrameFault}
 use Rattle.sy_wire.specs.declared.framer.FrameFault.TheVariants.{BadLength, TooLong}
-use Rattle.sy_runtime.specs.Connections.{Counts}
+use Rattle.sy_runtime.specs.Connections.{Counts, Kept}
 use Rattle.sy_runtime.specs.internal.Held.{Holds}
 use Rattle.sy_runtime.specs.declared.untaken.Item.{Item}
 use Rattle.sy_runtime.specs.declared.connection.gathering.Gathered.{Gathered}
@@ -16,8 +16,8 @@ IsAtFront TooLong left = IsTooLong left
 IsAtFront _ left = ⊥
 
 -- by what ended the gathering
-abbrev pub GatherIs : Gathered → List ℕ → Counts → List Item → Held → Type 0
-GatherIs Open read end batch held = Holds read end batch held.left × (held.has_failed ≡ false) × IsOpen held.left
-GatherIs Full read end batch held = Holds read end batch held.left × (held.has_failed ≡ false)
-GatherIs (Fault fault) read end batch held = Holds read end batch held.left × IsAtFront fault held.left
-GatherIs NoMemory read end batch held = Holds read end batch held.left × (held.has_failed ≡ false)
+abbrev pub GatherIs : Gathered → List ℕ → Counts → Kept → List Item → Held → Type 0
+GatherIs Open read end kept batch held = Holds read end kept batch held.left × (held.has_failed ≡ false) × IsOpen held.left
+GatherIs Full read end kept batch held = Holds read end kept batch held.left × (held.has_failed ≡ false)
+GatherIs (Fault fault) read end kept batch held = Holds read end kept batch held.left × IsAtFront fault held.left
+GatherIs NoMemory read end kept batch held = Holds read end kept batch held.left × (held.has_failed ≡ false)

@@ -3,7 +3,7 @@ use Rattle.std.specs.Prelude.{◌≡◌, ℕ, List, [], ◌∷◌, ◌++◌, len
 use Rattle.sy_chain.specs.Entries.{Entry}
 use Rattle.sy_wire.specs.Frames.{IsSize, stream}
 use Rattle.sy_wire.specs.Messages.{IsFault, IsMessage}
-use Rattle.sy_runtime.specs.Connections.{Counts, IsNoText, Sorted}
+use Rattle.sy_runtime.specs.Connections.{Counts, KeepsMore, Kept, Sorted}
 use Rattle.sy_runtime.specs.declared.untaken.Item.{Item}
 use Rattle.sy_runtime.specs.declared.untaken.Item.TheVariants as item
 use Rattle.sy_runtime.specs.declared.connection.makings.Renewal.{Renewal}
@@ -12,7 +12,7 @@ use Rattle.sy_runtime.specs.declared.connection.makings.Renewal.TheVariants as r
 -- what stands for a text: an entry of its message, itself where it is no message, or itself where there was no entry for it
 abbrev pub IsItem : List ℕ → Item → Type 0
 IsItem raw (item.Message node) = IsMessage node.message × (node.message.raw ≡ raw)
-IsItem raw (item.Other text) = IsNoText raw × (text.items ≡ raw)
+IsItem raw (item.Other text fault) = IsFault raw fault.code fault.offset × (text.items ≡ raw)
 IsItem raw (item.Unmade text) = text.items ≡ raw
 
 -- what came of a text and an entry; where it is none of its message it leaves the text as it was
@@ -30,10 +30,13 @@ pub data Stand : List (List ℕ) → List Item → Type 0 where
 
 -- What was read is the frames that were counted, those of the batch, and then what the framer has left. A frame that is no message stands in the
 -- batch at its place: counted before the message in front of it is taken, it would be none of the first frames.
-pub record Holds (read : List ℕ) (end : Counts) (batch : List Item) (left : List ℕ) : Type 0 where
+pub record Holds (read : List ℕ) (end : Counts) (kept : Kept) (batch : List Item) (left : List ℕ) : Type 0 where
   pub frames : List (List ℕ)
+  pub unread : List (List ℕ)
   pub pending : List (List ℕ)
   pub whole : read ≡ stream frames ++ (stream pending ++ left)
   pub count : length frames ≡ end.frames
-  pub sorted : Sorted frames end.unread end.took
+  pub none : length unread ≡ end.unread
+  pub sorted : Sorted frames unread end.took
+  pub keeps : KeepsMore kept.before kept.after unread
   pub stand : Stand pending batch

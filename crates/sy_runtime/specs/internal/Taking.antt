@@ -5,7 +5,7 @@ use Rattle.sy_board.specs.declared.relay.answers.Entry.TheVariants as entry
 use Rattle.sy_board.specs.relay.Boards.{BoardState, EnterIs, TakeIs}
 use Rattle.sy_chain.specs.Entries.{Entry}
 use Rattle.sy_wire.specs.Messages.{Said}
-use Rattle.sy_runtime.specs.Connections.{Counts}
+use Rattle.sy_runtime.specs.Connections.{Counts, Kept}
 use Rattle.sy_runtime.specs.internal.Held.{Holds}
 use Rattle.sy_runtime.specs.declared.untaken.Item.{Item}
 use Rattle.sy_runtime.specs.declared.untaken.Item.TheVariants as item
@@ -14,14 +14,14 @@ use Rattle.sy_runtime.specs.declared.connection.taking.Pause.{Pause}
 use Rattle.sy_runtime.specs.declared.connection.taking.Pause.TheVariants.{Held, TotalsFull, Hands, NoMemory}
 
 -- what it holds once an item was taken, or stands first still
-abbrev pub TakenIs : Result Bool (Pause × Item) → List ℕ → Counts → List Item → List ℕ → Type 0
-TakenIs (Ok stays) read end later left = Holds read end later left
-TakenIs (Err e) read end later left = Holds read end (e.1 ∷ later) left
+abbrev pub TakenIs : Result Bool (Pause × Item) → List ℕ → Counts → Kept → List Item → List ℕ → Type 0
+TakenIs (Ok stays) read end kept later left = Holds read end kept later left
+TakenIs (Err e) read end kept later left = Holds read end kept (e.1 ∷ later) left
 
 -- the same, of one that goes on
-abbrev pub PutIs : Result ⊤ (Pause × Option Item) → List ℕ → Counts → List Item → List ℕ → Type 0
-PutIs (Ok _) read end later left = Holds read end later left
-PutIs (Err e) read end later left = Holds read end (option_to_list e.1 ++ later) left
+abbrev pub PutIs : Result ⊤ (Pause × Option Item) → List ℕ → Counts → Kept → List Item → List ℕ → Type 0
+PutIs (Ok _) read end kept later left = Holds read end kept later left
+PutIs (Err e) read end kept later left = Holds read end kept (option_to_list e.1 ++ later) left
 
 -- after these a connection takes nothing more
 abbrev pub IsLast : Pause → Type 0
@@ -45,16 +45,29 @@ Enters old hand new = EnterIs entry.Entered old hand.input hand.number new
 abbrev pub MayEnter : BoardState → Hand → BoardState → Type 0
 MayEnter old hand new = (new ≡ old) ⊎ Enters old hand new
 
--- the board after an item: its message came to the hand, where it may stay; one that is no message changes nothing
+-- a frame that carries no message is none for the board
+abbrev pub HasMessage : Item → Type 0
+HasMessage (item.Message node) = Unit {0}
+HasMessage (item.Other text fault) = ⊥
+HasMessage (item.Unmade text) = Unit {0}
+
+-- nothing is left but from the first frame on that carries no message
+abbrev pub IsUpToUnread : List Item → Type 0
+IsUpToUnread [] = Unit {0}
+IsUpToUnread (item.Message node ∷ later) = ⊥
+IsUpToUnread (item.Other text fault ∷ later) = Unit {0}
+IsUpToUnread (item.Unmade text ∷ later) = ⊥
+
+-- the board after an item: its message came to the hand, where it may stay
 abbrev pub ItemTaken : Bool → Item → BoardState → Hand → BoardState → Type 0
 ItemTaken stays (item.Message node) old hand new = Takes old hand node.message new
-ItemTaken stays (item.Other text) old hand new = (stays ≡ false) × (new ≡ old)
+ItemTaken stays (item.Other text fault) old hand new = ⊥
 ItemTaken stays (item.Unmade text) old hand new = ⊥
 
 -- the same, where its message may have gone on
 abbrev pub ItemPut : Item → BoardState → Hand → BoardState → Type 0
 ItemPut (item.Message node) old hand new = (between : BoardState) × Takes old hand node.message between × MayEnter between hand new
-ItemPut (item.Other text) old hand new = new ≡ old
+ItemPut (item.Other text fault) old hand new = ⊥
 ItemPut (item.Unmade text) old hand new = ⊥
 
 -- the board after these items, one after the other

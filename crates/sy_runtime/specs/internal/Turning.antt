@@ -1,7 +1,7 @@
 -- What a connection holds after a batch, and after a turn.
 use Rattle.std.specs.Prelude.{◌≡◌, ℕ, Bool, List, [], Option, None, Some, Result, Ok, Err, false, ⊤}
 use Rattle.sy_wire.specs.Frames.{Held, IsOpen}
-use Rattle.sy_runtime.specs.Connections.{Begins, Connects, Counts, rest_of}
+use Rattle.sy_runtime.specs.Connections.{Begins, Connects, Counts, Kept, rest_of}
 use Rattle.sy_runtime.specs.internal.Gathering.{IsAtFront}
 use Rattle.sy_runtime.specs.internal.Halting.{halted_at}
 use Rattle.sy_runtime.specs.internal.Reading.{MayGoOn}
@@ -36,29 +36,29 @@ IsEarly (Err fault.NoMemory) rest = Unit {0}
 IsEarly (Err fault.TotalsFull) rest = Unit {0}
 
 -- the batch is taken, and what the framer has left follows what was counted
-pub record Goes (read : List ℕ) (end : Counts) (held : Held) (batch : List Item) : Type 0 where
-  pub begins : Begins read end held.left
+pub record Goes (read : List ℕ) (end : Counts) (kept : Kept) (held : Held) (batch : List Item) : Type 0 where
+  pub begins : Begins read end kept held.left
   pub good : held.has_failed ≡ false
   pub empty : batch ≡ []
 
 -- what it holds after a batch, or that it may answer so
-abbrev pub RoundIs : Round → List ℕ → Counts → Held → List Item → Type 0
-RoundIs round.Reads read end held batch = Goes read end held batch × IsOpen held.left
-RoundIs round.Again read end held batch = Goes read end held batch
-RoundIs round.NoMemory read end held batch = Goes read end held batch
-RoundIs (round.Over answer) read end held batch = Begins read end (rest_of batch held.left) × IsEarly answer (rest_of batch held.left)
+abbrev pub RoundIs : Round → List ℕ → Counts → Kept → Held → List Item → Type 0
+RoundIs round.Reads read end kept held batch = Goes read end kept held batch × IsOpen held.left
+RoundIs round.Again read end kept held batch = Goes read end kept held batch
+RoundIs round.NoMemory read end kept held batch = Goes read end kept held batch
+RoundIs (round.Over answer) read end kept held batch = Begins read end kept (rest_of batch held.left) × IsEarly answer (rest_of batch held.left)
 
 -- What a connection holds between its turns.
-pub record Turns (ahead ahead' : Option (List ℕ)) (failed failed' : ℕ) (end : Counts) (held : Held) (is_over : Bool) (batch : List Item) :
-    Type 0 where
-  pub goes : MayGoOn ahead ahead' failed failed' end held is_over
+pub record Turns (ahead ahead' : Option (List ℕ)) (failed failed' : ℕ) (end : Counts) (kept : Kept) (held : Held) (is_over : Bool)
+    (batch : List Item) : Type 0 where
+  pub goes : MayGoOn ahead ahead' failed failed' end kept held is_over
   pub empty : batch ≡ []
 
 -- what it holds after a turn, or how it ended
 abbrev pub TurnIs :
-    Option (Result Finish RunFault) → Option (List ℕ) → Option (List ℕ) → ℕ → ℕ → Counts → Held → Bool → List Item → Type 0
-TurnIs None ahead ahead' failed failed' end held is_over batch = Turns ahead ahead' failed failed' end held is_over batch
-TurnIs (Some answer) ahead ahead' failed failed' end held is_over batch = Connects answer end (rest_of batch held.left) ahead ahead' failed failed'
+    Option (Result Finish RunFault) → Option (List ℕ) → Option (List ℕ) → ℕ → ℕ → Counts → Kept → Held → Bool → List Item → Type 0
+TurnIs None ahead ahead' failed failed' end kept held is_over batch = Turns ahead ahead' failed failed' end kept held is_over batch
+TurnIs (Some answer) ahead ahead' failed failed' end kept held is_over batch = Connects answer end kept (rest_of batch held.left) ahead ahead' failed failed'
 
 -- what it counted before the first frame
 abbrev pub nothing_counted : Counts

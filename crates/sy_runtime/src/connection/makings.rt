@@ -19,8 +19,6 @@ pub(crate) struct Makings {
     pub(crate) used: Vec<Node>,
     // an entry whose message has no other owner, for a message that no used one can be made to
     fresh: Option<Node>,
-    // why the first text that was no message is none
-    pub(crate) fault: Option<MsgFault>,
 }
 
 // What came of a text and an entry.
@@ -67,7 +65,6 @@ impl Makings {
         Makings {
             used: Vec::new(alloc),
             fresh: None,
-            fault: None,
         }
     }
 
@@ -77,13 +74,6 @@ impl Makings {
             self.fresh = blank_entry(alloc)?;
         }
         Ok(())
-    }
-
-    // Keeps why a text is no message, where it is the first.
-    fn keep_fault(&mut self, fault: MsgFault) {
-        if self.fault.is_none() {
-            self.fault = Some(fault);
-        }
     }
 
     // The item of a text, in the memory of the fresh entry, where that is there.
@@ -97,8 +87,7 @@ impl Makings {
             Renewal::Message => Item::Message(node),
             Renewal::NoMessage(fault) => {
                 self.fresh = Some(node);
-                self.keep_fault(fault);
-                Item::Other(take_text(alloc, raw))
+                Item::Other(take_text(alloc, raw), fault)
             }
             Renewal::Shared => Item::Unmade(take_text(alloc, raw)),
         }
@@ -117,8 +106,7 @@ impl Makings {
             Renewal::NoMessage(fault) => {
                 // (the room that it had is there)
                 let _ = self.used.push(node);
-                self.keep_fault(fault);
-                Item::Other(take_text(alloc, raw))
+                Item::Other(take_text(alloc, raw), fault)
             }
             Renewal::Shared => self.item_of_fresh(alloc, raw),
         }

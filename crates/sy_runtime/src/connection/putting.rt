@@ -1,12 +1,15 @@
 //! A batch goes into the board under the lock.
-ghost use Rattle.std.specs.Prelude.{◌≡◌, [], ℕ, List, OnOk};
+ghost use Rattle.std.specs.Prelude.{◌≡◌, [], ℕ, List, Option, OnOk};
+ghost use Rattle.sy_runtime.specs.Connections.{since};
 ghost use Rattle.sy_runtime.specs.internal.Held.{Holds};
 
 use crate::connection::halt::Halt;
+use crate::connection::keeping::keep_unread;
 use crate::connection::taking::{Hand, Pause, put_some};
 use crate::connection_end::ConnEnd;
 use crate::losing::{Moved, tell_moved};
 use crate::shared::{Gate, Shared};
+use crate::unread_sink::UnreadSink;
 use crate::untaken::Item;
 use crate::waiting::{Waiting, wait_and_tell};
 use std::collections::VecDeque;
@@ -25,19 +28,41 @@ fn halt_at(pause: Pause) -> Halt {
     }
 }
 
-/// Puts a batch in, however long it waits. It looks whether the relay closes with an empty batch too.
-pub(crate) fn put<R: Wait + Clock, G: Gate>(
+// Has those frames kept that stand first and carry no message, and tells how many.
+fn keep_and_tell<R: Wait + Clock, G: Gate, U: UnreadSink>(
+    rt: &R,
+    gate: &G,
+    sink: &mut U,
+    input: u32,
+    batch: &mut VecDeque<Item>,
+    end: &mut ConnEnd,
+) -> Result<(), Halt>
+    ensures { (read left : List ℕ) (before : Option (List (List ℕ))) →
+        Holds read end.old (since before (U.kept sink.old)) batch.old.items left →
+        Holds read end.new (since before (U.kept sink.new)) batch.new.items left }
+{
+    let before = Moved::of(end, 0);
+    let answer = keep_unread(rt, sink, batch, end);
+    tell_moved(gate, input, Moved::of(end, 0).since(before));
+    answer
+}
+
+/// Puts a batch in, however long it waits, and has those frames kept that carry no message, each before anything behind it is taken. It looks
+/// whether the relay closes with an empty batch too.
+pub(crate) fn put<R: Wait + Clock, G: Gate, U: UnreadSink>(
     rt: &R,
     shared: &Shared,
     gate: &G,
+    sink: &mut U,
     hand: Hand,
     batch: &mut VecDeque<Item>,
     end: &mut ConnEnd,
     is_in_hand: &mut bool,
     used: &mut Vec<Node>,
 ) -> Result<(), Halt>
-    ensures kept { (read left : List ℕ) → Holds read end.old batch.old.items left →
-        Holds read end.new batch.new.items left }
+    ensures kept { (read left : List ℕ) (before : Option (List (List ℕ))) →
+        Holds read end.old (since before (U.kept sink.old)) batch.old.items left →
+        Holds read end.new (since before (U.kept sink.new)) batch.new.items left }
     ensures all { OnOk result (batch.new.items ≡ []) }
 {
     let mut locked = shared.locked.lock(rt);
@@ -51,16 +76,22 @@ pub(crate) fn put<R: Wait + Clock, G: Gate>(
         };
         let put = put_some(board, hand, batch, end, is_in_hand, used);
         let moved = Moved::of(end, locked.lost_in()).since(before);
-        let Err(Pause::Held(hold)) = put else {
-            mem::swap(&mut locked.used, used);
-            drop(locked);
+        if let Err(Pause::Held(hold)) = put {
             shared.work.notify_all();
-            tell_moved(gate, hand.input, moved);
-            return put.map_err(halt_at);
-        };
+            let waiting = Waiting { hand, hold, moved };
+            locked = wait_and_tell(rt, shared, gate, locked, waiting, is_in_hand);
+            continue;
+        }
+        mem::swap(&mut locked.used, used);
+        drop(locked);
         shared.work.notify_all();
-        let waiting = Waiting { hand, hold, moved };
-        locked = wait_and_tell(rt, shared, gate, locked, waiting, is_in_hand);
+        tell_moved(gate, hand.input, moved);
+        put.map_err(halt_at)?;
+        keep_and_tell(rt, gate, sink, hand.input, batch, end)?;
+        if batch.is_empty() {
+            return Ok(());
+        }
+        locked = shared.locked.lock(rt);
     }
     unreachable!()
 }

@@ -3,9 +3,10 @@ ghost use Rattle.std.specs.Prelude.{◌≡◌, ◌+◌, ◌<◌, ◌∷◌, ◌+
 ghost use Rattle.std.specs.VecDeque.{deque_capacity, deque_len};
 ghost use Rattle.sy_board.specs.relay.Plans.{input_at};
 ghost use Rattle.sy_board.specs.relay.Steps.{IsHand, IsOfInput};
+ghost use Rattle.sy_runtime.specs.Connections.{Kept as KeptTexts};
 ghost use Rattle.sy_runtime.specs.declared.untaken.Item.{Item as Kept};
 ghost use Rattle.sy_runtime.specs.internal.Held.{Holds};
-ghost use Rattle.sy_runtime.specs.internal.Taking.{Enters, IsLast, ItemTaken, MayEnter, OnePut, PutIs, SomePut, TakenIs, Takes};
+ghost use Rattle.sy_runtime.specs.internal.Taking.{Enters, HasMessage, IsLast, IsUpToUnread, ItemTaken, MayEnter, OnePut, PutIs, SomePut, TakenIs, Takes};
 
 use crate::connection::used::keep;
 use crate::connection_end::ConnEnd;
@@ -138,9 +139,9 @@ fn enter_left(board: &mut Board, hand: Hand, is_in_hand: &mut bool) -> Result<()
     }
 }
 
-// Takes one item: it is counted where it is no message, or once it was taken. The answer is whether its message stays in the hand; or why
+// Takes one item, which has a message, and counts it then. The answer is whether its message stays in the hand; or why
 // the item wasn't taken, and the item.
-#[tactic(auto, using(crate::proofs::Taken::took_one, crate::proofs::Taken::unread_one, crate::proofs::Taken::back))]
+#[tactic(auto, using(crate::proofs::Taken::took_one, crate::proofs::Taken::back))]
 fn take_item(
     board: &mut Board,
     hand: Hand,
@@ -148,9 +149,10 @@ fn take_item(
     end: &mut ConnEnd,
     used: &mut Vec<Node>,
 ) -> Result<bool, (Pause, Item)>
-    requires { IsHand board.old.plan hand.input hand.number }
-    ensures kept { (read left : List ℕ) (later : List Kept) → Holds read end.old (item ∷ later) left →
-        TakenIs result read end.new later left }
+    requires hand { IsHand board.old.plan hand.input hand.number }
+    requires has { HasMessage item }
+    ensures kept { (read left : List ℕ) (told : KeptTexts) (later : List Kept) → Holds read end.old told (item ∷ later) left →
+        TakenIs result read end.new told later left }
     ensures ok { IfOk result (λ stays. ItemTaken stays item board.old hand board.new) }
     ensures last { IfErr result (λ e. IsLast e.0) }
     ensures err { OnErr result (board.new ≡ board.old) }
@@ -161,10 +163,7 @@ fn take_item(
         return Err((Pause::TotalsFull, item));
     }
     match item {
-        Item::Other(_) => {
-            end.count_unread();
-            Ok(false)
-        }
+        Item::Other(..) => unreachable!(),
         Item::Unmade(text) => Err((Pause::NoMemory, Item::Unmade(text))),
         Item::Message(node) => match take(board, hand, node, used) {
             Ok(stays) => {
@@ -185,9 +184,10 @@ fn put_one(
     is_in_hand: &mut bool,
     used: &mut Vec<Node>,
 ) -> Result<(), (Pause, Option<Item>)>
-    requires { IsHand board.old.plan hand.input hand.number }
-    ensures kept { (read left : List ℕ) (later : List Kept) → Holds read end.old (item ∷ later) left →
-        PutIs result read end.new later left }
+    requires hand { IsHand board.old.plan hand.input hand.number }
+    requires has { HasMessage item }
+    ensures kept { (read left : List ℕ) (told : KeptTexts) (later : List Kept) → Holds read end.old told (item ∷ later) left →
+        PutIs result read end.new told later left }
     ensures put { OnePut result item board.old hand board.new }
     ensures taken { board.new.totals.taken + end.old.took ≡ board.old.totals.taken + end.new.took }
     ensures plan { board.new.plan ≡ board.old.plan }
@@ -217,7 +217,7 @@ fn put_back(batch: &mut VecDeque<Item>, item: Option<Item>)
     }
 }
 
-/// Takes a batch, item after item, up to where the connection has to pause. `is_in_hand` says whether its last
+/// Takes a batch, item after item, up to the first frame that carries no message, or to where the connection has to pause. `is_in_hand` says whether its last
 /// message is still in the hand, where it goes on from there.
 #[tactic(auto, using(crate::proofs::Puts::some_put, crate::proofs::Puts::first_put))]
 pub(crate) fn put_some(
@@ -228,9 +228,9 @@ pub(crate) fn put_some(
     is_in_hand: &mut bool,
     used: &mut Vec<Node>,
 ) -> Result<(), Pause>
-    ensures kept { (read left : List ℕ) → Holds read end.old batch.old.items left →
-        Holds read end.new batch.new.items left }
-    ensures all { OnOk result (batch.new.items ≡ []) }
+    ensures kept { (read left : List ℕ) (told : KeptTexts) → Holds read end.old told batch.old.items left →
+        Holds read end.new told batch.new.items left }
+    ensures all { OnOk result (IsUpToUnread batch.new.items) }
     ensures put { SomePut result batch.old.items batch.new.items board.old hand board.new }
     ensures taken { board.new.totals.taken + end.old.took ≡ board.old.totals.taken + end.new.took }
     ensures plan { board.new.plan ≡ board.old.plan }
@@ -243,6 +243,10 @@ pub(crate) fn put_some(
         Err(pause) => return Err(pause),
     }
     while let Some(item) = batch.pop_front() {
+        if let Item::Other(..) = item {
+            batch.push_front_reserved(item);
+            return Ok(());
+        }
         match put_one(board, hand, item, end, is_in_hand, used) {
             Ok(()) => {}
             Err((pause, item)) => {

@@ -1,6 +1,6 @@
 //! The turns of a connection: a batch, and a read where no whole frame is left.
 ghost use Rattle.std.specs.Prelude.{◌≡◌, [], ℕ, List, Option, Err, IfSome, false};
-ghost use Rattle.sy_runtime.specs.Connections.{Begins, Connects, rest_of};
+ghost use Rattle.sy_runtime.specs.Connections.{Begins, Connects, rest_of, since};
 ghost use Rattle.sy_runtime.specs.internal.Turning.{nothing_counted, RoundIs, TurnIs, Turns, round_of};
 
 use crate::connection::gathering::{Gathered, gather};
@@ -9,9 +9,10 @@ use crate::connection::makings::Makings;
 use crate::connection::putting::put;
 use crate::connection::reading::{Step, read_more};
 use crate::connection::taking::Hand;
-use crate::connection_end::{ConnEnd, Finish, Unread};
+use crate::connection_end::{ConnEnd, Finish};
 use crate::fault::RunFault;
 use crate::shared::{Gate, Shared};
+use crate::unread_sink::UnreadSink;
 use crate::untaken::{Item, Untaken};
 use crate::waiting::wait_for_memory;
 use std::alloc::Global;
@@ -45,7 +46,6 @@ struct Intake {
     is_over: bool,
     // whether a message is in the connection's hand
     is_in_hand: bool,
-    first_unread: Option<Unread>,
 }
 
 impl Intake {
@@ -61,28 +61,8 @@ impl Intake {
             batch: VecDeque::new(alloc),
             is_over: false,
             is_in_hand: false,
-            first_unread: None,
         }
     }
-}
-
-// The first frame of a batch that carries no message, where so many were counted before it.
-fn frame_of(batch: &VecDeque<Item>, counted: u64) -> u64 {
-    let mut frame = counted;
-    for item in batch {
-        frame = frame.saturating_add(1);
-        if matches!(item, Item::Other(_)) {
-            return frame;
-        }
-    }
-    frame
-}
-
-// The first frame that carries no message, where it isn't known yet and is in this batch.
-fn unread_of(makings: &Makings, batch: &VecDeque<Item>, end: &ConnEnd) -> Option<Unread> {
-    let fault = makings.fault?;
-    let frame = frame_of(batch, end.frames());
-    Some(Unread { frame, fault })
 }
 
 // What comes of a batch whose gathering ended so, and which was put so.
@@ -101,19 +81,21 @@ fn sum_up(stop: Gathered, put: Result<(), Halt>) -> Round
 }
 
 // Takes in whatever whole frames the framer holds, up to a batch.
-fn take_in<R: Wait + Clock, G: Gate>(
+fn take_in<R: Wait + Clock, G: Gate, U: UnreadSink>(
     rt: &R,
     alloc: Global,
     shared: &Shared,
     gate: &G,
+    sink: &mut U,
     hand: Hand,
     intake: &mut Intake,
     end: &mut ConnEnd,
 ) -> Round
     requires good { intake.old.framer.has_failed ≡ false }
     requires empty { intake.old.batch.items ≡ [] }
-    ensures kept { (read : List ℕ) → Begins read end.old intake.old.framer.left →
-        RoundIs result read end.new intake.new.framer intake.new.batch.items }
+    ensures kept { (read : List ℕ) (before : Option (List (List ℕ))) →
+        Begins read end.old (since before (U.kept sink.old)) intake.old.framer.left →
+        RoundIs result read end.new (since before (U.kept sink.new)) intake.new.framer intake.new.batch.items }
     ensures same { intake.new.is_over ≡ intake.old.is_over }
 {
     let Intake {
@@ -122,17 +104,14 @@ fn take_in<R: Wait + Clock, G: Gate>(
         makings,
         batch,
         is_in_hand,
-        first_unread,
         ..
     } = intake;
     let stop = gather(alloc, framer, raw, makings, batch, BATCH);
-    if first_unread.is_none() {
-        *first_unread = unread_of(makings, batch, end);
-    }
     let put = put(
         rt,
         shared,
         gate,
+        sink,
         hand,
         batch,
         end,
@@ -154,23 +133,24 @@ fn wait<R: Wait + Clock>(rt: &R, shared: &Shared) -> Option<Result<Finish, RunFa
 }
 
 // A batch, and a read where no whole frame is left; the answer where it is over.
-fn turn<R: Wait + Clock, G: Gate, S: Source>(
+fn turn<R: Wait + Clock, G: Gate, U: UnreadSink, S: Source>(
     rt: &R,
     alloc: Global,
     shared: &Shared,
     gate: &G,
+    sink: &mut U,
     hand: Hand,
     reader: &mut S,
     intake: &mut Intake,
     end: &mut ConnEnd,
 ) -> Option<Result<Finish, RunFault>>
-    requires turns { (ahead : Option (List ℕ)) × (failed : ℕ) ×
-        Turns ahead (S.remaining reader.old) failed (S.faults reader.old) end.old intake.old.framer intake.old.is_over intake.old.batch.items }
-    ensures kept { (ahead : Option (List ℕ)) (failed : ℕ) →
-        Turns ahead (S.remaining reader.old) failed (S.faults reader.old) end.old intake.old.framer intake.old.is_over intake.old.batch.items →
-        TurnIs result ahead (S.remaining reader.new) failed (S.faults reader.new) end.new intake.new.framer intake.new.is_over intake.new.batch.items }
+    requires turns { (ahead : Option (List ℕ)) × (failed : ℕ) × (before : Option (List (List ℕ))) ×
+        Turns ahead (S.remaining reader.old) failed (S.faults reader.old) end.old (since before (U.kept sink.old)) intake.old.framer intake.old.is_over intake.old.batch.items }
+    ensures kept { (ahead : Option (List ℕ)) (failed : ℕ) (before : Option (List (List ℕ))) →
+        Turns ahead (S.remaining reader.old) failed (S.faults reader.old) end.old (since before (U.kept sink.old)) intake.old.framer intake.old.is_over intake.old.batch.items →
+        TurnIs result ahead (S.remaining reader.new) failed (S.faults reader.new) end.new (since before (U.kept sink.new)) intake.new.framer intake.new.is_over intake.new.batch.items }
 {
-    match take_in(rt, alloc, shared, gate, hand, intake, end) {
+    match take_in(rt, alloc, shared, gate, sink, hand, intake, end) {
         Round::Over(answer) => Some(answer),
         Round::Again => None,
         Round::NoMemory => wait(rt, shared),
@@ -184,25 +164,35 @@ fn turn<R: Wait + Clock, G: Gate, S: Source>(
 
 /// Serves a connection that has a hand, which is given back with nothing in it, or kept with a message. The answer is what it read and didn't
 /// take, and how it ended.
-pub(crate) fn serve<R: Wait + Clock, G: Gate, S: Source>(
+pub(crate) fn serve<R: Wait + Clock, G: Gate, U: UnreadSink, S: Source>(
     rt: &R,
     alloc: Global,
     shared: &Shared,
     gate: &G,
+    sink: &mut U,
     hand: Hand,
     reader: &mut S,
     end: &mut ConnEnd,
 ) -> (Untaken, Result<Finish, RunFault>)
     requires { end.old ≡ nothing_counted }
-    ensures { Connects result.1 end.new (rest_of result.0.items.items result.0.framer.left) (S.remaining reader.old) (S.remaining reader.new) (S.faults reader.old) (S.faults reader.new) }
+    ensures { Connects result.1 end.new (since (U.kept sink.old) (U.kept sink.new)) (rest_of result.0.items.items result.0.framer.left) (S.remaining reader.old) (S.remaining reader.new) (S.faults reader.old) (S.faults reader.new) }
 {
     let mut intake = Intake::new(alloc);
     for _ in rt.forever() {
-        if let Some(answer) = turn(rt, alloc, shared, gate, hand, reader, &mut intake, end) {
+        if let Some(answer) = turn(
+            rt,
+            alloc,
+            shared,
+            gate,
+            sink,
+            hand,
+            reader,
+            &mut intake,
+            end,
+        ) {
             if !intake.is_in_hand {
                 shared.locked.lock(rt).give_back(hand);
             }
-            end.set_first_unread(intake.first_unread);
             let Intake { batch, framer, .. } = intake;
             let untaken = Untaken {
                 items: batch,

@@ -1,9 +1,9 @@
 use Rattle.std.proofs.Common.{◌≡◌, false, List, ℕ}
-use Rattle.sy_runtime.specs.Connections.{Counts}
+use Rattle.sy_runtime.specs.Connections.{Counts, Kept}
 use Rattle.sy_runtime.specs.internal.Held.{Holds}
 use Rattle.sy_runtime.proofs.connection.gathering.gather.Given as goal
 
 abbrev pub invariant-loop : goal.invariant-loop
 invariant-loop l =
-    ((read : List ℕ) (end : Counts) → Holds read end l.fn.batch.items l.fn.framer.left → Holds read end l.batch.items l.framer.left)
+    ((read : List ℕ) (end : Counts) (told : Kept) → Holds read end told l.fn.batch.items l.fn.framer.left → Holds read end told l.batch.items l.framer.left)
     × (l.framer.has_failed ≡ false)

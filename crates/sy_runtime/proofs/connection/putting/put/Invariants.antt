@@ -1,4 +1,6 @@
 use Rattle.std.proofs.Common.{List, ℕ}
+use Rattle.std.specs.Prelude.{Option}
+use Rattle.sy_runtime.specs.Connections.{since}
 use Rattle.sy_runtime.specs.internal.Held.{Holds}
 use Rattle.sy_runtime.proofs.connection.putting.put.Given as goal
 
@@ -6,5 +8,8 @@ abbrev pub invariant-loop : goal.invariant-loop
 invariant-loop g l = record {
   next : (goal.iterator-loop g).can_next l.iterator';
   finite : (goal.iterator-loop g).is_finite l.iterator';
-  kept : (read left : List ℕ) → Holds read l.fn.end l.fn.batch.items left → Holds read l.end l.batch.items left;
+  kept :
+      (read left : List ℕ) (before : Option (List (List ℕ)))
+      → Holds read l.fn.end (since before (g.U.UnreadSink.kept l.fn.sink)) l.fn.batch.items left
+      → Holds read l.end (since before (g.U.UnreadSink.kept l.sink)) l.batch.items left;
 }

@@ -5,7 +5,7 @@ use Rattle.sy_runtime.proofs.connection.taking.put_some.Goals as goal
 pub loop-item-init : goal.loop-item-init
 loop-item-init c = record {
   there = search rules;
-  kept = λ read left h. h;
+  kept = λ read left told h. h;
   taken = search rules;
   plan = search rules;
   put = first_put _ _ _ _ (search rules);
@@ -14,7 +14,7 @@ loop-item-init c = record {
 pub loop-item-preserved : goal.loop-item-preserved
 loop-item-preserved c = record {
   there = search rules;
-  kept = λ read left h. c.in-Ok-put_one.ensures.kept read left c.pop_front.new.self.items (search rules);
+  kept = λ read left told h. c.in-Ok-put_one.ensures.kept read left told c.pop_front.new.self.items (search rules);
   taken = search rules;
   plan = search rules;
   put = next_put _ _ _ _ _ _ _ _ (search rules) c.loop-item.invariant.put c.in-Ok-put_one.ensures.put;

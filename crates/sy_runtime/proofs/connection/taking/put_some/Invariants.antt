@@ -1,5 +1,6 @@
 use Rattle.std.proofs.Common.{◌≡◌, ◌+◌, List, ℕ, length}
 use Rattle.sy_board.specs.relay.Steps.{IsHand}
+use Rattle.sy_runtime.specs.Connections.{Kept}
 use Rattle.sy_runtime.specs.internal.Held.{Holds}
 use Rattle.sy_runtime.specs.internal.Taking.{BatchPut}
 use Rattle.sy_runtime.proofs.connection.taking.put_some.Given as goal
@@ -7,7 +8,7 @@ use Rattle.sy_runtime.proofs.connection.taking.put_some.Given as goal
 abbrev pub invariant-loop-item : goal.invariant-loop-item
 invariant-loop-item l = record {
   there : IsHand l.board.plan l.hand.input l.hand.number;
-  kept : (read left : List ℕ) → Holds read l.fn.end l.fn.batch.items left → Holds read l.end l.batch.items left;
+  kept : (read left : List ℕ) (told : Kept) → Holds read l.fn.end told l.fn.batch.items left → Holds read l.end told l.batch.items left;
   taken : l.board.totals.taken + l.fn.end.took ≡ l.fn.board.totals.taken + l.end.took;
   plan : l.board.plan ≡ l.fn.board.plan;
   put : BatchPut l.fn.batch.items l.batch.items l.fn.board l.hand l.board;

@@ -1,3 +1,4 @@
+use Rattle.sy_runtime.specs.Connections.{since}
 use Rattle.sy_runtime.specs.internal.Turning.{Turns}
 use Rattle.sy_runtime.proofs.connection.turns.serve.Given as goal
 
@@ -7,5 +8,5 @@ invariant-loop g l = record {
   finite : (goal.iterator-loop g).is_finite l.iterator';
   turns :
       Turns (g.S.Source.remaining l.fn.reader) (g.S.Source.remaining l.reader) (g.S.Source.faults l.fn.reader) (g.S.Source.faults l.reader)
-      l.end l.intake.framer l.intake.is_over l.intake.batch.items;
+      l.end (since (g.U.UnreadSink.kept l.fn.sink) (g.U.UnreadSink.kept l.sink)) l.intake.framer l.intake.is_over l.intake.batch.items;
 }

@@ -5,8 +5,9 @@ use Rattle.sy_runtime.proofs.connection.turns.take_in.Goals as goal
 
 pub returns : goal.returns
 returns g c = record {
-  kept = λ read begun.
-      rounded _ _ _ read _ _ _ _ _ c.sum_up.ensures
-      (c.gather-stop.ensures.kept read c.args.end.now (unsettled read _ _ _ c.requires.empty begun)) c.put-put.ensures.kept c.put-put.ensures.all;
+  kept = λ read before begun.
+      rounded _ _ _ read _ _ _ _ _ _ _ c.sum_up.ensures
+      (c.gather-stop.ensures.kept read c.args.end.now _ (unsettled read _ _ _ _ c.requires.empty begun))
+      (λ read left. c.put-put.ensures.kept read left before) c.put-put.ensures.all;
   same = refl;
 }

@@ -1,0 +1,70 @@
+//! Frames that carry no message go to what keeps them.
+ghost use Rattle.std.specs.Prelude.{◌∷◌, ℕ, List, Option};
+ghost use Rattle.sy_runtime.specs.Connections.{since};
+ghost use Rattle.sy_runtime.specs.declared.untaken.Item.{Item as Kept};
+ghost use Rattle.sy_runtime.specs.internal.Held.{Holds};
+ghost use Rattle.sy_runtime.specs.internal.Keeping.{KeepIs};
+
+use crate::connection::halt::Halt;
+use crate::connection_end::{ConnEnd, Unread};
+use crate::unread_sink::{NotKept, UnreadSink};
+use crate::untaken::Item;
+use std::collections::VecDeque;
+use std::sync::Wait;
+use std::time::Clock;
+
+// Has a frame kept that carries no message, and counts it then. The answer is the item where it has one; or why it wasn't kept, and the item.
+#[tactic(auto, using(crate::proofs::Taken::unread_one))]
+fn keep_one<R: Wait + Clock, U: UnreadSink>(
+    rt: &R,
+    sink: &mut U,
+    item: Item,
+    end: &mut ConnEnd,
+) -> Result<Option<Item>, (Halt, Item)>
+    ensures { (read left : List ℕ) (before : Option (List (List ℕ))) (later : List Kept) →
+        Holds read end.old (since before (U.kept sink.old)) (item ∷ later) left →
+        KeepIs result read end.new (since before (U.kept sink.new)) later left }
+{
+    let Item::Other(text, fault) = item else {
+        return Ok(Some(item));
+    };
+    if end.is_full() {
+        return Err((Halt::TotalsFull, Item::Other(text, fault)));
+    }
+    let frame = end.frames() + 1;
+    let why = Unread { frame, fault };
+    match sink.keep(rt, why, text.as_slice()) {
+        Ok(()) => {
+            end.count_unread(why);
+            Ok(None)
+        }
+        Err(NotKept) => Err((Halt::Closed, Item::Other(text, fault))),
+    }
+}
+
+/// Has the frames kept that stand first and carry no message, and counts each then.
+pub(crate) fn keep_unread<R: Wait + Clock, U: UnreadSink>(
+    rt: &R,
+    sink: &mut U,
+    batch: &mut VecDeque<Item>,
+    end: &mut ConnEnd,
+) -> Result<(), Halt>
+    ensures { (read left : List ℕ) (before : Option (List (List ℕ))) →
+        Holds read end.old (since before (U.kept sink.old)) batch.old.items left →
+        Holds read end.new (since before (U.kept sink.new)) batch.new.items left }
+{
+    while let Some(item) = batch.pop_front() {
+        match keep_one(rt, sink, item, end) {
+            Ok(None) => {}
+            Ok(Some(item)) => {
+                batch.push_front_reserved(item);
+                return Ok(());
+            }
+            Err((halt, item)) => {
+                batch.push_front_reserved(item);
+                return Err(halt);
+            }
+        }
+    }
+    Ok(())
+}
