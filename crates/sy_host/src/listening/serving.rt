@@ -3,6 +3,7 @@
 use crate::ending::remaining::{Rest, count_unread};
 use crate::listening::connections::Connections;
 use crate::listening::connector::Connector;
+use crate::listening::dropped::Dropped;
 use crate::listening::served_threads::EndedThreads;
 use std::alloc::{AllocError, Global};
 use std::net::{Shutdown, SocketAddr, TcpStream};
@@ -314,7 +315,7 @@ pub fn serve_connection<R: Wait + Clock + Drop, C: Connector, E: Sink + Drop>(
     } = connection;
     serving.watch().connection_begins(at.input);
     let mut reader = FromRead::new(&*stream);
-    let (end, untaken, answer) = relay.connect(&rt, alloc, at.input, &mut reader);
+    let (end, untaken, answer) = relay.connect(&rt, alloc, at.input, &mut reader, &mut Dropped);
     serving.watch().connection_ended(at.input);
     let rest = rest_of(alloc, at.input, untaken, answer, &stream);
     let noted = noted_end(peer, &end, answer);

@@ -244,7 +244,7 @@ pub(crate) fn put_some(
     }
     while let Some(item) = batch.pop_front() {
         if let Item::Other(..) = item {
-            batch.push_front_reserved(item);
+            put_back(batch, Some(item));
             return Ok(());
         }
         match put_one(board, hand, item, end, is_in_hand, used) {
