@@ -3,7 +3,7 @@
 use crate::described::{insert_kind, insert_note, number_of};
 use crate::json_objects::{Elements, Members};
 use std::alloc::{AllocError, Global};
-use sy_faults::fault_note::note_of_fault;
+use sy_fault_notes::fault_note::note_of_fault;
 use sy_faults::faults_with_notes::ToldFault;
 use sy_places::site_file::texts::SiteTexts;
 use sy_report::outcome::halt::{Halt, tell};

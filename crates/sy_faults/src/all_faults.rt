@@ -2,10 +2,10 @@
 
 use crate::all_of_file::{FileSpot, all_of_file};
 use crate::all_of_site::{JudgedFile, SiteHunt, find_lines, find_references, leave_out, word_of};
-use crate::fault_notes::fault_words;
 use crate::faults_with_notes::{ToldFault, push_told, without};
-use crate::site::files::push_unread_relay;
 use std::alloc::{AllocError, Global};
+use sy_fault_notes::fault_notes::fault_words;
+use sy_fault_notes::site::files::push_unread_relay;
 use sy_places::relay_file::places::file_in;
 use sy_places::site_file::source::without_return;
 use sy_places::site_file::texts::{RelayText, SiteTexts, Unread};

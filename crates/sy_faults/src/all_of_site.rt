@@ -1,11 +1,11 @@
 //! All faults of the lines of a site file that can be found without guessing.
 
-use crate::fault_note::{faulty_line, file_meant, push_site_fault};
 use crate::faults_with_notes::ToldFault;
 use crate::mending::mended_text::Draft;
-use crate::site::lines::SiteLine;
-use crate::site::spare::{first_line, sets_policy};
 use std::alloc::{AllocError, Global};
+use sy_fault_notes::fault_note::{faulty_line, file_meant, push_site_fault};
+use sy_fault_notes::site::lines::SiteLine;
+use sy_fault_notes::site::spare::{first_line, sets_policy};
 use sy_places::relay_file::places::file_in;
 use sy_places::site_file::source::{line_at, place_of_line, without_return, word_in};
 use sy_places::site_file::texts::RelayText;

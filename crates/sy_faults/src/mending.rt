@@ -2,16 +2,17 @@
 
 pub mod mended_text;
 pub mod parameters;
+pub mod pieces;
 pub mod plan;
 
 use crate::mending::mended_text::Draft;
 use crate::mending::parameters::{CutParameter, mend_parameters};
-use crate::script::legacy::selector_line;
-use crate::script::opened::{Opening, open_at};
-use crate::script::pieces::{
+use crate::mending::pieces::{
     Mark, Piece, before, closed_at, is_sign, is_word, piece_at, pieces_of,
 };
 use std::alloc::{AllocError, Global};
+use sy_fault_notes::script::legacy::selector_line;
+use sy_fault_notes::script::opened::{Opening, open_at};
 use sy_places::site_file::source::{behind, between, find, word_in};
 use sy_script::{FaultCode, ScriptFault};
 

@@ -2,7 +2,7 @@
 
 use crate::mending::begins_statement;
 use crate::mending::mended_text::Draft;
-use crate::script::pieces::{Mark, Piece, before, is_sign, is_word, piece_at};
+use crate::mending::pieces::{Mark, Piece, before, is_sign, is_word, piece_at};
 use std::alloc::AllocError;
 use sy_places::site_file::source::{behind, between};
 

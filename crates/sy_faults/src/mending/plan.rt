@@ -2,9 +2,9 @@
 
 use crate::mending::mended_text::Draft;
 use crate::mending::parameters::CutParameter;
-use crate::plan::notes::{object_at, param_at};
-use crate::script::pieces::{closed_at, is_sign, piece_at, pieces_of};
+use crate::mending::pieces::{closed_at, is_sign, piece_at, pieces_of};
 use std::alloc::{AllocError, Global};
+use sy_fault_notes::plan::notes::{object_at, param_at};
 use sy_places::relay_file::comparisons::comparison_at;
 use sy_places::relay_file::outline::{Object, ObjectWord};
 use sy_places::site_file::source::between;

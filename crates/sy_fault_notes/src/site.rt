@@ -2,5 +2,5 @@
 
 pub mod files;
 pub mod lines;
-pub mod reference;
+pub(crate) mod reference;
 pub mod spare;

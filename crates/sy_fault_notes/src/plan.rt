@@ -2,5 +2,5 @@
 
 pub mod notes;
 pub mod parameter_rows;
-pub mod tests;
-pub mod values;
+pub(crate) mod tests;
+mod values;

@@ -3,4 +3,3 @@
 pub mod legacy;
 pub mod notes;
 pub mod opened;
-pub mod pieces;

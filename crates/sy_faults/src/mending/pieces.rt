@@ -1,7 +1,7 @@
 //! The pieces of a text that is meant as a script: its words, strings and signs, also where it is none.
 
-use crate::script::opened::{is_word_byte, skipped};
 use std::alloc::{AllocError, Global};
+use sy_fault_notes::script::opened::{is_word_byte, skipped};
 use sy_places::site_file::source::{behind, between};
 
 /// What a piece is. A word may begin with `$`, and may be a number.
