@@ -7,15 +7,12 @@ import shutil
 import signal
 import subprocess
 import tempfile
-import threading
 import time
 
 TOP = os.path.abspath(f"{os.path.realpath(__file__)}/../../..")
 # The crates of the libraries' tests, which are no crates of the repository: their folder, and what each stands on.
 TESTS, USES = "tests/libraries", "tests/libraries/uses.txt"
 
-running = set()  # the processes that go on, each with a group of its own
-is_stopped = threading.Event()
 progress = [1]  # the stream for lines of progress
 
 
@@ -36,21 +33,17 @@ def text_of(path):
     return ""
 
 
-def kit_folder():
-    """The toolchain's folder, that of the command rt, or nothing."""
-    rt = shutil.which("rt")
-    return rt and os.path.dirname(os.path.dirname(os.path.realpath(rt)))
-
-
-def kit_name(kit):
-    """The toolchain's name, which changes with it."""
-    return text_of(f"{kit}/KIT-ID").strip() or "unknown"
-
-
 def needed_kit():
-    if not kit_folder():
+    """The toolchain's folder, that of the command rt."""
+    rt = shutil.which("rt")
+    if not rt:
         raise Failed("the command rt of the toolchain is not on PATH")
-    return kit_folder()
+    return os.path.dirname(os.path.dirname(os.path.realpath(rt)))
+
+
+def kit_name():
+    """The toolchain's name, which changes with it."""
+    return text_of(f"{needed_kit()}/KIT-ID").strip() or "unknown"
 
 
 def crates_of(root=TOP):
@@ -82,39 +75,29 @@ def alone(path):
 @contextlib.contextmanager
 def telling(how_far):
     """Says every ten seconds how far a build is, and how many seconds it has taken."""
-    began, is_done = time.monotonic(), threading.Event()
-
-    def tell():
-        while not is_done.wait(10):
-            say(f"{how_far()}; {time.monotonic() - began:.0f} s so far")
-
-    threading.Thread(target=tell, daemon=True).start()
+    began = time.monotonic()
+    signal.signal(signal.SIGALRM, lambda *_: say(f"{how_far()}; {time.monotonic() - began:.0f} s so far"))
+    signal.setitimer(signal.ITIMER_REAL, 10, 10)
     try:
         yield
     finally:
-        is_done.set()
+        signal.setitimer(signal.ITIMER_REAL, 0)
 
 
 def run(words, folder, room, hear=lambda line: None):
-    """Runs a command that reads nothing: its status, and what it said, both streams together, each line once it comes."""
+    """Runs a command that reads nothing: its status, and what it said, both streams together, each line once it comes. What
+    ends this program on the way, as a signal, ends all that the command has begun."""
     how = {"stdin": subprocess.DEVNULL, "stdout": subprocess.PIPE, "stderr": subprocess.STDOUT, "errors": "replace"}
     said = []
     with subprocess.Popen(words, cwd=folder, env=os.environ | {"TMPDIR": room}, start_new_session=True, **how) as it:
-        running.add(it)
-        if is_stopped.is_set():
-            end(it)
-        for line in it.stdout:
-            said.append(line)
-            hear(line)
-    running.discard(it)
-    if is_stopped.is_set():
-        raise Failed("stopped")
+        try:
+            for line in it.stdout:
+                said.append(line)
+                hear(line)
+        except BaseException:
+            os.killpg(it.pid, signal.SIGKILL)
+            raise
     return it.returncode, "".join(said)
-
-
-def end(process):
-    with contextlib.suppress(ProcessLookupError):
-        os.killpg(process.pid, signal.SIGKILL)
 
 
 def rooms():

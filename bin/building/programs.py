@@ -5,9 +5,9 @@ import os
 import re
 import shutil
 import time
+from pathlib import Path
 
-from building.common import TESTS, TOP, USES, Failed, alone, below, crates_of, kit_folder, kit_name, needed_kit, rooms, run
-from building.common import say, telling, text_of
+from building.common import TESTS, TOP, USES, Failed, alone, below, crates_of, kit_name, rooms, run, say, telling, text_of
 
 MEASURED = "some 80 minutes on two processors"  # when it was last seen, with nothing proved before
 # The scripts that make a quick program, of which it is made too.
@@ -23,11 +23,6 @@ def is_of_tests(crate):
     return os.path.isdir(f"{TOP}/{TESTS}/{crate}/src")
 
 
-def folder_of(crate):
-    """The folder of a crate, or of one of tests, below the repository."""
-    return f"{TESTS}/{crate}" if is_of_tests(crate) else f"crates/{crate}"
-
-
 class Program:
     """A program that is made here, and its record: its sum, that of its sources, and the toolchain's name."""
 
@@ -40,8 +35,9 @@ class Program:
     def sources(self, root):
         """The files that it is made from, by their paths below the repository, in order."""
         found = list(self.others)
-        for folder in [f"{folder_of(it)}/{part}" for it in below(crates_of(root), self.crate) for part in self.parts]:
-            found += [f"{at[len(root) + 1:]}/{it}" for at, _, names in os.walk(f"{root}/{folder}") for it in names]
+        for crate in below(crates_of(root), self.crate):
+            folder = Path(root, TESTS if is_of_tests(crate) else "crates", crate)
+            found += [str(it.relative_to(root)) for part in self.parts for it in folder.glob(f"{part}/**/*") if it.is_file()]
         return sorted(found)
 
     def sum_of_sources(self, name, root=TOP):
@@ -51,8 +47,7 @@ class Program:
 
     def sum_now(self):
         """The sum of the sources as they stand, with the toolchain on PATH (without one none can be another one)."""
-        kit = kit_folder()
-        return self.sum_of_sources(kit_name(kit) if kit else self.record()[2])
+        return self.sum_of_sources(kit_name() if shutil.which("rt") else self.record()[2])
 
     def record(self):
         """The sum of the program, that of its sources, and the toolchain's name, as they were when it was made."""
@@ -78,8 +73,7 @@ class Program:
         os.chmod(f"{self.path}.new", 0o755)
         os.replace(f"{self.path}.new", self.path)
         # (until that is written the record is of another program, which isn't current)
-        with open(f"{self.path}.sums", "w", encoding="utf-8") as it:
-            it.write(f"{sum_of(self.path)}\n{sources}\n{name}\n")
+        Path(f"{self.path}.sums").write_text(f"{sum_of(self.path)}\n{sources}\n{name}\n", encoding="utf-8")
 
 
 def tell_sums(program):
@@ -98,8 +92,7 @@ def prove(room):
     tree, proved, last = f"{room}/source", set(), ["nothing yet"]
     crates = crates_of(tree)
     order = below(crates, "syc")
-    with open(f"{tree}/crates.txt", "w", encoding="utf-8") as it:
-        it.writelines(f"{name}: {' '.join(crates[name])}\n" for name in order)
+    Path(tree, "crates.txt").write_text("".join(f"{name}: {' '.join(crates[name])}\n" for name in order), encoding="utf-8")
 
     def hear(line):
         last[0] = line.strip() or last[0]
@@ -110,8 +103,7 @@ def prove(room):
     say(f"{len(order)} crates; with nothing proved before, that took {MEASURED} when last measured")
     with telling(lambda: f"{len(proved)} of {len(order)} crates are proved; rt ci said last: {last[0]}"):
         status, said = run(["rt", "ci"], tree, room, hear)
-    with open(f"{TOP}/out/build/log", "w", encoding="utf-8") as it:
-        it.write(said)
+    Path(TOP, "out/build/log").write_text(said, encoding="utf-8")
     made, end = f"{tree}/crates/syc/out/syc", "\n".join(said.splitlines()[-20:])
     if status or not os.path.isfile(made):
         raise Failed(f"no program was built; out/build/log has the whole report, which ends so:\n{end}")
@@ -120,7 +112,7 @@ def prove(room):
 
 def build(program, make):
     """Builds a program where it isn't current, and returns it. What makes it gets a room with a copy of the sources."""
-    name = kit_name(needed_kit())
+    name = kit_name()
     with alone(program.lock):
         if program.is_current():
             say(f"{program.name} is current")
@@ -135,7 +127,7 @@ def build(program, make):
 
 
 def adopt(made, folder=TOP):
-    program, name = Program("proved", "syc"), kit_name(needed_kit())
+    program, name = Program("proved", "syc"), kit_name()
     if not os.access(made, os.X_OK) or not os.path.isfile(made):
         raise Failed(f"there is no program {made}")
     with alone(program.lock):

@@ -29,22 +29,18 @@ def deciding(path, text):
     return "\n".join(it for it in lines if is_parted or it.strip())
 
 
-def part_of(top, path):
-    """A file below another folder: its path there, and what of its text may decide a refusal."""
-    return path, deciding(path, edits.text_of(f"{top}/{path}"))
-
-
-def parts_of(top, *folders):
-    """The files in these folders below another one, in order."""
-    found = [it for folder in folders for it in sorted(pathlib.Path(top, folder).rglob("*")) if it.is_file()]
-    return [part_of(top, str(it.relative_to(top))) for it in found]
+def parts_of(top, *patterns):
+    """The files below a folder that fit these patterns, in order: of each its path there, and what of its text may decide a
+    refusal."""
+    found = [it for pattern in patterns for it in sorted(pathlib.Path(top).glob(pattern)) if it.is_file()]
+    return [(path, deciding(path, edits.text_of(f"{top}/{path}"))) for path in (str(it.relative_to(top)) for it in found)]
 
 
 def shown_by(top, crate):
     """What a crate shows those above it, but for its lemmas: its definitions and its sources, with their functions emptied
     down to their contracts, without empty lines, and without what only says to the compiler which calls to put into the
     callers."""
-    parts = parts_of(top, f"crates/{crate}/src", f"crates/{crate}/specs")
+    parts = parts_of(top, f"crates/{crate}/src/**/*", f"crates/{crate}/specs/**/*")
     after, _ = edits.Sources(top).emptied([path for path, _ in parts if path.endswith(".rt")], lambda _: False)
     for path, text in parts:
         if path in after.texts:
@@ -59,20 +55,20 @@ def lemmas_named(top, below, texts):
     while left:
         for crate, name in LEMMAS.findall(left.pop()):
             path = f"crates/{crate}/proofs/{name.replace('.', '/')}.antt"
-            if crate in below and path not in found and os.path.isfile(f"{top}/{path}"):
-                found[path] = part_of(top, path)
-                left.append(found[path][1])
-    return [found[it] for it in sorted(found)]
+            if crate in below and path not in found:
+                parts = dict(parts_of(top, path))
+                found |= parts
+                left += parts.values()
+    return sorted(found.items())
 
 
 def sum_of(top, crate, below):
     """The sum of all that the refusals of a crate's edits rest on; `below` are the crates that it stands on."""
     kit = subprocess.run(["rt", "version"], stdout=subprocess.PIPE, stdin=subprocess.DEVNULL, text=True, check=True).stdout
-    own = parts_of(top, *(f"crates/{crate}/{it}" for it in ("src", "specs", "proofs", "must-fail")))
+    own = parts_of(top, *(f"crates/{crate}/{it}/**/*" for it in ("src", "specs", "proofs", "must-fail")))
     shown = [it for name in sorted(below) for it in shown_by(top, name)]
     lemmas = lemmas_named(top, below, [text for _, text in own + shown])
-    control = f"tests/edits/controls/{crate}.edit"
-    controls = [part_of(top, control)] if os.path.isfile(f"{top}/{control}") else []
+    controls = parts_of(top, f"tests/edits/controls/{crate}.edit")
     judges = [edits.text_of(f"{HERE}/{it}") for it in JUDGES]
     return hashlib.sha256(json.dumps([kit, judges, controls, own, shown, lemmas]).encode()).hexdigest()
 
