@@ -16,16 +16,14 @@ pub mod shared;
 pub mod standing;
 pub mod starting;
 pub mod stopping;
-pub mod unread_sink;
 pub mod untaken;
 mod waiting;
 mod worker;
 
-pub use connection_end::{ConnEnd, Finish, Unread};
+pub use connection_end::{ConnEnd, Finish, NotKept, Unread, UnreadSink};
 pub use fault::RunFault;
 pub use relay::Relay;
 pub use shared::{BoxedDevice, Gate};
 pub use standing::Standing;
 pub use stopping::{Mismatch, Stopped, Workers};
-pub use unread_sink::{NotKept, UnreadSink};
 pub use untaken::{Item, Untaken};

@@ -6,8 +6,7 @@ ghost use Rattle.sy_runtime.specs.internal.Held.{Holds};
 ghost use Rattle.sy_runtime.specs.internal.Keeping.{KeepIs};
 
 use crate::connection::halt::Halt;
-use crate::connection_end::{ConnEnd, Unread};
-use crate::unread_sink::{NotKept, UnreadSink};
+use crate::connection_end::{ConnEnd, NotKept, Unread, UnreadSink};
 use crate::untaken::Item;
 use std::collections::VecDeque;
 use std::sync::Wait;
