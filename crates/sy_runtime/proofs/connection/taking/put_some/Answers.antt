@@ -22,4 +22,4 @@ loop-item-preserved c = record {
 
 pub returns-in-Err-put_one-clause-put : goal.returns-in-Err-put_one-clause-put
 returns-in-Err-put_one-clause-put c =
-    put_last _ _ _ _ _ _ _ _ _ _ _ (search rules) c.put_back.ensures c.loop-item.invariant.put c.in-Err-put_one.ensures.put
+    put_last _ _ _ _ _ _ _ _ _ _ _ (search rules) c.put_back-in-Err-put_one.ensures c.loop-item.invariant.put c.in-Err-put_one.ensures.put
