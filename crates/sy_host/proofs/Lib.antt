@@ -1,4 +1,5 @@
 pub mod Counted
+pub mod Cutting
 pub mod LeftFrames
 pub mod Named
 pub mod Offers

@@ -3,8 +3,8 @@ use Rattle.std.specs.Prelude.{◌≡◌, ◌≤◌, ◌<◌, ◌⊎◌, ℕ, Boo
 use Rattle.std.specs.Io.KnownBytes.{Appends, IsAtEnd}
 use Rattle.sy_rules.specs.declared.parts.Input.{Input}
 use Rattle.sy_chain.specs.Entries.{Entry}
-use Rattle.sy_wire.specs.Frames.{Held, IsOpen, stream}
-use Rattle.sy_runtime.specs.Connections.{rest_of}
+use Rattle.sy_wire.specs.Frames.{Held, IsBadLength, IsOpen, IsTooLong, stream}
+use Rattle.sy_runtime.specs.Connections.{text_of}
 use Rattle.sy_runtime.specs.declared.untaken.Untaken.{Untaken}
 use Rattle.sy_host.specs.Listened.{ports_from}
 use Rattle.sy_host.specs.declared.ending.remaining.AtInput.{AtInput}
@@ -19,15 +19,29 @@ texts_of input (e ∷ later) = if e.input == input then e.message.raw ∷ texts_
 abbrev pub IsInOrder : List Entry → Type 0
 IsInOrder entries = (i j : ℕ) (d : Entry) → i ≤ j → j < length entries → (slice_index_or entries i d).tag ≤ (slice_index_or entries j d).tag
 
--- No whole frame stands at the front: the framer failed at what does, or more bytes must come first.
-abbrev pub IsCut : Held → Type 0
-IsCut held = (held.has_failed ≡ true) ⊎ IsOpen held.left
+-- These bytes begin with no whole frame: more must come first, or there is a fault of a frame.
+abbrev pub IsCut : List ℕ → Type 0
+IsCut left = IsOpen left ⊎ IsBadLength left ⊎ IsTooLong left
 
--- the texts of the whole frames that a connection had read and not taken; what follows them is none
+-- What a framer had is these frames, and then what it has now, which begins with no whole frame; where it had failed it gives none.
+pub record Cuts (had : Held) (framed : List (List ℕ)) (left : List ℕ) : Type 0 where
+  pub whole : had.left ≡ stream framed ++ left
+  pub cut : IsCut left ⊎ ((had.has_failed ≡ true) × (framed ≡ []))
+
+-- the texts of the whole frames that a connection had read and not taken: those that it had gathered, and then those of its framer, which then
+-- has that left
+pub record IsRestUpTo (untaken : Untaken) (left : List ℕ) (texts : List (List ℕ)) : Type 0 where
+  pub framed : List (List ℕ)
+  pub texts_are : texts ≡ map text_of untaken.items.items ++ framed
+  pub cuts : Cuts untaken.framer framed left
+
 pub record IsRest (untaken : Untaken) (texts : List (List ℕ)) : Type 0 where
-  pub behind : Held
-  pub whole : rest_of untaken.items.items untaken.framer.left ≡ stream texts ++ behind.left
-  pub cut : IsCut behind
+  pub left : List ℕ
+  pub up_to : IsRestUpTo untaken left texts
+
+-- the whole frames are among those that were gathered now, and nothing is lost
+abbrev pub IsRestIn : Untaken → Untaken → Type 0
+IsRestIn old new = IsRestUpTo old new.framer.left (map text_of new.items.items)
 
 -- those of some connections, one after the other
 pub data AreRests : List Untaken → List (List ℕ) → Type 0 where

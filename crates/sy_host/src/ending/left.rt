@@ -126,6 +126,7 @@ fn write_items<W: Sink>(writer: &mut W, mut items: VecDeque<Item>) -> Result<(),
 }
 
 // Writes the whole frames that a connection had read and not taken.
+#[tactic(auto, using(crate::proofs::Cutting::wrote_rest))]
 fn write_rest<W: Sink>(alloc: Global, writer: &mut W, untaken: Untaken) -> Result<(), KeepFault>
     ensures { OnOk result ((texts : List (List ℕ)) × IsRest untaken texts
         × Appends (W.contents writer.old) (W.contents writer.new) (stream texts)) }

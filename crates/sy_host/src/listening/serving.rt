@@ -287,6 +287,8 @@ fn rest_of(
 ) -> Option<Rest> {
     let unread = match answer {
         Ok(Finish::Closed) => count_unread(alloc, stream),
+        // (nothing was read of one that got no hand, of which there may be any number)
+        Err(RunFault::Hands) if untaken.items.is_empty() => return None,
         Err(RunFault::Hands | RunFault::NoMemory | RunFault::TotalsFull) => 0,
         Ok(Finish::Ended) | Err(_) => return None,
     };
