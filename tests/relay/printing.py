@@ -239,8 +239,8 @@ def lines_left_out_are_told_at_the_end(room):
     took, lines = time.monotonic() - begun, reader.end()
     if took >= 1:
         return  # (no stop waits longer for who reads the last lines, and on a busy machine that may not be enough)
-    if not LEFT_OUT.fullmatch(lines[-1]):
-        raise Failure(f"the last line is {lines[-1]!r}")
+    if not left_out(lines):
+        raise Failure(f"no line tells of those left out; the last is {lines[-1]!r}")
     same("lines printed and left out", told(lines), 2 + 3 * 6000)
 
 
