@@ -28,34 +28,34 @@ pub enum BoardFault {
 }
 
 impl BoardFault {
+    // The number of the fault, and the same with its name.
+    fn row(self) -> (u8, &'static str)
+        ensures number { result.0 ≡ fault_number self }
+        ensures words { result.1.now ≡ fault_words self }
+    {
+        match self {
+            BoardFault::HandTaken => (81, "81 HandTaken"),
+            BoardFault::HandEmpty => (82, "82 HandEmpty"),
+            BoardFault::SlotBusy => (83, "83 SlotBusy"),
+            BoardFault::NoJob => (84, "84 NoJob"),
+            BoardFault::WrongReceipt => (85, "85 WrongReceipt"),
+            BoardFault::TotalsFull => (86, "86 TotalsFull"),
+            BoardFault::NotExpired => (87, "87 NotExpired"),
+        }
+    }
+
     /// The number of the fault: 81 for `HandTaken` to 87 for `NotExpired`.
     pub fn number(self) -> u8
         ensures { result ≡ fault_number self }
     {
-        match self {
-            BoardFault::HandTaken => 81,
-            BoardFault::HandEmpty => 82,
-            BoardFault::SlotBusy => 83,
-            BoardFault::NoJob => 84,
-            BoardFault::WrongReceipt => 85,
-            BoardFault::TotalsFull => 86,
-            BoardFault::NotExpired => 87,
-        }
+        self.row().0
     }
 
     /// The number and the name of the fault, as `81 HandTaken`.
     pub fn words(self) -> &'static str
         ensures { result.now ≡ fault_words self }
     {
-        match self {
-            BoardFault::HandTaken => "81 HandTaken",
-            BoardFault::HandEmpty => "82 HandEmpty",
-            BoardFault::SlotBusy => "83 SlotBusy",
-            BoardFault::NoJob => "84 NoJob",
-            BoardFault::WrongReceipt => "85 WrongReceipt",
-            BoardFault::TotalsFull => "86 TotalsFull",
-            BoardFault::NotExpired => "87 NotExpired",
-        }
+        self.row().1
     }
 }
 

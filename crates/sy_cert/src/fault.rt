@@ -21,28 +21,31 @@ pub enum FaultCode {
 }
 
 impl FaultCode {
+    // The number of the fault, and the same with its name.
+    fn row(self) -> (u8, &'static str)
+        ensures number { result.0 ≡ spec.number self }
+        ensures words { result.1.now ≡ spec.words_of self }
+    {
+        match self {
+            FaultCode::Line => (61, "61 Line"),
+            FaultCode::Order => (62, "62 Order"),
+            FaultCode::Number => (63, "63 Number"),
+            FaultCode::NoMemory => (64, "64 NoMemory"),
+        }
+    }
+
     /// The number of the fault: 61 for `Line` to 64 for `NoMemory`.
     pub fn number(self) -> u8
         ensures { result ≡ spec.number self }
     {
-        match self {
-            FaultCode::Line => 61,
-            FaultCode::Order => 62,
-            FaultCode::Number => 63,
-            FaultCode::NoMemory => 64,
-        }
+        self.row().0
     }
 
     /// The number and the name of the fault, as `61 Line`.
     pub fn words(self) -> &'static str
         ensures { result.now ≡ spec.words_of self }
     {
-        match self {
-            FaultCode::Line => "61 Line",
-            FaultCode::Order => "62 Order",
-            FaultCode::Number => "63 Number",
-            FaultCode::NoMemory => "64 NoMemory",
-        }
+        self.row().1
     }
 }
 

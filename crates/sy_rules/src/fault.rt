@@ -43,48 +43,41 @@ pub enum FaultCode {
 }
 
 impl FaultCode {
+    // The number of the fault, and the same with its name.
+    fn row(self) -> (u8, &'static str)
+        ensures number { result.0 ≡ spec.number self }
+        ensures words { result.1.now ≡ spec.words self }
+    {
+        match self {
+            FaultCode::Facility => (31, "31 Facility"),
+            FaultCode::Severity => (32, "32 Severity"),
+            FaultCode::Shape => (33, "33 Shape"),
+            FaultCode::Operator => (34, "34 Operator"),
+            FaultCode::Missing => (40, "40 Missing"),
+            FaultCode::Duplicate => (41, "41 Duplicate"),
+            FaultCode::Unknown => (42, "42 Unknown"),
+            FaultCode::BadValue => (43, "43 BadValue"),
+            FaultCode::Range => (44, "44 Range"),
+            FaultCode::CallDepth => (45, "45 CallDepth"),
+            FaultCode::TooManyDeeds => (46, "46 TooManyDeeds"),
+            FaultCode::SamePort => (47, "47 SamePort"),
+            FaultCode::NotLoaded => (48, "48 NotLoaded"),
+            FaultCode::NoMemory => (49, "49 NoMemory"),
+        }
+    }
+
     /// The number of the fault: 31 to 34 of selectors and expressions, 40 for `Missing` to 49 for `NoMemory`.
     pub fn number(self) -> u8
         ensures { result ≡ spec.number self }
     {
-        match self {
-            FaultCode::Facility => 31,
-            FaultCode::Severity => 32,
-            FaultCode::Shape => 33,
-            FaultCode::Operator => 34,
-            FaultCode::Missing => 40,
-            FaultCode::Duplicate => 41,
-            FaultCode::Unknown => 42,
-            FaultCode::BadValue => 43,
-            FaultCode::Range => 44,
-            FaultCode::CallDepth => 45,
-            FaultCode::TooManyDeeds => 46,
-            FaultCode::SamePort => 47,
-            FaultCode::NotLoaded => 48,
-            FaultCode::NoMemory => 49,
-        }
+        self.row().0
     }
 
     /// The number and the name of the fault, as `44 Range`.
     pub fn words(self) -> &'static str
         ensures { result.now ≡ spec.words self }
     {
-        match self {
-            FaultCode::Facility => "31 Facility",
-            FaultCode::Severity => "32 Severity",
-            FaultCode::Shape => "33 Shape",
-            FaultCode::Operator => "34 Operator",
-            FaultCode::Missing => "40 Missing",
-            FaultCode::Duplicate => "41 Duplicate",
-            FaultCode::Unknown => "42 Unknown",
-            FaultCode::BadValue => "43 BadValue",
-            FaultCode::Range => "44 Range",
-            FaultCode::CallDepth => "45 CallDepth",
-            FaultCode::TooManyDeeds => "46 TooManyDeeds",
-            FaultCode::SamePort => "47 SamePort",
-            FaultCode::NotLoaded => "48 NotLoaded",
-            FaultCode::NoMemory => "49 NoMemory",
-        }
+        self.row().1
     }
 }
 

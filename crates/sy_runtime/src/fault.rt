@@ -24,32 +24,33 @@ pub enum RunFault {
 }
 
 impl RunFault {
+    // The number of the fault, and the same with its name.
+    fn row(self) -> (u8, &'static str)
+        ensures number { result.0 ≡ fault_number self }
+        ensures words { result.1.now ≡ fault_words self }
+    {
+        match self {
+            RunFault::Read => (71, "71 Read"),
+            RunFault::Bind => (72, "72 Bind"),
+            RunFault::Hands => (73, "73 Hands"),
+            RunFault::NoMemory => (74, "74 NoMemory"),
+            RunFault::Frame(_) => (75, "75 Frame"),
+            RunFault::TotalsFull => (76, "76 TotalsFull"),
+        }
+    }
+
     /// The number of the fault: 71 for `Read` to 76 for `TotalsFull`. A fault of a frame has one of its own besides.
     pub fn number(self) -> u8
         ensures { result ≡ fault_number self }
     {
-        match self {
-            RunFault::Read => 71,
-            RunFault::Bind => 72,
-            RunFault::Hands => 73,
-            RunFault::NoMemory => 74,
-            RunFault::Frame(_) => 75,
-            RunFault::TotalsFull => 76,
-        }
+        self.row().0
     }
 
     /// The number and the name of the fault, as `71 Read`.
     pub fn words(self) -> &'static str
         ensures { result.now ≡ fault_words self }
     {
-        match self {
-            RunFault::Read => "71 Read",
-            RunFault::Bind => "72 Bind",
-            RunFault::Hands => "73 Hands",
-            RunFault::NoMemory => "74 NoMemory",
-            RunFault::Frame(_) => "75 Frame",
-            RunFault::TotalsFull => "76 TotalsFull",
-        }
+        self.row().1
     }
 }
 

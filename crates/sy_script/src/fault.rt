@@ -27,34 +27,34 @@ pub enum FaultCode {
 }
 
 impl FaultCode {
+    // The number of the fault, and the same with its name.
+    fn row(self) -> (u8, &'static str)
+        ensures number { result.0 ≡ spec.number self }
+        ensures words { result.1.now ≡ spec.words self }
+    {
+        match self {
+            FaultCode::Byte => (21, "21 Byte"),
+            FaultCode::Unclosed => (22, "22 Unclosed"),
+            FaultCode::Unexpected => (23, "23 Unexpected"),
+            FaultCode::TooDeep => (24, "24 TooDeep"),
+            FaultCode::TooLarge => (25, "25 TooLarge"),
+            FaultCode::LeftOut => (26, "26 LeftOut"),
+            FaultCode::NoMemory => (27, "27 NoMemory"),
+        }
+    }
+
     /// The number of the fault: 21 for `Byte` to 27 for `NoMemory`.
     pub fn number(self) -> u8
         ensures { result ≡ spec.number self }
     {
-        match self {
-            FaultCode::Byte => 21,
-            FaultCode::Unclosed => 22,
-            FaultCode::Unexpected => 23,
-            FaultCode::TooDeep => 24,
-            FaultCode::TooLarge => 25,
-            FaultCode::LeftOut => 26,
-            FaultCode::NoMemory => 27,
-        }
+        self.row().0
     }
 
     /// The number and the name of the fault, as `21 Byte`.
     pub fn words(self) -> &'static str
         ensures { result.now ≡ spec.words self }
     {
-        match self {
-            FaultCode::Byte => "21 Byte",
-            FaultCode::Unclosed => "22 Unclosed",
-            FaultCode::Unexpected => "23 Unexpected",
-            FaultCode::TooDeep => "24 TooDeep",
-            FaultCode::TooLarge => "25 TooLarge",
-            FaultCode::LeftOut => "26 LeftOut",
-            FaultCode::NoMemory => "27 NoMemory",
-        }
+        self.row().1
     }
 }
 

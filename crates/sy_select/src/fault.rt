@@ -27,32 +27,33 @@ pub enum FaultCode {
 }
 
 impl FaultCode {
+    // The number of the fault, and the same with its name.
+    fn row(self) -> (u8, &'static str)
+        ensures number { result.0 ≡ spec.number self }
+        ensures words { result.1.now ≡ spec.words self }
+    {
+        match self {
+            FaultCode::Facility => (31, "31 Facility"),
+            FaultCode::Severity => (32, "32 Severity"),
+            FaultCode::Shape => (33, "33 Shape"),
+            FaultCode::Operator => (34, "34 Operator"),
+            FaultCode::NoMemory => (35, "35 NoMemory"),
+            FaultCode::Unknown => (42, "42 Unknown"),
+        }
+    }
+
     /// The number of the fault: 31 for `Facility` to 35 for `NoMemory`, and 42 for `Unknown`.
     pub fn number(self) -> u8
         ensures { result ≡ spec.number self }
     {
-        match self {
-            FaultCode::Facility => 31,
-            FaultCode::Severity => 32,
-            FaultCode::Shape => 33,
-            FaultCode::Operator => 34,
-            FaultCode::NoMemory => 35,
-            FaultCode::Unknown => 42,
-        }
+        self.row().0
     }
 
     /// The number and the name of the fault, as `31 Facility`.
     pub fn words(self) -> &'static str
         ensures { result.now ≡ spec.words self }
     {
-        match self {
-            FaultCode::Facility => "31 Facility",
-            FaultCode::Severity => "32 Severity",
-            FaultCode::Shape => "33 Shape",
-            FaultCode::Operator => "34 Operator",
-            FaultCode::NoMemory => "35 NoMemory",
-            FaultCode::Unknown => "42 Unknown",
-        }
+        self.row().1
     }
 }
 

@@ -44,39 +44,36 @@ pub enum SiteFault {
 }
 
 impl SiteFault {
+    // The number of the fault, and the same with its name.
+    fn row(&self) -> (u8, &'static str)
+        ensures number { result.0 ≡ spec.number self.now }
+        ensures words { result.1.now ≡ spec.words self.now }
+    {
+        match self {
+            SiteFault::Line(_) => (51, "51 Line"),
+            SiteFault::Duplicate(_) => (52, "52 Duplicate"),
+            SiteFault::NoFile(_) => (53, "53 NoFile"),
+            SiteFault::NoSuchEntry(_) => (54, "54 NoSuchEntry"),
+            SiteFault::NoSuchArchive(_) => (55, "55 NoSuchArchive"),
+            SiteFault::NothingProtected => (56, "56 NothingProtected"),
+            SiteFault::Relay(_, _, _) => (57, "57 Relay"),
+            SiteFault::NoMemory => (58, "58 NoMemory"),
+            SiteFault::NoSuchAction(_) => (59, "59 NoSuchAction"),
+            SiteFault::SpareArchive(_) => (60, "60 SpareArchive"),
+        }
+    }
+
     /// The number of the fault: 51 for `Line` to 60 for `SpareArchive`.
     pub fn number(&self) -> u8
         ensures { result ≡ spec.number self.now }
     {
-        match self {
-            SiteFault::Line(_) => 51,
-            SiteFault::Duplicate(_) => 52,
-            SiteFault::NoFile(_) => 53,
-            SiteFault::NoSuchEntry(_) => 54,
-            SiteFault::NoSuchArchive(_) => 55,
-            SiteFault::NothingProtected => 56,
-            SiteFault::Relay(_, _, _) => 57,
-            SiteFault::NoMemory => 58,
-            SiteFault::NoSuchAction(_) => 59,
-            SiteFault::SpareArchive(_) => 60,
-        }
+        self.row().0
     }
 
     /// The number and the name of the fault, as `51 Line`.
     pub fn words(&self) -> &'static str
         ensures { result.now ≡ spec.words self.now }
     {
-        match self {
-            SiteFault::Line(_) => "51 Line",
-            SiteFault::Duplicate(_) => "52 Duplicate",
-            SiteFault::NoFile(_) => "53 NoFile",
-            SiteFault::NoSuchEntry(_) => "54 NoSuchEntry",
-            SiteFault::NoSuchArchive(_) => "55 NoSuchArchive",
-            SiteFault::NothingProtected => "56 NothingProtected",
-            SiteFault::Relay(_, _, _) => "57 Relay",
-            SiteFault::NoMemory => "58 NoMemory",
-            SiteFault::NoSuchAction(_) => "59 NoSuchAction",
-            SiteFault::SpareArchive(_) => "60 SpareArchive",
-        }
+        self.row().1
     }
 }

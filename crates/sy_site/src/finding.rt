@@ -34,40 +34,37 @@ pub enum Kind {
 }
 
 impl Kind {
+    // The number of the kind, and the same with its name.
+    fn row(self) -> (u8, &'static str)
+        ensures number { result.0 ≡ spec.number self }
+        ensures words { result.1.now ≡ spec.words self }
+    {
+        match self {
+            Kind::NotFull => (1, "1 NotFull"),
+            Kind::MarkOff => (2, "2 MarkOff"),
+            Kind::MarkAboveSize => (3, "3 MarkAboveSize"),
+            Kind::Discards => (4, "4 Discards"),
+            Kind::InnerQueue => (5, "5 InnerQueue"),
+            Kind::GivesUp => (6, "6 GivesUp"),
+            Kind::NoTarget => (7, "7 NoTarget"),
+            Kind::Loop => (8, "8 Loop"),
+            Kind::InnerLoop => (10, "10 InnerLoop"),
+            Kind::Unmet(_) => (9, "9 Unmet"),
+        }
+    }
+
     /// The number of the kind: 1 for `NotFull` to 8 for `Loop`, 9 for `Unmet`, 10 for `InnerLoop`.
     pub fn number(self) -> u8
         ensures { result ≡ spec.number self }
     {
-        match self {
-            Kind::NotFull => 1,
-            Kind::MarkOff => 2,
-            Kind::MarkAboveSize => 3,
-            Kind::Discards => 4,
-            Kind::InnerQueue => 5,
-            Kind::GivesUp => 6,
-            Kind::NoTarget => 7,
-            Kind::Loop => 8,
-            Kind::InnerLoop => 10,
-            Kind::Unmet(_) => 9,
-        }
+        self.row().0
     }
 
     /// The number and the name of the kind, as `1 NotFull`.
     pub fn words(self) -> &'static str
         ensures { result.now ≡ spec.words self }
     {
-        match self {
-            Kind::NotFull => "1 NotFull",
-            Kind::MarkOff => "2 MarkOff",
-            Kind::MarkAboveSize => "3 MarkAboveSize",
-            Kind::Discards => "4 Discards",
-            Kind::InnerQueue => "5 InnerQueue",
-            Kind::GivesUp => "6 GivesUp",
-            Kind::NoTarget => "7 NoTarget",
-            Kind::Loop => "8 Loop",
-            Kind::InnerLoop => "10 InnerLoop",
-            Kind::Unmet(_) => "9 Unmet",
-        }
+        self.row().1
     }
 }
 

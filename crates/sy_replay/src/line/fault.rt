@@ -16,24 +16,29 @@ pub enum EventFault {
 }
 
 impl EventFault {
+    // The number of the fault, and the same with its name.
+    fn row(self) -> (u8, &'static str)
+        ensures number { result.0 ≡ spec.fault_number self }
+        ensures words { result.1.now ≡ spec.fault_words self }
+    {
+        match self {
+            EventFault::Line => (51, "51 Line"),
+            EventFault::NoMemory => (58, "58 NoMemory"),
+        }
+    }
+
     /// The number of the fault, as for a site file: 51 for `Line`, 58 for `NoMemory`.
     pub fn number(self) -> u8
         ensures { result ≡ spec.fault_number self }
     {
-        match self {
-            EventFault::Line => 51,
-            EventFault::NoMemory => 58,
-        }
+        self.row().0
     }
 
     /// The number and the name of the fault, as `51 Line`.
     pub fn words(self) -> &'static str
         ensures { result.now ≡ spec.fault_words self }
     {
-        match self {
-            EventFault::Line => "51 Line",
-            EventFault::NoMemory => "58 NoMemory",
-        }
+        self.row().1
     }
 }
 
