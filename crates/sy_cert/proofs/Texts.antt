@@ -13,11 +13,12 @@ use Rattle.std.proofs.lemmas.List.Splits.{join_with_byte-slice_split}
 use Rattle.sy_cert.specs.declared.kinds.Kind.TheVariants as kinds
 use Rattle.sy_cert.specs.declared.row.Row.{Row}
 use Rattle.sy_cert.specs.declared.row.Row.TheVariants as row
-use Rattle.sy_cert.specs.Faults.{BeginsWith, HasShape, Lacks, is_numeral, words_in}
+use Rattle.sy_wire.specs.Numbers.{is_numeral}
+use Rattle.sy_cert.specs.Faults.{BeginsWith, HasShape, Lacks, words_in}
 use Rattle.sy_cert.specs.internal.Reading.{IsCut, IsTaken}
 use Rattle.sy_cert.specs.Rows.{AreOccurrences, IsRow, IsVersion, further, has_bytes, head, is_action, is_action_byte, is_name, is_name_byte, line, lines, spaced, text, words}
 use Rattle.sy_cert.proofs.Cutting.{split_last, split_part}
-use Rattle.sy_cert.proofs.Numbers.{own}
+use Rattle.sy_wire.proofs.Numerals.{is_one, own}
 use Rattle.sy_cert.proofs.RowLines.{apart}
 use Rattle.sy_cert.proofs.Rows.{one_more}
 
@@ -171,7 +172,7 @@ has_some [] l = absurd (omega (arith, l))
 has_some (b ∷ bs) l = refl
 
 numeral : (n : ℕ) → n < 2 ^ 64 → is_numeral (decimal n) ≡ true
-numeral n h = rw (has_some (decimal n) (decimal_nonempty n h)) (digits_decimal own n h)
+numeral n h = is_one (decimal n) (decimal_nonempty n h) (digits_decimal own n h)
 
 way_numerals : (ns : List ℕ) → AreOccurrences ns → list_all is_numeral (map decimal ns) ≡ true
 way_numerals [] h = refl

@@ -3,13 +3,14 @@
 use Rattle.std.specs.Prelude.{◌≡◌, ℕ, ◌+◌, ◌==◌, ◌&&◌, Bool, true, false, List, [], ◌∷◌, ◌++◌, length, codes}
 use Rattle.std.specs.Fmt.{decimal}
 use Rattle.std.specs.List.{list_all, slice_split}
-use Rattle.std.specs.Char.{is_ascii_digit}
 use Rattle.sy_cert.specs.declared.fault.FaultCode.{FaultCode}
 use Rattle.sy_cert.specs.declared.fault.FaultCode.TheVariants as code
 use Rattle.sy_cert.specs.declared.fault.TextFault.{TextFault}
 use Rattle.sy_cert.specs.declared.row.Row.{Row}
 use Rattle.sy_cert.specs.declared.kinds.Kind.{Kind}
-use Rattle.sy_cert.specs.Rows.{IsCertificate, IsRow, IsVersion, has_bytes, head, is_action, is_name, kind, last_kind, may_follow, text, words}
+use Rattle.sy_wire.specs.Numbers.{is_numeral}
+pub use Rattle.sy_wire.specs.Words.{words_in}
+use Rattle.sy_cert.specs.Rows.{IsCertificate, IsRow, IsVersion, head, is_action, is_name, kind, last_kind, may_follow, text, words}
 
 -- ---- their numbers and names
 
@@ -31,10 +32,6 @@ abbrev pub fault_text : TextFault → List ℕ
 fault_text f = words_of f.code ++ (codes " in line " ++ decimal f.line)
 
 -- ---- the shapes of a line, given as its words
-
--- digits, whatever their number is
-abbrev pub is_numeral : List ℕ → Bool
-is_numeral w = has_bytes w && list_all is_ascii_digit w
 
 -- class NUMBER
 pub record IsClassLine (line : List (List ℕ)) (class : List ℕ) : Type 0 where
@@ -98,10 +95,6 @@ pub record BeginsWith (bytes : List ℕ) (version : ℕ) (rows : List Row) (rest
 -- the line after these rows and the first one
 abbrev pub line_after : List Row → ℕ
 line_after rows = length rows + 2
-
--- the words of a line: what stands between its spaces
-abbrev pub words_in : List ℕ → List (List ℕ)
-words_in line = slice_split (λ b. b == 32) line
 
 pub data HasFault (bytes : List ℕ) : FaultCode → ℕ → Type 0 where
   -- the first line is neither `cert 1` nor `cert 2`

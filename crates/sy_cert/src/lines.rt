@@ -3,11 +3,14 @@
 ghost use Rattle.std.specs.Prelude.{◌≡◌, ◌∷◌, [], ℕ, List, length, true, IfSome, IfNone, codes};
 ghost use Rattle.std.specs.List.{list_all};
 ghost use Rattle.std.specs.Option.{option_copied};
+ghost use Rattle.sy_wire.specs.Numbers as numbers;
 ghost use Rattle.sy_cert.specs.Rows as rows;
 ghost use Rattle.sy_cert.specs.Faults as faults;
 ghost use Rattle.sy_cert.specs.internal.Reading.{words_left};
 
-use crate::words::{is_action, is_name, is_numeral, next_word};
+use crate::words::{is_action, is_name};
+use sy_wire::numbers::is_numeral;
+use sy_wire::words::{next_word, only_word};
 
 /// A line with a relay's name and a number.
 #[derive(Clone, Copy)]
@@ -32,18 +35,6 @@ pub struct PathLine<'t> {
     pub archive_relay: &'t [u8],
     pub action: &'t [u8],
     pub occurrences: Option<&'t [u8]>,
-}
-
-// The one word that is left.
-fn only_word(rest: Option<&[u8]>) -> Option<&[u8]>
-    ensures some { IfSome result (λ w. words_left (option_copied rest.entry) ≡ w.now ∷ []) }
-    ensures none { IfNone result ((w : List ℕ) → words_left (option_copied rest.entry) ≡ w ∷ [] → ⊥) }
-{
-    let (word, rest) = next_word(rest)?;
-    match next_word(rest) {
-        Some(_) => None,
-        None => Some(word),
-    }
 }
 
 /// The number of a class line, of what is after its first word.
@@ -96,7 +87,7 @@ pub fn inner_line(rest: Option<&[u8]>) -> Option<InnerLine<'_>>
 
 // Whether the words that are left are numbers by their shape.
 fn are_numerals(rest: Option<&[u8]>) -> bool
-    ensures { result ≡ list_all faults.is_numeral (words_left (option_copied rest.entry)) }
+    ensures { result ≡ list_all numbers.is_numeral (words_left (option_copied rest.entry)) }
 {
     let mut left = rest;
     while let Some((word, after)) = next_word(left) {

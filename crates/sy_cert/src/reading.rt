@@ -12,10 +12,11 @@ use crate::certificate::Certificate;
 use crate::fault::FaultCode;
 use crate::lines::{PathLine, class_line, inner_line, path_line, relay_line};
 use crate::row::Row;
-use crate::words::{first_word, next_word, number};
+use crate::words::number;
 use std::alloc::Global;
 use sy_script::Items;
 use sy_wire::Class;
+use sy_wire::words::{first_word, next_word};
 
 /// The highest number of a class.
 const MOST_CLASS: u32 = 191;

@@ -15,6 +15,7 @@ use sy_script::Items;
 use sy_site::finding::{Finding, Kind, WayRow};
 use sy_site::{Site, SiteAction, SiteInput};
 use sy_wire::Class;
+use sy_wire::numbers::number_up_to;
 
 /// Classes by their names.
 pub fn class_names(alloc: Global, classes: &[Class]) -> Result<Elements, AllocError> {
@@ -40,20 +41,7 @@ fn cut_number(words: &[u8]) -> (Option<u64>, &[u8]) {
 
 /// The number that a word of decimal digits is.
 pub fn number_of(word: &[u8]) -> Option<u64> {
-    let mut number: u64 = 0;
-    if word.is_empty() {
-        return None;
-    }
-    for byte in word {
-        let digit = *byte;
-        if !digit.is_ascii_digit() {
-            return None;
-        }
-        number = number
-            .saturating_mul(10)
-            .saturating_add(u64::from(digit.saturating_sub(b'0')));
-    }
-    Some(number)
+    number_up_to(word, u64::MAX)
 }
 
 /// Puts the number and the name of a kind or a fault.

@@ -1,6 +1,7 @@
 //! Notes of the lines of an events file, and of a certificate.
 
 use crate::encoding::{push_encoding, push_return};
+use crate::file_line::{FileLine, stands_at_word};
 use crate::site::lines::relay_names;
 use crate::site::reference::{file_named, push_no_port};
 use std::alloc::{AllocError, Global};
@@ -11,6 +12,7 @@ use sy_report::texts::near::nearest;
 use sy_report::texts::note::{Note, Point};
 use sy_report::texts::parts::Part;
 use sy_wire::Message;
+use sy_wire::numbers::decimal_up_to;
 
 /// The words that an event begins with.
 static EVENTS: [&[u8]; 9] = [
@@ -28,29 +30,6 @@ static EVENTS: [&[u8]; 9] = [
 /// The words that a row of a certificate begins with.
 static ROWS: [&[u8]; 6] = [b"class", b"reach", b"branch", b"rank", b"inner", b"path"];
 
-/// A line of a file that a command reads beside a site.
-#[derive(Clone, Copy)]
-struct OtherLine<'a> {
-    file: &'a str,
-    number: u64,
-    line: &'a [u8],
-}
-
-// Says that a word of the line stands there.
-fn stands_at_word(alloc: Global, note: &mut Note, at: OtherLine<'_>, number: usize) {
-    let (place, word): (usize, &[u8]) = match word_in(at.line, number) {
-        Some(found) => found,
-        None => (at.line.len(), b"the end of the line"),
-    };
-    let column = (place as u64).saturating_add(1);
-    let point = Point {
-        line: at.number,
-        column,
-    };
-    note.stands_at(alloc, at.file.as_bytes(), Some(point));
-    note.what.put(&[Part::Text(word)]);
-}
-
 // What RAW is of a `take` line: all behind its fifth word.
 fn raw_of(line: &[u8]) -> Option<(usize, &[u8])> {
     let (place, word) = word_in(line, 4)?;
@@ -62,7 +41,7 @@ fn raw_of(line: &[u8]) -> Option<(usize, &[u8])> {
 }
 
 // Says of a RAW that is no message what is wrong with it, where something is, and answers whether it is.
-fn push_raw(alloc: Global, note: &mut Note, at: OtherLine<'_>) -> Result<bool, AllocError> {
+fn push_raw(alloc: Global, note: &mut Note, at: FileLine<'_>) -> Result<bool, AllocError> {
     let Some((start, raw)) = raw_of(at.line) else {
         return Ok(false);
     };
@@ -91,7 +70,7 @@ fn push_raw(alloc: Global, note: &mut Note, at: OtherLine<'_>) -> Result<bool, A
 fn push_relay(
     alloc: Global,
     note: &mut Note,
-    at: OtherLine<'_>,
+    at: FileLine<'_>,
     site_text: &[u8],
 ) -> Result<bool, AllocError> {
     let names = relay_names(alloc, site_text)?;
@@ -128,7 +107,7 @@ fn shape_of(word: &[u8]) -> &'static str {
 fn push_port(
     alloc: Global,
     note: &mut Note,
-    at: OtherLine<'_>,
+    at: FileLine<'_>,
     file: Option<&RelayText>,
 ) -> Result<bool, AllocError> {
     let (Some((_, relay)), Some((_, port))) = (word_in(at.line, 1), word_in(at.line, 2)) else {
@@ -148,16 +127,11 @@ fn is_of_input(word: &[u8]) -> bool {
 
 // Whether a word is the number of a hand.
 fn is_hand(word: &[u8]) -> bool {
-    match word {
-        [digit] => digit.is_ascii_digit(),
-        [b'1'..=b'5', digit] => digit.is_ascii_digit(),
-        [b'6', b'0'..=b'3'] => true,
-        _ => false,
-    }
+    decimal_up_to(word, 63).is_some()
 }
 
 // Says that an event of an input has no hand there, where that is so, and answers whether it is.
-fn push_hand(alloc: Global, note: &mut Note, at: OtherLine<'_>, word: &[u8]) -> bool {
+fn push_hand(alloc: Global, note: &mut Note, at: FileLine<'_>, word: &[u8]) -> bool {
     if let Some((_, hand)) = word_in(at.line, 3)
         && is_hand(hand)
     {
@@ -170,7 +144,7 @@ fn push_hand(alloc: Global, note: &mut Note, at: OtherLine<'_>, word: &[u8]) -> 
 }
 
 // Which word is likely wrong: behind a hand what it takes, or the action; else the worker.
-fn doubtful(at: OtherLine<'_>, word: &[u8]) -> usize {
+fn doubtful(at: FileLine<'_>, word: &[u8]) -> usize {
     if !is_of_input(word) {
         return 2;
     }
@@ -184,7 +158,7 @@ fn doubtful(at: OtherLine<'_>, word: &[u8]) -> usize {
 fn push_event(
     alloc: Global,
     note: &mut Note,
-    at: OtherLine<'_>,
+    at: FileLine<'_>,
     word: &[u8],
     site_text: &[u8],
     file: Option<&RelayText>,
@@ -212,7 +186,7 @@ fn push_event(
 fn push_line(
     alloc: Global,
     note: &mut Note,
-    at: OtherLine<'_>,
+    at: FileLine<'_>,
     site_text: &[u8],
     file: Option<&RelayText>,
 ) -> Result<(), AllocError> {
@@ -234,7 +208,7 @@ fn push_line(
 }
 
 // Whether a line is refused for its end, or its beginning, alone.
-fn push_bytes(alloc: Global, note: &mut Note, at: OtherLine<'_>, text: &[u8]) -> bool {
+fn push_bytes(alloc: Global, note: &mut Note, at: FileLine<'_>, text: &[u8]) -> bool {
     let point = Point {
         line: at.number,
         column: 1,
@@ -248,16 +222,21 @@ fn push_bytes(alloc: Global, note: &mut Note, at: OtherLine<'_>, text: &[u8]) ->
 }
 
 // What is said of a line of a file beside a site's.
-fn other_line<'a>(file: &'a str, text: &'a [u8], number: u64) -> OtherLine<'a> {
+fn other_line<'a>(file: &'a str, text: &'a [u8], number: u64) -> FileLine<'a> {
     let line: &[u8] = match line_at(text, number) {
         Some(line) => line,
         None => &[],
     };
-    OtherLine { file, number, line }
+    FileLine {
+        file,
+        text,
+        number,
+        line,
+    }
 }
 
 // The name of the file of the relay that an event of an input is at.
-fn file_meant<'t>(at: OtherLine<'_>, site_text: &'t [u8]) -> Option<&'t str> {
+fn file_meant<'t>(at: FileLine<'_>, site_text: &'t [u8]) -> Option<&'t str> {
     let (_, word) = word_in(at.line, 0)?;
     let (_, relay) = word_in(at.line, 1)?;
     if is_of_input(word) {
@@ -307,7 +286,7 @@ pub fn push_illegal(
 }
 
 // Says of a line that has no row's shape what the lines of a certificate are.
-fn push_no_shape(note: &mut Note, at: OtherLine<'_>) {
+fn push_no_shape(note: &mut Note, at: FileLine<'_>) {
     if at.number == 1 {
         note.why.say(
             "the first line is cert 1, or cert 2 for a site file with policy 2, with an LF behind it",
@@ -325,7 +304,7 @@ fn push_no_shape(note: &mut Note, at: OtherLine<'_>) {
     }
 }
 
-fn push_row(note: &mut Note, at: OtherLine<'_>, fault: TextFault) {
+fn push_row(note: &mut Note, at: FileLine<'_>, fault: TextFault) {
     match fault.code {
         FaultCode::Order => {
             note.why.say(

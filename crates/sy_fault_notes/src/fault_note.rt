@@ -4,9 +4,8 @@ use crate::events::{push_illegal, push_no_event, push_no_row};
 use crate::plan::notes::push_plan_fault;
 use crate::script::notes::push_script_fault;
 use crate::site::files::push_unread;
-use crate::site::lines::{
-    SiteLine, push_duplicate_line, push_faulty_line, site_line, stands_at_word,
-};
+use crate::file_line::{FileLine, stands_at_word};
+use crate::site::lines::{push_duplicate_line, push_faulty_line, site_line};
 use crate::site::reference::{
     file_of_word, push_no_action, push_no_archive, push_no_entry, push_nothing_protected,
 };
@@ -66,12 +65,12 @@ fn line_of(fault: &SiteFault) -> u64 {
 }
 
 /// The line of a site file in which a fault is.
-pub fn faulty_line<'a>(site_name: &'a str, text: &'a [u8], fault: &SiteFault) -> SiteLine<'a> {
+pub fn faulty_line<'a>(site_name: &'a str, text: &'a [u8], fault: &SiteFault) -> FileLine<'a> {
     site_line(site_name, text, line_of(fault))
 }
 
 /// The name of the relay's file that is spoken of with a fault of a line.
-pub fn file_meant<'a>(at: SiteLine<'a>, fault: &SiteFault) -> Option<&'a str> {
+pub fn file_meant<'a>(at: FileLine<'a>, fault: &SiteFault) -> Option<&'a str> {
     match fault {
         SiteFault::NoSuchEntry(_) | SiteFault::NoSuchAction(_) => file_of_word(at, 1),
         SiteFault::NoSuchArchive(_) => file_of_word(at, 2),
@@ -84,7 +83,7 @@ pub fn file_meant<'a>(at: SiteLine<'a>, fault: &SiteFault) -> Option<&'a str> {
 pub fn push_site_fault(
     alloc: Global,
     note: &mut Note,
-    at: SiteLine<'_>,
+    at: FileLine<'_>,
     file: Option<&RelayText>,
     fault: &SiteFault,
 ) -> Result<(), AllocError> {

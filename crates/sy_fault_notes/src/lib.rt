@@ -5,6 +5,7 @@ mod encoding;
 mod events;
 pub mod fault_note;
 pub mod fault_notes;
+pub mod file_line;
 pub mod plan;
 pub mod script;
 pub mod site;

@@ -4,7 +4,7 @@ use crate::faults_with_notes::ToldFault;
 use crate::mending::mended_text::Draft;
 use std::alloc::{AllocError, Global};
 use sy_fault_notes::fault_note::{faulty_line, file_meant, push_site_fault};
-use sy_fault_notes::site::lines::SiteLine;
+use sy_fault_notes::file_line::FileLine;
 use sy_fault_notes::site::spare::{first_line, sets_policy};
 use sy_places::relay_file::places::file_in;
 use sy_places::site_file::source::{line_at, place_of_line, without_return, word_in};
@@ -103,7 +103,7 @@ fn cut_lines(draft: &mut Draft, numbers: &[usize]) -> Result<(), AllocError> {
 // The file that is spoken of with a fault of a line, as it was read.
 fn file_with<'a>(
     judged: &[JudgedFile<'a>],
-    at: SiteLine<'_>,
+    at: FileLine<'_>,
     fault: &SiteFault,
 ) -> Option<&'a RelayText> {
     let name = file_meant(at, fault)?;

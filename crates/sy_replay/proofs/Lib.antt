@@ -1,3 +1,4 @@
+pub mod Numerals
 pub mod Refused
 pub mod Made
 pub mod Sites

@@ -7,10 +7,11 @@
 --   postlost RELAY W full                  or `memory`
 use Rattle.std.specs.Prelude.{◌≡◌, ◌<◌, ℕ, Bool, true, false, not, ◌&&◌, ◌||◌, ◌==◌, if◌then◌else◌, nat_le, List, [], ◌∷◌, ◌⊎◌, length, Option, Some, None, option_and_then, codes}
 use Rattle.std.specs.Arc.{arc_value}
-use Rattle.std.specs.List.{slice_index, slice_split}
+use Rattle.std.specs.List.{slice_index}
 use Rattle.std.specs.Str.Parse.{digits_value}
 use Rattle.sy_wire.specs.Messages.{IsMessage, Said}
-use Rattle.sy_select.specs.Properties.{is_numeral}
+use Rattle.sy_wire.specs.Numbers.{is_numeral}
+pub use Rattle.sy_wire.specs.Words.{words_in}
 use Rattle.sy_board.specs.relay.Steps as steps
 use Rattle.sy_site.specs.declared.site.SiteAction.{SiteAction}
 use Rattle.sy_site.specs.declared.site.SiteInput.{SiteInput}
@@ -25,10 +26,6 @@ use Rattle.sy_replay.specs.declared.line.verb.Verb.TheVariants as verb
 pub use Rattle.sy_replay.specs.Events.{site_event}
 
 -- ---- words and numbers
-
--- the words of a line: what stands between its spaces, so that the words with a space between each two are the line
-abbrev pub words_in : List ℕ → List (List ℕ)
-words_in line = slice_split (λ b. b == 32) line
 
 -- an empty line, and one that begins with a number sign
 abbrev pub is_skipped : List ℕ → Bool

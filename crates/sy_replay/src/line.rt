@@ -20,7 +20,7 @@ use std::alloc::Global;
 use sy_site::Site;
 use takes::take;
 use verb::{Verb, verb_of};
-use words::first_word;
+use sy_wire::words::first_word;
 
 // The event of what is behind a line's first word.
 fn event_behind(

@@ -9,7 +9,6 @@ pub mod GrammarLaws
 pub mod Valuations
 pub mod Verdicts
 pub mod Contains
-pub mod Numbers
 pub mod Chains
 pub mod ExprLaws
 pub mod OneReading

@@ -11,6 +11,7 @@ use Rattle.std.specs.Str.{bytes_eq, str_eq_ignore_ascii_case}
 use Rattle.std.specs.Str.Parse.{digits_value}
 use Rattle.sy_wire.specs.declared.class.Class.{Class}
 use Rattle.sy_wire.specs.Messages.{Said}
+use Rattle.sy_wire.specs.Numbers.{is_numeral}
 use Rattle.sy_script.specs.declared.tree.Comparison.{Comparison}
 use Rattle.sy_script.specs.declared.tree.Operand.{Operand}
 use Rattle.sy_script.specs.declared.tree.Operand.TheVariants as operand
@@ -76,10 +77,6 @@ relation_by operator.AtMost = Some relation.AtMost
 relation_by operator.Greater = Some relation.Greater
 relation_by operator.AtLeast = Some relation.AtLeast
 relation_by operator.Named = None
-
--- One digit or more, and nothing else.
-abbrev pub is_numeral : List ℕ → Bool
-is_numeral digits = not (length digits == 0) && list_all is_ascii_digit digits
 
 -- A number as a test keeps it: 255 stands for all larger ones, which compare like it with every facility and severity.
 abbrev pub kept : ℕ → ℕ

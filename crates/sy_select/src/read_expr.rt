@@ -14,6 +14,10 @@ use crate::selector::Selector;
 use std::alloc::{AllocError, Global};
 use sy_script::tree::{Comparison, ExprTree, Operand, Operator, Text};
 use sy_script::{Boxed, Items};
+use sy_wire::numbers::{is_numeral, number_up_to};
+
+/// The largest number that a test keeps.
+const LARGEST: u64 = 255;
 
 fn match_by(operator: Operator, word: &[u8]) -> Option<Match>
     ensures { result ≡ spec.match_by operator word.now }
@@ -45,17 +49,13 @@ fn relation_by(operator: Operator) -> Option<Relation>
 fn number(digits: &[u8]) -> Option<u8>
     ensures { result ≡ spec.number digits.now }
 {
-    if digits.is_empty() {
+    if !is_numeral(digits) {
         return None;
     }
-    let mut number = 0u8;
-    for digit in digits {
-        if !digit.is_ascii_digit() {
-            return None;
-        }
-        number = number.saturating_mul(10).saturating_add(*digit - b'0');
+    match number_up_to(digits, LARGEST) {
+        Some(number) => Some(number as u8),
+        None => Some(255),
     }
-    Some(number)
 }
 
 fn number_in(operand: &Operand) -> Option<u8>

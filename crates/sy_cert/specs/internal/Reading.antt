@@ -6,17 +6,13 @@ use Rattle.sy_cert.specs.declared.fault.FaultCode.TheVariants as code
 use Rattle.sy_cert.specs.declared.row.Row.{Row}
 use Rattle.sy_cert.specs.declared.kinds.Kind.{Kind}
 use Rattle.sy_cert.specs.Rows.{AreOccurrences, IsRow, kind, last_kind, may_follow, words}
+pub use Rattle.sy_wire.specs.Words.{words_left}
 use Rattle.sy_cert.specs.Faults.{HasShape, IsFaulty, Lacks, words_in}
 
 -- bytes are cut at the first of a mark
 pub record IsCut (mark : ℕ) (bytes front behind : List ℕ) : Type 0 where
   pub whole : bytes ≡ front ++ mark ∷ behind
   pub lacks : Lacks mark front
-
--- the words that are left of a line; behind its last word nothing is
-abbrev pub words_left : Option (List ℕ) → List (List ℕ)
-words_left None = []
-words_left (Some rest) = words_in rest
 
 -- the row of a line, in a certificate of the version
 pub record IsRowOf (version : ℕ) (line : List (List ℕ)) (r : Row) : Type 0 where

@@ -1,5 +1,6 @@
 //! Notes of the faults of a relay's plan: a script that is read, and says nothing that a relay can do.
 
+use crate::file_line::is_same_number;
 use crate::plan::parameter_rows::{Values, names_of, push_list, push_parameter, row_of, tables_of};
 use crate::plan::tests::{
     push_facility, push_operator, push_severity, push_shape, push_unknown_property,
@@ -240,23 +241,12 @@ fn push_duplicate(note: &mut Note, places: Places<'_>, fault: &PlanFault) {
     note.change.say("another name, or one of the two");
 }
 
-// The number that digits write, so far as it fits.
-fn number(digits: &[u8]) -> u64 {
-    let mut number: u64 = 0;
-    for digit in digits {
-        number = number
-            .saturating_mul(10)
-            .saturating_add(u64::from(digit.saturating_sub(b'0')));
-    }
-    number
-}
-
 fn push_same_port(note: &mut Note, places: Places<'_>, fault: &PlanFault) {
     note.why.say("the input at ");
     for object in places.objects {
         if object.word == ObjectWord::Input && object.start < fault.span.start {
             if let Some(port) = value_of(object.params, b"port") {
-                if number(port) == number(fault.word.as_slice()) {
+                if is_same_number(port, fault.word.as_slice()) {
                     places.push_point(&mut note.why, object.start);
                     break;
                 }

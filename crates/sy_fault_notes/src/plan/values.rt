@@ -12,6 +12,7 @@ use sy_report::texts::parts::Part;
 use sy_report::texts::words::Words;
 use sy_rules::PlanFault;
 use sy_script::tree::Param;
+use sy_wire::numbers::number_up_to;
 
 /// The sizes that letters stand for in rsyslog.
 static SUFFIXES: [(u8, u64, u64); 6] = [
@@ -39,15 +40,10 @@ fn push_value(words: &mut Words, value: &[u8]) {
 // The number that digits with a letter behind them write: in thousands, and as rsyslog reads it.
 fn sizes_of(value: &[u8]) -> Option<(u64, u64)> {
     let (last, digits) = value.split_last()?;
-    if digits.is_empty() || digits.len() > 10 || !digits.iter().all(|d| d.is_ascii_digit()) {
+    if digits.len() > 10 {
         return None;
     }
-    let mut number: u64 = 0;
-    for digit in digits {
-        number = number
-            .saturating_mul(10)
-            .saturating_add(u64::from(digit.saturating_sub(b'0')));
-    }
+    let number = number_up_to(digits, u64::MAX)?;
     for (letter, plain, read) in &SUFFIXES {
         if letter == last {
             return Some((number.saturating_mul(*plain), number.saturating_mul(*read)));

@@ -1,6 +1,7 @@
 //! Notes of the faults of a site file's lines.
 
 use crate::encoding::push_encoding;
+use crate::file_line::{FileLine, stands_at_word};
 use crate::plan::parameter_rows::push_list;
 use crate::plan::tests::{push_facility, push_severity, push_shape};
 use crate::site::spare::{push_policy_line, push_spare_line};
@@ -10,6 +11,7 @@ use sy_report::texts::near::nearest;
 use sy_report::texts::note::{Note, Point};
 use sy_report::texts::parts::Part;
 use sy_select::{FaultCode, Selector};
+use sy_wire::numbers::is_numeral;
 
 /// The words that a line begins with.
 static FIRST_WORDS: [&[u8]; 5] = [b"relay", b"entry", b"protect", b"policy", b"spare"];
@@ -17,42 +19,18 @@ static FIRST_WORDS: [&[u8]; 5] = [b"relay", b"entry", b"protect", b"policy", b"s
 /// The most bytes of a site file.
 const MOST: usize = 1_048_576;
 
-/// A line of a site file: the file's name and text, the line's number, and its bytes without CR and LF.
-#[derive(Clone, Copy)]
-pub struct SiteLine<'a> {
-    pub file: &'a str,
-    pub text: &'a [u8],
-    pub number: u64,
-    pub line: &'a [u8],
-}
-
-/// The line of a number.
-pub fn site_line<'a>(file: &'a str, text: &'a [u8], number: u64) -> SiteLine<'a> {
+/// The line of a number, of a site file.
+pub fn site_line<'a>(file: &'a str, text: &'a [u8], number: u64) -> FileLine<'a> {
     let line: &[u8] = match line_at(text, number) {
         Some(line) => without_return(line),
         None => &[],
     };
-    SiteLine {
+    FileLine {
         file,
         text,
         number,
         line,
     }
-}
-
-/// Says that a word of the line, by its number, stands there.
-pub fn stands_at_word(alloc: Global, note: &mut Note, at: SiteLine<'_>, number: usize) {
-    let (place, word): (usize, &[u8]) = match word_in(at.line, number) {
-        Some(found) => found,
-        None => (at.line.len(), b"the end of the line"),
-    };
-    let column = (place as u64).saturating_add(1);
-    let point = Point {
-        line: at.number,
-        column,
-    };
-    note.stands_at(alloc, at.file.as_bytes(), Some(point));
-    note.what.put(&[Part::Text(word)]);
 }
 
 /// The names of the relay lines of a site file.
@@ -74,10 +52,7 @@ fn is_name(word: &[u8]) -> bool {
 }
 
 fn is_port(word: &[u8]) -> bool {
-    word.len() <= 10
-        && word.first() != Some(&b'0')
-        && !word.is_empty()
-        && word.iter().all(|b| b.is_ascii_digit())
+    word.len() <= 10 && word.first() != Some(&b'0') && is_numeral(word)
 }
 
 /// How many words a line has.
@@ -92,7 +67,7 @@ pub fn words_in(line: &[u8]) -> usize {
 }
 
 // Says that a line begins with no word that a line begins with.
-fn push_first_word(alloc: Global, note: &mut Note, at: SiteLine<'_>, word: &[u8]) {
+fn push_first_word(alloc: Global, note: &mut Note, at: FileLine<'_>, word: &[u8]) {
     stands_at_word(alloc, note, at, 0);
     note.why.say("a line begins with relay, entry, protect, policy or spare");
     match nearest(word, &FIRST_WORDS) {
@@ -104,14 +79,14 @@ fn push_first_word(alloc: Global, note: &mut Note, at: SiteLine<'_>, word: &[u8]
 }
 
 /// Says which words a line has, at the first word that is too many, or where one is lacking.
-pub fn push_words(alloc: Global, note: &mut Note, at: SiteLine<'_>, number: usize, shape: &str) {
+pub fn push_words(alloc: Global, note: &mut Note, at: FileLine<'_>, number: usize, shape: &str) {
     stands_at_word(alloc, note, at, number);
     note.why.say("the words of such a line are ");
     note.why.say(shape);
     note.change.say(shape);
 }
 
-fn push_relay_line(alloc: Global, note: &mut Note, at: SiteLine<'_>) {
+fn push_relay_line(alloc: Global, note: &mut Note, at: FileLine<'_>) {
     let name: &[u8] = match word_in(at.line, 1) {
         Some((_, name)) => name,
         None => &[],
@@ -141,7 +116,7 @@ fn push_relay_line(alloc: Global, note: &mut Note, at: SiteLine<'_>) {
 pub fn push_unknown_relay(
     alloc: Global,
     note: &mut Note,
-    at: SiteLine<'_>,
+    at: FileLine<'_>,
     number: usize,
 ) -> Result<bool, AllocError> {
     let names = relay_names(alloc, at.text)?;
@@ -163,7 +138,7 @@ pub fn push_unknown_relay(
     Ok(true)
 }
 
-fn push_entry_line(alloc: Global, note: &mut Note, at: SiteLine<'_>) -> Result<(), AllocError> {
+fn push_entry_line(alloc: Global, note: &mut Note, at: FileLine<'_>) -> Result<(), AllocError> {
     let port: &[u8] = match word_in(at.line, 2) {
         Some((_, port)) => port,
         None => &[],
@@ -188,7 +163,7 @@ fn push_entry_line(alloc: Global, note: &mut Note, at: SiteLine<'_>) -> Result<(
 }
 
 // Says what is wrong with a selector, where something is, and answers whether it is.
-fn push_selector(alloc: Global, note: &mut Note, at: SiteLine<'_>, word: &[u8]) -> bool {
+fn push_selector(alloc: Global, note: &mut Note, at: FileLine<'_>, word: &[u8]) -> bool {
     let Err(fault) = Selector::read(alloc, word) else {
         return false;
     };
@@ -201,7 +176,7 @@ fn push_selector(alloc: Global, note: &mut Note, at: SiteLine<'_>, word: &[u8]) 
     true
 }
 
-fn push_protect_line(alloc: Global, note: &mut Note, at: SiteLine<'_>) -> Result<(), AllocError> {
+fn push_protect_line(alloc: Global, note: &mut Note, at: FileLine<'_>) -> Result<(), AllocError> {
     let selector: &[u8] = match word_in(at.line, 1) {
         Some((_, selector)) => selector,
         None => &[],
@@ -232,7 +207,7 @@ fn push_protect_line(alloc: Global, note: &mut Note, at: SiteLine<'_>) -> Result
 pub fn push_faulty_line(
     alloc: Global,
     note: &mut Note,
-    at: SiteLine<'_>,
+    at: FileLine<'_>,
 ) -> Result<(), AllocError> {
     if at.text.len() > MOST {
         note.stands_at(alloc, at.file.as_bytes(), None);
@@ -275,7 +250,7 @@ pub fn push_faulty_line(
 }
 
 // The number of the first line whose words begin like these, before another line.
-fn earlier(at: SiteLine<'_>, word: &[u8], is_relay: bool) -> Option<u64> {
+fn earlier(at: FileLine<'_>, word: &[u8], is_relay: bool) -> Option<u64> {
     let mut number: u64 = 1;
     for line in at.text.split(|b| *b == b'\n') {
         let line = without_return(line);
@@ -308,7 +283,7 @@ fn same_words(line: &[u8], other: &[u8]) -> bool {
 }
 
 /// Says of a line that repeats another which one that is.
-pub fn push_duplicate_line(alloc: Global, note: &mut Note, at: SiteLine<'_>) {
+pub fn push_duplicate_line(alloc: Global, note: &mut Note, at: FileLine<'_>) {
     let is_relay = find(at.line, b"relay").is_some()
         && matches!(word_in(at.line, 0), Some((_, b"relay")));
     stands_at_word(alloc, note, at, if is_relay { 1 } else { 0 });

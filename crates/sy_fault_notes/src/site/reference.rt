@@ -1,6 +1,6 @@
 //! Notes of lines of a site file that name an input or an archive that isn't there, and of a site without any.
 
-use crate::site::lines::{SiteLine, stands_at_word};
+use crate::file_line::{FileLine, is_same_number, stands_at_word};
 use std::alloc::{AllocError, Global};
 use sy_places::relay_file::outline::{Object, ObjectWord, value_of};
 use sy_places::relay_file::places::{Places, file_in, file_name_in, objects_of, places_of};
@@ -25,27 +25,16 @@ pub fn file_named<'t>(text: &'t [u8], relay: &[u8]) -> Option<&'t str> {
 }
 
 /// The name of the file of the relay that a word of the line names.
-pub fn file_of_word<'a>(at: SiteLine<'a>, number: usize) -> Option<&'a str> {
+pub fn file_of_word<'a>(at: FileLine<'a>, number: usize) -> Option<&'a str> {
     let (_, relay) = word_in(at.line, number)?;
     file_named(at.text, relay)
-}
-
-// The number that digits write, so far as it fits.
-fn number(digits: &[u8]) -> u64 {
-    let mut number: u64 = 0;
-    for digit in digits {
-        number = number
-            .saturating_mul(10)
-            .saturating_add(u64::from(digit.saturating_sub(b'0')));
-    }
-    number
 }
 
 fn has_port(objects: &[Object<'_>], wanted: &[u8]) -> bool {
     for object in objects {
         if object.word == ObjectWord::Input {
             if let Some(port) = value_of(object.params, b"port") {
-                if number(port) == number(wanted) {
+                if is_same_number(port, wanted) {
                     return true;
                 }
             }
@@ -93,7 +82,7 @@ pub fn push_no_port(
 pub fn push_no_entry(
     alloc: Global,
     note: &mut Note,
-    at: SiteLine<'_>,
+    at: FileLine<'_>,
     file: Option<&RelayText>,
 ) -> Result<(), AllocError> {
     stands_at_word(alloc, note, at, 2);
@@ -203,7 +192,7 @@ fn push_choice(
 pub fn push_no_archive(
     alloc: Global,
     note: &mut Note,
-    at: SiteLine<'_>,
+    at: FileLine<'_>,
     file: Option<&RelayText>,
 ) -> Result<(), AllocError> {
     stands_at_word(alloc, note, at, 3);
@@ -222,7 +211,7 @@ pub fn push_no_archive(
 pub fn push_no_action(
     alloc: Global,
     note: &mut Note,
-    at: SiteLine<'_>,
+    at: FileLine<'_>,
     file: Option<&RelayText>,
 ) -> Result<(), AllocError> {
     stands_at_word(alloc, note, at, 2);

@@ -1,6 +1,7 @@
 //! Notes of the policy line and of spare lines of a site file.
 
-use crate::site::lines::{SiteLine, push_unknown_relay, push_words, stands_at_word, words_in};
+use crate::file_line::{FileLine, stands_at_word};
+use crate::site::lines::{push_unknown_relay, push_words, words_in};
 use std::alloc::{AllocError, Global};
 use sy_places::site_file::source::{without_return, word_in};
 use sy_report::texts::note::Note;
@@ -35,7 +36,7 @@ pub fn sets_policy(line: &[u8]) -> bool {
 }
 
 /// Says of a policy line that is none, or has no place there, what is wrong with it.
-pub fn push_policy_line(alloc: Global, note: &mut Note, at: SiteLine<'_>) {
+pub fn push_policy_line(alloc: Global, note: &mut Note, at: FileLine<'_>) {
     if words_in(at.line) != 2 {
         push_words(alloc, note, at, words_in(at.line).min(2), "policy 2");
         return;
@@ -69,7 +70,7 @@ pub fn push_policy_line(alloc: Global, note: &mut Note, at: SiteLine<'_>) {
 }
 
 /// Says of a spare line that is none, or has no place there, what is wrong with it.
-pub fn push_spare_line(alloc: Global, note: &mut Note, at: SiteLine<'_>) -> Result<(), AllocError> {
+pub fn push_spare_line(alloc: Global, note: &mut Note, at: FileLine<'_>) -> Result<(), AllocError> {
     let count = words_in(at.line);
     if count != 3 {
         push_words(alloc, note, at, count.min(3), "spare RELAY ACTION");
@@ -105,7 +106,7 @@ fn names_action(line: &[u8], relay: &[u8], action: &[u8]) -> bool {
 }
 
 /// Says of a spare line which protect line names its action.
-pub fn push_spare_archive(alloc: Global, note: &mut Note, at: SiteLine<'_>) {
+pub fn push_spare_archive(alloc: Global, note: &mut Note, at: FileLine<'_>) {
     stands_at_word(alloc, note, at, 2);
     let (Some((_, relay)), Some((_, action))) = (word_in(at.line, 1), word_in(at.line, 2)) else {
         return;

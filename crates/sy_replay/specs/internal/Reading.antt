@@ -7,12 +7,8 @@ use Rattle.sy_replay.specs.declared.line.fault.EventFault.{EventFault}
 use Rattle.sy_replay.specs.declared.line.fault.EventFault.TheVariants as fault
 use Rattle.sy_replay.specs.declared.line.verb.Verb.{Verb}
 use Rattle.sy_replay.specs.declared.line.verb.Verb.TheVariants as verb
+pub use Rattle.sy_wire.specs.Words.{words_left}
 use Rattle.sy_replay.specs.Lines.{IsHand, words_in}
-
--- the words that are left of a line; behind its last word nothing is
-abbrev pub words_left : Option (List ℕ) → List (List ℕ)
-words_left None = []
-words_left (Some rest) = words_in rest
 
 -- why words give no event of these; and what they are where memory ran out
 abbrev pub NoEvent : (SiteEvent → Type 0) → Type 0 → EventFault → Type 0

@@ -9,7 +9,8 @@ ghost use Rattle.sy_site.specs.Sites as sites;
 ghost use Rattle.sy_replay.specs.Lines as spec;
 ghost use Rattle.sy_replay.specs.internal.Reading.{words_left};
 
-use super::words::{next_word, number, only_word};
+use super::words::number;
+use sy_wire::words::{next_word, only_word};
 use sy_rules::Input;
 use sy_rules::laws::plans_are_whole;
 use sy_site::{Site, SiteAction, SiteInput};

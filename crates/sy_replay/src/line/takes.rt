@@ -9,7 +9,8 @@ ghost use Rattle.sy_replay.specs.internal.Reading.{AreRaw, IsHandRaw, IsNewRaw, 
 
 use super::fault::EventFault;
 use super::parts::{HandPart, hand_part, place_part};
-use super::words::{is_word, next_word};
+use super::words::is_word;
+use sy_wire::words::next_word;
 use crate::event::Event;
 use std::alloc::Global;
 use std::sync::Arc;

@@ -4,7 +4,7 @@ use Rattle.std.specs.List.{list_any}
 use Rattle.std.specs.Str.{str_eq_ignore_ascii_case, bytes_eq}
 use Rattle.std.specs.Str.Parse.{digits_value}
 use Rattle.sy_script.specs.declared.tree.Param.{Param}
-use Rattle.sy_select.specs.Properties.{is_numeral}
+use Rattle.sy_wire.specs.Numbers.{is_numeral}
 use Rattle.sy_rules.specs.declared.parameters.kind.Kind.{Kind}
 use Rattle.sy_rules.specs.declared.fault.FaultCode.TheVariants as code
 use Rattle.sy_rules.specs.declared.items.fault.ItemFault.{ItemFault}

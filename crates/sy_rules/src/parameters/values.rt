@@ -10,26 +10,23 @@ ghost use Rattle.sy_rules.specs.internal.Views as view;
 use crate::parameters::by_name::same_name;
 use crate::parameters::rows::Shape;
 use sy_script::tree::Param;
+use sy_wire::numbers::number_up_to;
 
 /// The most digits of a number.
 const MOST_DIGITS: usize = 10;
+
+/// The largest number of so many digits.
+const LARGEST: u64 = 9_999_999_999;
 
 /// The number that 1 to 10 decimal digits write, where the value is that.
 #[tactic(auto, unfolding(crate::specs::parameters::Values::decimal_value))]
 pub fn decimal_value(value: &[u8]) -> Option<u64>
     ensures { result ≡ spec.decimal_value value.now }
 {
-    if value.is_empty() || value.len() > MOST_DIGITS {
+    if value.len() > MOST_DIGITS {
         return None;
     }
-    let mut number = 0;
-    for digit in value {
-        if !digit.is_ascii_digit() {
-            return None;
-        }
-        number = number * 10 + u64::from(*digit - b'0');
-    }
-    Some(number)
+    number_up_to(value, LARGEST)
 }
 
 fn is_minus_one(value: &[u8]) -> bool

@@ -10,7 +10,7 @@ use Rattle.std.specs.List.{list_all, slice_index}
 use Rattle.std.specs.Net.Grammar.{IsDotted}
 use Rattle.std.specs.Prelude.{IsUtf8}
 use Rattle.std.specs.Str.Parse.{digits_value}
-use Rattle.sy_select.specs.Properties.{is_numeral}
+use Rattle.sy_wire.specs.Numbers.{is_numeral}
 use Rattle.sy_select.specs.Selectors.{IsSetOf}
 
 -- ---- words

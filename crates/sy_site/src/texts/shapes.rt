@@ -14,12 +14,16 @@ use std::alloc::Global;
 use std::net::Ipv4Addr;
 use std::str;
 use sy_select::Selector;
+use sy_wire::numbers::number_up_to;
 
 /// The most bytes of a relay's name.
 const NAME_BYTES: usize = 64;
 
 /// The most digits of a port.
 const PORT_DIGITS: usize = 10;
+
+/// The largest number of so many digits.
+const LARGEST_PORT: u64 = 9_999_999_999;
 
 /// What a relay line says.
 #[derive(Clone, Copy)]
@@ -125,14 +129,7 @@ fn port(word: &[u8]) -> Option<u64>
     if word.is_empty() || word.len() > PORT_DIGITS || word[0] == b'0' {
         return None;
     }
-    let mut number = 0;
-    for digit in word {
-        if !digit.is_ascii_digit() {
-            return None;
-        }
-        number = number * 10 + u64::from(*digit - b'0');
-    }
-    Some(number)
+    number_up_to(word, LARGEST_PORT)
 }
 
 // The two words that a text is.

@@ -6,6 +6,7 @@ ghost use Rattle.syc.specs.internal.Commands.{AreArgs};
 ghost use Rattle.syc.specs.Commands.{IsRun, options_of};
 
 use sy_report::command_line::command::{is_plain, is_word};
+use sy_wire::numbers::number_up_to;
 
 /// The longest time that may be given, in seconds: a day.
 const MOST_SECONDS: u32 = 86400;
@@ -54,20 +55,13 @@ struct Args<'a> {
 pub fn seconds(word: &[u8]) -> Option<u32>
     ensures { IfSome result (IsSeconds word.now) }
 {
-    if word.is_empty() || word.len() > DIGITS {
+    if word.len() > DIGITS {
         return None;
     }
-    let mut number: u32 = 0;
-    for digit in word {
-        if !digit.is_ascii_digit() {
-            return None;
-        }
-        number = number * 10 + u32::from(*digit - b'0');
+    match number_up_to(word, u64::from(MOST_SECONDS)) {
+        Some(number) => Some(number as u32),
+        None => None,
     }
-    if number > MOST_SECONDS {
-        return None;
-    }
-    Some(number)
 }
 
 /// The same of a time between two files, which is no less than a second.

@@ -1,7 +1,7 @@
 use Rattle.std.proofs.Common.{◌≡◌, length}
 use Rattle.std.specs.List.{list_all}
 use Rattle.std.specs.Option.{option_copied}
-use Rattle.sy_cert.specs.Faults.{is_numeral}
+use Rattle.sy_wire.specs.Numbers.{is_numeral}
 use Rattle.sy_cert.specs.internal.Reading.{words_left}
 use Rattle.sy_cert.proofs.lines.are_numerals.Given as goal
 

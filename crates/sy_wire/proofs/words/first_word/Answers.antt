@@ -1,5 +1,5 @@
-use Rattle.sy_replay.proofs.LineWords.{split_first, split_none}
-use Rattle.sy_replay.proofs.line.words.first_word.Goals as goal
+use Rattle.sy_wire.proofs.WordLaws.{split_first, split_none}
+use Rattle.sy_wire.proofs.words.first_word.Goals as goal
 
 pub returns-in-Some : goal.returns-in-Some
 returns-in-Some c = split_first c.args.line.now c.in-Some.at (rw c.in-Some.is at c.memchr.ensures)

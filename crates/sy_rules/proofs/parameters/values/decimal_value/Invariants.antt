@@ -1,9 +1,0 @@
-use Rattle.std.proofs.Common.{◌≡◌, ◌<◌, ◌^◌, drop, take}
-use Rattle.std.specs.Char.{is_ascii_digit}
-use Rattle.std.specs.List.{list_all}
-use Rattle.std.specs.Str.Parse.{digits_value}
-use Rattle.sy_rules.proofs.parameters.values.decimal_value.Given as goal
-
-abbrev pub invariant-loop-digit : goal.invariant-loop-digit
-invariant-loop-digit l =
-    (l.number ≡ digits_value 10 (take l.digit-index l.value)) × (list_all is_ascii_digit l.value ≡ list_all is_ascii_digit (drop l.digit-index l.value)) × (l.number < 10 ^ l.digit-index)
