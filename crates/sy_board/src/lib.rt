@@ -13,3 +13,4 @@ pub use relay::accounts::{Accounts, ActionCounts};
 pub use relay::answers::{Entry, Job, PostCause, Posted, Retry, Taken};
 pub use relay::board::Board;
 pub use relay::guard::Guard;
+pub use relay::reading::retry_of;

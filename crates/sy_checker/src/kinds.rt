@@ -22,6 +22,7 @@ use crate::flows::executed::Executed;
 use crate::flows::hops::{lists_at, occurrence_at};
 use crate::flows::{ClassFlows, SiteFlows, set_at};
 use crate::reach::inputs::{input_at, list_at, next_in};
+use sy_board::retry_of;
 use sy_rules::laws::plans_are_whole;
 use sy_rules::{Destination, FlowControl, Input, Occurrence, Plan, QueueParameters};
 use sy_site::{Site, SiteInput};
@@ -216,10 +217,7 @@ pub enum Risk {
 fn gives_up(plan: &Plan, action: u32) -> bool
     ensures { result ≡ is_some (plans.retry_at plan.now action) }
 {
-    match plan.actions().get(action as usize) {
-        Some(action) => action.retry.is_some(),
-        None => false,
-    }
+    retry_of(plan, action).is_some()
 }
 
 fn is_forward(plan: &Plan, action: u32) -> bool

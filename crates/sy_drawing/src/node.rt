@@ -3,12 +3,13 @@
 use crate::reach::Reach;
 use crate::text::{GREY, RED_NODE};
 use std::alloc::{AllocError, Global};
+use sy_findings::notes::object_meant::last_of;
 use sy_places::ways::followed_lists::circle;
 use sy_places::ways::relay_parts::{Spot, action_by, occurrence_meant, queue_for, spot_at};
 use sy_report::texts::parts::Part;
 use sy_report::texts::words::Words;
 use sy_rules::Occurrence;
-use sy_site::finding::{Finding, Kind, WayRow};
+use sy_site::finding::{Finding, Kind};
 use sy_site::{Site, SiteInput};
 
 /// What a node stands for, by its number in its relay.
@@ -96,13 +97,6 @@ pub fn end_node(words: &mut Words, drawing: Drawing<'_>, node: Node, is_reached:
 }
 
 // ---- what a finding is about
-
-fn last_of(way: &[WayRow]) -> Option<WayRow> {
-    match way {
-        [.., last] => Some(*last),
-        [] => None,
-    }
-}
 
 // The queue that is posted to, or the action.
 fn thing_executed(spot: Spot<'_>, occurrence: Occurrence) -> Thing {

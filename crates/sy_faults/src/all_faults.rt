@@ -7,7 +7,7 @@ use std::alloc::{AllocError, Global};
 use sy_fault_notes::fault_notes::fault_words;
 use sy_fault_notes::site::files::push_unread_relay;
 use sy_places::relay_file::places::file_in;
-use sy_places::site_file::source::without_return;
+use sy_site::without_return;
 use sy_places::site_file::texts::{RelayText, SiteTexts, Unread};
 use sy_report::outcome::halt::Halt;
 use sy_report::texts::note::Note;

@@ -7,9 +7,7 @@ pub mod plan;
 
 use crate::mending::mended_text::Draft;
 use crate::mending::parameters::{CutParameter, mend_parameters};
-use crate::mending::pieces::{
-    Mark, Piece, before, closed_at, is_sign, is_word, piece_at, pieces_of,
-};
+use crate::mending::pieces::{Mark, Piece, before, behind_pieces, closed_at, is_sign, is_word, piece_at, pieces_of};
 use std::alloc::{AllocError, Global};
 use sy_fault_notes::script::legacy::selector_line;
 use sy_fault_notes::script::opened::{Opening, open_at};
@@ -82,13 +80,6 @@ fn end_in_line(pieces: &[Piece], at: usize, line: usize) -> usize {
         }
     }
     line
-}
-
-fn behind_pieces(pieces: &[Piece], at: usize) -> &[Piece] {
-    match pieces.get(at..) {
-        Some(rest) => rest,
-        None => &[],
-    }
 }
 
 // Whether a word is one of rsyslog's older formats, whose lines are whole statements: a directive, or a selector.

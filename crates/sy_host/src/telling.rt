@@ -4,7 +4,8 @@ pub mod port_lines;
 pub mod printing_thread;
 
 use crate::listening::serving::Serving;
-use crate::telling::port_lines::{PortPace, earlier, print_due, print_left};
+use crate::rotation::troubles::earlier;
+use crate::telling::port_lines::{PortPace, print_due, print_left};
 use crate::telling::printing_thread::wait_for_printing;
 use crate::watching::noted::date;
 use std::alloc::{AllocError, Global};

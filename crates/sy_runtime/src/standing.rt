@@ -45,15 +45,6 @@ pub(crate) fn held_of(accounts: &Accounts) -> Option<u128>
     Some(held)
 }
 
-// The losses: at an input or in its hand, by a post, and as an entry left a queue.
-fn lost_of(accounts: &Accounts) -> u128
-    ensures { result ≡ accounts.now.totals.lost_in + accounts.now.totals.lost_post + accounts.now.totals.lost_out }
-{
-    u128::from(accounts.lost_in())
-        + u128::from(accounts.lost_post())
-        + u128::from(accounts.lost_out())
-}
-
 // A copy of these.
 fn copy_of(alloc: Global, actions: &[ActionCounts]) -> Result<Vec<ActionCounts>, AllocError>
     ensures { IfOk result (λ copy. copy.items ≡ actions.now) }
@@ -77,7 +68,7 @@ fn standing_of(alloc: Global, board: &Board) -> Option<Standing>
     };
     Some(Standing {
         taken: accounts.taken(),
-        lost: lost_of(accounts),
+        lost: accounts.lost(),
         held,
         queues,
         actions,

@@ -12,4 +12,6 @@ mod texts;
 
 pub use fault::{RelayFault, SiteFault};
 pub use site::{Protection, Site, SiteAction, SiteInput};
+pub use texts::files::bytes_of;
+pub use texts::lines::without_return;
 pub use texts::names::file_names;

@@ -71,13 +71,6 @@ pub fn running(at: u64, standing: &Standing) -> Moment<'_> {
     }
 }
 
-// The losses: at an input or in its hand, by a post, and as an entry left a queue.
-fn lost(accounts: &Accounts) -> u128 {
-    u128::from(accounts.lost_in())
-        + u128::from(accounts.lost_post())
-        + u128::from(accounts.lost_out())
-}
-
 /// The totals of a relay that has stopped. Nothing waits in a queue any more.
 pub fn stopped(at: u64, stopped: &Stopped) -> Moment<'_> {
     let accounts = &stopped.accounts;
@@ -85,7 +78,7 @@ pub fn stopped(at: u64, stopped: &Stopped) -> Moment<'_> {
         at,
         is_running: false,
         taken: accounts.taken(),
-        lost: lost(accounts),
+        lost: accounts.lost(),
         held: stopped.left.len() as u128,
         queues: &[],
         actions: accounts.actions(),

@@ -136,6 +136,13 @@ impl Accounts {
         self.grabbed
     }
 
+    /// All losses: at an input or in its hand, by a post, and as an entry left a queue.
+    pub fn lost(&self) -> u128
+        ensures { result ≡ self.now.totals.lost_in + self.now.totals.lost_post + self.now.totals.lost_out }
+    {
+        sum(self.lost_in, self.lost_post, self.lost_out)
+    }
+
     /// Those of them that were lost then.
     pub fn lost_out(&self) -> u64
         ensures { result ≡ self.now.totals.lost_out }

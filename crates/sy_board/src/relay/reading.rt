@@ -73,7 +73,7 @@ pub(crate) fn occurrence_of(plan: &Plan, list: u32, number: u32) -> Option<Occur
 }
 
 /// How often a failed message of an action is tried again; none where without end.
-pub(crate) fn retry_of(plan: &Plan, action: u32) -> Option<u32>
+pub fn retry_of(plan: &Plan, action: u32) -> Option<u32>
     ensures { result ≡ spec.retry_at plan.now action }
 {
     plan.actions().get(action as usize)?.retry

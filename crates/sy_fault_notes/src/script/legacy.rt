@@ -1,6 +1,7 @@
 //! Lines of rsyslog's older formats, and statements that are left out: what to write instead.
 
-use sy_places::site_file::source::{behind, between, find, without_return, word_in};
+use sy_places::site_file::source::{behind, between, find, word_in};
+use sy_site::without_return;
 use sy_report::texts::note::Note;
 use sy_report::texts::parts::Part;
 

@@ -2,7 +2,7 @@
 
 use crate::encoding::push_encoding;
 use crate::script::legacy::{push_filter_line, push_left_out, push_selector_line, selector_line};
-use crate::script::opened::{Open, Opening, open_at};
+use crate::script::opened::{Open, Opening, is_word_byte, open_at};
 use std::alloc::Global;
 use sy_places::site_file::source::{behind, between, find, place_of_line, point_at};
 use sy_report::texts::near::nearest;
@@ -28,10 +28,6 @@ static STATEMENTS: [&[u8]; 11] = [
 
 /// The most bytes of a script.
 const MOST: u64 = 1_048_576;
-
-fn is_word_byte(byte: u8) -> bool {
-    byte.is_ascii_alphanumeric() || byte == b'_' || byte == b'.' || byte == b'-'
-}
 
 /// The token at a place of a text, as far as that matters to people: a word, digits, or one byte.
 pub fn token_at(text: &[u8], place: usize) -> &[u8] {

@@ -2,7 +2,8 @@
 
 use std::alloc::Global;
 use sy_places::relay_file::places::file_name_in;
-use sy_places::site_file::source::{without_return, word_in};
+use sy_places::site_file::source::word_in;
+use sy_site::without_return;
 use sy_places::site_file::texts::{SiteTexts, Unread};
 use sy_report::reading::files::Reason;
 use sy_report::texts::note::{Note, Point};

@@ -3,7 +3,8 @@
 use crate::file_line::{FileLine, stands_at_word};
 use crate::site::lines::{push_unknown_relay, push_words, words_in};
 use std::alloc::{AllocError, Global};
-use sy_places::site_file::source::{without_return, word_in};
+use sy_places::site_file::source::word_in;
+use sy_site::without_return;
 use sy_report::texts::note::Note;
 use sy_report::texts::parts::Part;
 

@@ -115,3 +115,11 @@ pub fn closed_at(pieces: &[Piece], number: usize, opening: u8, closing: u8) -> O
     }
     None
 }
+
+/// What is left of pieces, or of others of that form, from a place on.
+pub fn behind_pieces<T>(pieces: &[T], at: usize) -> &[T] {
+    match pieces.get(at..) {
+        Some(rest) => rest,
+        None => &[],
+    }
+}

@@ -2,7 +2,7 @@
 
 use crate::mending::mended_text::Draft;
 use crate::mending::parameters::CutParameter;
-use crate::mending::pieces::{closed_at, is_sign, piece_at, pieces_of};
+use crate::mending::pieces::{behind_pieces, closed_at, is_sign, piece_at, pieces_of};
 use std::alloc::{AllocError, Global};
 use sy_fault_notes::plan::notes::{object_at, param_at};
 use sy_places::relay_file::comparisons::comparison_at;
@@ -103,13 +103,6 @@ pub fn end_of(
     match closed_at(pieces.as_slice(), body, b'{', b'}') {
         Some(end) => Ok(Some((end, closing.start))),
         None => Ok(None),
-    }
-}
-
-fn behind_pieces<T>(pieces: &[T], at: usize) -> &[T] {
-    match pieces.get(at..) {
-        Some(rest) => rest,
-        None => &[],
     }
 }
 

@@ -8,7 +8,8 @@ use sy_rules::{Occurrence, Plan};
 use sy_site::Site;
 use sy_site::finding::{Finding, Kind, WayRow};
 
-fn last_of(way: &[WayRow]) -> Option<WayRow> {
+/// The last row of a way.
+pub fn last_of(way: &[WayRow]) -> Option<WayRow> {
     match way {
         [.., last] => Some(*last),
         [] => None,

@@ -9,14 +9,16 @@ use sy_report::texts::words::Words;
 use sy_rules::Plan;
 use sy_site::Site;
 
-fn action_part(plan: &Plan, action: u32) -> Part<'_> {
+/// The name of an action.
+pub fn action_part(plan: &Plan, action: u32) -> Part<'_> {
     match plan.actions().get(action as usize) {
         Some(action) => Part::Text(action.name.as_slice()),
         None => Part::Text(b""),
     }
 }
 
-fn port_part(plan: &Plan, input: u32) -> Part<'_> {
+/// The port of an input.
+pub fn port_part(plan: &Plan, input: u32) -> Part<'_> {
     match plan.inputs().get(input as usize) {
         Some(input) => Part::Number(u64::from(input.port)),
         None => Part::Text(b""),

@@ -1,5 +1,6 @@
 //! The notes of warnings.
 
+use crate::notes::objects::{action_part, port_part};
 use crate::warnings::Looked;
 use std::alloc::Global;
 use sy_places::relay_file::contents::{Item, What};
@@ -10,20 +11,6 @@ use sy_report::texts::parts::{Part, relay_name};
 use sy_rules::{Input, Plan, QueueParameters};
 use sy_script::tree::Param;
 use sy_site::Site;
-
-fn action_part(plan: &Plan, action: u32) -> Part<'_> {
-    match plan.actions().get(action as usize) {
-        Some(action) => Part::Text(action.name.as_slice()),
-        None => Part::Text(b""),
-    }
-}
-
-fn port_part(plan: &Plan, input: u32) -> Part<'_> {
-    match plan.inputs().get(input as usize) {
-        Some(input) => Part::Number(u64::from(input.port)),
-        None => Part::Text(b""),
-    }
-}
 
 // What stands there, by the word for its kind and its name.
 fn parts_of<'a>(looked: Looked<'a>, what: What<'a>) -> [Part<'a>; 2] {

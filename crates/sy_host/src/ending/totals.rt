@@ -27,15 +27,6 @@ pub struct Numbers<'a> {
     pub actions: &'a [ActionCounts],
 }
 
-// The losses: at an input or in its hand, by a post, and as an entry left a queue.
-fn lost(accounts: &Accounts) -> u128
-    ensures { result ≡ spec.lost accounts.now.totals }
-{
-    u128::from(accounts.lost_in())
-        + u128::from(accounts.lost_post())
-        + u128::from(accounts.lost_out())
-}
-
 /// The numbers of a relay that still holds so many entries.
 pub fn numbers_of(accounts: &Accounts, held: u128) -> Numbers<'_>
     ensures numbers { result ≡ record { taken = accounts.now.totals.taken; lost = spec.lost accounts.now.totals; held = held; actions = result.actions } }
@@ -43,7 +34,7 @@ pub fn numbers_of(accounts: &Accounts, held: u128) -> Numbers<'_>
 {
     Numbers {
         taken: accounts.taken(),
-        lost: lost(accounts),
+        lost: accounts.lost(),
         held,
         actions: accounts.actions(),
     }

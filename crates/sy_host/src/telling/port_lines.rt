@@ -1,6 +1,7 @@
 //! When the lines about frames without a message and about faults of an input's connections are printed.
 
 use crate::listening::serving::Serving;
+use crate::rotation::troubles::earlier;
 use std::alloc::{AllocError, Global};
 use std::sync::{Mutex, Wait};
 use sy_log::at_port::{
@@ -25,15 +26,6 @@ impl PortPace {
             unread: Pace::new(),
             faults: Pace::new(),
         }
-    }
-}
-
-/// The earlier of two times, where they are known.
-pub fn earlier(one: Option<u64>, other: Option<u64>) -> Option<u64> {
-    match (one, other) {
-        (Some(one), Some(other)) => Some(one.min(other)),
-        (Some(one), None) => Some(one),
-        (None, other) => other,
     }
 }
 

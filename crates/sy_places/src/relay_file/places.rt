@@ -1,7 +1,8 @@
 //! Where the objects of a relay stand: in which line of which file.
 
 use crate::relay_file::outline::{Object, ObjectWord, object_of, outline_script};
-use crate::site_file::source::{point_at, without_return, word_in};
+use crate::site_file::source::{point_at, word_in};
+use sy_site::without_return;
 use crate::site_file::texts::RelayFile;
 use std::alloc::{AllocError, Global};
 use std::str;

@@ -43,14 +43,6 @@ pub fn text_of<F: Files>(files: &F, name: &str) -> Result<Option<Vec<u8>>, Alloc
     }
 }
 
-/// A line without the one CR at its end, where it has one.
-pub fn without_return(line: &[u8]) -> &[u8] {
-    match line {
-        [front @ .., b'\r'] => front,
-        _ => line,
-    }
-}
-
 /// A line of a text by its number, counted from 1, without its LF.
 pub fn line_at(text: &[u8], number: u64) -> Option<&[u8]> {
     let mut at: u64 = 1;

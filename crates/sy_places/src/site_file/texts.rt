@@ -3,7 +3,8 @@
 //! those of all relays would take more memory than the site does.
 
 use crate::relay_file::places::{file_name_in, is_relay_line};
-use crate::site_file::source::{text_of, without_return};
+use crate::site_file::source::text_of;
+use sy_site::without_return;
 use std::alloc::{AllocError, Global};
 use sy_report::reading::files::{Files, Reason};
 use sy_script::tree::Script;

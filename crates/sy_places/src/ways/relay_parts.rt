@@ -3,6 +3,7 @@
 use crate::relay_file::places::Thing;
 use crate::ways::followed_lists::lists_followed;
 use std::alloc::{AllocError, Global};
+use sy_board::retry_of;
 use sy_rules::{Destination, FlowControl, Input, Occurrence, Plan, QueueParameters};
 use sy_site::finding::{Finding, Kind, WayRow};
 use sy_site::{Site, SiteInput};
@@ -164,13 +165,6 @@ fn may_lose(plan: &Plan, list: u32, class: Class) -> bool {
 
 // ---- occurrences
 
-fn gives_up(plan: &Plan, action: u32) -> bool {
-    match plan.actions().get(action as usize) {
-        Some(action) => action.retry.is_some(),
-        None => false,
-    }
-}
-
 fn leads_nowhere(site: &Site, relay: u32, plan: &Plan, action: u32) -> bool {
     match plan.actions().get(action as usize) {
         Some(found) => match &found.destination {
@@ -203,7 +197,7 @@ fn is_about(site: &Site, plan: &Plan, finding: &Finding, occurrence: Occurrence)
             matches!(finding.kind, Kind::InnerQueue) && may_lose(plan, list, finding.class)
         }
         Occurrence::Run(action) => match finding.kind {
-            Kind::GivesUp => gives_up(plan, action),
+            Kind::GivesUp => retry_of(plan, action).is_some(),
             Kind::NoTarget => leads_nowhere(site, relay, plan, action),
             _ => false,
         },

@@ -7,6 +7,7 @@ ghost use Rattle.sy_report.specs.Memory.{bytes_in};
 use crate::reading::files::{FileFault, Files};
 use std::alloc::Global;
 use std::io::Read;
+use sy_site::bytes_of;
 use sy_wire::{ReadFault, Source};
 
 /// Files that are given by their names with their bytes. Of two of one name the first is the file of that name.
@@ -23,20 +24,6 @@ impl<'a> MemoryFiles<'a> {
     {
         MemoryFiles { alloc, files }
     }
-}
-
-// The bytes of the first file of a name.
-fn find<'f>(files: &[(&str, &'f [u8])], name: &str) -> Option<&'f [u8]>
-    ensures { option_copied result ≡ file_named (map (λ f. file f.0.now f.1.now) files.now) name.now }
-{
-    let mut rest = files;
-    while let [(first, bytes), behind @ ..] = rest {
-        if *first == name {
-            return Some(*bytes);
-        }
-        rest = behind;
-    }
-    None
 }
 
 fn copy_of(alloc: Global, bytes: &[u8]) -> Result<Vec<u8>, FileFault>
@@ -84,7 +71,7 @@ impl<'a> Files for MemoryFiles<'a> {
         ensures err { IfErr result (λ why. why ≡ FileFault.Read → bytes_in self.now name.now ≡ None) }
         ensures missing { bytes_in self.now name.now ≡ None → result ≡ Err FileFault.Read }
     {
-        match find(self.files, name) {
+        match bytes_of(self.files, name) {
             Some(bytes) => copy_of(self.alloc, bytes),
             None => Err(FileFault::Read),
         }
@@ -95,7 +82,7 @@ impl<'a> Files for MemoryFiles<'a> {
         ensures err { IfErr result (λ why. why ≡ FileFault.Read → bytes_in self.now name.now ≡ None) }
         ensures missing { bytes_in self.now name.now ≡ None → result ≡ Err FileFault.Read }
     {
-        match find(self.files, name) {
+        match bytes_of(self.files, name) {
             Some(left) => Ok(MemoryFile { left, calls: 0 }),
             None => Err(FileFault::Read),
         }

@@ -7,8 +7,8 @@ ghost use Rattle.sy_site.specs.texts.Lines as spec;
 
 use memchr::{memchr, memchr2};
 
-// A line without the one CR at its end, where it has one.
-fn strip(line: &[u8]) -> &[u8]
+/// A line without the one CR at its end, where it has one.
+pub fn without_return(line: &[u8]) -> &[u8]
     ensures { result.now ≡ strip_carriage_return line.now }
 {
     match line {
@@ -24,7 +24,7 @@ pub fn next_line(text: &[u8]) -> Option<(&[u8], &[u8])>
     ensures none { IfNone result (lines text.now ≡ []) }
 {
     match memchr(b'\n', text) {
-        Some(at) => Some((strip(&text[..at]), &text[at + 1..])),
+        Some(at) => Some((without_return(&text[..at]), &text[at + 1..])),
         None if text.is_empty() => None,
         None => Some((text, &text[text.len()..])),
     }
