@@ -31,7 +31,7 @@ pub mod accounts;
 pub mod answers;
 pub mod board;
 pub mod guard;
-mod reading;
+pub(crate) mod reading;
 
 /// Before the first message a relay has its places, and the laws of accounts hold.
 pub fn it_opens_lawfully()
