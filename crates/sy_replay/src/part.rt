@@ -112,16 +112,7 @@ impl Part {
         ensures whole { IsWhole self.old.board.plan }
     {
         plans_are_whole(self.board.plan());
-        hands::take_message(
-            alloc,
-            &mut self.board,
-            losses,
-            to.relay,
-            to.input,
-            hand,
-            message,
-            tag,
-        )
+        hands::take_message(alloc, &mut self.board, losses, to, hand, message, tag)
     }
 
     // What stands at a place of what an action's device took.

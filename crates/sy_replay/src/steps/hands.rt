@@ -18,6 +18,7 @@ use sy_board::{Board, Entry, Taken};
 use sy_chain::{Chain, Node};
 use sy_rules::Plan;
 use sy_rules::laws::plans_are_whole;
+use sy_site::SiteInput;
 use sy_wire::Message;
 
 // Take: a message comes to a hand. Where it is discarded, it is a loss.
@@ -90,24 +91,23 @@ pub(crate) fn take_message(
     alloc: Global,
     board: &mut Board,
     losses: &mut Vec<Loss>,
-    relay: u32,
-    input: u32,
+    to: SiteInput,
     hand: u32,
     message: Arc<Message>,
     tag: u64,
 ) -> Result<(), Illegal>
-    ensures ok { OnOk result (TakesMessage relay board.old (losses_of losses.old.items) input hand (arc_value message)
+    ensures ok { OnOk result (TakesMessage to.relay board.old (losses_of losses.old.items) to.input hand (arc_value message)
         tag board.new (losses_of losses.new.items)) }
-    ensures err { IfErr result (λ why. IsNoTake why board.old input hand (arc_value message) tag) }
+    ensures err { IfErr result (λ why. IsNoTake why board.old to.input hand (arc_value message) tag) }
     ensures unchanged { OnErr result ((board.new ≡ board.old) × (losses.new.items ≡ losses.old.items)) }
 {
-    if !has_hand(board, input, hand) {
+    if !has_hand(board, to.input, hand) {
         return Err(Illegal::NotAStep);
     }
-    let Ok(node) = entry_of(alloc, board.plan(), input, message, tag) else {
+    let Ok(node) = entry_of(alloc, board.plan(), to.input, message, tag) else {
         return Err(Illegal::NoMemory);
     };
-    take(board, losses, relay, input, hand, node)
+    take(board, losses, to.relay, to.input, hand, node)
 }
 
 // Enter: a hand's message goes to the end of its input's queue.

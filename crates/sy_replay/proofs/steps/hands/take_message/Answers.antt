@@ -13,7 +13,7 @@ returns-clause-ok c = on_ok c.take.result (λ makes. (c.in-Ok.node, c.in-Ok.ensu
 pub returns-clause-err : goal.returns-clause-err
 returns-clause-err c =
     let board = c.args.board.now in
-    let i = c.args.input in
+    let i = c.args.to.input in
     let h = c.args.hand in
     let node = c.in-Ok.node in
     let made = subst (λ p. IsOfInput p i node) (c.deref.ensures ∙ c.plan.ensures) c.in-Ok.ensures.made in
