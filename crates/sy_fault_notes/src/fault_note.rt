@@ -1,10 +1,10 @@
 //! Notes of faults: what `--explain` says where a command over a site stops early.
 
 use crate::events::{push_illegal, push_no_event, push_no_row};
+use crate::file_line::{FileLine, stands_at_word};
 use crate::plan::notes::push_plan_fault;
 use crate::script::notes::push_script_fault;
 use crate::site::files::push_unread;
-use crate::file_line::{FileLine, stands_at_word};
 use crate::site::lines::{push_duplicate_line, push_faulty_line, site_line};
 use crate::site::reference::{
     file_of_word, push_no_action, push_no_archive, push_no_entry, push_nothing_protected,

@@ -7,13 +7,12 @@ use std::alloc::{AllocError, Global};
 use sy_fault_notes::fault_notes::fault_words;
 use sy_fault_notes::site::files::push_unread_relay;
 use sy_places::relay_file::places::file_in;
-use sy_site::without_return;
 use sy_places::site_file::texts::{RelayText, SiteTexts, Unread};
 use sy_report::outcome::halt::Halt;
 use sy_report::texts::note::Note;
 use sy_report::texts::parts::Part;
 use sy_report::texts::words::Words;
-use sy_site::{SiteFault, file_names};
+use sy_site::{SiteFault, file_names, without_return};
 
 // The first line of a site file that names a file: its number, and the relay's name.
 fn line_naming<'t>(text: &'t [u8], file: &str) -> Option<(usize, &'t [u8])> {

@@ -8,11 +8,10 @@ use sy_fault_notes::file_line::FileLine;
 use sy_fault_notes::site::spare::{first_line, sets_policy};
 use sy_places::relay_file::places::file_in;
 use sy_places::site_file::source::{line_at, place_of_line, word_in};
-use sy_site::without_return;
 use sy_places::site_file::texts::RelayText;
 use sy_report::outcome::halt::Halt;
 use sy_report::texts::note::Note;
-use sy_site::{Site, SiteFault};
+use sy_site::{Site, SiteFault, without_return};
 
 /// The most faults of a site file that are told.
 const MOST_FAULTS: usize = 64;

@@ -7,7 +7,9 @@ pub mod plan;
 
 use crate::mending::mended_text::Draft;
 use crate::mending::parameters::{CutParameter, mend_parameters};
-use crate::mending::pieces::{Mark, Piece, before, behind_pieces, closed_at, is_sign, is_word, piece_at, pieces_of};
+use crate::mending::pieces::{
+    Mark, Piece, before, behind_pieces, closed_at, is_sign, is_word, piece_at, pieces_of,
+};
 use std::alloc::{AllocError, Global};
 use sy_fault_notes::script::legacy::selector_line;
 use sy_fault_notes::script::opened::{Opening, open_at};

@@ -50,6 +50,6 @@ number_is word None some none = by (is_numeral word) refl (nat_le (length word) 
     by true is true short false first = refl
     by true is true short true first =
         let read : number_up_to 9999999999 word ≡ Some (digits_value 10 word) =
-            fits 9999999999 10 word (leb-true (length word) 10 short) (omega arith) ∙ ap (λ b. if b then Some (digits_value 10 word) else None) is in
+        fits 9999999999 10 word (leb-true (length word) 10 short) (omega arith) ∙ ap (λ b. if b then Some (digits_value 10 word) else None) is in
         let found = subst (λ o. IfSome o (λ n. (n ≤ 9999999999) × (word ≡ decimal n))) read (spelt word 9999999999 (omega arith) (short_or_none word first)) in
         absurd (none (digits_value 10 word) found.0 found.1)

@@ -18,9 +18,9 @@ use fault::EventFault;
 use inside::{done, enter, expire, fail, give_up, grab, post, post_lost};
 use std::alloc::Global;
 use sy_site::Site;
+use sy_wire::words::first_word;
 use takes::take;
 use verb::{Verb, verb_of};
-use sy_wire::words::first_word;
 
 // The event of what is behind a line's first word.
 fn event_behind(

@@ -5,9 +5,10 @@ ghost use Rattle.sy_rules.specs.Faults as spec;
 
 use std::alloc::Global;
 use std::error::Error;
-use std::{fmt, str};
+use std::fmt;
 use sy_script::Items;
 use sy_script::tree::Span;
+use sy_select::FaultText;
 
 /// The faults of a plan. Their numbers are those of `number`.
 #[derive(Clone, Copy, Debug, PartialEq, Eq)]
@@ -148,17 +149,11 @@ impl fmt::Display for PlanFault {
     ghost output = { spec.fault_text };
 
     fn fmt<W: fmt::Write>(&self, f: &mut fmt::Formatter<W>) -> fmt::Result {
-        let words = self.code.words();
-        if self.word.is_empty() {
-            return write!(f, "{words}");
-        }
-        match str::from_utf8(self.word.as_slice()) {
-            Ok(word) => write!(f, "{words}: {word}"),
-            Err(_) => {
-                let word = self.word.as_slice().escape_ascii();
-                write!(f, "{words}: {word}")
-            }
-        }
+        let text = FaultText {
+            words: self.code.words(),
+            word: self.word.as_slice(),
+        };
+        write!(f, "{text}")
     }
 }
 

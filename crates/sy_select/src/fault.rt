@@ -110,22 +110,42 @@ impl SelectFault {
     }
 }
 
-/// As `31 Facility: foo`, and `35 NoMemory` where there is no word. A word that is no text is escaped.
+/// The number and the name of a fault, with its word: as `31 Facility: foo`, and `35 NoMemory` where there is no word. A word
+/// that is no text is escaped.
+#[derive(Clone, Copy)]
+pub struct FaultText<'a> {
+    pub words: &'static str,
+    pub word: &'a [u8],
+}
+
+impl fmt::Display for FaultText<'_> {
+    ghost output = { λ text. spec.with_word text.words.now text.word.now };
+
+    fn fmt<W: fmt::Write>(&self, f: &mut fmt::Formatter<W>) -> fmt::Result {
+        let words = self.words;
+        if self.word.is_empty() {
+            return write!(f, "{words}");
+        }
+        match str::from_utf8(self.word) {
+            Ok(word) => write!(f, "{words}: {word}"),
+            Err(_) => {
+                let word = self.word.escape_ascii();
+                write!(f, "{words}: {word}")
+            }
+        }
+    }
+}
+
+/// As `FaultText` has it.
 impl fmt::Display for SelectFault {
     ghost output = { spec.fault_text };
 
     fn fmt<W: fmt::Write>(&self, f: &mut fmt::Formatter<W>) -> fmt::Result {
-        let words = self.code.words();
-        if self.word.is_empty() {
-            return write!(f, "{words}");
-        }
-        match str::from_utf8(self.word.as_slice()) {
-            Ok(word) => write!(f, "{words}: {word}"),
-            Err(_) => {
-                let word = self.word.as_slice().escape_ascii();
-                write!(f, "{words}: {word}")
-            }
-        }
+        let text = FaultText {
+            words: self.code.words(),
+            word: self.word.as_slice(),
+        };
+        write!(f, "{text}")
     }
 }
 

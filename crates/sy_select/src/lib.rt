@@ -17,7 +17,7 @@ mod severities;
 pub mod verdict;
 
 pub use expr::{Expr, eval, eval_class};
-pub use fault::{FaultCode, SelectFault};
+pub use fault::{FaultCode, FaultText, SelectFault};
 pub use names::{facility_text, severity_text};
 pub use selector::Selector;
 pub use verdict::Verdict;

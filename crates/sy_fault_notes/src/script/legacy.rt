@@ -1,9 +1,9 @@
 //! Lines of rsyslog's older formats, and statements that are left out: what to write instead.
 
 use sy_places::site_file::source::{behind, between, find, word_in};
-use sy_site::without_return;
 use sy_report::texts::note::Note;
 use sy_report::texts::parts::Part;
+use sy_site::without_return;
 
 // The line of a text in which a place lies, from its beginning up to its end.
 fn line_around(text: &[u8], place: usize) -> (usize, &[u8]) {

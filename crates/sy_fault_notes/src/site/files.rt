@@ -3,12 +3,12 @@
 use std::alloc::Global;
 use sy_places::relay_file::places::file_name_in;
 use sy_places::site_file::source::word_in;
-use sy_site::without_return;
 use sy_places::site_file::texts::{SiteTexts, Unread};
 use sy_report::reading::files::Reason;
 use sy_report::texts::note::{Note, Point};
 use sy_report::texts::parts::Part;
 use sy_report::texts::words::Words;
+use sy_site::without_return;
 
 // Puts where a name was looked for.
 fn push_folder(words: &mut Words, unread: &Unread) {

@@ -7,11 +7,11 @@ use crate::plan::tests::{push_facility, push_severity, push_shape};
 use crate::site::spare::{push_policy_line, push_spare_line};
 use std::alloc::{AllocError, Global};
 use sy_places::site_file::source::{find, line_at, word_in};
-use sy_site::without_return;
 use sy_report::texts::near::nearest;
 use sy_report::texts::note::{Note, Point};
 use sy_report::texts::parts::Part;
 use sy_select::{FaultCode, Selector};
+use sy_site::without_return;
 use sy_wire::numbers::is_numeral;
 
 /// The words that a line begins with.

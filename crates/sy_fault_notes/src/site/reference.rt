@@ -5,12 +5,12 @@ use std::alloc::{AllocError, Global};
 use sy_places::relay_file::outline::{Object, ObjectWord, value_of};
 use sy_places::relay_file::places::{Places, file_in, file_name_in, objects_of, places_of};
 use sy_places::site_file::source::word_in;
-use sy_site::without_return;
 use sy_places::site_file::texts::{RelayText, relay_file};
 use sy_report::texts::near::nearest;
 use sy_report::texts::note::Note;
 use sy_report::texts::parts::Part;
 use sy_report::texts::words::Words;
+use sy_site::without_return;
 
 /// The name of the file of the relay with this name.
 pub fn file_named<'t>(text: &'t [u8], relay: &[u8]) -> Option<&'t str> {

@@ -4,9 +4,9 @@ use crate::file_line::{FileLine, stands_at_word};
 use crate::site::lines::{push_unknown_relay, push_words, words_in};
 use std::alloc::{AllocError, Global};
 use sy_places::site_file::source::word_in;
-use sy_site::without_return;
 use sy_report::texts::note::Note;
 use sy_report::texts::parts::Part;
+use sy_site::without_return;
 
 // Whether a line is skipped: it has no words, or is a comment.
 fn is_skipped(line: &[u8]) -> bool {

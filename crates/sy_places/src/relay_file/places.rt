@@ -2,13 +2,12 @@
 
 use crate::relay_file::outline::{Object, ObjectWord, object_of, outline_script};
 use crate::site_file::source::{point_at, word_in};
-use sy_site::without_return;
 use crate::site_file::texts::RelayFile;
 use std::alloc::{AllocError, Global};
 use std::str;
 use sy_report::texts::note::{Note, Point, put_point};
 use sy_report::texts::words::Words;
-use sy_site::{Site, SiteAction};
+use sy_site::{Site, SiteAction, without_return};
 
 /// A relay's file with its objects.
 #[derive(Clone, Copy)]

@@ -4,11 +4,11 @@
 
 use crate::relay_file::places::{file_name_in, is_relay_line};
 use crate::site_file::source::text_of;
-use sy_site::without_return;
 use std::alloc::{AllocError, Global};
 use sy_report::reading::files::{Files, Reason};
 use sy_script::tree::Script;
 use sy_script::{FaultCode, read_script};
+use sy_site::without_return;
 
 /// The text of a relay's file, with its name as the site file writes it.
 #[derive(Drop)]

@@ -11,10 +11,10 @@ ghost use Rattle.sy_replay.specs.internal.Reading.{NoEvent, words_left};
 use super::fault::EventFault;
 use super::parts::{hand_part, worker_part};
 use super::words::is_word;
-use sy_wire::words::{next_word, only_word};
 use crate::event::{Event, RelayEvent};
 use sy_board::PostCause;
 use sy_site::{Site, SiteInput};
+use sy_wire::words::{next_word, only_word};
 
 // A hand with no words behind it.
 fn only_hand(site: &Site, rest: Option<&[u8]>) -> Option<(SiteInput, u32)>

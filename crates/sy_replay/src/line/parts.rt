@@ -10,10 +10,10 @@ ghost use Rattle.sy_replay.specs.Lines as spec;
 ghost use Rattle.sy_replay.specs.internal.Reading.{words_left};
 
 use super::words::number;
-use sy_wire::words::{next_word, only_word};
 use sy_rules::Input;
 use sy_rules::laws::plans_are_whole;
 use sy_site::{Site, SiteAction, SiteInput};
+use sy_wire::words::{next_word, only_word};
 
 /// How many hands an input has.
 const HANDS: usize = 64;

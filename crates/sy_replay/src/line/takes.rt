@@ -10,12 +10,12 @@ ghost use Rattle.sy_replay.specs.internal.Reading.{AreRaw, IsHandRaw, IsNewRaw, 
 use super::fault::EventFault;
 use super::parts::{HandPart, hand_part, place_part};
 use super::words::is_word;
-use sy_wire::words::next_word;
 use crate::event::Event;
 use std::alloc::Global;
 use std::sync::Arc;
 use sy_site::Site;
 use sy_wire::Message;
+use sy_wire::words::next_word;
 
 // The message that bytes are.
 fn message_of(alloc: Global, raw: &[u8]) -> Result<Arc<Message>, EventFault>
