@@ -1,14 +1,9 @@
 -- The words of the command that runs a relay.
-use Rattle.std.proofs.Common.{◌≡◌, ◌<◌, ◌≤◌, ◌^◌, ℕ, suc, ◌+◌, ◌*◌, true, false, List, [], ◌∷◌, ◌++◌, option_to_list, is_some, length, refl, ap, subst, ◌∙◌, pow-suc, arith}
+use Rattle.std.proofs.Common.{◌≡◌, ◌<◌, ℕ, true, false, List, [], ◌∷◌, ◌++◌, option_to_list, is_some, length, refl, ap, subst, ◌∙◌, arith}
 use Rattle.std.specs.Prelude.{Option, None, Some, option_map}
 use Rattle.std.proofs.lemmas.List.{append-nil}
 use Rattle.syc.specs.Words.{AreRunArgs, RunOptions}
 use Rattle.sy_report.specs.Words.{is_plain}
-
-pub one_digit_more : (n d i : ℕ) → n < 10 ^ i → d ≤ 9 → n * 10 + d < 10 ^ (i + 1)
-one_digit_more n d i less digit =
-    let next : i + 1 ≡ suc i = omega arith in
-    rw next (omega (arith, less, digit, pow-suc 10 i))
 
 -- where there is none, none is seen
 pub none_seen : {A B : Type 0} (f : A → B) (o : Option A) → is_some o ≡ false → option_map f o ≡ None

@@ -1,7 +1,7 @@
 //! The shapes of lines.
 
-ghost use Rattle.std.specs.Prelude.{◌≡◌, ◌∷◌, [], ℕ, List, IfSome, IfNone, codes};
-ghost use Rattle.std.specs.List.{list_all};
+ghost use Rattle.std.specs.Prelude.{◌≡◌, ◌==◌, ◌∷◌, [], ℕ, List, IfSome, IfNone, codes};
+ghost use Rattle.std.specs.List.{list_all, slice_index};
 ghost use Rattle.std.specs.Net.Addr.{ipv4_octets};
 ghost use Rattle.sy_select.specs.Selectors.{IsSetOf};
 ghost use Rattle.sy_site.specs.texts.Lines as lines;
@@ -122,11 +122,21 @@ pub fn relay_line(behind: &[u8]) -> Option<RelayLine<'_>>
     }
 }
 
+// Whether a zero is the first byte.
+fn begins_with_zero(word: &[u8]) -> bool
+    ensures { result ≡ (slice_index word.now 0 == 48) }
+{
+    !word.is_empty() && word[0] == b'0'
+}
+
 #[tactic(auto, unfolding(crate::specs::texts::Shapes::port_of))]
 fn port(word: &[u8]) -> Option<u64>
     ensures { result ≡ spec.port_of word.now }
 {
-    if word.is_empty() || word.len() > PORT_DIGITS || word[0] == b'0' {
+    if word.len() > PORT_DIGITS {
+        return None;
+    }
+    if begins_with_zero(word) {
         return None;
     }
     number_up_to(word, LARGEST_PORT)

@@ -9,7 +9,7 @@ use sy_report::command_line::command::{is_plain, is_word};
 use sy_wire::numbers::number_up_to;
 
 /// The longest time that may be given, in seconds: a day.
-const MOST_SECONDS: u32 = 86400;
+const MOST_SECONDS: u64 = 86_400;
 
 /// How many digits it has.
 const DIGITS: usize = 5;
@@ -58,7 +58,7 @@ pub fn seconds(word: &[u8]) -> Option<u32>
     if word.len() > DIGITS {
         return None;
     }
-    match number_up_to(word, u64::from(MOST_SECONDS)) {
+    match number_up_to(word, MOST_SECONDS) {
         Some(number) => Some(number as u32),
         None => None,
     }
