@@ -1,0 +1,250 @@
+"""The senders with the examples, and at their defaults: what is sent, taken and unread.
+
+With an example each frame that a sender sends is taken, and each token of its records is in the archive. At its defaults
+each frame is taken or unread, as `status` counts them while the sender is there, and the totals at the end.
+"""
+
+import logging.handlers
+import re
+import socket
+import subprocess
+import time
+
+from corpus import LAST
+from peers import frame
+from room import LeftOut, Failure, imtcp, is_read, module, omfile, same, test, totals, until
+from senders import (EXAMPLES, INPUT, LOG4J2, PROTOCOL_23, RSYSLOGD, SOCKET_APPENDER, SYSLOG_APPENDER, SYSLOG_NG, Daemon, Log4j2, Logger,
+                     PythonLogging, example)
+from tap import Tap, lacking
+
+TOKEN = re.compile(rb"\{(\d{3}|last)\}|\bq9\d\d\b")
+UNREAD = b"[unread@32473 "
+QUIET = 1  # seconds in which nothing comes, where no condition tells that all came
+AT_DEFAULTS = "_at_defaults"
+counts_alone = False  # whether the counts of the defaults are printed, and nothing is asked
+
+
+def hub(room, *more):
+    """Starts a hub that is accepted, with one archive; answers it, its port and a tap before that."""
+    port = room.port()
+    room.site({"hub": module() + imtcp(port) + omfile("audit", "audit.log")}, f"entry hub {port}", "protect auth.* hub audit")
+    relay = room.start("hub", port, words=[*more, "site", "hub"])
+    return relay, port, Tap(room.port(), port)
+
+
+def status(relay, port, tap):
+    """What `status` says, once all that was sent is read: taken, and unread where there is such a line."""
+    until("the tap has read all", lambda: is_read(tap.port))
+    relay.rests(port)
+    relay.is_told(b"status\n", port)
+    taken = re.findall(r"(?m)^taken (\d+) lost 0 held 0$", relay.errors())
+    unread = re.findall(r"(?m)^unread (\d+)$", relay.errors())
+    if not taken:
+        raise Failure(f"status says {relay.errors()!r}")
+    return int(taken[-1]), int(unread[-1]) if unread else 0
+
+
+def lines_of(messages):
+    return sorted(b"".join(it + b"\n" for it in messages).split(b"\n"))
+
+
+def are_messages(room, frames):
+    """Of these frames those that carry messages, as `syc pass` has it."""
+    passes = lambda it: subprocess.run([room.program, "pass"], input=frame(it), stdout=subprocess.DEVNULL, stderr=subprocess.DEVNULL,
+                                       check=False).returncode == 0
+    return [it for it in frames if passes(it)]
+
+
+def all_is_taken(room, start, refused=lambda sender: []):
+    """Each frame is taken, but for those with the tokens that are known to be refused; each token of the records is in the archive."""
+    relay, port, tap = hub(room)
+    sender = start(tap.port)
+    sender.give()
+    tap.has(sender.records.tokens)
+    taken, _ = status(relay, port, tap)
+    frames = tap.frames()
+    known = [it for it in frames if any(token in it for token in refused(sender))]
+    same("how many of the frames are taken, by `status`", (taken, len(known)), (len(frames) - len(known), len(refused(sender))))
+    without = sum(not TOKEN.search(it) for it in frames)
+    if without < sender.records.without:
+        raise Failure(f"{without} frames have no token, of at least {sender.records.without}")
+    sender.end()
+    same("what is left after the frames", [rest for _, rest in tap.streams() if rest], [])
+    same("totals", relay.stop(), totals(taken, 0, 0, ("audit", taken, taken, 0, 0)))
+    same("faults", bool(relay.faults()), bool(known))
+    same("the archive's lines", sorted(room.read("audit.log").split(b"\n")), lines_of([it for it in frames if it not in known]))
+    print(f"senders: {room.folder.rpartition('/')[2]}: {len(sender.records.given)} records, {len(frames)} frames sent, {taken} taken", flush=True)
+
+
+def all_is_counted(room, start):
+    """Each frame of a sender at its defaults is taken or unread, and lies in the archive or in the file of what is unread."""
+    if not has_unread(room.program):
+        raise LeftOut("the program has no option --unread")
+    relay, port, tap = hub(room, "--unread", room.path("unread"))
+    sender = start(tap.port)
+    sender.give()
+    tap.has([LAST])
+    taken, unread = status(relay, port, tap)
+    frames = tap.frames()
+    messages = are_messages(room, frames)
+    same("taken and unread, by `status`", (taken, unread), (len(messages), len(frames) - len(messages)))
+    sender.end()
+    same("what is left after the frames", [rest for _, rest in tap.streams() if rest], [])
+    wanted = totals(taken, 0, 0, ("audit", taken, taken, 0, 0)).split("\n", 1)
+    same("totals", relay.stop(), f"{wanted[0]}\nunread {unread}\n{wanted[1]}")
+    same("the archive's lines", sorted(room.read("audit.log").split(b"\n")), lines_of(messages))
+    kept = room.read("unread")
+    passed = subprocess.run([room.program, "pass"], input=kept, stdout=subprocess.PIPE, stderr=subprocess.PIPE, check=False)
+    same("the file of what is unread, as `syc pass` reads it", (passed.returncode, passed.stderr), (0, b""))
+    same("frames that aren't in it", [it[:200] for it in frames if it not in messages and it[:1_000] not in kept], [])
+    if kept.count(UNREAD) < unread:
+        raise Failure(f"it has {kept.count(UNREAD)} records of {unread}")
+    print(f"senders: {room.folder.rpartition('/')[2]}: {len(sender.records.given)} records, {len(frames)} frames sent, {taken} taken, {unread} unread",
+          flush=True)
+
+
+def counted(room, start):
+    """Prints what is taken of a sender at its defaults where nothing is kept of what is unread."""
+    relay, port, tap = hub(room)
+    sender = start(tap.port)
+    sender.give()
+    size, since = -1, time.monotonic()
+    while time.monotonic() - since < QUIET:
+        time.sleep(0.05)
+        if sum(map(len, tap.came)) != size:
+            size, since = sum(map(len, tap.came)), time.monotonic()
+    taken, _ = status(relay, port, tap)
+    sender.end()
+    frames, archive = tap.frames(), room.read("audit.log")
+    lost = lacking([archive], sender.records.tokens)
+    records = len(sender.records.given)
+    print(f"senders: {room.folder.rpartition('/')[2]}: {records} records, {len(frames)} frames sent, {taken} taken; of {len(sender.records.tokens)} "
+          f"tokens {len(lost)} aren't in the archive", flush=True)
+    relay.stop()
+
+
+def nothing_is_taken(room, give):
+    """A sender without frames: its stream ends at its first byte, which is told."""
+    relay, port, _ = hub(room)
+    give(port)
+    relay.says(f"syc: 11 BadLength at {port}")
+    same("taken and unread", relay.stop(), totals(0, 0, 0, ("audit", 0, 0, 0, 0)))
+
+
+def has_unread(program):
+    done = subprocess.run([program, "run", "--help"], stdin=subprocess.DEVNULL, stdout=subprocess.PIPE, check=False)
+    return b"--unread" in done.stdout
+
+
+# ---- With the examples
+
+@test
+def rsyslogd_imuxsock(room):
+    all_is_taken(room, lambda port: Daemon(room, "rsyslogd", example("rsyslogd/imuxsock.conf"), "socket", port))
+
+
+@test
+def rsyslogd_imjournal(room):
+    all_is_taken(room, lambda port: Daemon(room, "rsyslogd", example("rsyslogd/imjournal.conf"), "journal", port))
+
+
+@test
+def rsyslogd_imfile(room):
+    all_is_taken(room, lambda port: Daemon(room, "rsyslogd", example("rsyslogd/imfile.conf"), "file", port))
+
+
+@test
+def syslog_ng_socket(room):
+    all_is_taken(room, lambda port: Daemon(room, "syslog-ng", example("syslog-ng/socket.conf"), "socket", port))
+
+
+@test
+def syslog_ng_journal(room):
+    all_is_taken(room, lambda port: Daemon(room, "syslog-ng", example("syslog-ng/journal.conf"), "journal", port))
+
+
+@test
+def syslog_ng_file(room):
+    all_is_taken(room, lambda port: Daemon(room, "syslog-ng", example("syslog-ng/file.conf"), "file", port))
+
+
+@test
+def log4j2(room):
+    """But for records whose data log4j2 itself writes as no message has it; long ones are in a file."""
+    text = example("log4j2.xml").replace("/var/log/app/long.log", room.path("long.log"))
+    senders = []
+    def start(port):
+        senders.append(Log4j2(room, text, port))
+        return senders[0]
+    all_is_taken(room, start, lambda sender: sender.of_kind["structured"])
+    same("long records that aren't in the file", lacking([room.read("long.log")], senders[0].of_kind["long"]), [])
+
+
+@test
+def python_logging(room):
+    from syc_logging import SycHandler
+    all_is_taken(room, lambda port: PythonLogging(lambda name: SycHandler("127.0.0.1", port, app_name=name)))
+
+
+@test
+def python_logging_over_a_restart(room):
+    """A relay that stops in good order, and another one in its place: each record is in one of the two archives, once."""
+    from syc_logging import SycHandler
+    port = room.port()
+    room.site({"hub": module() + imtcp(port) + omfile("audit", "audit.log")}, f"entry hub {port}", "protect auth.* hub audit")
+    handler = SycHandler("127.0.0.1", port, app_name="app")
+    for turn in range(3):
+        relay = room.start("hub", port)
+        for it in range(10):
+            handler.handle(logging.LogRecord("corpus", logging.ERROR, __file__, 1, f"record {turn} {it}", None, None))
+        room.has("audit.log", 10 * turn + 10)
+        same("totals", relay.stop(), totals(10, 0, 0, ("audit", 10, 10, 0, 0)))
+    same("the archive", [it.rpartition(b" - ")[2].decode() for it in room.lines("audit.log")], [f"record {turn} {it}" for turn in range(3) for it in range(10)])
+
+
+@test
+def logger(room):
+    all_is_taken(room, lambda port: Logger([f"{EXAMPLES}/syc-logger"], port))
+
+
+# ---- Without frames
+
+@test
+def python_syslog_handler_has_no_frames(room):
+    def give(port):
+        handler = logging.handlers.SysLogHandler(("127.0.0.1", port), socktype=socket.SOCK_STREAM)
+        handler.handle(logging.LogRecord("corpus", logging.ERROR, __file__, 1, "text", None, None))
+        handler.close()
+    nothing_is_taken(room, give)
+
+
+@test
+def log4j2_syslog_appender_has_no_frames(room):
+    nothing_is_taken(room, lambda port: Log4j2(room, LOG4J2.format(appender=SYSLOG_APPENDER), port).give(may_fail=True))
+
+
+# ---- At their defaults
+
+DEFAULTS = {
+    "rsyslogd_imuxsock_own_form": lambda room, port: Daemon(room, "rsyslogd", RSYSLOGD.format(module="imuxsock", more="", input="", template=""), "socket", port),
+    "rsyslogd_imuxsock": lambda room, port: Daemon(room, "rsyslogd", RSYSLOGD.format(module="imuxsock", more="", input="", template=PROTOCOL_23), "socket", port),
+    "rsyslogd_imjournal": lambda room, port: Daemon(room, "rsyslogd", RSYSLOGD.format(module="imjournal", more=' StateFile="state"', input="",
+                                                                                      template=PROTOCOL_23), "journal", port),
+    "rsyslogd_imfile": lambda room, port: Daemon(room, "rsyslogd", RSYSLOGD.format(module="imfile", more="", input=INPUT, template=PROTOCOL_23), "file", port),
+    "syslog_ng_socket": lambda room, port: Daemon(room, "syslog-ng", SYSLOG_NG.format(source='unix-dgram("/dev/log")'), "socket", port),
+    "syslog_ng_journal": lambda room, port: Daemon(room, "syslog-ng", SYSLOG_NG.format(source="systemd-journal()"), "journal", port),
+    "syslog_ng_file": lambda room, port: Daemon(room, "syslog-ng", SYSLOG_NG.format(source='file("/var/log/app.log")'), "file", port),
+    "log4j2": lambda room, port: Log4j2(room, LOG4J2.format(appender=SOCKET_APPENDER), port, ("text", "structured", "context", "long")),
+    "logger": lambda room, port: Logger(["logger", "--rfc5424", "--tcp", "--octet-count", "--server", "127.0.0.1", "--port", str(port)], port),
+}
+
+
+def add_default(name, start):
+    def body(room):
+        (counted if counts_alone else all_is_counted)(room, lambda port: start(room, port))
+    body.__name__ = name + AT_DEFAULTS
+    test(body)
+
+
+for name, start in DEFAULTS.items():
+    add_default(name, start)
