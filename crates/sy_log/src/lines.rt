@@ -1,8 +1,8 @@
 //! The lines of a relay's log.
 
-use crate::log::{MARK, PeerEnd};
+use crate::log::{MARK, PeerEnd, Sending};
 use crate::notices::Line;
-use crate::subject::{Kind, Subject};
+use crate::subject::Subject;
 use std::alloc::{AllocError, Global};
 use sy_report::texts::parts::{Part, put_parts};
 use sy_report::texts::reason::Reason;
@@ -23,7 +23,7 @@ fn put_seconds(text: &mut Vec<u8>, words: &str, seconds: u64) -> Result<(), Allo
 // An action fails, or an input is held.
 fn put_begin(alloc: Global, text: &mut Vec<u8>, subject: &Subject) -> Result<(), AllocError> {
     let why = subject.why();
-    if subject.kind == Kind::Action {
+    if subject.kind.is_written() {
         put(text, " fails: ")?;
         return Reason::from_code(why).put(alloc, text);
     }
@@ -48,7 +48,7 @@ fn put_line(
     match line {
         Line::Begins => put_begin(alloc, text, subject),
         Line::Ends(seconds) => {
-            if subject.kind == Kind::Action {
+            if subject.kind.is_written() {
                 put_seconds(text, " works after ", seconds)
             } else {
                 put_seconds(text, " goes on after ", seconds)
@@ -136,6 +136,42 @@ pub fn peer_line(
     )?;
     put_unread(&mut text, end)?;
     put_others(&mut text, others)?;
+    put(&mut text, "\n")?;
+    Ok(text)
+}
+
+/// A line about a connection of an input that begins to send frames that carry no message, and about how many others do. They are kept in the file of
+/// that name, if there is one.
+pub fn sending_line(
+    alloc: Global,
+    subject: &Subject,
+    sending: &Sending,
+    others: u64,
+    file: Option<&[u8]>,
+) -> Result<Vec<u8>, AllocError> {
+    let peer = sending.peer.to_string(alloc)?;
+    let first = sending.first;
+    let mut text = Vec::new(alloc);
+    put_parts(
+        &mut text,
+        &[
+            Part::Text(b"syc: "),
+            Part::Text(subject.name.as_slice()),
+            Part::Text(b" peer "),
+            Part::Text(peer.as_str().as_bytes()),
+            Part::Text(b" sends what is no message: "),
+            Part::Text(first.fault.code.words().as_bytes()),
+            Part::Text(b" at "),
+            Part::Number(first.fault.offset as u64),
+            Part::Text(b" in frame "),
+            Part::Number(first.frame),
+        ],
+    )?;
+    put_others(&mut text, others)?;
+    match file {
+        Some(file) => put_parts(&mut text, &[Part::Text(b"; kept in "), Part::Text(file)])?,
+        None => put(&mut text, "; dropped")?,
+    }
     put(&mut text, "\n")?;
     Ok(text)
 }

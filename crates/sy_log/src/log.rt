@@ -1,7 +1,7 @@
 //! What threads note of a relay: of its actions, inputs and queues, and of connections that ended with a fault.
 
 use crate::subject::Subject;
-use crate::subjects::subjects_of;
+use crate::subjects::{name_in_line, subjects_of};
 use crate::untold::Untold;
 use std::alloc::{AllocError, Global};
 use std::net::SocketAddr;
@@ -28,6 +28,13 @@ pub struct PeerEnd {
     pub fault: Option<RunFault>,
 }
 
+/// A connection that begins to send frames that carry no message, and the first of them.
+#[derive(Clone, Copy)]
+pub struct Sending {
+    pub peer: SocketAddr,
+    pub first: Unread,
+}
+
 /// How the first of the connections ended that ended so and weren't told yet, and how many others there are; and with what
 /// connections ended.
 #[derive(Drop)]
@@ -37,16 +44,44 @@ pub struct Ended {
     pub first: Option<PeerEnd>,
     pub others: u64,
     pub untold: Untold,
+    // the first of those that began to send what is no message and weren't told yet, and how many others there are
+    sending: Option<Sending>,
+    others_sending: u64,
+}
+
+impl Ended {
+    /// Whether a connection has begun to send what is no message and wasn't told.
+    pub fn has_sending(&self) -> bool {
+        self.sending.is_some()
+    }
+
+    /// The first of them, and how many others there are, which are told now.
+    pub fn take_sending(&mut self) -> Option<(Sending, u64)> {
+        let sending = self.sending.take()?;
+        let others = self.others_sending;
+        self.others_sending = 0;
+        Some((sending, others))
+    }
+
+    fn add_sending(&mut self, sending: Sending) {
+        if self.sending.is_none() {
+            self.sending = Some(sending);
+        } else {
+            self.others_sending = self.others_sending.saturating_add(1);
+        }
+    }
 }
 
 /// What an operator is told of a relay. Devices, workers and connections note here what happens; a thread looks, and prints.
 #[derive(Drop)]
 pub struct Log {
-    // the actions, then the inputs, then the queues
+    // the actions, then the inputs, then the queues, and then the unread file, if there is one
     subjects: Vec<Subject>,
     // of each input
     ended: Vec<Mutex<Ended>>,
     actions: usize,
+    // the name of the unread file, if there is one
+    unread: Option<Vec<u8>>,
     // wakes who looks
     change: Parker,
     is_ending: AtomicBool,
@@ -63,18 +98,25 @@ fn ended_of(alloc: Global, inputs: &[Input]) -> Result<Vec<Mutex<Ended>>, AllocE
             first: None,
             others: 0,
             untold: Untold::new(alloc)?,
+            sending: None,
+            others_sending: 0,
         }))?;
     }
     Ok(ended)
 }
 
 impl Log {
-    /// Nothing has happened yet to a relay of this plan.
-    pub fn new(alloc: Global, plan: &Plan) -> Result<Arc<Log>, AllocError> {
+    /// Nothing has happened yet to a relay of this plan, whose frames that carry no message are kept in the file of that name, if there is one.
+    pub fn new(alloc: Global, plan: &Plan, unread: Option<&str>) -> Result<Arc<Log>, AllocError> {
+        let unread = match unread {
+            Some(name) => Some(name_in_line(alloc, name)?),
+            None => None,
+        };
         let log = Log {
-            subjects: subjects_of(alloc, plan)?,
+            subjects: subjects_of(alloc, plan, unread.as_ref().map(|it| it.as_slice()))?,
             ended: ended_of(alloc, plan.inputs())?,
             actions: plan.actions().len(),
+            unread,
             change: Parker::new(),
             is_ending: AtomicBool::new(false),
             end: Parker::new(),
@@ -86,7 +128,7 @@ impl Log {
         }
     }
 
-    /// The actions, then the inputs, then the queues.
+    /// The actions, then the inputs, then the queues, and then the unread file, if there is one.
     pub fn subjects(&self) -> &[Subject] {
         self.subjects.as_slice()
     }
@@ -123,6 +165,50 @@ impl Log {
         drop(ended);
         if let Some(subject) = self.input(input) {
             self.note(subject);
+        }
+    }
+
+    /// The name of the unread file, as lines have it, if there is one.
+    pub fn unread(&self) -> Option<&[u8]> {
+        match &self.unread {
+            Some(name) => Some(name.as_slice()),
+            None => None,
+        }
+    }
+
+    /// Which of the subjects the unread file is, if there is one.
+    pub fn unread_subject(&self) -> Option<usize> {
+        if self.unread.is_none() {
+            return None;
+        }
+        self.subjects.len().checked_sub(1)
+    }
+
+    /// How many frames of all inputs carried no message.
+    pub fn unread_frames(&self) -> u128 {
+        let mut unread: u128 = 0;
+        for subject in &self.subjects {
+            unread = unread.saturating_add(u128::from(subject.unread()));
+        }
+        unread
+    }
+
+    /// A connection of an input begins to send frames that carry no message.
+    pub fn sends_no_message<R: Wait>(&self, rt: &R, input: u32, sending: Sending) {
+        let Some(ended) = self.ended.get(input as usize) else {
+            return;
+        };
+        ended.lock(rt).add_sending(sending);
+        if let Some(subject) = self.input(input) {
+            self.note(subject);
+        }
+    }
+
+    /// Whether a connection of the subject of this number has begun to send what is no message, and wasn't told.
+    pub fn has_untold_sending<R: Wait>(&self, rt: &R, number: usize) -> bool {
+        match self.ended_at(number) {
+            Some(ended) => ended.lock(rt).has_sending(),
+            None => false,
         }
     }
 
@@ -240,7 +326,7 @@ impl Gate for LogGate {
     }
 }
 
-/// What notes of an action whether it fails. Its device alone has it, and what that writes to.
+/// What notes of an action, or of the unread file, whether it fails. Its device alone has it, and what that writes to.
 #[derive(Drop)]
 pub struct ActionLog {
     log: Arc<Log>,

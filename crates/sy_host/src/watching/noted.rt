@@ -60,6 +60,7 @@ pub fn noted<R: Clock>(rt: &R, alloc: Global, log: &Log) -> Result<NotedLists, A
             Kind::Action => lists.actions.push(noted)?,
             Kind::Input => lists.inputs.push(noted)?,
             Kind::Queue => lists.queues.push(noted)?,
+            Kind::Unread => {}
         }
     }
     Ok(lists)

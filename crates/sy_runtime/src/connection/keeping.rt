@@ -1,9 +1,9 @@
 //! Frames that carry no message go to what keeps them.
-ghost use Rattle.std.specs.Prelude.{◌∷◌, ℕ, List, Option};
+ghost use Rattle.std.specs.Prelude.{◌∷◌, ℕ, List, Option, OnOk};
 ghost use Rattle.sy_runtime.specs.Connections.{since};
 ghost use Rattle.sy_runtime.specs.declared.untaken.Item.{Item as Kept};
 ghost use Rattle.sy_runtime.specs.internal.Held.{Holds};
-ghost use Rattle.sy_runtime.specs.internal.Keeping.{KeepIs};
+ghost use Rattle.sy_runtime.specs.internal.Keeping.{IsUpToMessage, KeepIs};
 
 use crate::connection::halt::Halt;
 use crate::connection_end::{ConnEnd, NotKept, Unread, UnreadSink};
@@ -48,7 +48,8 @@ pub(crate) fn keep_unread<R: Wait + Clock, U: UnreadSink>(
     batch: &mut VecDeque<Item>,
     end: &mut ConnEnd,
 ) -> Result<(), Halt>
-    ensures { (read left : List ℕ) (before : Option (List (List ℕ))) →
+    ensures ok { OnOk result (IsUpToMessage batch.new.items) }
+    ensures kept { (read left : List ℕ) (before : Option (List (List ℕ))) →
         Holds read end.old (since before (U.kept sink.old)) batch.old.items left →
         Holds read end.new (since before (U.kept sink.new)) batch.new.items left }
 {

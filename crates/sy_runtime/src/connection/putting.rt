@@ -81,7 +81,10 @@ pub(crate) fn put<R: Wait + Clock, G: Gate, U: UnreadSink>(
             locked = wait_and_tell(rt, shared, gate, locked, waiting, is_in_hand);
             continue;
         }
-        mem::swap(&mut locked.used, used);
+        // (so that what one round got isn't given back in the next)
+        if locked.used.len() > used.len() {
+            mem::swap(&mut locked.used, used);
+        }
         drop(locked);
         shared.work.notify_all();
         tell_moved(gate, hand.input, moved);
