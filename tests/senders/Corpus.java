@@ -36,6 +36,7 @@ public class Corpus {
 
     public static void main(String[] words) {
         Logger log = LogManager.getLogger("corpus");
+        int most = Integer.parseInt(words[0]);
         List<String> texts = new ArrayList<>(List.of("plain", "[sd a=\"b\"]", "[", "-", "\ufeffmark", "<34>1 - - - - - - like", "line\nfeed\r\n",
             "nul\0inside", "\u00f6\ud83d\ude00", "\ud83d alone", "tab\tbell\u0007"));
         for (String text : texts) {
@@ -59,7 +60,7 @@ public class Corpus {
         ThreadContext.put("k".repeat(40), "v");
         log.info(token("context"));
         ThreadContext.clearAll();
-        ThreadContext.put("long", "v".repeat(70_000));
+        ThreadContext.put("long", "v".repeat(Math.min(most, 70_000)));
         log.info(token("context"));
         ThreadContext.clearAll();
         structured(log, "text", "login@32473", "Audit", "user");
@@ -78,9 +79,13 @@ public class Corpus {
             log.info(token("text") + " " + "\u20ac".repeat(size) + also("text"));
         }
         for (int size : new int[] {16_000, 64_000, 65_000, 65_500, 70_000}) {
-            log.info(token("long") + " " + "x".repeat(size) + also("long"));
+            if (size <= most) {
+                log.info(token("long") + " " + "x".repeat(size) + also("long"));
+            }
         }
-        log.info(token("long") + " " + "\u00f6".repeat(35_000) + also("long"));
+        if (70_000 <= most) {
+            log.info(token("long") + " " + "\u00f6".repeat(35_000) + also("long"));
+        }
         System.out.println("record text {last}");
         log.info("{last}");
         LogManager.shutdown();

@@ -10,8 +10,8 @@ import socket
 import subprocess
 import time
 
-from corpus import LAST
-from peers import frame
+import corpus
+from peers import Sender, frame
 from room import LeftOut, Failure, imtcp, is_read, module, omfile, same, test, totals, until
 from senders import (EXAMPLES, INPUT, LOG4J2, PROTOCOL_23, RSYSLOGD, SOCKET_APPENDER, SYSLOG_APPENDER, SYSLOG_NG, Daemon, Log4j2, Logger,
                      PythonLogging, example)
@@ -24,12 +24,12 @@ AT_DEFAULTS = "_at_defaults"
 counts_alone = False  # whether the counts of the defaults are printed, and nothing is asked
 
 
-def hub(room, *more):
-    """Starts a hub that is accepted, with one archive; answers it, its port and a tap before that."""
+def hub(room, *more, at=None):
+    """Starts a hub that is accepted, with one archive; answers it, its port and a tap before that, at a port that is given or another."""
     port = room.port()
     room.site({"hub": module() + imtcp(port) + omfile("audit", "audit.log")}, f"entry hub {port}", "protect auth.* hub audit")
     relay = room.start("hub", port, words=[*more, "site", "hub"])
-    return relay, port, Tap(room.port(), port)
+    return relay, port, Tap(at or room.port(), port)
 
 
 def status(relay, port, tap):
@@ -55,11 +55,15 @@ def are_messages(room, frames):
     return [it for it in frames if passes(it)]
 
 
-def all_is_taken(room, start, refused=lambda sender: []):
-    """Each frame is taken, but for those with the tokens that are known to be refused; each token of the records is in the archive."""
-    relay, port, tap = hub(room)
-    sender = start(tap.port)
+def all_is_taken(room, start, refused=lambda sender: [], is_late=False):
+    """Each frame is taken, but for those with the tokens that are known to be refused; each token of the records is in the archive.
+    A relay that is late begins once the sender has its records."""
+    at = room.port()
+    relay, port, tap = (None, None, None) if is_late else hub(room, at=at)
+    sender = start(at)
     sender.give()
+    if is_late:
+        relay, port, tap = hub(room, at=at)
     tap.has(sender.records.tokens)
     taken, _ = status(relay, port, tap)
     frames = tap.frames()
@@ -70,10 +74,12 @@ def all_is_taken(room, start, refused=lambda sender: []):
         raise Failure(f"{without} frames have no token, of at least {sender.records.without}")
     sender.end()
     same("what is left after the frames", [rest for _, rest in tap.streams() if rest], [])
-    same("totals", relay.stop(), totals(taken, 0, 0, ("audit", taken, taken, 0, 0)))
+    wanted = totals(taken, 0, 0, ("audit", taken, taken, 0, 0))
+    same("totals", relay.stop(), wanted.replace("\n", f"\nunread {len(known)}\n", 1) if known and has_unread(room.program) else wanted)
     same("faults", bool(relay.faults()), bool(known))
     same("the archive's lines", sorted(room.read("audit.log").split(b"\n")), lines_of([it for it in frames if it not in known]))
     print(f"senders: {room.folder.rpartition('/')[2]}: {len(sender.records.given)} records, {len(frames)} frames sent, {taken} taken", flush=True)
+    return sender
 
 
 def all_is_counted(room, start):
@@ -81,17 +87,20 @@ def all_is_counted(room, start):
     if not has_unread(room.program):
         raise LeftOut("the program has no option --unread")
     relay, port, tap = hub(room, "--unread", room.path("unread"))
+    if not goes_on_after_long_ones(room):
+        corpus.most = 60_000
+        print(f"senders: {room.folder.rpartition('/')[2]}: without frames of more than 65,536 bytes, which end a connection", flush=True)
     sender = start(tap.port)
     sender.give()
-    tap.has([LAST])
+    tap.has([corpus.LAST])
     taken, unread = status(relay, port, tap)
     frames = tap.frames()
     messages = are_messages(room, frames)
     same("taken and unread, by `status`", (taken, unread), (len(messages), len(frames) - len(messages)))
     sender.end()
     same("what is left after the frames", [rest for _, rest in tap.streams() if rest], [])
-    wanted = totals(taken, 0, 0, ("audit", taken, taken, 0, 0)).split("\n", 1)
-    same("totals", relay.stop(), f"{wanted[0]}\nunread {unread}\n{wanted[1]}")
+    wanted = totals(taken, 0, 0, ("audit", taken, taken, 0, 0))
+    same("totals", relay.stop(), wanted.replace("\n", f"\nunread {unread}\n", 1))
     same("the archive's lines", sorted(room.read("audit.log").split(b"\n")), lines_of(messages))
     kept = room.read("unread")
     passed = subprocess.run([room.program, "pass"], input=kept, stdout=subprocess.PIPE, stderr=subprocess.PIPE, check=False)
@@ -131,6 +140,19 @@ def nothing_is_taken(room, give):
     same("taken and unread", relay.stop(), totals(0, 0, 0, ("audit", 0, 0, 0, 0)))
 
 
+def goes_on_after_long_ones(room):
+    """Whether a relay with an unread file takes what comes after a frame that is too long."""
+    port = room.port()
+    room.site({"other": module() + imtcp(port) + omfile("audit", "other.log")}, f"entry other {port}", "protect auth.* other audit")
+    relay = room.start("other", port, words=["--unread", room.path("other_unread"), "site", "other"])
+    try:
+        Sender(port).send(b"x" * 70_000, b"<34>1 - - - - - -").half_close().is_ended()
+    except OSError:  # (it was reset)
+        pass
+    relay.stop()
+    return room.size("other.log") > 0
+
+
 def has_unread(program):
     done = subprocess.run([program, "run", "--help"], stdin=subprocess.DEVNULL, stdout=subprocess.PIPE, check=False)
     return b"--unread" in done.stdout
@@ -141,6 +163,11 @@ def has_unread(program):
 @test
 def rsyslogd_imuxsock(room):
     all_is_taken(room, lambda port: Daemon(room, "rsyslogd", example("rsyslogd/imuxsock.conf"), "socket", port))
+
+
+@test
+def rsyslogd_before_its_relay(room):
+    all_is_taken(room, lambda port: Daemon(room, "rsyslogd", example("rsyslogd/imuxsock.conf"), "socket", port), is_late=True)
 
 
 @test
@@ -159,6 +186,11 @@ def syslog_ng_socket(room):
 
 
 @test
+def syslog_ng_before_its_relay(room):
+    all_is_taken(room, lambda port: Daemon(room, "syslog-ng", example("syslog-ng/socket.conf"), "socket", port), is_late=True)
+
+
+@test
 def syslog_ng_journal(room):
     all_is_taken(room, lambda port: Daemon(room, "syslog-ng", example("syslog-ng/journal.conf"), "journal", port))
 
@@ -168,16 +200,26 @@ def syslog_ng_file(room):
     all_is_taken(room, lambda port: Daemon(room, "syslog-ng", example("syslog-ng/file.conf"), "file", port))
 
 
+def log4j2_example(room):
+    return example("log4j2.xml").replace("/var/log/app/unsent.log", room.path("unsent.log"))
+
+
 @test
 def log4j2(room):
     """But for records whose data log4j2 itself writes as no message has it; long ones are in a file."""
-    text = example("log4j2.xml").replace("/var/log/app/long.log", room.path("long.log"))
-    senders = []
-    def start(port):
-        senders.append(Log4j2(room, text, port))
-        return senders[0]
-    all_is_taken(room, start, lambda sender: sender.of_kind["structured"])
-    same("long records that aren't in the file", lacking([room.read("long.log")], senders[0].of_kind["long"]), [])
+    sender = all_is_taken(room, lambda port: Log4j2(room, log4j2_example(room), port), lambda sender: sender.of_kind["structured"])
+    same("long records that aren't in the file", lacking([room.read("unsent.log")], sender.of_kind["long"]), [])
+    if lacking([room.read("unsent.log")], sender.of_kind["text"]) != sender.of_kind["text"]:
+        raise Failure("the file has others, too")
+
+
+@test
+def log4j2_without_a_relay(room):
+    """All records go to the file."""
+    sender = Log4j2(room, log4j2_example(room), room.port())
+    sender.give(may_fail=True)
+    tokens = [token for it in sender.of_kind.values() for token in it]
+    same("records that aren't in the file", lacking([room.read("unsent.log")], tokens), [])
 
 
 @test

@@ -13,6 +13,7 @@ TEXTS = [b'[sd a="b"] like structured data', b"[like its beginning", b"-", b"non
 DATA = [b'[un@known x="y"][b]', b'[id a="b"][id c="d"]', b"[" + b"i" * 32 + b' a="b"]', b"[" + b"i" * 33 + b' a="b"]', b"[id " + b"p" * 33 + b'="b"]',
         b'[\xfcd a="b"]', b'[id \xfc="b"]', b'[id a="\xff\xfe"]', b'[id a="x\ny"]', b'[id a="q\\"b\\]c\\\\d\\ne"]', b'[id  a="q"]', b"[id a=q]", b"[]"]
 LAST = b"{last}"
+most = 1_000_000  # bytes of the longest texts: fewer where longer ones end connections
 
 
 class Records:
@@ -37,8 +38,11 @@ class Records:
         """A text with its token."""
         return b"%s %s" % (self.token(), text) if text else self.token()
 
-    def long(self, size, letter=b"x"):
-        return b"%s %s %s" % (self.token(), letter * size, self.token())
+    def longs(self, *sizes, letter=b"x"):
+        """Texts of these sizes, with a token at each end."""
+        for size in sizes:
+            if size <= most:
+                yield b"%s %s %s" % (self.token(), letter * (size // len(letter)), self.token())
 
     def end(self):
         self.tokens.append(LAST)
@@ -68,10 +72,8 @@ def on_socket():
     it.add(b"<34>app[77]: " + it.text(b"no time"))
     for time in [b"2025-06-01T10:20:30", b"2025-06-01T10:20:30.123456789Z", b"Jun 30 23:59:60", b"Feb 30 10:20:30"]:
         it.add(b"<34>%s app[77]: %s" % (time, it.text(time)))
-    for size in SIZES:
-        legacy(b"app[77]: " + it.long(size))
-    legacy(b"app[77]: " + it.long(35_000, b"\xc3\xb6"))
-    legacy(b"app[77]: " + it.long(200_000))
+    for text in [*it.longs(*SIZES, 200_000), *it.longs(70_000, letter=b"\xc3\xb6")]:
+        legacy(b"app[77]: " + text)
     of_rfc_5424(it)
     legacy(b"app[77]: " + it.end())
     return it
@@ -102,8 +104,8 @@ def in_file():
     for text in [b"plain", *TEXTS, b"nul\0inside", b"a carriage return\r"]:
         it.add(b"%s%s" % (it.token(), text))
         it.add(b"%s %s" % (text, it.token()))
-    for size in [*SIZES, 140_000]:
-        it.add(it.long(size))
+    for text in it.longs(*SIZES, 140_000):
+        it.add(text)
     it.add(it.end())
     return it
 
@@ -126,8 +128,8 @@ def in_journal():
     it.add(pid | {name: b"q902"})
     for facility, severity in [(b"99", b"9"), (b"x", b"y"), (b"4", b"2")]:
         it.add(pid | {name: b"app", "SYSLOG_FACILITY": facility, "PRIORITY": severity, "MESSAGE": it.text(b"by its priority")})
-    for size in [*SIZES, 140_000]:
-        it.add(pid | {name: b"app", "MESSAGE": it.long(size)})
+    for text in it.longs(*SIZES, 140_000):
+        it.add(pid | {name: b"app", "MESSAGE": text})
     it.add(pid | {name: b"app", "MESSAGE": it.end()})
     return it
 
@@ -154,9 +156,10 @@ def for_logger():
     for text in [*TEXTS, b"line\nfeed"]:
         it.add(([b"-t", b"app", b"-p", b"auth.crit", it.text(text)], None))
     it.add(([b"-t", b"app", it.token(), b"several", b"words"], None))
-    for size in SIZES:
-        it.add(([b"-t", b"app", it.long(size)], None))
-        it.add(([b"-t", b"app"], it.long(size) + b"\n"))
+    for text in it.longs(*SIZES):
+        it.add(([b"-t", b"app", text], None))
+    for text in it.longs(*SIZES):
+        it.add(([b"-t", b"app"], text + b"\n"))
     it.add(([b"-t", b"app"], b"%s\n\n%s\nnul\0inside\n%s" % (it.text(b"lines"), it.text(b"\xff\xfe"), it.text(b"without end"))))
     it.add(([it.end()], None))
     return it
@@ -171,8 +174,7 @@ def for_logging():
         it.add(("app", it.token().decode() + text))
     it.tokens.append(b"q901")
     it.add(("q901", ""))
-    for size in [*SIZES, 200_000]:
-        it.add(("app", it.long(size).decode()))
-    it.add(("app", it.long(35_000, b"\xc3\xb6").decode()))
+    for text in [*it.longs(*SIZES, 200_000), *it.longs(70_000, letter=b"\xc3\xb6")]:
+        it.add(("app", text.decode()))
     it.add(("app", it.end().decode()))
     return it

@@ -75,6 +75,8 @@ class Daemon:
         self.room, self.source = room, source
         is_rsyslogd = name == "rsyslogd"
         changes = {'port="6514"': f'port="{port}"', "/var/spool/rsyslog": room.folder} if is_rsyslogd else {"port(6514)": f"port({port})"}
+        if not is_rsyslogd and "disk-buffer" in text:
+            changes["/var/lib/syslog-ng"] = room.folder
         self.records = {"socket": corpus.on_socket, "file": corpus.in_file, "journal": corpus.in_journal}[source]()
         if source == "socket":
             changes |= {'load="imuxsock"': f'load="imuxsock" SysSock.Name="{room.path("log")}"'} if is_rsyslogd else {"/dev/log": room.path("log")}
@@ -136,7 +138,7 @@ class Log4j2:
         self.room, self.kinds, self.records = room, kinds, corpus.Records()
 
     def give(self, may_fail=False):
-        done = subprocess.run(["java", "-cp", ":".join([*JARS, self.room.folder]), f"-Dlog4j2.configurationFile={self.room.path('log4j2.xml')}", "Corpus"],
+        done = subprocess.run(["java", "-cp", ":".join([*JARS, self.room.folder]), f"-Dlog4j2.configurationFile={self.room.path('log4j2.xml')}", "Corpus", str(corpus.most)],
                               stdin=subprocess.DEVNULL, stdout=subprocess.PIPE, stderr=subprocess.PIPE, check=False)
         if (done.returncode or done.stderr) and not may_fail:
             raise Failure(f"the program with log4j2: status {done.returncode}: {done.stderr.decode('utf-8', 'replace')}")
