@@ -71,17 +71,19 @@ class Running:
         return said
 
 
-def run_all(tests, program, jobs, name):
-    """Runs tests, some at once; answers how many passed and failed. Each that failed or was left out is a line that begins with a name."""
+def run_all(tests, program, jobs, name, first=FIRST_PORT, last=LAST_PORT):
+    """Runs tests, some at once, on ports between two; answers how many passed and failed.
+
+    Each that failed or was left out is a line that begins with a name."""
     counts = {"passed": 0, "failed": 0, "left out": 0}
-    block = random.randrange((LAST_PORT - FIRST_PORT) // PORTS)
+    block = random.randrange((last - first) // PORTS)
     running, left = [], list(tests)
     with tempfile.TemporaryDirectory() as top:
         try:
             while left or running:
                 while left and len(running) < jobs:
-                    block = (block + 1) % ((LAST_PORT - FIRST_PORT) // PORTS)
-                    running.append(Running(left.pop(0), program, top, FIRST_PORT + block * PORTS))
+                    block = (block + 1) % ((last - first) // PORTS)
+                    running.append(Running(left.pop(0), program, top, first + block * PORTS))
                 wait([it.answer for it in running], 1)
                 for it in [it for it in running if it.is_over()]:
                     running.remove(it)

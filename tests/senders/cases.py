@@ -44,6 +44,10 @@ def status(relay, port, tap):
     return int(taken[-1]), int(unread[-1]) if unread else 0
 
 
+def tell(room, text):
+    print(f"senders: {room.folder.rpartition('/')[2]}: {text}", flush=True)
+
+
 def lines_of(messages):
     return sorted(b"".join(it + b"\n" for it in messages).split(b"\n"))
 
@@ -78,7 +82,7 @@ def all_is_taken(room, start, refused=lambda sender: [], is_late=False):
     same("totals", relay.stop(), wanted.replace("\n", f"\nunread {len(known)}\n", 1) if known and has_unread(room.program) else wanted)
     same("faults", bool(relay.faults()), bool(known))
     same("the archive's lines", sorted(room.read("audit.log").split(b"\n")), lines_of([it for it in frames if it not in known]))
-    print(f"senders: {room.folder.rpartition('/')[2]}: {len(sender.records.given)} records, {len(frames)} frames sent, {taken} taken", flush=True)
+    tell(room, f"{len(sender.records.given)} records, {len(frames)} frames sent, {taken} taken")
     return sender
 
 
@@ -87,9 +91,9 @@ def all_is_counted(room, start):
     if not has_unread(room.program):
         raise LeftOut("the program has no option --unread")
     relay, port, tap = hub(room, "--unread", room.path("unread"))
-    if not goes_on_after_long_ones(room):
+    is_whole = goes_on_after_long_ones(room)
+    if not is_whole:
         corpus.most = 60_000
-        print(f"senders: {room.folder.rpartition('/')[2]}: without frames of more than 65,536 bytes, which end a connection", flush=True)
     sender = start(tap.port)
     sender.give()
     tap.has([corpus.LAST])
@@ -108,8 +112,8 @@ def all_is_counted(room, start):
     same("frames that aren't in it", [it[:200] for it in frames if it not in messages and it[:1_000] not in kept], [])
     if kept.count(UNREAD) < unread:
         raise Failure(f"it has {kept.count(UNREAD)} records of {unread}")
-    print(f"senders: {room.folder.rpartition('/')[2]}: {len(sender.records.given)} records, {len(frames)} frames sent, {taken} taken, {unread} unread",
-          flush=True)
+    note = "" if is_whole else " (without frames of more than 65,536 bytes, which end a connection)"
+    tell(room, f"{len(sender.records.given)} records, {len(frames)} frames sent, {taken} taken, {unread} unread{note}")
 
 
 def counted(room, start):
@@ -127,8 +131,7 @@ def counted(room, start):
     frames, archive = tap.frames(), room.read("audit.log")
     lost = lacking([archive], sender.records.tokens)
     records = len(sender.records.given)
-    print(f"senders: {room.folder.rpartition('/')[2]}: {records} records, {len(frames)} frames sent, {taken} taken; of {len(sender.records.tokens)} "
-          f"tokens {len(lost)} aren't in the archive", flush=True)
+    tell(room, f"{records} records, {len(frames)} frames sent, {taken} taken; of {len(sender.records.tokens)} tokens {len(lost)} aren't in the archive")
     relay.stop()
 
 
