@@ -1,9 +1,10 @@
 //! Frames that carry no message go to what keeps them.
-ghost use Rattle.std.specs.Prelude.{◌∷◌, ℕ, List, Option, OnOk};
+ghost use Rattle.std.specs.Prelude.{◌∷◌, ℕ, List, Option, IfOk, IfSome, OnOk};
 ghost use Rattle.sy_runtime.specs.Connections.{since};
 ghost use Rattle.sy_runtime.specs.declared.untaken.Item.{Item as Kept};
 ghost use Rattle.sy_runtime.specs.internal.Held.{Holds};
 ghost use Rattle.sy_runtime.specs.internal.Keeping.{IsUpToMessage, KeepIs};
+ghost use Rattle.sy_runtime.specs.internal.Taking.{HasMessage};
 
 use crate::connection::halt::Halt;
 use crate::connection_end::{ConnEnd, NotKept, Unread, UnreadSink};
@@ -24,7 +25,8 @@ fn keep_one<R: Wait + Clock, G: Gate, U: UnreadSink>(
     item: Item,
     end: &mut ConnEnd,
 ) -> Result<Option<Item>, (Halt, Item)>
-    ensures { (read left : List ℕ) (before : Option (List (List ℕ))) (later : List Kept) →
+    ensures has { IfOk result (λ left. IfSome left HasMessage) }
+    ensures kept { (read left : List ℕ) (before : Option (List (List ℕ))) (later : List Kept) →
         Holds read end.old (since before (U.kept sink.old)) (item ∷ later) left →
         KeepIs result read end.new (since before (U.kept sink.new)) later left }
 {
