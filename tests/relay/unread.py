@@ -6,6 +6,7 @@ import re
 from archives import lift, limited
 from rotation import answer, asks
 from faults import MESSAGE_FAULTS
+from metrics import document
 from peers import Sender, frame, frames, message, messages, send_all, split
 from room import imtcp, module, omfile, same, test, totals, until
 from statuses import refuses
@@ -137,6 +138,7 @@ def full_disk_holds_the_connection(room):
     wanted = [record(port, address(sender), number + 1, "1 Pri", 0, it * 5000) for number, it in enumerate((b"x", b"y"))]
     has(room, wanted[:1])
     asked(relay, "taken 0 lost 0 held 0\nunread 1\n")
+    same("what is watched", [document(relay)[it] for it in ("unread", "unread_fails")], [1, 1])
     lift(relay)
     has(room, wanted)
     room.holds("audit.log", messages(1))
