@@ -12,16 +12,18 @@ pub enum RelayNumber {
     Held,
     Queued,
     LeftOut,
+    UnreadFails,
 }
 
 /// All numbers of a relay.
-pub const RELAY_NUMBERS: [RelayNumber; 6] = [
+pub const RELAY_NUMBERS: [RelayNumber; 7] = [
     RelayNumber::Taken,
     RelayNumber::Unread,
     RelayNumber::Lost,
     RelayNumber::Held,
     RelayNumber::Queued,
     RelayNumber::LeftOut,
+    RelayNumber::UnreadFails,
 ];
 
 impl RelayNumber {
@@ -42,6 +44,10 @@ impl RelayNumber {
                 "log_lines_left_out_total",
                 "Lines of the log left out.",
             )),
+            RelayNumber::UnreadFails => Some(gauge(
+                "unread_file_failing",
+                "Whether the unread file can't be written.",
+            )),
         }
     }
 
@@ -54,6 +60,7 @@ impl RelayNumber {
             RelayNumber::Held => "held",
             RelayNumber::Queued => "queued",
             RelayNumber::LeftOut => "left_out",
+            RelayNumber::UnreadFails => "unread_fails",
         }
     }
 
@@ -66,6 +73,7 @@ impl RelayNumber {
             RelayNumber::Held => relay.held,
             RelayNumber::Queued => u128::from(relay.queued),
             RelayNumber::LeftOut => u128::from(relay.left_out),
+            RelayNumber::UnreadFails => u128::from(relay.unread_fails),
         }
     }
 }

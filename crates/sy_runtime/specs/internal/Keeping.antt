@@ -11,8 +11,8 @@ abbrev pub IsUpToMessage : List Item → Type 0
 IsUpToMessage [] = Unit {0}
 IsUpToMessage (item ∷ later) = HasMessage item
 
--- it was kept; or it stands first still, where it has a message, or is not to be kept
+-- it was kept; or it stands first still
 abbrev pub KeepIs : Result (Option Item) (Halt × Item) → List ℕ → Counts → Kept → List Item → List ℕ → Type 0
 KeepIs (Ok None) read end kept later left = Holds read end kept later left
-KeepIs (Ok (Some item)) read end kept later left = HasMessage item × Holds read end kept (item ∷ later) left
+KeepIs (Ok (Some item)) read end kept later left = Holds read end kept (item ∷ later) left
 KeepIs (Err e) read end kept later left = Holds read end kept (e.1 ∷ later) left
