@@ -20,6 +20,7 @@ from tap import Tap, lacking
 TOKEN = re.compile(rb"\{(\d{3}|last)\}|\bq9\d\d\b")
 UNREAD, SECOND = b"[unread@32473 ", b' part="2/2"]'
 QUIET = 1  # seconds in which nothing comes, where no condition tells that all came
+LOGGER = ["logger", "--rfc5424", "--tcp", "--octet-count", "--server", "127.0.0.1"]
 AT_DEFAULTS = "_at_defaults"
 counts_alone = False  # whether the counts of the defaults are printed, and nothing is asked
 
@@ -129,8 +130,8 @@ def counted(room, start):
     sender.end()
     frames, archive = tap.frames(), room.read("audit.log")
     lost = lacking([archive], sender.records.tokens)
-    records = len(sender.records.given)
-    tell(room, f"{records} records, {len(frames)} frames sent, {taken} taken; of {len(sender.records.tokens)} tokens {len(lost)} aren't in the archive")
+    tell(room, f"{len(sender.records.given)} records, {len(frames)} frames sent, {taken} taken; "
+               f"of {len(sender.records.tokens)} tokens {len(lost)} aren't in the archive")
     relay.stop()
 
 
@@ -243,7 +244,8 @@ def python_logging_over_a_restart(room):
             handler.handle(logging.LogRecord("corpus", logging.ERROR, __file__, 1, f"record {turn} {it}", None, None))
         room.has("audit.log", 10 * turn + 10)
         same("totals", relay.stop(), totals(10, 0, 0, ("audit", 10, 10, 0, 0)))
-    same("the archive", [it.rpartition(b" - ")[2].decode() for it in room.lines("audit.log")], [f"record {turn} {it}" for turn in range(3) for it in range(10)])
+    wanted = [f"record {turn} {it}".encode() for turn in range(3) for it in range(10)]
+    same("the archive", [it.rpartition(b" - ")[2] for it in room.lines("audit.log")], wanted)
 
 
 @test
@@ -269,17 +271,26 @@ def log4j2_syslog_appender_has_no_frames(room):
 
 # ---- At their defaults
 
+def rsyslogd(module, source, **more):
+    """rsyslogd with an input of its own and its own form of RFC 5424, or another."""
+    text = RSYSLOGD.format(**{"module": module, "more": "", "input": "", "template": PROTOCOL_23} | more)
+    return lambda room, port: Daemon(room, "rsyslogd", text, source, port)
+
+
+def syslog_ng(text, source):
+    return lambda room, port: Daemon(room, "syslog-ng", SYSLOG_NG.format(source=text), source, port)
+
+
 DEFAULTS = {
-    "rsyslogd_imuxsock_own_form": lambda room, port: Daemon(room, "rsyslogd", RSYSLOGD.format(module="imuxsock", more="", input="", template=""), "socket", port),
-    "rsyslogd_imuxsock": lambda room, port: Daemon(room, "rsyslogd", RSYSLOGD.format(module="imuxsock", more="", input="", template=PROTOCOL_23), "socket", port),
-    "rsyslogd_imjournal": lambda room, port: Daemon(room, "rsyslogd", RSYSLOGD.format(module="imjournal", more=' StateFile="state"', input="",
-                                                                                      template=PROTOCOL_23), "journal", port),
-    "rsyslogd_imfile": lambda room, port: Daemon(room, "rsyslogd", RSYSLOGD.format(module="imfile", more="", input=INPUT, template=PROTOCOL_23), "file", port),
-    "syslog_ng_socket": lambda room, port: Daemon(room, "syslog-ng", SYSLOG_NG.format(source='unix-dgram("/dev/log")'), "socket", port),
-    "syslog_ng_journal": lambda room, port: Daemon(room, "syslog-ng", SYSLOG_NG.format(source="systemd-journal()"), "journal", port),
-    "syslog_ng_file": lambda room, port: Daemon(room, "syslog-ng", SYSLOG_NG.format(source='file("/var/log/app.log")'), "file", port),
+    "rsyslogd_imuxsock_own_form": rsyslogd("imuxsock", "socket", template=""),
+    "rsyslogd_imuxsock": rsyslogd("imuxsock", "socket"),
+    "rsyslogd_imjournal": rsyslogd("imjournal", "journal", more=' StateFile="state"'),
+    "rsyslogd_imfile": rsyslogd("imfile", "file", input=INPUT),
+    "syslog_ng_socket": syslog_ng('unix-dgram("/dev/log")', "socket"),
+    "syslog_ng_journal": syslog_ng("systemd-journal()", "journal"),
+    "syslog_ng_file": syslog_ng('file("/var/log/app.log")', "file"),
     "log4j2": lambda room, port: Log4j2(room, LOG4J2.format(appender=SOCKET_APPENDER), port, ("text", "structured", "context", "long")),
-    "logger": lambda room, port: Logger(["logger", "--rfc5424", "--tcp", "--octet-count", "--server", "127.0.0.1", "--port", str(port)], port),
+    "logger": lambda room, port: Logger([*LOGGER, "--port", str(port)], port),
 }
 
 

@@ -10,8 +10,9 @@ NAMES = [b"n", b"n" * 48, b"n" * 49, b"n" * 200]
 SIZES = [8_000, 9_000, 64_000, 65_000, 65_400, 65_500, 70_000]
 TEXTS = [b'[sd a="b"] like structured data', b"[like its beginning", b"-", b"non-UTF-8 \xff\xfe\xc3(", b"\xef\xbb\xbfa byte order mark",
          b"<34>1 - - - - - - like a message", b"prog[77]: like RFC 3164", b"tab\tbell\x07escape\x1b", b" "]
-DATA = [b'[un@known x="y"][b]', b'[id a="b"][id c="d"]', b"[" + b"i" * 32 + b' a="b"]', b"[" + b"i" * 33 + b' a="b"]', b"[id " + b"p" * 33 + b'="b"]',
-        b'[\xfcd a="b"]', b'[id \xfc="b"]', b'[id a="\xff\xfe"]', b'[id a="x\ny"]', b'[id a="q\\"b\\]c\\\\d\\ne"]', b'[id  a="q"]', b"[id a=q]", b"[]"]
+DATA = [b'[un@known x="y"][b]', b'[id a="b"][id c="d"]', b'[%s a="b"]' % (b"i" * 32), b'[%s a="b"]' % (b"i" * 33), b'[id %s="b"]' % (b"p" * 33),
+        b'[\xfcd a="b"]', b'[id \xfc="b"]', b'[id a="\xff\xfe"]', b'[id a="x\ny"]', b'[id a="q\\"b\\]c\\\\d\\ne"]', b'[id  a="q"]',
+        b"[id a=q]", b"[]"]
 LAST = b"{last}"
 most = 1_000_000  # bytes of the longest texts: fewer where longer ones end connections
 
@@ -114,7 +115,8 @@ def in_journal():
     """Entries of a journal, each as its fields."""
     it = Records()
     name, pid = "SYSLOG_IDENTIFIER", {"_PID": b"77"}
-    for text in [*NAMES, b"n" * 600, b"my prog", b"my other prog [x]", b"pr\xc3\xb6g", b"pr\xfeg", b"", b"/usr/bin/prog", b"a:b[c]", b"line\nfeed"]:
+    for text in [*NAMES, b"n" * 600, b"my prog", b"my other prog [x]", b"pr\xc3\xb6g", b"pr\xfeg", b"", b"/usr/bin/prog", b"a:b[c]",
+                 b"line\nfeed"]:
         it.add(pid | {name: text, "MESSAGE": it.text(b"by its name")})
     it.add(pid | {"MESSAGE": it.text(b"no name")})
     it.add(pid | {"_COMM": b"comm name", "MESSAGE": it.text(b"no identifier")})
@@ -141,7 +143,7 @@ def exported(records, machine):
         out += b"__REALTIME_TIMESTAMP=%d\n__MONOTONIC_TIMESTAMP=%d\n_BOOT_ID=%s\n" % (1764334800000000 + at, 1000 + at, b"01234567" * 4)
         for name, value in ({"_MACHINE_ID": machine, "_HOSTNAME": b"web1"} | entry).items():
             is_plain = all(32 <= byte < 127 for byte in value)
-            out += b"%s=%s\n" % (name.encode(), value) if is_plain else b"%s\n%s%s\n" % (name.encode(), struct.pack("<Q", len(value)), value)
+            out += name.encode() + (b"=" if is_plain else b"\n" + struct.pack("<Q", len(value))) + value + b"\n"
         out += b"\n"
     return out
 
@@ -170,7 +172,8 @@ def for_logging():
     it = Records()
     for name in ["n", "n" * 48, "n" * 49, "n" * 200, "my prog", "pr\u00f6g", "", "line\nfeed", "\udcff"]:
         it.add((name, it.text(b"by its name").decode()))
-    for text in [*[text.decode("utf-8", "surrogateescape") for text in TEXTS], "line\nfeed\r\n", "nul\0inside", "\u00f6\U0001f600", "\ud83d"]:
+    texts = [text.decode("utf-8", "surrogateescape") for text in TEXTS]
+    for text in [*texts, "line\nfeed\r\n", "nul\0inside", "\u00f6\U0001f600", "\ud83d"]:
         it.add(("app", it.token().decode() + text))
     it.tokens.append(b"q901")
     it.add(("q901", ""))

@@ -79,7 +79,8 @@ class Daemon:
             changes["/var/lib/syslog-ng"] = room.folder
         self.records = {"socket": corpus.on_socket, "file": corpus.in_file, "journal": corpus.in_journal}[source]()
         if source == "socket":
-            changes |= {'load="imuxsock"': f'load="imuxsock" SysSock.Name="{room.path("log")}"'} if is_rsyslogd else {"/dev/log": room.path("log")}
+            named = f'load="imuxsock" SysSock.Name="{room.path("log")}"'
+            changes |= {'load="imuxsock"': named} if is_rsyslogd else {"/dev/log": room.path("log")}
         if source == "file":
             changes["/var/log/app.log"] = room.path("app.log")
             room.write("app.log", b"".join(it + b"\n" for it in self.records.given))
@@ -93,7 +94,8 @@ class Daemon:
         if source == "journal":
             words = self.with_journal(words)
         with open(room.path("daemon.log"), "wb") as log:
-            self.process = subprocess.Popen(words, cwd=room.folder, stdin=subprocess.DEVNULL, stdout=log, stderr=log, env=os.environ | {"TZ": "UTC"})
+            self.process = subprocess.Popen(words, cwd=room.folder, env=os.environ | {"TZ": "UTC"}, stdin=subprocess.DEVNULL, stdout=log,
+                                            stderr=log)
 
     def with_journal(self, words):
         """The words that run a daemon with a journal of these records in the place of the host's."""
@@ -101,7 +103,8 @@ class Daemon:
         if remote is None:
             raise LeftOut("there is no systemd-journal-remote (package of that name), which writes the journal")
         alone = ["unshare", "--mount", *([] if os.geteuid() == 0 else ["--map-root-user"])]
-        if subprocess.run([*alone, "mount", "-t", "tmpfs", "tmpfs", "/run"], stdin=subprocess.DEVNULL, stderr=subprocess.DEVNULL, check=False).returncode:
+        tried = subprocess.run([*alone, "mount", "-t", "tmpfs", "tmpfs", "/run"], stdin=subprocess.DEVNULL, stderr=subprocess.DEVNULL, check=False)
+        if tried.returncode:
             raise LeftOut("a folder of its own can't be mounted for a journal")
         with open("/etc/machine-id", "rb") as it:
             machine = it.read().strip()
@@ -138,8 +141,8 @@ class Log4j2:
         self.room, self.kinds, self.records = room, kinds, corpus.Records()
 
     def give(self, may_fail=False):
-        done = subprocess.run(["java", "-cp", ":".join([*JARS, self.room.folder]), f"-Dlog4j2.configurationFile={self.room.path('log4j2.xml')}", "Corpus", str(corpus.most)],
-                              stdin=subprocess.DEVNULL, stdout=subprocess.PIPE, stderr=subprocess.PIPE, check=False)
+        words = ["java", "-cp", ":".join([*JARS, self.room.folder]), f"-Dlog4j2.configurationFile={self.room.path('log4j2.xml')}", "Corpus"]
+        done = subprocess.run([*words, str(corpus.most)], stdin=subprocess.DEVNULL, stdout=subprocess.PIPE, stderr=subprocess.PIPE, check=False)
         if (done.returncode or done.stderr) and not may_fail:
             raise Failure(f"the program with log4j2: status {done.returncode}: {done.stderr.decode('utf-8', 'replace')}")
         self.of_kind = {}
