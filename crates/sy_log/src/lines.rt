@@ -1,12 +1,12 @@
 //! The lines of a relay's log.
 
-use crate::log::{MARK, PeerEnd, Sending};
+use crate::log::MARK;
 use crate::notices::Line;
+use crate::peers::{PeerEnd, Sending};
 use crate::subject::Subject;
 use std::alloc::{AllocError, Global};
 use sy_report::texts::parts::{Part, put_parts};
 use sy_report::texts::reason::Reason;
-use sy_runtime::Unread;
 
 fn put(text: &mut Vec<u8>, words: &str) -> Result<(), AllocError> {
     text.extend_from_slice(words.as_bytes())
@@ -141,16 +141,21 @@ pub fn peer_line(
     Ok(text)
 }
 
-// The first frame of a connection that carries no message.
-fn append_first(text: &mut Vec<u8>, first: Unread) -> Result<(), AllocError> {
+// What a connection sends that is no message.
+fn append_first(text: &mut Vec<u8>, sending: &Sending) -> Result<(), AllocError> {
     let parts = [
-        Part::Text(first.fault.code.words().as_bytes()),
+        Part::Text(sending.fault.as_bytes()),
         Part::Text(b" at "),
-        Part::Number(first.fault.offset as u64),
+        Part::Number(sending.at),
         Part::Text(b" in frame "),
-        Part::Number(first.frame),
+        Part::Number(sending.frame),
     ];
-    put_parts(text, &parts)
+    put_parts(text, &parts)?;
+    if let Some(hint) = sending.hint {
+        put(text, ", which ")?;
+        put(text, hint)?;
+    }
+    Ok(())
 }
 
 // Where frames go that carry no message.
@@ -178,7 +183,7 @@ pub fn sending_line(
         peer.as_str().as_bytes(),
         b" sends what is no message: ",
     )?;
-    append_first(&mut text, sending.first)?;
+    append_first(&mut text, sending)?;
     put_others(&mut text, others)?;
     append_kept(&mut text, file)?;
     put(&mut text, "\n")?;
