@@ -1,13 +1,14 @@
 //! The lines of a relay's log.
 
-use crate::log::{MARK, PeerEnd, Sending};
+use crate::log::MARK;
 use crate::notices::Line;
+use crate::peers::{PeerEnd, Sending};
 use crate::subject::Subject;
 use std::alloc::{AllocError, Global};
 use sy_report::texts::parts::{Part, put_parts};
 use sy_report::texts::reason::Reason;
 
-fn put(text: &mut Vec<u8>, words: &'static str) -> Result<(), AllocError> {
+fn put(text: &mut Vec<u8>, words: &str) -> Result<(), AllocError> {
     text.extend_from_slice(words.as_bytes())
 }
 
@@ -101,7 +102,7 @@ fn put_others(text: &mut Vec<u8>, others: u64) -> Result<(), AllocError> {
     put_parts(text, &parts)
 }
 
-fn put_peer<'a>(
+fn append_peer<'a>(
     text: &mut Vec<u8>,
     name: &'a [u8],
     peer: &'a [u8],
@@ -112,7 +113,6 @@ fn put_peer<'a>(
         Part::Text(name),
         Part::Text(b" peer "),
         Part::Text(peer),
-        Part::Text(b": "),
         Part::Text(words),
     ];
     put_parts(text, &parts)
@@ -128,16 +128,42 @@ pub fn peer_line(
 ) -> Result<Vec<u8>, AllocError> {
     let peer = end.peer.to_string(alloc)?;
     let mut text = Vec::new(alloc);
-    put_peer(
+    append_peer(
         &mut text,
         subject.name.as_slice(),
         peer.as_str().as_bytes(),
-        words.as_bytes(),
+        b": ",
     )?;
+    put(&mut text, words)?;
     put_unread(&mut text, end)?;
     put_others(&mut text, others)?;
     put(&mut text, "\n")?;
     Ok(text)
+}
+
+// What a connection sends that is no message.
+fn append_first(text: &mut Vec<u8>, sending: &Sending) -> Result<(), AllocError> {
+    let parts = [
+        Part::Text(sending.fault.as_bytes()),
+        Part::Text(b" at "),
+        Part::Number(sending.at),
+        Part::Text(b" in frame "),
+        Part::Number(sending.frame),
+    ];
+    put_parts(text, &parts)?;
+    if let Some(hint) = sending.hint {
+        put(text, ", which ")?;
+        put(text, hint)?;
+    }
+    Ok(())
+}
+
+// Where frames go that carry no message.
+fn append_kept(text: &mut Vec<u8>, file: Option<&[u8]>) -> Result<(), AllocError> {
+    match file {
+        Some(file) => put_parts(text, &[Part::Text(b"; kept in "), Part::Text(file)]),
+        None => put(text, "; dropped"),
+    }
 }
 
 /// A line about a connection of an input that begins to send frames that carry no message, and about how many others do. They are kept in the file of
@@ -150,28 +176,16 @@ pub fn sending_line(
     file: Option<&[u8]>,
 ) -> Result<Vec<u8>, AllocError> {
     let peer = sending.peer.to_string(alloc)?;
-    let first = sending.first;
     let mut text = Vec::new(alloc);
-    put_parts(
+    append_peer(
         &mut text,
-        &[
-            Part::Text(b"syc: "),
-            Part::Text(subject.name.as_slice()),
-            Part::Text(b" peer "),
-            Part::Text(peer.as_str().as_bytes()),
-            Part::Text(b" sends what is no message: "),
-            Part::Text(first.fault.code.words().as_bytes()),
-            Part::Text(b" at "),
-            Part::Number(first.fault.offset as u64),
-            Part::Text(b" in frame "),
-            Part::Number(first.frame),
-        ],
+        subject.name.as_slice(),
+        peer.as_str().as_bytes(),
+        b" sends what is no message: ",
     )?;
+    append_first(&mut text, sending)?;
     put_others(&mut text, others)?;
-    match file {
-        Some(file) => put_parts(&mut text, &[Part::Text(b"; kept in "), Part::Text(file)])?,
-        None => put(&mut text, "; dropped")?,
-    }
+    append_kept(&mut text, file)?;
     put(&mut text, "\n")?;
     Ok(text)
 }

@@ -1,10 +1,9 @@
 //! What threads note of a relay: of its actions, inputs and queues, and of connections that ended with a fault.
 
+use crate::peers::{Ended, PeerEnd, Sending};
 use crate::subject::Subject;
 use crate::subjects::{name_in_line, subjects_of};
-use crate::untold::Untold;
 use std::alloc::{AllocError, Global};
-use std::net::SocketAddr;
 use std::sync::atomic::{AtomicBool, AtomicU64, Ordering};
 use std::sync::{Arc, Mutex, Wait};
 use std::thread::Parker;
@@ -12,65 +11,12 @@ use std::time::{Clock, Duration};
 use sy_marks::Hold;
 use sy_report::texts::reason::Reason;
 use sy_rules::{Input, Plan};
-use sy_runtime::{Gate, RunFault, Unread};
+use sy_runtime::Gate;
 
 /// How often the last lines are waited for, and how long each time, in milliseconds.
 const LAST_WAITS: u32 = 10;
 
 const LAST_WAIT: u64 = 100;
-
-/// How a connection ended: with frames that carried no message, or with a fault, or both.
-#[derive(Clone, Copy)]
-pub struct PeerEnd {
-    pub peer: SocketAddr,
-    pub unread: u64,
-    pub first: Option<Unread>,
-    pub fault: Option<RunFault>,
-}
-
-/// A connection that begins to send frames that carry no message, and the first of them.
-#[derive(Clone, Copy)]
-pub struct Sending {
-    pub peer: SocketAddr,
-    pub first: Unread,
-}
-
-/// How the first of the connections ended that ended so and weren't told yet, and how many others there are; and with what
-/// connections ended.
-#[derive(Drop)]
-pub struct Ended {
-    /// the input's
-    pub port: u16,
-    pub first: Option<PeerEnd>,
-    pub others: u64,
-    pub untold: Untold,
-    // the first of those that began to send what is no message and weren't told yet, and how many others there are
-    sending: Option<Sending>,
-    others_sending: u64,
-}
-
-impl Ended {
-    /// Whether a connection has begun to send what is no message and wasn't told.
-    pub fn has_sending(&self) -> bool {
-        self.sending.is_some()
-    }
-
-    /// The first of them, and how many others there are, which are told now.
-    pub fn take_sending(&mut self) -> Option<(Sending, u64)> {
-        let sending = self.sending.take()?;
-        let others = self.others_sending;
-        self.others_sending = 0;
-        Some((sending, others))
-    }
-
-    fn add_sending(&mut self, sending: Sending) {
-        if self.sending.is_none() {
-            self.sending = Some(sending);
-        } else {
-            self.others_sending = self.others_sending.saturating_add(1);
-        }
-    }
-}
 
 /// What an operator is told of a relay. Devices, workers and connections note here what happens; a thread looks, and prints.
 #[derive(Drop)]
@@ -93,14 +39,7 @@ pub struct Log {
 fn ended_of(alloc: Global, inputs: &[Input]) -> Result<Vec<Mutex<Ended>>, AllocError> {
     let mut ended = Vec::with_capacity(alloc, inputs.len())?;
     for input in inputs {
-        ended.push(Mutex::new(Ended {
-            port: input.port,
-            first: None,
-            others: 0,
-            untold: Untold::new(alloc)?,
-            sending: None,
-            others_sending: 0,
-        }))?;
+        ended.push(Mutex::new(Ended::new(alloc, input.port)?))?;
     }
     Ok(ended)
 }
@@ -155,14 +94,7 @@ impl Log {
         let Some(ended) = self.ended.get(input as usize) else {
             return;
         };
-        let mut ended = ended.lock(rt);
-        if ended.first.is_none() {
-            ended.first = Some(end);
-        } else {
-            ended.others = ended.others.saturating_add(1);
-        }
-        ended.untold.add(&end);
-        drop(ended);
+        ended.lock(rt).add(end);
         if let Some(subject) = self.input(input) {
             self.note(subject);
         }
@@ -193,7 +125,14 @@ impl Log {
         unread
     }
 
-    /// A connection of an input begins to send frames that carry no message.
+    /// So many frames more of an input carried no message.
+    pub fn count_unread(&self, input: u32, count: u64) {
+        if let Some(subject) = self.input(input) {
+            subject.take(0, count);
+        }
+    }
+
+    /// A connection of an input begins to send what is no message.
     pub fn sends_no_message<R: Wait>(&self, rt: &R, input: u32, sending: Sending) {
         let Some(ended) = self.ended.get(input as usize) else {
             return;
@@ -227,11 +166,7 @@ impl Log {
 
     /// The same connections, which are told now.
     pub fn take_untold_ends<R: Wait>(&self, rt: &R, number: usize) -> Option<(PeerEnd, u64)> {
-        let mut ended = self.ended_at(number)?.lock(rt);
-        let first = ended.first.take()?;
-        let others = ended.others;
-        ended.others = 0;
-        Some((first, others))
+        self.ended_at(number)?.lock(rt).take_first()
     }
 
     /// Notes this time at what has changed since it was last noted.

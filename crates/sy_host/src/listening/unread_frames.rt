@@ -5,7 +5,7 @@ use crate::listening::unread_file::UnreadFrame;
 use std::net::SocketAddr;
 use std::sync::Wait;
 use std::time::Clock;
-use sy_log::log::Sending;
+use sy_log::peers::Sending;
 use sy_runtime::{NotKept, Unread, UnreadSink};
 use sy_wire::Sink;
 
@@ -48,7 +48,10 @@ impl<E: Sink + Drop> UnreadSink for UnreadFrames<'_, E> {
             self.has_any = true;
             let sending = Sending {
                 peer: self.peer,
-                first: why,
+                fault: why.fault.code.words(),
+                at: why.fault.offset as u64,
+                frame: why.frame,
+                hint: None,
             };
             self.serving
                 .log()

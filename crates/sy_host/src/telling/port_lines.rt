@@ -7,8 +7,8 @@ use sy_log::at_port::{
     append_at_port, append_at_port_often, append_unread, append_unread_often, end_words,
 };
 use sy_log::lines::sending_line;
-use sy_log::log::Ended;
 use sy_log::pauses::Pace;
+use sy_log::peers::Ended;
 use sy_log::untold::{FAULTS, Faulted, UnreadFrames};
 use sy_wire::Sink;
 
