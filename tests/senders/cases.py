@@ -19,6 +19,7 @@ from tap import Tap, lacking
 
 TOKEN = re.compile(rb"\{(\d{3}|last)\}|\bq9\d\d\b")
 UNREAD, SECOND = b"[unread@32473 ", b' part="2/2"]'
+LIMIT = 180  # seconds for a test, beside much other work
 QUIET = 1  # seconds in which nothing comes, where no condition tells that all came
 LOGGER = ["logger", "--rfc5424", "--tcp", "--octet-count", "--server", "127.0.0.1"]
 AT_DEFAULTS = "_at_defaults"
@@ -163,42 +164,42 @@ def has_unread(program):
 
 # ---- With the examples
 
-@test
+@test(limit=LIMIT)
 def rsyslogd_imuxsock(room):
     all_is_taken(room, lambda port: Daemon(room, "rsyslogd", example("rsyslogd/imuxsock.conf"), "socket", port))
 
 
-@test
+@test(limit=LIMIT)
 def rsyslogd_before_its_relay(room):
     all_is_taken(room, lambda port: Daemon(room, "rsyslogd", example("rsyslogd/imuxsock.conf"), "socket", port), is_late=True)
 
 
-@test
+@test(limit=LIMIT)
 def rsyslogd_imjournal(room):
     all_is_taken(room, lambda port: Daemon(room, "rsyslogd", example("rsyslogd/imjournal.conf"), "journal", port))
 
 
-@test
+@test(limit=LIMIT)
 def rsyslogd_imfile(room):
     all_is_taken(room, lambda port: Daemon(room, "rsyslogd", example("rsyslogd/imfile.conf"), "file", port))
 
 
-@test
+@test(limit=LIMIT)
 def syslog_ng_socket(room):
     all_is_taken(room, lambda port: Daemon(room, "syslog-ng", example("syslog-ng/socket.conf"), "socket", port))
 
 
-@test
+@test(limit=LIMIT)
 def syslog_ng_before_its_relay(room):
     all_is_taken(room, lambda port: Daemon(room, "syslog-ng", example("syslog-ng/socket.conf"), "socket", port), is_late=True)
 
 
-@test
+@test(limit=LIMIT)
 def syslog_ng_journal(room):
     all_is_taken(room, lambda port: Daemon(room, "syslog-ng", example("syslog-ng/journal.conf"), "journal", port))
 
 
-@test
+@test(limit=LIMIT)
 def syslog_ng_file(room):
     all_is_taken(room, lambda port: Daemon(room, "syslog-ng", example("syslog-ng/file.conf"), "file", port))
 
@@ -207,7 +208,7 @@ def log4j2_example(room):
     return example("log4j2.xml").replace("/var/log/app/unsent.log", room.path("unsent.log"))
 
 
-@test
+@test(limit=LIMIT)
 def log4j2(room):
     """But for records whose data log4j2 itself writes as no message has it; long ones are in a file."""
     sender = all_is_taken(room, lambda port: Log4j2(room, log4j2_example(room), port), lambda sender: sender.of_kind["structured"])
@@ -216,7 +217,7 @@ def log4j2(room):
         raise Failure("the file has others, too")
 
 
-@test
+@test(limit=LIMIT)
 def log4j2_without_a_relay(room):
     """All records go to the file."""
     sender = Log4j2(room, log4j2_example(room), room.port())
@@ -225,13 +226,13 @@ def log4j2_without_a_relay(room):
     same("records that aren't in the file", lacking([room.read("unsent.log")], tokens), [])
 
 
-@test
+@test(limit=LIMIT)
 def python_logging(room):
     from syc_logging import SycHandler
     all_is_taken(room, lambda port: PythonLogging(lambda name: SycHandler("127.0.0.1", port, app_name=name)))
 
 
-@test
+@test(limit=LIMIT)
 def python_logging_over_a_restart(room):
     """A relay that stops in good order, and another one in its place: each record is in one of the two archives, once."""
     from syc_logging import SycHandler
@@ -248,14 +249,14 @@ def python_logging_over_a_restart(room):
     same("the archive", [it.rpartition(b" - ")[2] for it in room.lines("audit.log")], wanted)
 
 
-@test
+@test(limit=LIMIT)
 def logger(room):
     all_is_taken(room, lambda port: Logger([f"{EXAMPLES}/syc-logger"], port))
 
 
 # ---- Without frames
 
-@test
+@test(limit=LIMIT)
 def python_syslog_handler_has_no_frames(room):
     def give(port):
         handler = logging.handlers.SysLogHandler(("127.0.0.1", port), socktype=socket.SOCK_STREAM)
@@ -264,7 +265,7 @@ def python_syslog_handler_has_no_frames(room):
     nothing_is_taken(room, give)
 
 
-@test
+@test(limit=LIMIT)
 def log4j2_syslog_appender_has_no_frames(room):
     nothing_is_taken(room, lambda port: Log4j2(room, LOG4J2.format(appender=SYSLOG_APPENDER), port).give(may_fail=True))
 
@@ -298,7 +299,7 @@ def add_default(name, start):
     def body(room):
         (counted if counts_alone else all_is_counted)(room, lambda port: start(room, port))
     body.__name__ = name + AT_DEFAULTS
-    test(body)
+    test(body, LIMIT)
 
 
 for name, start in DEFAULTS.items():

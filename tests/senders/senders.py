@@ -15,6 +15,7 @@ HERE = os.path.dirname(os.path.realpath(__file__))
 EXAMPLES = f"{os.path.dirname(os.path.dirname(HERE))}/examples/senders"
 PATH = f"{os.environ.get('PATH', '')}:/usr/sbin:/sbin"
 JOURNAL_REMOTE = ["/lib/systemd/systemd-journal-remote", "/usr/lib/systemd/systemd-journal-remote"]
+QUICK_START = "-XX:TieredStopAtLevel=1"
 JARS = [f"/usr/share/java/log4j-{it}.jar" for it in ("api", "core")]
 sys.path.insert(0, EXAMPLES)
 
@@ -103,8 +104,8 @@ class Daemon:
         if remote is None:
             raise LeftOut("there is no systemd-journal-remote (package of that name), which writes the journal")
         alone = ["unshare", "--mount", *([] if os.geteuid() == 0 else ["--map-root-user"])]
-        tried = subprocess.run([*alone, "mount", "-t", "tmpfs", "tmpfs", "/run"], stdin=subprocess.DEVNULL, stderr=subprocess.DEVNULL, check=False)
-        if tried.returncode:
+        mount = [*alone, "mount", "-t", "tmpfs", "tmpfs", "/run"]
+        if subprocess.run(mount, stdin=subprocess.DEVNULL, stderr=subprocess.DEVNULL, check=False).returncode:
             raise LeftOut("a folder of its own can't be mounted for a journal")
         with open("/etc/machine-id", "rb") as it:
             machine = it.read().strip()
@@ -137,12 +138,13 @@ class Log4j2:
         if not shutil.which("javac") or not all(map(os.path.exists, JARS)):
             raise LeftOut("there is no javac, or no log4j2 (packages default-jdk-headless, liblog4j2-java)")
         room.write("log4j2.xml", replaced(text, {'port="6514"': f'port="{port}"', 'level="info"': 'level="trace"'}))
-        subprocess.run(["javac", "-cp", ":".join(JARS), "-d", room.folder, f"{HERE}/Corpus.java"], check=True, stdin=subprocess.DEVNULL)
+        words = ["javac", QUICK_START.replace("-", "-J-", 1), "-cp", ":".join(JARS), "-d", room.folder, f"{HERE}/Corpus.java"]
+        subprocess.run(words, check=True, stdin=subprocess.DEVNULL)
         self.room, self.kinds, self.records = room, kinds, corpus.Records()
 
     def give(self, may_fail=False):
-        words = ["java", "-cp", ":".join([*JARS, self.room.folder]), f"-Dlog4j2.configurationFile={self.room.path('log4j2.xml')}", "Corpus"]
-        done = subprocess.run([*words, str(corpus.most)], stdin=subprocess.DEVNULL, stdout=subprocess.PIPE, stderr=subprocess.PIPE, check=False)
+        words = ["java", QUICK_START, "-cp", ":".join([*JARS, self.room.folder]), f"-Dlog4j2.configurationFile={self.room.path('log4j2.xml')}"]
+        done = subprocess.run([*words, "Corpus", str(corpus.most)], stdin=subprocess.DEVNULL, stdout=subprocess.PIPE, stderr=subprocess.PIPE, check=False)
         if (done.returncode or done.stderr) and not may_fail:
             raise Failure(f"the program with log4j2: status {done.returncode}: {done.stderr.decode('utf-8', 'replace')}")
         self.of_kind = {}
