@@ -144,7 +144,8 @@ class Log4j2:
 
     def give(self, may_fail=False):
         words = ["java", QUICK_START, "-cp", ":".join([*JARS, self.room.folder]), f"-Dlog4j2.configurationFile={self.room.path('log4j2.xml')}"]
-        done = subprocess.run([*words, "Corpus", str(corpus.most)], stdin=subprocess.DEVNULL, stdout=subprocess.PIPE, stderr=subprocess.PIPE, check=False)
+        done = subprocess.run([*words, "Corpus", str(corpus.most)], stdin=subprocess.DEVNULL, stdout=subprocess.PIPE, stderr=subprocess.PIPE,
+                              check=False)
         if (done.returncode or done.stderr) and not may_fail:
             raise Failure(f"the program with log4j2: status {done.returncode}: {done.stderr.decode('utf-8', 'replace')}")
         self.of_kind = {}
