@@ -74,13 +74,22 @@ pub fn subject_line(alloc: Global, subject: &Subject, line: Line) -> Result<Vec<
 
 // The first frame that carried no message, and why.
 fn put_unread(text: &mut Vec<u8>, end: &PeerEnd) -> Result<(), AllocError> {
+    if end.unread == 0 {
+        return Ok(());
+    }
+    put_parts(
+        text,
+        &[
+            Part::Text(b", "),
+            Part::Number(end.unread),
+            Part::Text(b" unread"),
+        ],
+    )?;
     let Some(first) = end.first else {
         return Ok(());
     };
     let parts = [
-        Part::Text(b", "),
-        Part::Number(end.unread),
-        Part::Text(b" unread, the first "),
+        Part::Text(b", the first "),
         Part::Text(first.fault.code.words().as_bytes()),
         Part::Text(b" at "),
         Part::Number(first.fault.offset as u64),

@@ -5,7 +5,7 @@ use crate::listening::connections::Connections;
 use crate::listening::connector::Connector;
 use crate::listening::served_threads::EndedThreads;
 use crate::listening::unread_file::UnreadFile;
-use crate::listening::unread_frames::UnreadFrames;
+use crate::listening::unread_frames::{Coming, UnreadFrames};
 use std::alloc::{AllocError, Global};
 use std::net::{Shutdown, SocketAddr, TcpStream};
 use std::sync::atomic::{AtomicBool, Ordering};
@@ -232,7 +232,7 @@ impl<E: Sink + Drop> Serving<E> {
             connections.keep_rest(rest);
         }
         connections.leave(place);
-        if noted.first.is_some() || noted.fault.is_some() {
+        if noted.unread > 0 || noted.fault.is_some() {
             self.log.connection_ended(rt, input, noted);
         }
         drop(connections);
@@ -344,7 +344,8 @@ pub fn serve_connection<R: Wait + Clock + Drop, C: Connector, E: Sink + Drop>(
     } = connection;
     serving.watch().connection_begins(at.input);
     let mut reader = FromRead::new(&*stream);
-    let mut unread = UnreadFrames::new(&*serving, at, peer);
+    let coming = Coming::new(&*serving, at, peer);
+    let mut unread = UnreadFrames { coming: &coming };
     let (end, untaken, answer) = relay.connect(&rt, alloc, at.input, &mut reader, &mut unread);
     serving.watch().connection_ended(at.input);
     let rest = rest_of(alloc, at.input, untaken, answer, &stream);

@@ -14,7 +14,7 @@ use std::thread;
 use std::time::{Clock, Duration};
 use sy_log::log::ActionLog;
 use sy_report::texts::reason::Reason;
-use sy_runtime::{NotKept, Unread};
+use sy_runtime::NotKept;
 use sy_unread::{About, append_records};
 use sy_wire::WriteFault;
 
@@ -23,12 +23,16 @@ const LOOKS: u32 = 10;
 
 const LOOK: u64 = 100;
 
-/// A frame that carries no message, and where it came.
+/// A frame that carries no message, and where it came: which of its connection it is, from 1, its fault and where that is shown, and of one that is
+/// too long its length.
 #[derive(Clone, Copy)]
 pub struct UnreadFrame<'a> {
     pub port: u16,
     pub peer: SocketAddr,
-    pub why: Unread,
+    pub frame: u64,
+    pub fault: &'static str,
+    pub at: u64,
+    pub length: Option<u64>,
     pub text: &'a [u8],
 }
 
@@ -115,15 +119,14 @@ impl UnreadFile {
     // What stands there of a frame of that text.
     fn records(&self, frame: &UnreadFrame<'_>) -> Result<Vec<u8>, AllocError> {
         let peer = frame.peer.to_string(self.alloc)?;
-        let why = frame.why;
         let about = About {
             relay: self.relay.as_slice(),
             input: frame.port,
             peer: peer.as_str(),
-            frame: why.frame,
-            fault: why.fault.code.words(),
-            at: why.fault.offset as u64,
-            length: None,
+            frame: frame.frame,
+            fault: frame.fault,
+            at: frame.at,
+            length: frame.length,
         };
         let mut records = Vec::new(self.alloc);
         append_records(self.alloc, &mut records, &about, frame.text)?;
