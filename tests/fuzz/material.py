@@ -80,7 +80,7 @@ def sites():
     found = [own, *(files for _, _, files in rows() if "site" in files)]
     for folder in "tests/certificates", "examples":
         at = f"{TOP}/{folder}"
-        found += [folder_files(f"{at}/{it}") for it in sorted(os.listdir(at)) if os.path.isdir(f"{at}/{it}")]
+        found += [folder_files(f"{at}/{it}") for it in sorted(os.listdir(at)) if os.path.exists(f"{at}/{it}/site")]
     return found
 
 

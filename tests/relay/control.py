@@ -22,14 +22,14 @@ def printed(relay):
     return [it for it in relay.errors().splitlines(keepends=True) if it.endswith("\n") and not it.startswith("syc: ")]
 
 
-def asked(relay, times):
-    """Asks a relay of one action for the totals as they stand, one answer after the other, and answers them."""
+def asked(relay, times, lines=2):
+    """Asks a relay of one action for the totals as they stand, one answer of so many lines after the other, and answers them."""
     found = []
     for _ in range(times):
         before = len(printed(relay))
         relay.process.stdin.write(b"status\n")
         relay.process.stdin.flush()
-        until("totals come", lambda: len(printed(relay)) == before + 2, came=relay.errors)
+        until("totals come", lambda: len(printed(relay)) == before + lines, came=relay.errors)
         found.append("".join(printed(relay)[before:]))
     return found
 

@@ -120,7 +120,7 @@ def metrics_agree_with_status(room):
     file.shows("messages_taken_total", 9, input=port)
     file.shows("input_connections", 1, input=port)
     relay.rests(port)
-    same("the totals", asked(relay, 1), [totals(9, 0, 0, ("audit", 9, 9, 0, 0))])
+    same("the totals", asked(relay, 1, 3), [totals(9, 0, 0, ("audit", 9, 9, 0, 0), unread=2)])
     shown = file.all()
     found = document(relay)
     same("a document", [found[it] for it in ("format", "command", "relay", "taken", "lost", "held", "queued", "left_out")],

@@ -284,7 +284,7 @@ def unread_frames_of_several_connections(room):
     for number in range(1, 5):
         send_all(port, [message(number)] + [b"x"] * number)
     room.has("audit.log", 4)
-    same("totals", relay.stop(), totals(4, 0, 0, ("audit", 4, 4, 0, 0)))
+    same("totals", relay.stop(), totals(4, 0, 0, ("audit", 4, 4, 0, 0), unread=10))
     lines = [it for it in relay.faults_as_told() if " unread at " in it]
     first = re.escape(f" unread at {port}: 1 Pri at 0 in frame 2")
     found = [re.fullmatch(rf"syc: (\d+){first}(?:, and (\d+) of (\d+) others)?", it) for it in lines]

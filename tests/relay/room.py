@@ -70,9 +70,11 @@ def until(what, holds, seconds=30, came=None):
         time.sleep(TURN)
 
 
-def totals(taken, lost, held, *actions):
-    """What a relay prints at its end; each action is its name with due, done, given up and left."""
+def totals(taken, lost, held, *actions, unread=None):
+    """What a relay prints at its end; each action is its name with due, done, given up and left. How many frames carried no
+    message stands there where there were any, or where they are kept."""
     lines = [f"taken {taken} lost {lost} held {held}"]
+    lines += [] if unread is None else [f"unread {unread}"]
     lines += ["{} due {} done {} given-up {} left {}".format(*it) for it in actions]
     return "".join(f"{it}\n" for it in lines)
 

@@ -159,6 +159,11 @@ def at(sender):
     return "{}:{}".format(*sender.socket.getsockname())
 
 
+def sends(port, sender, first):
+    """The line of a connection that begins to send what is no message, where that is dropped."""
+    return f"syc: input {port} peer {at(sender)} sends what is no message: {first}; dropped"
+
+
 @test
 def peers_of_faults(room):
     relay, port = room.hub()
@@ -168,11 +173,11 @@ def peers_of_faults(room):
     second = Sender(port).send(message(0), b"<192>1 - - - - - -", b"34>")
     second.half_close().is_ended()
     unread = f"syc: input {port} peer {at(second)}: ended, 2 unread, the first 1 Pri at 1 in frame 2"
-    tells(relay, f"syc: input {port} peer {at(first)}: 11 BadLength", unread)
+    tells(relay, f"syc: input {port} peer {at(first)}: 11 BadLength", sends(port, second, "1 Pri at 1 in frame 2"), unread)
     third = Sender(port).send_bytes(frame(b"34>") + b"18 <34>1 - - - - - -")
     third.half_close().is_ended()
-    same("totals", relay.stop(), totals(1, 0, 0, ("audit", 1, 1, 0, 0)))
-    same("the last line", told(relay)[2:], [f"syc: input {port} peer {at(third)}: 13 Truncated, 1 unread, the first 1 Pri at 0 in frame 1"])
+    same("totals", relay.stop(), totals(1, 0, 0, ("audit", 1, 1, 0, 0), unread=3))
+    same("the last lines", told(relay)[3:], [sends(port, third, "1 Pri at 0 in frame 1"), f"syc: input {port} peer {at(third)}: 13 Truncated, 1 unread, the first 1 Pri at 0 in frame 1"])
 
 
 @test

@@ -10,7 +10,7 @@ use Rattle.sy_wire.specs.Frames.{frame, stream}
 use Rattle.sy_runtime.specs.declared.untaken.Item.{Item}
 use Rattle.sy_runtime.specs.declared.untaken.Untaken.{Untaken}
 use Rattle.sy_runtime.specs.Connections.{text_of}
-use Rattle.sy_host.specs.Left.{AreRests, HasBytes, IsOfInput, IsRest, KeepsEach, texts_of}
+use Rattle.sy_host.specs.Left.{AreRests, IsOfInput, IsRest, KeepsEach, KeepsFile, texts_of}
 use Rattle.sy_host.specs.declared.ending.remaining.AtInput.{AtInput}
 
 pub nothing_more : (a b : Option (List ℕ)) → Keeps a b → Appends a b (stream [])
@@ -72,30 +72,30 @@ rest_more a b c all untaken later texts others is rest wrote rests more =
     (texts ++ others, subst (λ xs. AreRests xs (texts ++ others)) (sym is) (AreRests.more untaken rest rests), both a b c texts others wrote more)
 
 -- nothing is left to be kept
-stays : {S : Type 0} (Kept : S → ℕ → Option (List ℕ) → S → Type 0) (entries : List Entry) (a b : S) → KeepsEach Kept entries a [] b → a ≡ b
+stays : {S : Type 0} (Kept : S → ℕ → List ℕ → S → Type 0) (entries : List Entry) (a b : S) → KeepsEach Kept entries a [] b → a ≡ b
 stays Kept entries a _ KeepsEach.none = refl
 
-first : {S : Type 0} (Kept : S → ℕ → Option (List ℕ) → S → Type 0) (entries : List Entry) (a b c : S) (input : AtInput) (later : List AtInput)
+first : {S : Type 0} (Kept : S → ℕ → List ℕ → S → Type 0) (entries : List Entry) (a b c : S) (input : AtInput) (later : List AtInput)
     → KeepsEach Kept entries a (input ∷ []) b → KeepsEach Kept entries b later c → KeepsEach Kept entries a (input ∷ later) c
-first Kept entries a b c input later (KeepsEach.kept {store} {between} input' texts contents is has kept none) more =
-    KeepsEach.kept input texts contents is has kept
+first Kept entries a b c input later (KeepsEach.kept {store} {between} input' texts is kept none) more =
+    KeepsEach.kept input texts is kept
     (subst (λ s. KeepsEach Kept entries s later c) (sym (stays Kept entries between b none)) more)
 first Kept entries a b c input later (KeepsEach.nothing input' is none) more =
     KeepsEach.nothing input is (subst (λ s. KeepsEach Kept entries s later c) (sym (stays Kept entries a b none)) more)
 
 -- what is kept of an input, and then of the others
-pub keeps_more : {S : Type 0} (Kept : S → ℕ → Option (List ℕ) → S → Type 0) (entries : List Entry) (a b c : S) (all : List AtInput) (input : AtInput)
+pub keeps_more : {S : Type 0} (Kept : S → ℕ → List ℕ → S → Type 0) (entries : List Entry) (a b c : S) (all : List AtInput) (input : AtInput)
     (later : List AtInput) → all ≡ input ∷ later → KeepsEach Kept entries a (input ∷ []) b → KeepsEach Kept entries b later c → KeepsEach Kept entries a all c
 keeps_more Kept entries a b c all input later is one more =
     subst (λ xs. KeepsEach Kept entries a xs c) (sym is) (first Kept entries a b c input later one more)
 
 -- no input is left
-pub keeps_none : {S : Type 0} (Kept : S → ℕ → Option (List ℕ) → S → Type 0) (entries : List Entry) (a : S) (all : List AtInput) → all ≡ []
+pub keeps_none : {S : Type 0} (Kept : S → ℕ → List ℕ → S → Type 0) (entries : List Entry) (a : S) (all : List AtInput) → all ≡ []
     → KeepsEach Kept entries a all a
 keeps_none Kept entries a all none = subst (λ xs. KeepsEach Kept entries a xs a) (sym none) KeepsEach.none
 
 -- an input of which nothing is left
-pub keeps_nothing : {S : Type 0} (Kept : S → ℕ → Option (List ℕ) → S → Type 0) (entries : List Entry) (a : S) (input : AtInput) → input.untaken.items ≡ []
+pub keeps_nothing : {S : Type 0} (Kept : S → ℕ → List ℕ → S → Type 0) (entries : List Entry) (a : S) (input : AtInput) → input.untaken.items ≡ []
     → texts_of input.at.input entries ≡ [] → KeepsEach Kept entries a (input ∷ []) a
 keeps_nothing Kept entries a input none no_entry = KeepsEach.nothing input
     (record {
@@ -105,12 +105,20 @@ keeps_nothing Kept entries a input none no_entry = KeepsEach.nothing input
     })
     KeepsEach.none
 
--- an input whose file was kept
-pub keeps_one : {S : Type 0} (Kept : S → ℕ → Option (List ℕ) → S → Type 0) (entries : List Entry) (a b : S) (input : AtInput) (begun contents : Option (List ℕ))
-    (texts : List (List ℕ)) → IsAtEnd begun → IsOfInput input entries texts → Appends begun contents (stream texts) → Kept a input.at.port contents b
-    → KeepsEach Kept entries a (input ∷ []) b
-keeps_one Kept entries a b input begun contents texts empty is wrote kept =
-    KeepsEach.kept input texts contents is (record { begun = begun; empty = empty; wrote = wrote }) kept KeepsEach.none
+-- an input whose file was kept, which had begun as the store says
+pub keeps_one : {S : Type 0} (begun : S → ℕ → Option (List ℕ)) (Kept : S → ℕ → Option (List ℕ) → S → Type 0) (entries : List Entry) (a b : S)
+    (input : AtInput) (opened contents : Option (List ℕ)) (texts : List (List ℕ)) → opened ≡ begun a input.at.port → IsAtEnd opened
+    → IsOfInput input entries texts → Appends opened contents (stream texts) → Kept a input.at.port contents b
+    → KeepsEach (KeepsFile begun Kept) entries a (input ∷ []) b
+keeps_one begun Kept entries a b input opened contents texts same empty is wrote kept =
+    KeepsEach.kept input texts is
+    (record {
+      contents = contents;
+      empty = subst IsAtEnd same empty;
+      wrote = subst (λ c. Appends c contents (stream texts)) same wrote;
+      kept = kept;
+    })
+    KeepsEach.none
 
 -- where nothing failed yet, what is left to do may be one step more
 pub so_far : {T E S : Type 0} (answer : Result T E) (P Q R : S → Type 0) → OnOk answer ((end : S) → P end → R end) → ((end : S) → Q end → P end)

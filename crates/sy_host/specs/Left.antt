@@ -56,19 +56,22 @@ pub record IsOfInput (input : AtInput) (entries : List Entry) (texts : List (Lis
   pub rests : AreRests input.untaken.items others
   pub texts_are : texts ≡ texts_of input.at.input entries ++ others
 
--- a file that was empty has these bytes
-pub record HasBytes (contents : Option (List ℕ)) (bytes : List ℕ) : Type 0 where
-  pub begun : Option (List ℕ)
-  pub empty : IsAtEnd begun
-  pub wrote : Appends begun contents bytes
+-- A store kept a file for the input of this port, which has these bytes: it began as the store says that one begins, which is empty, and they were
+-- written, and no more. `Kept store port contents store'` is what the store's `keep` says of a file with these contents.
+pub record KeepsFile {S : Type 0} (begun : S → ℕ → Option (List ℕ)) (Kept : S → ℕ → Option (List ℕ) → S → Type 0) (store : S) (port : ℕ)
+    (bytes : List ℕ) (store' : S) : Type 0 where
+  pub contents : Option (List ℕ)
+  pub empty : IsAtEnd (begun store port)
+  pub wrote : Appends (begun store port) contents bytes
+  pub kept : Kept store port contents store'
 
--- A store keeps a file of its own for each input that has anything, in the order of the inputs: `Kept store port contents store'` is what its
--- `keep` says of one file.
-pub data KeepsEach {S : Type 0} (Kept : S → ℕ → Option (List ℕ) → S → Type 0) (entries : List Entry) : S → List AtInput → S → Type 0 where
+-- A store keeps a file of its own for each input that has anything, in the order of the inputs: `Kept store port bytes store'` is that it kept one with
+-- these bytes.
+pub data KeepsEach {S : Type 0} (Kept : S → ℕ → List ℕ → S → Type 0) (entries : List Entry) : S → List AtInput → S → Type 0 where
   none : {store : S} → KeepsEach Kept entries store [] store
   kept :
-      {store between store' : S} {later : List AtInput} (input : AtInput) (texts : List (List ℕ)) (contents : Option (List ℕ))
-      → IsOfInput input entries texts → HasBytes contents (stream texts) → Kept store input.at.port contents between
+      {store between store' : S} {later : List AtInput} (input : AtInput) (texts : List (List ℕ))
+      → IsOfInput input entries texts → Kept store input.at.port (stream texts) between
       → KeepsEach Kept entries between later store' → KeepsEach Kept entries store (input ∷ later) store'
   nothing :
       {store store' : S} {later : List AtInput} (input : AtInput)
@@ -86,7 +89,7 @@ rests_for [] untaken = []
 rests_for (input ∷ inputs) untaken = slice_index_or untaken 0 [] ∷ rests_for inputs (drop 1 untaken)
 
 -- What was held was kept, and with it what the connections of each of these inputs had read and not taken.
-pub record Keeps {S : Type 0} (Kept : S → ℕ → Option (List ℕ) → S → Type 0) (inputs : List Input) (held : List Entry)
+pub record Keeps {S : Type 0} (Kept : S → ℕ → List ℕ → S → Type 0) (inputs : List Input) (held : List Entry)
     (untaken : List (List Untaken)) (store store' : S) : Type 0 where
   pub entries : List Entry
   pub same : IsPermutation held entries

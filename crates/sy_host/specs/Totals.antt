@@ -1,5 +1,5 @@
 -- The totals that a relay prints (this profile's own).
-use Rattle.std.specs.Prelude.{◌≡◌, ℕ, ◌+◌, ◌-◌, ◌<◌, ◌^◌, Bool, true, List, [], ◌∷◌, ◌++◌, Option, codes, length}
+use Rattle.std.specs.Prelude.{◌≡◌, ℕ, ◌+◌, ◌-◌, ◌<◌, ◌^◌, Bool, true, List, [], ◌∷◌, ◌++◌, Option, None, Some, codes, length, sum_by}
 use Rattle.std.specs.Fmt.{decimal}
 use Rattle.std.specs.Io.KnownBytes.{Appends}
 use Rattle.sy_rules.specs.declared.parts.Action.{Action}
@@ -40,30 +40,47 @@ abbrev pub action_lines : List Action → List Counts → List ℕ
 action_lines (action ∷ actions) (counts ∷ others) = action_line action.name counts ++ action_lines actions others
 action_lines _ _ = []
 
--- so many messages were taken and lost, so many are held, and this was counted of these actions
-abbrev pub counts_lines : List Action → (taken lost held : ℕ) → List Counts → List ℕ
-counts_lines actions taken lost held counts = messages_line taken lost held ++ action_lines actions counts
+-- unread N, where that is told
+abbrev pub unread_line : Option ℕ → List ℕ
+unread_line None = []
+unread_line (Some unread) = codes "unread " ++ decimal unread ++ line_feed ∷ []
+
+-- So many frames carried no message: that is told, unless it is none.
+abbrev pub IsTold : ℕ → Option ℕ → Type 0
+IsTold unread None = unread ≡ 0
+IsTold unread (Some told) = told ≡ unread
+
+-- so many messages were taken and lost, so many are held, this is told of frames that carry none, and this was counted of these actions
+abbrev pub counts_lines : List Action → (taken lost held : ℕ) → Option ℕ → List Counts → List ℕ
+counts_lines actions taken lost held unread counts = messages_line taken lost held ++ unread_line unread ++ action_lines actions counts
 
 -- the totals of a relay with these actions, which still holds so many entries
-abbrev pub totals_text : List Action → Totals → ℕ → List ℕ
-totals_text actions totals held = counts_lines actions totals.taken (lost totals) held totals.actions
+abbrev pub totals_text : List Action → Totals → ℕ → Option ℕ → List ℕ
+totals_text actions totals held unread = counts_lines actions totals.taken (lost totals) held unread totals.actions
 
--- The totals were written, with the number of the entries that are left. (Of 2^64 entries or more it isn't said which number.)
-pub record WroteTotals (actions : List Action) (totals : Totals) (left : List Entry) (old new : Option (List ℕ)) : Type 0 where
+-- The totals were written, with the number of the entries that are left, and with what is told of frames that carried no message. (Of 2^64 entries or
+-- more it isn't said which number.)
+pub record WroteTotals (actions : List Action) (totals : Totals) (left : List Entry) (unread : Option ℕ) (old new : Option (List ℕ)) : Type 0 where
   pub held : ℕ
   pub held_is : length left < 2 ^ 64 → held ≡ length left
-  pub wrote : Appends old new (totals_text actions totals held)
+  pub wrote : Appends old new (totals_text actions totals held unread)
+
+-- how many frames of these connections carried no message
+abbrev pub unread_of : List connections.Counts → ℕ
+unread_of ends = sum_by (λ end. end.unread) ends
 
 -- What was written is the totals of a relay that was started with this guard, or with none, and has stopped: they meet the laws, and agree with what
--- its connections and the hatches of its actions counted. Where what is left is wanted, all that it still held was kept, with what the connections of
+-- its connections and the hatches of its actions counted, frames that carry no message with them. Where what is left is wanted, all that it still held was kept, with what the connections of
 -- its inputs had read and not taken.
 pub record EndsWithTotals {S : Type 0} (actions : List Action) (guard : Option GuardState) (old new : Option (List ℕ)) (wanted : Bool)
-    (Kept : S → ℕ → Option (List ℕ) → S → Type 0) (inputs : List Input) (store store' : S) : Type 0 where
+    (Kept : S → ℕ → List ℕ → S → Type 0) (inputs : List Input) (store store' : S) : Type 0 where
   pub ends : List connections.Counts
   pub account : Account
   pub left : List Entry
   pub untaken : List (List Untaken)
   pub made : List ℕ
   pub stops : Stops guard ends account left made
-  pub wrote : WroteTotals actions account.totals left old new
+  pub unread : Option ℕ
+  pub unread_is : unread_of ends < 2 ^ 128 → IsTold (unread_of ends) unread
+  pub wrote : WroteTotals actions account.totals left unread old new
   pub keeps : wanted ≡ true → Keeps Kept inputs left untaken store store'

@@ -2,6 +2,7 @@
 
 pub mod archive;
 pub mod file_writer;
+pub mod frame_file;
 pub mod host_device;
 pub mod link;
 pub mod link_writer;

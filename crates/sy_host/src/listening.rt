@@ -5,9 +5,10 @@ ghost use Rattle.sy_host.specs.Listened.{at_of, ports_from};
 pub mod accepting;
 pub mod connections;
 pub mod connector;
-pub mod dropped;
 pub mod served_threads;
 pub mod serving;
+pub mod unread_file;
+pub mod unread_frames;
 
 use crate::listening::serving::Port;
 use std::alloc::Global;

@@ -1,5 +1,6 @@
 //! Archives that are opened anew, and those whose file has lost its name.
 
+pub mod frames;
 pub mod lines;
 pub mod opened;
 pub mod reopens;

@@ -3,12 +3,14 @@ ghost use Rattle.std.specs.Prelude.{◌≡◌, ◌≢◌, ◌<◌, ◌≤◌, If
 ghost use Rattle.std.specs.Arc.{arc_value};
 ghost use Rattle.sy_board.specs.relay.Guards.{MayGuard};
 ghost use Rattle.sy_site.specs.Sites.{plan_at};
+ghost use Rattle.sy_host.specs.Left.{KeepsFile};
 ghost use Rattle.sy_host.specs.Totals.{EndsWithTotals};
 
 use crate::devices::host_device::HostDevice;
 use crate::ending::control::{Controlled, read_control};
 use crate::ending::finishing::{Ended, finish, out_of_memory, sum_up};
 use crate::ending::left::Store;
+use crate::ending::totals::{told_of, unread_of};
 use crate::ending::{end_connections, end_loops, half_close};
 use crate::listening::accepting::start_accepting;
 use crate::listening::connector::Connector;
@@ -189,7 +191,7 @@ where
     ensures status { result ≤ 4 }
     ensures done { result ≡ 0 → EndsWithTotals (plan_at served.entry.site.now served.entry.relay).actions run.0
         (W.contents writer.old) (W.contents writer.new)
-        (T.wanted store.old) T.kept (plan_at served.entry.site.now served.entry.relay).inputs store.old store.new }
+        (T.wanted store.old) (KeepsFile T.begun T.kept) (plan_at served.entry.site.now served.entry.relay).inputs store.old store.new }
 {
     let plan = &**served.site.plan(served.relay);
     let address = served.site.address(served.relay);
@@ -206,6 +208,7 @@ where
     relay.drain(&rt, most);
     relay.close(&rt);
     let ends = end_connections(rt, alloc, serving, &served.is_ending);
+    let unread = told_of(serving.unread().is_some(), unread_of(ends.as_slice()));
     let answer = relay.stop(&rt, workers, ends);
     end_metrics(&rt, alloc, serving, &answer);
     let untaken = sum_up(&rt, alloc, serving, plan.inputs());
@@ -214,7 +217,11 @@ where
     let is_whole = is_accepting && untaken.is_some();
     // (what was held is kept also where there was no memory for the rest)
     let untaken = untaken.unwrap_or(VecDeque::new(alloc));
-    let ended = Ended { answer, untaken };
+    let ended = Ended {
+        answer,
+        unread,
+        untaken,
+    };
     let status = finish(&rt, alloc, serving, store, writer, plan, ended);
     if !is_whole {
         return out_of_memory(&rt, serving);
@@ -243,7 +250,7 @@ where
     ensures status { result ≤ 4 }
     ensures done { result ≡ 0 → EndsWithTotals (plan_at served.entry.site.now served.entry.relay).actions served.entry.guard
         (W.contents writer.old) (W.contents writer.new)
-        (T.wanted store.old) T.kept (plan_at served.entry.site.now served.entry.relay).inputs store.old store.new }
+        (T.wanted store.old) (KeepsFile T.begun T.kept) (plan_at served.entry.site.now served.entry.relay).inputs store.old store.new }
 {
     let guard = served.guard.take();
     let mut boxes: Vec<BoxedDevice> = Vec::new(alloc);
@@ -295,7 +302,7 @@ pub fn serve<
     ensures status { result ≤ 4 }
     ensures done { result ≡ 0 → EndsWithTotals (plan_at served.entry.site.now served.entry.relay).actions served.entry.guard
         (W.contents writer.old) (W.contents writer.new)
-        (T.wanted store.old) T.kept (plan_at served.entry.site.now served.entry.relay).inputs store.old store.new }
+        (T.wanted store.old) (KeepsFile T.begun T.kept) (plan_at served.entry.site.now served.entry.relay).inputs store.old store.new }
 {
     let plan = served.site.plan(served.relay);
     plans_are_whole(plan);

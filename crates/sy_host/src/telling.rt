@@ -93,7 +93,8 @@ fn look_at<R: Wait, E: Sink + Drop>(
         return wake;
     }
     subject.listen();
-    if subject.seen() == told.seen() && !log.has_untold_end(rt, number) {
+    let is_over = !log.has_untold_end(rt, number) && !log.has_untold_sending(rt, number);
+    if subject.seen() == told.seen() && is_over {
         return None;
     }
     // (it changed since it was seen)

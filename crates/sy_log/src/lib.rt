@@ -6,6 +6,7 @@ pub mod lines;
 pub mod log;
 pub mod notices;
 pub mod pauses;
+pub mod peers;
 pub mod printer;
 pub mod printing;
 mod spell;

@@ -1,13 +1,14 @@
 //! The lines of a relay's log.
 
-use crate::log::{MARK, PeerEnd};
+use crate::log::MARK;
 use crate::notices::Line;
-use crate::subject::{Kind, Subject};
+use crate::peers::{PeerEnd, Sending};
+use crate::subject::Subject;
 use std::alloc::{AllocError, Global};
 use sy_report::texts::parts::{Part, put_parts};
 use sy_report::texts::reason::Reason;
 
-fn put(text: &mut Vec<u8>, words: &'static str) -> Result<(), AllocError> {
+fn put(text: &mut Vec<u8>, words: &str) -> Result<(), AllocError> {
     text.extend_from_slice(words.as_bytes())
 }
 
@@ -23,7 +24,7 @@ fn put_seconds(text: &mut Vec<u8>, words: &str, seconds: u64) -> Result<(), Allo
 // An action fails, or an input is held.
 fn put_begin(alloc: Global, text: &mut Vec<u8>, subject: &Subject) -> Result<(), AllocError> {
     let why = subject.why();
-    if subject.kind == Kind::Action {
+    if subject.kind.is_written() {
         put(text, " fails: ")?;
         return Reason::from_code(why).put(alloc, text);
     }
@@ -48,7 +49,7 @@ fn put_line(
     match line {
         Line::Begins => put_begin(alloc, text, subject),
         Line::Ends(seconds) => {
-            if subject.kind == Kind::Action {
+            if subject.kind.is_written() {
                 put_seconds(text, " works after ", seconds)
             } else {
                 put_seconds(text, " goes on after ", seconds)
@@ -73,13 +74,22 @@ pub fn subject_line(alloc: Global, subject: &Subject, line: Line) -> Result<Vec<
 
 // The first frame that carried no message, and why.
 fn put_unread(text: &mut Vec<u8>, end: &PeerEnd) -> Result<(), AllocError> {
+    if end.unread == 0 {
+        return Ok(());
+    }
+    put_parts(
+        text,
+        &[
+            Part::Text(b", "),
+            Part::Number(end.unread),
+            Part::Text(b" unread"),
+        ],
+    )?;
     let Some(first) = end.first else {
         return Ok(());
     };
     let parts = [
-        Part::Text(b", "),
-        Part::Number(end.unread),
-        Part::Text(b" unread, the first "),
+        Part::Text(b", the first "),
         Part::Text(first.fault.code.words().as_bytes()),
         Part::Text(b" at "),
         Part::Number(first.fault.offset as u64),
@@ -101,7 +111,7 @@ fn put_others(text: &mut Vec<u8>, others: u64) -> Result<(), AllocError> {
     put_parts(text, &parts)
 }
 
-fn put_peer<'a>(
+fn append_peer<'a>(
     text: &mut Vec<u8>,
     name: &'a [u8],
     peer: &'a [u8],
@@ -112,7 +122,6 @@ fn put_peer<'a>(
         Part::Text(name),
         Part::Text(b" peer "),
         Part::Text(peer),
-        Part::Text(b": "),
         Part::Text(words),
     ];
     put_parts(text, &parts)
@@ -128,14 +137,64 @@ pub fn peer_line(
 ) -> Result<Vec<u8>, AllocError> {
     let peer = end.peer.to_string(alloc)?;
     let mut text = Vec::new(alloc);
-    put_peer(
+    append_peer(
         &mut text,
         subject.name.as_slice(),
         peer.as_str().as_bytes(),
-        words.as_bytes(),
+        b": ",
     )?;
+    put(&mut text, words)?;
     put_unread(&mut text, end)?;
     put_others(&mut text, others)?;
+    put(&mut text, "\n")?;
+    Ok(text)
+}
+
+// What a connection sends that is no message.
+fn append_first(text: &mut Vec<u8>, sending: &Sending) -> Result<(), AllocError> {
+    let parts = [
+        Part::Text(sending.fault.as_bytes()),
+        Part::Text(b" at "),
+        Part::Number(sending.at),
+        Part::Text(b" in frame "),
+        Part::Number(sending.frame),
+    ];
+    put_parts(text, &parts)?;
+    if let Some(hint) = sending.hint {
+        put(text, ", which ")?;
+        put(text, hint)?;
+    }
+    Ok(())
+}
+
+// Where frames go that carry no message.
+fn append_kept(text: &mut Vec<u8>, file: Option<&[u8]>) -> Result<(), AllocError> {
+    match file {
+        Some(file) => put_parts(text, &[Part::Text(b"; kept in "), Part::Text(file)]),
+        None => put(text, "; dropped"),
+    }
+}
+
+/// A line about a connection of an input that begins to send frames that carry no message, and about how many others do. They are kept in the file of
+/// that name, if there is one.
+pub fn sending_line(
+    alloc: Global,
+    subject: &Subject,
+    sending: &Sending,
+    others: u64,
+    file: Option<&[u8]>,
+) -> Result<Vec<u8>, AllocError> {
+    let peer = sending.peer.to_string(alloc)?;
+    let mut text = Vec::new(alloc);
+    append_peer(
+        &mut text,
+        subject.name.as_slice(),
+        peer.as_str().as_bytes(),
+        b" sends what is no message: ",
+    )?;
+    append_first(&mut text, sending)?;
+    put_others(&mut text, others)?;
+    append_kept(&mut text, file)?;
     put(&mut text, "\n")?;
     Ok(text)
 }

@@ -1,10 +1,9 @@
 //! What threads note of a relay: of its actions, inputs and queues, and of connections that ended with a fault.
 
+use crate::peers::{Ended, PeerEnd, Sending};
 use crate::subject::Subject;
-use crate::subjects::subjects_of;
-use crate::untold::Untold;
+use crate::subjects::{name_in_line, subjects_of};
 use std::alloc::{AllocError, Global};
-use std::net::SocketAddr;
 use std::sync::atomic::{AtomicBool, AtomicU64, Ordering};
 use std::sync::{Arc, Mutex, Wait};
 use std::thread::Parker;
@@ -12,41 +11,23 @@ use std::time::{Clock, Duration};
 use sy_marks::Hold;
 use sy_report::texts::reason::Reason;
 use sy_rules::{Input, Plan};
-use sy_runtime::{Gate, RunFault, Unread};
+use sy_runtime::Gate;
 
 /// How often the last lines are waited for, and how long each time, in milliseconds.
 const LAST_WAITS: u32 = 10;
 
 const LAST_WAIT: u64 = 100;
 
-/// How a connection ended: with frames that carried no message, or with a fault, or both.
-#[derive(Clone, Copy)]
-pub struct PeerEnd {
-    pub peer: SocketAddr,
-    pub unread: u64,
-    pub first: Option<Unread>,
-    pub fault: Option<RunFault>,
-}
-
-/// How the first of the connections ended that ended so and weren't told yet, and how many others there are; and with what
-/// connections ended.
-#[derive(Drop)]
-pub struct Ended {
-    /// the input's
-    pub port: u16,
-    pub first: Option<PeerEnd>,
-    pub others: u64,
-    pub untold: Untold,
-}
-
 /// What an operator is told of a relay. Devices, workers and connections note here what happens; a thread looks, and prints.
 #[derive(Drop)]
 pub struct Log {
-    // the actions, then the inputs, then the queues
+    // the actions, then the inputs, then the queues, and then the unread file, if there is one
     subjects: Vec<Subject>,
     // of each input
     ended: Vec<Mutex<Ended>>,
     actions: usize,
+    // the name of the unread file, if there is one
+    unread: Option<Vec<u8>>,
     // wakes who looks
     change: Parker,
     is_ending: AtomicBool,
@@ -58,23 +39,23 @@ pub struct Log {
 fn ended_of(alloc: Global, inputs: &[Input]) -> Result<Vec<Mutex<Ended>>, AllocError> {
     let mut ended = Vec::with_capacity(alloc, inputs.len())?;
     for input in inputs {
-        ended.push(Mutex::new(Ended {
-            port: input.port,
-            first: None,
-            others: 0,
-            untold: Untold::new(alloc)?,
-        }))?;
+        ended.push(Mutex::new(Ended::new(alloc, input.port)?))?;
     }
     Ok(ended)
 }
 
 impl Log {
-    /// Nothing has happened yet to a relay of this plan.
-    pub fn new(alloc: Global, plan: &Plan) -> Result<Arc<Log>, AllocError> {
+    /// Nothing has happened yet to a relay of this plan, whose frames that carry no message are kept in the file of that name, if there is one.
+    pub fn new(alloc: Global, plan: &Plan, unread: Option<&str>) -> Result<Arc<Log>, AllocError> {
+        let unread = match unread {
+            Some(name) => Some(name_in_line(alloc, name)?),
+            None => None,
+        };
         let log = Log {
-            subjects: subjects_of(alloc, plan)?,
+            subjects: subjects_of(alloc, plan, unread.as_ref().map(|it| it.as_slice()))?,
             ended: ended_of(alloc, plan.inputs())?,
             actions: plan.actions().len(),
+            unread,
             change: Parker::new(),
             is_ending: AtomicBool::new(false),
             end: Parker::new(),
@@ -86,7 +67,7 @@ impl Log {
         }
     }
 
-    /// The actions, then the inputs, then the queues.
+    /// The actions, then the inputs, then the queues, and then the unread file, if there is one.
     pub fn subjects(&self) -> &[Subject] {
         self.subjects.as_slice()
     }
@@ -113,16 +94,60 @@ impl Log {
         let Some(ended) = self.ended.get(input as usize) else {
             return;
         };
-        let mut ended = ended.lock(rt);
-        if ended.first.is_none() {
-            ended.first = Some(end);
-        } else {
-            ended.others = ended.others.saturating_add(1);
-        }
-        ended.untold.add(&end);
-        drop(ended);
+        ended.lock(rt).add(end);
         if let Some(subject) = self.input(input) {
             self.note(subject);
+        }
+    }
+
+    /// The name of the unread file, as lines have it, if there is one.
+    pub fn unread(&self) -> Option<&[u8]> {
+        match &self.unread {
+            Some(name) => Some(name.as_slice()),
+            None => None,
+        }
+    }
+
+    /// Which of the subjects the unread file is, if there is one.
+    pub fn unread_subject(&self) -> Option<usize> {
+        if self.unread.is_none() {
+            return None;
+        }
+        self.subjects.len().checked_sub(1)
+    }
+
+    /// How many frames of all inputs carried no message.
+    pub fn unread_frames(&self) -> u128 {
+        let mut unread: u128 = 0;
+        for subject in &self.subjects {
+            unread = unread.saturating_add(u128::from(subject.unread()));
+        }
+        unread
+    }
+
+    /// So many frames more of an input carried no message.
+    pub fn count_unread(&self, input: u32, count: u64) {
+        if let Some(subject) = self.input(input) {
+            subject.take(0, count);
+        }
+    }
+
+    /// A connection of an input begins to send what is no message.
+    pub fn sends_no_message<R: Wait>(&self, rt: &R, input: u32, sending: Sending) {
+        let Some(ended) = self.ended.get(input as usize) else {
+            return;
+        };
+        ended.lock(rt).add_sending(sending);
+        if let Some(subject) = self.input(input) {
+            self.note(subject);
+        }
+    }
+
+    /// Whether a connection of the subject of this number has begun to send what is no message, and wasn't told.
+    pub fn has_untold_sending<R: Wait>(&self, rt: &R, number: usize) -> bool {
+        match self.ended_at(number) {
+            Some(ended) => ended.lock(rt).has_sending(),
+            None => false,
         }
     }
 
@@ -141,11 +166,7 @@ impl Log {
 
     /// The same connections, which are told now.
     pub fn take_untold_ends<R: Wait>(&self, rt: &R, number: usize) -> Option<(PeerEnd, u64)> {
-        let mut ended = self.ended_at(number)?.lock(rt);
-        let first = ended.first.take()?;
-        let others = ended.others;
-        ended.others = 0;
-        Some((first, others))
+        self.ended_at(number)?.lock(rt).take_first()
     }
 
     /// Notes this time at what has changed since it was last noted.
@@ -240,7 +261,7 @@ impl Gate for LogGate {
     }
 }
 
-/// What notes of an action whether it fails. Its device alone has it, and what that writes to.
+/// What notes of an action, or of the unread file, whether it fails. Its device alone has it, and what that writes to.
 #[derive(Drop)]
 pub struct ActionLog {
     log: Arc<Log>,

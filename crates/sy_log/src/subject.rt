@@ -8,14 +8,23 @@ pub enum Kind {
     Action,
     Input,
     Queue,
+    /// The file for frames that carry no message.
+    Unread,
 }
 
-/// An action, an input or a queue, of which an operator is told. Threads note here what happens, and wait for nothing.
+impl Kind {
+    /// Whether it is written to, and so may fail.
+    pub fn is_written(self) -> bool {
+        matches!(self, Kind::Action | Kind::Unread)
+    }
+}
+
+/// An action, an input, a queue or the unread file, of which an operator is told. Threads note here what happens, and wait for nothing.
 #[derive(Drop)]
 pub struct Subject {
     pub kind: Kind,
     pub name: Vec<u8>,
-    // 1 while an action fails; how many connections of an input are held
+    // 1 while an action or the file fails; how many connections of an input are held
     on: AtomicU64,
     // how often that began
     begun: AtomicU64,

@@ -4,6 +4,7 @@ use crate::subject::{Kind, Subject};
 use std::alloc::{AllocError, Global};
 use sy_places::ways::relay_parts::name_of_list;
 use sy_report::texts::parts::{Part, put_parts};
+use sy_report::texts::words::Words;
 use sy_rules::Plan;
 
 fn named(alloc: Global, kind: Kind, parts: &[Part<'_>]) -> Result<Subject, AllocError> {
@@ -50,8 +51,19 @@ fn put_queues(alloc: Global, subjects: &mut Vec<Subject>, plan: &Plan) -> Result
     Ok(())
 }
 
-/// The actions, then the inputs, then the queues of a plan, of which nothing has happened yet.
-pub fn subjects_of(alloc: Global, plan: &Plan) -> Result<Vec<Subject>, AllocError> {
+/// The name of a file as lines have it: control characters stand there as `\x0a`.
+pub fn name_in_line(alloc: Global, name: &str) -> Result<Vec<u8>, AllocError> {
+    let mut words = Words::new(alloc);
+    words.put_in_line(name.as_bytes());
+    words.finish()
+}
+
+/// The actions, then the inputs, then the queues of a plan, and then the unread file of that name, if there is one. Nothing has happened yet to any.
+pub fn subjects_of(
+    alloc: Global,
+    plan: &Plan,
+    unread: Option<&[u8]>,
+) -> Result<Vec<Subject>, AllocError> {
     let mut subjects = Vec::new(alloc);
     for action in plan.actions() {
         let name = Part::Text(action.name.as_slice());
@@ -62,5 +74,9 @@ pub fn subjects_of(alloc: Global, plan: &Plan) -> Result<Vec<Subject>, AllocErro
         subjects.push(named(alloc, Kind::Input, &[Part::Text(b"input "), port])?)?;
     }
     put_queues(alloc, &mut subjects, plan)?;
+    if let Some(name) = unread {
+        let parts = [Part::Text(b"unread file "), Part::Text(name)];
+        subjects.push(named(alloc, Kind::Unread, &parts)?)?;
+    }
     Ok(subjects)
 }

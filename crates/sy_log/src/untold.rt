@@ -1,6 +1,6 @@
 //! With what connections of an input ended that wasn't printed yet.
 
-use crate::log::PeerEnd;
+use crate::peers::PeerEnd;
 use std::alloc::{AllocError, Global};
 use std::collections::VecDeque;
 use sy_runtime::{RunFault, Unread};

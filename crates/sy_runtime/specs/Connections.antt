@@ -28,6 +28,10 @@ counted_both one other = record {
   took = one.took + other.took;
 }
 
+-- so many frames, none of which carries a message
+abbrev pub all_unread : ℕ → Counts
+all_unread count = record { frames = count; unread = count; took = 0 }
+
 -- one of these counts is above 2^64 - 1
 abbrev pub Overflows : Counts → Type 0
 Overflows end = (2 ^ 64 ≤ end.frames) ⊎ (2 ^ 64 ≤ end.unread) ⊎ (2 ^ 64 ≤ end.took)

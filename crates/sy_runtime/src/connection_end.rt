@@ -1,6 +1,6 @@
 //! What a connection counts, and how it ends.
 ghost use Rattle.std.specs.Prelude.{◌≡◌, ◌+◌, ◌<◌, ◌^◌, ◌∷◌, [], ℕ, List, None, Option, false, IfErr, OnErr, OnOk};
-ghost use Rattle.sy_runtime.specs.Connections.{KeepsMore, Overflows, counted_both};
+ghost use Rattle.sy_runtime.specs.Connections.{KeepsMore, Overflows, all_unread, counted_both};
 ghost use Rattle.sy_runtime.specs.internal.Turning.{nothing_counted};
 
 use crate::fault::RunFault;
@@ -124,6 +124,21 @@ impl ConnEnd {
             first_unread,
         };
         Ok(())
+    }
+
+    /// Counts so many frames more that carry no message, which the caller kept. Where a count would pass 2^64 - 1 nothing has changed, and the
+    /// answer is `TotalsFull`.
+    pub fn add_unread(&mut self, count: u64) -> Result<(), RunFault>
+        ensures ok { OnOk result (self.new ≡ counted_both self.old (all_unread count)) }
+        ensures err { IfErr result (λ fault. (fault ≡ RunFault.TotalsFull) × Overflows (counted_both self.old (all_unread count))) }
+        ensures unchanged { OnErr result (self.new ≡ self.old) }
+    {
+        self.merge(&ConnEnd {
+            frames: count,
+            unread: count,
+            took: 0,
+            first_unread: None,
+        })
     }
 
     // Whether a frame more might not be counted.

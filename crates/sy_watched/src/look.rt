@@ -26,12 +26,13 @@ pub struct Noted {
     pub since: u64,
 }
 
-/// What a log knows of the actions, the inputs and the queues of a relay, in their order.
+/// What a log knows of the actions, the inputs and the queues of a relay, in their order, and of its unread file, if there is one.
 #[derive(Clone, Copy)]
 pub struct NotedOfAll<'a> {
     pub actions: &'a [Noted],
     pub inputs: &'a [Noted],
     pub queues: &'a [Noted],
+    pub unread: Option<Noted>,
 }
 
 /// The time now, in seconds since the beginning of 1970; 0 where the host doesn't tell it.
@@ -226,6 +227,10 @@ pub fn watched<'a>(
         held: moment.held,
         queued: queued(moment.queues),
         left_out: watch.left_out(),
+        unread_fails: match noted.unread {
+            Some(noted) => noted.on,
+            None => 0,
+        },
         inputs: inputs_of(alloc, watch, noted.inputs)?,
         actions: actions_of(alloc, watch, noted.actions, moment.actions)?,
         queues: queues_of(alloc, watch, noted.queues, moment.queues)?,

@@ -7,26 +7,30 @@ use crate::watched::{Watched, WatchedAction, WatchedInput, WatchedQueue};
 #[derive(Clone, Copy)]
 pub enum RelayNumber {
     Taken,
+    Unread,
     Lost,
     Held,
     Queued,
     LeftOut,
+    UnreadFails,
 }
 
 /// All numbers of a relay.
-pub const RELAY_NUMBERS: [RelayNumber; 5] = [
+pub const RELAY_NUMBERS: [RelayNumber; 7] = [
     RelayNumber::Taken,
+    RelayNumber::Unread,
     RelayNumber::Lost,
     RelayNumber::Held,
     RelayNumber::Queued,
     RelayNumber::LeftOut,
+    RelayNumber::UnreadFails,
 ];
 
 impl RelayNumber {
-    /// Its metric; none of messages taken, which are counted of each input.
+    /// Its metric; none of messages taken and frames without a message, which are counted of each input.
     pub fn family(self) -> Option<Family> {
         match self {
-            RelayNumber::Taken => None,
+            RelayNumber::Taken | RelayNumber::Unread => None,
             RelayNumber::Lost => Some(counter("messages_lost_total", "Messages and posts lost.")),
             RelayNumber::Held => Some(gauge(
                 "messages_held",
@@ -40,6 +44,10 @@ impl RelayNumber {
                 "log_lines_left_out_total",
                 "Lines of the log left out.",
             )),
+            RelayNumber::UnreadFails => Some(gauge(
+                "unread_file_failing",
+                "Whether the unread file can't be written.",
+            )),
         }
     }
 
@@ -47,10 +55,12 @@ impl RelayNumber {
     pub fn key(self) -> &'static str {
         match self {
             RelayNumber::Taken => "taken",
+            RelayNumber::Unread => "unread",
             RelayNumber::Lost => "lost",
             RelayNumber::Held => "held",
             RelayNumber::Queued => "queued",
             RelayNumber::LeftOut => "left_out",
+            RelayNumber::UnreadFails => "unread_fails",
         }
     }
 
@@ -58,12 +68,23 @@ impl RelayNumber {
     pub fn value(self, relay: &Watched<'_>) -> u128 {
         match self {
             RelayNumber::Taken => u128::from(relay.taken),
+            RelayNumber::Unread => unread_of(relay.inputs.as_slice()),
             RelayNumber::Lost => relay.lost,
             RelayNumber::Held => relay.held,
             RelayNumber::Queued => u128::from(relay.queued),
             RelayNumber::LeftOut => u128::from(relay.left_out),
+            RelayNumber::UnreadFails => u128::from(relay.unread_fails),
         }
     }
+}
+
+// How many frames of these inputs carried no message.
+fn unread_of(inputs: &[WatchedInput]) -> u128 {
+    let mut unread: u128 = 0;
+    for input in inputs {
+        unread = unread.saturating_add(u128::from(input.unread));
+    }
+    unread
 }
 
 /// A number of an input.

@@ -15,6 +15,8 @@ pub struct Watched<'a> {
     pub queued: u64,
     /// How many lines of its log were left out.
     pub left_out: u64,
+    /// 1 while its unread file can't be written.
+    pub unread_fails: u64,
     pub inputs: Vec<WatchedInput>,
     pub actions: Vec<WatchedAction<'a>>,
     pub queues: Vec<WatchedQueue<'a>>,

@@ -28,6 +28,7 @@ use running::identity::runs_line;
 use running::left_store::store_of;
 use running::prepare::prepare;
 use running::streams::{report_input, take_closed_streams};
+use running::unread_file::{UnreadWanted, unread_for};
 use running::words::{RunWords, is_run};
 use std::alloc::{AllocError, Global};
 use std::env;
@@ -44,7 +45,7 @@ use sy_host::devices::host_device::HostDevice;
 use sy_host::devices::opening::{OpenFault, Signals, taker};
 use sy_host::devices::outlets::{Outlet, outlets};
 use sy_host::ending::left_file::LeftFiles;
-use sy_host::listening::serving::Serving;
+use sy_host::listening::serving::{Notices, Serving};
 use sy_host::serve::{Served, serve};
 use sy_host::watching::noted::watch_of;
 use sy_log::log::{ActionLog, Log};
@@ -99,6 +100,7 @@ fn main(rt: HostRuntime) -> ExitCode {
     };
     let with = With {
         drain: found.drain,
+        unread: found.unread,
         store,
         runs,
         metrics: found.metrics,
@@ -196,6 +198,8 @@ fn device_of(
 struct With<'a> {
     // for how many seconds it may empty before it stops
     drain: Option<u32>,
+    // the name of the file for frames that carry no message
+    unread: Option<&'a str>,
     // where what is left is kept
     store: LeftFiles,
     // the line that says which files it runs
@@ -207,14 +211,14 @@ struct With<'a> {
     explained: Option<&'a str>,
 }
 
-// What tells of a relay: its log, the line that says which files it runs, and what is watched beside them.
-#[derive(Drop)]
-struct Notices<'a> {
-    log: Arc<Log>,
-    runs: Vec<u8>,
-    watch: Watch,
-    // the name of the site file, where a fault of the start is explained
-    explained: Option<&'a str>,
+// The file for frames that carry no message of the relay of that name, if there is to be one.
+fn wanted_of<'a>(with: &With<'a>, relay: &'a [u8]) -> Option<UnreadWanted<'a>> {
+    let name = with.unread?;
+    Some(UnreadWanted {
+        name,
+        relay,
+        is_explained: with.explained.is_some(),
+    })
 }
 
 // What is watched of a relay, with its file, if there is to be one.
@@ -278,7 +282,7 @@ where
     let Some(signals) = Signals::new(alloc) else {
         return stop::out_of_memory(&mut out.errors);
     };
-    let Ok(log) = Log::new(alloc, site.plan(relay)) else {
+    let Ok(log) = Log::new(alloc, site.plan(relay), with.unread) else {
         return stop::out_of_memory(&mut out.errors);
     };
     let Ok(watch) = watch_with(host, alloc, site, relay, &log, &with) else {
@@ -287,6 +291,11 @@ where
     let devices = match devices_of(host, alloc, outlets, &signals, &log) {
         Ok(devices) => devices,
         Err(why) => return no_device(host, site, relay, &with, why, &mut out),
+    };
+    let wanted = wanted_of(&with, site.name(relay));
+    let unread = match unread_for(&host, wanted, &signals, &log, &mut out.errors) {
+        Ok(unread) => unread,
+        Err(status) => return status,
     };
     let Signals { is_ending, reopens } = signals;
     let With {
@@ -309,9 +318,9 @@ where
         log,
         runs,
         watch,
-        explained,
+        unread,
     };
-    serve_devices(rt, host, served, store, told, out)
+    serve_devices(rt, host, served, store, told, explained, out)
 }
 
 // Serves a relay with the process's own streams.
@@ -328,7 +337,8 @@ fn serve_devices<
     host: HostRuntime,
     served: Served<'_>,
     mut store: LeftFiles,
-    told: Notices<'_>,
+    told: Notices,
+    explained: Option<&str>,
     out: HostOutputs,
 ) -> u8
     requires exists { served.relay < length served.site.now.relays }
@@ -340,15 +350,9 @@ fn serve_devices<
         mut writer,
         mut errors,
     } = out;
-    let Notices {
-        log,
-        runs,
-        watch,
-        explained,
-    } = told;
     // (lines come to it in pieces; without a buffer it is known which of them were written)
     let unbuffered = FromWrite::new(host.stderr());
-    let Ok(serving) = Arc::new(alloc, Serving::new(alloc, unbuffered, log, runs, watch)) else {
+    let Ok(serving) = Arc::new(alloc, Serving::new(alloc, unbuffered, told)) else {
         return stop::out_of_memory(&mut errors);
     };
     let mut reader = FromRead::new(host.stdin());

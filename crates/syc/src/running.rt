@@ -8,4 +8,5 @@ mod port_note;
 pub mod prepare;
 mod start_notes;
 pub mod streams;
+pub mod unread_file;
 pub mod words;

@@ -21,6 +21,8 @@ const CLASS: &str = "Draw what the messages of this class may reach, as auth.cri
 
 const LEFT: &str = "Write what the relay still holds at its end to this file, as frames";
 
+const UNREAD: &str = "Write each frame that carries no message to this file, as a frame";
+
 const DRAIN: &str =
     "Wait until the relay holds nothing, before it ends, but so many seconds at most: 0 to 86400";
 
@@ -230,6 +232,7 @@ fn with_values<'a>(
     }
     if is_word(word, "run") {
         let parser = with_value(alloc, parser, "left", "FILE", LEFT);
+        let parser = with_value(alloc, parser, "unread", "FILE", UNREAD);
         let parser = with_value(alloc, parser, "drain", "SECONDS", DRAIN);
         let parser = with_value(alloc, parser, "metrics", "FILE", METRICS);
         return with_value(alloc, parser, "metrics-every", "SECONDS", METRICS_EVERY);

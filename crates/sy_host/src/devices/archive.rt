@@ -3,7 +3,7 @@ ghost use Rattle.std.specs.Prelude.{◌≡◌, ◌≢◌, ◌<◌, length, IfErr
 
 use crate::rotation::opened::open_file;
 use crate::rotation::reopens::Reopens;
-use crate::rotation::rotated::{Open, Rotated};
+use crate::rotation::rotated::{Form, Open, Rotated, Writer};
 use std::alloc::Global;
 use std::sync::{Arc, MutexGuard};
 use sy_actions::{Device, DeviceFault};
@@ -37,7 +37,7 @@ impl Archive {
             }
         };
         let theirs = log.try_clone().ok()?;
-        let file = Rotated::new(rt, alloc, name, file, followed, log, theirs);
+        let file = Rotated::new(rt, alloc, Form::Lines, name, file, followed, (log, theirs));
         let file = Arc::new(alloc, file).ok()?;
         reopens.push(Arc::try_clone(&file).ok()?).ok()?;
         Some(Archive { file, reopens })
@@ -66,7 +66,10 @@ impl Archive {
         let Some(mut open) = self.enter() else {
             return Err(DeviceFault::Write);
         };
-        let answer = open.sink.offer(message);
+        let answer = match &mut open.writer {
+            Writer::Lines(sink) => sink.offer(message),
+            Writer::Frames(_) => Err(DeviceFault::Write),
+        };
         drop(open);
         self.set_written();
         answer
@@ -84,7 +87,10 @@ impl Archive {
         let Some(mut open) = self.enter() else {
             return (0, Some(DeviceFault::Write));
         };
-        let answer = open.sink.offer_all(messages);
+        let answer = match &mut open.writer {
+            Writer::Lines(sink) => sink.offer_all(messages),
+            Writer::Frames(_) => (0, Some(DeviceFault::Write)),
+        };
         drop(open);
         self.set_written();
         answer

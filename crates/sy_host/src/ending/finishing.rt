@@ -1,8 +1,9 @@
 //! How a relay that was served ends: its totals are printed, and what it leaves is kept.
-ghost use Rattle.std.specs.Prelude.{◌≡◌, ◌≤◌, Option, true, IfOk, length, map};
+ghost use Rattle.std.specs.Prelude.{◌≡◌, ◌≤◌, ◌<◌, ◌^◌, List, Option, true, IfOk, length, map};
 ghost use Rattle.sy_board.specs.relay.Totals.{GuardState};
-ghost use Rattle.sy_host.specs.Left.{Keeps};
-ghost use Rattle.sy_host.specs.Totals.{EndsWithTotals, WroteTotals};
+ghost use Rattle.sy_host.specs.Left.{Keeps, KeepsFile};
+ghost use Rattle.sy_runtime.specs.Connections.{Counts};
+ghost use Rattle.sy_host.specs.Totals.{EndsWithTotals, IsTold, WroteTotals, unread_of};
 ghost use Rattle.sy_host.specs.internal.Served.{IsLeft};
 
 use crate::ending::left::{KeepFault, Store, keep_left};
@@ -39,6 +40,8 @@ struct Left {
 #[derive(Drop)]
 pub(crate) struct Ended {
     pub(crate) answer: Result<Stopped, Mismatch>,
+    // what is told of frames that carried no message
+    pub(crate) unread: Option<u128>,
     pub(crate) untaken: VecDeque<VecDeque<Untaken>>,
 }
 
@@ -50,12 +53,13 @@ fn print_totals<R: Wait, W: Sink, E: Sink + Drop>(
     writer: &mut W,
     actions: &[Action],
     stopped: &Stopped,
+    unread: Option<u128>,
 ) -> u8
     ensures status { result ≤ 4 }
-    ensures done { result ≡ 0 → WroteTotals actions.now stopped.now.accounts.totals stopped.now.left
+    ensures done { result ≡ 0 → WroteTotals actions.now stopped.now.accounts.totals stopped.now.left unread
         (W.contents writer.old) (W.contents writer.new) }
 {
-    let numbers = numbers_of(&stopped.accounts, stopped.left.len() as u128);
+    let numbers = numbers_of(&stopped.accounts, stopped.left.len() as u128, unread);
     match write_totals(alloc, writer, actions, numbers) {
         Ok(()) => 0,
         Err(TotalsFault::NoMemory) => out_of_memory(rt, serving),
@@ -81,7 +85,7 @@ fn keep<R: Wait, T: Store, E: Sink + Drop>(
     requires inputs { length inputs.now ≤ 64 }
     ensures status { result ≤ 4 }
     ensures done { result ≡ 0 → (status ≡ 0) × (T.wanted store.old ≡ true
-        → Keeps T.kept inputs.now left.held (map (λ rests. rests.items) left.untaken.items) store.old store.new) }
+        → Keeps (KeepsFile T.begun T.kept) inputs.now left.held (map (λ rests. rests.items) left.untaken.items) store.old store.new) }
 {
     if !store.is_wanted() {
         return status;
@@ -107,15 +111,21 @@ pub(crate) fn finish<R: Wait, T: Store, W: Sink, E: Sink + Drop>(
     ended: Ended,
 ) -> u8
     ensures status { result ≤ 4 }
-    ensures done { result ≡ 0 → (guard : Option GuardState) → IfOk ended.answer (λ stopped. IsLeft guard stopped.accounts stopped.left)
+    ensures done { result ≡ 0 → (guard : Option GuardState) (ends : List Counts)
+        → IfOk ended.answer (λ stopped. IsLeft guard ends stopped.accounts stopped.left)
+        → (unread_of ends < 2 ^ 128 → IsTold (unread_of ends) ended.unread)
         → EndsWithTotals plan.now.actions guard (W.contents writer.old) (W.contents writer.new)
-        (T.wanted store.old) T.kept plan.now.inputs store.old store.new }
+        (T.wanted store.old) (KeepsFile T.begun T.kept) plan.now.inputs store.old store.new }
 {
     plans_are_whole(plan);
-    let Ended { answer, untaken } = ended;
+    let Ended {
+        answer,
+        unread,
+        untaken,
+    } = ended;
     match answer {
         Ok(stopped) => {
-            let status = print_totals(rt, alloc, serving, writer, plan.actions(), &stopped);
+            let status = print_totals(rt, alloc, serving, writer, plan.actions(), &stopped, unread);
             let left = Left {
                 held: stopped.left,
                 untaken,

@@ -1,9 +1,9 @@
 //! What a relay leaves when it stops, kept for its next run: a file for each input that has anything.
-ghost use Rattle.std.specs.Prelude.{◌≡◌, ◌≤◌, ◌∷◌, [], false, Bool, IsPermutation, List, ℕ, Option, IfOk, OnOk, length, map};
+ghost use Rattle.std.specs.Prelude.{◌≡◌, ◌≤◌, ◌∷◌, [], false, Bool, IsPermutation, List, ℕ, Option, None, IfOk, OnOk, length, map};
 ghost use Rattle.std.specs.Io.KnownBytes.{Appends, IsAtEnd};
 ghost use Rattle.sy_wire.specs.Frames.{frame, stream};
 ghost use Rattle.sy_runtime.specs.Connections.{text_of};
-ghost use Rattle.sy_host.specs.Left.{AreRests, IsInOrder, IsOfInput, IsRest, Keeps, KeepsEach, texts_of};
+ghost use Rattle.sy_host.specs.Left.{AreRests, IsInOrder, IsOfInput, IsRest, Keeps, KeepsEach, KeepsFile, texts_of};
 
 use crate::ending::remaining::{AtInput, at_inputs, cut_frames};
 use itoa::Buffer;
@@ -22,6 +22,8 @@ pub trait Store {
 
     // whether anything is to be kept
     ghost wanted: { Self → Bool };
+    // what a new file for the input of this port has, where that is known: nothing
+    ghost begun: { Self → ℕ → Option (List ℕ) } = { λ _ _. None };
     // what there is once a file was kept: of the input of this port, with these bytes, where they are known
     ghost kept: { Self → ℕ → Option (List ℕ) → Self → Type 0 } = { λ _ _ _ _. Unit {0} };
 
@@ -31,7 +33,8 @@ pub trait Store {
 
     /// Begins a file for what is left at the input of this port.
     fn create(&self, port: u16) -> Result<Self::Opened, WriteFault>
-        ensures { IfOk result (λ opened. IsAtEnd (Self.Opened.contents opened)) };
+        ensures empty { IfOk result (λ opened. IsAtEnd (Self.Opened.contents opened)) }
+        ensures begun { IfOk result (λ opened. Self.Opened.contents opened ≡ begun self.now port) };
 
     /// Keeps what was written there.
     fn keep(&mut self, port: u16, written: Self::Opened) -> Result<(), WriteFault>
@@ -178,7 +181,7 @@ fn keep_input<T: Store>(
     entries: &[Node],
     input: AtInput,
 ) -> Result<(), KeepFault>
-    ensures { OnOk result (KeepsEach T.kept entries.now store.old (input ∷ []) store.new) }
+    ensures { OnOk result (KeepsEach (KeepsFile T.begun T.kept) entries.now store.old (input ∷ []) store.new) }
 {
     if !has_rest(&input.untaken) && !has_entry(entries, input.at.input) {
         return Ok(());
@@ -204,7 +207,7 @@ fn keep_all<T: Store>(
     entries: &[Node],
     mut all: VecDeque<AtInput>,
 ) -> Result<(), KeepFault>
-    ensures { OnOk result (KeepsEach T.kept entries.now store.old all.items store.new) }
+    ensures { OnOk result (KeepsEach (KeepsFile T.begun T.kept) entries.now store.old all.items store.new) }
 {
     let mut answer = Ok(());
     while let Some(input) = all.pop_front() {
@@ -225,7 +228,7 @@ pub fn keep_left<T: Store>(
     untaken: VecDeque<VecDeque<Untaken>>,
 ) -> Result<(), KeepFault>
     requires { length inputs.now ≤ 64 }
-    ensures { OnOk result (Keeps T.kept inputs.now held (map (λ rests. rests.items) untaken.items) store.old store.new) }
+    ensures { OnOk result (Keeps (KeepsFile T.begun T.kept) inputs.now held (map (λ rests. rests.items) untaken.items) store.old store.new) }
 {
     let Ok(entries) = in_order(alloc, held) else {
         return Err(KeepFault::NoMemory);

@@ -1,6 +1,6 @@
 //! The totals of a relay as they stand, on standard error.
 
-use crate::ending::totals::{Numbers, put_totals};
+use crate::ending::totals::{Numbers, put_totals, told_of};
 use crate::listening::serving::Serving;
 use std::alloc::{AllocError, Global};
 use std::sync::Wait;
@@ -32,6 +32,7 @@ impl<E: Sink + Drop> Serving<E> {
             taken: standing.taken,
             lost: standing.lost,
             held: standing.held,
+            unread: told_of(self.unread().is_some(), self.log().unread_frames()),
             actions: standing.actions.as_slice(),
         };
         let mut text = Vec::new(alloc);

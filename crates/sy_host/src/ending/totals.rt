@@ -1,5 +1,5 @@
 //! The totals that a relay prints.
-ghost use Rattle.std.specs.Prelude.{◌≡◌, ◌++◌, OnOk, map};
+ghost use Rattle.std.specs.Prelude.{◌≡◌, ◌<◌, ◌^◌, ◌++◌, OnOk, map};
 ghost use Rattle.std.specs.Io.KnownBytes.{Appends};
 ghost use Rattle.sy_board.specs.relay.Boards.{counts_of};
 ghost use Rattle.sy_host.specs.Totals as spec;
@@ -9,6 +9,7 @@ use sy_board::{Accounts, ActionCounts};
 use sy_report::texts::parts::{Part, put_parts};
 use sy_report::writing::output::send;
 use sy_rules::Action;
+use sy_runtime::ConnEnd;
 use sy_wire::Sink;
 
 /// Why totals weren't written.
@@ -18,24 +19,48 @@ pub enum TotalsFault {
     Write,
 }
 
-/// What totals tell: messages taken, losses, what is held, and the counts of the actions, in their order.
+/// What totals tell: messages taken, losses, what is held, frames that carried no message where that is told, and the counts of the actions, in
+/// their order.
 #[derive(Clone, Copy)]
 pub struct Numbers<'a> {
     pub taken: u64,
     pub lost: u128,
     pub held: u128,
+    pub unread: Option<u128>,
     pub actions: &'a [ActionCounts],
 }
 
-/// The numbers of a relay that still holds so many entries.
-pub fn numbers_of(accounts: &Accounts, held: u128) -> Numbers<'_>
-    ensures numbers { result ≡ record { taken = accounts.now.totals.taken; lost = spec.lost accounts.now.totals; held = held; actions = result.actions } }
+/// How many frames of these connections carried no message.
+pub fn unread_of(ends: &[ConnEnd]) -> u128
+    ensures { spec.unread_of ends.now < 2 ^ 128 → result ≡ spec.unread_of ends.now }
+{
+    let mut unread: u128 = 0;
+    for end in ends {
+        unread = unread.saturating_add(u128::from(end.unread()));
+    }
+    unread
+}
+
+/// What is told of so many frames that carried no message: how many, where there are any, or where they are kept.
+pub fn told_of(is_kept: bool, unread: u128) -> Option<u128>
+    ensures { spec.IsTold unread result }
+{
+    if is_kept || unread > 0 {
+        return Some(unread);
+    }
+    None
+}
+
+/// The numbers of a relay that still holds so many entries, of which this is told of frames that carried no message.
+pub fn numbers_of(accounts: &Accounts, held: u128, unread: Option<u128>) -> Numbers<'_>
+    ensures numbers { result ≡ record { taken = accounts.now.totals.taken; lost = spec.lost accounts.now.totals; held = held; unread = unread; actions = result.actions } }
     ensures actions { map counts_of result.actions.now ≡ accounts.now.totals.actions }
 {
     Numbers {
         taken: accounts.taken(),
         lost: accounts.lost(),
         held,
+        unread,
         actions: accounts.actions(),
     }
 }
@@ -54,6 +79,17 @@ fn put_messages(text: &mut Vec<u8>, numbers: Numbers<'_>) -> Result<(), AllocErr
         Part::Sum(numbers.held),
         Part::Text(b"\n"),
     ];
+    put_parts(text, &parts)
+}
+
+// The line of the frames that carried no message, where that is told.
+fn append_unread(text: &mut Vec<u8>, unread: Option<u128>) -> Result<(), AllocError>
+    ensures { OnOk result (text.new.items ≡ text.old.items ++ spec.unread_line unread) }
+{
+    let Some(unread) = unread else {
+        return Ok(());
+    };
+    let parts = [Part::Text(b"unread "), Part::Sum(unread), Part::Text(b"\n")];
     put_parts(text, &parts)
 }
 
@@ -124,9 +160,10 @@ pub(crate) fn put_totals(
     numbers: Numbers<'_>,
 ) -> Result<(), AllocError>
     ensures { OnOk result (text.new.items ≡ text.old.items
-        ++ spec.counts_lines actions.now numbers.entry.taken numbers.entry.lost numbers.entry.held (map counts_of numbers.entry.actions.now)) }
+        ++ spec.counts_lines actions.now numbers.entry.taken numbers.entry.lost numbers.entry.held numbers.entry.unread (map counts_of numbers.entry.actions.now)) }
 {
     put_messages(text, numbers)?;
+    append_unread(text, numbers.unread)?;
     put_actions(text, actions, numbers.actions)
 }
 
@@ -138,7 +175,7 @@ pub fn write_totals<W: Sink>(
     numbers: Numbers<'_>,
 ) -> Result<(), TotalsFault>
     ensures { OnOk result (Appends (W.contents writer.old) (W.contents writer.new)
-        (spec.counts_lines actions.now numbers.entry.taken numbers.entry.lost numbers.entry.held (map counts_of numbers.entry.actions.now))) }
+        (spec.counts_lines actions.now numbers.entry.taken numbers.entry.lost numbers.entry.held numbers.entry.unread (map counts_of numbers.entry.actions.now))) }
 {
     let mut text = Vec::new(alloc);
     let Ok(()) = put_totals(&mut text, actions, numbers) else {

@@ -3,15 +3,17 @@
 use crate::ending::remaining::{Rest, count_unread};
 use crate::listening::connections::Connections;
 use crate::listening::connector::Connector;
-use crate::listening::dropped::Dropped;
 use crate::listening::served_threads::EndedThreads;
+use crate::listening::unread_file::UnreadFile;
+use crate::listening::unread_frames::{Coming, UnreadFrames};
 use std::alloc::{AllocError, Global};
 use std::net::{Shutdown, SocketAddr, TcpStream};
 use std::sync::atomic::{AtomicBool, Ordering};
 use std::sync::{Arc, Condvar, CondvarTimeouts, Mutex, Wait};
 use std::time::{Clock, Duration};
 use sy_log::at_port::append_at_port;
-use sy_log::log::{Log, PeerEnd};
+use sy_log::log::Log;
+use sy_log::peers::PeerEnd;
 use sy_log::printer::Printer;
 use sy_log::printing::Printing;
 use sy_report::texts::parts::{Part, put_parts};
@@ -31,12 +33,25 @@ pub struct Serving<E: Drop> {
     runs: Vec<u8>,
     log: Arc<Log>,
     watch: Watch,
+    // where frames go that carry no message, if they are kept
+    unread: Option<UnreadFile>,
     connections: Mutex<Connections>,
     // told when a connection or an accept loop has ended
     ended: Condvar,
     is_stopping: AtomicBool,
     // the port that can't be listened at, and why
     refused: Mutex<Option<(u16, Reason)>>,
+}
+
+/// What tells of a relay, and where frames go that carry no message.
+#[derive(Drop)]
+pub struct Notices {
+    pub log: Arc<Log>,
+    /// the line that says which files it runs
+    pub runs: Vec<u8>,
+    /// what is watched beside its totals and its log
+    pub watch: Watch,
+    pub unread: Option<UnreadFile>,
 }
 
 /// An input of a relay, by its number and its port.
@@ -64,8 +79,14 @@ fn said_at(alloc: Global, words: &[u8], port: u16) -> Result<Vec<u8>, AllocError
 }
 
 impl<E: Sink + Drop> Serving<E> {
-    /// Nothing is served yet. What happens is noted there and printed here; the line says which files the relay runs.
-    pub fn new(alloc: Global, errors: E, log: Arc<Log>, runs: Vec<u8>, watch: Watch) -> Serving<E> {
+    /// Nothing is served yet. What happens is noted there and printed here.
+    pub fn new(alloc: Global, errors: E, told: Notices) -> Serving<E> {
+        let Notices {
+            log,
+            runs,
+            watch,
+            unread,
+        } = told;
         Serving {
             alloc,
             printing: Printing::new(alloc),
@@ -73,6 +94,7 @@ impl<E: Sink + Drop> Serving<E> {
             runs,
             log,
             watch,
+            unread,
             connections: Mutex::new(Connections::new(alloc)),
             ended: Condvar::new(),
             is_stopping: AtomicBool::new(false),
@@ -102,6 +124,11 @@ impl<E: Sink + Drop> Serving<E> {
             Ok(text) => self.printing.push(rt, text),
             Err(_) => self.printing.leave_out(rt, 1),
         }
+    }
+
+    /// Where frames go that carry no message, if they are kept.
+    pub fn unread(&self) -> Option<&UnreadFile> {
+        self.unread.as_ref()
     }
 
     /// What is watched of the relay beside its totals and its log.
@@ -205,7 +232,7 @@ impl<E: Sink + Drop> Serving<E> {
             connections.keep_rest(rest);
         }
         connections.leave(place);
-        if noted.first.is_some() || noted.fault.is_some() {
+        if noted.unread > 0 || noted.fault.is_some() {
             self.log.connection_ended(rt, input, noted);
         }
         drop(connections);
@@ -317,7 +344,9 @@ pub fn serve_connection<R: Wait + Clock + Drop, C: Connector, E: Sink + Drop>(
     } = connection;
     serving.watch().connection_begins(at.input);
     let mut reader = FromRead::new(&*stream);
-    let (end, untaken, answer) = relay.connect(&rt, alloc, at.input, &mut reader, &mut Dropped);
+    let coming = Coming::new(&*serving, at, peer);
+    let mut unread = UnreadFrames { coming: &coming };
+    let (end, untaken, answer) = relay.connect(&rt, alloc, at.input, &mut reader, &mut unread);
     serving.watch().connection_ended(at.input);
     let rest = rest_of(alloc, at.input, untaken, answer, &stream);
     let noted = noted_end(peer, &end, answer);

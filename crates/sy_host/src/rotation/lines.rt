@@ -10,6 +10,7 @@ use sy_report::texts::words::Words;
 fn say_refusal(alloc: Global, words: &mut Words, refusal: Refusal) -> Result<(), AllocError> {
     match refusal {
         Refusal::NoFolder => words.say("no such folder"),
+        Refusal::NoFrames => words.say("it hasn't whole frames alone"),
         Refusal::Host(reason) => {
             let mut text = Vec::new(alloc);
             reason.put(alloc, &mut text)?;
@@ -17,6 +18,13 @@ fn say_refusal(alloc: Global, words: &mut Words, refusal: Refusal) -> Result<(),
         }
     }
     Ok(())
+}
+
+/// Why a file can't be opened, in words.
+pub fn refusal_text(alloc: Global, refusal: Refusal) -> Result<Vec<u8>, AllocError> {
+    let mut words = Words::new(alloc);
+    say_refusal(alloc, &mut words, refusal)?;
+    words.finish()
 }
 
 fn say_notice(

@@ -10,6 +10,8 @@ use sy_report::texts::reason::Reason;
 pub enum Refusal {
     /// No folder is there.
     NoFolder,
+    /// A file is there that hasn't whole frames alone.
+    NoFrames,
     Host(Reason),
 }
 
@@ -26,6 +28,7 @@ impl Refusal {
     pub fn code(self) -> u64 {
         match self {
             Refusal::NoFolder => 0,
+            Refusal::NoFrames => u64::MAX - 2,
             Refusal::Host(reason) => reason.code(),
         }
     }

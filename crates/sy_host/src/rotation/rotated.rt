@@ -1,6 +1,8 @@
-//! The file of an archive, as its device and who watches over it share it.
+//! The file of an archive, or the unread file, as its device and who watches over it share it.
 
 use crate::devices::file_writer::FileWriter;
+use crate::devices::frame_file::FrameFile;
+use crate::rotation::frames::open_whole;
 use crate::rotation::opened::{Node, Refusal, has_lost_name, is_pipe, node_of_file, open_file};
 use std::alloc::Global;
 use std::fs::File;
@@ -26,19 +28,44 @@ pub struct Known {
     pub node: Option<Node>,
 }
 
-/// What lines are written to.
+/// What is written to a file: lines, or whole frames.
+#[derive(Clone, Copy, PartialEq, Eq)]
+pub enum Form {
+    Lines,
+    Frames,
+}
+
+/// What writes lines, or whole frames.
+#[derive(Drop)]
+pub enum Writer {
+    Lines(LineSink<FileWriter>),
+    Frames(FrameFile),
+}
+
+impl Writer {
+    /// To this file.
+    pub fn new(alloc: Global, form: Form, file: File, log: ActionLog) -> Writer {
+        match form {
+            Form::Lines => Writer::Lines(LineSink::new(alloc, FileWriter::new(file, log))),
+            Form::Frames => Writer::Frames(FrameFile::new(file, log)),
+        }
+    }
+}
+
+/// What is written to.
 #[derive(Drop)]
 pub struct Open {
-    pub sink: LineSink<FileWriter>,
+    pub writer: Writer,
     followed: u64,
 }
 
-/// The file of an archive. Its device writes to it under a lock. Who watches over it tries that lock and doesn't wait for it: so
+/// The file of an archive, or the unread file. Its device writes to it under a lock. Who watches over it tries that lock and doesn't wait for it: so
 /// an archive that isn't written to is opened anew by who watches, and one that is by its device.
 #[derive(Drop)]
 pub struct Rotated {
     rt: HostRuntime,
     alloc: Global,
+    form: Form,
     path: String,
     log: ActionLog,
     open: Mutex<Open>,
@@ -63,25 +90,27 @@ impl Rotated {
     pub fn new(
         rt: HostRuntime,
         alloc: Global,
+        form: Form,
         path: String,
         file: File,
         followed: u64,
-        log: ActionLog,
-        theirs: ActionLog,
+        logs: (ActionLog, ActionLog),
     ) -> Rotated {
+        let (log, theirs) = logs;
         let known = Known {
             tried: followed,
             followed,
             refusal: None,
             node: node_of_file(&file),
         };
-        let sink = LineSink::new(alloc, FileWriter::new(file, theirs));
+        let writer = Writer::new(alloc, form, file, theirs);
         Rotated {
             rt,
             alloc,
+            form,
             path,
             log,
-            open: Mutex::new(Open { sink, followed }),
+            open: Mutex::new(Open { writer, followed }),
             known: Mutex::new(known),
             is_written: AtomicBool::new(false),
         }
@@ -125,17 +154,19 @@ impl Rotated {
     }
 
     // The file of its name, opened anew.
-    fn open_anew(&self) -> Result<(LineSink<FileWriter>, Option<Node>), Refusal> {
+    fn open_anew(&self) -> Result<(Writer, Option<Node>), Refusal> {
         let Ok(log) = self.log.try_clone() else {
             return Err(Refusal::Host(Reason::NoMemory));
         };
-        match open_file(&self.rt, self.path.as_str()) {
-            Ok(file) => {
-                let node = node_of_file(&file);
-                Ok((LineSink::new(self.alloc, FileWriter::new(file, log)), node))
-            }
-            Err(error) => Err(Refusal::of(&error)),
-        }
+        let file = match self.form {
+            Form::Lines => match open_file(&self.rt, self.path.as_str()) {
+                Ok(file) => file,
+                Err(error) => return Err(Refusal::of(&error)),
+            },
+            Form::Frames => open_whole(&self.rt, self.alloc, self.path.as_str())?,
+        };
+        let node = node_of_file(&file);
+        Ok((Writer::new(self.alloc, self.form, file, log), node))
     }
 
     // Opens it anew for requests up to this one, and answers whether how that ended is new. What was open is closed then.
@@ -145,8 +176,8 @@ impl Rotated {
             None => None,
         };
         match self.open_anew() {
-            Ok((sink, node)) => {
-                open.sink = sink;
+            Ok((writer, node)) => {
+                open.writer = writer;
                 open.followed = asked;
                 self.note(Known {
                     tried: asked,

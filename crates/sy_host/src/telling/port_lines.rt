@@ -7,14 +7,16 @@ use std::sync::{Mutex, Wait};
 use sy_log::at_port::{
     append_at_port, append_at_port_often, append_unread, append_unread_often, end_words,
 };
-use sy_log::log::Ended;
+use sy_log::lines::sending_line;
 use sy_log::pauses::Pace;
+use sy_log::peers::Ended;
 use sy_log::untold::{FAULTS, Faulted, UnreadFrames};
 use sy_wire::Sink;
 
 /// When the next line of each kind may be printed about an input.
 #[derive(Clone, Copy)]
 pub struct PortPace {
+    sending: Pace,
     unread: Pace,
     faults: Pace,
 }
@@ -23,6 +25,7 @@ impl PortPace {
     /// The first ones may be printed at once.
     pub fn new() -> PortPace {
         PortPace {
+            sending: Pace::new(),
             unread: Pace::new(),
             faults: Pace::new(),
         }
@@ -48,6 +51,24 @@ fn fault_line(alloc: Global, port: u16, of: Faulted) -> Result<Vec<u8>, AllocErr
         append_at_port_often(&mut text, words, port, of.others)?;
     }
     Ok(text)
+}
+
+// Prints the line about connections that begin to send what is no message, where there are any.
+fn print_sending<R: Wait, E: Sink + Drop>(
+    rt: &R,
+    alloc: Global,
+    serving: &Serving<E>,
+    number: usize,
+    ended: &Mutex<Ended>,
+) {
+    let (Some(subject), Some((sending, others))) = (
+        serving.log().subjects().get(number),
+        ended.lock(rt).take_sending(),
+    ) else {
+        return;
+    };
+    let file = serving.log().unread();
+    serving.print(rt, sending_line(alloc, subject, &sending, others, file));
 }
 
 // Prints the line about frames without a message, where there are any.
@@ -91,6 +112,9 @@ pub fn print_due<R: Wait, E: Sink + Drop>(
     now: u64,
 ) -> Option<u64> {
     let ended = serving.log().ended_at(number)?;
+    if ended.lock(rt).has_sending() && pace.sending.take(now) {
+        print_sending(rt, alloc, serving, number, ended);
+    }
     if ended.lock(rt).untold.has_unread() && pace.unread.take(now) {
         print_unread(rt, alloc, serving, ended);
     }
@@ -98,6 +122,11 @@ pub fn print_due<R: Wait, E: Sink + Drop>(
         print_fault(rt, alloc, serving, ended);
     }
     let locked = ended.lock(rt);
+    let sending = if locked.has_sending() {
+        Some(pace.sending.next)
+    } else {
+        None
+    };
     let unread = if locked.untold.has_unread() {
         Some(pace.unread.next)
     } else {
@@ -108,7 +137,7 @@ pub fn print_due<R: Wait, E: Sink + Drop>(
     } else {
         None
     };
-    earlier(unread, faults)
+    earlier(sending, earlier(unread, faults))
 }
 
 /// Prints all of them that are left, as the relay ends.
@@ -121,6 +150,7 @@ pub fn print_left<R: Wait, E: Sink + Drop>(
     let Some(ended) = serving.log().ended_at(number) else {
         return;
     };
+    print_sending(rt, alloc, serving, number, ended);
     print_unread(rt, alloc, serving, ended);
     for _ in 0..FAULTS {
         print_fault(rt, alloc, serving, ended);

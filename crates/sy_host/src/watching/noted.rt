@@ -15,6 +15,7 @@ pub struct NotedLists {
     actions: Vec<Noted>,
     inputs: Vec<Noted>,
     queues: Vec<Noted>,
+    unread: Option<Noted>,
 }
 
 impl NotedLists {
@@ -24,6 +25,7 @@ impl NotedLists {
             actions: self.actions.as_slice(),
             inputs: self.inputs.as_slice(),
             queues: self.queues.as_slice(),
+            unread: self.unread,
         }
     }
 }
@@ -53,6 +55,7 @@ pub fn noted<R: Clock>(rt: &R, alloc: Global, log: &Log) -> Result<NotedLists, A
         actions: Vec::new(alloc),
         inputs: Vec::new(alloc),
         queues: Vec::new(alloc),
+        unread: None,
     };
     for subject in log.subjects() {
         let noted = noted_of(subject);
@@ -60,6 +63,7 @@ pub fn noted<R: Clock>(rt: &R, alloc: Global, log: &Log) -> Result<NotedLists, A
             Kind::Action => lists.actions.push(noted)?,
             Kind::Input => lists.inputs.push(noted)?,
             Kind::Queue => lists.queues.push(noted)?,
+            Kind::Unread => lists.unread = Some(noted),
         }
     }
     Ok(lists)

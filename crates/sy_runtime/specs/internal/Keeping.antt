@@ -1,9 +1,15 @@
 -- What a connection holds once what stands first was kept, or has a message.
-use Rattle.std.specs.Prelude.{ℕ, List, ◌∷◌, Option, None, Some, Result, Ok, Err}
+use Rattle.std.specs.Prelude.{ℕ, List, [], ◌∷◌, Option, None, Some, Result, Ok, Err}
 use Rattle.sy_runtime.specs.Connections.{Counts, Kept}
 use Rattle.sy_runtime.specs.internal.Held.{Holds}
+use Rattle.sy_runtime.specs.internal.Taking.{HasMessage}
 use Rattle.sy_runtime.specs.declared.untaken.Item.{Item}
 use Rattle.sy_runtime.specs.declared.connection.halt.Halt.{Halt}
+
+-- nothing is left but from the first message on
+abbrev pub IsUpToMessage : List Item → Type 0
+IsUpToMessage [] = Unit {0}
+IsUpToMessage (item ∷ later) = HasMessage item
 
 -- it was kept; or it stands first still
 abbrev pub KeepIs : Result (Option Item) (Halt × Item) → List ℕ → Counts → Kept → List Item → List ℕ → Type 0

@@ -27,25 +27,6 @@ fn halt_at(pause: Pause) -> Halt {
     }
 }
 
-// Has those frames kept that stand first and carry no message, and tells how many.
-fn keep_and_tell<R: Wait + Clock, G: Gate, U: UnreadSink>(
-    rt: &R,
-    gate: &G,
-    sink: &mut U,
-    input: u32,
-    batch: &mut VecDeque<Item>,
-    end: &mut ConnEnd,
-) -> Result<(), Halt>
-    ensures { (read left : List ℕ) (before : Option (List (List ℕ))) →
-        Holds read end.old (since before (U.kept sink.old)) batch.old.items left →
-        Holds read end.new (since before (U.kept sink.new)) batch.new.items left }
-{
-    let before = Moved::of(end, 0);
-    let answer = keep_unread(rt, sink, batch, end);
-    tell_moved(gate, input, Moved::of(end, 0).since(before));
-    answer
-}
-
 /// Puts a batch in, however long it waits, and has those frames kept that carry no message, each before anything behind it is taken. It looks
 /// whether the relay closes with an empty batch too.
 pub(crate) fn put<R: Wait + Clock, G: Gate, U: UnreadSink>(
@@ -81,12 +62,15 @@ pub(crate) fn put<R: Wait + Clock, G: Gate, U: UnreadSink>(
             locked = wait_and_tell(rt, shared, gate, locked, waiting, is_in_hand);
             continue;
         }
-        mem::swap(&mut locked.used, used);
+        // (so that what one round got isn't given back in the next)
+        if locked.used.len() > used.len() {
+            mem::swap(&mut locked.used, used);
+        }
         drop(locked);
         shared.work.notify_all();
         tell_moved(gate, hand.input, moved);
         put.map_err(halt_at)?;
-        keep_and_tell(rt, gate, sink, hand.input, batch, end)?;
+        keep_unread(rt, gate, sink, hand.input, batch, end)?;
         if batch.is_empty() {
             return Ok(());
         }

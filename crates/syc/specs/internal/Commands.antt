@@ -16,6 +16,7 @@ AreArgs words found =
       is_unchecked = found.is_unchecked;
       is_explained = found.is_explained;
       left = option_map (λ file. file.now) found.left;
+      unread = option_map (λ file. file.now) found.unread;
       drain = found.drain;
       metrics = option_map (λ file. file.now) found.metrics;
       metrics_every = found.metrics_every;

@@ -15,7 +15,7 @@ const MOST_SECONDS: u64 = 86_400;
 const DIGITS: usize = 5;
 
 /// How many words may stand behind that of the command: two names, and each option with what belongs to it.
-const MOST_WORDS: usize = 12;
+const MOST_WORDS: usize = 14;
 
 /// What the words of that command say.
 #[derive(Clone, Copy)]
@@ -30,6 +30,8 @@ pub struct RunWords<'a> {
     pub is_explained: bool,
     /// the name of the file for what is left
     pub left: Option<&'a str>,
+    /// the name of the file for frames that carry no message
+    pub unread: Option<&'a str>,
     /// for how many seconds the relay may empty before it stops
     pub drain: Option<u32>,
     /// the name of the file for the metrics
@@ -46,6 +48,7 @@ struct Args<'a> {
     is_unchecked: bool,
     is_explained: bool,
     left: Option<&'a str>,
+    unread: Option<&'a str>,
     drain: Option<u32>,
     metrics: Option<&'a str>,
     metrics_every: Option<u32>,
@@ -129,6 +132,21 @@ fn with_left<'a>(file: &'a str, args: Args<'a>) -> Option<Args<'a>>
     })
 }
 
+fn with_unread<'a>(file: &'a str, args: Args<'a>) -> Option<Args<'a>>
+    ensures { IfSome result (λ found. (words : List (List ℕ)) → AreArgs words args.entry → AreArgs (codes "--unread" ∷ file.entry.now ∷ words) found) }
+{
+    if args.unread.is_some() {
+        return None;
+    }
+    if !is_plain(file) {
+        return None;
+    }
+    Some(Args {
+        unread: Some(file),
+        ..args
+    })
+}
+
 fn with_drain<'a>(word: &'a str, args: Args<'a>) -> Option<Args<'a>>
     ensures { IfSome result (λ found. (words : List (List ℕ)) → AreArgs words args.entry → AreArgs (codes "--drain" ∷ word.entry.now ∷ words) found) }
 {
@@ -176,6 +194,8 @@ fn with_value<'a>(option: &str, value: &'a str, args: Args<'a>) -> Option<Args<'
 {
     if is_word(option, "--left") {
         with_left(value, args)
+    } else if is_word(option, "--unread") {
+        with_unread(value, args)
     } else if is_word(option, "--drain") {
         with_drain(value, args)
     } else if is_word(option, "--metrics") {
@@ -198,6 +218,7 @@ fn args_of<'a>(words: &[&'a str]) -> Option<Args<'a>>
             is_unchecked: false,
             is_explained: false,
             left: None,
+            unread: None,
             drain: None,
             metrics: None,
             metrics_every: None,
@@ -243,6 +264,7 @@ fn behind<'a>(words: &[&'a str]) -> Option<RunWords<'a>>
         is_unchecked,
         is_explained,
         left,
+        unread,
         drain,
         metrics,
         metrics_every,
@@ -256,6 +278,7 @@ fn behind<'a>(words: &[&'a str]) -> Option<RunWords<'a>>
         is_unchecked,
         is_explained,
         left,
+        unread,
         drain,
         metrics,
         metrics_every,

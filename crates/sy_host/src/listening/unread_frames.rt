@@ -1,0 +1,88 @@
+//! What a connection sends that is no message.
+
+use crate::listening::serving::{Port, Serving};
+use crate::listening::unread_file::UnreadFrame;
+use std::net::SocketAddr;
+use std::sync::Wait;
+use std::sync::atomic::{AtomicBool, AtomicU64, Ordering};
+use std::time::Clock;
+use sy_log::peers::Sending;
+use sy_runtime::{NotKept, Unread, UnreadSink};
+use sy_wire::Sink;
+
+/// A connection, as who keeps what it sends knows it.
+#[derive(Drop)]
+pub struct Coming<'a, E: Drop> {
+    serving: &'a Serving<E>,
+    at: Port,
+    peer: SocketAddr,
+    // how many of its frames were too long, of which its end counts none
+    long: AtomicU64,
+    // whether it was told that it sends what is no message
+    is_told: AtomicBool,
+}
+
+impl<'a, E: Sink + Drop> Coming<'a, E> {
+    /// That of this peer to that port.
+    pub fn new(serving: &'a Serving<E>, at: Port, peer: SocketAddr) -> Coming<'a, E> {
+        Coming {
+            serving,
+            at,
+            peer,
+            long: AtomicU64::new(0),
+            is_told: AtomicBool::new(false),
+        }
+    }
+
+    /// How many of its frames were too long.
+    pub fn long(&self) -> u64 {
+        self.long.load(Ordering::SeqCst)
+    }
+
+    // Keeps what it sent in the relay's unread file, if there is one, and has the first of it told.
+    fn keep<R: Wait + Clock>(
+        &self,
+        rt: &R,
+        frame: &UnreadFrame<'_>,
+        hint: Option<&'static str>,
+    ) -> Result<(), NotKept> {
+        if let Some(file) = self.serving.unread() {
+            file.keep(rt, frame)?;
+        }
+        if !self.is_told.swap(true, Ordering::SeqCst) {
+            let sending = Sending {
+                peer: self.peer,
+                fault: frame.fault,
+                at: frame.at,
+                frame: frame.frame,
+                hint,
+            };
+            self.serving
+                .log()
+                .sends_no_message(rt, self.at.input, sending);
+        }
+        Ok(())
+    }
+}
+
+/// Frames of a connection that carry no message: they are kept in the relay's unread file or, where it has none, dropped.
+#[derive(Drop)]
+pub struct UnreadFrames<'a, E: Drop> {
+    pub coming: &'a Coming<'a, E>,
+}
+
+impl<E: Sink + Drop> UnreadSink for UnreadFrames<'_, E> {
+    fn keep<R: Wait + Clock>(&mut self, rt: &R, why: Unread, text: &[u8]) -> Result<(), NotKept> {
+        let coming = self.coming;
+        let frame = UnreadFrame {
+            port: coming.at.port,
+            peer: coming.peer,
+            frame: why.frame.saturating_add(coming.long()),
+            fault: why.fault.code.words(),
+            at: why.fault.offset as u64,
+            length: None,
+            text,
+        };
+        coming.keep(rt, &frame, None)
+    }
+}

@@ -1,0 +1,94 @@
+//! What is noted of an input's connections: how they ended, and which send what is no message.
+
+use crate::untold::Untold;
+use std::alloc::{AllocError, Global};
+use std::net::SocketAddr;
+use sy_runtime::{RunFault, Unread};
+
+/// How a connection ended: with frames that carried no message, or with a fault, or both.
+#[derive(Clone, Copy)]
+pub struct PeerEnd {
+    pub peer: SocketAddr,
+    pub unread: u64,
+    pub first: Option<Unread>,
+    pub fault: Option<RunFault>,
+}
+
+/// A connection that begins to send what is no message: what its first fault is and where, in which of its frames, and what the bytes there begin
+/// like, where that is said.
+#[derive(Clone, Copy)]
+pub struct Sending {
+    pub peer: SocketAddr,
+    pub fault: &'static str,
+    pub at: u64,
+    pub frame: u64,
+    pub hint: Option<&'static str>,
+}
+
+/// How the first of the connections ended that ended so and weren't told yet, and how many others there are; and with what
+/// connections ended.
+#[derive(Drop)]
+pub struct Ended {
+    /// the input's
+    pub port: u16,
+    pub first: Option<PeerEnd>,
+    pub others: u64,
+    pub untold: Untold,
+    // the first of those that began to send what is no message and weren't told yet, and how many others there are
+    sending: Option<Sending>,
+    others_sending: u64,
+}
+
+impl Ended {
+    /// None of the input of this port has ended so yet, or sends so.
+    pub fn new(alloc: Global, port: u16) -> Result<Ended, AllocError> {
+        Ok(Ended {
+            port,
+            first: None,
+            others: 0,
+            untold: Untold::new(alloc)?,
+            sending: None,
+            others_sending: 0,
+        })
+    }
+
+    /// A connection has ended so.
+    pub fn add(&mut self, end: PeerEnd) {
+        if self.first.is_none() {
+            self.first = Some(end);
+        } else {
+            self.others = self.others.saturating_add(1);
+        }
+        self.untold.add(&end);
+    }
+
+    /// The first of those that ended so, and how many others there are, which are told now.
+    pub fn take_first(&mut self) -> Option<(PeerEnd, u64)> {
+        let first = self.first.take()?;
+        let others = self.others;
+        self.others = 0;
+        Some((first, others))
+    }
+
+    /// Whether a connection has begun to send what is no message and wasn't told.
+    pub fn has_sending(&self) -> bool {
+        self.sending.is_some()
+    }
+
+    /// The first of them, and how many others there are, which are told now.
+    pub fn take_sending(&mut self) -> Option<(Sending, u64)> {
+        let sending = self.sending.take()?;
+        let others = self.others_sending;
+        self.others_sending = 0;
+        Some((sending, others))
+    }
+
+    /// A connection has begun to send what is no message.
+    pub fn add_sending(&mut self, sending: Sending) {
+        if self.sending.is_none() {
+            self.sending = Some(sending);
+        } else {
+            self.others_sending = self.others_sending.saturating_add(1);
+        }
+    }
+}

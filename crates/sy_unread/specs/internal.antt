@@ -1,0 +1,21 @@
+-- What the parts of the head of a record are.
+use Rattle.std.specs.Prelude.{◌≡◌, ℕ, ◌<◌, ◌^◌, List, Some}
+use Rattle.std.specs.Fmt.{decimal}
+use Rattle.sy_unread.specs.Records.{hostname_of, length_text, value_of}
+use Rattle.sy_unread.specs.declared.parts.Part.{Part}
+use Rattle.sy_unread.specs.declared.parts.Part.TheVariants as part
+use Rattle.sy_unread.specs.declared.record.About.{About}
+
+abbrev pub part_text : Part → List ℕ
+part_text (part.Text words) = words.now
+part_text (part.Number number) = decimal number
+part_text (part.Hostname name) = hostname_of name.now
+part_text (part.Value value) = value_of value.now
+part_text (part.Length length) = length_text length
+
+-- the numbers have 64 bits
+pub record IsInRange (about : About) : Type 0 where
+  pub input : about.input < 2 ^ 64
+  pub frame : about.frame < 2 ^ 64
+  pub at : about.at < 2 ^ 64
+  pub length : (n : ℕ) → about.length ≡ Some n → n < 2 ^ 64

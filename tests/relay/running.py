@@ -1,0 +1,103 @@
+"""Runs tests, each in a process, a folder and ports of its own, and ends all that they started."""
+
+import multiprocessing
+import os
+import random
+import shutil
+import signal
+import subprocess
+import tempfile
+import time
+from multiprocessing.connection import wait
+
+from room import FIRST_PORT, LAST_PORT, PORTS, Failure, LeftOut, Room
+
+HERE = os.path.dirname(os.path.realpath(__file__))
+TOP = os.path.dirname(os.path.dirname(HERE))
+
+
+def run_alone(test, program, folder, port, answer):
+    """One test, in this process, which leads a group of processes; ends the group where the time limit runs out."""
+    os.setpgid(0, 0)
+    signal.signal(signal.SIGTERM, signal.SIG_DFL)
+    signal.signal(signal.SIGALRM, lambda *_: os.killpg(0, signal.SIGKILL))
+    signal.alarm(test.limit + 5)
+    said = ""
+    try:
+        test.body(Room(program, folder, port))
+    except LeftOut as reason:
+        said = f"left out: {reason}"
+    except Failure as failure:
+        said = f"failed: {failure}"
+    except Exception as failure:  # (of the test itself)
+        place = failure.__traceback__
+        while place.tb_next:
+            place = place.tb_next
+        said = f"failed: {type(failure).__name__} in line {place.tb_lineno} of {place.tb_frame.f_code.co_name}: {failure}"
+    answer.send(said)
+    answer.close()
+
+
+class Running:
+    """A test that has been begun."""
+
+    def __init__(self, test, program, top, port):
+        self.test, self.folder = test, f"{top}/{test.name}"
+        os.mkdir(self.folder)
+        self.answer, end = multiprocessing.Pipe(duplex=False)
+        context = multiprocessing.get_context("fork")
+        self.process = context.Process(target=run_alone, args=(test, program, self.folder, port, end))
+        self.process.start()
+        end.close()
+        self.begun = time.monotonic()
+
+    def is_over(self):
+        return self.answer.poll() or not self.process.is_alive() or time.monotonic() - self.begun > self.test.limit
+
+    def end(self):
+        """Ends all that the test started, and says how it ended."""
+        said = f"failed: it did not end within {self.test.limit} s"
+        if self.answer.poll():
+            try:
+                said = self.answer.recv()
+            except EOFError:
+                said = "failed: it ended without an answer"
+        try:
+            os.killpg(self.process.pid, signal.SIGKILL)
+        except (ProcessLookupError, PermissionError):
+            pass
+        self.process.join()
+        shutil.rmtree(self.folder, ignore_errors=True)
+        return said
+
+
+def run_all(tests, program, jobs, name, first=FIRST_PORT, last=LAST_PORT):
+    """Runs tests, some at once, on ports between two; answers how many passed and failed.
+
+    Each that failed or was left out is a line that begins with a name."""
+    counts = {"passed": 0, "failed": 0, "left out": 0}
+    block = random.randrange((last - first) // PORTS)
+    running, left = [], list(tests)
+    with tempfile.TemporaryDirectory() as top:
+        try:
+            while left or running:
+                while left and len(running) < jobs:
+                    block = (block + 1) % ((last - first) // PORTS)
+                    running.append(Running(left.pop(0), program, top, first + block * PORTS))
+                wait([it.answer for it in running], 1)
+                for it in [it for it in running if it.is_over()]:
+                    running.remove(it)
+                    said = it.end()
+                    counts[said.split(":")[0] or "passed"] += 1
+                    if said:
+                        print(f"{name}: {it.test.name}: {said}", flush=True)
+        finally:
+            for it in running:
+                it.end()
+    return counts["passed"], counts["failed"]
+
+
+def built():
+    """The program that bin/syc would run, where one is current."""
+    done = subprocess.run([f"{TOP}/bin/build", "--current"], stdin=subprocess.DEVNULL, stdout=subprocess.PIPE, check=False)
+    return done.stdout.decode().rstrip("\n")
