@@ -13,6 +13,7 @@ use std::sync::{Arc, Mutex, Wait};
 use std::thread;
 use std::time::{Clock, Duration};
 use sy_log::log::ActionLog;
+use sy_log::peers::NoMessage;
 use sy_report::texts::reason::Reason;
 use sy_runtime::NotKept;
 use sy_unread::{About, append_records};
@@ -23,15 +24,13 @@ const LOOKS: u32 = 10;
 
 const LOOK: u64 = 100;
 
-/// A frame that carries no message, and where it came: which of its connection it is, from 1, its fault and where that is shown, and of one that is
-/// too long its length.
+/// A frame that carries no message, and where it came: which of its connection it is, from 1, what is wrong, and of one that is too long its length.
 #[derive(Clone, Copy)]
 pub struct UnreadFrame<'a> {
     pub port: u16,
     pub peer: SocketAddr,
     pub frame: u64,
-    pub fault: &'static str,
-    pub at: u64,
+    pub what: NoMessage,
     pub length: Option<u64>,
     pub text: &'a [u8],
 }
@@ -124,8 +123,8 @@ impl UnreadFile {
             input: frame.port,
             peer: peer.as_str(),
             frame: frame.frame,
-            fault: frame.fault,
-            at: frame.at,
+            fault: frame.what.words(),
+            at: frame.what.offset(),
             length: frame.length,
         };
         let mut records = Vec::new(self.alloc);
