@@ -35,21 +35,19 @@ pub struct UnreadFrame<'a> {
     pub text: &'a [u8],
 }
 
-/// The unread file of a relay, which its connections share. It is written to at its end, and opened anew as archives are.
+// The unread file, as who writes to it has it.
 #[derive(Drop)]
-pub struct UnreadFile {
+struct Writing {
     alloc: Global,
     // the relay's name
     relay: Vec<u8>,
     file: Arc<Rotated>,
     reopens: Arc<Reopens>,
     log: ActionLog,
-    is_ending: Arc<AtomicBool>,
-    // whether it fails; who has the lock writes
-    fails: Mutex<bool>,
+    fails: bool,
 }
 
-impl UnreadFile {
+impl Writing {
     // Of a file that was opened.
     fn new(
         rt: HostRuntime,
@@ -57,43 +55,24 @@ impl UnreadFile {
         name: &str,
         file: File,
         relay: &[u8],
-        signals: &Signals,
+        reopens: &Arc<Reopens>,
         log: ActionLog,
-    ) -> Result<UnreadFile, AllocError> {
+    ) -> Result<Writing, AllocError> {
         let logs = (log.try_clone()?, log.try_clone()?);
         let name = String::from_str(alloc, name)?;
-        let asked = signals.reopens.asked();
-        let rotated = Rotated::new(rt, alloc, Form::Frames, name, file, asked, logs);
+        let rotated = Rotated::new(rt, alloc, Form::Frames, name, file, reopens.asked(), logs);
         let Ok(file) = Arc::new(alloc, rotated) else {
             return Err(AllocError);
         };
-        signals.reopens.push(Arc::try_clone(&file)?)?;
-        Ok(UnreadFile {
+        reopens.push(Arc::try_clone(&file)?)?;
+        Ok(Writing {
             alloc,
             relay: Vec::from_slice(alloc, relay)?,
             file,
-            reopens: Arc::try_clone(&signals.reopens)?,
-            is_ending: Arc::try_clone(&signals.is_ending)?,
+            reopens: Arc::try_clone(reopens)?,
             log,
-            fails: Mutex::new(false),
+            fails: false,
         })
-    }
-
-    /// The file of that name of the relay of that name, which is opened for appending, and how many bytes of a part of a frame were cut off at its end.
-    /// Why a write fails is noted in that log.
-    pub fn open(
-        rt: HostRuntime,
-        alloc: Global,
-        name: &str,
-        relay: &[u8],
-        signals: &Signals,
-        log: ActionLog,
-    ) -> Result<(UnreadFile, u64), Refusal> {
-        let (file, cut) = open_cut(&rt, alloc, name)?;
-        match UnreadFile::new(rt, alloc, name, file, relay, signals, log) {
-            Ok(opened) => Ok((opened, cut)),
-            Err(_) => Err(Refusal::Host(Reason::NoMemory)),
-        }
     }
 
     // Writes frames once.
@@ -144,24 +123,51 @@ impl UnreadFile {
     }
 
     // The same, and notes whether it fails; whether it was written.
-    fn try_once<R: Wait>(&self, rt: &R, frame: &UnreadFrame<'_>) -> bool {
-        let mut fails = self.fails.lock(rt);
+    fn try_once(&mut self, frame: &UnreadFrame<'_>) -> bool {
         match self.write(frame) {
             Ok(()) => {
-                if *fails {
+                if self.fails {
                     self.log.end();
                 }
-                *fails = false;
+                self.fails = false;
                 true
             }
             Err(reason) => {
-                if !*fails {
+                if !self.fails {
                     self.log.begin(reason);
                 }
-                *fails = true;
+                self.fails = true;
                 false
             }
         }
+    }
+}
+
+/// The unread file of a relay, which its connections share. It is written to at its end, and opened anew as archives are.
+#[derive(Drop)]
+pub struct UnreadFile {
+    writing: Mutex<Writing>,
+    is_ending: Arc<AtomicBool>,
+}
+
+impl UnreadFile {
+    /// The file of that name of the relay of that name, which is opened for appending, and how many bytes of a part of a frame were cut off at its end.
+    /// Why a write fails is noted in that log.
+    pub fn open(
+        rt: HostRuntime,
+        alloc: Global,
+        name: &str,
+        relay: &[u8],
+        signals: &Signals,
+        log: ActionLog,
+    ) -> Result<(UnreadFile, u64), Refusal> {
+        let (file, cut) = open_cut(&rt, alloc, name)?;
+        let made = Writing::new(rt, alloc, name, file, relay, &signals.reopens, log);
+        let (Ok(writing), Ok(is_ending)) = (made, Arc::try_clone(&signals.is_ending)) else {
+            return Err(Refusal::Host(Reason::NoMemory));
+        };
+        let writing = Mutex::new(writing);
+        Ok((UnreadFile { writing, is_ending }, cut))
     }
 
     // Waits before a failed write is tried again; whether it is to be.
@@ -178,7 +184,7 @@ impl UnreadFile {
     /// Writes what stands there of a frame, however long that takes. Where it can't be written it is tried again each second, until the relay ends.
     pub fn keep<R: Wait + Clock>(&self, rt: &R, frame: &UnreadFrame<'_>) -> Result<(), NotKept> {
         for _ in rt.forever() {
-            if self.try_once(rt, frame) {
+            if self.writing.lock(rt).try_once(frame) {
                 return Ok(());
             }
             if !self.wait(rt) {
