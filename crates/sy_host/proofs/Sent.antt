@@ -10,6 +10,14 @@ use Rattle.sy_runtime.specs.contracts.untaken.Item as Item
 use Rattle.sy_runtime.specs.contracts.untaken.Untaken as Untaken
 use Rattle.sy_host.specs.contracts.ending.remaining.Rest as Rest
 use Rattle.sy_runtime.proofs.Sent.{relay_send, relay_sync}
+use Rattle.sy_host.specs.contracts.devices.file_writer.FileWriter as FileWriter
+use Rattle.sy_host.specs.contracts.devices.frame_file.FrameFile as FrameFile
+use Rattle.sy_host.specs.contracts.rotation.reopens.Reopens as Reopens
+use Rattle.sy_host.specs.contracts.rotation.rotated.Open as Open
+use Rattle.sy_host.specs.contracts.rotation.rotated.Rotated as Rotated
+use Rattle.sy_host.specs.contracts.rotation.rotated.Writer as FileForm
+use Rattle.sy_host.specs.contracts.listening.unread_file.UnreadFile as UnreadFile
+use Rattle.sy_host.specs.contracts.listening.unread_file.Writing as Writing
 use Rattle.sy_host.specs.contracts.listening.accepting.Acceptor as Acceptor
 use Rattle.sy_host.specs.contracts.listening.connections.Connections as Connections
 use Rattle.sy_host.specs.contracts.listening.served_threads.EndedThreads as EndedThreads
@@ -18,6 +26,7 @@ use Rattle.sy_host.specs.contracts.listening.serving.Serving as Serving
 use Rattle.sy_host.specs.contracts.telling.printing_thread.Printed as Printed
 use Rattle.sy_host.specs.contracts.telling.Teller as Teller
 use Rattle.sy_host.specs.contracts.watching.writing.Writer as Writer
+use Rattle.sy_log.specs.contracts.log.ActionLog as ActionLog
 use Rattle.sy_log.specs.contracts.log.LogGate as Gate
 use Rattle.sy_log.proofs.Sent.{gate_send, gate_sync, log_send, log_sync, printer_send, printing_send, printing_sync}
 use Rattle.sy_watched.proofs.Sent.{file_send, watch_send, watch_sync}
@@ -43,16 +52,79 @@ ended_send = search (sendable, crosses) depth 40 fits 5000
 ended_sync : IsSync EndedThreads.the_row
 ended_sync = search (sendable, crosses) depth 40 fits 5000
 
+noted_send : IsSend ActionLog.the_row
+noted_send = search (log_send, log_sync, sendable, crosses) depth 30
+
+noted_sync : IsSync ActionLog.the_row
+noted_sync = search (log_send, log_sync, sendable, crosses) depth 30
+
+file_writer_send : IsSend FileWriter.the_row
+file_writer_send = search (noted_send, sendable, crosses) depth 80 fits 20000
+
+frame_file_send : IsSend FrameFile.the_row
+frame_file_send = search (noted_send, sendable, crosses) depth 80 fits 20000
+
+file_form_send : IsSend FileForm.the_row
+file_form_send = search (file_writer_send, frame_file_send, sendable, crosses) depth 80 fits 20000
+
+open_file_send : IsSend Open.the_row
+open_file_send = search (file_form_send, sendable, crosses) depth 80 fits 20000
+
+rotated_send : IsSend Rotated.the_row
+rotated_send = search (open_file_send, noted_send, noted_sync, sendable, crosses) depth 80 fits 20000
+
+rotated_sync : IsSync Rotated.the_row
+rotated_sync = search (open_file_send, noted_send, noted_sync, sendable, crosses) depth 80 fits 20000
+
+reopens_send : IsSend Reopens.the_row
+reopens_send = search (rotated_send, rotated_sync, sendable, crosses) depth 80 fits 20000
+
+reopens_sync : IsSync Reopens.the_row
+reopens_sync = search (rotated_send, rotated_sync, sendable, crosses) depth 80 fits 20000
+
+writing_send : IsSend Writing.the_row
+writing_send = search (rotated_send, rotated_sync, reopens_send, reopens_sync, noted_send, sendable, crosses) depth 80 fits 20000
+
+unread_file_send : IsSend UnreadFile.the_row
+unread_file_send = search (writing_send, sendable, crosses) depth 40 fits 5000
+
+unread_file_sync : IsSync UnreadFile.the_row
+unread_file_sync = search (writing_send, sendable, crosses) depth 40 fits 5000
+
 module _ (E : RattleType) where
   pub serving_send : IsSend E → IsSend (Serving.the_row E)
   serving_send a =
-      search (printer_send, printing_send, printing_sync, connections_send, log_send, log_sync, watch_send, watch_sync, sendable, crosses) depth 40
-      fits 5000
+      search (
+        printer_send,
+        printing_send,
+        printing_sync,
+        connections_send,
+        log_send,
+        log_sync,
+        watch_send,
+        watch_sync,
+        unread_file_send,
+        unread_file_sync,
+        sendable,
+        crosses,
+      ) depth 40 fits 5000
 
   pub serving_sync : IsSend E → IsSync (Serving.the_row E)
   serving_sync a =
-      search (printer_send, printing_send, printing_sync, connections_send, log_send, log_sync, watch_send, watch_sync, sendable, crosses) depth 40
-      fits 5000
+      search (
+        printer_send,
+        printing_send,
+        printing_sync,
+        connections_send,
+        log_send,
+        log_sync,
+        watch_send,
+        watch_sync,
+        unread_file_send,
+        unread_file_sync,
+        sendable,
+        crosses,
+      ) depth 40 fits 5000
 
 module _ (E : RattleType) where
   pub teller_send : IsSend E → IsSend (Teller.the_row E)

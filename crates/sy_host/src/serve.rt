@@ -10,7 +10,7 @@ use crate::devices::host_device::HostDevice;
 use crate::ending::control::{Controlled, read_control};
 use crate::ending::finishing::{Ended, finish, out_of_memory, sum_up};
 use crate::ending::left::Store;
-use crate::ending::totals::{told_of, unread_of};
+use crate::ending::totals::told_by;
 use crate::ending::{end_connections, end_loops, half_close};
 use crate::listening::accepting::start_accepting;
 use crate::listening::connector::Connector;
@@ -208,7 +208,7 @@ where
     relay.drain(&rt, most);
     relay.close(&rt);
     let ends = end_connections(rt, alloc, serving, &served.is_ending);
-    let unread = told_of(serving.unread().is_some(), unread_of(ends.as_slice()));
+    let unread = told_by(serving.unread().is_some(), &ends);
     let answer = relay.stop(&rt, workers, ends);
     end_metrics(&rt, alloc, serving, &answer);
     let untaken = sum_up(&rt, alloc, serving, plan.inputs());

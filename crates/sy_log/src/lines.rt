@@ -153,18 +153,13 @@ pub fn peer_line(
 // What a connection sends that is no message.
 fn append_first(text: &mut Vec<u8>, sending: &Sending) -> Result<(), AllocError> {
     let parts = [
-        Part::Text(sending.fault.as_bytes()),
+        Part::Text(sending.what.words().as_bytes()),
         Part::Text(b" at "),
-        Part::Number(sending.at),
+        Part::Number(sending.what.offset()),
         Part::Text(b" in frame "),
         Part::Number(sending.frame),
     ];
-    put_parts(text, &parts)?;
-    if let Some(hint) = sending.hint {
-        put(text, ", which ")?;
-        put(text, hint)?;
-    }
-    Ok(())
+    put_parts(text, &parts)
 }
 
 // Where frames go that carry no message.

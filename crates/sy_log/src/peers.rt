@@ -4,6 +4,7 @@ use crate::untold::Untold;
 use std::alloc::{AllocError, Global};
 use std::net::SocketAddr;
 use sy_runtime::{RunFault, Unread};
+use sy_wire::{FrameFault, MsgFault};
 
 /// How a connection ended: with frames that carried no message, or with a fault, or both.
 #[derive(Clone, Copy)]
@@ -14,15 +15,42 @@ pub struct PeerEnd {
     pub fault: Option<RunFault>,
 }
 
-/// A connection that begins to send what is no message: what its first fault is and where, in which of its frames, and what the bytes there begin
-/// like, where that is said.
+/// What a connection sends that is no message.
+#[derive(Clone, Copy)]
+pub enum NoMessage {
+    /// A frame whose text is none.
+    Text(MsgFault),
+    /// A frame that is too long.
+    Long,
+    /// What begins no frame.
+    Unframed,
+}
+
+impl NoMessage {
+    /// The number and the name of its fault, as `5 AppName`.
+    pub fn words(self) -> &'static str {
+        match self {
+            NoMessage::Text(fault) => fault.code.words(),
+            NoMessage::Long => FrameFault::TooLong.words(),
+            NoMessage::Unframed => FrameFault::BadLength.words(),
+        }
+    }
+
+    /// Where that is shown, in bytes from the first.
+    pub fn offset(self) -> u64 {
+        match self {
+            NoMessage::Text(fault) => fault.offset as u64,
+            NoMessage::Long | NoMessage::Unframed => 0,
+        }
+    }
+}
+
+/// A connection that begins to send what is no message, and in which of its frames, from 1.
 #[derive(Clone, Copy)]
 pub struct Sending {
     pub peer: SocketAddr,
-    pub fault: &'static str,
-    pub at: u64,
+    pub what: NoMessage,
     pub frame: u64,
-    pub hint: Option<&'static str>,
 }
 
 /// How the first of the connections ended that ended so and weren't told yet, and how many others there are; and with what

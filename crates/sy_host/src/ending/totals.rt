@@ -51,6 +51,13 @@ pub fn told_of(is_kept: bool, unread: u128) -> Option<u128>
     None
 }
 
+/// What is told of the frames of these connections that carried no message.
+pub fn told_by(is_kept: bool, ends: &Vec<ConnEnd>) -> Option<u128>
+    ensures { spec.unread_of ends.now.items < 2 ^ 128 → spec.IsTold (spec.unread_of ends.now.items) result }
+{
+    told_of(is_kept, unread_of(ends.as_slice()))
+}
+
 /// The numbers of a relay that still holds so many entries, of which this is told of frames that carried no message.
 pub fn numbers_of(accounts: &Accounts, held: u128, unread: Option<u128>) -> Numbers<'_>
     ensures numbers { result ≡ record { taken = accounts.now.totals.taken; lost = spec.lost accounts.now.totals; held = held; unread = unread; actions = result.actions } }

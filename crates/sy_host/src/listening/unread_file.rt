@@ -13,6 +13,7 @@ use std::sync::{Arc, Mutex, Wait};
 use std::thread;
 use std::time::{Clock, Duration};
 use sy_log::log::ActionLog;
+use sy_log::peers::NoMessage;
 use sy_report::texts::reason::Reason;
 use sy_runtime::NotKept;
 use sy_unread::{About, append_records};
@@ -23,34 +24,30 @@ const LOOKS: u32 = 10;
 
 const LOOK: u64 = 100;
 
-/// A frame that carries no message, and where it came: which of its connection it is, from 1, its fault and where that is shown, and of one that is
-/// too long its length.
+/// A frame that carries no message, and where it came: which of its connection it is, from 1, what is wrong, and of one that is too long its length.
 #[derive(Clone, Copy)]
 pub struct UnreadFrame<'a> {
     pub port: u16,
     pub peer: SocketAddr,
     pub frame: u64,
-    pub fault: &'static str,
-    pub at: u64,
+    pub what: NoMessage,
     pub length: Option<u64>,
     pub text: &'a [u8],
 }
 
-/// The unread file of a relay, which its connections share. It is written to at its end, and opened anew as archives are.
+// The unread file, as who writes to it has it.
 #[derive(Drop)]
-pub struct UnreadFile {
+struct Writing {
     alloc: Global,
     // the relay's name
     relay: Vec<u8>,
     file: Arc<Rotated>,
     reopens: Arc<Reopens>,
     log: ActionLog,
-    is_ending: Arc<AtomicBool>,
-    // whether it fails; who has the lock writes
-    fails: Mutex<bool>,
+    fails: bool,
 }
 
-impl UnreadFile {
+impl Writing {
     // Of a file that was opened.
     fn new(
         rt: HostRuntime,
@@ -58,43 +55,24 @@ impl UnreadFile {
         name: &str,
         file: File,
         relay: &[u8],
-        signals: &Signals,
+        reopens: &Arc<Reopens>,
         log: ActionLog,
-    ) -> Result<UnreadFile, AllocError> {
+    ) -> Result<Writing, AllocError> {
         let logs = (log.try_clone()?, log.try_clone()?);
         let name = String::from_str(alloc, name)?;
-        let asked = signals.reopens.asked();
-        let rotated = Rotated::new(rt, alloc, Form::Frames, name, file, asked, logs);
+        let rotated = Rotated::new(rt, alloc, Form::Frames, name, file, reopens.asked(), logs);
         let Ok(file) = Arc::new(alloc, rotated) else {
             return Err(AllocError);
         };
-        signals.reopens.push(Arc::try_clone(&file)?)?;
-        Ok(UnreadFile {
+        reopens.push(Arc::try_clone(&file)?)?;
+        Ok(Writing {
             alloc,
             relay: Vec::from_slice(alloc, relay)?,
             file,
-            reopens: Arc::try_clone(&signals.reopens)?,
-            is_ending: Arc::try_clone(&signals.is_ending)?,
+            reopens: Arc::try_clone(reopens)?,
             log,
-            fails: Mutex::new(false),
+            fails: false,
         })
-    }
-
-    /// The file of that name of the relay of that name, which is opened for appending, and how many bytes of a part of a frame were cut off at its end.
-    /// Why a write fails is noted in that log.
-    pub fn open(
-        rt: HostRuntime,
-        alloc: Global,
-        name: &str,
-        relay: &[u8],
-        signals: &Signals,
-        log: ActionLog,
-    ) -> Result<(UnreadFile, u64), Refusal> {
-        let (file, cut) = open_cut(&rt, alloc, name)?;
-        match UnreadFile::new(rt, alloc, name, file, relay, signals, log) {
-            Ok(opened) => Ok((opened, cut)),
-            Err(_) => Err(Refusal::Host(Reason::NoMemory)),
-        }
     }
 
     // Writes frames once.
@@ -124,8 +102,8 @@ impl UnreadFile {
             input: frame.port,
             peer: peer.as_str(),
             frame: frame.frame,
-            fault: frame.fault,
-            at: frame.at,
+            fault: frame.what.words(),
+            at: frame.what.offset(),
             length: frame.length,
         };
         let mut records = Vec::new(self.alloc);
@@ -145,24 +123,51 @@ impl UnreadFile {
     }
 
     // The same, and notes whether it fails; whether it was written.
-    fn try_once<R: Wait>(&self, rt: &R, frame: &UnreadFrame<'_>) -> bool {
-        let mut fails = self.fails.lock(rt);
+    fn try_once(&mut self, frame: &UnreadFrame<'_>) -> bool {
         match self.write(frame) {
             Ok(()) => {
-                if *fails {
+                if self.fails {
                     self.log.end();
                 }
-                *fails = false;
+                self.fails = false;
                 true
             }
             Err(reason) => {
-                if !*fails {
+                if !self.fails {
                     self.log.begin(reason);
                 }
-                *fails = true;
+                self.fails = true;
                 false
             }
         }
+    }
+}
+
+/// The unread file of a relay, which its connections share. It is written to at its end, and opened anew as archives are.
+#[derive(Drop)]
+pub struct UnreadFile {
+    writing: Mutex<Writing>,
+    is_ending: Arc<AtomicBool>,
+}
+
+impl UnreadFile {
+    /// The file of that name of the relay of that name, which is opened for appending, and how many bytes of a part of a frame were cut off at its end.
+    /// Why a write fails is noted in that log.
+    pub fn open(
+        rt: HostRuntime,
+        alloc: Global,
+        name: &str,
+        relay: &[u8],
+        signals: &Signals,
+        log: ActionLog,
+    ) -> Result<(UnreadFile, u64), Refusal> {
+        let (file, cut) = open_cut(&rt, alloc, name)?;
+        let made = Writing::new(rt, alloc, name, file, relay, &signals.reopens, log);
+        let (Ok(writing), Ok(is_ending)) = (made, Arc::try_clone(&signals.is_ending)) else {
+            return Err(Refusal::Host(Reason::NoMemory));
+        };
+        let writing = Mutex::new(writing);
+        Ok((UnreadFile { writing, is_ending }, cut))
     }
 
     // Waits before a failed write is tried again; whether it is to be.
@@ -179,7 +184,7 @@ impl UnreadFile {
     /// Writes what stands there of a frame, however long that takes. Where it can't be written it is tried again each second, until the relay ends.
     pub fn keep<R: Wait + Clock>(&self, rt: &R, frame: &UnreadFrame<'_>) -> Result<(), NotKept> {
         for _ in rt.forever() {
-            if self.try_once(rt, frame) {
+            if self.writing.lock(rt).try_once(frame) {
                 return Ok(());
             }
             if !self.wait(rt) {

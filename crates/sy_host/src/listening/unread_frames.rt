@@ -6,7 +6,7 @@ use std::net::SocketAddr;
 use std::sync::Wait;
 use std::sync::atomic::{AtomicBool, AtomicU64, Ordering};
 use std::time::Clock;
-use sy_log::peers::Sending;
+use sy_log::peers::{NoMessage, Sending};
 use sy_runtime::{NotKept, Unread, UnreadSink};
 use sy_wire::Sink;
 
@@ -40,22 +40,15 @@ impl<'a, E: Sink + Drop> Coming<'a, E> {
     }
 
     // Keeps what it sent in the relay's unread file, if there is one, and has the first of it told.
-    fn keep<R: Wait + Clock>(
-        &self,
-        rt: &R,
-        frame: &UnreadFrame<'_>,
-        hint: Option<&'static str>,
-    ) -> Result<(), NotKept> {
+    fn keep<R: Wait + Clock>(&self, rt: &R, frame: &UnreadFrame<'_>) -> Result<(), NotKept> {
         if let Some(file) = self.serving.unread() {
             file.keep(rt, frame)?;
         }
         if !self.is_told.swap(true, Ordering::SeqCst) {
             let sending = Sending {
                 peer: self.peer,
-                fault: frame.fault,
-                at: frame.at,
+                what: frame.what,
                 frame: frame.frame,
-                hint,
             };
             self.serving
                 .log()
@@ -78,11 +71,10 @@ impl<E: Sink + Drop> UnreadSink for UnreadFrames<'_, E> {
             port: coming.at.port,
             peer: coming.peer,
             frame: why.frame.saturating_add(coming.long()),
-            fault: why.fault.code.words(),
-            at: why.fault.offset as u64,
+            what: NoMessage::Text(why.fault),
             length: None,
             text,
         };
-        coming.keep(rt, &frame, None)
+        coming.keep(rt, &frame)
     }
 }

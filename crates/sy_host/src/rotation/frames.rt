@@ -16,7 +16,7 @@ pub struct Extent {
 
 // How many bytes the frame of a text takes.
 fn size_of(length: usize) -> u64 {
-    let mut size = length as u64 + 1;
+    let mut size = (length as u64).saturating_add(1);
     let mut left = length;
     for _ in 0..20 {
         size = size.saturating_add(1);
