@@ -77,7 +77,7 @@ pub no_relay : RelayLine
 no_relay = record { name = []; file = []; address = [] }
 
 pub no_entry : EntryLine
-no_entry = record { relay = []; port = 0 }
+no_entry = record { relay = []; port = 0; is_whole = false }
 
 pub no_protect : ProtectLine
 no_protect = record { selector = []; relay = []; action = [] }
@@ -127,7 +127,7 @@ is_kept w = not (is_skipped w)
 
 pub again_kept : (o w : Words) → Repeats o w → (is_skipped o ≡ false) × (is_skipped w ≡ false)
 again_kept o w (Repeats.same_name name first second) = (refl, refl)
-again_kept o w (Repeats.same_entry ws) = (refl, refl)
+again_kept o w (Repeats.same_entry relay port first second) = (refl, refl)
 again_kept o w (Repeats.same_protection ws) = (refl, refl)
 again_kept o w (Repeats.same_spare ws) = (refl, refl)
 
