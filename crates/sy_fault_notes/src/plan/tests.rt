@@ -35,7 +35,8 @@ fn push_names(note: &mut Note, name: &[u8], names: &[&'static [u8]]) {
 /// Says that a piece of a selector is no facility, and what it may be.
 pub fn push_facility(alloc: Global, note: &mut Note, name: &[u8]) -> Result<(), AllocError> {
     let names = names_in(alloc, facility_names(), &[b"*"])?;
-    note.why.put(&[Part::Text(name), Part::Text(b" is no facility")]);
+    note.why
+        .put(&[Part::Text(name), Part::Text(b" is no facility")]);
     push_names(note, name, names.as_slice());
     Ok(())
 }
@@ -43,7 +44,8 @@ pub fn push_facility(alloc: Global, note: &mut Note, name: &[u8]) -> Result<(), 
 /// Says that a piece of a selector is no severity, and what it may be.
 pub fn push_severity(alloc: Global, note: &mut Note, name: &[u8]) -> Result<(), AllocError> {
     let names = names_in(alloc, severity_names(), &[b"none", b"*"])?;
-    note.why.put(&[Part::Text(name), Part::Text(b" is no severity")]);
+    note.why
+        .put(&[Part::Text(name), Part::Text(b" is no severity")]);
     push_names(note, name, names.as_slice());
     Ok(())
 }

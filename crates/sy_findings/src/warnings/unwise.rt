@@ -2,7 +2,7 @@
 
 use crate::warnings::cautions::{
     after_stop, mark_above_size, no_effect, no_post, no_queue, outside_input, same_file,
-    uncalled_ruleset, unread_in_archive, unreached_action,
+    uncalled_ruleset, unreached_action, unread_in_archive,
 };
 use crate::warnings::{Caution, Looked, Warnings};
 use sy_places::relay_file::contents::{Item, What};
