@@ -57,9 +57,7 @@ fn is_among(actions: &[SiteAction], relay: u32, action: u32) -> bool
 fn is_input_among(inputs: &[SiteInput], input: SiteInput) -> bool
     ensures { result ≡ list_any (λ entry. spec.same_input entry input) inputs.now }
 {
-    inputs
-        .iter()
-        .any(|entry| entry.relay == input.relay && entry.input == input.input)
+    inputs.iter().any(|entry| entry.relay == input.relay && entry.input == input.input)
 }
 
 /// The relays of a site, the inputs that messages of its policy enter by, what of them is to come to which archive, and

@@ -99,6 +99,7 @@ fn same_first_word(a: &[u8], b: &[u8]) -> bool
     }
 }
 
+#[tactic(auto, using(crate::proofs::lemmas::texts::Again::begin_twice, crate::proofs::lemmas::texts::Again::alike_behind, crate::proofs::lemmas::texts::Again::twice_apart, crate::proofs::lemmas::texts::Again::twice_none))]
 fn same_two_words(a: &[u8], b: &[u8]) -> bool
     ensures same { result ≡ true → spec.BeginAlikeTwice (words a.now) (words b.now) }
     ensures apart { result ≡ false → spec.BeginAlikeTwice (words a.now) (words b.now) → ⊥ }

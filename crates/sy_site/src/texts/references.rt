@@ -63,6 +63,7 @@ pub fn entries(
 }
 
 // Puts the input of a line behind the others, where it is an entry line that ends in `whole`.
+#[tactic(auto, using(crate::proofs::lemmas::sites::More::none_of, crate::proofs::lemmas::sites::More::plain_entry, crate::proofs::lemmas::sites::More::whole_entry))]
 fn put_whole_entry(
     entries: &mut Vec<SiteInput>,
     given: &Given<'_>,

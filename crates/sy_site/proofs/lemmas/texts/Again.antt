@@ -35,15 +35,25 @@ pub begin_twice : (a b : Words) (word : List ℕ) (first second : Words) → a �
 begin_twice a b word first second e f (BeginAlike.alike next x y) = rw (e, f) (BeginAlikeTwice.alike_twice word next x y)
 
 -- two lines that begin alike with two words do so behind the first
-pub alike_behind : (a b : Words) (word : List ℕ) (first second : Words) → BeginAlikeTwice a b → a ≡ word ∷ first → b ≡ word ∷ second → BeginAlike first second
-alike_behind a b word first second (BeginAlikeTwice.alike_twice w next x y) e f =
+behind_twice : (a b : Words) (word : List ℕ) (first second : Words) → BeginAlikeTwice a b → a ≡ word ∷ first → b ≡ word ∷ second → BeginAlike first second
+behind_twice a b word first second (BeginAlikeTwice.alike_twice w next x y) e f =
     begin_alike first second next x y (sym (behind_first e)) (sym (behind_first f))
 
-pub twice_first : (a b : Words) (word : List ℕ) (first : Words) → BeginAlikeTwice a b → a ≡ word ∷ first → is_kind word b ≡ true
-twice_first a b word first (BeginAlikeTwice.alike_twice w next x y) e = (bytes_eq-Decides w word).1 (first_same e)
+first_twice : (a b : Words) (word : List ℕ) (first : Words) → BeginAlikeTwice a b → a ≡ word ∷ first → is_kind word b ≡ true
+first_twice a b word first (BeginAlikeTwice.alike_twice w next x y) e = (bytes_eq-Decides w word).1 (first_same e)
 
-pub twice_none : (a b : Words) → BeginAlikeTwice a b → a ≡ [] → ⊥
-twice_none a b (BeginAlikeTwice.alike_twice w next x y) e = cc
+none_twice : (a b : Words) → BeginAlikeTwice a b → a ≡ [] → ⊥
+none_twice a b (BeginAlikeTwice.alike_twice w next x y) e = cc
+
+pub alike_behind : (a b : Words) (word : List ℕ) (first second : Words) → a ≡ word ∷ first → b ≡ word ∷ second → (BeginAlike first second → ⊥)
+    → BeginAlikeTwice a b → ⊥
+alike_behind a b word first second e f apart twice = apart (behind_twice a b word first second twice e f)
+
+pub twice_apart : (a b : Words) (word : List ℕ) (first : Words) → a ≡ word ∷ first → is_kind word b ≡ false → BeginAlikeTwice a b → ⊥
+twice_apart a b word first e other twice = false≢true (sym other ∙ first_twice a b word first twice e)
+
+pub twice_none : (a b : Words) → a ≡ [] → BeginAlikeTwice a b → ⊥
+twice_none a b e twice = none_twice a b twice e
 
 -- ---- given again
 
