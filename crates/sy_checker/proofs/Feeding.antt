@@ -111,7 +111,7 @@ no_post plan queue most all none h =
 -- ---- feeders
 
 zero_input : Input
-zero_input = record { port = 0; flow = control.Off; list = 0; queue = 0 }
+zero_input = record { port = 0; flow = control.Off; list = 0; queue = 0; unread_file = None }
 
 none_full : flow.NoWait ≡ flow.Full → ⊥
 none_full e = cc

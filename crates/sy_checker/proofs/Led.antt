@@ -70,7 +70,7 @@ pub list_there : (site : Site) → IsLawful site → (input : SiteInput) → IsI
 list_there site law input is =
     let plan = plan_at site input.relay in
     let whole = whole_there site law input is in
-    let none : Input = record { port = 0; flow = control.Off; list = 0; queue = 0 } in
+    let none : Input = record { port = 0; flow = control.Off; list = 0; queue = 0; unread_file = None } in
     let low = whole.input_lists input.input none (place_there site input is) in
     let most = whole.rulesets_before in
     record {

@@ -66,7 +66,7 @@ pub input_used : (plan : Plan) (list : ℕ) → is_input_list plan list ≡ true
 input_used plan list is = second_so (is_some (queue_at plan list)) (is_input_list plan list) is
 
 no_input : Input
-no_input = record { port = 0; flow = control.Off; list = 0; queue = 0 }
+no_input = record { port = 0; flow = control.Off; list = 0; queue = 0; unread_file = None }
 
 pub input_list : (site : Site) (input : SiteInput) → IsInput site input → is_input_list (plan_at site input.relay) (list_of site input) ≡ true
 unfolding no_input

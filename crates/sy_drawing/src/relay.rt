@@ -26,7 +26,7 @@ fn flow_text(flow: FlowControl) -> &'static str {
     }
 }
 
-fn push_input(words: &mut Words, drawing: Drawing<'_>, at: SiteInput, input: Input) {
+fn push_input(words: &mut Words, drawing: Drawing<'_>, at: SiteInput, input: &Input) {
     let node = Node {
         relay: at.relay,
         thing: Thing::Input(at.input),
@@ -52,7 +52,7 @@ fn append_inputs(words: &mut Words, drawing: Drawing<'_>, relay: u32, plan: &Pla
                 relay,
                 input: number,
             };
-            push_input(words, drawing, at, *input);
+            push_input(words, drawing, at, input);
         }
     }
 }

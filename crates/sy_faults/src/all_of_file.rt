@@ -6,9 +6,9 @@ use crate::mending::mended_text::Draft;
 use crate::mending::plan::{Mended, follows, mend_plan, object_with};
 use std::alloc::{AllocError, Global};
 use sy_fault_notes::plan::notes::{example, object_at, push_plan_fault};
-use sy_fault_notes::plan::parameter_rows::{row_of, tables_of};
+use sy_fault_notes::plan::parameter_rows::row_of;
 use sy_fault_notes::script::notes::push_script_fault;
-use sy_places::relay_file::outline::{Object, ObjectWord, outline_script, value_of};
+use sy_places::relay_file::outline::{Object, ObjectWord, outline_script};
 use sy_places::relay_file::places::Places;
 use sy_places::site_file::source::place_of_line;
 use sy_report::outcome::halt::Halt;
@@ -147,12 +147,11 @@ fn plan_note(
 
 // Puts a parameter that an object misses behind further ones, with a value that it may have.
 fn push_further(further: &mut Vec<u8>, object: Object<'_>, name: &[u8]) -> Result<(), AllocError> {
-    let tables = tables_of(object.word, value_of(object.params, b"type"));
-    if let Some(row) = row_of(&tables, name) {
+    if let Some(row) = row_of(object, name) {
         further.extend_from_slice(b" ")?;
         further.extend_from_slice(row.name)?;
         further.extend_from_slice(b"=\"")?;
-        further.extend_from_slice(example(row.values))?;
+        further.extend_from_slice(example(row.shape))?;
         further.extend_from_slice(b"\"")?;
     }
     Ok(())

@@ -38,7 +38,7 @@ pub enum Caution {
     MarkAboveSize,
     /// An action or a call stands behind a stop.
     AfterStop,
-    /// Two archives of one relay are one file.
+    /// Two archives of one relay are one file, or an archive and what keeps the unread frames of an input.
     SameFile,
 }
 

@@ -21,7 +21,7 @@ action = record {
 -- One input that does not wait, of port 1; the main queue by its defaults with its one worker; and the one list, which runs that archive.
 abbrev pub plan : Plan
 plan = record {
-  inputs = record { port = 1; flow = flow.Off; list = 0; queue = 0 } ∷ [];
+  inputs = record { port = 1; flow = flow.Off; list = 0; queue = 0; unread_file = None } ∷ [];
   queues = queue_parameters kind.MainQueue [] ∷ [];
   workers = 0 ∷ [];
   actions = action ∷ [];

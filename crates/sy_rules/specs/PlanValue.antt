@@ -44,6 +44,7 @@ input_part all i = record {
   flow = i.flow;
   list = list_of_input all i.ruleset_name;
   queue = queue_or_main (slice_get (list_queues all) (list_of_input all i.ruleset_name));
+  unread_file = i.unread_file;
 }
 
 abbrev pub action_part : ℕ → ActionParameters → Action

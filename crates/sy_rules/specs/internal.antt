@@ -1,6 +1,5 @@
 -- What only private functions cite.
 pub mod Views
-pub mod ItemViews
 pub mod Seen
 pub mod Tables
 pub mod TextTables

@@ -13,8 +13,12 @@ mod parts;
 pub mod plan;
 
 pub use fault::{FaultCode, PlanFault};
+pub use items::outline::{Item, outline};
 pub use lists::occurrence::Occurrence;
+pub use parameters::by_name::parameter_named;
+pub use parameters::kind::Kind;
 pub use parameters::objects::Destination;
+pub use parameters::rows::{Row as ParameterRow, Shape, parameter_rows};
 pub use parameters::settings::{FlowControl, QueueParameters};
 pub use parts::{Action, Input};
 pub use plan::Plan;

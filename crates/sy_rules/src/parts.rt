@@ -10,7 +10,7 @@ use crate::parameters::settings::FlowControl;
 use sy_script::Items;
 
 /// An input of a relay.
-#[derive(Clone, Copy, Debug, PartialEq, Eq)]
+#[derive(Drop)]
 pub struct Input {
     /// 1 to 65,535; inputs are named by it
     pub port: u16,
@@ -19,6 +19,8 @@ pub struct Input {
     pub list: u32,
     /// the queue that they are put into
     pub queue: u32,
+    /// the file that keeps its frames without a message, where it names one
+    pub unread_file: Option<Items<u8>>,
 }
 
 /// An action of a relay.

@@ -3,7 +3,7 @@ ghost use Rattle.std.specs.Prelude.{◌≡◌, ◌<◌, ◌⊎◌, ◌∷◌, []
 ghost use Rattle.sy_rules.specs.Faults.{IsAnswered, no_memory};
 ghost use Rattle.sy_rules.specs.check.FaultsThere.{HasFault, HasNoFault};
 ghost use Rattle.sy_rules.specs.internal.ClassFlows.{AreFlows};
-ghost use Rattle.sy_rules.specs.internal.ItemViews.{item, placed};
+ghost use Rattle.sy_rules.specs.items.ItemViews.{item, placed};
 ghost use Rattle.sy_rules.specs.internal.Loading.{faults_of_its_lists};
 ghost use Rattle.sy_rules.specs.items.Outline.{items, placed_items};
 ghost use Rattle.sy_rules.specs.PassPlan as pass;
@@ -142,6 +142,7 @@ fn pass(alloc: Global) -> Result<Plan, AllocError>
         flow: FlowControl::Off,
         list: 0,
         queue: 0,
+        unread_file: None,
     };
     let inputs = one(alloc, input)?;
     let list_queues = one(alloc, None)?;

@@ -45,8 +45,8 @@ abbrev pub properties : Table
 properties =
     (codes "$msg", property.Field field.Msg) ∷ (codes "$rawmsg", property.Field field.RawMsg) ∷ (codes "$hostname", property.Field field.Hostname)
     ∷ (codes "$app-name", property.Field field.AppName) ∷ (codes "$procid", property.Field field.ProcId) ∷ (codes "$msgid", property.Field field.MsgId)
-    ∷ (codes "$syslogfacility-text", property.Text part.Facility) ∷ (codes "$syslogseverity-text", property.Text part.Severity)
-    ∷ (codes "$syslogfacility", property.Number part.Facility) ∷ (codes "$syslogseverity", property.Number part.Severity) ∷ []
+    ∷ (codes "$syslogfacility", property.Number part.Facility) ∷ (codes "$syslogseverity", property.Number part.Severity)
+    ∷ (codes "$syslogfacility-text", property.Text part.Facility) ∷ (codes "$syslogseverity-text", property.Text part.Severity) ∷ []
 
 abbrev pub lookup : Table → List ℕ → Option Property
 lookup [] name = None

@@ -18,6 +18,7 @@ pub mod verdict;
 
 pub use expr::{Expr, eval, eval_class};
 pub use fault::{FaultCode, FaultText, SelectFault};
-pub use names::{facility_text, severity_text};
+pub use names::{facility_names, facility_text, severity_names, severity_text};
+pub use property::properties;
 pub use selector::Selector;
 pub use verdict::Verdict;

@@ -7,7 +7,7 @@ ghost use Rattle.sy_select.specs.Names as spec;
 use sy_wire::Class;
 
 /// The names of facilities, each with its number. The first of a number is the one that its text shows.
-const FACILITIES: [(&[u8], u8); 21] = [
+static FACILITIES: [(&[u8], u8); 21] = [
     (b"kern", 0),
     (b"user", 1),
     (b"mail", 2),
@@ -32,7 +32,7 @@ const FACILITIES: [(&[u8], u8); 21] = [
 ];
 
 /// The names of severities, each with its number.
-const SEVERITIES: [(&[u8], u8); 11] = [
+static SEVERITIES: [(&[u8], u8); 11] = [
     (b"emerg", 0),
     (b"panic", 0),
     (b"alert", 1),
@@ -45,6 +45,20 @@ const SEVERITIES: [(&[u8], u8); 11] = [
     (b"info", 6),
     (b"debug", 7),
 ];
+
+/// The names that a selector has for facilities, each with its number, by rising numbers. The first of a number is its text.
+pub fn facility_names() -> &'static [(&'static [u8], u8)]
+    ensures { map (λ k. (k.0.now, k.1)) result.now ≡ spec.facilities }
+{
+    &FACILITIES
+}
+
+/// The names that a selector has for severities, each with its number, by rising numbers. The first of a number is its text.
+pub fn severity_names() -> &'static [(&'static [u8], u8)]
+    ensures { map (λ k. (k.0.now, k.1)) result.now ≡ spec.severities }
+{
+    &SEVERITIES
+}
 
 fn same_name(a: &[u8], b: &[u8]) -> bool
     ensures { result ≡ str_eq_ignore_ascii_case a.now b.now }

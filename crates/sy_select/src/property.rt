@@ -32,18 +32,25 @@ pub enum Property {
 }
 
 /// The names of the properties.
-const PROPERTIES: [(&[u8], Property); 10] = [
+static PROPERTIES: [(&[u8], Property); 10] = [
     (b"$msg", Property::Field(Field::Msg)),
     (b"$rawmsg", Property::Field(Field::RawMsg)),
     (b"$hostname", Property::Field(Field::Hostname)),
     (b"$app-name", Property::Field(Field::AppName)),
     (b"$procid", Property::Field(Field::ProcId)),
     (b"$msgid", Property::Field(Field::MsgId)),
-    (b"$syslogfacility-text", Property::Text(Part::Facility)),
-    (b"$syslogseverity-text", Property::Text(Part::Severity)),
     (b"$syslogfacility", Property::Number(Part::Facility)),
     (b"$syslogseverity", Property::Number(Part::Severity)),
+    (b"$syslogfacility-text", Property::Text(Part::Facility)),
+    (b"$syslogseverity-text", Property::Text(Part::Severity)),
 ];
+
+/// The properties that a test may ask, each by its name with the `$`.
+pub fn properties() -> &'static [(&'static [u8], Property)]
+    ensures { map (λ k. (k.0.now, k.1)) result.now ≡ spec.properties }
+{
+    &PROPERTIES
+}
 
 fn lookup(mut table: &[(&[u8], Property)], name: &[u8]) -> Option<Property>
     ensures { result ≡ spec.lookup (map (λ k. (k.0.now, k.1)) table.entry.now) name.now }

@@ -28,6 +28,8 @@ pub record Site : Type 0 where
   pub policy : ℕ
   pub relays : List Relay
   pub entries : List SiteInput
+  -- those of which nothing that comes in whole may be dropped
+  pub whole_entries : List SiteInput
   pub protections : List Protection
   -- the spare actions: what is lost at or after one of them is no loss
   pub spares : List SiteAction
@@ -65,6 +67,14 @@ target_of site (Some action) = leads action.destination where
 
 abbrev pub target : Site → SiteAction → Option SiteInput
 target site action = target_of site (slice_get (plan_at site action.relay).actions action.action)
+
+-- ---- whole entries
+
+abbrev pub same_input : SiteInput → SiteInput → Bool
+same_input a b = a.relay == b.relay && a.input == b.input
+
+abbrev pub is_whole : Site → SiteInput → Bool
+is_whole site input = list_any (λ entry. same_input entry input) site.whole_entries
 
 -- ---- what is spare
 

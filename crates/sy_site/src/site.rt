@@ -54,6 +54,12 @@ fn is_among(actions: &[SiteAction], relay: u32, action: u32) -> bool
         .any(|a| a.relay == relay && a.action == action)
 }
 
+fn is_input_among(inputs: &[SiteInput], input: SiteInput) -> bool
+    ensures { result ≡ list_any (λ entry. spec.same_input entry input) inputs.now }
+{
+    inputs.iter().any(|entry| entry.relay == input.relay && entry.input == input.input)
+}
+
 /// The relays of a site, the inputs that messages of its policy enter by, what of them is to come to which archive, and
 /// which actions are spare: what is lost at or after one of these is no loss.
 ///
@@ -65,6 +71,8 @@ pub struct Site {
     policy: u32,
     relays: Vec<Relay>,
     entries: Vec<SiteInput>,
+    // those that end in `whole`
+    whole_entries: Vec<SiteInput>,
     protections: Vec<Protection>,
     spares: Vec<SiteAction>,
     // what each action of each relay leads to
@@ -152,6 +160,13 @@ impl Site {
         ensures { result.now ≡ self.now.entries }
     {
         self.entries.as_slice()
+    }
+
+    /// Whether an input is a whole entry: its entry line ends in `whole`, so that nothing that comes in whole there may be dropped.
+    pub fn is_whole(&self, input: SiteInput) -> bool
+        ensures { result ≡ spec.is_whole self.now input }
+    {
+        is_input_among(self.whole_entries.as_slice(), input)
     }
 
     /// What is protected, in the order of the file.

@@ -18,7 +18,7 @@ use Rattle.sy_rules.specs.lists.Sets.{Bits}
 use Rattle.sy_rules.specs.lists.Work.{Due}
 
 abbrev pub input_at : Plan → ℕ → Input
-input_at plan input = slice_index_or plan.inputs input (record { port = 0; flow = control.Off; list = 0; queue = 0 })
+input_at plan input = slice_index_or plan.inputs input (record { port = 0; flow = control.Off; list = 0; queue = 0; unread_file = None })
 
 -- the queue that an input's messages are put into
 abbrev pub queue_of_input : Plan → ℕ → ℕ

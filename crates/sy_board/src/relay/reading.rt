@@ -22,7 +22,7 @@ pub(crate) fn way_of(plan: &Plan, input: u32) -> (Flow, usize)
     ensures flow { result.0 ≡ spec.flow_at plan.now input }
     ensures queue { result.1 ≡ spec.queue_of_input plan.now input }
 {
-    let input = plan.inputs()[input as usize];
+    let input = &plan.inputs()[input as usize];
     (flow_of(input.flow), input.queue as usize)
 }
 

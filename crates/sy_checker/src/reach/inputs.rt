@@ -35,12 +35,12 @@ pub fn next_in(set: u64, from: u32) -> Option<u32>
     Some(from + rest.trailing_zeros())
 }
 
-/// The input's port, flow control, list and queue.
-pub fn input_at(site: &Site, input: SiteInput) -> Input
+/// The input, as its relay's plan has it.
+pub fn input_at(site: &Site, input: SiteInput) -> &Input
     requires there { IsInput site.now input }
-    ensures { result ≡ plans.input_at (plan_at site.now input.relay) input.input }
+    ensures { result.now ≡ plans.input_at (plan_at site.now input.relay) input.input }
 {
-    site.plan(input.relay).inputs()[input.input as usize]
+    &site.plan(input.relay).inputs()[input.input as usize]
 }
 
 /// The list that its messages execute.

@@ -1,7 +1,7 @@
 //! Notes of the faults of a relay's plan: a script that is read, and says nothing that a relay can do.
 
 use crate::file_line::is_same_number;
-use crate::plan::parameter_rows::{Values, names_of, push_list, push_parameter, row_of, tables_of};
+use crate::plan::parameter_rows::{names_of, push_list, push_parameter, row_of};
 use crate::plan::tests::{
     push_facility, push_operator, push_severity, push_shape, push_unknown_property,
 };
@@ -14,7 +14,7 @@ use sy_report::texts::near::nearest;
 use sy_report::texts::note::Note;
 use sy_report::texts::parts::Part;
 use sy_report::texts::words::Words;
-use sy_rules::{FaultCode, PlanFault};
+use sy_rules::{FaultCode, PlanFault, Shape};
 use sy_script::tree::Param;
 
 /// The word of an object, with its article.
@@ -133,8 +133,7 @@ fn push_unknown_parameter(
     });
     note.why
         .put(&[Part::Text(b" has no parameter "), Part::Text(name)]);
-    let tables = tables_of(object.word, value_of(object.params, b"type"));
-    let names = names_of(alloc, &tables)?;
+    let names = names_of(alloc, object)?;
     match nearest(name, names.as_slice()) {
         Some(near) => note.change.put(&[Part::Text(near)]),
         None => note.change.say(
@@ -153,8 +152,7 @@ fn push_unknown(
 ) -> Result<(), AllocError> {
     let word = fault.word.as_slice();
     if word.first() == Some(&b'$') {
-        push_unknown_property(note, word);
-        return Ok(());
+        return push_unknown_property(alloc, note, word);
     }
     match param_at(places.objects, fault.span.start) {
         Some((object, _)) => push_unknown_parameter(alloc, note, object, word),
@@ -165,16 +163,16 @@ fn push_unknown(
 // ---- what is lacking, or there twice
 
 /// A value that a parameter may have, to show how it is written.
-pub fn example(values: Values) -> &'static [u8] {
+pub fn example(values: Shape) -> &'static [u8] {
     match values {
-        Values::OneOf([first, ..]) => first,
-        Values::Number(_, _) => b"6514",
+        Shape::OneOf([first, ..]) => first,
+        Shape::Number(_, _) => b"6514",
         _ => b"..",
     }
 }
 
 // A value that a missing parameter may have: the type of an action with a target is that of forwards.
-fn example_in(object: Object<'_>, name: &[u8], values: Values) -> &'static [u8] {
+fn example_in(object: Object<'_>, name: &[u8], values: Shape) -> &'static [u8] {
     if name == b"type".as_slice() && first_param(object, b"target").is_some() {
         return b"omfwd";
     }
@@ -186,12 +184,11 @@ fn push_missing(note: &mut Note, object: Option<Object<'_>>, name: &[u8]) {
     let Some(object) = object else {
         return;
     };
-    let tables = tables_of(object.word, value_of(object.params, b"type"));
-    if let Some(row) = row_of(&tables, name) {
+    if let Some(row) = row_of(object, name) {
         push_parameter(
             &mut note.change,
             row.name,
-            example_in(object, row.name, row.values),
+            example_in(object, row.name, row.shape),
         );
     }
 }
@@ -279,8 +276,6 @@ fn push_lists(note: &mut Note, fault: &PlanFault) {
 fn push_other(note: &mut Note, places: Places<'_>, fault: &PlanFault) {
     let word = fault.word.as_slice();
     match fault.code {
-        FaultCode::Facility => push_facility(note, word),
-        FaultCode::Severity => push_severity(note, word),
         FaultCode::Shape => push_shape(note, word),
         FaultCode::Operator => push_operator(note, word),
         FaultCode::Missing => {
@@ -335,6 +330,8 @@ pub fn push_plan_fault(
             push_out_of_range(note, places, fault);
             Ok(())
         }
+        FaultCode::Facility => push_facility(alloc, note, fault.word.as_slice()),
+        FaultCode::Severity => push_severity(alloc, note, fault.word.as_slice()),
         _ => {
             push_other(note, places, fault);
             Ok(())

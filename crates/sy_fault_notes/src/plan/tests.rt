@@ -1,60 +1,28 @@
 //! Notes of selectors and tests that are none.
 
 use crate::plan::parameter_rows::push_list;
+use std::alloc::{AllocError, Global};
 use sy_report::texts::near::nearest;
 use sy_report::texts::note::Note;
 use sy_report::texts::parts::Part;
+use sy_select::{facility_names, properties, severity_names};
 
-/// The facilities that have a name.
-static FACILITIES: [&[u8]; 22] = [
-    b"kern",
-    b"user",
-    b"mail",
-    b"daemon",
-    b"auth",
-    b"security",
-    b"syslog",
-    b"lpr",
-    b"news",
-    b"uucp",
-    b"cron",
-    b"authpriv",
-    b"ftp",
-    b"local0",
-    b"local1",
-    b"local2",
-    b"local3",
-    b"local4",
-    b"local5",
-    b"local6",
-    b"local7",
-    b"*",
-];
+// The names of a table, and further words that may stand in their place.
+fn names_in(
+    alloc: Global,
+    table: &[(&'static [u8], u8)],
+    further: &[&'static [u8]],
+) -> Result<Vec<&'static [u8]>, AllocError> {
+    let mut names = Vec::new(alloc);
+    for row in table {
+        names.push(row.0)?;
+    }
+    names.extend_from_slice(further)?;
+    Ok(names)
+}
 
-/// The severities, by all their names.
-static SEVERITIES: [&[u8]; 13] = [
-    b"emerg", b"panic", b"alert", b"crit", b"err", b"error", b"warning", b"warn", b"notice",
-    b"info", b"debug", b"none", b"*",
-];
-
-/// The properties of messages that a test may ask.
-static PROPERTIES: [&[u8]; 10] = [
-    b"$msg",
-    b"$rawmsg",
-    b"$hostname",
-    b"$app-name",
-    b"$procid",
-    b"$msgid",
-    b"$syslogfacility",
-    b"$syslogseverity",
-    b"$syslogfacility-text",
-    b"$syslogseverity-text",
-];
-
-/// Says that a name is no facility, or no severity, and what it may be.
-pub fn push_name(note: &mut Note, name: &[u8], names: &[&'static [u8]], is_no: &str) {
-    note.why
-        .put(&[Part::Text(name), Part::Text(is_no.as_bytes())]);
+// Says which name is likely meant, or which names there are.
+fn push_names(note: &mut Note, name: &[u8], names: &[&'static [u8]]) {
     match nearest(name, names) {
         Some(near) => note.change.put(&[Part::Text(near)]),
         None => {
@@ -64,14 +32,22 @@ pub fn push_name(note: &mut Note, name: &[u8], names: &[&'static [u8]], is_no: &
     }
 }
 
-/// Says that a piece of a selector is no facility.
-pub fn push_facility(note: &mut Note, name: &[u8]) {
-    push_name(note, name, &FACILITIES, " is no facility");
+/// Says that a piece of a selector is no facility, and what it may be.
+pub fn push_facility(alloc: Global, note: &mut Note, name: &[u8]) -> Result<(), AllocError> {
+    let names = names_in(alloc, facility_names(), &[b"*"])?;
+    note.why
+        .put(&[Part::Text(name), Part::Text(b" is no facility")]);
+    push_names(note, name, names.as_slice());
+    Ok(())
 }
 
-/// Says that a piece of a selector is no severity.
-pub fn push_severity(note: &mut Note, name: &[u8]) {
-    push_name(note, name, &SEVERITIES, " is no severity");
+/// Says that a piece of a selector is no severity, and what it may be.
+pub fn push_severity(alloc: Global, note: &mut Note, name: &[u8]) -> Result<(), AllocError> {
+    let names = names_in(alloc, severity_names(), &[b"none", b"*"])?;
+    note.why
+        .put(&[Part::Text(name), Part::Text(b" is no severity")]);
+    push_names(note, name, names.as_slice());
+    Ok(())
 }
 
 /// Says that a text is no selector.
@@ -96,16 +72,19 @@ pub fn push_operator(note: &mut Note, word: &[u8]) {
 }
 
 /// Says that a property isn't one of this profile's.
-pub fn push_unknown_property(note: &mut Note, name: &[u8]) {
+pub fn push_unknown_property(
+    alloc: Global,
+    note: &mut Note,
+    name: &[u8],
+) -> Result<(), AllocError> {
+    let mut names = Vec::new(alloc);
+    for row in properties() {
+        names.push(row.0)?;
+    }
     note.why.put(&[
         Part::Text(name),
         Part::Text(b" is no property of this profile"),
     ]);
-    match nearest(name, &PROPERTIES) {
-        Some(near) => note.change.put(&[Part::Text(near)]),
-        None => {
-            note.change.say("one of ");
-            push_list(&mut note.change, &PROPERTIES);
-        }
-    }
+    push_names(note, name, names.as_slice());
+    Ok(())
 }

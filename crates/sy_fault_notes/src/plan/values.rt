@@ -1,16 +1,14 @@
 //! Notes of values that a parameter doesn't take.
 
 use crate::plan::notes::param_at;
-use crate::plan::parameter_rows::{
-    Values, append_values, push_list, push_parameter, row_of, tables_of,
-};
-use sy_places::relay_file::outline::{Object, value_of};
+use crate::plan::parameter_rows::{append_values, push_list, push_parameter, row_of};
+use sy_places::relay_file::outline::Object;
 use sy_places::relay_file::places::Places;
 use sy_report::texts::near::nearest;
 use sy_report::texts::note::Note;
 use sy_report::texts::parts::Part;
 use sy_report::texts::words::Words;
-use sy_rules::PlanFault;
+use sy_rules::{PlanFault, Shape};
 use sy_script::tree::Param;
 use sy_wire::numbers::number_up_to;
 
@@ -24,10 +22,9 @@ static SUFFIXES: [(u8, u64, u64); 6] = [
     (b'G', 1_000_000_000, 1_000_000_000),
 ];
 
-fn values_of(object: Object<'_>, name: &[u8]) -> Option<Values> {
-    let tables = tables_of(object.word, value_of(object.params, b"type"));
-    match row_of(&tables, name) {
-        Some(row) => Some(row.values),
+fn values_of(object: Object<'_>, name: &[u8]) -> Option<Shape> {
+    match row_of(object, name) {
+        Some(row) => Some(row.shape),
         None => None,
     }
 }
@@ -118,9 +115,9 @@ fn push_shape(note: &mut Note, object: Object<'_>, param: &Param) {
     let value = param.value.bytes.as_slice();
     push_value(&mut note.why, value);
     match values_of(object, name) {
-        Some(Values::OneOf(_)) if name.eq_ignore_ascii_case(b"load") => push_module(note, value),
-        Some(Values::OneOf(allowed)) => push_no_word(note, name, value, allowed),
-        Some(Values::NumberOrMinusOne(_)) => {
+        Some(Shape::OneOf(_)) if name.eq_ignore_ascii_case(b"load") => push_module(note, value),
+        Some(Shape::OneOf(allowed)) => push_no_word(note, name, value, allowed),
+        Some(Shape::NumberOrMinusOne(_, _)) => {
             note.why
                 .say(" is neither -1 nor a number of 1 to 10 digits");
             push_parameter(&mut note.change, name, b"-1");

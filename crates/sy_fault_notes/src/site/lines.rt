@@ -139,14 +139,31 @@ pub fn push_unknown_relay(
     Ok(true)
 }
 
+// Whether the last word of an entry line asks that nothing of a connection is dropped.
+fn is_whole(line: &[u8], count: usize) -> bool {
+    match word_in(line, 3) {
+        Some((_, word)) => count == 4 && word == b"whole".as_slice(),
+        None => false,
+    }
+}
+
+// The words of an entry line, with the last one where that is likely meant.
+fn shape_of_entry(line: &[u8]) -> &'static str {
+    let last: [&[u8]; 1] = [b"whole"];
+    match word_in(line, 3) {
+        Some((_, word)) if nearest(word, &last).is_some() => "entry RELAY PORT [whole]",
+        _ => "entry RELAY PORT",
+    }
+}
+
 fn push_entry_line(alloc: Global, note: &mut Note, at: FileLine<'_>) -> Result<(), AllocError> {
     let port: &[u8] = match word_in(at.line, 2) {
         Some((_, port)) => port,
         None => &[],
     };
     let count = words_in(at.line);
-    if count != 3 {
-        push_words(alloc, note, at, count.min(3), "entry RELAY PORT");
+    if count != 3 && !is_whole(at.line, count) {
+        push_words(alloc, note, at, count.min(3), shape_of_entry(at.line));
         return Ok(());
     }
     if !is_port(port) {
@@ -164,17 +181,28 @@ fn push_entry_line(alloc: Global, note: &mut Note, at: FileLine<'_>) -> Result<(
 }
 
 // Says what is wrong with a selector, where something is, and answers whether it is.
-fn push_selector(alloc: Global, note: &mut Note, at: FileLine<'_>, word: &[u8]) -> bool {
+fn push_selector(
+    alloc: Global,
+    note: &mut Note,
+    at: FileLine<'_>,
+    word: &[u8],
+) -> Result<bool, AllocError> {
     let Err(fault) = Selector::read(alloc, word) else {
-        return false;
+        return Ok(false);
     };
     stands_at_word(alloc, note, at, 1);
-    match fault.code {
-        FaultCode::Facility => push_facility(note, fault.word.as_slice()),
-        FaultCode::Severity => push_severity(note, fault.word.as_slice()),
-        _ => push_shape(note, word),
+    let pushed = match fault.code {
+        FaultCode::Facility => push_facility(alloc, note, fault.word.as_slice()),
+        FaultCode::Severity => push_severity(alloc, note, fault.word.as_slice()),
+        _ => {
+            push_shape(note, word);
+            Ok(())
+        }
+    };
+    match pushed {
+        Ok(()) => Ok(true),
+        Err(fault) => Err(fault),
     }
-    true
 }
 
 fn push_protect_line(alloc: Global, note: &mut Note, at: FileLine<'_>) -> Result<(), AllocError> {
@@ -193,7 +221,7 @@ fn push_protect_line(alloc: Global, note: &mut Note, at: FileLine<'_>) -> Result
         );
         return Ok(());
     }
-    if push_selector(alloc, note, at, selector) {
+    if push_selector(alloc, note, at, selector)? {
         return Ok(());
     }
     if !push_unknown_relay(alloc, note, at, 2)? {
@@ -262,7 +290,7 @@ fn earlier(at: FileLine<'_>, word: &[u8], is_relay: bool) -> Option<u64> {
             Some((_, name)) if is_relay => {
                 name == word && word_in(line, 0) == word_in(at.line, 0)
             }
-            _ => !is_relay && same_words(line, at.line),
+            _ => !is_relay && same_words(line, at.line, words_that_tell(at.line)),
         };
         if is_same {
             return Some(number);
@@ -272,8 +300,17 @@ fn earlier(at: FileLine<'_>, word: &[u8], is_relay: bool) -> Option<u64> {
     None
 }
 
-fn same_words(line: &[u8], other: &[u8]) -> bool {
-    for number in 0..4 {
+// How many words of a line say what it gives: of an entry line its relay and its port.
+fn words_that_tell(line: &[u8]) -> usize {
+    match word_in(line, 0) {
+        Some((_, b"entry")) => 3,
+        _ => 4,
+    }
+}
+
+// Whether lines have the same words, so many of them.
+fn same_words(line: &[u8], other: &[u8], most: usize) -> bool {
+    for number in 0..most {
         match (word_in(line, number), word_in(other, number)) {
             (Some((_, a)), Some((_, b))) if a == b => {}
             (None, None) => return number > 0,
@@ -281,6 +318,17 @@ fn same_words(line: &[u8], other: &[u8]) -> bool {
         }
     }
     true
+}
+
+// Whether the line of a number says the same in all its words.
+fn is_said_so(at: FileLine<'_>, number: Option<u64>) -> bool {
+    match number {
+        Some(number) => match line_at(at.text, number) {
+            Some(line) => same_words(without_return(line), at.line, 4),
+            None => true,
+        },
+        None => true,
+    }
 }
 
 /// Says of a line that repeats another which one that is.
@@ -292,7 +340,8 @@ pub fn push_duplicate_line(alloc: Global, note: &mut Note, at: FileLine<'_>) {
         Some((_, word)) => word,
         None => &[],
     };
-    if let Some(number) = earlier(at, word, is_relay) {
+    let found = earlier(at, word, is_relay);
+    if let Some(number) = found {
         note.why.put(&[Part::Text(b"line "), Part::Number(number)]);
     } else {
         note.why.say("an earlier line");
@@ -300,8 +349,12 @@ pub fn push_duplicate_line(alloc: Global, note: &mut Note, at: FileLine<'_>) {
     if is_relay {
         note.why.say(" has this name");
         note.change.say("another name");
-    } else {
-        note.why.say(" says the same");
-        note.change.say("one of the two");
+        return;
     }
+    note.why.say(if is_said_so(at, found) {
+        " says the same"
+    } else {
+        " is of this relay and port"
+    });
+    note.change.say("one of the two");
 }

@@ -169,7 +169,7 @@ pub fn outside_input(
     alloc: Global,
     looked: Looked<'_>,
     item: Item<'_>,
-    input: Input,
+    input: &Input,
     port: u16,
 ) -> Note {
     let mut note = note_of(alloc, looked, item);
@@ -217,6 +217,40 @@ fn point_of_action(looked: Looked<'_>, action: u32) -> Option<Point> {
     None
 }
 
+// Puts an action by its name and where it stands.
+fn push_action(note: &mut Note, looked: Looked<'_>, action: u32) {
+    note.why.put(&[action_part(looked.plan, action)]);
+    if let Some(point) = point_of_action(looked, action) {
+        note.why.put(&[
+            Part::Text(b" at "),
+            Part::Text(looked.file.as_bytes()),
+            Part::Text(b":"),
+            Part::Number(point.line),
+            Part::Text(b":"),
+            Part::Number(point.column),
+        ]);
+    }
+}
+
+/// That an input keeps its unread frames in the file of an archive.
+pub fn unread_in_archive(
+    alloc: Global,
+    looked: Looked<'_>,
+    item: Item<'_>,
+    file: &[u8],
+    action: u32,
+) -> Note {
+    let mut note = note_of(alloc, looked, item);
+    note.why.say("it keeps frames without a message in ");
+    note.why.put(&[Part::Text(file)]);
+    note.why.say(", which is written by action ");
+    push_action(&mut note, looked, action);
+    note.why
+        .say(" too, so that neither lines nor frames can be read there");
+    note.change.say("another file");
+    note
+}
+
 /// That two archives are one file.
 pub fn same_file(
     alloc: Global,
@@ -229,17 +263,7 @@ pub fn same_file(
     note.why.say("it writes ");
     note.why.put(&[Part::Text(file)]);
     note.why.say(", as does action ");
-    note.why.put(&[action_part(looked.plan, earlier)]);
-    if let Some(point) = point_of_action(looked, earlier) {
-        note.why.put(&[
-            Part::Text(b" at "),
-            Part::Text(looked.file.as_bytes()),
-            Part::Text(b":"),
-            Part::Number(point.line),
-            Part::Text(b":"),
-            Part::Number(point.column),
-        ]);
-    }
+    push_action(&mut note, looked, earlier);
     note.why
         .say(", so that nothing says which of them wrote a line");
     note.change.say("another file, or one action in a ruleset that both places call");

@@ -2,7 +2,7 @@
 
 use crate::warnings::cautions::{
     after_stop, mark_above_size, no_effect, no_post, no_queue, outside_input, same_file,
-    uncalled_ruleset, unreached_action,
+    uncalled_ruleset, unreached_action, unread_in_archive,
 };
 use crate::warnings::{Caution, Looked, Warnings};
 use sy_places::relay_file::contents::{Item, What};
@@ -222,7 +222,33 @@ fn protected_port(looked: Looked<'_>, queue: u32) -> Option<u16> {
     None
 }
 
-fn warn_of_input(warnings: &mut Warnings, looked: Looked<'_>, item: Item<'_>, number: u32) {
+// The archive that writes a file.
+fn archive_of_file(plan: &Plan, file: &[u8]) -> Option<u32> {
+    let mut number: u32 = 0;
+    for _ in plan.actions() {
+        if file_of_action(plan, number) == Some(file) {
+            return Some(number);
+        }
+        number = number.saturating_add(1);
+    }
+    None
+}
+
+// Warns of an input whose unread frames go to the file of an archive.
+fn warn_of_unread(warnings: &mut Warnings, looked: Looked<'_>, item: Item<'_>, number: u32) {
+    let Some(input) = looked.plan.inputs().get(number as usize) else {
+        return;
+    };
+    if let Some(file) = &input.unread_file {
+        if let Some(action) = archive_of_file(looked.plan, file.as_slice()) {
+            let note = unread_in_archive(warnings.alloc, looked, item, file.as_slice(), action);
+            warnings.push(Caution::SameFile, note);
+        }
+    }
+}
+
+// Warns of an input that shares a queue with protected messages, and isn't reached itself.
+fn warn_of_outside(warnings: &mut Warnings, looked: Looked<'_>, item: Item<'_>, number: u32) {
     let at = SiteInput {
         relay: looked.relay,
         input: number,
@@ -234,7 +260,7 @@ fn warn_of_input(warnings: &mut Warnings, looked: Looked<'_>, item: Item<'_>, nu
         return;
     };
     if let Some(port) = protected_port(looked, input.queue) {
-        let note = outside_input(warnings.alloc, looked, item, *input, port);
+        let note = outside_input(warnings.alloc, looked, item, input, port);
         warnings.push(Caution::OutsideInput, note);
     }
 }
@@ -303,7 +329,10 @@ pub fn warn_of_item(warnings: &mut Warnings, looked: Looked<'_>, item: Item<'_>)
     }
     match item.what {
         What::Ruleset(number) => warn_of_ruleset(warnings, looked, item, number),
-        What::Input(number) => warn_of_input(warnings, looked, item, number),
+        What::Input(number) => {
+            warn_of_outside(warnings, looked, item, number);
+            warn_of_unread(warnings, looked, item, number);
+        }
         What::Action(number) => warn_of_action(warnings, looked, item, number),
         What::Call(_) => {
             if let Some(stop) = item.stop {

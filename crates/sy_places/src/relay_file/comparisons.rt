@@ -1,7 +1,7 @@
 //! The comparisons in the tests of a script, by their places.
 
-use crate::relay_file::statements::{Row, statements_of};
 use std::alloc::{AllocError, Global};
+use sy_rules::{Item, outline};
 use sy_script::tree::{Comparison, ExprTree, Operand, Script};
 
 /// The most parts of a test that are gone over.
@@ -66,9 +66,9 @@ pub fn comparison_at(
     script: &Script,
     place: usize,
 ) -> Result<Option<(usize, usize)>, AllocError> {
-    let statements = statements_of(alloc, script)?;
-    for row in statements.rows.as_slice() {
-        if let Row::If(test, _, _) = row {
+    let items = outline(alloc, script)?;
+    for item in items.as_slice() {
+        if let Item::Test(test) = *item {
             if let Some(found) = comparison_in(alloc, test, place)? {
                 return Ok(Some(found));
             }

@@ -1,7 +1,8 @@
 //! The objects and statements of a script, one after the other in the order of the text.
 
+use crate::relay_file::statements::{Row, rows_of};
 use std::alloc::{AllocError, Global};
-use sy_script::tree::{Block, Object, ObjectKind, Param, Ruleset, Script, Stmt, Top};
+use sy_script::tree::{Object, ObjectKind, Param, Ruleset, Script};
 
 /// What stands in a script; inputs, rulesets and actions with their number among those of their kind.
 #[derive(Clone, Copy)]
@@ -30,10 +31,20 @@ pub struct Item<'a> {
     pub is_first: bool,
 }
 
+// Where a block, or a ruleset, ends, and what holds behind it again.
+#[derive(Clone, Copy)]
+struct Around {
+    end: usize,
+    stop: Option<usize>,
+    ruleset: Option<u32>,
+}
+
 // What was gone over so far.
 #[derive(Drop)]
 struct Walk<'a> {
     items: Vec<Item<'a>>,
+    // the blocks that are open, the innermost last
+    around: Vec<Around>,
     inputs: u32,
     rulesets: u32,
     actions: u32,
@@ -41,31 +52,36 @@ struct Walk<'a> {
     stop: Option<usize>,
     // the last stop behind which something was found
     last: Option<usize>,
-    is_cut: bool,
 }
 
-fn push_item<'a>(walk: &mut Walk<'a>, what: What<'a>, place: usize, params: &'a [Param]) {
-    let item = Item {
+fn push_item<'a>(
+    walk: &mut Walk<'a>,
+    what: What<'a>,
+    place: usize,
+    params: &'a [Param],
+) -> Result<(), AllocError> {
+    walk.items.push(Item {
         what,
         place,
         params,
         ruleset: walk.ruleset,
         stop: walk.stop,
         is_first: walk.stop != walk.last,
-    };
+    })?;
     if walk.stop.is_some() {
         walk.last = walk.stop;
     }
-    match walk.items.push(item) {
-        Ok(()) => {}
-        Err(_) => walk.is_cut = true,
-    }
+    Ok(())
 }
 
-fn push_action<'a>(walk: &mut Walk<'a>, place: usize, params: &'a [Param]) {
+fn push_action<'a>(
+    walk: &mut Walk<'a>,
+    place: usize,
+    params: &'a [Param],
+) -> Result<(), AllocError> {
     let number = walk.actions;
-    push_item(walk, What::Action(number), place, params);
     walk.actions = number.saturating_add(1);
+    push_item(walk, What::Action(number), place, params)
 }
 
 fn set_stop(walk: &mut Walk<'_>, place: usize) {
@@ -74,39 +90,32 @@ fn set_stop(walk: &mut Walk<'_>, place: usize) {
     }
 }
 
-#[cycle(items)]
-fn append_stmt<'a>(walk: &mut Walk<'a>, stmt: &'a Stmt) {
-    match stmt {
-        Stmt::Action(span, params) => push_action(walk, span.start, params.as_slice()),
-        Stmt::Call(name) => push_item(walk, What::Call(name.text.as_slice()), name.span.start, &[]),
-        Stmt::Stop(span) => set_stop(walk, span.start),
-        Stmt::If(_, done, None) => append_block(walk, done),
-        Stmt::If(_, done, Some(otherwise)) => {
-            append_block(walk, done);
-            append_block(walk, otherwise);
+// Enters what ends before a row.
+fn enter(walk: &mut Walk<'_>, end: usize) -> Result<(), AllocError> {
+    walk.around.push(Around {
+        end,
+        stop: walk.stop,
+        ruleset: walk.ruleset,
+    })?;
+    Ok(())
+}
+
+// Leaves what ends before a row. A stop in a block says nothing of what stands behind the block.
+fn leave(walk: &mut Walk<'_>, at: usize) {
+    for _ in 0..walk.around.len() {
+        match walk.around.last().copied() {
+            Some(around) if around.end <= at => {
+                walk.stop = around.stop;
+                walk.ruleset = around.ruleset;
+                walk.around.pop();
+            }
+            _ => return,
         }
     }
 }
 
-// A stop in a block says nothing of what stands behind the block.
-#[cycle(items)]
-fn append_block<'a>(walk: &mut Walk<'a>, block: &'a Block) {
-    let stop = walk.stop;
-    match block {
-        Block::Single(stmt) => append_stmt(walk, stmt.get()),
-        Block::Braced(body) => append_body(walk, body.as_slice()),
-    }
-    walk.stop = stop;
-}
-
-#[cycle(items)]
-fn append_body<'a>(walk: &mut Walk<'a>, body: &'a [Stmt]) {
-    for stmt in body {
-        append_stmt(walk, stmt);
-    }
-}
-
-fn push_object<'a>(walk: &mut Walk<'a>, object: &'a Object) {
+// An object of the top stands behind no stop.
+fn push_object<'a>(walk: &mut Walk<'a>, object: &'a Object) -> Result<(), AllocError> {
     let what = match object.kind {
         ObjectKind::Module => What::Module,
         ObjectKind::Global => What::Global,
@@ -116,12 +125,21 @@ fn push_object<'a>(walk: &mut Walk<'a>, object: &'a Object) {
     if let What::Input(number) = what {
         walk.inputs = number.saturating_add(1);
     }
-    push_item(walk, what, object.span.start, object.params.as_slice());
+    let stop = walk.stop;
+    walk.stop = None;
+    let pushed = push_item(walk, what, object.span.start, object.params.as_slice());
+    walk.stop = stop;
+    pushed
 }
 
-fn append_ruleset<'a>(walk: &mut Walk<'a>, ruleset: &'a Ruleset) {
+fn enter_ruleset<'a>(
+    walk: &mut Walk<'a>,
+    ruleset: &'a Ruleset,
+    end: usize,
+) -> Result<(), AllocError> {
+    enter(walk, end)?;
     let number = walk.rulesets;
-    let stop = walk.stop;
+    walk.rulesets = number.saturating_add(1);
     walk.stop = None;
     walk.ruleset = Some(number);
     push_item(
@@ -129,45 +147,47 @@ fn append_ruleset<'a>(walk: &mut Walk<'a>, ruleset: &'a Ruleset) {
         What::Ruleset(number),
         ruleset.span.start,
         ruleset.params.as_slice(),
-    );
-    append_body(walk, ruleset.body.as_slice());
-    walk.rulesets = number.saturating_add(1);
-    walk.ruleset = None;
-    walk.stop = stop;
+    )
 }
 
-// An object of the top stands behind no stop.
-fn append_top<'a>(walk: &mut Walk<'a>, top: &'a Top) {
-    match top {
-        Top::Object(object) => {
-            let stop = walk.stop;
-            walk.stop = None;
-            push_object(walk, object);
-            walk.stop = stop;
+// Goes over a row, behind which stands the one of this number.
+fn meet<'a>(walk: &mut Walk<'a>, row: Row<'a>, next: usize) -> Result<(), AllocError> {
+    match row {
+        Row::Object(object) => push_object(walk, object),
+        Row::Ruleset(ruleset, count) => enter_ruleset(walk, ruleset, next.saturating_add(count)),
+        Row::Action(place, params) => push_action(walk, place, params),
+        Row::Call(name) => push_item(walk, What::Call(name.text.as_slice()), name.span.start, &[]),
+        Row::Stop(place) => {
+            set_stop(walk, place);
+            Ok(())
         }
-        Top::Ruleset(ruleset) => append_ruleset(walk, ruleset),
-        Top::Stmt(stmt) => append_stmt(walk, stmt),
+        Row::If(_, done, otherwise) => {
+            let middle = next.saturating_add(done);
+            enter(walk, middle.saturating_add(otherwise))?;
+            enter(walk, middle)
+        }
     }
 }
 
 /// The objects and statements of a script but for tests and stops. It goes as deep as the script nests.
 pub fn items_of<'a>(alloc: Global, script: &'a Script) -> Result<Vec<Item<'a>>, AllocError> {
+    let rows = rows_of(alloc, script)?;
     let mut walk = Walk {
         items: Vec::new(alloc),
+        around: Vec::new(alloc),
         inputs: 0,
         rulesets: 0,
         actions: 0,
         ruleset: None,
         stop: None,
         last: None,
-        is_cut: false,
     };
-    for top in script.tops.as_slice() {
-        append_top(&mut walk, top);
+    let mut at: usize = 0;
+    for row in rows.as_slice() {
+        leave(&mut walk, at);
+        at = at.saturating_add(1);
+        meet(&mut walk, *row, at)?;
     }
-    let Walk { items, is_cut, .. } = walk;
-    if is_cut {
-        return Err(AllocError);
-    }
+    let Walk { items, .. } = walk;
     Ok(items)
 }

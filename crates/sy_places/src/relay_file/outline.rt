@@ -1,7 +1,8 @@
 //! The objects of a script, in the order of the text.
 
 use std::alloc::{AllocError, Global};
-use sy_script::tree::{Block, ObjectKind, Param, Script, Stmt, Top};
+use sy_rules::{Item, outline};
+use sy_script::tree::{ObjectKind, Param, Script, Span};
 
 /// What an object is, by its first word.
 #[derive(Clone, Copy, PartialEq, Eq)]
@@ -22,52 +23,6 @@ pub struct Object<'s> {
     pub params: &'s [Param],
 }
 
-fn push_object<'s>(
-    objects: &mut Vec<Object<'s>>,
-    word: ObjectWord,
-    start: usize,
-    params: &'s [Param],
-) -> Result<(), AllocError> {
-    objects.push(Object {
-        word,
-        start,
-        params,
-    })?;
-    Ok(())
-}
-
-#[cycle(actions)]
-fn append_stmt<'s>(objects: &mut Vec<Object<'s>>, stmt: &'s Stmt) -> Result<(), AllocError> {
-    match stmt {
-        Stmt::Action(span, params) => {
-            push_object(objects, ObjectWord::Action, span.start, params.as_slice())
-        }
-        Stmt::Call(_) => Ok(()),
-        Stmt::Stop(_) => Ok(()),
-        Stmt::If(_, done, None) => append_block(objects, done),
-        Stmt::If(_, done, Some(otherwise)) => {
-            append_block(objects, done)?;
-            append_block(objects, otherwise)
-        }
-    }
-}
-
-#[cycle(actions)]
-fn append_block<'s>(objects: &mut Vec<Object<'s>>, block: &'s Block) -> Result<(), AllocError> {
-    match block {
-        Block::Single(stmt) => append_stmt(objects, stmt.get()),
-        Block::Braced(body) => append_body(objects, body.as_slice()),
-    }
-}
-
-#[cycle(actions)]
-fn append_body<'s>(objects: &mut Vec<Object<'s>>, body: &'s [Stmt]) -> Result<(), AllocError> {
-    for stmt in body {
-        append_stmt(objects, stmt)?;
-    }
-    Ok(())
-}
-
 fn word_of(kind: ObjectKind) -> ObjectWord {
     match kind {
         ObjectKind::Module => ObjectWord::Module,
@@ -77,24 +32,21 @@ fn word_of(kind: ObjectKind) -> ObjectWord {
     }
 }
 
-fn append_top<'s>(objects: &mut Vec<Object<'s>>, top: &'s Top) -> Result<(), AllocError> {
-    match top {
-        Top::Object(object) => push_object(
-            objects,
-            word_of(object.kind),
-            object.span.start,
-            object.params.as_slice(),
-        ),
-        Top::Ruleset(ruleset) => {
-            push_object(
-                objects,
-                ObjectWord::Ruleset,
-                ruleset.span.start,
-                ruleset.params.as_slice(),
-            )?;
-            append_body(objects, ruleset.body.as_slice())
-        }
-        Top::Stmt(stmt) => append_stmt(objects, stmt),
+fn object_at<'s>(word: ObjectWord, span: Span, params: &'s [Param]) -> Option<Object<'s>> {
+    Some(Object {
+        word,
+        start: span.start,
+        params,
+    })
+}
+
+// The object that an item of a script is.
+fn object_in<'s>(item: Item<'s>) -> Option<Object<'s>> {
+    match item {
+        Item::Object(span, kind, params) => object_at(word_of(kind), span, params),
+        Item::Ruleset(span, params) => object_at(ObjectWord::Ruleset, span, params),
+        Item::Action(span, params) => object_at(ObjectWord::Action, span, params),
+        Item::Call(_, _) | Item::Test(_) => None,
     }
 }
 
@@ -103,9 +55,12 @@ pub fn outline_script<'s>(
     alloc: Global,
     script: &'s Script,
 ) -> Result<Vec<Object<'s>>, AllocError> {
+    let items = outline(alloc, script)?;
     let mut objects = Vec::new(alloc);
-    for top in script.tops.as_slice() {
-        append_top(&mut objects, top)?;
+    for item in items.as_slice() {
+        if let Some(object) = object_in(*item) {
+            objects.push(object)?;
+        }
     }
     Ok(objects)
 }

@@ -1,12 +1,17 @@
-//! The statements of a script, one behind the other.
+//! The objects and statements of a script, one behind the other in the order of the text.
 
 use std::alloc::{AllocError, Global};
-use sy_script::tree::{Block, ExprTree, Ruleset, Script, Stmt, Top, Word};
+use sy_script::tree::{Block, ExprTree, Object, Param, Ruleset, Script, Stmt, Top, Word};
 
-/// A statement by the place of its first word. Behind an `if` stand the statements of its two blocks.
+/// An object or a statement. Behind a ruleset stand its statements, and behind an `if` those of its two blocks.
 #[derive(Clone, Copy)]
 pub enum Row<'s> {
-    Action(usize),
+    Object(&'s Object),
+    /// How many rows its statements have.
+    Ruleset(&'s Ruleset, usize),
+    /// The place of its first word, and its parameters.
+    Action(usize, &'s [Param]),
+    /// The place of its word.
     Stop(usize),
     /// The name of the ruleset that is called.
     Call(&'s Word),
@@ -14,7 +19,7 @@ pub enum Row<'s> {
     If(&'s ExprTree, usize, usize),
 }
 
-/// The statements of a list: the rows from a number up to another.
+/// The statements of a list: the rows from a number up to another, without objects and rulesets.
 #[derive(Clone, Copy)]
 pub struct Body<'s> {
     /// The ruleset's name, empty for the default one.
@@ -23,21 +28,22 @@ pub struct Body<'s> {
     pub end: usize,
 }
 
-/// All statements of a script. The first body is that of the default ruleset, then come those of rulesets in their order.
+/// All of a script. The first body is that of the default ruleset, then come those of rulesets in their order.
 #[derive(Drop)]
 pub struct Statements<'s> {
     pub rows: Vec<Row<'s>>,
     pub bodies: Vec<Body<'s>>,
 }
 
-// Sets how many rows the blocks of an `if` have.
-fn set_sizes<'s>(rows: &mut Vec<Row<'s>>, at: usize, test: &'s ExprTree, done: usize) {
-    let end = rows.len();
-    let first = done.saturating_sub(at).saturating_sub(1);
-    let second = end.saturating_sub(done);
-    if let Some(row) = rows.get_mut(at) {
-        *row = Row::If(test, first, second);
+fn set_row<'s>(rows: &mut Vec<Row<'s>>, at: usize, row: Row<'s>) {
+    if let Some(found) = rows.get_mut(at) {
+        *found = row;
     }
+}
+
+// How many rows there are from a number up to another, without the first.
+fn rows_behind(at: usize, end: usize) -> usize {
+    end.saturating_sub(at).saturating_sub(1)
 }
 
 fn push_row<'s>(rows: &mut Vec<Row<'s>>, row: Row<'s>) -> Result<(), AllocError> {
@@ -48,7 +54,7 @@ fn push_row<'s>(rows: &mut Vec<Row<'s>>, row: Row<'s>) -> Result<(), AllocError>
 #[cycle(statements)]
 fn append_stmt<'s>(rows: &mut Vec<Row<'s>>, stmt: &'s Stmt) -> Result<(), AllocError> {
     match stmt {
-        Stmt::Action(span, _) => push_row(rows, Row::Action(span.start)),
+        Stmt::Action(span, params) => push_row(rows, Row::Action(span.start, params.as_slice())),
         Stmt::Call(name) => push_row(rows, Row::Call(name)),
         Stmt::Stop(span) => push_row(rows, Row::Stop(span.start)),
         Stmt::If(test, done, otherwise) => {
@@ -59,7 +65,8 @@ fn append_stmt<'s>(rows: &mut Vec<Row<'s>>, stmt: &'s Stmt) -> Result<(), AllocE
             if let Some(otherwise) = otherwise {
                 append_block(rows, otherwise)?;
             }
-            set_sizes(rows, at, test, middle);
+            let second = rows.len().saturating_sub(middle);
+            set_row(rows, at, Row::If(test, rows_behind(at, middle), second));
             Ok(())
         }
     }
@@ -81,19 +88,30 @@ fn append_body<'s>(rows: &mut Vec<Row<'s>>, body: &'s [Stmt]) -> Result<(), Allo
     Ok(())
 }
 
-// Puts the statements outside every ruleset.
-fn append_default<'s>(found: &mut Statements<'s>, script: &'s Script) -> Result<(), AllocError> {
-    for top in script.tops.as_slice() {
-        if let Top::Stmt(stmt) = top {
-            append_stmt(&mut found.rows, stmt)?;
-        }
-    }
-    found.bodies.push(Body {
-        name: &[],
-        start: 0,
-        end: found.rows.len(),
-    })?;
+fn append_ruleset<'s>(rows: &mut Vec<Row<'s>>, ruleset: &'s Ruleset) -> Result<(), AllocError> {
+    let at = rows.len();
+    push_row(rows, Row::Ruleset(ruleset, 0))?;
+    append_body(rows, ruleset.body.as_slice())?;
+    let end = rows.len();
+    set_row(rows, at, Row::Ruleset(ruleset, rows_behind(at, end)));
     Ok(())
+}
+
+fn append_top<'s>(rows: &mut Vec<Row<'s>>, top: &'s Top) -> Result<(), AllocError> {
+    match top {
+        Top::Object(object) => push_row(rows, Row::Object(object)),
+        Top::Ruleset(ruleset) => append_ruleset(rows, ruleset),
+        Top::Stmt(stmt) => append_stmt(rows, stmt),
+    }
+}
+
+/// The objects and statements of a script. It goes as deep as the script nests.
+pub fn rows_of<'s>(alloc: Global, script: &'s Script) -> Result<Vec<Row<'s>>, AllocError> {
+    let mut rows = Vec::new(alloc);
+    for top in script.tops.as_slice() {
+        append_top(&mut rows, top)?;
+    }
+    Ok(rows)
 }
 
 fn name_of(ruleset: &Ruleset) -> &[u8] {
@@ -105,30 +123,33 @@ fn name_of(ruleset: &Ruleset) -> &[u8] {
     &[]
 }
 
-fn append_ruleset<'s>(found: &mut Statements<'s>, ruleset: &'s Ruleset) -> Result<(), AllocError> {
-    let start = found.rows.len();
-    append_body(&mut found.rows, ruleset.body.as_slice())?;
-    found.bodies.push(Body {
-        name: name_of(ruleset),
-        start,
-        end: found.rows.len(),
+// The lists of these rows. Statements outside every ruleset are all those that no other list has.
+fn bodies_of<'s>(alloc: Global, rows: &[Row<'s>]) -> Result<Vec<Body<'s>>, AllocError> {
+    let mut bodies = Vec::new(alloc);
+    bodies.push(Body {
+        name: &[],
+        start: 0,
+        end: rows.len(),
     })?;
-    Ok(())
-}
-
-/// The statements of a script. It goes as deep as the script nests.
-pub fn statements_of<'s>(alloc: Global, script: &'s Script) -> Result<Statements<'s>, AllocError> {
-    let mut found = Statements {
-        rows: Vec::new(alloc),
-        bodies: Vec::new(alloc),
-    };
-    append_default(&mut found, script)?;
-    for top in script.tops.as_slice() {
-        if let Top::Ruleset(ruleset) = top {
-            append_ruleset(&mut found, ruleset)?;
+    let mut start: usize = 0;
+    for row in rows {
+        start = start.saturating_add(1);
+        if let Row::Ruleset(ruleset, count) = *row {
+            bodies.push(Body {
+                name: name_of(ruleset),
+                start,
+                end: start.saturating_add(count),
+            })?;
         }
     }
-    Ok(found)
+    Ok(bodies)
+}
+
+/// The rows of a script, and its lists.
+pub fn statements_of<'s>(alloc: Global, script: &'s Script) -> Result<Statements<'s>, AllocError> {
+    let rows = rows_of(alloc, script)?;
+    let bodies = bodies_of(alloc, rows.as_slice())?;
+    Ok(Statements { rows, bodies })
 }
 
 /// The place of a test's first word.

@@ -176,11 +176,15 @@ fn next_row<'s>(walk: &mut Walk<'_, 's>) -> Option<(Frame, Option<Row<'s>>)> {
     Some((frame, row))
 }
 
-// The frame behind the blocks of a row.
+// The frame behind the blocks of a row, or behind a ruleset, whose statements are of another list.
 fn behind_blocks(frame: Frame, row: Row<'_>) -> Frame {
     match row {
         Row::If(_, done, otherwise) => Frame {
             at: frame.at.saturating_add(done).saturating_add(otherwise),
+            ..frame
+        },
+        Row::Ruleset(_, count) => Frame {
+            at: frame.at.saturating_add(count),
             ..frame
         },
         _ => frame,
@@ -204,7 +208,8 @@ fn step(
 ) -> Result<bool, AllocError> {
     enter(walk, behind_blocks(frame, row))?;
     match row {
-        Row::Action(place) => Ok(matches!(walk.target, Target::Action(at) if at == place)),
+        Row::Object(_) | Row::Ruleset(_, _) => Ok(false),
+        Row::Action(place, _) => Ok(matches!(walk.target, Target::Action(at) if at == place)),
         Row::Stop(place) => {
             meet_stop(walk, frame, place);
             Ok(false)

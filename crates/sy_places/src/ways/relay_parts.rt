@@ -13,7 +13,7 @@ use sy_wire::Class;
 #[derive(Clone, Copy)]
 pub struct Spot<'a> {
     pub plan: &'a Plan,
-    pub input: Input,
+    pub input: &'a Input,
 }
 
 /// The input of this number.
@@ -23,10 +23,7 @@ pub fn spot_at(site: &Site, at: SiteInput) -> Option<Spot<'_>> {
     }
     let plan = site.plan(at.relay);
     match plan.inputs().get(at.input as usize) {
-        Some(input) => Some(Spot {
-            plan,
-            input: *input,
-        }),
+        Some(input) => Some(Spot { plan, input }),
         None => None,
     }
 }

@@ -99,6 +99,7 @@ input_of ps = record {
   port = number_of kind.Input ps 0 (codes "port");
   flow = flow_named (word_of kind.Input ps (codes "flowControl"));
   ruleset_name = given (codes "ruleset") ps;
+  unread_file = given (codes "unreadFile") ps;
 }
 
 -- ---- rulesets

@@ -49,7 +49,7 @@ on_off = codes "on" ∷ codes "off" ∷ []
 
 -- how posts into a queue wait; rsyslog doesn't have it
 abbrev pub worker_flows : List (List ℕ)
-worker_flows = codes "off" ∷ codes "full" ∷ []
+worker_flows = codes "full" ∷ codes "off" ∷ []
 
 abbrev pub action_types : List (List ℕ)
 action_types = codes "omfile" ∷ codes "omfwd" ∷ []
@@ -71,7 +71,7 @@ module_rows = row (codes "load") (Shape.OneOf modules) Absent.Required ∷ []
 abbrev pub global_rows : List Row
 global_rows = row (codes "workDirectory") Shape.AnyText Absent.Nothing ∷ []
 
--- name has no effect
+-- frames that carry no message are kept in the file unreadFile (this profile's own); name has no effect
 abbrev pub input_rows : List Row
 input_rows =
     row (codes "type") (Shape.OneOf (codes "imtcp" ∷ [])) Absent.Required
@@ -79,6 +79,7 @@ input_rows =
     ∷ row (codes "flowControl") (Shape.OneOf flows) (Absent.Word (codes "on"))
     ∷ row (codes "ruleset") Shape.AnyText Absent.Nothing
     ∷ row (codes "name") Shape.AnyText Absent.Nothing
+    ∷ row (codes "unreadFile") Shape.AnyText Absent.Nothing
     ∷ []
 
 abbrev pub ruleset_rows : List Row

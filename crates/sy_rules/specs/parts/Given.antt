@@ -144,3 +144,4 @@ pub record GivesInput (all before : List Item) (x : Item) (number : ℕ) (i : In
   pub port : i.port ≡ (input_of params).port
   pub flow : i.flow ≡ (input_of params).flow
   pub bound : IsBound all i.list i.queue (input_of params).ruleset_name
+  pub unread_file : i.unread_file ≡ (input_of params).unread_file

@@ -3,7 +3,7 @@
 ghost use Rattle.std.specs.Prelude.{◌≡◌, [], OnOk, IfErr};
 ghost use Rattle.sy_rules.specs.internal.Checking.{IsFound};
 ghost use Rattle.sy_rules.specs.items.ItemFaults as spec;
-ghost use Rattle.sy_rules.specs.internal.ItemViews.{item};
+ghost use Rattle.sy_rules.specs.items.ItemViews.{item};
 
 use crate::items::fault::ItemFault;
 use crate::items::outline::Item;

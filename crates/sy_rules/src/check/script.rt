@@ -8,7 +8,7 @@ ghost use Rattle.sy_rules.specs.Limits as limits;
 ghost use Rattle.sy_rules.specs.Faults.{IsAnswered, in_text};
 ghost use Rattle.sy_rules.specs.internal.Checking.{IsFound, AreClean};
 ghost use Rattle.sy_rules.specs.items.ItemFaults.{object_faults};
-ghost use Rattle.sy_rules.specs.internal.ItemViews.{item, placed, span};
+ghost use Rattle.sy_rules.specs.items.ItemViews.{item, placed, span};
 ghost use Rattle.sy_rules.specs.parameters.Objects as objects;
 ghost use Rattle.sy_rules.specs.items.Outline as outline;
 ghost use Rattle.sy_rules.specs.parameters.Values.{faults};

@@ -2,7 +2,7 @@
 
 ghost use Rattle.std.specs.Prelude.{◌≡◌, ◌≤◌, [], codes, filter_map, map, true};
 ghost use Rattle.sy_rules.specs.internal.Checking.{AreClean};
-ghost use Rattle.sy_rules.specs.internal.ItemViews.{item};
+ghost use Rattle.sy_rules.specs.items.ItemViews.{item};
 ghost use Rattle.sy_rules.specs.parts.Plans as plans;
 ghost use Rattle.std.specs.Option.{option_copied};
 ghost use Rattle.sy_rules.specs.parameters.Objects as spec;

@@ -1,8 +1,8 @@
 //! The items of a script that a plan is made of, in the order of the text.
 
 ghost use Rattle.std.specs.Prelude.{◌≡◌, ◌++◌, ◌∷◌, [], map, IfOk, OnOk};
-ghost use Rattle.sy_rules.specs.internal.ItemViews as view;
-ghost use Rattle.sy_rules.specs.internal.ItemViews.{item, placed};
+ghost use Rattle.sy_rules.specs.items.ItemViews as view;
+ghost use Rattle.sy_rules.specs.items.ItemViews.{item, placed};
 ghost use Rattle.sy_rules.specs.items.Outline as spec;
 ghost use Rattle.sy_rules.specs.internal.Outline as inside;
 

@@ -3,7 +3,7 @@
 ghost use Rattle.std.specs.Prelude.{◌≡◌, ◌++◌, map};
 ghost use Rattle.std.specs.Str.{str_eq_ignore_ascii_case};
 ghost use Rattle.sy_rules.specs.parameters.Rows as spec;
-ghost use Rattle.sy_rules.specs.internal.Views as view;
+ghost use Rattle.sy_rules.specs.parameters.RowViews as view;
 
 use crate::parameters::kind::Kind;
 use crate::parameters::rows::{Row, destination_rows, own_rows, queue_head_rows, queue_rest_rows};
@@ -46,8 +46,8 @@ fn find_in_destination(kind: Kind, name: &[u8]) -> Option<&'static Row>
     }
 }
 
-/// The row of a name. It goes over at most 26 rows.
-pub fn find(kind: Kind, name: &[u8]) -> Option<&'static Row>
+/// The row of a parameter that an object of a kind takes, without regard to the case of ASCII letters. It goes over at most 26 rows.
+pub fn parameter_named(kind: Kind, name: &[u8]) -> Option<&'static Row>
     ensures { view.found result ≡ spec.lookup (spec.rows kind) name.now }
 {
     match find_in(own_rows(kind), name) {

@@ -6,10 +6,11 @@ ghost use Rattle.sy_rules.specs.internal.Checking as inside;
 ghost use Rattle.sy_rules.specs.parameters.Values as spec;
 ghost use Rattle.sy_rules.specs.parameters.Rows as table;
 ghost use Rattle.sy_rules.specs.internal.Views as view;
+ghost use Rattle.sy_rules.specs.parameters.RowViews as row;
 
 use crate::fault::FaultCode;
 use crate::items::fault::ItemFault;
-use crate::parameters::by_name::find;
+use crate::parameters::by_name::parameter_named;
 use crate::parameters::kind::Kind;
 use crate::parameters::rows::{
     Absent, Row, destination_rows, own_rows, queue_head_rows, queue_rest_rows,
@@ -33,7 +34,7 @@ fn flaw_at<'p>(kind: Kind, before: &[Param], param: &'p Param) -> Option<Flaw<'p
 {
     let word = param.name.text.as_slice();
     let value = param.value.bytes.as_slice();
-    let code = match find(kind, word) {
+    let code = match parameter_named(kind, word) {
         None => FaultCode::Unknown,
         Some(_) if is_given(word, before) => FaultCode::Duplicate,
         Some(row) if !has_shape(row.shape, value) => FaultCode::BadValue,
@@ -46,7 +47,7 @@ fn flaw_at<'p>(kind: Kind, before: &[Param], param: &'p Param) -> Option<Flaw<'p
 
 // The first of the rows that must be given and is not.
 fn first_missing(mut rows: &'static [Row], params: &[Param]) -> Option<Flaw<'static>>
-    ensures { view.flaw result ≡ fault.first (spec.missing (map view.row_of rows.entry.now) params.now) }
+    ensures { view.flaw result ≡ fault.first (spec.missing (map row.row_of rows.entry.now) params.now) }
 {
     while let [row, rest @ ..] = rows {
         if is_required(row.absent) && !is_given(row.name, params) {
@@ -62,7 +63,7 @@ fn first_missing(mut rows: &'static [Row], params: &[Param]) -> Option<Flaw<'sta
 }
 
 fn is_required(absent: Absent) -> bool
-    ensures { result ≡ spec.is_required (view.absent_of absent) }
+    ensures { result ≡ spec.is_required (row.absent_of absent) }
 {
     match absent {
         Absent::Required => true,

@@ -25,6 +25,8 @@ pub struct InputParameters {
     pub flow: FlowControl,
     /// The ruleset that it is bound to, where it names one.
     pub ruleset_name: Option<Items<u8>>,
+    /// The file that keeps its frames without a message (`unreadFile`), where it names one.
+    pub unread_file: Option<Items<u8>>,
 }
 
 /// What the parameters of a `ruleset` say.
@@ -109,10 +111,12 @@ pub fn read_input(alloc: Global, params: &[Param]) -> Result<InputParameters, Pl
     let port = number_of(Kind::Input, params, 0, b"port") as u16;
     let flow = flow_named(word_of(Kind::Input, params, b"flowControl"));
     let ruleset_name = copied_if(alloc, given(b"ruleset", params))?;
+    let unread_file = copied_if(alloc, given(b"unreadFile", params))?;
     Ok(InputParameters {
         port,
         flow,
         ruleset_name,
+        unread_file,
     })
 }
 

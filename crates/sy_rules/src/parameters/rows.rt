@@ -2,7 +2,7 @@
 
 ghost use Rattle.std.specs.Prelude.{◌≡◌, map};
 ghost use Rattle.sy_rules.specs.parameters.Rows as spec;
-ghost use Rattle.sy_rules.specs.internal.Views as view;
+ghost use Rattle.sy_rules.specs.parameters.RowViews as view;
 
 use crate::parameters::kind::Kind;
 
@@ -56,7 +56,7 @@ static GLOBAL: [Row; 1] = [Row {
     absent: Absent::Nothing,
 }];
 
-static INPUT: [Row; 5] = [
+static INPUT: [Row; 6] = [
     Row {
         name: b"type",
         shape: Shape::OneOf(&[b"imtcp"]),
@@ -79,6 +79,11 @@ static INPUT: [Row; 5] = [
     },
     Row {
         name: b"name",
+        shape: Shape::AnyText,
+        absent: Absent::Nothing,
+    },
+    Row {
+        name: b"unreadFile",
         shape: Shape::AnyText,
         absent: Absent::Nothing,
     },
@@ -174,7 +179,7 @@ static EITHER: [Row; 5] = [
 /// How posts into the queue of a ruleset or an action wait. (This profile's own.)
 const WORKER_FLOW: Row = Row {
     name: b"queue.workerFlow",
-    shape: Shape::OneOf(&[b"off", b"full"]),
+    shape: Shape::OneOf(&[b"full", b"off"]),
     absent: Absent::Word(b"off"),
 };
 
@@ -353,4 +358,17 @@ pub fn queue_rest_rows(kind: Kind) -> &'static [Row]
         Kind::Module | Kind::Global | Kind::Input => &[],
         _ => &QUEUE,
     }
+}
+
+/// The parameters that an object of a kind takes, as four tables: its own, those of the module that an action's type names, those that its
+/// queue begins with, and the rest of its queue's. No name is in two of them.
+pub fn parameter_rows(kind: Kind) -> [&'static [Row]; 4]
+    ensures { view.joined result ≡ spec.rows kind }
+{
+    [
+        own_rows(kind),
+        destination_rows(kind),
+        queue_head_rows(kind),
+        queue_rest_rows(kind),
+    ]
 }

@@ -5,9 +5,9 @@ ghost use Rattle.std.specs.Option.{option_copied};
 ghost use Rattle.sy_rules.specs.parameters.Objects as spec;
 ghost use Rattle.sy_rules.specs.internal.Objects as inside;
 ghost use Rattle.sy_rules.specs.parameters.Values.{faults};
-ghost use Rattle.sy_rules.specs.internal.Views as view;
+ghost use Rattle.sy_rules.specs.parameters.RowViews as view;
 
-use crate::parameters::by_name::find;
+use crate::parameters::by_name::parameter_named;
 use crate::parameters::kind::Kind;
 use crate::parameters::rows::{Absent, Row};
 use crate::parameters::values::{decimal_value, given};
@@ -77,7 +77,7 @@ pub fn number_of(kind: Kind, params: &[Param], size: u32, name: &[u8]) -> u64
             return number;
         }
     }
-    default_number(size, find(kind, name))
+    default_number(size, parameter_named(kind, name))
 }
 
 fn absent_word(absent: Absent) -> Option<&'static [u8]>
@@ -97,7 +97,7 @@ pub fn word_of<'p>(kind: Kind, params: &'p [Param], name: &[u8]) -> Option<&'p [
     if let Some(word) = given(name, params) {
         return Some(word);
     }
-    match find(kind, name) {
+    match parameter_named(kind, name) {
         Some(row) => absent_word(row.absent),
         None => None,
     }

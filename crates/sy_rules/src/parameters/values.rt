@@ -5,7 +5,7 @@ ghost use Rattle.std.specs.List.{list_any};
 ghost use Rattle.std.specs.Option.{option_copied};
 ghost use Rattle.std.specs.Str.{bytes_eq};
 ghost use Rattle.sy_rules.specs.parameters.Values as spec;
-ghost use Rattle.sy_rules.specs.internal.Views as view;
+ghost use Rattle.sy_rules.specs.parameters.RowViews as view;
 
 use crate::parameters::by_name::same_name;
 use crate::parameters::rows::Shape;

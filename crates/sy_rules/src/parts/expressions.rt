@@ -4,7 +4,7 @@ ghost use Rattle.sy_select.specs.Faults.{IsRefusal};
 ghost use Rattle.sy_select.specs.Trees.{IsExpr, tree_faults};
 ghost use Rattle.sy_rules.specs.items.Expressions.{trees_of};
 ghost use Rattle.sy_rules.specs.internal.Checking.{faults_of_trees};
-ghost use Rattle.sy_rules.specs.internal.ItemViews.{item};
+ghost use Rattle.sy_rules.specs.items.ItemViews.{item};
 ghost use Rattle.sy_rules.specs.PlanValue.{AreExprs};
 
 use crate::items::outline::Item;

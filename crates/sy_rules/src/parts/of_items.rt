@@ -6,7 +6,7 @@ ghost use Rattle.std.specs.Prelude.{◌≡◌, ◌≤◌, ◌<◌, ◌+◌, ◌+
 ghost use Rattle.sy_rules.specs.Faults.{no_memory};
 ghost use Rattle.sy_rules.specs.items.ItemFaults.{object_faults};
 ghost use Rattle.sy_rules.specs.internal.Checking.{AreClean};
-ghost use Rattle.sy_rules.specs.internal.ItemViews.{item};
+ghost use Rattle.sy_rules.specs.items.ItemViews.{item};
 ghost use Rattle.sy_rules.specs.parameters.Objects.{AreInRange};
 ghost use Rattle.sy_rules.specs.internal.Objects.{IsQueueInRange};
 ghost use Rattle.sy_rules.specs.items.Outline as outline;
@@ -253,24 +253,34 @@ fn queue_or_main(queues: &[Option<u32>], list: u32) -> u32
     }
 }
 
+// The list that an input's messages execute.
+fn list_of_input(rulesets: &[RulesetParameters], input: &InputParameters) -> u32
+    requires few { length rulesets.now ≤ 256 }
+    ensures { (all : List outline.Item) → plans.rulesets_of all ≡ rulesets.now
+        → result ≡ plans.list_of_input all input.now.ruleset_name }
+{
+    match &input.ruleset_name {
+        Some(name) => list_named(rulesets, name.as_slice()),
+        None => 0,
+    }
+}
+
 fn input_part(
     rulesets: &[RulesetParameters],
     queues: &[Option<u32>],
-    input: &InputParameters,
+    input: InputParameters,
 ) -> Input
     requires few { length rulesets.now ≤ 256 }
     ensures { (all : List outline.Item) → plans.rulesets_of all ≡ rulesets.now → plans.list_queues all ≡ queues.now
-        → result ≡ spec.input_part all input.now }
+        → result ≡ spec.input_part all input }
 {
-    let list = match &input.ruleset_name {
-        Some(name) => list_named(rulesets, name.as_slice()),
-        None => 0,
-    };
+    let list = list_of_input(rulesets, &input);
     Input {
         port: input.port,
         flow: input.flow,
         list,
         queue: queue_or_main(queues, list),
+        unread_file: input.unread_file,
     }
 }
 
@@ -293,7 +303,7 @@ pub fn inputs(
     let mut rest = items;
     while let [next, after @ ..] = rest {
         if let Some(input) = input_at(alloc, next)? {
-            put(alloc, &mut found, input_part(rulesets, queues, &input))?;
+            put(alloc, &mut found, input_part(rulesets, queues, input))?;
         }
         rest = after;
     }

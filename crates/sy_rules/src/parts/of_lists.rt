@@ -2,7 +2,7 @@
 
 ghost use Rattle.std.specs.Prelude.{◌≡◌, ◌≤◌, ◌++◌, filter_map, is_some, length, map, IfOk, IfErr, OnOk};
 ghost use Rattle.sy_rules.specs.Faults.{no_memory};
-ghost use Rattle.sy_rules.specs.internal.ItemViews.{item};
+ghost use Rattle.sy_rules.specs.items.ItemViews.{item};
 ghost use Rattle.sy_rules.specs.parts.Plans as plans;
 
 use crate::fault::PlanFault;

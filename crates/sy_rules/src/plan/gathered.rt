@@ -4,7 +4,7 @@ ghost use Rattle.std.specs.Prelude.{◌≡◌, ◌≤◌, ◌+◌, ◌∷◌, []
 ghost use Rattle.sy_select.specs.Truth.{Formula};
 ghost use Rattle.sy_select.specs.declared.condition.Test.{Test};
 ghost use Rattle.sy_rules.specs.Faults.{IsAnswered, no_memory};
-ghost use Rattle.sy_rules.specs.internal.ItemViews.{item, placed};
+ghost use Rattle.sy_rules.specs.items.ItemViews.{item, placed};
 ghost use Rattle.sy_rules.specs.internal.Loading.{AreLists, IsGathered, faults_of_its_lists};
 ghost use Rattle.sy_rules.specs.internal.Numbering.{AreSingles};
 ghost use Rattle.sy_rules.specs.internal.TableSizes.{head};

@@ -12,7 +12,7 @@ abbrev pub relay_line_of : ReadRelay → RelayLine
 relay_line_of it = record { name = it.name.now; file = it.file.now; address = ipv4_octets it.address }
 
 abbrev pub entry_line_of : ReadEntry → EntryLine
-entry_line_of it = record { relay = it.relay.now; port = it.port }
+entry_line_of it = record { relay = it.relay.now; port = it.port; is_whole = it.is_whole }
 
 abbrev pub protect_line_of : ReadProtect → ProtectLine
 protect_line_of it = record { selector = it.selector; relay = it.relay.now; action = it.action.now }

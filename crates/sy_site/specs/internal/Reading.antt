@@ -39,6 +39,10 @@ words_given given = kind (line_given given) ∷ words given.behind.now
 pub data BeginAlike : List (List ℕ) → List (List ℕ) → Type 0 where
   alike : (word : List ℕ) (first second : List (List ℕ)) → BeginAlike (word ∷ first) (word ∷ second)
 
+-- both have two first words, and these are the same
+pub data BeginAlikeTwice : List (List ℕ) → List (List ℕ) → Type 0 where
+  alike_twice : (word next : List ℕ) (first second : List (List ℕ)) → BeginAlikeTwice (word ∷ next ∷ first) (word ∷ next ∷ second)
+
 -- This is what was read of the line of this number and these words.
 pub record IsGiven (given : Given) (place : ℕ) (line : List (List ℕ)) : Type 0 where
   pub number_is : given.number ≡ place

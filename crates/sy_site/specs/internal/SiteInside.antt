@@ -17,13 +17,14 @@ site_of s = record {
   policy = s.policy;
   relays = map relay_of s.relays.items;
   entries = s.entries.items;
+  whole_entries = s.whole_entries.items;
   protections = s.protections.items;
   spares = s.spares.items;
 }
 
 -- these relays without entries, protect lines and spare actions
 abbrev pub site_with : List Kept → Site
-site_with relays = record { policy = 1; relays = map relay_of relays; entries = []; protections = []; spares = [] }
+site_with relays = record { policy = 1; relays = map relay_of relays; entries = []; whole_entries = []; protections = []; spares = [] }
 
 -- ---- what actions lead to, looked up once
 

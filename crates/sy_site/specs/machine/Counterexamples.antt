@@ -129,7 +129,7 @@ silent_events class = SiteEvent.TakeNew edge_input 0 (example_message class) ∷
 -- edge forwards what comes to its port 6514 to itself, and from there to hub
 abbrev pub twice_plan : Plan
 twice_plan = record {
-  inputs = record { port = 6514; flow = control.Full; list = 0; queue = 0 } ∷ record { port = 6515; flow = control.Full; list = 1; queue = 0 } ∷ [];
+  inputs = record { port = 6514; flow = control.Full; list = 0; queue = 0; unread_file = None } ∷ record { port = 6515; flow = control.Full; list = 1; queue = 0; unread_file = None } ∷ [];
   queues = example_queue 50000 48500 ∷ [];
   workers = 0 ∷ [];
   actions = record { name = codes "again"; destination = destination.Forward (codes "edge") 6515; retry = None; resume_interval = 30 }
@@ -245,7 +245,7 @@ aimless_events class =
 -- edge posts what comes in to the list that it follows already, whose queue isn't the input's and doesn't wait
 abbrev pub moving_plan : Plan
 moving_plan = record narrow_plan {
-  inputs = record { port = 6514; flow = control.Full; list = 1; queue = 0 } ∷ [];
+  inputs = record { port = 6514; flow = control.Full; list = 1; queue = 0; unread_file = None } ∷ [];
   lists = record { body = Body.End; queue = None } ∷ record { body = Body.Post 1 Body.End; queue = Some 1 } ∷ [];
   rulesets = 1;
 }
@@ -292,6 +292,7 @@ stray_site = record {
   policy = 1;
   relays = relay_of (codes "edge") stray_plan ∷ [];
   entries = edge_input ∷ [];
+  whole_entries = [];
   protections = [];
   spares = [];
 }

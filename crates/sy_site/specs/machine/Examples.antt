@@ -46,7 +46,7 @@ waiting_queue size mark = record (example_queue size mark) { waits = true }
 -- edge forwards what comes to its port 6514 to hub: through the queue of the ruleset `out`
 abbrev pub edge_plan : Plan
 edge_plan = record {
-  inputs = record { port = 6514; flow = control.Full; list = 1; queue = 1 } ∷ [];
+  inputs = record { port = 6514; flow = control.Full; list = 1; queue = 1; unread_file = None } ∷ [];
   queues = example_queue 50000 48500 ∷ example_queue 100 90 ∷ [];
   workers = 0 ∷ 1 ∷ [];
   actions = record { name = codes "up"; destination = destination.Forward (codes "hub") 6515; retry = None; resume_interval = 30 } ∷ [];
@@ -58,7 +58,7 @@ edge_plan = record {
 -- edge does so through that action's own queue, which waits, besides
 abbrev pub waiting_plan : Plan
 waiting_plan = record {
-  inputs = record { port = 6514; flow = control.Full; list = 1; queue = 1 } ∷ [];
+  inputs = record { port = 6514; flow = control.Full; list = 1; queue = 1; unread_file = None } ∷ [];
   queues = example_queue 50000 48500 ∷ example_queue 100 90 ∷ waiting_queue 100 90 ∷ [];
   workers = 0 ∷ 1 ∷ 2 ∷ [];
   actions = record { name = codes "up"; destination = destination.Forward (codes "hub") 6515; retry = None; resume_interval = 30 } ∷ [];
@@ -71,7 +71,7 @@ waiting_plan = record {
 -- hub writes what comes to its port 6515 into a file
 abbrev pub hub_plan : Plan
 hub_plan = record {
-  inputs = record { port = 6515; flow = control.Full; list = 0; queue = 0 } ∷ [];
+  inputs = record { port = 6515; flow = control.Full; list = 0; queue = 0; unread_file = None } ∷ [];
   queues = example_queue 50000 48500 ∷ [];
   workers = 0 ∷ [];
   actions = record { name = codes "audit"; destination = destination.Archive (codes "audit.log"); retry = None; resume_interval = 30 } ∷ [];
@@ -83,7 +83,7 @@ hub_plan = record {
 -- hub forwards it to mirror too, through that action's own queue, without a second try
 abbrev pub copying_plan : Plan
 copying_plan = record {
-  inputs = record { port = 6515; flow = control.Full; list = 0; queue = 0 } ∷ [];
+  inputs = record { port = 6515; flow = control.Full; list = 0; queue = 0; unread_file = None } ∷ [];
   queues = example_queue 50000 48500 ∷ example_queue 1000 970 ∷ [];
   workers = 0 ∷ 1 ∷ [];
   actions = record { name = codes "audit"; destination = destination.Archive (codes "audit.log"); retry = None; resume_interval = 30 }
@@ -96,7 +96,7 @@ copying_plan = record {
 -- mirror writes it, without a second try either
 abbrev pub mirror_plan : Plan
 mirror_plan = record {
-  inputs = record { port = 6520; flow = control.On; list = 0; queue = 0 } ∷ [];
+  inputs = record { port = 6520; flow = control.On; list = 0; queue = 0; unread_file = None } ∷ [];
   queues = example_queue 50000 0 ∷ [];
   workers = 0 ∷ [];
   actions = record { name = codes "log"; destination = destination.Archive (codes "mirror.log"); retry = Some 0; resume_interval = 30 } ∷ [];
@@ -133,6 +133,7 @@ site_of_two edge hub = record {
   policy = 1;
   relays = relay_of (codes "edge") edge ∷ relay_of (codes "hub") hub ∷ [];
   entries = edge_input ∷ [];
+  whole_entries = [];
   protections = record {
     selector = 0 ∷ 0 ∷ 0 ∷ 0 ∷ 255 ∷ 0 ∷ 0 ∷ 0 ∷ 0 ∷ 0 ∷ 0 ∷ 0 ∷ 0 ∷ 0 ∷ 0 ∷ 0 ∷ 0 ∷ 0 ∷ 0 ∷ 0 ∷ 0 ∷ 0 ∷ 0 ∷ 0 ∷ [];
     archive = audit;
@@ -178,7 +179,7 @@ example_events class =
 -- Two queues of size 1: what comes to port 6514 is put into the second one, from which an action is tried twice.
 abbrev pub narrow_plan : Plan
 narrow_plan = record {
-  inputs = record { port = 6514; flow = control.Off; list = 0; queue = 0 } ∷ [];
+  inputs = record { port = 6514; flow = control.Off; list = 0; queue = 0; unread_file = None } ∷ [];
   queues = example_queue 1 0 ∷ example_queue 1 0 ∷ [];
   workers = 0 ∷ 1 ∷ [];
   actions = record { name = codes "log"; destination = destination.Archive (codes "a.log"); retry = Some 1; resume_interval = 30 } ∷ [];
@@ -192,6 +193,7 @@ narrow_site = record {
   policy = 1;
   relays = relay_of (codes "edge") narrow_plan ∷ [];
   entries = edge_input ∷ [];
+  whole_entries = [];
   protections = [];
   spares = [];
 }

@@ -1,5 +1,5 @@
 -- Events that are no steps, each refused for one reason alone (this profile's own).
-use Rattle.std.specs.Prelude.{ℕ, List, [], ◌∷◌, ◌++◌, codes, take}
+use Rattle.std.specs.Prelude.{ℕ, List, [], ◌∷◌, ◌++◌, codes, take, None}
 use Rattle.sy_wire.specs.declared.class.Class.{Class}
 use Rattle.sy_rules.specs.declared.parameters.settings.FlowControl.TheVariants as control
 use Rattle.sy_rules.specs.PlanValue.{Plan}
@@ -21,7 +21,7 @@ busy_events class =
 -- A queue of this size, with a full-delay mark of 1: one message is in it, and another one in a hand.
 abbrev pub marked_plan : ℕ → Plan
 marked_plan size = record narrow_plan {
-  inputs = record { port = 6514; flow = control.Full; list = 0; queue = 0 } ∷ [];
+  inputs = record { port = 6514; flow = control.Full; list = 0; queue = 0; unread_file = None } ∷ [];
   queues = example_queue size 1 ∷ example_queue 1 0 ∷ [];
 }
 

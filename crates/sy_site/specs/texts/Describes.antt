@@ -1,5 +1,5 @@
 -- The site that a text and the files of its relays describe (this profile's own).
-use Rattle.std.specs.Prelude.{◌≡◌, ℕ, Bool, true, false, ◌&&◌, ◌<◌, ◌≤◌, List, [], ◌∷◌, ◌++◌, length, Contains, Option, Some, None, option_and_then, option_map, if◌then◌else◌, codes}
+use Rattle.std.specs.Prelude.{◌≡◌, ℕ, Bool, true, false, ◌&&◌, ◌<◌, ◌≤◌, List, [], ◌∷◌, ◌++◌, length, filter, Contains, Option, Some, None, option_and_then, option_map, if◌then◌else◌, codes}
 use Rattle.std.specs.List.{position}
 use Rattle.std.specs.Str.{bytes_eq}
 use Rattle.sy_wire.specs.declared.class.Class.{Class}
@@ -46,6 +46,10 @@ entry_lines [] = []
 entry_lines (Line.Entry it ∷ later) = it ∷ entry_lines later
 entry_lines (_ ∷ later) = entry_lines later
 
+-- those that end in `whole`
+abbrev pub whole_lines : List Line → List EntryLine
+whole_lines lines = filter (λ it. it.is_whole) (entry_lines lines)
+
 abbrev pub protect_lines : List Line → List ProtectLine
 protect_lines [] = []
 protect_lines (Line.Protect it ∷ later) = it ∷ protect_lines later
@@ -71,10 +75,10 @@ pub data IsMisplaced (before : List (List (List ℕ))) : List (List ℕ) → Typ
   policy_behind : (first : List (List ℕ)) (words : List (List ℕ)) → first_line before ≡ Some first → IsMisplaced before (codes "policy" ∷ words)
   spare_without : (words : List (List ℕ)) → (first_line before ≡ Some policy_line → ⊥) → IsMisplaced before (codes "spare" ∷ words)
 
--- One line gives again what another gave: a relay's name, or an entry, protect or spare line word for word.
+-- One line gives again what another gave: a relay's name, an entry's relay and port, or a protect or spare line word for word.
 pub data Repeats : List (List ℕ) → List (List ℕ) → Type 0 where
   same_name : (name : List ℕ) (first second : List (List ℕ)) → Repeats (codes "relay" ∷ name ∷ first) (codes "relay" ∷ name ∷ second)
-  same_entry : (words : List (List ℕ)) → Repeats (codes "entry" ∷ words) (codes "entry" ∷ words)
+  same_entry : (relay port : List ℕ) (first second : List (List ℕ)) → Repeats (codes "entry" ∷ relay ∷ port ∷ first) (codes "entry" ∷ relay ∷ port ∷ second)
   same_protection : (words : List (List ℕ)) → Repeats (codes "protect" ∷ words) (codes "protect" ∷ words)
   same_spare : (words : List (List ℕ)) → Repeats (codes "spare" ∷ words) (codes "spare" ∷ words)
 
@@ -175,6 +179,7 @@ pub record Describes (text : List ℕ) (files : List File) (site : Site) : Type 
   pub policy : site.policy ≡ policy_of lines
   pub relays : AllPaired (IsRelay files) (relay_lines lines) site.relays
   pub entries : AllPaired (IsEntry site) (entry_lines lines) site.entries
+  pub whole_entries : AllPaired (IsEntry site) (whole_lines lines) site.whole_entries
   pub protections : AllPaired (IsProtection site) (protect_lines lines) site.protections
   pub spares : AllPaired (IsSpare site) (spare_lines lines) site.spares
   -- no archive that is named is spare

@@ -1,10 +1,10 @@
 -- The five shapes of a line (this profile's own).
 --   policy 2
 --   relay NAME FILE [ADDRESS]
---   entry RELAY PORT
+--   entry RELAY PORT [whole]
 --   protect SELECTOR RELAY ACTION
 --   spare RELAY ACTION
-use Rattle.std.specs.Prelude.{◌≡◌, ℕ, Bool, true, not, ◌||◌, ◌&&◌, if◌then◌else◌, nat_le, ◌==◌, List, [], ◌∷◌, length, Option, Some, None, codes}
+use Rattle.std.specs.Prelude.{◌≡◌, ℕ, Bool, true, false, not, ◌||◌, ◌&&◌, if◌then◌else◌, nat_le, ◌==◌, List, [], ◌∷◌, length, Option, Some, None, codes}
 use Rattle.std.specs.Char.{is_ascii_alphanumeric}
 use Rattle.std.specs.List.{list_all, slice_index}
 use Rattle.std.specs.Net.Grammar.{IsDotted}
@@ -45,9 +45,11 @@ pub record RelayLine : Type 0 where
   pub file : List ℕ
   pub address : List ℕ
 
+-- Of a whole entry nothing that comes in whole may be dropped.
 pub record EntryLine : Type 0 where
   pub relay : List ℕ
   pub port : ℕ
+  pub is_whole : Bool
 
 -- the selector as the severity sets of its facilities
 pub record ProtectLine : Type 0 where
@@ -71,10 +73,15 @@ pub record IsRelayLine (line : List (List ℕ)) (it : RelayLine) : Type 0 where
   pub file : IsUtf8 it.file
   pub address : IsAddress behind it.address
 
--- entry RELAY PORT
+-- what stands behind an entry's port
+abbrev pub whole_words : Bool → List (List ℕ)
+whole_words true = codes "whole" ∷ []
+whole_words false = []
+
+-- entry RELAY PORT [whole]
 pub record IsEntryLine (line : List (List ℕ)) (it : EntryLine) : Type 0 where
   pub port_word : List ℕ
-  pub whole : line ≡ codes "entry" ∷ it.relay ∷ port_word ∷ []
+  pub whole : line ≡ codes "entry" ∷ it.relay ∷ port_word ∷ whole_words it.is_whole
   pub port : port_of port_word ≡ Some it.port
 
 -- protect SELECTOR RELAY ACTION

@@ -10,7 +10,7 @@ use super::protected::protects;
 use super::targets::targets_of;
 use crate::fault::SiteFault;
 use crate::texts::reading::{policy, read_lines};
-use crate::texts::references::{entries, protections, spares};
+use crate::texts::references::{entries, protections, spares, whole_entries};
 use crate::texts::relays::relays;
 use std::alloc::Global;
 
@@ -24,6 +24,7 @@ impl Site {
         let found = read_lines(alloc, text)?;
         let relays = relays(alloc, found.as_slice(), files)?;
         let entries = entries(alloc, found.as_slice(), relays.as_slice())?;
+        let whole_entries = whole_entries(alloc, found.as_slice(), relays.as_slice())?;
         let policy = policy(found.as_slice());
         // Their faults are told behind those of the protect lines, which use up what was read.
         let named = spares(alloc, found.as_slice(), relays.as_slice());
@@ -39,6 +40,7 @@ impl Site {
             policy,
             relays,
             entries,
+            whole_entries,
             protections,
             spares,
             targets,

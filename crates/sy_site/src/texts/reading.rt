@@ -99,6 +99,20 @@ fn same_first_word(a: &[u8], b: &[u8]) -> bool
     }
 }
 
+#[tactic(auto, using(crate::proofs::lemmas::texts::Again::begin_twice, crate::proofs::lemmas::texts::Again::alike_behind, crate::proofs::lemmas::texts::Again::twice_apart, crate::proofs::lemmas::texts::Again::twice_none))]
+fn same_two_words(a: &[u8], b: &[u8]) -> bool
+    ensures same { result ≡ true → spec.BeginAlikeTwice (words a.now) (words b.now) }
+    ensures apart { result ≡ false → spec.BeginAlikeTwice (words a.now) (words b.now) → ⊥ }
+{
+    match next_word(a) {
+        Some((word, behind)) => match behind_word(b, word) {
+            Some(rest) => same_first_word(behind, rest),
+            None => false,
+        },
+        None => false,
+    }
+}
+
 // Whether a line gives again what an earlier one gave.
 fn gives_again(earlier: &Given<'_>, line: &Given<'_>) -> bool
     ensures again { result ≡ true → Repeats (words_given earlier.now) (words_given line.now) }
@@ -110,6 +124,7 @@ fn gives_again(earlier: &Given<'_>, line: &Given<'_>) -> bool
     match &line.line {
         Line::Policy => false,
         Line::Relay(_) => same_first_word(earlier.behind, line.behind),
+        Line::Entry(_) => same_two_words(earlier.behind, line.behind),
         _ => same_words(earlier.behind, line.behind),
     }
 }

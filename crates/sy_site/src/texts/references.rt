@@ -7,7 +7,7 @@ ghost use Rattle.sy_site.specs.internal.Relays as spec;
 ghost use Rattle.sy_site.specs.internal.Relays.{AreRelays, HasMore};
 ghost use Rattle.sy_site.specs.internal.SiteInside.{site_with};
 ghost use Rattle.sy_site.specs.texts.Describes.{File, IsEntry, IsProtection, IsSpare};
-ghost use Rattle.sy_site.specs.texts.Describes.{entry_lines, protect_lines, spare_lines};
+ghost use Rattle.sy_site.specs.texts.Describes.{entry_lines, protect_lines, spare_lines, whole_lines};
 ghost use Rattle.sy_site.specs.texts.Files.{RELAYS};
 ghost use Rattle.sy_site.specs.texts.HasFault.{HasFault};
 ghost use Rattle.sy_site.specs.texts.Shapes as shapes;
@@ -58,6 +58,47 @@ pub fn entries(
     let mut entries = Vec::new(alloc);
     for given in found {
         put_entry(&mut entries, given, relays)?;
+    }
+    Ok(entries)
+}
+
+// Puts the input of a line behind the others, where it is an entry line that ends in `whole`.
+#[tactic(auto, using(crate::proofs::lemmas::sites::More::none_of, crate::proofs::lemmas::sites::More::plain_entry, crate::proofs::lemmas::sites::More::whole_entry))]
+fn put_whole_entry(
+    entries: &mut Vec<SiteInput>,
+    given: &Given<'_>,
+    relays: &[Relay],
+) -> Result<(), SiteFault>
+    requires few { length relays.now ≤ RELAYS }
+    ensures entries { OnOk result (HasMore (IsEntry (site_with relays.now)) (whole_lines (line_given given.now ∷ []))
+        entries.old.items entries.new.items) }
+    ensures err { IfErr result (λ fault. (text : List ℕ) (files : List File) → IsFound text given.now
+        → AreRelays text files relays.now → (fault ≡ SiteFault.NoMemory) ⊎ HasFault text files fault) }
+{
+    let Line::Entry(line) = &given.line else {
+        return Ok(());
+    };
+    if !line.is_whole {
+        return Ok(());
+    }
+    put_entry(entries, given, relays)
+}
+
+/// The inputs of the entry lines of a text that end in `whole`.
+pub fn whole_entries(
+    alloc: Global,
+    found: &[Given<'_>],
+    relays: &[Relay],
+) -> Result<Vec<SiteInput>, SiteFault>
+    requires few { length relays.now ≤ RELAYS }
+    ensures entries { IfOk result (λ entries. HasMore (IsEntry (site_with relays.now))
+        (whole_lines (map line_given found.now)) [] entries.items) }
+    ensures err { IfErr result (λ fault. (text : List ℕ) (files : List File) → All (IsFound text) found.now
+        → AreRelays text files relays.now → (fault ≡ SiteFault.NoMemory) ⊎ HasFault text files fault) }
+{
+    let mut entries = Vec::new(alloc);
+    for given in found {
+        put_whole_entry(&mut entries, given, relays)?;
     }
     Ok(entries)
 }

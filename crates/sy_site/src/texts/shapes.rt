@@ -1,6 +1,6 @@
 //! The shapes of lines.
 
-ghost use Rattle.std.specs.Prelude.{◌≡◌, ◌==◌, ◌∷◌, [], ℕ, List, IfSome, IfNone, codes};
+ghost use Rattle.std.specs.Prelude.{◌≡◌, ◌==◌, ◌∷◌, [], ℕ, Bool, List, IfSome, IfNone, codes};
 ghost use Rattle.std.specs.List.{list_all, slice_index};
 ghost use Rattle.std.specs.Net.Addr.{ipv4_octets};
 ghost use Rattle.sy_select.specs.Selectors.{IsSetOf};
@@ -38,6 +38,8 @@ pub struct RelayLine<'t> {
 pub struct EntryLine<'t> {
     pub relay: &'t [u8],
     pub port: u64,
+    /// Whether the line ends in `whole`.
+    pub is_whole: bool,
 }
 
 /// What a protect line says.
@@ -155,15 +157,38 @@ fn two_words(text: &[u8]) -> Option<(&[u8], &[u8])>
     }
 }
 
+// Whether an entry is whole, of the text behind its port.
+fn is_whole(behind: &[u8]) -> Option<bool>
+    ensures some { IfSome result (λ it. words behind.now ≡ spec.whole_words it) }
+    ensures none { IfNone result ((it : Bool) → words behind.now ≡ spec.whole_words it → ⊥) }
+{
+    match next_word(behind) {
+        None => Some(false),
+        Some(_) => {
+            let rest = behind_word(behind, b"whole")?;
+            match next_word(rest) {
+                Some(_) => None,
+                None => Some(true),
+            }
+        }
+    }
+}
+
 /// What an entry line says, of the text behind its first word.
 pub fn entry_line(behind: &[u8]) -> Option<EntryLine<'_>>
     ensures some { IfSome result (λ it. spec.IsEntryLine (codes "entry" ∷ words behind.now) (entry_line_of it)) }
     ensures none { IfNone result ((it : spec.EntryLine) → spec.IsEntryLine (codes "entry" ∷ words behind.now) it
         → ⊥) }
 {
-    let (relay, word) = two_words(behind)?;
+    let (relay, behind) = next_word(behind)?;
+    let (word, behind) = next_word(behind)?;
     let port = port(word)?;
-    Some(EntryLine { relay, port })
+    let is_whole = is_whole(behind)?;
+    Some(EntryLine {
+        relay,
+        port,
+        is_whole,
+    })
 }
 
 // The selector that a word is.

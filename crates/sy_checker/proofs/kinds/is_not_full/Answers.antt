@@ -8,4 +8,4 @@ use Rattle.sy_checker.proofs.kinds.is_not_full.Goals as goal
 pub returns : goal.returns
 returns c =
     subst (λ i. Decides (not c.is_full_delay.result) (flow_of i.flow ≢ flow.Full)) c.input_at.ensures
-    (subst (λ b. Decides (not b) (flow_of c.input_at.result.flow ≢ flow.Full)) (sym c.is_full_delay.ensures) (not_full c.input_at.result.flow))
+    (subst (λ b. Decides (not b) (flow_of c.input_at.result.now.flow ≢ flow.Full)) (sym c.is_full_delay.ensures) (not_full c.input_at.result.now.flow))

@@ -28,7 +28,7 @@ use Rattle.sy_rules.specs.parts.Plans.{action_name, action_names, actions_of, de
 use Rattle.sy_rules.specs.check.ScriptFaults.{as_item_fault, faults_among, faults_in_text, is_among, is_main_queue, loads_imtcp, not_loaded, ports_of, ruleset_names_of, same_port, too_many, unknown_ruleset}
 use Rattle.sy_rules.proofs.lemmas.check.AmongLaws.{any_found, any_map, contained, first_map, first_of, first_when, made_found, move}
 use Rattle.sy_rules.proofs.lemmas.check.ItemFacts.{clean_of, clean_more, equal_bytes, given_name, is_main, name_found, name_of_ruleset, named_found, none_loads, none_named, port_given, port_of_input, same_bytes}
-use Rattle.sy_rules.specs.internal.ItemViews.{item, placed}
+use Rattle.sy_rules.specs.items.ItemViews.{item, placed}
 use Rattle.sy_rules.proofs.lemmas.items.PlacedItems.{items_placed}
 use Rattle.sy_rules.proofs.lemmas.parameters.Fits.{no_back, no_front}
 use Rattle.sy_rules.proofs.lemmas.parameters.ParameterFaultLaws.{own_there, no_own_fault}

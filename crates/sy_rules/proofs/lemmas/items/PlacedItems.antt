@@ -4,7 +4,7 @@ use Rattle.std.proofs.lemmas.Simd.{map-map}
 use Rattle.sy_script.specs.declared.tree.Top.{Top}
 use Rattle.sy_rules.specs.declared.items.outline.Item.{Item as CodeItem}
 use Rattle.sy_rules.specs.items.Outline.{Placed, items_of, items_of_tops, placed_in_tops}
-use Rattle.sy_rules.specs.internal.ItemViews.{item, placed}
+use Rattle.sy_rules.specs.items.ItemViews.{item, placed}
 
 pub items_placed : (items : List CodeItem) → items_of (map placed items) ≡ map item items
 items_placed items = map-map (λ (x : Placed). x.item) placed items

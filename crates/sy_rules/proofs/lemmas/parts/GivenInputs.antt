@@ -177,23 +177,24 @@ gives_input all clean before x number i stands h e =
     let found = input_item x i h in
     let known = is_known all clean found.0 before stands.later (stands.whole ∙ ap (λ y. before ++ y ∷ stands.later) found.1) in
     subst (λ i. GivesInput all before x number (input_part all i)) (sym found.2)
-    (record { params = found.0; found = found.1; numbered = omega (arith, e); port = refl; flow = refl; bound = is_bound all (input_of found.0).ruleset_name known })
+    (record { params = found.0; found = found.1; numbered = omega (arith, e); port = refl; flow = refl; bound = is_bound all (input_of found.0).ruleset_name known; unread_file = refl })
 
 gives_no_input : (all before : List Item) (x : Item) (n : ℕ) (i : Input) → input_at x ≡ None → GivesInput all before x n i → ⊥
 gives_no_input all before x n i h g = not_both (input_at x) (input_of g.params) h (ap input_at g.found)
 
-input_is : (all : List Item) (i : Input) (said : InputParameters) → i.port ≡ said.port → i.flow ≡ said.flow → i.list ≡ (input_part all said).list → i.queue ≡ (input_part all said).queue → i ≡ input_part all said
-input_is all i said e f g h =
+input_is : (all : List Item) (i : Input) (said : InputParameters) → i.port ≡ said.port → i.flow ≡ said.flow → i.list ≡ (input_part all said).list → i.queue ≡ (input_part all said).queue → i.unread_file ≡ said.unread_file → i ≡ input_part all said
+input_is all i said e f g h u =
     ap (λ x. record i { port = x }) e
     ∙ ap (λ x. record i { port = said.port; flow = x }) f
     ∙ ap (λ x. record i { port = said.port; flow = said.flow; list = x }) g
     ∙ ap (λ x. record i { port = said.port; flow = said.flow; list = (input_part all said).list; queue = x }) h
+    ∙ ap (λ x. record i { port = said.port; flow = said.flow; list = (input_part all said).list; queue = (input_part all said).queue; unread_file = x }) u
 
 one_input : (all before : List Item) (x : Item) (n : ℕ) (i : Input) (o : InputParameters) → input_at x ≡ Some o → GivesInput all before x n i → i ≡ input_part all o
 one_input all before x n i o h g =
     let said = input_of g.params in
     let b = one_binding g.bound in
-    input_is all i said g.port g.flow b.0 b.1 ∙ ap (input_part all) (same_some (input_at x) said o (ap input_at g.found) h)
+    input_is all i said g.port g.flow b.0 b.1 g.unread_file ∙ ap (input_part all) (same_some (input_at x) said o (ap input_at g.found) h)
 
 pub same_input : (all before : List Item) (x : Item) (n : ℕ) (p q : Input) → GivesInput all before x n p → GivesInput all before x n q → p ≡ q
 same_input all before x n p q g h =

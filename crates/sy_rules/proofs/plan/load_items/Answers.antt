@@ -1,7 +1,7 @@
 use Rattle.std.proofs.Common.{◌≡◌, [], ◌++◌, map, subst}
 use Rattle.std.proofs.lemmas.Result.{err_from_is_err_and}
 use Rattle.sy_rules.specs.Faults.{IsAnswered}
-use Rattle.sy_rules.specs.internal.ItemViews.{item, placed}
+use Rattle.sy_rules.specs.items.ItemViews.{item, placed}
 use Rattle.sy_rules.specs.internal.Loading.{faults_of_its_lists}
 use Rattle.sy_rules.specs.items.Outline.{items, placed_items}
 use Rattle.sy_rules.specs.check.ScriptFaults.{faults_in_text, too_many_workers}

@@ -33,7 +33,7 @@ one_value e = cc
 -- ---- entries
 
 no_input : Input
-no_input = record { port = 1; flow = control.Off; list = 0; queue = 0 }
+no_input = record { port = 1; flow = control.Off; list = 0; queue = 0; unread_file = None }
 
 input_there : (site : Site) (relay port : ℕ) (found : Option ℕ) → position (λ i. i.port == port) (plan_at site relay).inputs ≡ found → (e : SiteInput)
     → option_map (λ i. record { relay = relay; input = i }) found ≡ Some e → IsInput site e

@@ -1,10 +1,10 @@
 -- What belongs to lines, list after list.
-use Rattle.std.proofs.Common.{◌≡◌, ℕ, suc, ◌<◌, List, [], ◌∷◌, ◌++◌, length, map, get_or, drop, ◌+◌, ◌≤◌, Result, Ok, Err, refl, sym, ap, subst, ◌∙◌, arith, append_assoc, append-nil}
+use Rattle.std.proofs.Common.{◌≡◌, ℕ, suc, ◌<◌, true, false, List, [], ◌∷◌, ◌++◌, length, map, filter, get_or, drop, ◌+◌, ◌≤◌, Result, Ok, Err, refl, sym, ap, subst, ◌∙◌, arith, append_assoc, append-nil}
 use Rattle.std.specs.Prelude.{All, Contains, OnOk}
 use Rattle.std.proofs.lemmas.List.{drop_all, drop_more}
-use Rattle.std.proofs.lemmas.List.Elements.{All-append, All-cons}
-use Rattle.sy_site.specs.texts.Describes.{AllPaired, entry_lines, protect_lines, relay_lines, spare_lines}
-use Rattle.sy_site.specs.texts.Shapes.{Line}
+use Rattle.std.proofs.lemmas.List.Elements.{All-append, All-cons, filter-append}
+use Rattle.sy_site.specs.texts.Describes.{AllPaired, entry_lines, protect_lines, relay_lines, spare_lines, whole_lines}
+use Rattle.sy_site.specs.texts.Shapes.{Line, EntryLine}
 use Rattle.sy_site.specs.declared.texts.reading.Given.{Given}
 use Rattle.sy_site.specs.declared.texts.shapes.RelayLine.{RelayLine as ReadRelay}
 use Rattle.sy_site.specs.declared.texts.shapes.EntryLine.{EntryLine as ReadEntry}
@@ -86,6 +86,10 @@ entry_first (Line.Entry it) lines = refl
 entry_first (Line.Protect it) lines = refl
 entry_first (Line.Spare it) lines = refl
 
+pub whole_first : (line : Line) (lines : List Line) → whole_lines (line ∷ lines) ≡ whole_lines (line ∷ []) ++ whole_lines lines
+whole_first line lines =
+    ap (filter (λ it. it.is_whole)) (entry_first line lines) ∙ filter-append (λ it. it.is_whole) (entry_lines (line ∷ [])) (entry_lines lines)
+
 pub protect_first : (line : Line) (lines : List Line) → protect_lines (line ∷ lines) ≡ protect_lines (line ∷ []) ++ protect_lines lines
 protect_first Line.Policy lines = refl
 protect_first (Line.Relay it) lines = refl
@@ -145,6 +149,16 @@ not_entry (read.Relay it) never = refl
 not_entry (read.Entry it) never = absurd (never it refl)
 not_entry (read.Protect it) never = refl
 not_entry (read.Spare it) never = refl
+
+pub not_whole : (line : Read) → ((it : ReadEntry) → line ≡ read.Entry it → ⊥) → whole_lines (line_of line ∷ []) ≡ []
+not_whole line never = ap (filter (λ it. it.is_whole)) (not_entry line never)
+
+-- an entry line that isn't whole gives none of these, and one that is whole what it gives as an entry line
+pub plain_entry : (it : EntryLine) → it.is_whole ≡ false → whole_lines (Line.Entry it ∷ []) ≡ []
+plain_entry it plain = rw plain refl
+
+pub whole_entry : (it : EntryLine) → it.is_whole ≡ true → whole_lines (Line.Entry it ∷ []) ≡ entry_lines (Line.Entry it ∷ [])
+whole_entry it whole = rw whole refl
 
 pub not_protect : (line : Read) → ((it : ReadProtect) → line ≡ read.Protect it → ⊥) → protect_lines (line_of line ∷ []) ≡ []
 not_protect read.Policy never = refl

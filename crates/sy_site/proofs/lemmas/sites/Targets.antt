@@ -26,9 +26,9 @@ as_inputs : (of : Option Targets) (action : ℕ) → in_relay of action ≡ in_i
 as_inputs None action = refl
 as_inputs (Some targets) action = refl
 
-module _ (policy : ℕ) (relays : List Kept) (entries : List SiteInput) (protections : List Protection) (spares : List SiteAction) where
+module _ (policy : ℕ) (relays : List Kept) (entries whole_entries : List SiteInput) (protections : List Protection) (spares : List SiteAction) where
   abbrev pub site : Site
-  site = record { policy = policy; relays = map relay_of relays; entries = entries; protections = protections; spares = spares }
+  site = record { policy = policy; relays = map relay_of relays; entries = entries; whole_entries = whole_entries; protections = protections; spares = spares }
 
   -- where a forward leads hangs on the relays alone
   leads : (d : Destination) (name : List ℕ) (retry : Option ℕ) (resume_interval : ℕ)

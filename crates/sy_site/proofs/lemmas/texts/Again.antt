@@ -13,8 +13,9 @@ use Rattle.sy_site.specs.declared.texts.reading.Given.{Given}
 use Rattle.sy_site.specs.declared.texts.shapes.Line.{Line as Read}
 use Rattle.sy_site.specs.declared.texts.shapes.Line.TheVariants as read
 use Rattle.sy_site.specs.declared.texts.shapes.RelayLine.{RelayLine as ReadRelay}
+use Rattle.sy_site.specs.declared.texts.shapes.EntryLine.{EntryLine as ReadEntry}
 use Rattle.sy_site.specs.internal.Lines.{line_of}
-use Rattle.sy_site.specs.internal.Reading.{kind, most, line_given, words_given, BeginAlike, HasNoPlace, HasRoom, IsAdded, IsAgain, IsPlaced, IsShapeless, IsTooMany, IsUnplaced, IsWrong, IsWrongAt, NoneBefore}
+use Rattle.sy_site.specs.internal.Reading.{kind, most, line_given, words_given, BeginAlike, BeginAlikeTwice, HasNoPlace, HasRoom, IsAdded, IsAgain, IsPlaced, IsShapeless, IsTooMany, IsUnplaced, IsWrong, IsWrongAt, NoneBefore}
 use Rattle.sy_site.specs.texts.Lines.{is_kind, is_skipped, words, word_lines}
 use Rattle.sy_site.specs.texts.Shapes.{Line, RelayLine, EntryLine, ProtectLine, SpareLine, IsLine, policy_line}
 use Rattle.sy_site.specs.texts.Files.{RELAYS}
@@ -28,6 +29,31 @@ use Rattle.sy_site.proofs.lemmas.texts.OneLine.{one_line}
 
 pub begin_alike : (a b : Words) (word : List ℕ) (first second : Words) → a ≡ word ∷ first → b ≡ word ∷ second → BeginAlike a b
 begin_alike a b word first second e f = rw (e, f) (BeginAlike.alike word first second)
+
+pub begin_twice : (a b : Words) (word : List ℕ) (first second : Words) → a ≡ word ∷ first → b ≡ word ∷ second → BeginAlike first second
+    → BeginAlikeTwice a b
+begin_twice a b word first second e f (BeginAlike.alike next x y) = rw (e, f) (BeginAlikeTwice.alike_twice word next x y)
+
+-- two lines that begin alike with two words do so behind the first
+behind_twice : (a b : Words) (word : List ℕ) (first second : Words) → BeginAlikeTwice a b → a ≡ word ∷ first → b ≡ word ∷ second → BeginAlike first second
+behind_twice a b word first second (BeginAlikeTwice.alike_twice w next x y) e f =
+    begin_alike first second next x y (sym (behind_first e)) (sym (behind_first f))
+
+first_twice : (a b : Words) (word : List ℕ) (first : Words) → BeginAlikeTwice a b → a ≡ word ∷ first → is_kind word b ≡ true
+first_twice a b word first (BeginAlikeTwice.alike_twice w next x y) e = (bytes_eq-Decides w word).1 (first_same e)
+
+none_twice : (a b : Words) → BeginAlikeTwice a b → a ≡ [] → ⊥
+none_twice a b (BeginAlikeTwice.alike_twice w next x y) e = cc
+
+pub alike_behind : (a b : Words) (word : List ℕ) (first second : Words) → a ≡ word ∷ first → b ≡ word ∷ second → (BeginAlike first second → ⊥)
+    → BeginAlikeTwice a b → ⊥
+alike_behind a b word first second e f apart twice = apart (behind_twice a b word first second twice e f)
+
+pub twice_apart : (a b : Words) (word : List ℕ) (first : Words) → a ≡ word ∷ first → is_kind word b ≡ false → BeginAlikeTwice a b → ⊥
+twice_apart a b word first e other twice = false≢true (sym other ∙ first_twice a b word first twice e)
+
+pub twice_none : (a b : Words) → a ≡ [] → BeginAlikeTwice a b → ⊥
+twice_none a b e twice = none_twice a b twice e
 
 -- ---- given again
 
@@ -43,30 +69,40 @@ letter _ = 0
 again_name : (x y : Words) → Repeats x y → (k : List ℕ) (a b : Words) → x ≡ k ∷ a → y ≡ codes "relay" ∷ b → BeginAlike a b
 again_name x y (Repeats.same_name name first second) k a b e f =
     begin_alike a b name first second (sym (behind_first e)) (sym (behind_first f))
-again_name x y (Repeats.same_entry ws) k a b e f =
+again_name x y (Repeats.same_entry relay port first second) k a b e f =
     let h : 110 ≡ 101 = ap letter (first_same f) in absurd (omega (arith, h))
 again_name x y (Repeats.same_protection ws) k a b e f =
     let h : 114 ≡ 101 = ap letter (first_same f) in absurd (omega (arith, h))
 again_name x y (Repeats.same_spare ws) k a b e f =
     let h : 112 ≡ 101 = ap letter (first_same f) in absurd (omega (arith, h))
 
-again_words : (x y : Words) → Repeats x y → (k j : List ℕ) (a b : Words) → x ≡ k ∷ a → y ≡ j ∷ b → (j ≡ codes "relay" → ⊥) → a ≡ b
-again_words x y (Repeats.same_name name first second) k j a b e f never = absurd (never (sym (first_same f)))
-again_words x y (Repeats.same_entry ws) k j a b e f never = sym (behind_first e) ∙ behind_first f
-again_words x y (Repeats.same_protection ws) k j a b e f never = sym (behind_first e) ∙ behind_first f
-again_words x y (Repeats.same_spare ws) k j a b e f never = sym (behind_first e) ∙ behind_first f
+again_entry : (x y : Words) → Repeats x y → (k : List ℕ) (a b : Words) → x ≡ k ∷ a → y ≡ codes "entry" ∷ b → BeginAlikeTwice a b
+again_entry x y (Repeats.same_name name first second) k a b e f =
+    let h : 101 ≡ 110 = ap letter (first_same f) in absurd (omega (arith, h))
+again_entry x y (Repeats.same_entry relay port first second) k a b e f =
+    rw (sym (behind_first e), sym (behind_first f)) (BeginAlikeTwice.alike_twice relay port first second)
+again_entry x y (Repeats.same_protection ws) k a b e f =
+    let h : 114 ≡ 110 = ap letter (first_same f) in absurd (omega (arith, h))
+again_entry x y (Repeats.same_spare ws) k a b e f =
+    let h : 112 ≡ 110 = ap letter (first_same f) in absurd (omega (arith, h))
+
+again_words : (x y : Words) → Repeats x y → (k j : List ℕ) (a b : Words) → x ≡ k ∷ a → y ≡ j ∷ b → (j ≡ codes "relay" → ⊥) → (j ≡ codes "entry" → ⊥) → a ≡ b
+again_words x y (Repeats.same_name name first second) k j a b e f never other = absurd (never (sym (first_same f)))
+again_words x y (Repeats.same_entry relay port first second) k j a b e f never other = absurd (other (sym (first_same f)))
+again_words x y (Repeats.same_protection ws) k j a b e f never other = sym (behind_first e) ∙ behind_first f
+again_words x y (Repeats.same_spare ws) k j a b e f never other = sym (behind_first e) ∙ behind_first f
 
 -- a policy line gives nothing again
 again_policy : (x y : Words) → Repeats x y → (b : Words) → y ≡ codes "policy" ∷ b → ⊥
 again_policy x y (Repeats.same_name name first second) b f = let h : 101 ≡ 111 = ap letter (first_same f) in absurd (omega (arith, h))
-again_policy x y (Repeats.same_entry ws) b f = let h : 110 ≡ 111 = ap letter (first_same f) in absurd (omega (arith, h))
+again_policy x y (Repeats.same_entry relay port first second) b f = let h : 110 ≡ 111 = ap letter (first_same f) in absurd (omega (arith, h))
 again_policy x y (Repeats.same_protection ws) b f = let h : 114 ≡ 111 = ap letter (first_same f) in absurd (omega (arith, h))
 again_policy x y (Repeats.same_spare ws) b f = let h : 112 ≡ 111 = ap letter (first_same f) in absurd (omega (arith, h))
 
 -- lines of which one gives again the other begin alike
 pub again_kind : (x y : Words) → Repeats x y → (k j : List ℕ) (a b : Words) → x ≡ k ∷ a → y ≡ j ∷ b → k ≡ j
 again_kind x y (Repeats.same_name name first second) k j a b e f = sym (first_same e) ∙ first_same f
-again_kind x y (Repeats.same_entry ws) k j a b e f = sym (first_same e) ∙ first_same f
+again_kind x y (Repeats.same_entry relay port first second) k j a b e f = sym (first_same e) ∙ first_same f
 again_kind x y (Repeats.same_protection ws) k j a b e f = sym (first_same e) ∙ first_same f
 again_kind x y (Repeats.same_spare ws) k j a b e f = sym (first_same e) ∙ first_same f
 
@@ -74,29 +110,33 @@ again_kind x y (Repeats.same_spare ws) k j a b e f = sym (first_same e) ∙ firs
 abbrev pub SaysAgain : Line → Words → Words → Type 0
 SaysAgain Line.Policy a b = ⊥
 SaysAgain (Line.Relay it) a b = BeginAlike a b
-SaysAgain (Line.Entry it) a b = a ≡ b
+SaysAgain (Line.Entry it) a b = BeginAlikeTwice a b
 SaysAgain (Line.Protect it) a b = a ≡ b
 SaysAgain (Line.Spare it) a b = a ≡ b
 
 named_again : (k : List ℕ) (a b : Words) → k ≡ codes "relay" → BeginAlike a b → Repeats (k ∷ a) (codes "relay" ∷ b)
 named_again k a b e (BeginAlike.alike w f s) = rw e (Repeats.same_name w f s)
 
+entered_again : (k : List ℕ) (a b : Words) → k ≡ codes "entry" → BeginAlikeTwice a b → Repeats (k ∷ a) (codes "entry" ∷ b)
+entered_again k a b e (BeginAlikeTwice.alike_twice w n f s) = rw e (Repeats.same_entry w n f s)
+
 pub says_again : (it : Line) (k : List ℕ) (a b : Words) → k ≡ kind it → SaysAgain it a b → Repeats (k ∷ a) (kind it ∷ b)
 says_again Line.Policy k a b e h = absurd h
 says_again (Line.Relay it) k a b e h = named_again k a b e h
-says_again (Line.Entry it) k a b e h = rw (e, h) (Repeats.same_entry b)
+says_again (Line.Entry it) k a b e h = entered_again k a b e h
 says_again (Line.Protect it) k a b e h = rw (e, h) (Repeats.same_protection b)
 says_again (Line.Spare it) k a b e h = rw (e, h) (Repeats.same_spare b)
 
 pub says_apart : (it : Line) (k : List ℕ) (a b : Words) → (SaysAgain it a b → ⊥) → Repeats (k ∷ a) (kind it ∷ b) → ⊥
 says_apart Line.Policy k a b never r = again_policy _ _ r b refl
 says_apart (Line.Relay it) k a b never r = never (again_name _ _ r k a b refl refl)
-says_apart (Line.Entry it) k a b never r =
-    never (again_words _ _ r k (codes "entry") a b refl refl (λ e. let h : 110 ≡ 101 = ap letter e in absurd (omega (arith, h))))
+says_apart (Line.Entry it) k a b never r = never (again_entry _ _ r k a b refl refl)
 says_apart (Line.Protect it) k a b never r =
-    never (again_words _ _ r k (codes "protect") a b refl refl (λ e. let h : 114 ≡ 101 = ap letter e in absurd (omega (arith, h))))
+    never (again_words _ _ r k (codes "protect") a b refl refl (λ e. let h : 114 ≡ 101 = ap letter e in absurd (omega (arith, h)))
+    (λ e. let h : 114 ≡ 110 = ap letter e in absurd (omega (arith, h))))
 says_apart (Line.Spare it) k a b never r =
-    never (again_words _ _ r k (codes "spare") a b refl refl (λ e. let h : 112 ≡ 101 = ap letter e in absurd (omega (arith, h))))
+    never (again_words _ _ r k (codes "spare") a b refl refl (λ e. let h : 112 ≡ 101 = ap letter e in absurd (omega (arith, h)))
+    (λ e. let h : 112 ≡ 110 = ap letter e in absurd (omega (arith, h))))
 
 pub same_kind : (a b k j : List ℕ) → a ≡ k → b ≡ j → false ≡ not (bytes_eq a b) → k ≡ j
 same_kind a b k j e f same = sym e ∙ (bytes_eq-Decides a b).0 (not_false (bytes_eq a b) (sym same)) ∙ f
@@ -108,20 +148,20 @@ not_true false h = refl
 pub other_kind : (a b k j : List ℕ) → a ≡ k → b ≡ j → true ≡ not (bytes_eq a b) → k ≡ j → ⊥
 other_kind a b k j e f differ same = false≢true (sym (not_true (bytes_eq a b) (sym differ)) ∙ (bytes_eq-Decides a b).1 (e ∙ same ∙ sym f))
 
--- lines that are no policy and no relay lines say again the same words
-pub other_says : (it : Read) → (it ≡ read.Policy → ⊥) → ((x : ReadRelay) → it ≡ read.Relay x → ⊥) → (a b : Words) → a ≡ b → SaysAgain (line_of it) a b
-other_says read.Policy no_policy never a b e = absurd (no_policy refl)
-other_says (read.Relay x) no_policy never a b e = absurd (never x refl)
-other_says (read.Entry x) no_policy never a b e = e
-other_says (read.Protect x) no_policy never a b e = e
-other_says (read.Spare x) no_policy never a b e = e
+-- lines that are no policy, no relay and no entry lines say again the same words
+pub other_says : (it : Read) → (it ≡ read.Policy → ⊥) → ((x : ReadRelay) → it ≡ read.Relay x → ⊥) → ((x : ReadEntry) → it ≡ read.Entry x → ⊥) → (a b : Words) → a ≡ b → SaysAgain (line_of it) a b
+other_says read.Policy no_policy never not_entry a b e = absurd (no_policy refl)
+other_says (read.Relay x) no_policy never not_entry a b e = absurd (never x refl)
+other_says (read.Entry x) no_policy never not_entry a b e = absurd (not_entry x refl)
+other_says (read.Protect x) no_policy never not_entry a b e = e
+other_says (read.Spare x) no_policy never not_entry a b e = e
 
-pub other_same : (it : Read) → (it ≡ read.Policy → ⊥) → ((x : ReadRelay) → it ≡ read.Relay x → ⊥) → (a b : Words) → SaysAgain (line_of it) a b → a ≡ b
-other_same read.Policy no_policy never a b e = absurd e
-other_same (read.Relay x) no_policy never a b e = absurd (never x refl)
-other_same (read.Entry x) no_policy never a b e = e
-other_same (read.Protect x) no_policy never a b e = e
-other_same (read.Spare x) no_policy never a b e = e
+pub other_same : (it : Read) → (it ≡ read.Policy → ⊥) → ((x : ReadRelay) → it ≡ read.Relay x → ⊥) → ((x : ReadEntry) → it ≡ read.Entry x → ⊥) → (a b : Words) → SaysAgain (line_of it) a b → a ≡ b
+other_same read.Policy no_policy never not_entry a b e = absurd e
+other_same (read.Relay x) no_policy never not_entry a b e = absurd (never x refl)
+other_same (read.Entry x) no_policy never not_entry a b e = absurd (not_entry x refl)
+other_same (read.Protect x) no_policy never not_entry a b e = e
+other_same (read.Spare x) no_policy never not_entry a b e = e
 
 -- ---- duplicates
 

@@ -16,7 +16,7 @@ use Rattle.sy_site.specs.declared.texts.shapes.RelayLine.{RelayLine as ReadRelay
 use Rattle.sy_site.specs.internal.Lines.{line_of}
 use Rattle.sy_site.specs.internal.Reading.{kind, most, line_given, words_given, BeginAlike, HasNoPlace, HasRoom, IsAdded, IsAgain, IsPlaced, IsShapeless, IsTooMany, IsUnplaced, IsWrong, IsWrongAt, NoneBefore}
 use Rattle.sy_site.specs.texts.Lines.{is_kind, is_skipped, words, word_lines}
-use Rattle.sy_site.specs.texts.Shapes.{Line, RelayLine, EntryLine, ProtectLine, SpareLine, IsLine, policy_line}
+use Rattle.sy_site.specs.texts.Shapes.{Line, RelayLine, EntryLine, ProtectLine, SpareLine, IsLine, policy_line, whole_words}
 use Rattle.sy_site.specs.texts.Files.{RELAYS}
 use Rattle.sy_site.specs.texts.Describes.{ENTRIES, PROTECTIONS, SPARES, AreLines, File, IsDuplicate, IsMisplaced, Repeats, entry_lines, first_line, policy_of, protect_lines, relay_lines, spare_lines}
 use Rattle.sy_site.specs.texts.HasFault.{HasFault, IsLimit}
@@ -37,14 +37,14 @@ given_words line (Line.Spare it) word behind e h = let k : word ≡ codes "spare
 pub nothing_shaped : (line : Words) → line ≡ [] → (it : Line) → IsLine line it → ⊥
 nothing_shaped line e Line.Policy h = let f : [] ≡ policy_line = sym e ∙ h in cc
 nothing_shaped line e (Line.Relay it) h = let f : [] ≡ codes "relay" ∷ it.name ∷ it.file ∷ h.behind = sym e ∙ h.whole in cc
-nothing_shaped line e (Line.Entry it) h = let f : [] ≡ codes "entry" ∷ it.relay ∷ h.port_word ∷ [] = sym e ∙ h.whole in cc
+nothing_shaped line e (Line.Entry it) h = let f : [] ≡ codes "entry" ∷ it.relay ∷ h.port_word ∷ whole_words it.is_whole = sym e ∙ h.whole in cc
 nothing_shaped line e (Line.Protect it) h = let f : [] ≡ codes "protect" ∷ h.selector_word ∷ it.relay ∷ it.action ∷ [] = sym e ∙ h.whole in cc
 nothing_shaped line e (Line.Spare it) h = let f : [] ≡ codes "spare" ∷ it.relay ∷ it.action ∷ [] = sym e ∙ h in cc
 
 pub of_kind : (line : Words) (it : Line) → IsLine line it → (behind : Words) × (line ≡ kind it ∷ behind)
 of_kind line Line.Policy h = (codes "2" ∷ [], h)
 of_kind line (Line.Relay it) h = (it.name ∷ it.file ∷ h.behind, h.whole)
-of_kind line (Line.Entry it) h = (it.relay ∷ h.port_word ∷ [], h.whole)
+of_kind line (Line.Entry it) h = (it.relay ∷ h.port_word ∷ whole_words it.is_whole, h.whole)
 of_kind line (Line.Protect it) h = (h.selector_word ∷ it.relay ∷ it.action ∷ [], h.whole)
 of_kind line (Line.Spare it) h = (it.relay ∷ it.action ∷ [], h)
 
@@ -77,7 +77,7 @@ pub no_relay : RelayLine
 no_relay = record { name = []; file = []; address = [] }
 
 pub no_entry : EntryLine
-no_entry = record { relay = []; port = 0 }
+no_entry = record { relay = []; port = 0; is_whole = false }
 
 pub no_protect : ProtectLine
 no_protect = record { selector = []; relay = []; action = [] }
@@ -127,7 +127,7 @@ is_kept w = not (is_skipped w)
 
 pub again_kept : (o w : Words) → Repeats o w → (is_skipped o ≡ false) × (is_skipped w ≡ false)
 again_kept o w (Repeats.same_name name first second) = (refl, refl)
-again_kept o w (Repeats.same_entry ws) = (refl, refl)
+again_kept o w (Repeats.same_entry relay port first second) = (refl, refl)
 again_kept o w (Repeats.same_protection ws) = (refl, refl)
 again_kept o w (Repeats.same_spare ws) = (refl, refl)
 

@@ -1,12 +1,12 @@
 -- A line of a text says one thing at most.
-use Rattle.std.proofs.Common.{◌≡◌, ℕ, List, [], ◌∷◌, Some, Option, refl, sym, ap, ◌∙◌, arith}
+use Rattle.std.proofs.Common.{◌≡◌, ℕ, Bool, true, false, List, [], ◌∷◌, Some, Option, refl, sym, ap, ◌∙◌, arith}
 use Rattle.std.specs.Prelude.{codes}
 use Rattle.std.specs.Net.Grammar.{IsDotted}
 use Rattle.std.proofs.NetLemmas.Ipv4.{read_ipv4_complete}
 use Rattle.std.proofs.lemmas.Bool.{false≢true}
 use Rattle.sy_select.proofs.OneExpr.{one_set}
 use Rattle.sy_site.proofs.lemmas.texts.Shaped.{behind_first, first_same}
-use Rattle.sy_site.specs.texts.Shapes.{Line, RelayLine, EntryLine, ProtectLine, SpareLine, IsLine, IsAddress, IsRelayLine, IsEntryLine, IsProtectLine, IsSpareLine}
+use Rattle.sy_site.specs.texts.Shapes.{Line, RelayLine, EntryLine, ProtectLine, SpareLine, IsLine, IsAddress, IsRelayLine, IsEntryLine, IsProtectLine, IsSpareLine, whole_words}
 use Rattle.sy_site.specs.texts.Describes.{AreLines}
 
 -- what is one value is no other
@@ -36,10 +36,16 @@ one_relay_line words a b is_a is_b = same a b parts.0 parts.1 (one_address is_a.
     same : (p q : RelayLine) → p.name ≡ q.name → p.file ≡ q.file → p.address ≡ q.address → p ≡ q
     same p q n f d = λ i. record { name = n i; file = f i; address = d i }
 
+same_whole : (a b : Bool) → whole_words a ≡ whole_words b → a ≡ b
+same_whole true true e = refl
+same_whole true false e = cc
+same_whole false true e = cc
+same_whole false false e = refl
+
 one_entry_line : (words : List (List ℕ)) (a b : EntryLine) → IsEntryLine words a → IsEntryLine words b → a ≡ b
-one_entry_line words a b is_a is_b = λ i. record { relay = relay i; port = port i }
+one_entry_line words a b is_a is_b = λ i. record { relay = relay i; port = port i; is_whole = is_whole i }
   where
-    both : codes "entry" ∷ a.relay ∷ is_a.port_word ∷ [] ≡ codes "entry" ∷ b.relay ∷ is_b.port_word ∷ []
+    both : codes "entry" ∷ a.relay ∷ is_a.port_word ∷ whole_words a.is_whole ≡ codes "entry" ∷ b.relay ∷ is_b.port_word ∷ whole_words b.is_whole
     both = sym is_a.whole ∙ is_b.whole
 
     relay : a.relay ≡ b.relay
@@ -50,6 +56,9 @@ one_entry_line words a b is_a is_b = λ i. record { relay = relay i; port = port
 
     port : a.port ≡ b.port
     port = one_value is_a.port (rw word is_b.port)
+
+    is_whole : a.is_whole ≡ b.is_whole
+    is_whole = same_whole a.is_whole b.is_whole (behind_first (behind_first (behind_first both)))
 
 one_protect_line : (words : List (List ℕ)) (a b : ProtectLine) → IsProtectLine words a → IsProtectLine words b → a ≡ b
 one_protect_line words a b is_a is_b = λ i. record { selector = selector i; relay = relay i; action = action i }

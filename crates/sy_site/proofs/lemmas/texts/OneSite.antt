@@ -32,19 +32,20 @@ one_relay files it a b is_a is_b = λ i. record { name = name i; address = addre
     plan = one_plan is_a.script a.plan b.plan is_a.is_plan (rw tree is_b.is_plan)
 
 same_entries : (a b : Site) → a.relays ≡ b.relays → (it : EntryLine) → entry_of a it ≡ entry_of b it
-same_entries a b same it = ap (λ rs. entry_of (record { policy = 1; relays = rs; entries = []; protections = []; spares = [] }) it) same
+same_entries a b same it = ap (λ rs. entry_of (record { policy = 1; relays = rs; entries = []; whole_entries = []; protections = []; spares = [] }) it) same
 
 pub same_archives : (a b : Site) → a.relays ≡ b.relays → (it : ProtectLine) → archive_of a it ≡ archive_of b it
-same_archives a b same it = ap (λ rs. archive_of (record { policy = 1; relays = rs; entries = []; protections = []; spares = [] }) it) same
+same_archives a b same it = ap (λ rs. archive_of (record { policy = 1; relays = rs; entries = []; whole_entries = []; protections = []; spares = [] }) it) same
 
 pub same_actions : (a b : Site) → a.relays ≡ b.relays → (it : SpareLine) → action_of a it ≡ action_of b it
-same_actions a b same it = ap (λ rs. action_of (record { policy = 1; relays = rs; entries = []; protections = []; spares = [] }) it) same
+same_actions a b same it = ap (λ rs. action_of (record { policy = 1; relays = rs; entries = []; whole_entries = []; protections = []; spares = [] }) it) same
 
 pub one_site : (text : List ℕ) (files : List File) (a b : Site) → Describes text files a → Describes text files b → a ≡ b
 one_site text files a b is_a is_b = λ i. record {
   policy = policy i;
   relays = relays i;
   entries = entries i;
+  whole_entries = whole_entries i;
   protections = protections i;
   spares = spares i;
 }
@@ -62,6 +63,11 @@ one_site text files a b is_a is_b = λ i. record {
     entries =
         one_pairing {P = IsEntry a} {Q = IsEntry b} (λ it e f is_e is_f. one_value is_e (same_entries a b relays it
         ∙ is_f)) is_a.entries (rw same_lines is_b.entries)
+
+    whole_entries : a.whole_entries ≡ b.whole_entries
+    whole_entries =
+        one_pairing {P = IsEntry a} {Q = IsEntry b} (λ it e f is_e is_f. one_value is_e (same_entries a b relays it
+        ∙ is_f)) is_a.whole_entries (rw same_lines is_b.whole_entries)
 
     one_protection : (it : ProtectLine) (p q : Protection) → IsProtection a it p → IsProtection b it q → p ≡ q
     one_protection it p q is_p is_q =

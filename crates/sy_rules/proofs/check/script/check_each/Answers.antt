@@ -2,7 +2,7 @@ use Rattle.std.proofs.Common.{◌∙◌, ◌++◌, subst, sym, take, map, arith}
 use Rattle.std.proofs.lemmas.Result.{err_from_is_err_and}
 use Rattle.sy_rules.specs.Faults.{IsAnswered, in_text}
 use Rattle.sy_rules.specs.items.ItemFaults.{object_faults}
-use Rattle.sy_rules.specs.internal.ItemViews.{item, placed, span}
+use Rattle.sy_rules.specs.items.ItemViews.{item, placed, span}
 use Rattle.sy_rules.specs.internal.Seen.{Shows}
 use Rattle.sy_rules.proofs.lemmas.check.ScriptLaws.{left_behind, next_answered, same_faults, shows_more, stands}
 use Rattle.sy_rules.proofs.check.script.check_each.Goals as goal

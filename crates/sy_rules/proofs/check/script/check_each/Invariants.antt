@@ -1,5 +1,5 @@
 use Rattle.std.proofs.Common.{◌≡◌, [], take, drop, map}
-use Rattle.sy_rules.specs.internal.ItemViews.{item, placed}
+use Rattle.sy_rules.specs.items.ItemViews.{item, placed}
 use Rattle.sy_rules.specs.check.ScriptFaults.{faults_in_text}
 use Rattle.sy_rules.specs.internal.Seen.{Shows}
 use Rattle.sy_rules.proofs.check.script.check_each.Given as goal

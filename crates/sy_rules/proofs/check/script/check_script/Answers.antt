@@ -1,5 +1,5 @@
 use Rattle.std.proofs.Common.{map}
-use Rattle.sy_rules.specs.internal.ItemViews.{item}
+use Rattle.sy_rules.specs.items.ItemViews.{item}
 use Rattle.sy_rules.proofs.lemmas.check.CleanItems.{are_clean}
 use Rattle.sy_rules.proofs.lemmas.check.ItemsThere.{clean_in_text}
 use Rattle.sy_rules.proofs.check.script.check_script.Goals as goal

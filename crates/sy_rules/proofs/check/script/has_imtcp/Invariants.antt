@@ -1,6 +1,6 @@
 use Rattle.std.proofs.Common.{◌≡◌, drop, map}
 use Rattle.std.specs.List.{list_any}
-use Rattle.sy_rules.specs.internal.ItemViews.{item}
+use Rattle.sy_rules.specs.items.ItemViews.{item}
 use Rattle.sy_rules.specs.check.ScriptFaults.{loads_imtcp}
 use Rattle.sy_rules.proofs.check.script.has_imtcp.Given as goal
 

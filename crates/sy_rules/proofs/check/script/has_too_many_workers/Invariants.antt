@@ -1,6 +1,6 @@
 use Rattle.std.proofs.Common.{◌≡◌, ◌≤◌, ◌+◌, length, map, sum}
 use Rattle.std.specs.List.{filter_map}
-use Rattle.sy_rules.specs.internal.ItemViews.{item}
+use Rattle.sy_rules.specs.items.ItemViews.{item}
 use Rattle.sy_rules.specs.internal.Checking.{AreClean}
 use Rattle.sy_rules.specs.parts.Plans.{own_queue, queues_of}
 use Rattle.sy_rules.proofs.check.script.has_too_many_workers.Given as goal

@@ -1,5 +1,5 @@
 use Rattle.std.proofs.Common.{◌≡◌, ◌||◌, ℕ, List, length, map}
-use Rattle.sy_rules.specs.internal.ItemViews.{item}
+use Rattle.sy_rules.specs.items.ItemViews.{item}
 use Rattle.sy_rules.specs.check.ScriptFaults.{is_among, ruleset_names_of}
 use Rattle.sy_rules.proofs.check.script.ruleset_names.Given as goal
 

@@ -1,6 +1,6 @@
 use Rattle.std.proofs.Common.{◌≡◌, length, map, filter_map}
 use Rattle.sy_rules.specs.internal.Checking.{AreClean}
-use Rattle.sy_rules.specs.internal.ItemViews.{item}
+use Rattle.sy_rules.specs.items.ItemViews.{item}
 use Rattle.sy_rules.specs.parts.Plans.{main_queue_at}
 use Rattle.sy_rules.proofs.items.borrowed.main_queue_params.Given as goal
 

@@ -1,5 +1,5 @@
 use Rattle.std.proofs.Common.{◌≡◌, ◌++◌, drop, map}
-use Rattle.sy_rules.specs.internal.ItemViews.{placed}
+use Rattle.sy_rules.specs.items.ItemViews.{placed}
 use Rattle.sy_rules.specs.items.Outline.{placed_in_body}
 use Rattle.sy_rules.proofs.items.outline.+items.Given as goal
 

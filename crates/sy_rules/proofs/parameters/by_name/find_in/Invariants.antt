@@ -1,6 +1,6 @@
 use Rattle.std.proofs.Common.{◌≡◌, length, map}
 use Rattle.sy_rules.specs.parameters.Rows.{lookup}
-use Rattle.sy_rules.specs.internal.Views.{row_of}
+use Rattle.sy_rules.specs.parameters.RowViews.{row_of}
 use Rattle.sy_rules.proofs.parameters.by_name.find_in.Given as goal
 
 abbrev pub invariant-loop-rows : goal.invariant-loop-rows

@@ -1,7 +1,7 @@
 use Rattle.std.proofs.Common.{◌≡◌, length, map}
 use Rattle.sy_rules.specs.Faults.{first}
 use Rattle.sy_rules.specs.parameters.Values.{missing}
-use Rattle.sy_rules.specs.internal.Views.{row_of}
+use Rattle.sy_rules.specs.parameters.RowViews.{row_of}
 use Rattle.sy_rules.proofs.parameters.flaws.first_missing.Given as goal
 
 abbrev pub invariant-loop-rows : goal.invariant-loop-rows

@@ -3,7 +3,7 @@ use Rattle.std.proofs.Math.ListN.{drop_of_length-le}
 use Rattle.sy_select.specs.Truth.{Formula}
 use Rattle.sy_select.specs.declared.condition.Test.{Test}
 use Rattle.sy_rules.specs.items.Expressions.{trees_of}
-use Rattle.sy_rules.specs.internal.ItemViews.{item}
+use Rattle.sy_rules.specs.items.ItemViews.{item}
 use Rattle.sy_rules.specs.PlanValue.{AreExprs}
 use Rattle.sy_rules.proofs.parts.expressions.read_tests.Goals as goal
 

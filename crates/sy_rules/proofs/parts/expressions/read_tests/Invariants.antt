@@ -3,7 +3,7 @@ use Rattle.sy_select.specs.Truth.{Formula}
 use Rattle.sy_select.specs.declared.condition.Test.{Test}
 use Rattle.sy_rules.specs.items.Expressions.{trees_of}
 use Rattle.sy_rules.specs.internal.Checking.{faults_of_trees}
-use Rattle.sy_rules.specs.internal.ItemViews.{item}
+use Rattle.sy_rules.specs.items.ItemViews.{item}
 use Rattle.sy_rules.specs.PlanValue.{AreExprs}
 use Rattle.sy_rules.proofs.parts.expressions.read_tests.Given as goal
 

@@ -1,6 +1,6 @@
 use Rattle.std.proofs.Common.{◌≡◌, ◌++◌, length, map, filter_map}
 use Rattle.sy_rules.specs.internal.Checking.{AreClean}
-use Rattle.sy_rules.specs.internal.ItemViews.{item}
+use Rattle.sy_rules.specs.items.ItemViews.{item}
 use Rattle.sy_rules.specs.parts.Plans.{own_queue, queues_of}
 use Rattle.sy_rules.proofs.parts.of_items.queues.Given as goal
 

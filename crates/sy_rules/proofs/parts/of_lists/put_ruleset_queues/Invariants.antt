@@ -1,5 +1,5 @@
 use Rattle.std.proofs.Common.{◌≡◌, ◌≤◌, ◌+◌, ◌++◌, length, map, filter_map}
-use Rattle.sy_rules.specs.internal.ItemViews.{item}
+use Rattle.sy_rules.specs.items.ItemViews.{item}
 use Rattle.sy_rules.specs.parts.Plans.{own_queue, ruleset_queues}
 use Rattle.sy_rules.proofs.parts.of_lists.put_ruleset_queues.Given as goal
 

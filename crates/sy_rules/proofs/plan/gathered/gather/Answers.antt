@@ -1,5 +1,5 @@
 use Rattle.std.proofs.Common.{length, map, ap, arith}
-use Rattle.sy_rules.specs.internal.ItemViews.{item}
+use Rattle.sy_rules.specs.items.ItemViews.{item}
 use Rattle.sy_rules.proofs.lemmas.check.CleanItems.{are_clean, few_rulesets, few_actions, queues_of_both}
 use Rattle.sy_rules.proofs.plan.gathered.gather.Goals as goal
 

@@ -1,7 +1,7 @@
 use Rattle.std.proofs.Common.{◌≡◌, ◌++◌, length, map}
 use Rattle.std.specs.List.{filter_map}
 use Rattle.sy_rules.specs.check.ScriptFaults.{head_of, heads_of}
-use Rattle.sy_rules.specs.internal.ItemViews.{placed}
+use Rattle.sy_rules.specs.items.ItemViews.{placed}
 use Rattle.sy_rules.specs.internal.TableSizes.{head}
 use Rattle.sy_rules.proofs.plan.gathered.heads_of_lists.Given as goal
 

@@ -19,15 +19,20 @@ entries-requires c =
     let relays = rw c.as_slice.ensures.value at c.in_ok-relays.ensures.relays in
     record { few = rw c.as_slice-3.ensures.value (few_relays _ _ c.in_ok-relays.relays.items relays c.in_ok-found.ensures.few_relays) }
 
+pub whole_entries-requires : goal.whole_entries-requires
+whole_entries-requires c =
+    let relays = rw c.as_slice.ensures.value at c.in_ok-relays.ensures.relays in
+    record { few = rw c.as_slice-5.ensures.value (few_relays _ _ c.in_ok-relays.relays.items relays c.in_ok-found.ensures.few_relays) }
+
 pub protections-requires : goal.protections-requires
 protections-requires c =
     let relays = rw c.as_slice.ensures.value at c.in_ok-relays.ensures.relays in
-    record { few = rw c.as_slice-7.ensures.value (few_relays _ _ c.in_ok-relays.relays.items relays c.in_ok-found.ensures.few_relays) }
+    record { few = rw c.as_slice-9.ensures.value (few_relays _ _ c.in_ok-relays.relays.items relays c.in_ok-found.ensures.few_relays) }
 
 pub targets_of-requires : goal.targets_of-requires
 targets_of-requires c =
     let relays = rw c.as_slice.ensures.value at c.in_ok-relays.ensures.relays in
-    record { few = rw c.as_slice-8.ensures.value (few_relays _ _ c.in_ok-relays.relays.items relays c.in_ok-found.ensures.few_relays) }
+    record { few = rw c.as_slice-10.ensures.value (few_relays _ _ c.in_ok-relays.relays.items relays c.in_ok-found.ensures.few_relays) }
 
 pub returns-in_err-relays-clause-err : goal.returns-in_err-relays-clause-err
 returns-in_err-relays-clause-err c =
@@ -44,26 +49,35 @@ returns-in_err-entries-clause-err c =
     let err = refused c.args.text.now files (all_found c.args.text.now c.in_ok-found.found.items c.in_ok-found.ensures.placed) are in
     search rules
 
+pub returns-in_err-whole_entries-clause-err : goal.returns-in_err-whole_entries-clause-err
+returns-in_err-whole_entries-clause-err c =
+    let files = map (λ f. file f.0.now f.1.now) c.args.files.now in
+    let relays = rw c.as_slice.ensures.value at c.in_ok-relays.ensures.relays in
+    let are = are_relays c.args.text.now files (map line_given c.in_ok-found.found.items) c.in_ok-relays.relays.items c.in_ok-found.ensures.lines relays in
+    let refused = rw (c.as_slice-4.ensures.value, c.as_slice-5.ensures.value) at c.in_err-whole_entries.ensures.err in
+    let err = refused c.args.text.now files (all_found c.args.text.now c.in_ok-found.found.items c.in_ok-found.ensures.placed) are in
+    search rules
+
 pub returns-in_err-protections-clause-err : goal.returns-in_err-protections-clause-err
 returns-in_err-protections-clause-err c =
     let files = map (λ f. file f.0.now f.1.now) c.args.files.now in
     let relays = rw c.as_slice.ensures.value at c.in_ok-relays.ensures.relays in
     let are = are_relays c.args.text.now files (map line_given c.in_ok-found.found.items) c.in_ok-relays.relays.items c.in_ok-found.ensures.lines relays in
-    let refused = rw c.as_slice-7.ensures.value at c.in_err-protections.ensures.err in
+    let refused = rw c.as_slice-9.ensures.value at c.in_err-protections.ensures.err in
     let err = refused c.args.text.now files (all_found c.args.text.now c.in_ok-found.found.items c.in_ok-found.ensures.placed) are in
     search rules
 
 pub spares-named-requires : goal.spares-named-requires
 spares-named-requires c =
     let relays = rw c.as_slice.ensures.value at c.in_ok-relays.ensures.relays in
-    record { few = rw c.as_slice-6.ensures.value (few_relays _ _ c.in_ok-relays.relays.items relays c.in_ok-found.ensures.few_relays) }
+    record { few = rw c.as_slice-8.ensures.value (few_relays _ _ c.in_ok-relays.relays.items relays c.in_ok-found.ensures.few_relays) }
 
 pub returns-in_err-spares-clause-err : goal.returns-in_err-spares-clause-err
 returns-in_err-spares-clause-err c =
     let files = map (λ f. file f.0.now f.1.now) c.args.files.now in
     let relays = rw c.as_slice.ensures.value at c.in_ok-relays.ensures.relays in
     let are = are_relays c.args.text.now files (map line_given c.in_ok-found.found.items) c.in_ok-relays.relays.items c.in_ok-found.ensures.lines relays in
-    let refused = rw (c.as_slice-5.ensures.value, c.as_slice-6.ensures.value) at c.in_err-spares.ensures.err in
+    let refused = rw (c.as_slice-7.ensures.value, c.as_slice-8.ensures.value) at c.in_err-spares.ensures.err in
     let err = refused c.args.text.now files (all_found c.args.text.now c.in_ok-found.found.items c.in_ok-found.ensures.placed) are in
     search rules
 
@@ -74,10 +88,11 @@ returns-then-is_empty-clause-err c =
       policy = c.policy-policy.result;
       relays = map relay_of c.in_ok-relays.relays.items;
       entries = c.in_ok-entries.entries.items;
+      whole_entries = c.in_ok-whole_entries.whole_entries.items;
       protections = c.in_ok-protections.protections.items;
       spares = c.in_ok-spares.spares.items;
     } in
-    let protections = protections_of (site_with c.in_ok-relays.relays.items) site refl _ c.in_ok-protections.protections.items (rw c.as_slice-7.ensures.value at c.in_ok-protections.ensures.protections) in
+    let protections = protections_of (site_with c.in_ok-relays.relays.items) site refl _ c.in_ok-protections.protections.items (rw c.as_slice-9.ensures.value at c.in_ok-protections.ensures.protections) in
     elim c.then-is_empty.branch [
       | then-is_empty-via-then-is_empty w ↦
           let none : length c.in_ok-entries.entries.items ≡ 0 = omega (arith, eqb-true _ _ (sym w.if-is_empty.ensures), c.in_ok-entries.entries.ok) in
@@ -93,12 +108,14 @@ returns-clause-site c =
       policy = c.policy-policy.result;
       relays = c.in_ok-relays.relays;
       entries = c.in_ok-entries.entries;
+      whole_entries = c.in_ok-whole_entries.whole_entries;
       protections = c.in_ok-protections.protections;
       spares = c.in_ok-spares.spares;
       targets = c.in-Ok.targets;
     }) in
     let relays = rw c.as_slice.ensures.value at c.in_ok-relays.ensures.relays in
     let entries = rw (c.as_slice-2.ensures.value, c.as_slice-3.ensures.value) at c.in_ok-entries.ensures.entries in
+    let whole_entries = rw (c.as_slice-4.ensures.value, c.as_slice-5.ensures.value) at c.in_ok-whole_entries.ensures.entries in
     let protected = c.protects.ensures.yes c.if-not-protects.false in
     record {
       small = c.in_ok-found.ensures.small;
@@ -110,13 +127,14 @@ returns-clause-site c =
       few_entries = c.in_ok-found.ensures.few_entries;
       few_protections = c.in_ok-found.ensures.few_protections;
       few_spares = c.in_ok-found.ensures.few_spares;
-      policy = rw c.as_slice-4.ensures.value at c.policy-policy.ensures;
+      policy = rw c.as_slice-6.ensures.value at c.policy-policy.ensures;
       relays = paired_relays files (relay_lines (map line_given c.in_ok-found.found.items)) c.in_ok-relays.relays.items relays;
       entries = all_paired (IsEntry site) _ c.in_ok-entries.entries.items entries;
-      protections = protections_of (site_with c.in_ok-relays.relays.items) site refl _ c.in_ok-protections.protections.items (rw c.as_slice-7.ensures.value at c.in_ok-protections.ensures.protections);
-      spares = spares_of (site_with c.in_ok-relays.relays.items) site refl _ c.in_ok-spares.spares.items (rw (c.as_slice-5.ensures.value, c.as_slice-6.ensures.value) at c.in_ok-spares.ensures.spares);
+      whole_entries = all_paired (IsEntry site) _ c.in_ok-whole_entries.whole_entries.items whole_entries;
+      protections = protections_of (site_with c.in_ok-relays.relays.items) site refl _ c.in_ok-protections.protections.items (rw c.as_slice-9.ensures.value at c.in_ok-protections.ensures.protections);
+      spares = spares_of (site_with c.in_ok-relays.relays.items) site refl _ c.in_ok-spares.spares.items (rw (c.as_slice-7.ensures.value, c.as_slice-8.ensures.value) at c.in_ok-spares.ensures.spares);
       apart =
-          none_named c.in_ok-found.found.items (spare_lines (map line_given c.in_ok-found.found.items)) (rw c.as_slice-5.ensures.value at c.in_ok-spares.ensures.apart);
+          none_named c.in_ok-found.found.items (spare_lines (map line_given c.in_ok-found.found.items)) (rw c.as_slice-7.ensures.value at c.in_ok-spares.ensures.apart);
       entered = grind (arith, common_steps);
       class = protected.0;
       protected = rw c.as_slice-else-is_empty.ensures.value at protected.1;
@@ -129,6 +147,7 @@ invariant_of-result c =
       policy = c.policy-policy.result;
       relays = c.in_ok-relays.relays;
       entries = c.in_ok-entries.entries;
+      whole_entries = c.in_ok-whole_entries.whole_entries;
       protections = c.in_ok-protections.protections;
       spares = c.in_ok-spares.spares;
       targets = c.in-Ok.targets;
@@ -148,6 +167,6 @@ invariant_of-result c =
         apart = described.apart;
       }),
       (c.args.text.now, files, described),
-      subst (λ l. map inputs_of c.in-Ok.targets.items ≡ map (λ relay. targets_in (site_with l) (relay_of relay)) l) c.as_slice-8.ensures.value
+      subst (λ l. map inputs_of c.in-Ok.targets.items ≡ map (λ relay. targets_in (site_with l) (relay_of relay)) l) c.as_slice-10.ensures.value
           c.in-Ok.ensures,
     )

@@ -28,14 +28,14 @@ returns-in_default-clause-again c = λ e.
     let line = c.args.line.now in
     says_again (line_of line.line) (kind (line_of earlier.line)) (words earlier.behind.now) (words line.behind.now)
     (same_kind c.kind.result.now c.kind-2.result.now (kind (line_of earlier.line)) (kind (line_of line.line)) c.kind.ensures c.kind-2.ensures c.if-ne.ensures)
-    (other_says line.line c.in_default.not-Policy c.in_default.not-Relay (words earlier.behind.now) (words line.behind.now) (c.same_words.ensures.same e))
+    (other_says line.line c.in_default.not-Policy c.in_default.not-Relay c.in_default.not-Entry (words earlier.behind.now) (words line.behind.now) (c.same_words.ensures.same e))
 
 pub returns-in_default-clause-apart : goal.returns-in_default-clause-apart
 returns-in_default-clause-apart c = λ e.
     let earlier = c.args.earlier.now in
     let line = c.args.line.now in
     says_apart (line_of line.line) (kind (line_of earlier.line)) (words earlier.behind.now) (words line.behind.now)
-    (λ h. c.same_words.ensures.apart e (other_same line.line c.in_default.not-Policy c.in_default.not-Relay (words earlier.behind.now) (words line.behind.now) h))
+    (λ h. c.same_words.ensures.apart e (other_same line.line c.in_default.not-Policy c.in_default.not-Relay c.in_default.not-Entry (words earlier.behind.now) (words line.behind.now) h))
 
 pub returns-in-Policy-clause-apart : goal.returns-in-Policy-clause-apart
 returns-in-Policy-clause-apart c = λ e.
@@ -50,3 +50,20 @@ returns-then-ne-clause-apart c = λ e again.
     let line = c.args.line.now in
     other_kind c.kind.result.now c.kind-2.result.now (kind (line_of earlier.line)) (kind (line_of line.line)) c.kind.ensures c.kind-2.ensures c.if-ne.ensures
     (again_kind _ _ again (kind (line_of earlier.line)) (kind (line_of line.line)) (words earlier.behind.now) (words line.behind.now) refl refl)
+
+pub returns-in-Entry-clause-again : goal.returns-in-Entry-clause-again
+returns-in-Entry-clause-again c = λ e.
+    let earlier = c.args.earlier.now in
+    let line = c.args.line.now in
+    let again = subst (λ it. SaysAgain (line_of it) (words earlier.behind.now) (words line.behind.now)) (sym c.in-Entry.is) (c.same_two_words.ensures.same e) in
+    says_again (line_of line.line) (kind (line_of earlier.line)) (words earlier.behind.now) (words line.behind.now)
+    (same_kind c.kind.result.now c.kind-2.result.now (kind (line_of earlier.line)) (kind (line_of line.line)) c.kind.ensures c.kind-2.ensures c.if-ne.ensures)
+    again
+
+pub returns-in-Entry-clause-apart : goal.returns-in-Entry-clause-apart
+returns-in-Entry-clause-apart c = λ e.
+    let earlier = c.args.earlier.now in
+    let line = c.args.line.now in
+    says_apart (line_of line.line) (kind (line_of earlier.line)) (words earlier.behind.now) (words line.behind.now)
+    (λ h. c.same_two_words.ensures.apart e
+    (subst (λ it. SaysAgain (line_of it) (words earlier.behind.now) (words line.behind.now)) c.in-Entry.is h))

@@ -1,7 +1,7 @@
 use Rattle.std.proofs.Common.{◌++◌, refl}
 use Rattle.sy_rules.specs.parameters.Rows.{own_rows, destination_rows, queue_head_rows, queue_rest_rows}
 use Rattle.sy_rules.proofs.lemmas.parameters.Lookups.{lookup-append}
-use Rattle.sy_rules.proofs.parameters.by_name.find.Goals as goal
+use Rattle.sy_rules.proofs.parameters.by_name.parameter_named.Goals as goal
 
 pub returns-in-Some : goal.returns-in-Some
 returns-in-Some c =
