@@ -1,1 +1,4 @@
 pub mod Lengths
+pub mod Values
+pub mod Grammar
+pub mod Carried

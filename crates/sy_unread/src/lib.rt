@@ -1,6 +1,7 @@
 //! Frames that carry no message of RFC 5424: what is kept of them, and what becomes of it.
 #![tactic(auto)]
 
+pub mod laws;
 mod parts;
 pub mod record;
 

@@ -50,6 +50,16 @@ fn length(given: Option<u64>) -> Option<u64>
     }
 }
 
+// The numbers have 64 bits.
+pub(crate) fn in_range(about: &About<'_>)
+    ensures { IsInRange about.now }
+{
+    number(u64::from(about.input));
+    number(about.frame);
+    number(about.at);
+    length(about.length);
+}
+
 // Appends what stands before a frame's bytes.
 fn append_head<'a>(text: &mut Vec<u8>, about: &About<'a>, part: &'a [u8]) -> Result<(), AllocError>
     ensures value { OnOk result (text.new.items ≡ text.old.items ++ spec.head about.now part.now) }
