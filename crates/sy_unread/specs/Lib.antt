@@ -1,3 +1,4 @@
 pub mod Texts
 pub mod Records
+pub mod Hints
 pub mod internal
