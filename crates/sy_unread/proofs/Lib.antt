@@ -2,3 +2,4 @@ pub mod Lengths
 pub mod Values
 pub mod Grammar
 pub mod Carried
+pub mod Again

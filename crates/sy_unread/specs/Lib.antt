@@ -1,4 +1,6 @@
 pub mod Texts
 pub mod Records
+pub mod Reading
+pub mod Repairs
 pub mod Hints
 pub mod internal

@@ -1,10 +1,14 @@
 //! Frames that carry no message of RFC 5424: what is kept of them, and what becomes of it.
 #![tactic(auto)]
 
+mod fields;
 pub mod hint;
 pub mod laws;
 mod parts;
+pub mod reading;
 pub mod record;
+pub mod repaired;
 
 pub use hint::Hint;
+pub use reading::{Found, Share, are_parts, read_record};
 pub use record::{About, append_records};

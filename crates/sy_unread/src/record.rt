@@ -87,7 +87,11 @@ fn append_head<'a>(text: &mut Vec<u8>, about: &About<'a>, part: &'a [u8]) -> Res
 }
 
 // What stands before a frame's bytes.
-fn head<'a>(alloc: Global, about: &About<'a>, part: &'a [u8]) -> Result<Vec<u8>, AllocError>
+pub(crate) fn head<'a>(
+    alloc: Global,
+    about: &About<'a>,
+    part: &'a [u8],
+) -> Result<Vec<u8>, AllocError>
     requires { length part.now ≤ 16 }
     ensures value { IfOk result (λ text. text.items ≡ spec.head about.now part.now) }
     ensures within { IfOk result (λ text. (0 < length text.items) × (length text.items ≤ 2048)) }

@@ -1,0 +1,26 @@
+-- What a repair makes of a frame's bytes.
+use Rattle.std.specs.Prelude.{◌≡◌, ℕ, ◌≤◌, ◌<◌, Bool, List, [], ◌∷◌, ◌++◌, codes, drop, length, map, take, nat_eq, leb, if◌then◌else◌}
+use Rattle.sy_wire.specs.Frames.{MAX_FRAME}
+use Rattle.sy_wire.specs.Messages.{IsMessage}
+use Rattle.sy_unread.specs.Records.{is_print_us_ascii, nil_value}
+use Rattle.sy_unread.specs.declared.repaired.Repaired.{Repaired}
+use Rattle.sy_unread.specs.declared.repaired.Repair.{Repair}
+use Rattle.sy_unread.specs.declared.repaired.Repair.TheVariants.{Whole}
+
+-- The result is a message that a frame may carry. Its text is the bytes from a place on, and so ends with them: that is
+-- where their head ends, or their first byte where no head was read.
+pub record IsRepair (bytes : List ℕ) (repaired : Repaired) : Type 0 where
+  pub is_message : IsMessage repaired.message
+  pub fits : length repaired.message.raw ≤ MAX_FRAME
+  pub within : repaired.head ≤ length bytes
+  pub text : repaired.message.msg ≡ drop repaired.head bytes
+  pub whole : repaired.how ≡ Whole → repaired.head ≡ 0
+
+-- a byte of a name: `_` where it is none of PRINTUSASCII
+abbrev pub name_byte : ℕ → ℕ
+name_byte b = if is_print_us_ascii b then b else 95
+
+-- the first bytes of a name, as many as its field may have at most, or NILVALUE where there is none
+abbrev pub name_of : ℕ → List ℕ → List ℕ
+name_of most [] = nil_value
+name_of most (b ∷ name) = map name_byte (take most (b ∷ name))
