@@ -2,8 +2,10 @@
 #![tactic(auto)]
 
 mod fields;
+mod heads;
 pub mod hint;
 pub mod laws;
+pub mod names;
 mod parts;
 pub mod reading;
 pub mod record;
