@@ -9,6 +9,7 @@ pub mod names;
 mod parts;
 pub mod reading;
 pub mod record;
+pub mod repair;
 pub mod repaired;
 
 pub use hint::Hint;

@@ -1,7 +1,7 @@
 //! What repairs make, and the proof that it is right.
 ghost use Rattle.std.specs.Prelude.{◌≡◌, ◌≤◌, IfSome, true, drop, length};
+ghost use Rattle.sy_wire.specs.Frames.{MAX_FRAME};
 ghost use Rattle.sy_unread.specs.Repairs as spec;
-ghost use Rattle.sy_unread.specs.declared.repaired.Repair.TheVariants.{Whole};
 
 use sy_wire::{MAX_FRAME, Message};
 
@@ -52,28 +52,38 @@ fn same_text(text: &[u8], bytes: &[u8]) -> bool
     text == bytes
 }
 
-/// The message of these bytes, where they are one that a frame may carry whose text is the original from a place on.
-pub(crate) fn checked(
-    how: Repair,
-    candidate: Vec<u8>,
-    original: &[u8],
-    head: usize,
-) -> Option<Repaired>
-    requires { how ≡ Whole → head ≡ 0 }
-    ensures { IfSome result (λ repaired. spec.IsRepair original.now repaired) }
+// The repair that made this message, where its text are the last bytes of the original.
+fn placed(how: Repair, message: Message, original: &[u8]) -> Option<Repaired>
+    requires { length message.raw ≤ MAX_FRAME }
+    ensures { IfSome result (λ repaired. spec.IsRepair original.now repaired × (repaired.how ≡ how)) }
 {
-    if head > original.len() || candidate.len() > MAX_FRAME {
+    message.is_message();
+    let length = message.msg().len();
+    if length > original.len() {
         return None;
     }
+    let head = original.len() - length;
     let (_, text) = original.split_at(head);
+    if how == Repair::Whole && head != 0 {
+        return None;
+    }
+    if same_text(message.msg(), text) {
+        Some(Repaired { how, message, head })
+    } else {
+        None
+    }
+}
+
+/// The message of these bytes, where they are one that a frame may carry whose text are the last bytes of the original:
+/// all of them where all is text.
+pub(crate) fn checked(how: Repair, candidate: Vec<u8>, original: &[u8]) -> Option<Repaired>
+    ensures { IfSome result (λ repaired. spec.IsRepair original.now repaired × (repaired.how ≡ how)) }
+{
+    if candidate.len() > MAX_FRAME {
+        return None;
+    }
     match Message::read(candidate) {
-        Ok(message) => {
-            if same_text(message.msg(), text) {
-                Some(Repaired { how, message, head })
-            } else {
-                None
-            }
-        }
+        Ok(message) => placed(how, message, original),
         Err(_) => None,
     }
 }
