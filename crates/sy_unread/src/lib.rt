@@ -1,6 +1,8 @@
 //! Frames that carry no message of RFC 5424: what is kept of them, and what becomes of it.
 #![tactic(auto)]
 
+pub mod advice;
+pub mod counts;
 mod fields;
 mod heads;
 pub mod hint;
@@ -11,6 +13,8 @@ pub mod reading;
 pub mod record;
 pub mod repair;
 pub mod repaired;
+pub mod shown;
+pub mod summary;
 
 pub use hint::Hint;
 pub use reading::{Found, Share, are_parts, read_record};
