@@ -1,7 +1,7 @@
 pub mod Texts
 pub mod Records
 pub mod Reading
-pub mod Repairs
 pub mod Shown
 pub mod Hints
+pub mod Repairs
 pub mod internal

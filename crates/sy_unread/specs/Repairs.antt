@@ -1,7 +1,9 @@
 -- What a repair makes of a frame's bytes.
-use Rattle.std.specs.Prelude.{◌≡◌, ℕ, ◌≤◌, ◌<◌, Bool, List, [], ◌∷◌, ◌++◌, codes, drop, length, map, take, nat_eq, leb, if◌then◌else◌}
+use Rattle.std.specs.Prelude.{◌≡◌, ℕ, ◌≤◌, ◌<◌, ◌⊎◌, Bool, List, [], ◌∷◌, ◌++◌, codes, drop, length, map, take, nat_eq, leb, if◌then◌else◌}
 use Rattle.sy_wire.specs.Frames.{MAX_FRAME}
 use Rattle.sy_wire.specs.Messages.{IsMessage}
+use Rattle.sy_unread.specs.Hints.{hint_of}
+use Rattle.sy_unread.specs.declared.hint.Hint.TheVariants.{Http, Tls}
 use Rattle.sy_unread.specs.Records.{is_print_us_ascii, nil_value}
 use Rattle.sy_unread.specs.declared.repaired.Repaired.{Repaired}
 use Rattle.sy_unread.specs.declared.repaired.Repair.{Repair}
@@ -15,6 +17,14 @@ pub record IsRepair (bytes : List ℕ) (repaired : Repaired) : Type 0 where
   pub within : repaired.head ≤ length bytes
   pub text : repaired.message.msg ≡ drop repaired.head bytes
   pub whole : repaired.how ≡ Whole → repaired.head ≡ 0
+
+-- how many bytes may be made text by a head that says nothing but a priority of three digits: 19 bytes fewer than a frame carries
+abbrev pub MOST_TEXT : ℕ
+MOST_TEXT = 65517
+
+-- No repair is made: there are too many bytes, or they begin like what no sender of syslog sends.
+abbrev pub IsBeyondRepair : List ℕ → Type 0
+IsBeyondRepair bytes = (MOST_TEXT < length bytes) ⊎ ((hint_of bytes ≡ Tls) ⊎ (hint_of bytes ≡ Http))
 
 -- a byte of a name: `_` where it is none of PRINTUSASCII
 abbrev pub name_byte : ℕ → ℕ

@@ -1,4 +1,5 @@
 //! The heads of frames that carry no message, as far as they can be read.
+ghost use Rattle.std.specs.Prelude.{◌≡◌, drop};
 
 use crate::fields::{number, word};
 use crate::hint::{byte_at, is_digit, pri_length};
@@ -33,7 +34,9 @@ pub(crate) fn pri(bytes: &[u8]) -> Option<&[u8]> {
 }
 
 // The bytes from a place on, none after the last.
-pub(crate) fn from(bytes: &[u8], at: usize) -> &[u8] {
+pub(crate) fn from(bytes: &[u8], at: usize) -> &[u8]
+    ensures { result.now ≡ drop at bytes.now }
+{
     if at <= bytes.len() { &bytes[at..] } else { &[] }
 }
 

@@ -6,6 +6,8 @@ pub mod counts;
 mod fields;
 mod heads;
 pub mod hint;
+pub mod joining;
+mod judged;
 pub mod laws;
 pub mod names;
 mod parts;

@@ -1,12 +1,14 @@
 //! Repairs of frames that carry no message.
-ghost use Rattle.std.specs.Prelude.{IfOk, IfSome};
+ghost use Rattle.std.specs.Prelude.{◌≡◌, ◌<◌, IfNone, IfOk, IfSome, length};
 ghost use Rattle.sy_unread.specs.Repairs as spec;
+ghost use Rattle.sy_unread.specs.internal.{whole_text};
 
 use crate::heads::{Head, from, head_3164, head_5424, pri};
 use crate::hint::Hint;
 use crate::names::append_name;
-use crate::parts::append_escaped;
-use crate::repaired::{Repair, Repaired, checked};
+use crate::parts::{append_escaped, append_number};
+use crate::judged::checked;
+use crate::repaired::{Repair, Repaired};
 use std::alloc::{AllocError, Global};
 use sy_wire::Message;
 
@@ -159,20 +161,50 @@ pub fn rfc_3164(alloc: Global, bytes: &[u8]) -> Result<Option<Repaired>, AllocEr
     drafted(alloc, &draft, bytes)
 }
 
-/// All of the bytes as text, with their priority or, where they have none, `<13>` (RFC 3164, section 4.3.3).
-pub fn whole(alloc: Global, bytes: &[u8]) -> Result<Option<Repaired>, AllocError>
-    ensures { IfOk result (λ made. IfSome made (λ repaired. spec.IsRepair bytes.now repaired)) }
+// The number of a priority that is read at the front, else 13 (RFC 3164, section 4.3.3).
+fn pri_number(alloc: Global, bytes: &[u8]) -> Result<u8, AllocError>
+    ensures { IfOk result (λ n. n < 192) }
+{
+    let Some(pri) = pri(bytes) else {
+        return Ok(13);
+    };
+    let mut text = Vec::new(alloc);
+    text.extend_from_slice(pri)?;
+    text.extend_from_slice(b"1 - - - - - -")?;
+    match Message::read(text) {
+        Ok(message) => Ok(message.class().number()),
+        Err(_) => Ok(13),
+    }
+}
+
+// All of the bytes as text behind a priority.
+fn whole_text(alloc: Global, number: u8, bytes: &[u8]) -> Result<Vec<u8>, AllocError>
+    ensures { IfOk result (λ text. text.items ≡ whole_text number bytes.now) }
 {
     let mut text = Vec::new(alloc);
-    text.extend_from_slice(pri(bytes).unwrap_or(b"<13>"))?;
-    text.extend_from_slice(b"1 - - - - - - ")?;
+    text.extend_from_slice(b"<")?;
+    append_number(&mut text, u64::from(number))?;
+    text.extend_from_slice(b">1 - - - - - - ")?;
     text.extend_from_slice(bytes)?;
+    Ok(text)
+}
+
+/// All of the bytes as text, with their priority or, where they have none, `<13>` (RFC 3164, section 4.3.3): none for more
+/// than 65,517 bytes.
+pub fn whole(alloc: Global, bytes: &[u8]) -> Result<Option<Repaired>, AllocError>
+    ensures some { IfOk result (λ made. IfSome made (λ repaired. spec.IsRepair bytes.now repaired)) }
+    ensures none { IfOk result (λ made. IfNone made (spec.MOST_TEXT < length bytes.now)) }
+{
+    let number = pri_number(alloc, bytes)?;
+    let text = whole_text(alloc, number, bytes)?;
     Ok(checked(Repair::Whole, text, bytes))
 }
 
-/// The first of these repairs that makes a message, and none for what begins like TLS or HTTP.
+/// The first of these repairs that makes a message, and none for what begins like TLS or HTTP, and for more than 65,517
+/// bytes where none but the last would make one.
 pub fn repair(alloc: Global, bytes: &[u8]) -> Result<Option<Repaired>, AllocError>
-    ensures { IfOk result (λ made. IfSome made (λ repaired. spec.IsRepair bytes.now repaired)) }
+    ensures none { IfOk result (λ made. IfNone made (spec.IsBeyondRepair bytes.now)) }
+    ensures some { IfOk result (λ made. IfSome made (λ repaired. spec.IsRepair bytes.now repaired)) }
 {
     match Hint::of(bytes) {
         Hint::Tls | Hint::Http => return Ok(None),

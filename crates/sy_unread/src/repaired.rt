@@ -1,9 +1,10 @@
-//! What repairs make, and the proof that it is right.
-ghost use Rattle.std.specs.Prelude.{◌≡◌, ◌≤◌, IfSome, true, drop, length};
-ghost use Rattle.sy_wire.specs.Frames.{MAX_FRAME};
-ghost use Rattle.sy_unread.specs.Repairs as spec;
+//! What repairs make.
+ghost use Rattle.std.specs.Prelude.{◌≡◌, ◌≤◌, ◌++◌, OnOk, length};
+ghost use Rattle.sy_wire.specs.Frames.{MAX_FRAME, frame};
 
-use sy_wire::{MAX_FRAME, Message};
+use crate::record::append_frame;
+use std::alloc::AllocError;
+use sy_wire::Message;
 
 /// What a repair changes.
 #[derive(Clone, Copy, PartialEq, Eq)]
@@ -43,47 +44,15 @@ pub struct Repaired {
     pub message: Message,
     /// How many bytes the head of the original has, whose others are the message's text.
     pub head: usize,
+    ghost fits: { length message.raw ≤ MAX_FRAME },
 }
 
-// Whether the text is the bytes.
-fn same_text(text: &[u8], bytes: &[u8]) -> bool
-    ensures { result ≡ true → text.now ≡ bytes.now }
-{
-    text == bytes
-}
-
-// The repair that made this message, where its text are the last bytes of the original.
-fn placed(how: Repair, message: Message, original: &[u8]) -> Option<Repaired>
-    requires { length message.raw ≤ MAX_FRAME }
-    ensures { IfSome result (λ repaired. spec.IsRepair original.now repaired × (repaired.how ≡ how)) }
-{
-    message.is_message();
-    let length = message.msg().len();
-    if length > original.len() {
-        return None;
-    }
-    let head = original.len() - length;
-    let (_, text) = original.split_at(head);
-    if how == Repair::Whole && head != 0 {
-        return None;
-    }
-    if same_text(message.msg(), text) {
-        Some(Repaired { how, message, head })
-    } else {
-        None
-    }
-}
-
-/// The message of these bytes, where they are one that a frame may carry whose text are the last bytes of the original:
-/// all of them where all is text.
-pub(crate) fn checked(how: Repair, candidate: Vec<u8>, original: &[u8]) -> Option<Repaired>
-    ensures { IfSome result (λ repaired. spec.IsRepair original.now repaired × (repaired.how ≡ how)) }
-{
-    if candidate.len() > MAX_FRAME {
-        return None;
-    }
-    match Message::read(candidate) {
-        Ok(message) => placed(how, message, original),
-        Err(_) => None,
+impl Repaired {
+    /// Appends the octet-counted frame of the message.
+    pub fn append_frame(&self, out: &mut Vec<u8>) -> Result<(), AllocError>
+        ensures { OnOk result (out.new.items ≡ out.old.items ++ frame self.now.message.raw) }
+    {
+        self.message.is_message();
+        append_frame(out, b"", self.message.raw())
     }
 }

@@ -61,6 +61,20 @@ fn app_name(bytes: &[u8]) -> &[u8] {
     }
 }
 
+// What bytes with this fault begin like. A head of RFC 5424 tells of line feeds only where no count was read before it.
+fn hint_of(fault: &[u8], bytes: &[u8]) -> Hint {
+    match Hint::of(bytes) {
+        Hint::LineFeeds => {
+            if fault.starts_with(b"11 ") {
+                Hint::LineFeeds
+            } else {
+                Hint::Unknown
+            }
+        }
+        hint => hint,
+    }
+}
+
 impl Summary {
     /// No frame was counted.
     pub fn new(alloc: Global) -> Summary {
@@ -87,7 +101,7 @@ impl Summary {
             frame: found.frame,
             at: found.at,
             length: found.length.unwrap_or(bytes.len() as u64),
-            hint: Hint::of(bytes),
+            hint: hint_of(found.fault.as_bytes(), bytes),
             bytes: copy,
         };
         match self.examples.push(example) {
