@@ -56,8 +56,8 @@ whole_message n bytes low = record {
   is_data = inl refl;
   is_tail = (refl, refl);
   text = text_is n bytes
-    ∙ sym (regroup (60 ∷ decimal n ++ 62 ∷ []) (49 ∷ 32 ∷ []) (45 ∷ 32 ∷ []) (45 ∷ 32 ∷ []) (45 ∷ 32 ∷ []) (45 ∷ 32 ∷ []) (45 ∷ 32 ∷ [])
-    (45 ∷ []) (32 ∷ bytes));
+      ∙ sym (regroup (60 ∷ decimal n ++ 62 ∷ []) (49 ∷ 32 ∷ []) (45 ∷ 32 ∷ []) (45 ∷ 32 ∷ []) (45 ∷ 32 ∷ []) (45 ∷ 32 ∷ []) (45 ∷ 32 ∷ [])
+      (45 ∷ []) (32 ∷ bytes));
 }
 
 pub whole_within : (n : ℕ) (bytes : List ℕ) → n < 192 → length (whole_text n bytes) ≤ 19 + length bytes

@@ -30,6 +30,7 @@ pub enum Taken {
 #[derive(Drop)]
 pub struct Joining {
     first: Option<Kept>,
+    lone: u64,
 }
 
 /// The bytes of a record's frame in the message that is the record.
@@ -46,11 +47,8 @@ fn copied(alloc: Global, raw: &[u8], found: Found) -> Result<Kept, AllocError> {
     Ok(Kept { found, bytes })
 }
 
-// The frame of two parts.
+// The frame of its two parts.
 fn joined(first: Kept, second: &Kept) -> Result<Taken, AllocError> {
-    if !are_parts(&first.found, &second.found) {
-        return Ok(Taken::Lone);
-    }
     let Kept { found, mut bytes } = first;
     bytes.extend_from_slice(second.bytes.as_slice())?;
     Ok(Taken::Frame(Kept { found, bytes }))
@@ -59,32 +57,59 @@ fn joined(first: Kept, second: &Kept) -> Result<Taken, AllocError> {
 impl Joining {
     /// No part waits for another.
     pub fn new() -> Joining {
-        Joining { first: None }
+        Joining {
+            first: None,
+            lone: 0,
+        }
     }
 
-    /// Whether a first part waits for its second.
-    pub fn waits(&self) -> bool {
-        self.first.is_some()
+    /// How many parts were alone: the other one isn't the record beside them. One that still waits is among them.
+    pub fn lone(&self) -> u64 {
+        self.lone.saturating_add(u64::from(self.first.is_some()))
+    }
+
+    // One part more is alone.
+    fn leave(&mut self) {
+        self.lone = self.lone.saturating_add(1);
+    }
+
+    // The frame whose second part this is.
+    fn join(&mut self, before: Option<Kept>, second: &Kept) -> Result<Taken, AllocError> {
+        match before {
+            Some(first) => {
+                if are_parts(&first.found, &second.found) {
+                    return joined(first, second);
+                }
+                self.leave();
+            }
+            None => {}
+        }
+        self.leave();
+        Ok(Taken::Lone)
     }
 
     /// Takes the next message of a file of records.
     pub fn take(&mut self, alloc: Global, raw: &[u8]) -> Result<Taken, AllocError> {
         let before = mem::replace(&mut self.first, None);
-        let found = match read_record(alloc, raw)? {
-            Some(found) => found,
-            None => return Ok(Taken::Other),
-        };
-        let record = copied(alloc, raw, found)?;
-        match record.found.share {
-            Share::Whole => Ok(Taken::Frame(record)),
-            Share::First => {
-                self.first = Some(record);
-                Ok(Taken::First)
+        let record = match read_record(alloc, raw)? {
+            Some(found) => copied(alloc, raw, found)?,
+            None => {
+                if before.is_some() {
+                    self.leave();
+                }
+                return Ok(Taken::Other);
             }
-            Share::Second => match before {
-                Some(first) => joined(first, &record),
-                None => Ok(Taken::Lone),
-            },
+        };
+        if record.found.share == Share::Second {
+            return self.join(before, &record);
         }
+        if before.is_some() {
+            self.leave();
+        }
+        if record.found.share == Share::Whole {
+            return Ok(Taken::Frame(record));
+        }
+        self.first = Some(record);
+        Ok(Taken::First)
     }
 }

@@ -13,6 +13,7 @@ pub mod names;
 mod parts;
 pub mod reading;
 pub mod record;
+pub mod records;
 pub mod repair;
 pub mod repaired;
 pub mod shown;

@@ -102,7 +102,11 @@ pub(crate) fn head<'a>(
 }
 
 // Appends the frame of the message that is this head and these bytes.
-pub(crate) fn append_frame(frames: &mut Vec<u8>, head: &[u8], bytes: &[u8]) -> Result<(), AllocError>
+pub(crate) fn append_frame(
+    frames: &mut Vec<u8>,
+    head: &[u8],
+    bytes: &[u8],
+) -> Result<(), AllocError>
     requires { IsSize (length head.now + length bytes.now) }
     ensures { OnOk result (frames.new.items ≡ frames.old.items ++ frame (head.now ++ bytes.now)) }
 {

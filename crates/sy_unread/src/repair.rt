@@ -5,9 +5,9 @@ ghost use Rattle.sy_unread.specs.internal.{whole_text};
 
 use crate::heads::{Head, from, head_3164, head_5424, pri};
 use crate::hint::Hint;
+use crate::judged::checked;
 use crate::names::append_name;
 use crate::parts::{append_escaped, append_number};
-use crate::judged::checked;
 use crate::repaired::{Repair, Repaired};
 use std::alloc::{AllocError, Global};
 use sy_wire::Message;
@@ -130,13 +130,13 @@ pub fn fields(alloc: Global, bytes: &[u8]) -> Result<Option<Repaired>, AllocErro
     match drafted(alloc, &draft, bytes)? {
         Some(made) => Ok(Some(made)),
         None => {
-            let draft = Draft {
+            let as_text = Draft {
                 how: Repair::Data,
                 head,
                 is_text: true,
                 rest,
             };
-            drafted(alloc, &draft, bytes)
+            drafted(alloc, &as_text, bytes)
         }
     }
 }
@@ -152,13 +152,13 @@ pub fn rfc_3164(alloc: Global, bytes: &[u8]) -> Result<Option<Repaired>, AllocEr
         head.timestamp = b"-";
     }
     let rest = from(bytes, head.end);
-    let draft = Draft {
+    let anew = Draft {
         how: Repair::Rfc3164,
         head,
         is_text: true,
         rest,
     };
-    drafted(alloc, &draft, bytes)
+    drafted(alloc, &anew, bytes)
 }
 
 // The number of a priority that is read at the front, else 13 (RFC 3164, section 4.3.3).
