@@ -1,5 +1,5 @@
 -- What is read of a record is what stands in it.
-use Rattle.std.proofs.Common.{◌≡◌, ℕ, ◌≤◌, List, ◌++◌, length, drop, refl, sym, ap, ◌∙◌}
+use Rattle.std.proofs.Common.{◌≡◌, ℕ, List, sym, ◌∙◌}
 use Rattle.sy_unread.specs.Records.{head}
 use Rattle.sy_unread.specs.Reading.{Says}
 use Rattle.sy_unread.specs.declared.record.About.{About}

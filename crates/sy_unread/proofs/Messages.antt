@@ -1,5 +1,5 @@
 -- A message has bytes.
-use Rattle.std.proofs.Common.{◌≡◌, ℕ, ◌<◌, List, [], ◌∷◌, ◌++◌, length, ap, arith, length-append, ◌∙◌}
+use Rattle.std.proofs.Common.{◌≡◌, ℕ, ◌<◌, [], ◌∷◌, ◌++◌, length, ap, arith, length-append}
 use Rattle.sy_wire.specs.Messages.{IsMessage, Said}
 
 pub message_some : (m : Said) → IsMessage m → 0 < length m.raw

@@ -1,12 +1,11 @@
 -- What a repair makes of a frame's bytes.
-use Rattle.std.specs.Prelude.{◌≡◌, ℕ, ◌≤◌, ◌<◌, ◌⊎◌, Bool, List, [], ◌∷◌, ◌++◌, codes, drop, length, map, take, nat_eq, leb, if◌then◌else◌}
+use Rattle.std.specs.Prelude.{◌≡◌, ℕ, ◌≤◌, ◌<◌, ◌⊎◌, List, [], ◌∷◌, drop, length, map, take, if◌then◌else◌}
 use Rattle.sy_wire.specs.Frames.{MAX_FRAME}
 use Rattle.sy_wire.specs.Messages.{IsMessage}
 use Rattle.sy_unread.specs.Hints.{hint_of}
 use Rattle.sy_unread.specs.declared.hint.Hint.TheVariants.{Http, Tls}
 use Rattle.sy_unread.specs.Records.{is_print_us_ascii, nil_value}
 use Rattle.sy_unread.specs.declared.repaired.Repaired.{Repaired}
-use Rattle.sy_unread.specs.declared.repaired.Repair.{Repair}
 use Rattle.sy_unread.specs.declared.repaired.Repair.TheVariants.{Whole}
 
 -- The result is a message that a frame may carry. Its text is the bytes from a place on, and so ends with them: that is

@@ -1,5 +1,5 @@
 -- Bytes as a terminal may show them (this profile's own).
-use Rattle.std.specs.Prelude.{ℕ, ◌+◌, ◌-◌, ◌/◌, ◌%◌, ◌&&◌, Bool, not, List, [], ◌∷◌, nat_eq, leb, if◌then◌else◌}
+use Rattle.std.specs.Prelude.{ℕ, ◌+◌, ◌-◌, ◌/◌, ◌%◌, ◌&&◌, not, List, [], ◌∷◌, nat_eq, leb, if◌then◌else◌}
 use Rattle.sy_wire.specs.Characters.{escape}
 
 -- 0 to 9, a to f

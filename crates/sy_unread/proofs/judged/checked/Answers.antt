@@ -1,4 +1,4 @@
-use Rattle.std.proofs.Common.{◌≡◌, ◌++◌, ◌∙◌, ap, sym, ℕ, List}
+use Rattle.std.proofs.Common.{◌++◌, ◌∙◌, ap, sym}
 use Rattle.sy_wire.specs.Messages.{Said}
 use Rattle.sy_wire.proofs.Options.{if_none_then}
 use Rattle.sy_unread.proofs.judged.checked.Goals as goal

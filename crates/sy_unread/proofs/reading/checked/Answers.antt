@@ -1,7 +1,6 @@
-use Rattle.std.proofs.Common.{rules, ◌≡◌, ◌++◌, ◌≤◌, ℕ, List, arith, ap, drop, sym, ◌∙◌, length}
+use Rattle.std.proofs.Common.{rules, ◌≡◌, ◌++◌, ap, drop, sym, ◌∙◌, length}
 use Rattle.sy_unread.specs.Records.{head}
 use Rattle.sy_unread.specs.Reading.{Says, share_text}
-use Rattle.sy_unread.specs.declared.record.About.{About}
 use Rattle.sy_unread.proofs.Again.{head_same}
 use Rattle.sy_unread.proofs.reading.checked.Goals as goal
 

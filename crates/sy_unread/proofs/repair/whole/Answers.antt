@@ -1,8 +1,6 @@
-use Rattle.std.proofs.Common.{◌≡◌, ◌+◌, ◌<◌, ◌≤◌, ◌++◌, ◌∙◌, ◌⊎◌, ap, sym, refl, inl, inr, ℕ, List, [], arith, length}
+use Rattle.std.proofs.Common.{◌<◌, ◌≤◌, ap, sym, refl, inl, inr, ℕ, [], arith, length}
 use Rattle.std.proofs.lemmas.Bool.{cases_lt}
-use Rattle.sy_wire.specs.Messages.{IsMessage}
 use Rattle.sy_wire.proofs.Options.{if_none_then}
-use Rattle.sy_unread.specs.internal.{whole_text}
 use Rattle.sy_unread.proofs.Repairing.{said_of, whole_message, whole_within}
 use Rattle.sy_unread.proofs.repair.whole.Goals as goal
 
