@@ -1,8 +1,6 @@
 //! Frames that carry no message of RFC 5424: what is kept of them, and what becomes of it.
 #![tactic(auto)]
 
-pub mod advice;
-pub mod counts;
 mod fields;
 mod heads;
 pub mod hint;
@@ -16,7 +14,6 @@ pub mod record;
 pub mod records;
 pub mod repair;
 pub mod repaired;
-pub mod shown;
 pub mod summary;
 
 pub use hint::Hint;

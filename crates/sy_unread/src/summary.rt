@@ -1,11 +1,15 @@
 //! What is said of the frames that a file keeps.
 
-use crate::advice::advice;
-use crate::counts::{Counted, Counts};
+pub mod counts;
+pub mod senders;
+pub mod shown;
+
 use crate::heads::{head_3164, head_5424};
 use crate::hint::Hint;
 use crate::reading::Found;
-use crate::shown::{Lines, append_shown};
+use counts::{Counted, Counts};
+use senders::advice;
+use shown::{Lines, append_shown};
 use std::alloc::{AllocError, Global};
 
 /// How many peers, and how many names, are listed by themselves.

@@ -1,6 +1,6 @@
 use Rattle.std.proofs.Common.{◌≡◌, ◌++◌, drop, flat_map}
 use Rattle.sy_unread.specs.Shown.{shown_byte}
-use Rattle.sy_unread.proofs.shown.append_safe.Given as goal
+use Rattle.sy_unread.proofs.summary.shown.append_safe.Given as goal
 
 -- what was appended, and the bytes that are left
 abbrev pub invariant-loop-byte : goal.invariant-loop-byte

@@ -34,7 +34,7 @@ fn by_fault(fault: &[u8]) -> &'static str {
         return "at most 255 bytes of %d33-126: rsyslogd: %HOSTNAME:1:255%";
     }
     if fault.starts_with(b"5 ") {
-        return "at most 48 bytes of %d33-126: rsyslogd: %APP-NAME:1:48%; syslog-ng: set(\"$(substr $PROGRAM 0 48)\" value(\"PROGRAM\"))";
+        return "at most 48 bytes of %d33-126: rsyslogd: %APP-NAME:1:48%; syslog-ng: set(\"$(substr ${PROGRAM} 0 48)\", value(\"PROGRAM\"))";
     }
     if fault.starts_with(b"6 ") {
         return "at most 128 bytes of %d33-126: rsyslogd: %PROCID:1:128%";
@@ -59,7 +59,7 @@ fn by_later_fault(fault: &[u8]) -> &'static str {
     if fault.starts_with(b"12 ") {
         return "at most 65,536 bytes: rsyslogd: global(maxMessageSize=\"64k\"); syslog-ng: log-msg-size(65536)";
     }
-    "see that the sender closes its connection behind a whole frame"
+    "see that the sender closes its connection after a whole frame"
 }
 
 /// What to change at the sender of bytes with a fault, as `5 AppName`, by what they begin like.
