@@ -10,7 +10,7 @@ use Rattle.sy_unread.specs.declared.record.About.{About}
 
 -- A double quote, a backslash and a closing bracket have a backslash before them (RFC 5424, section 6.3.3).
 abbrev pub escaped_byte : ℕ → List ℕ
-escaped_byte b = if nat_eq b quote || nat_eq b escape || nat_eq b closing_bracket then escape ∷ b ∷ [] else b ∷ []
+escaped_byte b = if nat_eq b quote || (nat_eq b escape || nat_eq b closing_bracket) then escape ∷ b ∷ [] else b ∷ []
 
 abbrev pub escaped : List ℕ → List ℕ
 escaped text = flat_map escaped_byte text
