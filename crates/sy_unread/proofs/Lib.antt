@@ -2,3 +2,5 @@ pub mod Lengths
 pub mod Values
 pub mod Grammar
 pub mod Carried
+pub mod Fronts
+pub mod Goings

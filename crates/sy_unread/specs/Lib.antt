@@ -1,4 +1,5 @@
 pub mod Texts
 pub mod Records
 pub mod Hints
+pub mod Skipping
 pub mod internal

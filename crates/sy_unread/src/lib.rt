@@ -5,6 +5,7 @@ pub mod hint;
 pub mod laws;
 mod parts;
 pub mod record;
+pub mod skipping;
 
 pub use hint::Hint;
 pub use record::{About, append_records};
