@@ -4,3 +4,4 @@ pub mod Grammar
 pub mod Carried
 pub mod Fronts
 pub mod Goings
+pub mod Turns

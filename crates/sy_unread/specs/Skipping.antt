@@ -44,6 +44,10 @@ abbrev pub past_long : ℕ → Place
 past_long zero = Within 0
 past_long (suc n) = WithinLong (suc n)
 
+abbrev pub is_within_long : Place → Bool
+is_within_long (WithinLong n) = true
+is_within_long _ = false
+
 -- From a place on, of these bytes those were handed on, those kept, and from another place on those are left. A stream that is over has no
 -- more bytes than these.
 pub data Goes (is_over : Bool) : Place → List ℕ → List ℕ → List Kept → Place → List ℕ → Type 0 where

@@ -15,7 +15,7 @@ pub(crate) const ROOM: usize = MAX_FRAME + 10;
 // Where in a stream its next byte stands, and bytes that came and wait.
 #[derive(Drop)]
 pub(crate) struct Standing {
-    pub(crate) place: Place,
+    place: Place,
     bytes: Vec<u8>,
 }
 
@@ -62,10 +62,22 @@ impl Standing {
         })
     }
 
+    pub(crate) fn place(&self) -> Place
+        ensures { result ≡ self.now.place }
+    {
+        self.place
+    }
+
     pub(crate) fn held(&self) -> &[u8]
         ensures { result.now ≡ self.now.held }
     {
         self.bytes.as_slice()
+    }
+
+    pub(crate) fn set_place(&mut self, place: Place)
+        ensures { self.new ≡ record self.old { place = place } }
+    {
+        self.place = place;
     }
 
     // Holds these bytes as well.
