@@ -4,4 +4,5 @@ pub mod Grammar
 pub mod Carried
 pub mod Fronts
 pub mod Goings
+pub mod Skipped
 pub mod Turns

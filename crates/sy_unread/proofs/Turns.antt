@@ -2,7 +2,7 @@
 use Rattle.std.proofs.Common.{◌≡◌, ◌≢◌, ℕ, zero, suc, ◌+◌, ◌-◌, ◌<◌, ◌≤◌, ◌⊎◌, inl, inr, Bool, true, false, List, [], ◌∷◌, ◌++◌, length, take, drop, refl, sym, ap, ◌∙◌, arith}
 use Rattle.std.specs.Prelude.{Option, None, Some, min}
 use Rattle.std.specs.Io.KnownBytes.{Consumes, IsAtEnd, Keeps}
-use Rattle.std.proofs.KnownBytes.{Consumes-kept, Consumes-nil, Consumes-trans}
+use Rattle.std.proofs.KnownBytes.{Consumes-kept, Consumes-nil, Consumes-trans, Keeps-refl}
 use Rattle.std.proofs.lemmas.List.{append_assoc, append-nil, drop-drop, drop_at, length-append, length-take-le, take-append-drop, take_all}
 use Rattle.std.specs.Fmt.{decimal}
 use Rattle.sy_wire.specs.Characters.{space}
@@ -37,6 +37,9 @@ none_goes old new ahead ahead' kept same goes =
 
 pub stays : (old : At) (ahead ahead' : Option (List ℕ)) (kept : Option (List Kept)) → Keeps ahead ahead' → SetsAside old old ahead ahead' kept kept
 stays old ahead ahead' kept same = none_goes old old ahead ahead' kept same rests
+
+pub stays_same : (old : At) (ahead : Option (List ℕ)) (before after : Option (List Kept)) → after ≡ before → SetsAside old old ahead ahead before after
+stays_same old ahead before after same = rw same (stays old ahead ahead before (Keeps-refl ahead))
 
 -- what is held is handed on, and nothing comes
 pub hands_held : (old new : At) (ahead : Option (List ℕ)) (out : List ℕ) → Goes false old.place old.held out [] new.place new.held → HandsOn old new ahead ahead out

@@ -7,6 +7,7 @@ ghost use Rattle.sy_unread.specs.internal.Fronts.{HasHead, TurnIs};
 ghost use Rattle.sy_wire.specs.Streams.{Rose, count_after};
 
 mod front;
+pub mod laws;
 mod passing;
 pub mod place;
 mod standing;
@@ -83,6 +84,16 @@ impl<S: Source, K: LongSink> Skipping<S, K> {
         ensures { result ≡ is_within_long self.now.standing.place }
     {
         matches!(self.standing.place(), Place::WithinLong(_))
+    }
+
+    /// What keeps what isn't handed on.
+    pub fn into_sink(self) -> K
+    where
+        S: Drop,
+        ensures { result ≡ self.sink }
+    {
+        let Skipping { sink, .. } = self;
+        sink
     }
 
     // Keeps the first bytes of a long frame, whose text begins there.
@@ -182,7 +193,6 @@ impl<S: Source, K: LongSink> Skipping<S, K> {
         ensures end { IfOk result (λ count. count ≡ 0 → IsAtEnd (S.remaining self.new.source) × (self.new.standing.held ≡ [])) }
         ensures err { OnErr result (SetsAside self.old.standing self.new.standing (S.remaining self.old.source) (S.remaining self.new.source)
             (K.kept self.old.sink) (K.kept self.new.sink)) }
-        ensures counts { (self.new.faults ≡ self.old.faults) × (self.new.calls ≡ self.old.calls) }
     {
         for _ in 0..u64::MAX {
             match self.turn(buffer) {
@@ -217,14 +227,21 @@ impl<S: Source, K: LongSink> Source for Skipping<S, K> {
         ensures fails { OnErr result (SetsAside self.old.standing self.new.standing (S.remaining self.old.source) (S.remaining self.new.source)
             (K.kept self.old.sink) (K.kept self.new.sink)) }
     {
-        self.calls = self.calls.saturating_add(1);
+        let calls = self.calls.saturating_add(1);
+        let faults = self.faults;
         if buffer.is_empty() {
+            self.calls = calls;
             return Ok(0);
         }
         match self.next(buffer) {
-            Ok(count) => Ok(count),
+            Ok(count) => {
+                self.calls = calls;
+                self.faults = faults;
+                Ok(count)
+            }
             Err(ReadFault) => {
-                self.faults = self.faults.saturating_add(1);
+                self.calls = calls;
+                self.faults = faults.saturating_add(1);
                 Err(ReadFault)
             }
         }

@@ -67,7 +67,8 @@ pub(crate) fn skip<S: Source>(standing: &mut Standing, source: &mut S, buffer: &
     if count == 0 {
         return Turn::Gives(0);
     }
-    standing.set_place(past_long(left - count));
+    let rest = left - count;
+    standing.set_place(past_long(rest));
     Turn::GoesOn
 }
 
