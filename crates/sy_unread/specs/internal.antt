@@ -1,6 +1,5 @@
 -- What the parts of the head of a record are.
 pub mod Fronts
-
 use Rattle.std.specs.Prelude.{◌≡◌, ℕ, ◌<◌, ◌^◌, List, Some}
 use Rattle.std.specs.Fmt.{decimal}
 use Rattle.sy_unread.specs.Records.{hostname_of, length_text, value_of}

@@ -14,14 +14,13 @@ mod standing;
 mod steps;
 mod turn;
 
-use std::alloc::{AllocError, Global};
-use sy_wire::{MAX_FRAME, ReadFault, Source};
-
-pub use place::Place;
 use front::{Front, front_of};
+pub use place::Place;
 use place::past_long;
 use standing::Standing;
+use std::alloc::{AllocError, Global};
 use steps::{begin_frame, drop_long, hand_on_frames, hand_on_unframed, read_more, read_on};
+use sy_wire::{MAX_FRAME, ReadFault, Source};
 use turn::Turn;
 
 // how many bytes are kept that begin no frame, at most
@@ -140,7 +139,12 @@ impl<S: Source, K: LongSink> Skipping<S, K> {
             (K.kept self.old.sink) (K.kept self.new.sink) buffer.new }
     {
         match front_of(self.standing.held()) {
-            Front::Frame(size, from) => Turn::Gives(begin_frame(&mut self.standing, buffer, size, from)),
+            Front::Frame(size, from) => Turn::Gives(begin_frame(
+                &mut self.standing,
+                buffer,
+                size,
+                from,
+            )),
             Front::Open => read_more(&mut self.standing, &mut self.source, buffer, 1),
             Front::Long(size, from) => {
                 let (len, end) = (self.standing.held().len(), from + MAX_FRAME);
@@ -163,7 +167,11 @@ impl<S: Source, K: LongSink> Skipping<S, K> {
     {
         match self.standing.place() {
             Place::Within(0) => self.deal_with_front(buffer),
-            Place::Within(within) => Turn::Gives(hand_on_frames(&mut self.standing, buffer, within)),
+            Place::Within(within) => Turn::Gives(hand_on_frames(
+                &mut self.standing,
+                buffer,
+                within,
+            )),
             Place::WithinLong(left) => {
                 drop_long(&mut self.standing, left);
                 Turn::GoesOn

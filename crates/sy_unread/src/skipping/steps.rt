@@ -30,7 +30,12 @@ fn read_front<S: Source>(source: &mut S, buffer: &mut [u8], most: usize) -> Resu
 }
 
 // Reads within frames that a framer takes, or where one begins.
-pub(crate) fn read_frames<S: Source>(standing: &mut Standing, source: &mut S, buffer: &mut [u8], within: usize) -> Turn
+pub(crate) fn read_frames<S: Source>(
+    standing: &mut Standing,
+    source: &mut S,
+    buffer: &mut [u8],
+    within: usize,
+) -> Turn
     requires at { standing.old ≡ record { place = Within within; held = [] } }
     requires room { 0 < length buffer.old }
     ensures { (kept : Option (List Kept)) → TurnIs result standing.old standing.new (S.remaining source.old) (S.remaining source.new) kept kept buffer.new }
@@ -52,7 +57,12 @@ pub(crate) fn read_frames<S: Source>(standing: &mut Standing, source: &mut S, bu
 }
 
 // Reads within a long frame.
-pub(crate) fn skip<S: Source>(standing: &mut Standing, source: &mut S, buffer: &mut [u8], left: usize) -> Turn
+pub(crate) fn skip<S: Source>(
+    standing: &mut Standing,
+    source: &mut S,
+    buffer: &mut [u8],
+    left: usize,
+) -> Turn
     requires at { standing.old ≡ record { place = WithinLong left; held = [] } }
     requires room { 0 < length buffer.old }
     ensures { (kept : Option (List Kept)) → TurnIs result standing.old standing.new (S.remaining source.old) (S.remaining source.new) kept kept buffer.new }
@@ -73,7 +83,11 @@ pub(crate) fn skip<S: Source>(standing: &mut Standing, source: &mut S, buffer: &
 }
 
 // Reads where what comes is handed on as it comes.
-pub(crate) fn read_unframed<S: Source>(standing: &mut Standing, source: &mut S, buffer: &mut [u8]) -> Turn
+pub(crate) fn read_unframed<S: Source>(
+    standing: &mut Standing,
+    source: &mut S,
+    buffer: &mut [u8],
+) -> Turn
     requires at { standing.old ≡ record { place = Unframed; held = [] } }
     requires room { 0 < length buffer.old }
     ensures { (kept : Option (List Kept)) → TurnIs result standing.old standing.new (S.remaining source.old) (S.remaining source.new) kept kept buffer.new }
@@ -85,7 +99,12 @@ pub(crate) fn read_unframed<S: Source>(standing: &mut Standing, source: &mut S, 
 }
 
 // Reads more of a head or of a long frame, at most so many bytes; where none come, what is held is handed on.
-pub(crate) fn read_more<S: Source>(standing: &mut Standing, source: &mut S, buffer: &mut [u8], most: usize) -> Turn
+pub(crate) fn read_more<S: Source>(
+    standing: &mut Standing,
+    source: &mut S,
+    buffer: &mut [u8],
+    most: usize,
+) -> Turn
     requires place { standing.old.place ≡ Within 0 }
     requires held { standing.old.held ≢ [] }
     requires cut { IsCut standing.old.held }
@@ -139,7 +158,12 @@ pub(crate) fn drop_long(standing: &mut Standing, left: usize)
 }
 
 // A frame that a framer takes begins with what is held, which is handed on.
-pub(crate) fn begin_frame(standing: &mut Standing, buffer: &mut [u8], size: usize, from: usize) -> usize
+pub(crate) fn begin_frame(
+    standing: &mut Standing,
+    buffer: &mut [u8],
+    size: usize,
+    from: usize,
+) -> usize
     requires place { standing.old.place ≡ Within 0 }
     requires size { IsSize size }
     requires head { HasHead standing.old.held size from }
