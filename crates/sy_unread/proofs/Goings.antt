@@ -1,15 +1,14 @@
 -- What is handed on and kept, step by step.
-use Rattle.std.proofs.Common.{◌≡◌, ℕ, zero, suc, ◌+◌, ◌-◌, ◌<◌, ◌≤◌, ◌⊎◌, inl, inr, Bool, true, false, List, [], ◌∷◌, ◌++◌, length, take, drop, refl, sym, ap, ◌∙◌, arith}
+use Rattle.std.proofs.Common.{◌≡◌, ℕ, ◌+◌, ◌-◌, ◌≤◌, inl, inr, Bool, true, false, List, [], ◌∷◌, ◌++◌, length, take, drop, sym, ap, ◌∙◌, arith}
 use Rattle.std.specs.Prelude.{min}
 use Rattle.std.specs.Fmt.{decimal}
-use Rattle.std.proofs.lemmas.List.{append_assoc, append-nil, length-append, length-take-le, take-append-drop, drop-drop}
+use Rattle.std.proofs.lemmas.List.{append_assoc, append-nil, length-take-le, take-append-drop, drop-drop}
 use Rattle.std.proofs.Math.Seq.{take-add}
 use Rattle.sy_wire.specs.Characters.{space}
-use Rattle.sy_wire.specs.Frames.{MAX_FRAME, IsSize}
-use Rattle.sy_unread.specs.Skipping.{Goes, IsLong, Kept, past_long, rests, frame, passes, keeps, skips, strays, ends, follows}
-use Rattle.sy_unread.specs.internal.Fronts.{HasHead, Passes, Starts}
+use Rattle.sy_unread.specs.Skipping.{Goes, Kept, rests, frame, passes, keeps, skips, strays, ends, follows}
+use Rattle.sy_unread.specs.internal.Fronts.{Passes, Starts}
 use Rattle.sy_unread.specs.declared.skipping.place.Place.{Place}
-use Rattle.sy_unread.specs.declared.skipping.place.Place.TheVariants.{Within, WithinLong, Unframed}
+use Rattle.sy_unread.specs.declared.skipping.place.Place.TheVariants.{Within}
 
 abbrev regroup : (a b c : List ℕ) → (x : List ℕ) → x ≡ a ++ b → x ++ c ≡ a ++ (b ++ c)
 regroup a b c x e = ap (λ y. y ++ c) e ∙ append_assoc a b c

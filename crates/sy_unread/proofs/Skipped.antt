@@ -1,17 +1,16 @@
 -- What becomes of a stream of frames, short and long.
-use Rattle.std.proofs.Common.{◌≡◌, ◌≢◌, ℕ, zero, suc, ◌+◌, ◌-◌, ◌<◌, ◌≤◌, ◌⊎◌, inl, inr, Bool, true, false, List, [], ◌∷◌, ◌++◌, length, take, drop, refl, sym, ap, subst, ◌∙◌, arith}
-use Rattle.std.specs.Prelude.{leb}
+use Rattle.std.proofs.Common.{◌≡◌, ℕ, zero, suc, ◌+◌, ◌-◌, ◌<◌, ◌≤◌, inl, inr, Bool, List, [], ◌∷◌, ◌++◌, length, take, refl, sym, ap, subst, ◌∙◌, arith}
 use Rattle.std.specs.List.{AllByRecursion}
 use Rattle.std.specs.Fmt.{decimal}
 use Rattle.std.proofs.lemmas.Bool.{le-leb, lt-leb}
 use Rattle.std.proofs.lemmas.Str.Parse.{digits_value-take-le}
 use Rattle.std.proofs.lemmas.Fmt.{decimal_injective, decimal_is_IsNumeral, decimal_nonempty, first_decimal}
-use Rattle.std.proofs.lemmas.List.{append_assoc, append-nil, length-append, nil_from_length, take_at}
-use Rattle.sy_wire.specs.Characters.{IsDigit, space}
-use Rattle.sy_wire.specs.Frames.{MAX_FRAME, IsSize, frame as frame_of, stream}
+use Rattle.std.proofs.lemmas.List.{append_assoc, length-append, nil_from_length, take_at}
+use Rattle.sy_wire.specs.Characters.{space}
+use Rattle.sy_wire.specs.Frames.{MAX_FRAME, frame as frame_of, stream}
 use Rattle.sy_wire.proofs.Opens.{Digits, digits_from_all, first_of, front_digits, one_front, only_digits, space_is_none}
-use Rattle.sy_unread.specs.Skipping.{Goes, IsCut, IsLong, IsNumbered, IsUnframed, Kept, ends, follows, frame, keeps, long, passes, past_long, rests, skips, strays}
-use Rattle.sy_unread.specs.Skipped.{AllGo, FramesGo, StretchesJoin, long_of, short_of}
+use Rattle.sy_unread.specs.Skipping.{Goes, IsCut, IsNumbered, IsUnframed, Kept, ends, follows, frame, keeps, long, passes, past_long, rests, skips, strays}
+use Rattle.sy_unread.specs.Skipped.{FramesGo, StretchesJoin, long_of, short_of}
 use Rattle.sy_unread.specs.declared.skipping.place.Place.{Place}
 use Rattle.sy_unread.specs.declared.skipping.place.Place.TheVariants.{Within, WithinLong, Unframed}
 use Rattle.sy_unread.proofs.Goings.{goes_before, goes_on}

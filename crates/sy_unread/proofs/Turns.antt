@@ -1,5 +1,5 @@
 -- What comes of the turns of a read.
-use Rattle.std.proofs.Common.{◌≡◌, ◌≢◌, ℕ, zero, suc, ◌+◌, ◌-◌, ◌<◌, ◌≤◌, ◌⊎◌, inl, inr, Bool, true, false, List, [], ◌∷◌, ◌++◌, length, take, drop, refl, sym, ap, ◌∙◌, arith}
+use Rattle.std.proofs.Common.{◌≡◌, ◌≢◌, ℕ, zero, suc, ◌+◌, ◌-◌, ◌<◌, ◌≤◌, ◌⊎◌, inl, inr, true, false, List, [], ◌∷◌, ◌++◌, length, take, drop, refl, sym, ap, ◌∙◌, arith}
 use Rattle.std.specs.Prelude.{Option, None, Some, min}
 use Rattle.std.specs.Io.KnownBytes.{Consumes, IsAtEnd, Keeps}
 use Rattle.std.proofs.KnownBytes.{Consumes-kept, Consumes-nil, Consumes-trans, Keeps-refl}
@@ -9,7 +9,7 @@ use Rattle.sy_wire.specs.Characters.{space}
 use Rattle.sy_wire.specs.Streams.{ReadsPiece}
 use Rattle.sy_unread.specs.Skipping.{At, Goes, HandsOn, IsCut, IsLong, IsNumbered, IsUnframed, Kept, KeepsMore, Reads, SetsAside, ends, follows, frame, keeps, long, passes, past_long, rests, skips, strays, unframed}
 use Rattle.sy_wire.specs.Frames.{IsSize}
-use Rattle.sy_unread.specs.internal.Fronts.{HasHead, Passes}
+use Rattle.sy_unread.specs.internal.Fronts.{HasHead}
 use Rattle.sy_unread.specs.declared.skipping.place.Place.{Place}
 use Rattle.sy_unread.specs.declared.skipping.place.Place.TheVariants.{Within, WithinLong, Unframed}
 use Rattle.sy_unread.proofs.Goings.{goes_before, goes_on}

@@ -1,5 +1,4 @@
-use Rattle.std.proofs.Common.{arith, length, drop, ◌≡◌, ap, ◌∙◌}
-use Rattle.std.specs.Prelude.{min}
+use Rattle.std.proofs.Common.{arith}
 use Rattle.std.proofs.lemmas.List.{length-drop, take_rest}
 use Rattle.sy_unread.specs.Skipping.{rests}
 use Rattle.sy_unread.proofs.Goings.{passes_more}

@@ -1,8 +1,5 @@
 use Rattle.std.proofs.Common.{◌≤◌, ◌-◌, length}
 use Rattle.sy_unread.specs.internal.Fronts.{Passes}
-use Rattle.std.proofs.Common.{take, drop, false, []}
-use Rattle.sy_unread.specs.Skipping.{Goes}
-use Rattle.sy_unread.specs.declared.skipping.place.Place.TheVariants.{Within}
 use Rattle.sy_unread.proofs.skipping.passing.scan.Given as goal
 
 abbrev pub invariant-loop-at : goal.invariant-loop-at

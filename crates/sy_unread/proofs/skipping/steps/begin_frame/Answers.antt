@@ -1,4 +1,4 @@
-use Rattle.std.proofs.Common.{arith, refl, ◌≡◌, ◌<◌, length}
+use Rattle.std.proofs.Common.{arith, refl, ◌<◌, length}
 use Rattle.sy_unread.proofs.Turns.{begins_frame, some_held}
 use Rattle.sy_unread.proofs.skipping.steps.begin_frame.Goals as goal
 

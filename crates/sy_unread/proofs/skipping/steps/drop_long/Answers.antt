@@ -1,4 +1,4 @@
-use Rattle.std.proofs.Common.{arith, length, ◌≤◌, ap, ◌∙◌}
+use Rattle.std.proofs.Common.{arith, length, ap}
 use Rattle.sy_unread.proofs.Turns.{drops_long}
 use Rattle.sy_unread.proofs.skipping.steps.drop_long.Goals as goal
 

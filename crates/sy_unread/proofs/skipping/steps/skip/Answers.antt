@@ -1,5 +1,5 @@
-use Rattle.std.proofs.Common.{◌-◌, ◌≡◌, arith, ap, refl, sym}
-use Rattle.sy_unread.specs.Skipping.{At, past_long}
+use Rattle.std.proofs.Common.{arith, ap, refl}
+use Rattle.sy_unread.specs.Skipping.{At}
 use Rattle.sy_unread.proofs.Turns.{hands_none, held_none, skips_long, skips_none, stays}
 use Rattle.sy_unread.proofs.skipping.steps.skip.Goals as goal
 
