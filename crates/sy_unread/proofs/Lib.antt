@@ -6,3 +6,6 @@ pub mod Fronts
 pub mod Goings
 pub mod Skipped
 pub mod Turns
+pub mod Again
+pub mod Messages
+pub mod Repairing

@@ -1,5 +1,5 @@
 -- What bytes that are no message begin like.
-use Rattle.std.specs.Prelude.{ℕ, ◌+◌, ◌&&◌, ◌||◌, Bool, List, [], ◌∷◌, codes, nat_eq, leb, if◌then◌else◌}
+use Rattle.std.specs.Prelude.{ℕ, ◌+◌, ◌&&◌, ◌||◌, Bool, List, [], codes, nat_eq, leb, if◌then◌else◌}
 use Rattle.std.specs.List.{slice_index, starts_with}
 use Rattle.sy_wire.specs.Characters.{greater, less, space}
 use Rattle.sy_unread.specs.declared.hint.Hint.{Hint}

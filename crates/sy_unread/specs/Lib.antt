@@ -1,6 +1,9 @@
 pub mod Texts
 pub mod Records
+pub mod Reading
+pub mod Shown
 pub mod Hints
 pub mod Skipping
 pub mod Skipped
+pub mod Repairs
 pub mod internal

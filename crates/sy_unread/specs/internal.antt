@@ -1,6 +1,7 @@
 -- What the parts of the head of a record are.
 pub mod Fronts
-use Rattle.std.specs.Prelude.{◌≡◌, ℕ, ◌<◌, ◌^◌, List, Some}
+use Rattle.std.specs.Prelude.{◌≡◌, ℕ, ◌<◌, ◌^◌, List, [], ◌∷◌, Some, codes}
+use Rattle.std.specs.List.{concat}
 use Rattle.std.specs.Fmt.{decimal}
 use Rattle.sy_unread.specs.Records.{hostname_of, length_text, value_of}
 use Rattle.sy_unread.specs.declared.parts.Part.{Part}
@@ -13,6 +14,10 @@ part_text (part.Number number) = decimal number
 part_text (part.Hostname name) = hostname_of name.now
 part_text (part.Value value) = value_of value.now
 part_text (part.Length length) = length_text length
+
+-- all bytes as text, after a priority of this number and nothing else that is known
+abbrev pub whole_text : ℕ → List ℕ → List ℕ
+whole_text number bytes = concat (codes "<" ∷ decimal number ∷ codes ">1 - - - - - - " ∷ bytes ∷ [])
 
 -- the numbers have 64 bits
 pub record IsInRange (about : About) : Type 0 where

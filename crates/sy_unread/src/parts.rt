@@ -23,7 +23,7 @@ pub(crate) enum Part<'a> {
 }
 
 // Appends a number in decimal digits.
-fn append_number(text: &mut Vec<u8>, number: u64) -> Result<(), AllocError>
+pub(crate) fn append_number(text: &mut Vec<u8>, number: u64) -> Result<(), AllocError>
     ensures { OnOk result (text.new.items ≡ text.old.items ++ decimal number) }
 {
     let mut digits = Buffer::new();
@@ -41,7 +41,7 @@ fn append_byte(text: &mut Vec<u8>, byte: u8) -> Result<(), AllocError>
 }
 
 // Appends the bytes of a value.
-fn append_escaped(text: &mut Vec<u8>, value: &[u8]) -> Result<(), AllocError>
+pub(crate) fn append_escaped(text: &mut Vec<u8>, value: &[u8]) -> Result<(), AllocError>
     ensures { OnOk result (text.new.items ≡ text.old.items ++ escaped value.now) }
 {
     for byte in value {

@@ -87,7 +87,11 @@ fn append_head<'a>(text: &mut Vec<u8>, about: &About<'a>, part: &'a [u8]) -> Res
 }
 
 // What stands before a frame's bytes.
-fn head<'a>(alloc: Global, about: &About<'a>, part: &'a [u8]) -> Result<Vec<u8>, AllocError>
+pub(crate) fn head<'a>(
+    alloc: Global,
+    about: &About<'a>,
+    part: &'a [u8],
+) -> Result<Vec<u8>, AllocError>
     requires { length part.now ≤ 16 }
     ensures value { IfOk result (λ text. text.items ≡ spec.head about.now part.now) }
     ensures within { IfOk result (λ text. (0 < length text.items) × (length text.items ≤ 2048)) }
@@ -98,7 +102,11 @@ fn head<'a>(alloc: Global, about: &About<'a>, part: &'a [u8]) -> Result<Vec<u8>,
 }
 
 // Appends the frame of the message that is this head and these bytes.
-fn append_frame(frames: &mut Vec<u8>, head: &[u8], bytes: &[u8]) -> Result<(), AllocError>
+pub(crate) fn append_frame(
+    frames: &mut Vec<u8>,
+    head: &[u8],
+    bytes: &[u8],
+) -> Result<(), AllocError>
     requires { IsSize (length head.now + length bytes.now) }
     ensures { OnOk result (frames.new.items ≡ frames.old.items ++ frame (head.now ++ bytes.now)) }
 {

@@ -1,0 +1,12 @@
+use Rattle.std.proofs.Common.{◌++◌, ◌∙◌, ap, sym}
+use Rattle.sy_wire.specs.Messages.{Said}
+use Rattle.sy_wire.proofs.Options.{if_none_then}
+use Rattle.sy_unread.proofs.judged.checked.Goals as goal
+
+pub returns-in-Ok-clause-none : goal.returns-in-Ok-clause-none
+returns-in-Ok-clause-none c =
+    if_none_then c.placed.result c.placed.ensures.none
+    (λ never said front is raw fits whole how. never front (whole ∙ ap (λ (m : Said). front ++ m.msg) (sym (c.in-Ok.ensures.only said raw is))) how)
+
+pub returns-clause-none : goal.returns-clause-none
+returns-clause-none c = λ said front is raw fits whole how. c.in-Err.ensures.only said raw is

@@ -1,0 +1,34 @@
+-- Records that are read again.
+use Rattle.std.specs.Prelude.{◌≡◌, ℕ, ◌≤◌, List, [], ◌++◌, codes, drop, length, string_bytes}
+use Rattle.sy_unread.specs.Records.{head}
+use Rattle.sy_unread.specs.declared.record.About.{About}
+use Rattle.sy_unread.specs.declared.reading.Found.{Found}
+use Rattle.sy_unread.specs.declared.reading.Share.{Share}
+use Rattle.sy_unread.specs.declared.reading.Share.TheVariants.{First, Second, Whole}
+
+-- what is known of the frame is what was read
+pub record Says (found : Found) (about : About) : Type 0 where
+  pub relay : about.relay.now ≡ found.relay.items
+  pub input : about.input ≡ found.input
+  pub peer : about.peer.now ≡ string_bytes found.peer
+  pub frame : about.frame ≡ found.frame
+  pub fault : about.fault.now ≡ string_bytes found.fault
+  pub at : about.at ≡ found.at
+  pub length : about.length ≡ found.length
+
+-- the last parameter
+abbrev pub share_text : Share → List ℕ
+share_text Whole = []
+share_text First = codes " part=\"1/2\""
+share_text Second = codes " part=\"2/2\""
+
+-- The message is the record that was read, and the bytes of the frame are those from a place on.
+pub record IsRecord (raw : List ℕ) (found : Found) : Type 0 where
+  pub within : found.start ≤ length raw
+  pub whole : (about : About) → Says found about → raw ≡ head about (share_text found.share) ++ drop found.start raw
+
+-- two records of the parts of one frame
+pub record AreParts (first second : Found) : Type 0 where
+  pub is_first : first.share ≡ First
+  pub is_second : second.share ≡ Second
+  pub same : (about : About) → Says first about → Says second about

@@ -1,0 +1,35 @@
+-- What a repair makes of a frame's bytes.
+use Rattle.std.specs.Prelude.{◌≡◌, ℕ, ◌≤◌, ◌<◌, ◌⊎◌, List, [], ◌∷◌, drop, length, map, take, if◌then◌else◌}
+use Rattle.sy_wire.specs.Frames.{MAX_FRAME}
+use Rattle.sy_wire.specs.Messages.{IsMessage}
+use Rattle.sy_unread.specs.Hints.{hint_of}
+use Rattle.sy_unread.specs.declared.hint.Hint.TheVariants.{Http, Tls}
+use Rattle.sy_unread.specs.Records.{is_print_us_ascii, nil_value}
+use Rattle.sy_unread.specs.declared.repaired.Repaired.{Repaired}
+use Rattle.sy_unread.specs.declared.repaired.Repair.TheVariants.{Whole}
+
+-- The result is a message that a frame may carry. Its text is the bytes from a place on, and so ends with them: that is
+-- where their head ends, or their first byte where no head was read.
+pub record IsRepair (bytes : List ℕ) (repaired : Repaired) : Type 0 where
+  pub is_message : IsMessage repaired.message
+  pub fits : length repaired.message.raw ≤ MAX_FRAME
+  pub within : repaired.head ≤ length bytes
+  pub text : repaired.message.msg ≡ drop repaired.head bytes
+  pub whole : repaired.how ≡ Whole → repaired.head ≡ 0
+
+-- how many bytes may be made text by a head that says nothing but a priority of three digits: 19 bytes fewer than a frame carries
+abbrev pub MOST_TEXT : ℕ
+MOST_TEXT = 65517
+
+-- No repair is made: there are too many bytes, or they begin like what no sender of syslog sends.
+abbrev pub IsBeyondRepair : List ℕ → Type 0
+IsBeyondRepair bytes = (MOST_TEXT < length bytes) ⊎ ((hint_of bytes ≡ Tls) ⊎ (hint_of bytes ≡ Http))
+
+-- a byte of a name: `_` where it is none of PRINTUSASCII
+abbrev pub name_byte : ℕ → ℕ
+name_byte b = if is_print_us_ascii b then b else 95
+
+-- the first bytes of a name, as many as its field may have at most, or NILVALUE where there is none
+abbrev pub name_of : ℕ → List ℕ → List ℕ
+name_of most [] = nil_value
+name_of most (b ∷ name) = map name_byte (take most (b ∷ name))

@@ -1,0 +1,226 @@
+//! Repairs of frames that carry no message.
+ghost use Rattle.std.specs.Prelude.{◌≡◌, ◌<◌, IfNone, IfOk, IfSome, length};
+ghost use Rattle.sy_unread.specs.Repairs as spec;
+ghost use Rattle.sy_unread.specs.internal.{whole_text};
+
+use crate::heads::{Head, from, head_3164, head_5424, pri};
+use crate::hint::Hint;
+use crate::judged::checked;
+use crate::names::append_name;
+use crate::parts::{append_escaped, append_number};
+use crate::repaired::{Repair, Repaired};
+use std::alloc::{AllocError, Global};
+use sy_wire::Message;
+
+// What is written of a frame: its head, and what is after it.
+#[derive(Clone, Copy)]
+struct Draft<'a> {
+    how: Repair,
+    head: Head<'a>,
+    // Whether what is after the head is text, and no structured data.
+    is_text: bool,
+    rest: &'a [u8],
+}
+
+// Whether a field is a TIMESTAMP of RFC 5424.
+fn is_timestamp(alloc: Global, field: &[u8]) -> Result<bool, AllocError> {
+    let mut text = Vec::new(alloc);
+    text.extend_from_slice(b"<13>1 ")?;
+    text.extend_from_slice(field)?;
+    text.extend_from_slice(b" - - - - -")?;
+    match Message::read(text) {
+        Ok(message) => Ok(message.msg().is_empty()),
+        Err(_) => Ok(false),
+    }
+}
+
+// Appends a name and the space after it.
+fn append_field(text: &mut Vec<u8>, name: &[u8], most: usize) -> Result<(), AllocError> {
+    append_name(text, name, most)?;
+    text.extend_from_slice(b" ")
+}
+
+// Appends a head, each field cut to its length.
+fn append_head(text: &mut Vec<u8>, head: &Head<'_>) -> Result<(), AllocError> {
+    text.extend_from_slice(head.pri)?;
+    text.extend_from_slice(b"1 ")?;
+    text.extend_from_slice(head.timestamp)?;
+    text.extend_from_slice(b" ")?;
+    append_field(text, head.hostname, 255)?;
+    append_field(text, head.app_name, 48)?;
+    append_field(text, head.procid, 128)?;
+    append_field(text, head.msgid, 32)
+}
+
+// Appends an element that has the original.
+fn append_original(text: &mut Vec<u8>, original: &[u8]) -> Result<(), AllocError> {
+    text.extend_from_slice(b"[unread@32473 original=\"")?;
+    append_escaped(text, original)?;
+    text.extend_from_slice(b"\"]")
+}
+
+// A draft without the original of its head.
+fn plain(alloc: Global, draft: &Draft<'_>) -> Result<Vec<u8>, AllocError> {
+    let mut text = Vec::new(alloc);
+    append_head(&mut text, &draft.head)?;
+    if draft.is_text {
+        text.extend_from_slice(b"- ")?;
+    }
+    text.extend_from_slice(draft.rest)?;
+    Ok(text)
+}
+
+// A draft with the original of its head.
+fn full(alloc: Global, draft: &Draft<'_>, original: &[u8]) -> Result<Vec<u8>, AllocError> {
+    let mut text = Vec::new(alloc);
+    append_head(&mut text, &draft.head)?;
+    append_original(&mut text, original)?;
+    if draft.is_text {
+        text.extend_from_slice(b" ")?;
+        text.extend_from_slice(draft.rest)?;
+        return Ok(text);
+    }
+    text.extend_from_slice(draft.rest.strip_prefix(b"-").unwrap_or(draft.rest))?;
+    Ok(text)
+}
+
+// The message of a draft: with the original of its head where a frame has room for it.
+fn drafted(alloc: Global, draft: &Draft<'_>, bytes: &[u8]) -> Result<Option<Repaired>, AllocError>
+    ensures { IfOk result (λ made. IfSome made (λ repaired. spec.IsRepair bytes.now repaired)) }
+{
+    let Some(made) = checked(draft.how, plain(alloc, draft)?, bytes) else {
+        return Ok(None);
+    };
+    let original = &bytes[..made.head.min(bytes.len())];
+    match checked(draft.how, full(alloc, draft, original)?, bytes) {
+        Some(more) => Ok(Some(more)),
+        None => Ok(Some(made)),
+    }
+}
+
+/// The bytes themselves, where they are a message: of a longer frame they are what is kept.
+pub fn cut(alloc: Global, bytes: &[u8]) -> Result<Option<Repaired>, AllocError>
+    ensures { IfOk result (λ made. IfSome made (λ repaired. spec.IsRepair bytes.now repaired)) }
+{
+    let mut text = Vec::new(alloc);
+    text.extend_from_slice(bytes)?;
+    Ok(checked(Repair::Cut, text, bytes))
+}
+
+/// A head of RFC 5424 with names that fit their fields, and NILVALUE for a TIMESTAMP that is none. Where what is after
+/// it is no structured data it becomes text.
+pub fn fields(alloc: Global, bytes: &[u8]) -> Result<Option<Repaired>, AllocError>
+    ensures { IfOk result (λ made. IfSome made (λ repaired. spec.IsRepair bytes.now repaired)) }
+{
+    let Some(mut head) = head_5424(bytes) else {
+        return Ok(None);
+    };
+    let mut how = Repair::Names;
+    if !is_timestamp(alloc, head.timestamp)? {
+        how = Repair::Timestamp;
+        head.timestamp = b"-";
+    }
+    let rest = from(bytes, head.end);
+    let draft = Draft {
+        how,
+        head,
+        is_text: false,
+        rest,
+    };
+    match drafted(alloc, &draft, bytes)? {
+        Some(made) => Ok(Some(made)),
+        None => {
+            let as_text = Draft {
+                how: Repair::Data,
+                head,
+                is_text: true,
+                rest,
+            };
+            drafted(alloc, &as_text, bytes)
+        }
+    }
+}
+
+/// A head of RFC 3164 as one of RFC 5424: NILVALUE where nothing is known.
+pub fn rfc_3164(alloc: Global, bytes: &[u8]) -> Result<Option<Repaired>, AllocError>
+    ensures { IfOk result (λ made. IfSome made (λ repaired. spec.IsRepair bytes.now repaired)) }
+{
+    let Some(mut head) = head_3164(bytes) else {
+        return Ok(None);
+    };
+    if !is_timestamp(alloc, head.timestamp)? {
+        head.timestamp = b"-";
+    }
+    let rest = from(bytes, head.end);
+    let anew = Draft {
+        how: Repair::Rfc3164,
+        head,
+        is_text: true,
+        rest,
+    };
+    drafted(alloc, &anew, bytes)
+}
+
+// The number of a priority that is read at the front, else 13 (RFC 3164, section 4.3.3).
+fn pri_number(alloc: Global, bytes: &[u8]) -> Result<u8, AllocError>
+    ensures { IfOk result (λ n. n < 192) }
+{
+    let Some(pri) = pri(bytes) else {
+        return Ok(13);
+    };
+    let mut text = Vec::new(alloc);
+    text.extend_from_slice(pri)?;
+    text.extend_from_slice(b"1 - - - - - -")?;
+    match Message::read(text) {
+        Ok(message) => Ok(message.class().number()),
+        Err(_) => Ok(13),
+    }
+}
+
+// All of the bytes as text behind a priority.
+fn whole_text(alloc: Global, number: u8, bytes: &[u8]) -> Result<Vec<u8>, AllocError>
+    ensures { IfOk result (λ text. text.items ≡ whole_text number bytes.now) }
+{
+    let mut text = Vec::new(alloc);
+    text.extend_from_slice(b"<")?;
+    append_number(&mut text, u64::from(number))?;
+    text.extend_from_slice(b">1 - - - - - - ")?;
+    text.extend_from_slice(bytes)?;
+    Ok(text)
+}
+
+/// All of the bytes as text, with their priority or, where they have none, `<13>` (RFC 3164, section 4.3.3): none for more
+/// than 65,517 bytes.
+pub fn whole(alloc: Global, bytes: &[u8]) -> Result<Option<Repaired>, AllocError>
+    ensures some { IfOk result (λ made. IfSome made (λ repaired. spec.IsRepair bytes.now repaired)) }
+    ensures none { IfOk result (λ made. IfNone made (spec.MOST_TEXT < length bytes.now)) }
+{
+    let number = pri_number(alloc, bytes)?;
+    let text = whole_text(alloc, number, bytes)?;
+    Ok(checked(Repair::Whole, text, bytes))
+}
+
+/// The first of these repairs that makes a message, and none for what begins like TLS or HTTP, and for more than 65,517
+/// bytes where none but the last would make one.
+pub fn repair(alloc: Global, bytes: &[u8]) -> Result<Option<Repaired>, AllocError>
+    ensures none { IfOk result (λ made. IfNone made (spec.IsBeyondRepair bytes.now)) }
+    ensures some { IfOk result (λ made. IfSome made (λ repaired. spec.IsRepair bytes.now repaired)) }
+{
+    match Hint::of(bytes) {
+        Hint::Tls | Hint::Http => return Ok(None),
+        _ => {}
+    }
+    match cut(alloc, bytes)? {
+        Some(made) => return Ok(Some(made)),
+        None => {}
+    }
+    match fields(alloc, bytes)? {
+        Some(made) => return Ok(Some(made)),
+        None => {}
+    }
+    match rfc_3164(alloc, bytes)? {
+        Some(made) => return Ok(Some(made)),
+        None => {}
+    }
+    whole(alloc, bytes)
+}
