@@ -2,6 +2,10 @@ pub mod Lengths
 pub mod Values
 pub mod Grammar
 pub mod Carried
+pub mod Fronts
+pub mod Goings
+pub mod Skipped
+pub mod Turns
 pub mod Again
 pub mod Messages
 pub mod Repairing

@@ -3,5 +3,7 @@ pub mod Records
 pub mod Reading
 pub mod Shown
 pub mod Hints
+pub mod Skipping
+pub mod Skipped
 pub mod Repairs
 pub mod internal

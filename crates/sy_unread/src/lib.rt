@@ -14,6 +14,7 @@ pub mod record;
 pub mod records;
 pub mod repair;
 pub mod repaired;
+pub mod skipping;
 pub mod summary;
 
 pub use hint::Hint;

@@ -1,0 +1,117 @@
+-- Streams with frames above the limit of a framer: what of them is handed on, and what is kept of the rest (this profile's own).
+use Rattle.std.specs.Prelude.{◌≡◌, ◌≢◌, ◌⊎◌, ℕ, zero, suc, ◌+◌, ◌-◌, ◌<◌, ◌≤◌, Bool, true, false, List, [], ◌∷◌, ◌++◌, Option, None, Some, length, take}
+use Rattle.std.specs.Fmt.{decimal}
+use Rattle.std.specs.Io.KnownBytes.{Consumes, IsAtEnd}
+use Rattle.sy_wire.specs.Characters.{IsDigit, nought, space}
+use Rattle.sy_wire.specs.Frames.{MAX_FRAME, IsSize}
+use Rattle.sy_unread.specs.declared.skipping.place.Place.{Place}
+use Rattle.sy_unread.specs.declared.skipping.place.Place.TheVariants.{Within, WithinLong, Unframed}
+
+-- a length of nine digits at most
+abbrev pub IsNumbered : ℕ → Type 0
+IsNumbered n = (0 < n) × (n < 1000000000)
+
+-- a length above the limit that has nine digits at most
+abbrev pub IsLong : ℕ → Type 0
+IsLong n = (MAX_FRAME < n) × (n < 1000000000)
+
+-- No frame begins so: the first byte is none of 1 to 9, or the byte after the digits is neither a digit nor a space, or there are ten digits.
+abbrev pub IsUnframed : List ℕ → Type 0
+IsUnframed bytes =
+    ((b : ℕ) × (rest : List ℕ) × (bytes ≡ b ∷ rest) × (b ≢ nought → IsDigit b → ⊥))
+    ⊎ ((n b : ℕ) × (rest : List ℕ) × IsNumbered n × (bytes ≡ decimal n ++ b ∷ rest) × (IsDigit b → ⊥) × (b ≢ space))
+    ⊎ ((n : ℕ) × (rest : List ℕ) × (1000000000 ≤ n) × (n < 10000000000) × (bytes ≡ decimal n ++ rest))
+
+-- a length without its space, or a long frame of which fewer than 65,536 bytes came
+abbrev pub IsCut : List ℕ → Type 0
+IsCut bytes =
+    ((n : ℕ) × IsNumbered n × (bytes ≡ decimal n))
+    ⊎ ((n : ℕ) × (text : List ℕ) × IsLong n × (bytes ≡ decimal n ++ space ∷ text) × (length text < MAX_FRAME))
+
+-- what is kept: of a long frame its length and its first 65,536 bytes, or bytes that no frame begins with
+pub data Kept : Type 0 where
+  long : ℕ → List ℕ → Kept
+  unframed : List ℕ → Kept
+
+-- what keeps these had kept that first, and this more now, where that is known
+abbrev pub KeepsMore : Option (List Kept) → Option (List Kept) → List Kept → Type 0
+KeepsMore None after more = Unit {0}
+KeepsMore (Some before) None more = ⊥
+KeepsMore (Some before) (Some after) more = after ≡ before ++ more
+
+-- where so many bytes of a long frame are left
+abbrev pub past_long : ℕ → Place
+past_long zero = Within 0
+past_long (suc n) = WithinLong (suc n)
+
+abbrev pub is_within_long : Place → Bool
+is_within_long (WithinLong n) = true
+is_within_long _ = false
+
+-- From a place on, of these bytes those were handed on, those kept, and from another place on those are left. A stream that is over has no
+-- more bytes than these.
+pub data Goes (is_over : Bool) : Place → List ℕ → List ℕ → List Kept → Place → List ℕ → Type 0 where
+  rests : {place : Place} {bytes : List ℕ} → Goes is_over place bytes [] [] place bytes
+  -- a frame that a framer takes begins
+  frame :
+      {bytes out left : List ℕ} {kept : List Kept} {place : Place} (n : ℕ) (rest : List ℕ)
+      → IsSize n → bytes ≡ decimal n ++ space ∷ rest
+      → Goes is_over (Within (length (decimal n) + 1 + n)) bytes out kept place left → Goes is_over (Within 0) bytes out kept place left
+  -- bytes of it are handed on
+  passes :
+      {n : ℕ} {bytes all left : List ℕ} {kept : List Kept} {place : Place} (text rest out : List ℕ)
+      → length text ≤ n → bytes ≡ text ++ rest → all ≡ text ++ out
+      → Goes is_over (Within (n - length text)) rest out kept place left → Goes is_over (Within n) bytes all kept place left
+  -- a long frame begins, of which so much is kept
+  keeps :
+      {bytes out left : List ℕ} {kept : List Kept} {place : Place} (n : ℕ) (text rest : List ℕ)
+      → IsLong n → length text ≡ MAX_FRAME → bytes ≡ decimal n ++ space ∷ (text ++ rest)
+      → Goes is_over (past_long (n - MAX_FRAME)) rest out kept place left → Goes is_over (Within 0) bytes out (long n text ∷ kept) place left
+  -- bytes of it are skipped
+  skips :
+      {n : ℕ} {bytes out left : List ℕ} {kept : List Kept} {place : Place} (text rest : List ℕ)
+      → length text ≤ n → bytes ≡ text ++ rest
+      → Goes is_over (past_long (n - length text)) rest out kept place left → Goes is_over (WithinLong n) bytes out kept place left
+  -- no frame begins with the bytes that came, of which 1,024 are kept at most
+  strays :
+      {bytes out left : List ℕ} {kept : List Kept} {place : Place} (came rest : List ℕ)
+      → IsUnframed came → bytes ≡ came ++ rest
+      → Goes is_over Unframed bytes out kept place left → Goes is_over (Within 0) bytes out (unframed (take 1024 came) ∷ kept) place left
+  -- the stream is over, and was cut there
+  ends :
+      {bytes out left : List ℕ} {kept : List Kept} {place : Place}
+      → is_over ≡ true → IsCut bytes
+      → Goes is_over Unframed bytes out kept place left → Goes is_over (Within 0) bytes out kept place left
+  -- bytes are handed on as they come
+  follows :
+      {bytes all left : List ℕ} {kept : List Kept} {place : Place} (text rest out : List ℕ)
+      → bytes ≡ text ++ rest → all ≡ text ++ out
+      → Goes is_over Unframed rest out kept place left → Goes is_over Unframed bytes all kept place left
+
+-- where in the stream it is, and what came and was neither handed on nor kept nor skipped
+pub record At : Type 0 where
+  pub place : Place
+  pub held : List ℕ
+
+-- bytes came, and nothing of them was handed on; what was kept of them
+pub record SetsAside (old new : At) (ahead ahead' : Option (List ℕ)) (before after : Option (List Kept)) : Type 0 where
+  pub came : List ℕ
+  pub consumed : Consumes ahead ahead' came
+  pub kept : List Kept
+  pub keeps : KeepsMore before after kept
+  pub goes : Goes false old.place (old.held ++ came) [] kept new.place new.held
+
+-- bytes came, and those were handed on; nothing was kept
+pub record HandsOn (old new : At) (ahead ahead' : Option (List ℕ)) (out : List ℕ) : Type 0 where
+  pub came : List ℕ
+  pub consumed : Consumes ahead ahead' came
+  pub is_over : Bool
+  pub over : is_over ≡ true → IsAtEnd ahead'
+  pub goes : Goes is_over old.place (old.held ++ came) out [] new.place new.held
+
+-- A read: first what had to be kept was kept, and then those bytes were handed on.
+pub record Reads (old new : At) (ahead ahead' : Option (List ℕ)) (before after : Option (List Kept)) (out : List ℕ) : Type 0 where
+  pub between : At
+  pub between_ahead : Option (List ℕ)
+  pub first : SetsAside old between ahead between_ahead before after
+  pub second : HandsOn between new between_ahead ahead' out

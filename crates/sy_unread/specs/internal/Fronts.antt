@@ -1,0 +1,40 @@
+-- What bytes begin with, where frames may be long, and what the steps of a read say.
+use Rattle.std.specs.Prelude.{◌≡◌, ◌⊎◌, ℕ, ◌+◌, ◌<◌, ◌≤◌, false, List, [], ◌∷◌, ◌++◌, Option, length, take, drop}
+use Rattle.std.specs.Fmt.{decimal}
+use Rattle.std.specs.Io.KnownBytes.{IsAtEnd}
+use Rattle.sy_wire.specs.Characters.{space}
+use Rattle.sy_wire.specs.Frames.{IsSize}
+use Rattle.sy_unread.specs.Skipping.{At, Goes, HandsOn, IsLong, IsNumbered, IsUnframed, Kept, SetsAside}
+use Rattle.sy_unread.specs.declared.skipping.place.Place.TheVariants.{Within}
+use Rattle.sy_unread.specs.declared.skipping.front.Front.{Front}
+use Rattle.sy_unread.specs.declared.skipping.front.Front.TheVariants as front
+use Rattle.sy_unread.specs.declared.skipping.turn.Turn.{Turn}
+use Rattle.sy_unread.specs.declared.skipping.turn.Turn.TheVariants as turn
+
+-- a head of a frame of n bytes, and where its text begins
+pub record HasHead (bytes : List ℕ) (n from : ℕ) : Type 0 where
+  pub rest : List ℕ
+  pub whole : bytes ≡ decimal n ++ space ∷ rest
+  pub from_is : from ≡ length (decimal n) + 1
+  pub short : from ≤ 10
+
+abbrev pub FrontIs : List ℕ → Front → Type 0
+FrontIs bytes (front.Frame n from) = IsSize n × HasHead bytes n from
+FrontIs bytes (front.Long n from) = IsLong n × HasHead bytes n from
+FrontIs bytes front.Open = (length bytes < 10) × ((bytes ≡ []) ⊎ ((n : ℕ) × IsNumbered n × (bytes ≡ decimal n)))
+FrontIs bytes front.Unframed = IsUnframed bytes
+
+-- so many of the bytes are handed on, from within a frame to within another
+abbrev pub Passes : ℕ → List ℕ → ℕ → ℕ → Type 0
+Passes within bytes count within' = Goes false (Within within) bytes (take count bytes) [] (Within within') (drop count bytes)
+
+-- the same from within a frame, or at the head of one, of which so many bytes are to come
+abbrev pub Starts : ℕ → List ℕ → ℕ → Type 0
+Starts within bytes size =
+    (0 < size) × (((0 < within) × (size ≡ within)) ⊎ ((within ≡ 0) × (n from : ℕ) × IsSize n × HasHead bytes n from × (size ≡ from + n)))
+
+abbrev pub TurnIs : Turn → At → At → Option (List ℕ) → Option (List ℕ) → Option (List Kept) → Option (List Kept) → List ℕ → Type 0
+TurnIs turn.GoesOn old new ahead ahead' before after buffer = SetsAside old new ahead ahead' before after
+TurnIs turn.Fails old new ahead ahead' before after buffer = SetsAside old new ahead ahead' before after
+TurnIs (turn.Gives count) old new ahead ahead' before after buffer =
+    (count ≤ length buffer) × HandsOn old new ahead ahead' (take count buffer) × (after ≡ before) × (count ≡ 0 → IsAtEnd ahead' × (new.held ≡ []))

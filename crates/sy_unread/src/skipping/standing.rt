@@ -1,0 +1,111 @@
+//! Where in a stream its next byte stands, and bytes that came and wait.
+ghost use Rattle.std.specs.Prelude.{◌≡◌, ◌+◌, ◌≤◌, ◌++◌, ℕ, [], drop, length, min, take, IfOk};
+ghost use Rattle.std.specs.Vec.{vec_capacity};
+ghost use Rattle.sy_unread.specs.Skipping.{At};
+ghost use Rattle.sy_unread.specs.declared.skipping.place.Place.TheVariants.{Within};
+
+use super::place::Place;
+use std::alloc::{AllocError, Global};
+use std::marker::Model;
+use sy_wire::MAX_FRAME;
+
+// The longest head of a long frame, and as much of its text as is kept.
+pub(crate) const ROOM: usize = MAX_FRAME + 10;
+
+// Where in a stream its next byte stands, and bytes that came and wait.
+#[derive(Drop)]
+pub(crate) struct Standing {
+    place: Place,
+    bytes: Vec<u8>,
+}
+
+impl Model for Standing {
+    ghost use Rattle.std.specs.Prelude.{◌≤◌};
+    ghost use Rattle.std.specs.Vec.{vec_capacity};
+    ghost use Rattle.sy_unread.specs.Skipping.{At};
+
+    ghost Value = { At };
+
+    ghost view = { λ s. record { place = s.place; held = s.bytes.items } };
+
+    ghost invariant = { λ s. 65546 ≤ vec_capacity s.bytes };
+}
+
+// Takes the first bytes away.
+fn drop_front(bytes: &mut Vec<u8>, count: usize)
+    requires { count ≤ length bytes.old.items }
+    ensures items { bytes.new.items ≡ drop count bytes.old.items }
+    ensures capacity { vec_capacity bytes.new ≡ vec_capacity bytes.old }
+{
+    bytes.drain(..count);
+}
+
+// Copies the first bytes, at most so many, and answers how many.
+fn copy_front(bytes: &[u8], buffer: &mut [u8], most: usize) -> usize
+    ensures count { result ≡ min most (min (length bytes.now) (length buffer.old)) }
+    ensures copied { take result buffer.new ≡ take result bytes.now }
+{
+    let count = most.min(bytes.len().min(buffer.len()));
+    let (front, _) = buffer.split_at_mut(count);
+    front.copy_from_slice(&bytes[..count]);
+    count
+}
+
+impl Standing {
+    pub(crate) fn new(alloc: Global) -> Result<Standing, AllocError>
+        ensures { IfOk result (λ s. s ≡ record { place = Within 0; held = [] }) }
+    {
+        let bytes = Vec::with_capacity(alloc, ROOM)?;
+        Ok(Standing {
+            place: Place::Within(0),
+            bytes,
+        })
+    }
+
+    pub(crate) fn place(&self) -> Place
+        ensures { result ≡ self.now.place }
+    {
+        self.place
+    }
+
+    pub(crate) fn held(&self) -> &[u8]
+        ensures { result.now ≡ self.now.held }
+    {
+        self.bytes.as_slice()
+    }
+
+    pub(crate) fn set_place(&mut self, place: Place)
+        ensures { self.new ≡ record self.old { place = place } }
+    {
+        self.place = place;
+    }
+
+    // Holds these bytes as well.
+    pub(crate) fn append(&mut self, bytes: &[u8])
+        requires { length self.old.held + length bytes.now ≤ 65546 }
+        ensures { self.new ≡ record self.old { held = self.old.held ++ bytes.now } }
+    {
+        if self.bytes.extend_from_slice(bytes).is_err() {
+            unreachable!();
+        }
+    }
+
+    // Lets go of the first bytes.
+    pub(crate) fn drop_front(&mut self, count: usize)
+        requires { count ≤ length self.old.held }
+        ensures { self.new ≡ record self.old { held = drop count self.old.held } }
+    {
+        drop_front(&mut self.bytes, count);
+    }
+
+    // Hands on the first bytes, at most so many, and answers how many.
+    pub(crate) fn hand_on(&mut self, buffer: &mut [u8], most: usize) -> usize
+        ensures count { result ≡ min most (min (length self.old.held) (length buffer.old)) }
+        ensures whole { self.old.held ≡ take result buffer.new ++ self.new.held }
+        ensures place { self.new.place ≡ self.old.place }
+    {
+        let count = copy_front(self.bytes.as_slice(), buffer, most);
+        drop_front(&mut self.bytes, count);
+        count
+    }
+}
