@@ -159,7 +159,13 @@ fn append_first(text: &mut Vec<u8>, sending: &Sending) -> Result<(), AllocError>
         Part::Text(b" in frame "),
         Part::Number(sending.frame),
     ];
-    put_parts(text, &parts)
+    put_parts(text, &parts)?;
+    let hint = sending.what.hint();
+    if hint.is_empty() {
+        return Ok(());
+    }
+    put(text, ", which ")?;
+    put(text, hint)
 }
 
 // Where frames go that carry no message.

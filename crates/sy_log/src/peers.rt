@@ -4,6 +4,7 @@ use crate::untold::Untold;
 use std::alloc::{AllocError, Global};
 use std::net::SocketAddr;
 use sy_runtime::{RunFault, Unread};
+use sy_unread::Hint;
 use sy_wire::{FrameFault, MsgFault};
 
 /// How a connection ended: with frames that carried no message, or with a fault, or both.
@@ -22,8 +23,8 @@ pub enum NoMessage {
     Text(MsgFault),
     /// A frame that is too long.
     Long,
-    /// What begins no frame.
-    Unframed,
+    /// What begins no frame, but begins like this.
+    Unframed(Hint),
 }
 
 impl NoMessage {
@@ -32,7 +33,15 @@ impl NoMessage {
         match self {
             NoMessage::Text(fault) => fault.code.words(),
             NoMessage::Long => FrameFault::TooLong.words(),
-            NoMessage::Unframed => FrameFault::BadLength.words(),
+            NoMessage::Unframed(_) => FrameFault::BadLength.words(),
+        }
+    }
+
+    /// What its bytes begin like, where that is told; nothing where it isn't.
+    pub fn hint(self) -> &'static str {
+        match self {
+            NoMessage::Unframed(hint) => hint.words(),
+            NoMessage::Text(_) | NoMessage::Long => "",
         }
     }
 
@@ -40,7 +49,7 @@ impl NoMessage {
     pub fn offset(self) -> u64 {
         match self {
             NoMessage::Text(fault) => fault.offset as u64,
-            NoMessage::Long | NoMessage::Unframed => 0,
+            NoMessage::Long | NoMessage::Unframed(_) => 0,
         }
     }
 }

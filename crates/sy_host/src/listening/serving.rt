@@ -5,7 +5,7 @@ use crate::listening::connections::Connections;
 use crate::listening::connector::Connector;
 use crate::listening::served_threads::EndedThreads;
 use crate::listening::unread_file::UnreadFile;
-use crate::listening::unread_frames::{Coming, UnreadFrames};
+use crate::listening::unread_frames::{Coming, LongFrames, UnreadFrames};
 use std::alloc::{AllocError, Global};
 use std::net::{Shutdown, SocketAddr, TcpStream};
 use std::sync::atomic::{AtomicBool, Ordering};
@@ -20,7 +20,8 @@ use sy_report::texts::parts::{Part, put_parts};
 use sy_report::texts::reason::Reason;
 use sy_runtime::{ConnEnd, Finish, RunFault, Untaken};
 use sy_watched::watch::Watch;
-use sy_wire::{FromRead, Sink};
+use sy_unread::skipping::Skipping;
+use sy_wire::{FrameFault, FromRead, Sink};
 
 /// What the threads of a relay that is served share.
 #[derive(Drop)]
@@ -326,6 +327,36 @@ fn rest_of(
     })
 }
 
+// Reads a connection to its end. Where frames that carry no message are kept, those that are too long are as well, and the connection goes on after
+// them; without memory for that, it ends at one, as it does where none are kept.
+fn read_all<R: Wait + Clock, C: Connector, E: Sink + Drop>(
+    rt: &R,
+    alloc: Global,
+    relay: &C,
+    at: Port,
+    stream: &TcpStream,
+    coming: &Coming<'_, E>,
+) -> (ConnEnd, Untaken, Result<Finish, RunFault>) {
+    let mut unread = UnreadFrames { coming };
+    let mut reader = FromRead::new(stream);
+    if !coming.is_kept() {
+        return relay.connect(rt, alloc, at.input, &mut reader, &mut unread);
+    }
+    let Ok(mut reader) = Skipping::new(alloc, reader, LongFrames { rt, coming }) else {
+        let mut reader = FromRead::new(stream);
+        return relay.connect(rt, alloc, at.input, &mut reader, &mut unread);
+    };
+    let (mut end, untaken, mut answer) =
+        relay.connect(rt, alloc, at.input, &mut reader, &mut unread);
+    if end.add_unread(coming.long()).is_err() {
+        answer = Err(RunFault::TotalsFull);
+    }
+    if reader.is_within_long() && matches!(answer, Ok(Finish::Ended)) {
+        answer = Err(RunFault::Frame(FrameFault::Truncated));
+    }
+    (end, untaken, answer)
+}
+
 /// Serves a connection until it ends.
 pub fn serve_connection<R: Wait + Clock + Drop, C: Connector, E: Sink + Drop>(
     rt: R,
@@ -343,10 +374,8 @@ pub fn serve_connection<R: Wait + Clock + Drop, C: Connector, E: Sink + Drop>(
         ended,
     } = connection;
     serving.watch().connection_begins(at.input);
-    let mut reader = FromRead::new(&*stream);
     let coming = Coming::new(&*serving, at, peer);
-    let mut unread = UnreadFrames { coming: &coming };
-    let (end, untaken, answer) = relay.connect(&rt, alloc, at.input, &mut reader, &mut unread);
+    let (end, untaken, answer) = read_all(&rt, alloc, &*relay, at, &stream, &coming);
     serving.watch().connection_ended(at.input);
     let rest = rest_of(alloc, at.input, untaken, answer, &stream);
     let noted = noted_end(peer, &end, answer);

@@ -8,6 +8,8 @@ use std::sync::atomic::{AtomicBool, AtomicU64, Ordering};
 use std::time::Clock;
 use sy_log::peers::{NoMessage, Sending};
 use sy_runtime::{NotKept, Unread, UnreadSink};
+use sy_unread::skipping::{self, LongSink};
+use sy_unread::Hint;
 use sy_wire::Sink;
 
 /// A connection, as who keeps what it sends knows it.
@@ -32,6 +34,11 @@ impl<'a, E: Sink + Drop> Coming<'a, E> {
             long: AtomicU64::new(0),
             is_told: AtomicBool::new(false),
         }
+    }
+
+    /// Whether what is no message is kept.
+    pub fn is_kept(&self) -> bool {
+        self.serving.unread().is_some()
     }
 
     /// How many of its frames were too long.
@@ -76,5 +83,47 @@ impl<E: Sink + Drop> UnreadSink for UnreadFrames<'_, E> {
             text,
         };
         coming.keep(rt, &frame)
+    }
+}
+
+/// What a connection sends that is too long for a frame, or begins none, which the relay keeps in its unread file.
+#[derive(Drop)]
+pub struct LongFrames<'a, R, E: Drop> {
+    pub rt: &'a R,
+    pub coming: &'a Coming<'a, E>,
+}
+
+impl<R: Wait + Clock, E: Sink + Drop> LongFrames<'_, R, E> {
+    // Keeps the first bytes of one, of which this is wrong.
+    fn keep(&self, what: NoMessage, length: Option<u64>, text: &[u8]) -> Result<(), skipping::NotKept> {
+        let coming = self.coming;
+        let frame = UnreadFrame {
+            port: coming.at.port,
+            peer: coming.peer,
+            frame: 0,
+            what,
+            length,
+            text,
+        };
+        match coming.keep(self.rt, &frame) {
+            Ok(()) => Ok(()),
+            Err(NotKept) => Err(skipping::NotKept),
+        }
+    }
+}
+
+impl<R: Wait + Clock, E: Sink + Drop> LongSink for LongFrames<'_, R, E> {
+    fn keep_long(&mut self, length: u64, text: &[u8]) -> Result<(), skipping::NotKept> {
+        self.keep(NoMessage::Long, Some(length), text)?;
+        let _ = self.coming.long.fetch_add(1, Ordering::SeqCst);
+        self.coming
+            .serving
+            .log()
+            .count_unread(self.coming.at.input, 1);
+        Ok(())
+    }
+
+    fn keep_unframed(&mut self, text: &[u8]) -> Result<(), skipping::NotKept> {
+        self.keep(NoMessage::Unframed(Hint::of(text)), None, text)
     }
 }
