@@ -16,6 +16,7 @@ mod replay;
 mod reporting;
 mod run;
 mod running;
+mod unread;
 mod usage;
 mod verify;
 mod wrong_words;
@@ -56,6 +57,7 @@ use sy_site::Site;
 use sy_watched::file::MetricsFile;
 use sy_watched::watch::Watch;
 use sy_wire::{Buffered, FromRead, FromWrite, Sink, Source};
+use unread::{is_unread, unread};
 
 /// How many bytes of lines are held back until the next read.
 const OUTPUT_BUFFER: usize = 65536;
@@ -73,6 +75,9 @@ fn main(rt: HostRuntime) -> ExitCode {
         Ok(begun) => begun,
         Err(status) => return ExitCode::from(status),
     };
+    if is_unread(words.as_slice()) {
+        return ExitCode::from(unread(&rt, words.as_slice(), &mut out));
+    }
     if !is_run(words.as_slice()) {
         return ExitCode::from(start(&rt, words.as_slice(), &mut out));
     }

@@ -97,6 +97,16 @@ Lines on standard input:
 Example:
   syc run site hub";
 
+const UNREAD_BEHIND: &str = "Exit status:
+  0  all of the file was read; with --repair, all are messages now
+  1  something of it is no record; with --repair, or was left
+  2  the file isn't one of frames, or the command line is faulty
+  3  out of memory
+  4  a read or a write failed
+
+Example:
+  syc unread --repair unread | nc -N localhost 6514";
+
 const GRAPH_BEHIND: &str = "Exit status:
   0  the graph was printed
   2  a file is faulty, or the command line is
@@ -108,7 +118,7 @@ Example:
 
 // The commands: the word of each, what it does, the names behind it and its options, each with what it means, and what
 // stands at the end of its help.
-static COMMANDS: [(&str, &str, &[(&str, &str)], &[(&str, &str)], &str); 7] = [
+static COMMANDS: [(&str, &str, &[(&str, &str)], &[(&str, &str)], &str); 8] = [
     (
         "pass",
         "Read messages in octet-counted frames from standard input and write one line a message",
@@ -159,6 +169,16 @@ static COMMANDS: [(&str, &str, &[(&str, &str)], &[(&str, &str)], &str); 7] = [
             ("explain", EXPLAIN),
         ],
         RUN_BEHIND,
+    ),
+    (
+        "unread",
+        "Say what a file of run --unread has, and what to change at the senders",
+        &[("FILE", "The file of frames that carry no message")],
+        &[(
+            "repair",
+            "Write those of which a repair makes messages to standard output, as frames",
+        )],
+        UNREAD_BEHIND,
     ),
     (
         "graph",
