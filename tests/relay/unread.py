@@ -201,3 +201,47 @@ def many_connections_share_the_file(room):
     same("behind the last record", rest, b"")
     of = {peer: [it.partition(b"] ")[2] for it in found if b'peer="%s"' % peer in it] for peer in peers}
     same("of each connection, in its order", of, {peer: [b"x%d" % number for number in range(50)] for peer in peers})
+
+
+def parts_of(port, peer, text, length):
+    """The two records of a frame that is too long."""
+    halves = (text[:32768], "1/2"), (text[32768:65536], "2/2")
+    return [record(port, peer, 0, "12 TooLong", 0, it, f' length="{length}" part="{part}"') for it, part in halves]
+
+
+@test
+def frame_that_is_too_long_is_skipped(room):
+    relay, port = hub(room)
+    text = bytes(range(256)) * 400
+    sender = Sender(port).send(message(0), text, message(1), b"x", text[:65537], message(2))
+    room.holds("audit.log", messages(3))
+    peer = address(sender)
+    has(room, [*parts_of(port, peer, text, len(text)), record(port, peer, 4, "1 Pri", 0, b"x"), *parts_of(port, peer, text[:65536], 65537)])
+    asked(relay, "taken 3 lost 0 held 0\nunread 3\n")
+    sender.end()
+    same("totals", relay.stop(), done(3, 3))
+
+
+@test
+def frame_that_is_too_long_is_cut(room):
+    relay, port = hub(room)
+    sender = Sender(port).send_bytes(frame(message(0)) + b"100000 " + b"y" * 70_000)
+    sender.half_close().is_ended()
+    has(room, parts_of(port, address(sender), b"y" * 65536, 100_000))
+    same("totals", relay.stop(), done(1, 1))
+    same("it is told", f"syc: 13 Truncated at {port}" in relay.lines(), True)
+
+
+@test
+def what_is_not_framed_is_kept(room):
+    relay, port = hub(room)
+    for text, hint in ((b"GET / HTTP/1.1\r\n\r\n", "begins like HTTP"), (b"<34>Oct 11 22:14:15 host su: x\n", "begins like RFC 3164"),
+                       (b"<34>1 - - - - - - x\n", "begins like messages framed by line feeds"), (b"\x16\x03\x01\x00\x05hello", "begins like a TLS hello")):
+        before = room.size("unread")
+        sender = Sender(port).send_bytes(text)
+        sender.is_ended()
+        wanted = frame(record(port, address(sender), 0, "11 BadLength", 0, text))
+        until("it is kept", lambda: room.size("unread") == before + len(wanted), came=lambda: room.read("unread")[before:])
+        same("its record", room.read("unread")[before:], wanted)
+        until("it is told", lambda: f"11 BadLength at 0 in frame 0, which {hint}; kept in unread" in relay.errors(), came=relay.errors)
+    same("totals", relay.stop(), done(0, 0))
