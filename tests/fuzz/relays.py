@@ -127,7 +127,7 @@ def of_streams(runner, random, texts):
             hold(not is_all or came == wanted.out, "the archive has more lines than pass writes")
         status, out, said = relay.ends()
         hold(status == 0, f"the relay ended with {status}: {said[-200:]!r}")
-        totals = re.fullmatch(rb"taken (\d+) lost 0 held 0\naudit due (\d+) done (\d+) given-up 0 left 0\n", out)
+        totals = re.fullmatch(rb"taken (\d+) lost 0 held 0\n(?:unread [1-9]\d*\n)?audit due (\d+) done (\d+) given-up 0 left 0\n", out)
         hold(totals and len({*totals.groups()}) == 1, f"the relay's totals are {out!r}")
         hold(all(LINE.fullmatch(it) for it in said.split(b"\n")[:-1]), f"the relay said {said[:200]!r}")
     finally:

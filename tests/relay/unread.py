@@ -138,13 +138,16 @@ def full_disk_holds_the_connection(room):
     wanted = [record(port, address(sender), number + 1, "1 Pri", 0, it * 5000) for number, it in enumerate((b"x", b"y"))]
     has(room, wanted[:1])
     asked(relay, "taken 0 lost 0 held 0\nunread 1\n")
+    # (others go on)
+    send_all(port, messages(1, 7))
+    room.holds("audit.log", messages(1, 7))
     same("what is watched", [document(relay)[it] for it in ("unread", "unread_fails")], [1, 1])
     lift(relay)
     has(room, wanted)
-    room.holds("audit.log", messages(1))
+    room.holds("audit.log", [message(7), message(0)])
     until("it works again", lambda: re.search(r"^syc: unread file unread works after \d+ s$", relay.errors(), re.M), came=relay.errors)
     sender.end()
-    same("totals", relay.stop(), done(1, 2))
+    same("totals", relay.stop(), done(2, 2))
 
 
 @test
