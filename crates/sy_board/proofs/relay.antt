@@ -1,4 +1,4 @@
-pub mod Put
+pub mod SetCells
 pub mod DueBits
 pub mod GuardTables
 pub mod Tallies

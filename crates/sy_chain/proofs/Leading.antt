@@ -171,23 +171,23 @@ module _ {X : Type 0} where
   null_first f l [] linked e = refl
   null_first f l (b ∷ bs) linked e = absurd (subst InBlock (sym linked.leads.0 ∙ e) linked.leads.1.0)
 
-  pub tells_empty : {P : Type 0} (f l : Ptr) (bs : List (Placed X)) → AreLinked f l bs → (place : P → Ptr) (o : Option P) (r : Bool) → is_some o ≡ not r
+  pub reports_empty : {P : Type 0} (f l : Ptr) (bs : List (Placed X)) → AreLinked f l bs → (place : P → Ptr) (o : Option P) (r : Bool) → is_some o ≡ not r
       → IfNone o (f ≡ null_ptr) → IfSome o (λ p. place p ≡ f) → IfSome o (λ p. InBlock (place p)) → IsTrue r ↔ (elems bs ≡ [])
-  tells_empty f l bs linked place None true told null at there = ((λ _. ap elems (null_first f l bs linked null)), (λ _. refl))
-  tells_empty f l bs linked place None false told null at there = absurd (false≢true told)
-  tells_empty f l bs linked place (Some p) true told null at there = absurd (false≢true (sym told))
-  tells_empty f l bs linked place (Some p) false told null at there = (
+  reports_empty f l bs linked place None true reported null at there = ((λ _. ap elems (null_first f l bs linked null)), (λ _. refl))
+  reports_empty f l bs linked place None false reported null at there = absurd (false≢true reported)
+  reports_empty f l bs linked place (Some p) true reported null at there = absurd (false≢true (sym reported))
+  reports_empty f l bs linked place (Some p) false reported null at there = (
     (λ yes. absurd (false≢true yes)),
     (λ none. absurd (subst InBlock (at ∙ subst (λ cs. Leads f cs null_ptr) (none_there bs none) linked.leads) there)),
   )
 
   pub some_there : (bs : List (Placed X)) (r : Bool) → r ≡ false → IsTrue r ↔ (elems bs ≡ []) → 0 < length bs
-  some_there [] r fails told = absurd (false≢true (sym fails ∙ told.1 refl))
-  some_there (b ∷ bs) r fails told = omega arith
+  some_there [] r fails reported = absurd (false≢true (sym fails ∙ reported.1 refl))
+  some_there (b ∷ bs) r fails reported = omega arith
 
   -- ---- what the calls say, in these terms
   pub some_in : (bs : List (Placed X)) (xs : List X) (r : Bool) → elems bs ≡ xs → r ≡ false → IsTrue r ↔ (xs ≡ []) → 0 < length bs
-  some_in bs xs r view fails told = some_there bs r fails (subst (λ ys. IsTrue r ↔ (ys ≡ [])) (sym view) told)
+  some_in bs xs r view fails reported = some_there bs r fails (subst (λ ys. IsTrue r ↔ (ys ≡ [])) (sym view) reported)
 
   pub joined_in : (f l g m : Ptr) (bs cs changed all : List (Placed X)) → 0 < length bs → 0 < length cs → AreLinked f l bs → AreLinked g m cs → changed ≡ with_last_next g bs → all ≡ changed ++ cs → AreLinked f m all
   joined_in f l g m bs cs changed all some more linked other is are = subst (AreLinked f m) (sym (are ∙ ap (λ ds. ds ++ cs) is)) (joined f l g m bs cs some more linked other)

@@ -29,14 +29,14 @@ use Rattle.sy_checker.proofs.Complete.{reached_list}
 use Rattle.sy_checker.proofs.Falling.{numbers}
 use Rattle.sy_checker.proofs.Found.{not_among, same_is}
 use Rattle.sy_checker.proofs.InnerLists.{on}
-use Rattle.sy_checker.proofs.InnersSorted.{inner_put, inner_skip, inners_all, inners_first, inners_relay}
+use Rattle.sy_checker.proofs.InnersSorted.{inner_push, inner_skip, inners_all, inners_first, inners_relay}
 use Rattle.sy_checker.proofs.InnersDecided.{is_inner}
 use Rattle.sy_checker.proofs.PathsLead.{lead_path}
 use Rattle.sy_checker.proofs.Joined.{are_wanted}
-use Rattle.sy_checker.proofs.Numbered.{class_put, class_skip, classes_all, classes_first}
+use Rattle.sy_checker.proofs.Numbered.{class_push, class_skip, classes_all, classes_first}
 use Rattle.sy_checker.proofs.PartsJoined.{right_append}
 use Rattle.sy_checker.proofs.RowsMade.{are_right}
-use Rattle.sy_checker.proofs.Sorted.{has_input, next_relay, no_input, relay_put, relay_skip, relays_all, relays_first, rest_all, rest_first, rest_put, rest_relay, rest_skip, sorted_all, sorted_first, sorted_put, sorted_skip}
+use Rattle.sy_checker.proofs.Sorted.{has_input, next_relay, no_input, relay_push, relay_skip, relays_all, relays_first, rest_all, rest_first, rest_push, rest_relay, rest_skip, sorted_all, sorted_first, sorted_push, sorted_skip}
 use Rattle.sy_checker.proofs.There.{place_there, reach_there, relay_there}
 
 each_from : {A : Type 0} (P : A → Type 0) (xs : List A) → ((x : A) → Contains xs x → P x) → Each P xs
@@ -92,7 +92,7 @@ module _ (site : Site) (found : List SiteInput) (few : (x : SiteInput) → Conta
       go old is next true e = (
         old ++ input_on relay n ∷ [],
         subst (λ k. AreSorted found relay k (old ++ input_on relay n ∷ [])) next
-            (sorted_put found relay n old is (Contains-from_any same_is (input_on relay n) found e)),
+            (sorted_push found relay n old is (Contains-from_any same_is (input_on relay n) found e)),
       )
       go old is next false e =
           (old, subst (λ k. AreSorted found relay k old) next (sorted_skip found relay n old is (not_among found (input_on relay n) e)))
@@ -141,7 +141,7 @@ module _ (site : Site) (every firm : List SiteInput) (few : (x : SiteInput) → 
       go old is next true e false f = (
         old ++ place_on relay n ∷ [],
         subst (λ k. AreRest every firm relay k (old ++ place_on relay n ∷ [])) next
-            (rest_put every firm relay n old is (record {
+            (rest_push every firm relay n old is (record {
               there = Contains-from_any same_is (place_on relay n) every e;
               rest = not_among firm (place_on relay n) f;
             })),
@@ -173,7 +173,7 @@ relays_to inputs (ℕ.suc m) =
     go : (old : List ℕ) → AreRelays inputs m old → m + 1 ≡ suc m → (b : Bool) → list_any (λ (i : SiteInput). i.relay == m) inputs ≡ b
         → (relays : List ℕ) × AreRelays inputs (suc m) relays
     go old is next true e =
-        (old ++ m ∷ [], subst (λ k. AreRelays inputs k (old ++ m ∷ [])) next (relay_put inputs m old is (has_input inputs m e)))
+        (old ++ m ∷ [], subst (λ k. AreRelays inputs k (old ++ m ∷ [])) next (relay_push inputs m old is (has_input inputs m e)))
     go old is next false e = (old, subst (λ k. AreRelays inputs k old) next (relay_skip inputs m old is (no_input inputs m e)))
 
 -- ---- lists that posts lead to, in their order
@@ -191,7 +191,7 @@ module _ (site : Site) (law : IsLawful site) (class : Class) (found : List SiteI
       go : (old : List InnerList) → AreInners site class relay n old → n + 1 ≡ suc n
           → IsInner site class (on relay n) ⊎ (IsInner site class (on relay n) → ⊥) → (new : List InnerList) × AreInners site class relay (suc n) new
       go old are next (inl is) =
-          (old ++ on relay n ∷ [], subst (λ k. AreInners site class relay k (old ++ on relay n ∷ [])) next (inner_put site class relay n old are is))
+          (old ++ on relay n ∷ [], subst (λ k. AreInners site class relay k (old ++ on relay n ∷ [])) next (inner_push site class relay n old are is))
       go old are next (inr none) = (old, subst (λ k. AreInners site class relay k old) next (inner_skip site class relay n old are none))
 
   inners_to : (m : ℕ) → (inners : List InnerList) × AreInners site class m 0 inners
@@ -358,7 +358,7 @@ classes_to site (ℕ.suc n) low =
     go : (old : List Class) → AreProtectedBelow site n old → (class : Class) → 8 * class.facility + class.severity ≡ n → n + 1 ≡ suc n
         → (b : Bool) → is_protected site class ≡ b → (classes : List Class) × AreProtectedBelow site (suc n) classes
     go old are class is next true e =
-        (old ++ class ∷ [], subst (λ k. AreProtectedBelow site k (old ++ class ∷ [])) next (class_put site n old class is are e))
+        (old ++ class ∷ [], subst (λ k. AreProtectedBelow site k (old ++ class ∷ [])) next (class_push site n old class is are e))
     go old are class is next false e = (old, subst (λ k. AreProtectedBelow site k old) next (class_skip site n old class is are e))
 
 pub sound_has_fit : (site : Site) → IsLawful site → IsSound site → (rows : List Row) × IsFit site rows

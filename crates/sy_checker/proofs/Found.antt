@@ -70,8 +70,8 @@ pub on_ok : {A E : Type 0} (P Q : Type 0) → (P → Q) → (r : Result A E) →
 on_ok P Q f (Ok x) p = f p
 on_ok P Q f (Err e) p = p
 
-pub put : (old : List SiteInput) (x : SiteInput) → list_any (same_input x) old ≡ false → Adds (λ y. y ≡ x) old (old ++ x ∷ [])
-put old x fresh = record {
+pub pushed : (old : List SiteInput) (x : SiteInput) → list_any (same_input x) old ≡ false → Adds (λ y. y ≡ x) old (old ++ x ∷ [])
+pushed old x fresh = record {
   more = x ∷ [];
   whole = refl;
   all = λ y e. subst (Contains (old ++ x ∷ [])) (sym e) (Contains-push old x);

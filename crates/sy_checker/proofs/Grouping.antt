@@ -11,7 +11,7 @@ use Rattle.sy_site.specs.declared.site.SiteInput.{SiteInput}
 use Rattle.sy_site.specs.declared.finding.Kind.{Kind}
 use Rattle.sy_checker.specs.declared.kinds.groups.Group.{Group}
 use Rattle.sy_checker.specs.Survey.{AreGroups, Names, subject}
-use Rattle.sy_checker.specs.internal.Survey.{IsAt, Puts}
+use Rattle.sy_checker.specs.internal.Survey.{IsAt, Pushes}
 use Rattle.sy_checker.proofs.Ways.{one_value}
 
 -- ---- lists
@@ -116,10 +116,10 @@ module _ (groups : List Group) (place : ℕ) (class : Class) (input : SiteInput)
     ];
   }
 
-  pub joined : Puts class input k groups (set groups place new)
+  pub joined : Pushes class input k groups (set groups place new)
   joined = record {
     kept = kept;
-    put = record { group = new; there = here; is_of = same ∙ at.is_of; named = has class (Contains-push old.classes.items class) };
+    pushed = record { group = new; there = here; is_of = same ∙ at.is_of; named = has class (Contains-push old.classes.items class) };
     only = only;
     groups = still;
   }
@@ -154,7 +154,7 @@ module _ (groups : List Group) (class : Class) (input : SiteInput) (k : Kind) (n
     ];
   }
 
-  pub begun : Puts class input k groups (groups ++ new ∷ [])
+  pub begun : Pushes class input k groups (groups ++ new ∷ [])
   begun = record {
     kept = λ c i j n. record {
       group = n.group;
@@ -162,7 +162,7 @@ module _ (groups : List Group) (class : Class) (input : SiteInput) (k : Kind) (n
       is_of = n.is_of;
       named = n.named;
     };
-    put = record { group = new; there = Contains-push groups new; is_of = is; named = it };
+    pushed = record { group = new; there = Contains-push groups new; is_of = is; named = it };
     only = only_it;
     groups = still_groups;
   }

@@ -74,8 +74,8 @@ pairs_first relay input class =
     (λ there. absurd (none_in (input, class) there), λ there. absurd (none_in (record { relay = relay; input = input }, class) there))
 
 module _ (before : List (SiteInput × Class)) (relay : ℕ) (found : Pairs) (x : SiteInput) (c : Class) (are : ArePairsAt before relay found) where
-  pub pair_put : x.relay ≡ relay → ArePairsAt (before ++ (x, c) ∷ []) relay (found ++ (x.input, c) ∷ [])
-  pair_put here input class = (
+  pub pair_push : x.relay ≡ relay → ArePairsAt (before ++ (x, c) ∷ []) relay (found ++ (x.input, c) ∷ [])
+  pair_push here input class = (
     λ there. elim (Contains-push_cases found (x.input, c) (input, class) there) [
       | inl old ↦ Contains-append_left before ((x, c) ∷ []) (record { relay = relay; input = input }, class) ((are input class).0 old)
       | inr same ↦

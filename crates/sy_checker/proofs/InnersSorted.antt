@@ -57,8 +57,8 @@ module _ (site : Site) (class : Class) (relay list : ℕ) (inners : List InnerLi
       ])
       are
 
-  pub inner_put : IsInner site class (on relay list) → AreInners site class relay (list + 1) (inners ++ on relay list ∷ [])
-  inner_put is = lists_more (IsInnerBefore site class relay list) (IsInnerBefore site class relay (list + 1)) ComesBefore inners (on relay list)
+  pub inner_push : IsInner site class (on relay list) → AreInners site class relay (list + 1) (inners ++ on relay list ∷ [])
+  inner_push is = lists_more (IsInnerBefore site class relay list) (IsInnerBefore site class relay (list + 1)) ComesBefore inners (on relay list)
       (λ x b. b.before) later (record { is = is; before = inr (refl, omega arith) })
       (λ x b. elim (before_or_here x relay list b.before) [
         | inl before ↦ inl (record { is = b.is; before = before })

@@ -25,7 +25,7 @@ use Rattle.sy_site.specs.Sites.{Site, does_spare, plan_at, target}
 use Rattle.sy_site.specs.machine.Lawful.{IsLawful}
 use Rattle.sy_site.specs.machine.Reach.{MayDo, MustDo, Reaches, forwards, occurrence_at, posts}
 use Rattle.sy_checker.specs.internal.Hops.{AreApart}
-use Rattle.sy_checker.proofs.Listing.{In, and_first, and_second, both_true, flat, flat_has, flat_is, gather, gather_has, gather_is, in_list, of_list, put_has, put_is, put_keeps, put_one, some, some_has, some_is}
+use Rattle.sy_checker.proofs.Listing.{In, and_first, and_second, both_true, flat, flat_has, flat_is, gather, gather_has, gather_is, in_list, of_list, push_has, push_is, push_keeps, push_one, some, some_has, some_is}
 use Rattle.sy_checker.proofs.Used.{list_of_found, posted_there}
 use Rattle.sy_checker.proofs.Walking.{apart_room, more_apart, none_apart}
 
@@ -114,20 +114,20 @@ module _ (site : Site) (class : Class) (relay : ℕ) where
 
   abbrev pub targets : List Occurrence → List SiteInput
   targets [] = []
-  targets (occurrence.Run action ∷ later) = put_one true (target site (record { relay = relay; action = action })) (targets later)
+  targets (occurrence.Run action ∷ later) = push_one true (target site (record { relay = relay; action = action })) (targets later)
   targets (occurrence.Post inner ∷ later) = targets later
 
   pub targets_has : (all : List Occurrence) (action : ℕ) (to : SiteInput) → In (occurrence.Run action) all
       → target site (record { relay = relay; action = action }) ≡ Some to → In to (targets all)
   targets_has [] action to i leads = absurd i
   targets_has (occurrence.Run a ∷ later) action to (inl same) leads =
-      put_has true (target site (record { relay = relay; action = a })) (targets later) to refl
+      push_has true (target site (record { relay = relay; action = a })) (targets later) to refl
       (subst (λ b. target site (record { relay = relay; action = b }) ≡ Some to) (sym (one_action same)) leads)
     where
       one_action : {a b : ℕ} → occurrence.Run a ≡ occurrence.Run b → a ≡ b
       one_action e = cc
   targets_has (occurrence.Run a ∷ later) action to (inr i) leads =
-      put_keeps true (target site (record { relay = relay; action = a })) (targets later) to (targets_has later action to i leads)
+      push_keeps true (target site (record { relay = relay; action = a })) (targets later) to (targets_has later action to i leads)
   targets_has (occurrence.Post inner ∷ later) action to (inl same) leads = absurd (not_both same)
     where
       not_both : {a b : ℕ} → occurrence.Post a ≡ occurrence.Run b → ⊥
@@ -137,7 +137,7 @@ module _ (site : Site) (class : Class) (relay : ℕ) where
   pub targets_is : (all : List Occurrence) (to : SiteInput) → In to (targets all)
       → (action : ℕ) × In (occurrence.Run action) all × (target site (record { relay = relay; action = action }) ≡ Some to)
   targets_is [] to i = absurd i
-  targets_is (occurrence.Run a ∷ later) to i = elim (put_is true (target site (record { relay = relay; action = a })) (targets later) to i) [
+  targets_is (occurrence.Run a ∷ later) to i = elim (push_is true (target site (record { relay = relay; action = a })) (targets later) to i) [
     | inl before ↦ (let t = targets_is later to before in (t.0, inr t.1, t.2))
     | inr here ↦ (a, inl refl, here.1)
   ]

@@ -20,7 +20,7 @@ use Rattle.sy_checker.specs.declared.rows.wanted.InnerList.{InnerList}
 use Rattle.sy_checker.specs.internal.Leads.{IsThere, MustLead, MustWriteAt, leads_on, list_at, same_list}
 use Rattle.sy_checker.proofs.Leading.{must_does, must_execute, must_has}
 use Rattle.sy_checker.proofs.Led.{few_lists, must_lead_there, not_in_lists, same_list_is, same_list_laws}
-use Rattle.sy_checker.proofs.Listing.{In, and_first, and_second, both_true, flat, flat_has, flat_is, in_list, of_list, put_has, put_is, put_keeps, put_one, some, some_has, some_is}
+use Rattle.sy_checker.proofs.Listing.{In, and_first, and_second, both_true, flat, flat_has, flat_is, in_list, of_list, push_has, push_is, push_keeps, push_one, some, some_has, some_is}
 use Rattle.sy_checker.proofs.Paths.{leads_not}
 
 not_false : (b : Bool) → not b ≡ true → b ≡ false
@@ -41,18 +41,18 @@ module _ (site : Site) (law : IsLawful site) (class : Class) (archive : SiteActi
 
   abbrev led : ℕ → List Occurrence → List InnerList
   led relay [] = []
-  led relay (is ∷ later) = put_one true (leads_on site relay is) (led relay later)
+  led relay (is ∷ later) = push_one true (leads_on site relay is) (led relay later)
 
   led_has : (relay : ℕ) (all : List Occurrence) (is : Occurrence) (to : InnerList) → In is all → leads_on site relay is ≡ Some to → In to (led relay all)
   led_has relay [] is to i leads = absurd i
   led_has relay (o ∷ later) is to (inl same) leads =
-      put_has true (leads_on site relay o) (led relay later) to refl (ap (leads_on site relay) same ∙ leads)
+      push_has true (leads_on site relay o) (led relay later) to refl (ap (leads_on site relay) same ∙ leads)
   led_has relay (o ∷ later) is to (inr i) leads =
-      put_keeps true (leads_on site relay o) (led relay later) to (led_has relay later is to i leads)
+      push_keeps true (leads_on site relay o) (led relay later) to (led_has relay later is to i leads)
 
   led_is : (relay : ℕ) (all : List Occurrence) (to : InnerList) → In to (led relay all) → (is : Occurrence) × In is all × (leads_on site relay is ≡ Some to)
   led_is relay [] to i = absurd i
-  led_is relay (o ∷ later) to i = elim (put_is true (leads_on site relay o) (led relay later) to i) [
+  led_is relay (o ∷ later) to i = elim (push_is true (leads_on site relay o) (led relay later) to i) [
     | inl before ↦ (let t = led_is relay later to before in (t.0, inr t.1, t.2))
     | inr here ↦ (o, inl refl, here.1)
   ]

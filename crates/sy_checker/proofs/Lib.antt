@@ -9,7 +9,7 @@ pub mod Posted
 pub mod Walking
 pub mod Followed
 pub mod Numbering
-pub mod PutNumbers
+pub mod PushNumbers
 pub mod Used
 pub mod Unspared
 pub mod Members
@@ -54,4 +54,4 @@ pub mod MadeRight
 pub mod Alike
 pub mod Shared
 pub mod Grouping
-pub mod Telling
+pub mod Reporting

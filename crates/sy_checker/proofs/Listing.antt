@@ -96,10 +96,10 @@ flat_is f (z ∷ xs) y j = elim (in_cases (f z) (flat f xs) y j) [
 
 -- ---- what numbers below a bound lead to, those that a test lets through
 
-abbrev pub put_one : {A : Type 0} → Bool → Option A → List A → List A
-put_one false o l = l
-put_one true None l = l
-put_one true (Some y) l = y ∷ l
+abbrev pub push_one : {A : Type 0} → Bool → Option A → List A → List A
+push_one false o l = l
+push_one true None l = l
+push_one true (Some y) l = y ∷ l
 
 pub no_value : {A : Type 0} {x : A} → None ≡ Some x → ⊥
 no_value e = cc
@@ -107,36 +107,36 @@ no_value e = cc
 pub one_value : {A : Type 0} {x y : A} → Some x ≡ Some y → x ≡ y
 one_value e = cc
 
-pub put_keeps : {A : Type 0} (b : Bool) (o : Option A) (l : List A) (y : A) → In y l → In y (put_one b o l)
-put_keeps false o l y i = i
-put_keeps true None l y i = i
-put_keeps true (Some z) l y i = inr i
+pub push_keeps : {A : Type 0} (b : Bool) (o : Option A) (l : List A) (y : A) → In y l → In y (push_one b o l)
+push_keeps false o l y i = i
+push_keeps true None l y i = i
+push_keeps true (Some z) l y i = inr i
 
-pub put_has : {A : Type 0} (b : Bool) (o : Option A) (l : List A) (y : A) → b ≡ true → o ≡ Some y → In y (put_one b o l)
-put_has false o l y e is = absurd (false≢true e)
-put_has true None l y e is = absurd (no_value is)
-put_has true (Some z) l y e is = inl (one_value is)
+pub push_has : {A : Type 0} (b : Bool) (o : Option A) (l : List A) (y : A) → b ≡ true → o ≡ Some y → In y (push_one b o l)
+push_has false o l y e is = absurd (false≢true e)
+push_has true None l y e is = absurd (no_value is)
+push_has true (Some z) l y e is = inl (one_value is)
 
-pub put_is : {A : Type 0} (b : Bool) (o : Option A) (l : List A) (y : A) → In y (put_one b o l) → In y l ⊎ ((b ≡ true) × (o ≡ Some y))
-put_is false o l y i = inl i
-put_is true None l y i = inl i
-put_is true (Some z) l y (inl e) = inr (refl, ap (λ w. Some w) e)
-put_is true (Some z) l y (inr i) = inl i
+pub push_is : {A : Type 0} (b : Bool) (o : Option A) (l : List A) (y : A) → In y (push_one b o l) → In y l ⊎ ((b ≡ true) × (o ≡ Some y))
+push_is false o l y i = inl i
+push_is true None l y i = inl i
+push_is true (Some z) l y (inl e) = inr (refl, ap (λ w. Some w) e)
+push_is true (Some z) l y (inr i) = inl i
 
 abbrev pub gather : {A : Type 0} → (ℕ → Bool) → (ℕ → Option A) → ℕ → List A
 gather test to ℕ.zero = []
-gather test to (ℕ.suc n) = put_one (test n) (to n) (gather test to n)
+gather test to (ℕ.suc n) = push_one (test n) (to n) (gather test to n)
 
 pub gather_has : {A : Type 0} (test : ℕ → Bool) (to : ℕ → Option A) (n k : ℕ) (y : A) → k < n → test k ≡ true → to k ≡ Some y → In y (gather test to n)
 gather_has test to ℕ.zero k y low t is = absurd (omega (arith, low))
 gather_has test to (ℕ.suc n) k y low t is = elim (cases_eq k n) [
-  | inl same ↦ put_has (test n) (to n) (gather test to n) y (subst (λ z. test z ≡ true) same t) (subst (λ z. to z ≡ Some y) same is)
-  | inr apart ↦ put_keeps (test n) (to n) (gather test to n) y (gather_has test to n k y (omega (arith, low, apart)) t is)
+  | inl same ↦ push_has (test n) (to n) (gather test to n) y (subst (λ z. test z ≡ true) same t) (subst (λ z. to z ≡ Some y) same is)
+  | inr apart ↦ push_keeps (test n) (to n) (gather test to n) y (gather_has test to n k y (omega (arith, low, apart)) t is)
 ]
 
 pub gather_is : {A : Type 0} (test : ℕ → Bool) (to : ℕ → Option A) (n : ℕ) (y : A) → In y (gather test to n) → (k : ℕ) × (test k ≡ true) × (to k ≡ Some y)
 gather_is test to ℕ.zero y i = absurd i
-gather_is test to (ℕ.suc n) y i = elim (put_is (test n) (to n) (gather test to n) y i) [
+gather_is test to (ℕ.suc n) y i = elim (push_is (test n) (to n) (gather test to n) y i) [
   | inl before ↦ gather_is test to n y before
   | inr here ↦ (n, here.0, here.1)
 ]

@@ -42,8 +42,8 @@ module _ (p : Protection) (class : Class) (old : List SiteAction) where
       (not_chosen is_new (p.archive ∷ archives_from (p.archive ∷ reverse old) later class) (archives_from (reverse old) later class)
       (ap (λ b. asks_for p class && not b) (same_there ∙ e) ∙ never (asks_for p class)))
 
-  pub put_behind : asks_for p class ≡ true → list_any (same_action p.archive) old ≡ false → AddsArchive p class old (old ++ p.archive ∷ [])
-  put_behind asks fresh later =
+  pub push_behind : asks_for p class ≡ true → list_any (same_action p.archive) old ≡ false → AddsArchive p class old (old ++ p.archive ∷ [])
+  push_behind asks fresh later =
       ap (λ l. (old ++ p.archive ∷ []) ++ archives_from l later class) (reverse-append old (p.archive ∷ []))
       ∙ append_assoc old (p.archive ∷ []) (archives_from (p.archive ∷ reverse old) later class)
       ∙ ap (λ l. old ++ l)

@@ -39,8 +39,8 @@ module _ (site : Site) (number : ℕ) (classes : List Class) (class : Class) (is
       ])
       are
 
-  pub class_put : is_protected site class ≡ true → AreProtectedBelow site (number + 1) (classes ++ class ∷ [])
-  class_put asked = lists_more (IsBelow site number) (IsBelow site (number + 1)) Rises classes class
+  pub class_push : is_protected site class ≡ true → AreProtectedBelow site (number + 1) (classes ++ class ∷ [])
+  class_push asked = lists_more (IsBelow site number) (IsBelow site (number + 1)) Rises classes class
       (λ x b. (let low = b.1 in omega (arith, low, is))) later (asked, omega (arith, is)) below_or_it are
 
 pub classes_all : (site : Site) (classes : List Class) (most : ℕ) → 192 ≤ most → AreProtectedBelow site most classes → AreProtected site classes

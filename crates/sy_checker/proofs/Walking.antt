@@ -94,8 +94,8 @@ hop_had hops number to among = record { kept = λ hop is. is; has = has hops amo
           record { hop = found.hop; there = (ℕ.suc found.there.0, omega (arith, found.there.1), found.there.2); leads = found.leads }
     ]
 
-pub hop_put : (hops : List Hop) (number : ℕ) (to : SiteInput) → AddsHop number to hops (hops ++ record { number = number; to = to } ∷ [])
-hop_put hops number to = record {
+pub hop_push : (hops : List Hop) (number : ℕ) (to : SiteInput) → AddsHop number to hops (hops ++ record { number = number; to = to } ∷ [])
+hop_push hops number to = record {
   kept = λ hop is. Contains-append_left hops (record { number = number; to = to } ∷ []) hop is;
   has = record { hop = record { number = number; to = to }; there = Contains-push hops (record { number = number; to = to }); leads = refl };
   only = λ hop is. elim (Contains-push_cases hops (record { number = number; to = to }) hop is) [
@@ -104,9 +104,9 @@ hop_put hops number to = record {
   ];
 }
 
-pub target_put : (site : Site) (relay action number : ℕ) (to : SiteInput) (old new : List Hop)
+pub target_push : (site : Site) (relay action number : ℕ) (to : SiteInput) (old new : List Hop)
     → target site (record { relay = relay; action = action }) ≡ Some to → AddsHop number to old new → AddsTarget site relay action number old new
-target_put site relay action number to old new is adds = record {
+target_push site relay action number to old new is adds = record {
   kept = adds.kept;
   has = λ x leads. subst (HasHop new) (one_value (sym is ∙ leads)) adds.has;
   only = λ hop there. elim (adds.only hop there) [

@@ -42,7 +42,7 @@ HasRanks site class = (rank : ℕ → ℕ) × AreRanks site class rank
 
 -- Nothing of the class is left out: each of the kinds 1 to 7 and 10 that holds at an input that it reaches without spare occurrences, each entry with each named
 -- archive that it doesn't lead to; and a loop, or there are ranks, so that there is none.
-pub record IsToldOf (site : Site) (class : Class) (groups : List Group) : Type 0 where
+pub record IsReportedOf (site : Site) (class : Class) (groups : List Group) : Type 0 where
   pub kinds : (input : SiteInput) → Reach site class Scope.Firm input → (k : Kind) → HoldsAt site class input (kind_of k) → Names groups class input k
   pub unmet : (entry : SiteInput) → Contains site.entries entry → (archive : SiteAction) → Contains (archives site class) archive
       → (LeadsTo site class archive entry → ⊥) → Names groups class entry (kind.Unmet archive)
@@ -51,7 +51,7 @@ pub record IsToldOf (site : Site) (class : Class) (groups : List Group) : Type 0
 -- All that is found of these classes: what a group says is true of each class that it names, and nothing of one of these is left out.
 pub record IsSurveyOf (site : Site) (Asked : Class → Type 0) (groups : List Group) : Type 0 where
   pub only : (class : Class) (input : SiteInput) (k : Kind) → Names groups class input k → IsThere site class input k
-  pub all : (class : Class) → Asked class → IsToldOf site class groups
+  pub all : (class : Class) → Asked class → IsReportedOf site class groups
   pub are_groups : AreGroups groups
 
 -- all that is found in a site: of its protected classes

@@ -62,7 +62,7 @@ fn plans_of(alloc: Global, site: &Site) -> Result<Vec<Arc<Plan>>, AllocError>
 }
 
 /// Puts each of some inputs with a class.
-pub(crate) fn put_pairs(
+pub(crate) fn push_pairs(
     pairs: &mut Vec<(SiteInput, Class)>,
     inputs: &[SiteInput],
     class: Class,
@@ -76,7 +76,7 @@ pub(crate) fn put_pairs(
 }
 
 // Puts a pair behind those before that are this relay's, where it is one too.
-fn put_pair(
+fn push_pair(
     found: &mut Vec<(u32, Class)>,
     relay: u32,
     input: SiteInput,
@@ -101,7 +101,7 @@ fn pairs_at(
 {
     let mut found = Vec::new(alloc);
     for pair in pairs {
-        put_pair(&mut found, relay, pair.0, pair.1)?;
+        push_pair(&mut found, relay, pair.0, pair.1)?;
     }
     Ok(found)
 }

@@ -56,14 +56,14 @@ pub(crate) fn rows_of_class(
 }
 
 // Puts the rows of a class behind the others.
-fn put_all(rows: &mut Vec<Row>, mut more: Vec<Row>) -> Result<(), AllocError>
+fn push_all(rows: &mut Vec<Row>, mut more: Vec<Row>) -> Result<(), AllocError>
     ensures { OnOk result (rows.new.items ≡ rows.old.items ++ more.items) }
 {
     rows.append(&mut more)
 }
 
 // Puts the rows of a class behind those of the classes before, whose courses these are.
-fn put_class(
+fn push_class(
     alloc: Global,
     site: &Site,
     class: Class,
@@ -80,7 +80,7 @@ fn put_class(
 {
     let place = course_for(alloc, site, class, firm, courses)?;
     let more = rows_of_class(alloc, site, class, &courses[place])?;
-    put_all(rows, more)?;
+    push_all(rows, more)?;
     Ok(())
 }
 
@@ -96,7 +96,7 @@ fn rows_of_classes(alloc: Global, site: &Site, classes: &[Class]) -> Result<Vec<
     let mut rows = Vec::new(alloc);
     let mut courses = Vec::new(alloc);
     for class in classes {
-        put_class(alloc, site, *class, &firm, &mut courses, &mut rows)?;
+        push_class(alloc, site, *class, &firm, &mut courses, &mut rows)?;
     }
     Ok(rows)
 }
@@ -153,7 +153,7 @@ fn in_range(row: &Row)
 }
 
 // Puts a row behind the others, which has its shape as its numbers are in range.
-fn put_row(certificate: &mut Certificate, row: Row) -> Result<(), AllocError>
+fn push_row(certificate: &mut Certificate, row: Row) -> Result<(), AllocError>
     requires shape { spec.IsInRange row → IsRow certificate.old.version row }
     requires place { may_follow (last_kind certificate.old.rows) (kind row) ≡ true }
     ensures version { OnOk result (certificate.new.version ≡ certificate.old.version) }
@@ -172,7 +172,7 @@ fn certificate_of(alloc: Global, version: u32, rows: Vec<Row>) -> Result<Certifi
 {
     let mut certificate = Certificate::new(alloc, version);
     for row in rows {
-        put_row(&mut certificate, row)?;
+        push_row(&mut certificate, row)?;
     }
     Ok(certificate)
 }

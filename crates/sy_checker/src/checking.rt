@@ -20,8 +20,8 @@ ghost use Rattle.sy_checker.specs.internal.Met.{AreMet};
 ghost use Rattle.sy_checker.specs.internal.Flows.{AreFirm};
 ghost use Rattle.sy_site.specs.declared.finding.Refusal.TheVariants as refusal;
 
-use crate::accepted::{Accepted, put_pairs};
-use crate::archives::met::{Met, are_met, put_met};
+use crate::accepted::{Accepted, push_pairs};
+use crate::archives::met::{Met, are_met, push_met};
 use crate::certifying::rows_of_class;
 use crate::classes::protected_classes;
 use crate::flows::course::{Course, course_for};
@@ -102,13 +102,13 @@ fn check_archives(
         return Ok(());
     }
     check_rows(alloc, site, class, &courses[place])?;
-    put_met(met, place, named.as_slice())?;
+    push_met(met, place, named.as_slice())?;
     Ok(())
 }
 
 // Puts each input that a class with this course reaches without spare occurrences with it behind the pairs of the classes
 // before.
-fn put_reached(
+fn push_reached(
     pairs: &mut Vec<(SiteInput, Class)>,
     site: &Site,
     class: Class,
@@ -119,7 +119,7 @@ fn put_reached(
         → AreReached site.now (before ++ class ∷ []) pairs.new.items) }
 {
     let _ = site;
-    put_pairs(pairs, course.found.inputs.as_slice(), class)?;
+    push_pairs(pairs, course.found.inputs.as_slice(), class)?;
     Ok(())
 }
 
@@ -148,7 +148,7 @@ fn check_class(
 {
     let place = course_for(alloc, site, class, firm, courses)?;
     check_archives(alloc, site, class, courses.as_slice(), place, met)?;
-    put_reached(pairs, site, class, &courses[place])?;
+    push_reached(pairs, site, class, &courses[place])?;
     Ok(())
 }
 

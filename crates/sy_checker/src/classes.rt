@@ -20,7 +20,7 @@ pub fn is_protected(site: &Site, class: Class) -> bool
 }
 
 // Puts the class of a number behind the others, where it is protected.
-fn put_class(site: &Site, number: u8, found: &mut Vec<Class>) -> Result<(), AllocError>
+fn push_class(site: &Site, number: u8, found: &mut Vec<Class>) -> Result<(), AllocError>
     requires small { number < 192 }
     ensures { OnOk result (AreProtectedBelow site.now number found.old.items
         → AreProtectedBelow site.now (number + 1) found.new.items) }
@@ -38,7 +38,7 @@ pub fn protected_classes(alloc: Global, site: &Site) -> Result<Vec<Class>, Alloc
 {
     let mut found = Vec::new(alloc);
     for number in 0..CLASSES {
-        put_class(site, number, &mut found)?;
+        push_class(site, number, &mut found)?;
     }
     Ok(found)
 }

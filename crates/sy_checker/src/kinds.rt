@@ -16,7 +16,7 @@ ghost use Rattle.sy_checker.specs.internal.Hops.{AreFlows};
 
 pub mod groups;
 pub mod search;
-pub mod told;
+pub mod reported;
 
 use crate::flows::executed::Executed;
 use crate::flows::hops::{lists_at, occurrence_at};

@@ -25,8 +25,8 @@ use crate::classes::protected_classes;
 use crate::flows::firm::{SiteFirm, firm_of};
 use crate::flows::hops::class_flows;
 use crate::flows::{ClassFlows, flows_of};
-use crate::kinds::groups::{Gathered, Group, nothing_gathered, put};
-use crate::kinds::told::{put_inner_loops, put_inputs};
+use crate::kinds::groups::{Gathered, Group, nothing_gathered, push_found};
+use crate::kinds::reported::{push_inner_loops, push_inputs};
 use crate::laws::sites_without_a_finding_are_sound;
 use crate::lists::FoundLists;
 use crate::reach::loops::{Unranked, ranks_of};
@@ -40,7 +40,7 @@ use sy_site::{Site, SiteAction, SiteInput};
 use sy_wire::Class;
 
 // Puts a loop, where there are no ranks.
-fn put_looped(
+fn push_looped(
     alloc: Global,
     site: &Site,
     class: Class,
@@ -49,20 +49,20 @@ fn put_looped(
 ) -> Result<(), AllocError>
     requires protected { sites.is_protected site.now class ≡ true }
     requires none { HasNoRanks site.now class why }
-    ensures tells { OnOk result (inside.Tells site.now class inside.IsNothing
+    ensures reports { OnOk result (inside.Reports site.now class inside.IsNothing
         found.old.groups.items found.new.groups.items) }
-    ensures told { OnOk result
+    ensures reported { OnOk result
         ((input : AnyInput) × spec.Names found.new.groups.items class input kinds.Loop) }
 {
     let _ = site;
     match why {
         Unranked::NoMemory => Err(AllocError),
-        Unranked::Loop(_way, end) => put(alloc, found, class, end, Kind::Loop),
+        Unranked::Loop(_way, end) => push_found(alloc, found, class, end, Kind::Loop),
     }
 }
 
 // Puts the loop that is met first, or there are ranks.
-fn put_loop(
+fn push_loop(
     alloc: Global,
     site: &Site,
     class: Class,
@@ -73,14 +73,14 @@ fn put_loop(
     requires protected { sites.is_protected site.now class ≡ true }
     requires flows { AreFlows site.now class flows.now }
     requires reached { (x : AnyInput) → Contains reached.now x ↔ Reach site.now class Scope.Every x }
-    ensures tells { OnOk result (inside.Tells site.now class inside.IsNothing
+    ensures reports { OnOk result (inside.Reports site.now class inside.IsNothing
         found.old.groups.items found.new.groups.items) }
     ensures ranked { OnOk result (spec.HasRanks site.now class
         ⊎ ((input : AnyInput) × spec.Names found.new.groups.items class input kinds.Loop)) }
 {
     match ranks_of(alloc, site, class, flows, reached) {
         Ok(_) => Ok(()),
-        Err(why) => put_looped(alloc, site, class, why, found),
+        Err(why) => push_looped(alloc, site, class, why, found),
     }
 }
 
@@ -104,7 +104,7 @@ fn leads_to(
 }
 
 // Puts that an entry doesn't lead to an archive, where it doesn't.
-fn put_unmet(
+fn push_unmet(
     alloc: Global,
     site: &Site,
     class: Class,
@@ -119,18 +119,18 @@ fn put_unmet(
     requires leads { AreLeads site.now class leads.now }
     requires entry { Contains site.now.entries entry }
     requires named { Contains (sites.archives site.now class) archive }
-    ensures { OnOk result (inside.Tells site.now class (inside.IsUnmetBy site.now class entry archive)
+    ensures { OnOk result (inside.Reports site.now class (inside.IsUnmetBy site.now class entry archive)
         found.old.groups.items found.new.groups.items) }
 {
     if leads_to(alloc, site, class, flows, leads, entry, archive)? {
         return Ok(());
     }
-    put(alloc, found, class, entry, Kind::Unmet(archive))?;
+    push_found(alloc, found, class, entry, Kind::Unmet(archive))?;
     Ok(())
 }
 
 // The same for each of some archives.
-fn put_archives(
+fn push_archives(
     alloc: Global,
     site: &Site,
     class: Class,
@@ -145,18 +145,18 @@ fn put_archives(
     requires leads { AreLeads site.now class leads.now }
     requires entry { Contains site.now.entries entry }
     requires named { (a : AnyAction) → Contains archives.now a → Contains (sites.archives site.now class) a }
-    ensures { OnOk result (inside.Tells site.now class
+    ensures { OnOk result (inside.Reports site.now class
         (λ i j. inside.Among archives.now (λ archive. inside.IsUnmetBy site.now class entry archive i j))
         found.old.groups.items found.new.groups.items) }
 {
     for archive in archives {
-        put_unmet(alloc, site, class, flows, leads, entry, *archive, found)?;
+        push_unmet(alloc, site, class, flows, leads, entry, *archive, found)?;
     }
     Ok(())
 }
 
 // The same for each of some entries.
-fn put_entries(
+fn push_entries(
     alloc: Global,
     site: &Site,
     class: Class,
@@ -171,18 +171,18 @@ fn put_entries(
     requires leads { AreLeads site.now class leads.now }
     requires entries { (x : AnyInput) → Contains entries.now x → Contains site.now.entries x }
     requires named { (a : AnyAction) → Contains archives.now a → Contains (sites.archives site.now class) a }
-    ensures { OnOk result (inside.Tells site.now class (λ i j. inside.Among entries.now (λ entry. inside.Among archives.now
+    ensures { OnOk result (inside.Reports site.now class (λ i j. inside.Among entries.now (λ entry. inside.Among archives.now
         (λ archive. inside.IsUnmetBy site.now class entry archive i j)))
         found.old.groups.items found.new.groups.items) }
 {
     for entry in entries {
-        put_archives(alloc, site, class, flows, leads, *entry, archives, found)?;
+        push_archives(alloc, site, class, flows, leads, *entry, archives, found)?;
     }
     Ok(())
 }
 
 // Puts each archive that is named for the class at each entry that doesn't lead to it.
-fn put_all_unmet(
+fn push_all_unmet(
     alloc: Global,
     site: &Site,
     class: Class,
@@ -191,13 +191,13 @@ fn put_all_unmet(
 ) -> Result<(), AllocError>
     requires protected { sites.is_protected site.now class ≡ true }
     requires flows { AreFlows site.now class flows.now }
-    ensures { OnOk result (inside.Tells site.now class (λ i j. inside.Among site.now.entries (λ entry.
+    ensures { OnOk result (inside.Reports site.now class (λ i j. inside.Among site.now.entries (λ entry.
         inside.Among (sites.archives site.now class) (λ archive. inside.IsUnmetBy site.now class entry archive i j)))
         found.old.groups.items found.new.groups.items) }
 {
     let leads = leads_of(alloc, site, class, flows)?;
     let named = archives(alloc, site, class)?;
-    put_entries(
+    push_entries(
         alloc,
         site,
         class,
@@ -212,7 +212,7 @@ fn put_all_unmet(
 
 // Puts each of the kinds 1 to 7 at each input that the class reaches without spare occurrences, a loop of relays, and each
 // such input from which on a list is met twice.
-fn put_reached(
+fn push_reached(
     alloc: Global,
     site: &Site,
     class: Class,
@@ -221,7 +221,7 @@ fn put_reached(
 ) -> Result<(), AllocError>
     requires protected { sites.is_protected site.now class ≡ true }
     requires flows { AreFlows site.now class flows.now }
-    ensures tells { OnOk result (inside.Tells site.now class
+    ensures reports { OnOk result (inside.Reports site.now class
         (λ i j. Reach site.now class Scope.Firm i × HoldsAt site.now class i (kind_of j))
         found.old.groups.items found.new.groups.items) }
     ensures ranked { OnOk result (spec.HasRanks site.now class
@@ -230,15 +230,15 @@ fn put_reached(
     site.is_lawful();
     let reached = reached(alloc, site, class, flows)?;
     let inputs = sorted(alloc, site, reached.inputs.as_slice())?;
-    put_inputs(alloc, site, class, flows, inputs.as_slice(), found)?;
+    push_inputs(alloc, site, class, flows, inputs.as_slice(), found)?;
     let every = reached_by_every(alloc, site, class, flows, reached.inputs.as_slice())?;
-    put_loop(alloc, site, class, flows, every.as_slice(), found)?;
-    put_inner_loops(alloc, site, class, flows, inputs.as_slice(), found)?;
+    push_loop(alloc, site, class, flows, every.as_slice(), found)?;
+    push_inner_loops(alloc, site, class, flows, inputs.as_slice(), found)?;
     Ok(())
 }
 
 // Puts all that is found of a class.
-fn put_all(
+fn push_all(
     alloc: Global,
     site: &Site,
     class: Class,
@@ -247,14 +247,14 @@ fn put_all(
 ) -> Result<(), AllocError>
     requires protected { sites.is_protected site.now class ≡ true }
     requires firm { AreFirm site.now firm.now }
-    ensures tells { OnOk result (inside.Tells site.now class inside.IsNothing
+    ensures reports { OnOk result (inside.Reports site.now class inside.IsNothing
         found.old.groups.items found.new.groups.items) }
-    ensures told { OnOk result (spec.IsToldOf site.now class found.new.groups.items) }
+    ensures reported { OnOk result (spec.IsReportedOf site.now class found.new.groups.items) }
 {
     let lists = flows_of(alloc, site, class, firm)?;
     let flows = class_flows(alloc, site, class, lists)?;
-    put_reached(alloc, site, class, &flows, found)?;
-    put_all_unmet(alloc, site, class, &flows, found)?;
+    push_reached(alloc, site, class, &flows, found)?;
+    push_all_unmet(alloc, site, class, &flows, found)?;
     Ok(())
 }
 
@@ -267,7 +267,7 @@ fn survey_of(alloc: Global, site: &Site, classes: &[Class]) -> Result<Vec<Group>
     let firm = firm_of(alloc, site)?;
     let mut found = nothing_gathered(alloc);
     for class in classes {
-        put_all(alloc, site, *class, &firm, &mut found)?;
+        push_all(alloc, site, *class, &firm, &mut found)?;
     }
     Ok(found.groups)
 }

@@ -19,7 +19,7 @@ ghost use Rattle.sy_checker.specs.Verifying as spec;
 ghost use Rattle.sy_checker.specs.internal.Verifying as inside;
 ghost use Rattle.sy_checker.specs.declared.verifying.CertFault.TheVariants as faults;
 
-use crate::accepted::{Accepted, put_pairs};
+use crate::accepted::{Accepted, push_pairs};
 use crate::classes::protected_classes;
 use crate::flows::firm::{SiteFirm, firm_of};
 use crate::flows::hops::class_flows;
@@ -92,7 +92,7 @@ fn judge_class(
     ensures pairs { OnOk result ((before : List AnyClass) → AreReached site.now before pairs.old.items
         → AreReached site.now (before ++ class ∷ []) pairs.new.items) }
 {
-    put_pairs(pairs, firm, class)?;
+    push_pairs(pairs, firm, class)?;
     judge(alloc, site, class, flows, firm, every, rows)
 }
 

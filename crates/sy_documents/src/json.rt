@@ -229,10 +229,10 @@ fn faults_of(
     alloc: Global,
     texts: &SiteTexts<'_>,
     halt: &Halt,
-    tells_all: bool,
+    reports_all: bool,
 ) -> Result<Elements, AllocError> {
     let faults = fault_element(alloc, texts, halt)?;
-    if !tells_all {
+    if !reports_all {
         return Ok(faults);
     }
     match other_faults(alloc, texts, halt) {

@@ -4,9 +4,9 @@ use crate::described::{insert_kind, insert_note, number_of};
 use crate::json_objects::{Elements, Members};
 use std::alloc::{AllocError, Global};
 use sy_fault_notes::fault_note::note_of_fault;
-use sy_faults::faults_with_notes::ToldFault;
+use sy_faults::faults_with_notes::ReportedFault;
 use sy_places::site_file::texts::SiteTexts;
-use sy_report::outcome::halt::{Halt, tell};
+use sy_report::outcome::halt::{Halt, report_halt};
 use sy_report::texts::note::Note;
 use sy_report::writing::kept_text::Gathered;
 
@@ -51,12 +51,12 @@ fn push_noted(
     halt: &Halt,
     note: &Note,
 ) -> Result<(), AllocError> {
-    let mut told = Gathered::new(alloc);
-    tell(&mut told, halt);
-    if !told.is_whole() {
+    let mut reported = Gathered::new(alloc);
+    report_halt(&mut reported, halt);
+    if !reported.is_whole() {
         return Err(AllocError);
     }
-    let line = bare_line(told.text());
+    let line = bare_line(reported.text());
     let mut members = Members::new(alloc);
     insert_kind(&mut members, name_in(line));
     members.text("text", line);
@@ -94,7 +94,7 @@ pub fn fault_element(
 pub fn with_others(
     alloc: Global,
     mut faults: Elements,
-    others: &[ToldFault],
+    others: &[ReportedFault],
 ) -> Result<Elements, AllocError> {
     for fault in others {
         push_noted(alloc, &mut faults, &fault.halt, &fault.note)?;

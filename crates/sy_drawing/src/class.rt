@@ -4,7 +4,7 @@ ghost use Rattle.sy_drawing.specs.Graphs.{IsNoClass};
 ghost use Rattle.sy_report.specs.Texts.{class_text};
 
 use std::alloc::{AllocError, Global};
-use sy_report::texts::parts::{Part, put_parts};
+use sy_report::texts::parts::{Part, append_parts};
 use sy_wire::Class;
 
 /// How many classes there are.
@@ -15,7 +15,7 @@ fn name_of(alloc: Global, class: Class) -> Result<Vec<u8>, AllocError>
     ensures { IfOk result (λ name. name.items ≡ class_text class) }
 {
     let mut name = Vec::new(alloc);
-    put_parts(&mut name, &[Part::Class(class)])?;
+    append_parts(&mut name, &[Part::Class(class)])?;
     Ok(name)
 }
 

@@ -62,7 +62,7 @@ pub fn push_id(words: &mut Words, node: Node) {
         Thing::File(number) => ("f", number),
         Thing::Nowhere(number) => ("n", number),
     };
-    words.put(&[
+    words.append(&[
         Part::Text(b"r"),
         Part::Number(u64::from(node.relay)),
         Part::Text(letter.as_bytes()),

@@ -34,7 +34,7 @@ fn push_input(words: &mut Words, drawing: Drawing<'_>, at: SiteInput, input: &In
     let is_entry = is_entry(drawing.site, at);
     begin_node(words, node);
     words.say(if is_entry { "entry " } else { "port " });
-    words.put(&[Part::Number(u64::from(input.port)), Part::Text(b"\\n")]);
+    words.append(&[Part::Number(u64::from(input.port)), Part::Text(b"\\n")]);
     words.say(flow_text(input.flow));
     end_node(words, drawing, node, !drawing.reach.at_input(at).is_empty());
     if is_entry && !is_marked(drawing, node) {
@@ -71,7 +71,7 @@ fn push_queue(
         Thing::Queue(0) => words.say("main queue of "),
         _ => words.say("queue of "),
     }
-    words.put(&[
+    words.append(&[
         Part::Number(u64::from(queue.size)),
         Part::Text(b"\\nfull-delay mark "),
         Part::Number(u64::from(queue.full_delay_mark)),
@@ -176,7 +176,7 @@ fn push_action(
     push_name(words, action.name.as_slice());
     match action.retry {
         Some(0) => words.say("\\ntried once"),
-        Some(count) => words.put(&[
+        Some(count) => words.append(&[
             Part::Text(b"\\ngiven up after "),
             Part::Number(u64::from(count)),
             Part::Text(if count == 1 { b" retry" } else { b" retries" }),
@@ -300,7 +300,7 @@ fn push_nowhere(
     };
     begin_node(words, node);
     push_name(words, target.as_slice());
-    words.put(&[
+    words.append(&[
         Part::Text(b" "),
         Part::Number(u64::from(*port)),
         Part::Text(b"\\nno input of the site"),
@@ -329,7 +329,7 @@ pub fn push_relay(
     relay: u32,
     plan: &Plan,
 ) -> Result<(), AllocError> {
-    words.put(&[
+    words.append(&[
         Part::Text(b"  subgraph cluster_"),
         Part::Number(u64::from(relay)),
         Part::Text(b" {\n    graph [label=\""),

@@ -17,8 +17,8 @@ fn push_byte(words: &mut Words, byte: u8, is_text: bool) {
         b'"' => words.say("\\\""),
         b'\\' => words.say("\\\\"),
         b'&' => words.say("&amp;"),
-        b' '..=b'~' => words.put(&[Part::Text(&[byte])]),
-        128.. if is_text => words.put(&[Part::Text(&[byte])]),
+        b' '..=b'~' => words.append(&[Part::Text(&[byte])]),
+        128.. if is_text => words.append(&[Part::Text(&[byte])]),
         _ => {
             words.say("\\\\x");
             words.say(DIGITS[(byte / 16) as usize]);
@@ -45,9 +45,9 @@ pub fn append_class_names(
     append_classes(alloc, &mut names, classes)?;
     let names = names.finish()?;
     if names.len() > LONGEST {
-        words.put(&[Part::Number(classes.len() as u64), Part::Text(b" classes")]);
+        words.append(&[Part::Number(classes.len() as u64), Part::Text(b" classes")]);
     } else {
-        words.put(&[Part::Text(names.as_slice())]);
+        words.append(&[Part::Text(names.as_slice())]);
     }
     Ok(())
 }

@@ -12,7 +12,7 @@ pub fn push_encoding(note: &mut Note, file: &[u8], text: &[u8]) -> bool {
     if text.starts_with(&[0xef, 0xbb, 0xbf]) {
         note.what.say("byte order mark");
         note.why.say("the byte 0xEF: the file begins with a UTF-8 byte order mark");
-        note.change.put(&[
+        note.change.append(&[
             Part::Text(b"sed -i '1s/^\\xef\\xbb\\xbf//' "),
             Part::Text(file),
         ]);
@@ -25,7 +25,7 @@ pub fn push_encoding(note: &mut Note, file: &[u8], text: &[u8]) -> bool {
         } else {
             "the byte 0xFE: the file looks like UTF-16"
         });
-        note.change.put(&[
+        note.change.append(&[
             Part::Text(b"iconv -f UTF-16 -t UTF-8 "),
             Part::Text(file),
             Part::Text(b" >FILE"),
@@ -42,6 +42,6 @@ pub fn push_return(note: &mut Note, file: &[u8], line: &[u8]) -> bool {
     }
     note.why.say("the line ends with CR LF, and a CR is a byte of the line here");
     note.change
-        .put(&[Part::Text(b"sed -i 's/\\r$//' "), Part::Text(file)]);
+        .append(&[Part::Text(b"sed -i 's/\\r$//' "), Part::Text(file)]);
     true
 }

@@ -55,7 +55,7 @@ fn push_raw(alloc: Global, note: &mut Note, at: FileLine<'_>) -> Result<bool, Al
     };
     note.stands_at(alloc, at.file.as_bytes(), Some(point));
     note.what.say("RAW");
-    note.why.put(&[
+    note.why.append(&[
         Part::Text(b"RAW is no message: "),
         Part::Text(fault.code.words().as_bytes()),
         Part::Text(b" at "),
@@ -81,9 +81,9 @@ fn push_relay(
         return Ok(false);
     }
     stands_at_word(alloc, note, at, 1);
-    note.why.put(&[Part::Text(b"no relay line has the name "), Part::Text(name)]);
+    note.why.append(&[Part::Text(b"no relay line has the name "), Part::Text(name)]);
     if let Some(near) = nearest(name, names.as_slice()) {
-        note.change.put(&[Part::Text(near)]);
+        note.change.append(&[Part::Text(near)]);
     }
     Ok(true)
 }
@@ -202,7 +202,7 @@ fn push_line(
         "a line begins with take, enter, expire, grab, done, fail, giveup, post or postlost",
     );
     if let Some(near) = nearest(word, &EVENTS) {
-        note.change.put(&[Part::Text(near)]);
+        note.change.append(&[Part::Text(near)]);
     }
     Ok(())
 }
@@ -299,7 +299,7 @@ fn push_no_shape(note: &mut Note, at: FileLine<'_>) {
     );
     if let Some((_, word)) = word_in(at.line, 0) {
         if let Some(near) = nearest(word, &ROWS) {
-            note.change.put(&[Part::Text(near)]);
+            note.change.append(&[Part::Text(near)]);
         }
     }
 }

@@ -4,14 +4,14 @@ use crate::fault_note::note_of_fault;
 use std::alloc::{AllocError, Global};
 use sy_places::site_file::texts::SiteTexts;
 use sy_report::outcome::halt::Halt;
-use sy_report::texts::note::{Note, put_note};
+use sy_report::texts::note::{Note, append_note};
 use sy_report::texts::words::Words;
 
 // The lines of a note, where there is one.
 fn words_of(alloc: Global, note: Option<Note>) -> Result<Vec<u8>, AllocError> {
     let mut words = Words::new(alloc);
     if let Some(note) = note {
-        put_note(&mut words, &note);
+        append_note(&mut words, &note);
     }
     words.finish()
 }

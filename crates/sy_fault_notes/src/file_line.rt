@@ -27,7 +27,7 @@ pub fn stands_at_word(alloc: Global, note: &mut Note, at: FileLine<'_>, number: 
         column,
     };
     note.stands_at(alloc, at.file.as_bytes(), Some(point));
-    note.what.put(&[Part::Text(word)]);
+    note.what.append(&[Part::Text(word)]);
 }
 
 /// Whether two words are digits of the same number.

@@ -2,7 +2,7 @@
 
 use crate::all_of_file::{FileSpot, all_of_file};
 use crate::all_of_site::{JudgedFile, SiteHunt, find_lines, find_references, leave_out, word_of};
-use crate::faults_with_notes::{ToldFault, push_told, without};
+use crate::faults_with_notes::{ReportedFault, push_reported, without};
 use std::alloc::{AllocError, Global};
 use sy_fault_notes::fault_notes::fault_words;
 use sy_fault_notes::site::files::push_unread_relay;
@@ -33,27 +33,27 @@ fn find_unread(
     site_name: &str,
     spot: FileSpot<'_>,
     unread: Option<&Unread>,
-) -> Result<ToldFault, AllocError> {
+) -> Result<ReportedFault, AllocError> {
     let mut note = Note::new(alloc);
     if let Some(unread) = unread {
         let site = (site_name, spot.line as u64, spot.relay);
         push_unread_relay(alloc, &mut note, site, unread);
     }
     let note = note.finish()?;
-    Ok(ToldFault::new(spot.number, 0, Halt::ReadFailed, note))
+    Ok(ReportedFault::new(spot.number, 0, Halt::ReadFailed, note))
 }
 
 // Finds the faults of a relay's file, and answers what others may speak of.
 fn find_in_text(
     alloc: Global,
-    told: &mut Vec<ToldFault>,
+    reported: &mut Vec<ReportedFault>,
     spot: FileSpot<'_>,
     read: &RelayText,
 ) -> Result<Option<Vec<u8>>, AllocError> {
     let text = Vec::from_slice(alloc, read.text.as_slice())?;
     let (found, left) = all_of_file(alloc, spot, text)?;
     for fault in found {
-        told.push(fault)?;
+        reported.push(fault)?;
     }
     Ok(left)
 }
@@ -182,7 +182,7 @@ pub fn other_faults(
     alloc: Global,
     texts: &SiteTexts<'_>,
     halt: &Halt,
-) -> Result<Vec<ToldFault>, AllocError> {
+) -> Result<Vec<ReportedFault>, AllocError> {
     if !has_others(halt) {
         return Ok(Vec::new(alloc));
     }
@@ -206,11 +206,11 @@ pub fn all_fault_words(
     let mut words = Words::new(alloc);
     if is_explained {
         let first = fault_words(alloc, texts, halt)?;
-        words.put(&[Part::Text(first.as_slice())]);
+        words.append(&[Part::Text(first.as_slice())]);
     }
     let others = other_faults(alloc, texts, halt)?;
     for fault in others.as_slice() {
-        push_told(alloc, &mut words, fault, is_explained)?;
+        push_reported(alloc, &mut words, fault, is_explained)?;
     }
     words.finish()
 }

@@ -1,6 +1,6 @@
 //! All faults of a relay's file that can be found without guessing.
 
-use crate::faults_with_notes::ToldFault;
+use crate::faults_with_notes::ReportedFault;
 use crate::mending::mend_script;
 use crate::mending::mended_text::Draft;
 use crate::mending::plan::{Mended, follows, mend_plan, object_with};
@@ -38,7 +38,7 @@ pub struct FileSpot<'a> {
 struct Hunt<'a> {
     spot: FileSpot<'a>,
     mended: Mended,
-    found: Vec<ToldFault>,
+    found: Vec<ReportedFault>,
     // the place of the last fault of the script
     last: Option<usize>,
 }
@@ -68,7 +68,7 @@ fn push_fault(
     let halt = Halt::Site(SiteFault::Relay(spot.line, relay, why));
     let note = note.finish()?;
     hunt.found
-        .push(ToldFault::new(spot.number, place as u64, halt, note))?;
+        .push(ReportedFault::new(spot.number, place as u64, halt, note))?;
     Ok(())
 }
 
@@ -104,9 +104,9 @@ fn step_script(alloc: Global, hunt: &mut Hunt<'_>, fault: ScriptFault) -> Result
     if is_lost(hunt, &fault, place) {
         return Ok(Step::End);
     }
-    let is_told = !script_follows(hunt, &fault, place);
+    let is_reported = !script_follows(hunt, &fault, place);
     let mut note = Note::new(alloc);
-    if is_told {
+    if is_reported {
         push_script_fault(
             alloc,
             &mut note,
@@ -120,7 +120,7 @@ fn step_script(alloc: Global, hunt: &mut Hunt<'_>, fault: ScriptFault) -> Result
     note_include(hunt, &fault);
     let Mended { draft, cuts, .. } = &mut hunt.mended;
     let goes_on = mend_script(alloc, draft, &fault, place, cuts)?;
-    if is_told {
+    if is_reported {
         push_fault(alloc, hunt, place, note, RelayFault::Script(fault))?;
     }
     Ok(step_of(goes_on))
@@ -220,11 +220,11 @@ fn missing_of(
     hunt: &Hunt<'_>,
     objects: &[Object<'_>],
     fault: &PlanFault,
-    is_told: bool,
+    is_reported: bool,
 ) -> Result<Vec<(Note, PlanFault)>, AllocError> {
     let first = fault.word.as_slice();
     match object_at(objects, fault.span.start) {
-        Some(object) if is_told && fault.code == PlanCode::Missing => {
+        Some(object) if is_reported && fault.code == PlanCode::Missing => {
             if object.word == ObjectWord::Ruleset || first == b"type".as_slice() {
                 return Ok(Vec::new(alloc));
             }
@@ -242,15 +242,15 @@ fn step_plan(
 ) -> Result<Step, AllocError> {
     let objects = outline_script(alloc, script)?;
     let objects = objects.as_slice();
-    let told = if follows(&hunt.mended, objects, &fault) {
+    let reported = if follows(&hunt.mended, objects, &fault) {
         None
     } else {
         Some(plan_note(alloc, hunt, objects, &fault)?)
     };
-    let missing = missing_of(alloc, hunt, objects, &fault, told.is_some())?;
+    let missing = missing_of(alloc, hunt, objects, &fault, reported.is_some())?;
     let goes_on = mend_plan(alloc, &mut hunt.mended, script, objects, &fault)?;
     let place = fault.span.start;
-    if let Some(note) = told {
+    if let Some(note) = reported {
         push_fault(alloc, hunt, place, note, RelayFault::Plan(fault))?;
     }
     for (note, fault) in missing {
@@ -298,7 +298,7 @@ pub fn all_of_file(
     alloc: Global,
     spot: FileSpot<'_>,
     text: Vec<u8>,
-) -> Result<(Vec<ToldFault>, Option<Vec<u8>>), AllocError> {
+) -> Result<(Vec<ReportedFault>, Option<Vec<u8>>), AllocError> {
     let mut hunt = Hunt {
         spot,
         mended: Mended {

@@ -1,6 +1,6 @@
 //! All faults of the lines of a site file that can be found without guessing.
 
-use crate::faults_with_notes::ToldFault;
+use crate::faults_with_notes::ReportedFault;
 use crate::mending::mended_text::Draft;
 use std::alloc::{AllocError, Global};
 use sy_fault_notes::fault_note::{faulty_line, file_meant, push_site_fault};
@@ -27,7 +27,7 @@ const MOST_READ: usize = 67_108_864;
 pub struct SiteHunt<'a> {
     pub name: &'a str,
     pub draft: Draft,
-    pub found: Vec<ToldFault>,
+    pub found: Vec<ReportedFault>,
     // whether a fault was told that leaves open which policy the site has
     is_policy_open: bool,
 }
@@ -138,7 +138,7 @@ fn push_fault(
 ) -> Result<(), AllocError> {
     let note = note_of(alloc, hunt, judged, &fault)?;
     hunt.found
-        .push(ToldFault::new(0, line as u64, Halt::Site(fault), note))?;
+        .push(ReportedFault::new(0, line as u64, Halt::Site(fault), note))?;
     Ok(())
 }
 
@@ -178,11 +178,11 @@ fn cut_faulty(alloc: Global, hunt: &mut SiteHunt<'_>, number: usize) -> Result<b
     let word = word_of(line_of(text, number), 0);
     let is_policy = word == b"policy".as_slice() || word == b"spare".as_slice();
     if is_policy && (!has_policy(text) || is_first(text, number)) {
-        let is_told = hunt.is_policy_open;
+        let is_reported = hunt.is_policy_open;
         let lines = lines_of(alloc, text, 1, [b"policy", b"spare"])?;
         hunt.is_policy_open = true;
         cut_lines(&mut hunt.draft, lines.as_slice())?;
-        return Ok(is_told);
+        return Ok(is_reported);
     }
     hunt.is_policy_open = hunt.is_policy_open || (is_first(text, number) && !is_known(word));
     let same = lines_of(alloc, text, 1, [word, word])?;
@@ -205,16 +205,16 @@ fn meet_line(alloc: Global, hunt: &mut SiteHunt<'_>, number: usize) -> Result<bo
     let text = hunt.draft.text();
     let is_utf16 = text.starts_with(&[0xff, 0xfe]) || text.starts_with(&[0xfe, 0xff]);
     let ends = text.len() > MOST_BYTES || is_utf16;
-    let told = note_of(alloc, hunt, &[], &SiteFault::Line(number))?;
-    let is_told = if ends || (number == 1 && cut_mark(&mut hunt.draft)?) {
+    let reported = note_of(alloc, hunt, &[], &SiteFault::Line(number))?;
+    let is_reported = if ends || (number == 1 && cut_mark(&mut hunt.draft)?) {
         false
     } else {
         cut_faulty(alloc, hunt, number)?
     };
-    if !is_told {
+    if !is_reported {
         let halt = Halt::Site(SiteFault::Line(number));
         hunt.found
-            .push(ToldFault::new(0, number as u64, halt, told))?;
+            .push(ReportedFault::new(0, number as u64, halt, reported))?;
     }
     Ok(!ends)
 }

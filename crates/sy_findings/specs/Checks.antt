@@ -46,8 +46,8 @@ abbrev pub group_text : Site → Group → List ℕ
 group_text site group = codes " at " ++ input_text site group.input ++ codes ": " ++ kind_text site group.kind ++ line_feed ∷ []
 
 -- such a line is put behind a text
-abbrev pub PutsLine : Site → Group → List ℕ → List ℕ → Type 0
-PutsLine site group old new = (names : List ℕ) × (new ≡ old ++ names ++ group_text site group)
+abbrev pub AppendsLine : Site → Group → List ℕ → List ℕ → Type 0
+AppendsLine site group old new = (names : List ℕ) × (new ≡ old ++ names ++ group_text site group)
 
 -- a line for each group, which begins with words for its classes, of which nothing is said
 abbrev pub AreLines : Site → List Group → List ℕ → Type 0

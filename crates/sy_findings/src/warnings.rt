@@ -15,7 +15,7 @@ use sy_places::ways::executed::{
 };
 use sy_report::outcome::answer::Answer;
 use sy_report::outcome::halt::Halt;
-use sy_report::texts::note::{Note, put_line, put_place};
+use sy_report::texts::note::{Note, append_line, append_place};
 use sy_report::texts::words::Words;
 use sy_rules::Plan;
 use sy_script::tree::Script;
@@ -265,13 +265,13 @@ fn push_warning(words: &mut Words, warning: &Warning) {
     let note = &warning.note;
     words.say("warning: ");
     if let Some(place) = &note.place {
-        put_place(words, place);
+        append_place(words, place);
         words.say(": ");
     }
-    words.put_in_line(note.what.as_slice());
+    words.append_in_line(note.what.as_slice());
     words.say("\n");
-    put_line(words, "why", note.why.as_slice());
-    put_line(words, "change", note.change.as_slice());
+    append_line(words, "why", note.why.as_slice());
+    append_line(words, "change", note.change.as_slice());
 }
 
 // Puts warnings as lines, each with its place, why it is unwise, and what to write.

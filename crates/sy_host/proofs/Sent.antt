@@ -23,8 +23,8 @@ use Rattle.sy_host.specs.contracts.listening.connections.Connections as Connecti
 use Rattle.sy_host.specs.contracts.listening.served_threads.EndedThreads as EndedThreads
 use Rattle.sy_host.specs.contracts.listening.serving.Connection as Connection
 use Rattle.sy_host.specs.contracts.listening.serving.Serving as Serving
-use Rattle.sy_host.specs.contracts.telling.printing_thread.Printed as Printed
-use Rattle.sy_host.specs.contracts.telling.Teller as Teller
+use Rattle.sy_host.specs.contracts.reporting.printing_thread.Printed as Printed
+use Rattle.sy_host.specs.contracts.reporting.Reporter as Reporter
 use Rattle.sy_host.specs.contracts.watching.writing.Writer as Writer
 use Rattle.sy_log.specs.contracts.log.ActionLog as ActionLog
 use Rattle.sy_log.specs.contracts.log.LogGate as Gate
@@ -127,8 +127,8 @@ module _ (E : RattleType) where
       ) depth 40 fits 5000
 
 module _ (E : RattleType) where
-  pub teller_send : IsSend E → IsSend (Teller.the_row E)
-  teller_send a = search (serving_send, serving_sync, sendable, crosses) depth 30 fits 5000
+  pub reporter_send : IsSend E → IsSend (Reporter.the_row E)
+  reporter_send a = search (serving_send, serving_sync, sendable, crosses) depth 30 fits 5000
 
 module _ (E : RattleType) where
   pub printed_send : IsSend E → IsSend (Printed.the_row E)

@@ -46,9 +46,9 @@ unread_line None = []
 unread_line (Some unread) = codes "unread " ++ decimal unread ++ line_feed ∷ []
 
 -- So many frames carried no message: that is told, unless it is none.
-abbrev pub IsTold : ℕ → Option ℕ → Type 0
-IsTold unread None = unread ≡ 0
-IsTold unread (Some told) = told ≡ unread
+abbrev pub IsReported : ℕ → Option ℕ → Type 0
+IsReported unread None = unread ≡ 0
+IsReported unread (Some reported) = reported ≡ unread
 
 -- so many messages were taken and lost, so many are held, this is told of frames that carry none, and this was counted of these actions
 abbrev pub counts_lines : List Action → (taken lost held : ℕ) → Option ℕ → List Counts → List ℕ
@@ -81,6 +81,6 @@ pub record EndsWithTotals {S : Type 0} (actions : List Action) (guard : Option G
   pub made : List ℕ
   pub stops : Stops guard ends account left made
   pub unread : Option ℕ
-  pub unread_is : unread_of ends < 2 ^ 128 → IsTold (unread_of ends) unread
+  pub unread_is : unread_of ends < 2 ^ 128 → IsReported (unread_of ends) unread
   pub wrote : WroteTotals actions account.totals left unread old new
   pub keeps : wanted ≡ true → Keeps Kept inputs left untaken store store'

@@ -6,5 +6,5 @@ pub mod ending;
 pub mod listening;
 pub mod rotation;
 pub mod serve;
-pub mod telling;
+pub mod reporting;
 pub mod watching;

@@ -10,7 +10,7 @@ use crate::devices::host_device::HostDevice;
 use crate::ending::control::{Controlled, read_control};
 use crate::ending::finishing::{Ended, finish, out_of_memory, sum_up};
 use crate::ending::left::Store;
-use crate::ending::totals::told_by;
+use crate::ending::totals::reported_by;
 use crate::ending::{end_connections, end_loops, half_close};
 use crate::listening::accepting::start_accepting;
 use crate::listening::connector::Connector;
@@ -18,8 +18,8 @@ use crate::listening::serving::Serving;
 use crate::listening::{ListenFault, Listening, listen_all};
 use crate::rotation::reopens::Reopens;
 use crate::rotation::watching::start_watching;
-use crate::telling::printing_thread::{end_printing, start_printing};
-use crate::telling::{end_telling, start_telling};
+use crate::reporting::printing_thread::{end_printing, start_printing};
+use crate::reporting::{end_reporting, start_reporting};
 use crate::watching::writing::{end_metrics, start_metrics};
 use std::alloc::{AllocError, Global};
 use std::collections::VecDeque;
@@ -62,7 +62,7 @@ fn listen_failed<R: Wait, E: Sink + Drop>(rt: &R, serving: &Serving<E>, fault: L
 {
     match fault {
         ListenFault::Bind(port, reason) => {
-            serving.tell(rt, RunFault::Bind.words().as_bytes(), port);
+            serving.report_at_port(rt, RunFault::Bind.words().as_bytes(), port);
             serving.set_refused(rt, port, reason);
             4
         }
@@ -137,7 +137,7 @@ fn accept_to_end<
     };
     // (its descriptor is free when the accept loops are to end)
     let reserve = reserve(all.as_slice());
-    let is_accepting = start_telling(rt, alloc, serving).is_ok()
+    let is_accepting = start_reporting(rt, alloc, serving).is_ok()
         && start_watching(rt, alloc, serving, reopens).is_ok()
         && accept_at_all(rt, alloc, &relay, serving, all).is_ok();
     if is_accepting {
@@ -208,12 +208,12 @@ where
     relay.drain(&rt, most);
     relay.close(&rt);
     let ends = end_connections(rt, alloc, serving, &served.is_ending);
-    let unread = told_by(serving.unread().is_some(), &ends);
+    let unread = reported_by(serving.unread().is_some(), &ends);
     let answer = relay.stop(&rt, workers, ends);
     end_metrics(&rt, alloc, serving, &answer);
     let untaken = sum_up(&rt, alloc, serving, plan.inputs());
     served.reopens.finish(&rt);
-    end_telling(&rt, serving);
+    end_reporting(&rt, serving);
     let is_whole = is_accepting && untaken.is_some();
     // (what was held is kept also where there was no memory for the rest)
     let untaken = untaken.unwrap_or(VecDeque::new(alloc));

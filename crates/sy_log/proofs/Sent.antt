@@ -6,7 +6,7 @@ use Rattle.sy_log.specs.contracts.log.Log as Log
 use Rattle.sy_log.specs.contracts.log.LogGate as Gate
 use Rattle.sy_log.specs.contracts.printer.Printer as Printer
 use Rattle.sy_log.specs.contracts.printing.Printing as Printing
-use Rattle.sy_log.specs.contracts.untold.Untold as Untold
+use Rattle.sy_log.specs.contracts.unreported.Unreported as Unreported
 
 pub printing_send : IsSend Printing.the_row
 printing_send = search (sendable, crosses) depth 40 fits 5000
@@ -14,14 +14,14 @@ printing_send = search (sendable, crosses) depth 40 fits 5000
 pub printing_sync : IsSync Printing.the_row
 printing_sync = search (sendable, crosses) depth 40 fits 5000
 
-untold_send : IsSend Untold.the_row
-untold_send = search (sendable, crosses) depth 40 fits 5000
+unreported_send : IsSend Unreported.the_row
+unreported_send = search (sendable, crosses) depth 40 fits 5000
 
 pub log_send : IsSend Log.the_row
-log_send = search (untold_send, sendable, crosses) depth 40 fits 5000
+log_send = search (unreported_send, sendable, crosses) depth 40 fits 5000
 
 pub log_sync : IsSync Log.the_row
-log_sync = search (untold_send, sendable, crosses) depth 40 fits 5000
+log_sync = search (unreported_send, sendable, crosses) depth 40 fits 5000
 
 pub gate_send : IsSend Gate.the_row
 gate_send = search (log_send, log_sync, sendable, crosses) depth 20

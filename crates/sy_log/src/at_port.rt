@@ -3,7 +3,7 @@ ghost use Rattle.std.specs.Prelude.{◌≡◌, ◌++◌, OnOk};
 ghost use Rattle.sy_log.specs.Ports as spec;
 
 use std::alloc::AllocError;
-use sy_report::texts::parts::{Part, put_parts};
+use sy_report::texts::parts::{Part, append_parts};
 use sy_runtime::{RunFault, Unread};
 
 /// Appends the line that says what happened at a port.
@@ -18,7 +18,7 @@ pub fn append_at_port(text: &mut Vec<u8>, words: &[u8], port: u16) -> Result<(),
         Part::Number(place),
         Part::Text(b"\n"),
     ];
-    put_parts(text, &parts)
+    append_parts(text, &parts)
 }
 
 /// Appends the line that says what happened at a port, and how often it did besides.
@@ -41,7 +41,7 @@ pub fn append_at_port_often(
         Part::Text(b" others"),
         Part::Text(b"\n"),
     ];
-    put_parts(text, &parts)
+    append_parts(text, &parts)
 }
 
 /// The number and the name of what ended a connection: of a frame's fault its own.
@@ -77,7 +77,7 @@ pub fn append_unread(
         Part::Number(first.frame),
         Part::Text(b"\n"),
     ];
-    put_parts(text, &parts)
+    append_parts(text, &parts)
 }
 
 /// Appends the same line, and how many frames of how many other connections carried none.
@@ -109,5 +109,5 @@ pub fn append_unread_often(
         Part::Text(b" others"),
         Part::Text(b"\n"),
     ];
-    put_parts(text, &parts)
+    append_parts(text, &parts)
 }

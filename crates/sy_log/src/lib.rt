@@ -13,5 +13,5 @@ mod spell;
 pub mod start_lines;
 pub mod subject;
 mod subjects;
-pub mod untold;
+pub mod unreported;
 pub mod waiting_lines;

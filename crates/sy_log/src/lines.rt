@@ -5,79 +5,79 @@ use crate::notices::Line;
 use crate::peers::{PeerEnd, Sending};
 use crate::subject::Subject;
 use std::alloc::{AllocError, Global};
-use sy_report::texts::parts::{Part, put_parts};
+use sy_report::texts::parts::{Part, append_parts};
 use sy_report::texts::reason::Reason;
 
-fn put(text: &mut Vec<u8>, words: &str) -> Result<(), AllocError> {
+fn append(text: &mut Vec<u8>, words: &str) -> Result<(), AllocError> {
     text.extend_from_slice(words.as_bytes())
 }
 
-fn put_seconds(text: &mut Vec<u8>, words: &str, seconds: u64) -> Result<(), AllocError> {
+fn append_seconds(text: &mut Vec<u8>, words: &str, seconds: u64) -> Result<(), AllocError> {
     let parts = [
         Part::Text(words.as_bytes()),
         Part::Number(seconds),
         Part::Text(b" s"),
     ];
-    put_parts(text, &parts)
+    append_parts(text, &parts)
 }
 
 // An action fails, or an input is held.
-fn put_begin(alloc: Global, text: &mut Vec<u8>, subject: &Subject) -> Result<(), AllocError> {
+fn append_begin(alloc: Global, text: &mut Vec<u8>, subject: &Subject) -> Result<(), AllocError> {
     let why = subject.why();
     if subject.kind.is_written() {
-        put(text, " fails: ")?;
-        return Reason::from_code(why).put(alloc, text);
+        append(text, " fails: ")?;
+        return Reason::from_code(why).append(alloc, text);
     }
     if why == MARK {
-        put(text, " held: full-delay mark")
+        append(text, " held: full-delay mark")
     } else {
-        put(text, " held: full queue")
+        append(text, " held: full queue")
     }
 }
 
-fn put_lost(text: &mut Vec<u8>, count: u64, seconds: u64) -> Result<(), AllocError> {
-    put_parts(text, &[Part::Text(b" lost "), Part::Number(count)])?;
-    put_seconds(text, " in ", seconds)
+fn append_lost(text: &mut Vec<u8>, count: u64, seconds: u64) -> Result<(), AllocError> {
+    append_parts(text, &[Part::Text(b" lost "), Part::Number(count)])?;
+    append_seconds(text, " in ", seconds)
 }
 
-fn put_line(
+fn append_line(
     alloc: Global,
     text: &mut Vec<u8>,
     subject: &Subject,
     line: Line,
 ) -> Result<(), AllocError> {
     match line {
-        Line::Begins => put_begin(alloc, text, subject),
+        Line::Begins => append_begin(alloc, text, subject),
         Line::Ends(seconds) => {
             if subject.kind.is_written() {
-                put_seconds(text, " works after ", seconds)
+                append_seconds(text, " works after ", seconds)
             } else {
-                put_seconds(text, " goes on after ", seconds)
+                append_seconds(text, " goes on after ", seconds)
             }
         }
-        Line::Loses => put(text, " loses"),
-        Line::Lost(count, seconds) => put_lost(text, count, seconds),
+        Line::Loses => append(text, " loses"),
+        Line::Lost(count, seconds) => append_lost(text, count, seconds),
     }
 }
 
 /// A line about an action, an input or a queue.
 pub fn subject_line(alloc: Global, subject: &Subject, line: Line) -> Result<Vec<u8>, AllocError> {
     let mut text = Vec::new(alloc);
-    put_parts(
+    append_parts(
         &mut text,
         &[Part::Text(b"syc: "), Part::Text(subject.name.as_slice())],
     )?;
-    put_line(alloc, &mut text, subject, line)?;
-    put(&mut text, "\n")?;
+    append_line(alloc, &mut text, subject, line)?;
+    append(&mut text, "\n")?;
     Ok(text)
 }
 
 // The first frame that carried no message, and why.
-fn put_unread(text: &mut Vec<u8>, end: &PeerEnd) -> Result<(), AllocError> {
+fn append_unread_frames(text: &mut Vec<u8>, end: &PeerEnd) -> Result<(), AllocError> {
     if end.unread == 0 {
         return Ok(());
     }
-    put_parts(
+    append_parts(
         text,
         &[
             Part::Text(b", "),
@@ -96,10 +96,10 @@ fn put_unread(text: &mut Vec<u8>, end: &PeerEnd) -> Result<(), AllocError> {
         Part::Text(b" in frame "),
         Part::Number(first.frame),
     ];
-    put_parts(text, &parts)
+    append_parts(text, &parts)
 }
 
-fn put_others(text: &mut Vec<u8>, others: u64) -> Result<(), AllocError> {
+fn append_others(text: &mut Vec<u8>, others: u64) -> Result<(), AllocError> {
     if others == 0 {
         return Ok(());
     }
@@ -108,7 +108,7 @@ fn put_others(text: &mut Vec<u8>, others: u64) -> Result<(), AllocError> {
         Part::Number(others),
         Part::Text(b" others"),
     ];
-    put_parts(text, &parts)
+    append_parts(text, &parts)
 }
 
 fn append_peer<'a>(
@@ -124,7 +124,7 @@ fn append_peer<'a>(
         Part::Text(peer),
         Part::Text(words),
     ];
-    put_parts(text, &parts)
+    append_parts(text, &parts)
 }
 
 /// A line about a connection of an input that ended with a fault or with frames that carried no message, and about how many others did.
@@ -143,10 +143,10 @@ pub fn peer_line(
         peer.as_str().as_bytes(),
         b": ",
     )?;
-    put(&mut text, words)?;
-    put_unread(&mut text, end)?;
-    put_others(&mut text, others)?;
-    put(&mut text, "\n")?;
+    append(&mut text, words)?;
+    append_unread_frames(&mut text, end)?;
+    append_others(&mut text, others)?;
+    append(&mut text, "\n")?;
     Ok(text)
 }
 
@@ -159,20 +159,20 @@ fn append_first(text: &mut Vec<u8>, sending: &Sending) -> Result<(), AllocError>
         Part::Text(b" in frame "),
         Part::Number(sending.frame),
     ];
-    put_parts(text, &parts)?;
+    append_parts(text, &parts)?;
     let hint = sending.what.hint();
     if hint.is_empty() {
         return Ok(());
     }
-    put(text, ", which ")?;
-    put(text, hint)
+    append(text, ", which ")?;
+    append(text, hint)
 }
 
 // Where frames go that carry no message.
 fn append_kept(text: &mut Vec<u8>, file: Option<&[u8]>) -> Result<(), AllocError> {
     match file {
-        Some(file) => put_parts(text, &[Part::Text(b"; kept in "), Part::Text(file)]),
-        None => put(text, "; dropped"),
+        Some(file) => append_parts(text, &[Part::Text(b"; kept in "), Part::Text(file)]),
+        None => append(text, "; dropped"),
     }
 }
 
@@ -194,8 +194,8 @@ pub fn sending_line(
         b" sends what is no message: ",
     )?;
     append_first(&mut text, sending)?;
-    put_others(&mut text, others)?;
+    append_others(&mut text, others)?;
     append_kept(&mut text, file)?;
-    put(&mut text, "\n")?;
+    append(&mut text, "\n")?;
     Ok(text)
 }

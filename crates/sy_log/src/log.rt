@@ -144,7 +144,7 @@ impl Log {
     }
 
     /// Whether a connection of the subject of this number has begun to send what is no message, and wasn't told.
-    pub fn has_untold_sending<R: Wait>(&self, rt: &R, number: usize) -> bool {
+    pub fn has_unreported_sending<R: Wait>(&self, rt: &R, number: usize) -> bool {
         match self.ended_at(number) {
             Some(ended) => ended.lock(rt).has_sending(),
             None => false,
@@ -157,7 +157,7 @@ impl Log {
     }
 
     /// Whether a connection of the subject of this number has ended so and wasn't told.
-    pub fn has_untold_end<R: Wait>(&self, rt: &R, number: usize) -> bool {
+    pub fn has_unreported_end<R: Wait>(&self, rt: &R, number: usize) -> bool {
         match self.ended_at(number) {
             Some(ended) => ended.lock(rt).first.is_some(),
             None => false,
@@ -165,7 +165,7 @@ impl Log {
     }
 
     /// The same connections, which are told now.
-    pub fn take_untold_ends<R: Wait>(&self, rt: &R, number: usize) -> Option<(PeerEnd, u64)> {
+    pub fn take_unreported_ends<R: Wait>(&self, rt: &R, number: usize) -> Option<(PeerEnd, u64)> {
         self.ended_at(number)?.lock(rt).take_first()
     }
 

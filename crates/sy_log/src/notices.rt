@@ -18,7 +18,7 @@ pub enum Line {
 
 /// What was told of one.
 #[derive(Clone, Copy)]
-pub struct Told {
+pub struct Reported {
     pace: Pace,
     trouble: Spell,
     losses: Spell,
@@ -27,10 +27,10 @@ pub struct Told {
     lost_before: u64,
 }
 
-impl Told {
+impl Reported {
     /// Nothing was told yet.
-    pub fn new() -> Told {
-        Told {
+    pub fn new() -> Reported {
+        Reported {
             pace: Pace::new(),
             trouble: Spell::new(),
             losses: Spell::new(),
@@ -84,11 +84,11 @@ impl Told {
             return None;
         }
         if self.trouble.begins() {
-            self.trouble.tell();
+            self.trouble.report();
             return Some(Line::Begins);
         }
         if self.losses.begins() {
-            self.losses.tell();
+            self.losses.report();
             return Some(Line::Loses);
         }
         if self.is_over(now) {
@@ -110,10 +110,10 @@ impl Told {
     /// A line that is told as the relay ends, before it is due.
     pub fn last_line(&mut self) -> Option<Line> {
         if self.trouble.begins() && self.seen.on > 0 {
-            self.trouble.tell();
+            self.trouble.report();
             return Some(Line::Begins);
         }
-        if self.trouble.is_told() && self.seen.on == 0 {
+        if self.trouble.is_reported() && self.seen.on == 0 {
             return Some(self.ends());
         }
         if self.losses.is_open() {
@@ -127,8 +127,8 @@ impl Told {
         if self.trouble.begins() || self.losses.begins() {
             return Some(self.pace.next);
         }
-        let trouble = self.trouble.is_told() && self.seen.on == 0;
-        let losses = self.losses.is_told();
+        let trouble = self.trouble.is_reported() && self.seen.on == 0;
+        let losses = self.losses.is_reported();
         match (trouble, losses) {
             (false, false) => None,
             (true, false) => Some(self.trouble.ends_at().max(self.pace.next)),

@@ -21,8 +21,8 @@ impl Pace {
 
     /// Whether a line may be told now. Where it may, it is told, and the next one may be a second later.
     pub fn take(&mut self, now: u64) -> bool
-        ensures told { IsTrue result → (self.old.next ≤ now) × (self.new.next ≡ count_after now 1000) }
-        ensures not_told { IsFalse result → self.new.next ≡ self.old.next }
+        ensures reported { IsTrue result → (self.old.next ≤ now) × (self.new.next ≡ count_after now 1000) }
+        ensures not_reported { IsFalse result → self.new.next ≡ self.old.next }
     {
         if now < self.next {
             return false;

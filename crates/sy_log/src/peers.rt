@@ -1,6 +1,6 @@
 //! What is noted of an input's connections: how they ended, and which send what is no message.
 
-use crate::untold::Untold;
+use crate::unreported::Unreported;
 use std::alloc::{AllocError, Global};
 use std::net::SocketAddr;
 use sy_runtime::{RunFault, Unread};
@@ -70,7 +70,7 @@ pub struct Ended {
     pub port: u16,
     pub first: Option<PeerEnd>,
     pub others: u64,
-    pub untold: Untold,
+    pub unreported: Unreported,
     // the first of those that began to send what is no message and weren't told yet, and how many others there are
     sending: Option<Sending>,
     others_sending: u64,
@@ -83,7 +83,7 @@ impl Ended {
             port,
             first: None,
             others: 0,
-            untold: Untold::new(alloc)?,
+            unreported: Unreported::new(alloc)?,
             sending: None,
             others_sending: 0,
         })
@@ -96,7 +96,7 @@ impl Ended {
         } else {
             self.others = self.others.saturating_add(1);
         }
-        self.untold.add(&end);
+        self.unreported.add(&end);
     }
 
     /// The first of those that ended so, and how many others there are, which are told now.

@@ -2,7 +2,7 @@
 
 use crate::waiting_lines::{WaitingLines, count_lines};
 use std::alloc::{AllocError, Global};
-use sy_report::texts::parts::{Part, put_parts};
+use sy_report::texts::parts::{Part, append_parts};
 use sy_wire::Sink;
 
 /// How many bytes of whole lines are written at once: as many as go into a pipe in one piece, whoever else writes there.
@@ -25,7 +25,7 @@ fn left_out_line(alloc: Global, count: u64) -> Result<Vec<u8>, AllocError> {
         Part::Number(count),
         Part::Text(b" lines left out\n"),
     ];
-    put_parts(&mut text, &parts)?;
+    append_parts(&mut text, &parts)?;
     Ok(text)
 }
 

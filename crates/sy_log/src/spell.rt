@@ -6,7 +6,7 @@ use crate::pauses::STEP;
 #[derive(Clone, Copy)]
 pub struct Spell {
     is_open: bool,
-    is_told: bool,
+    is_reported: bool,
     since: u64,
     last: u64,
 }
@@ -16,7 +16,7 @@ impl Spell {
     pub fn new() -> Spell {
         Spell {
             is_open: false,
-            is_told: false,
+            is_reported: false,
             since: 0,
             last: 0,
         }
@@ -29,7 +29,7 @@ impl Spell {
         }
         if !self.is_open {
             self.is_open = true;
-            self.is_told = false;
+            self.is_reported = false;
             self.since = now;
         }
         self.last = now;
@@ -37,17 +37,17 @@ impl Spell {
 
     /// Whether it has begun and that isn't told.
     pub fn begins(&self) -> bool {
-        self.is_open && !self.is_told
+        self.is_open && !self.is_reported
     }
 
     /// Whether it is over at that time, and its beginning was told.
     pub fn is_over(&self, now: u64) -> bool {
-        self.is_open && self.is_told && now >= self.ends_at()
+        self.is_open && self.is_reported && now >= self.ends_at()
     }
 
     /// Whether its beginning was told and its end wasn't.
-    pub fn is_told(&self) -> bool {
-        self.is_open && self.is_told
+    pub fn is_reported(&self) -> bool {
+        self.is_open && self.is_reported
     }
 
     /// Whether it goes on.
@@ -61,8 +61,8 @@ impl Spell {
     }
 
     /// Its beginning is told.
-    pub fn tell(&mut self) {
-        self.is_told = true;
+    pub fn report(&mut self) {
+        self.is_reported = true;
     }
 
     /// It is over; how many seconds it took.

@@ -4,7 +4,7 @@ ghost use Rattle.sy_log.specs.Ports as spec;
 
 use std::alloc::{AllocError, Global};
 use std::net::Ipv4Addr;
-use sy_report::texts::parts::{Part, put_parts};
+use sy_report::texts::parts::{Part, append_parts};
 use sy_rules::Input;
 
 /// Appends the line of an input that listens at this address.
@@ -18,7 +18,7 @@ pub fn append_listening(text: &mut Vec<u8>, port: u16, address: &[u8]) -> Result
         Part::Text(address),
         Part::Text(b"\n"),
     ];
-    put_parts(text, &parts)
+    append_parts(text, &parts)
 }
 
 /// Appends the line that says which files a relay runs: their sum, in hexadecimal digits, and their number.
@@ -40,7 +40,7 @@ pub fn append_runs<'a>(
         Part::Text(b" files"),
         Part::Text(b"\n"),
     ];
-    put_parts(text, &parts)
+    append_parts(text, &parts)
 }
 
 /// The lines of a relay whose inputs all listen at this address, and the one that says which files it runs.

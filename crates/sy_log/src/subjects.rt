@@ -3,13 +3,13 @@
 use crate::subject::{Kind, Subject};
 use std::alloc::{AllocError, Global};
 use sy_places::ways::relay_parts::name_of_list;
-use sy_report::texts::parts::{Part, put_parts};
+use sy_report::texts::parts::{Part, append_parts};
 use sy_report::texts::words::Words;
 use sy_rules::Plan;
 
 fn named(alloc: Global, kind: Kind, parts: &[Part<'_>]) -> Result<Subject, AllocError> {
     let mut name = Vec::new(alloc);
-    put_parts(&mut name, parts)?;
+    append_parts(&mut name, parts)?;
     Ok(Subject::new(kind, name))
 }
 
@@ -41,7 +41,7 @@ fn queue_subject(alloc: Global, plan: &Plan, queue: u32) -> Result<Subject, Allo
     named(alloc, Kind::Queue, &[Part::Text(b"queue of "), name])
 }
 
-fn put_queues(alloc: Global, subjects: &mut Vec<Subject>, plan: &Plan) -> Result<(), AllocError> {
+fn push_queues(alloc: Global, subjects: &mut Vec<Subject>, plan: &Plan) -> Result<(), AllocError> {
     let mut queue: u32 = 0;
     for _ in plan.queues() {
         let subject = queue_subject(alloc, plan, queue)?;
@@ -54,7 +54,7 @@ fn put_queues(alloc: Global, subjects: &mut Vec<Subject>, plan: &Plan) -> Result
 /// The name of a file as lines have it: control characters stand there as `\x0a`.
 pub fn name_in_line(alloc: Global, name: &str) -> Result<Vec<u8>, AllocError> {
     let mut words = Words::new(alloc);
-    words.put_in_line(name.as_bytes());
+    words.append_in_line(name.as_bytes());
     words.finish()
 }
 
@@ -73,7 +73,7 @@ pub fn subjects_of(
         let port = Part::Number(u64::from(input.port));
         subjects.push(named(alloc, Kind::Input, &[Part::Text(b"input "), port])?)?;
     }
-    put_queues(alloc, &mut subjects, plan)?;
+    push_queues(alloc, &mut subjects, plan)?;
     if let Some(name) = unread {
         let parts = [Part::Text(b"unread file "), Part::Text(name)];
         subjects.push(named(alloc, Kind::Unread, &parts)?)?;

@@ -7,7 +7,7 @@ use Rattle.sy_board.specs.relay.Steps.{Event, Out, Step}
 use Rattle.sy_site.specs.declared.site.SiteAction.{SiteAction}
 use Rattle.sy_site.specs.Sites.{Relay, Site, plan_in}
 use Rattle.sy_site.specs.machine.States as states
-use Rattle.sy_site.specs.machine.States.{SiteState, opening, put_outs, with_passed, with_relay}
+use Rattle.sy_site.specs.machine.States.{SiteState, opening, push_outs, with_passed, with_relay}
 use Rattle.sy_site.specs.machine.Steps.{RelaySteps, SiteEvent, SiteStep, SiteSteps}
 use Rattle.sy_site.specs.machine.Naming.{IsTag}
 use Rattle.sy_board.proofs.relay.Keeps.{Each, each_append}
@@ -27,20 +27,20 @@ step_there (x ∷ xs) (ℕ.suc r) old e new outs step = let m = step_there xs r 
 abbrev AreThere : ℕ → List states.Loss → Type 0
 AreThere n losses = Each (λ (l : states.Loss). l.relay < n) losses
 
-put_there : (n : ℕ) (s : SiteState) (r : ℕ) (outs : List Out) → r < n → AreThere n s.losses → AreThere n (put_outs s r outs).losses
-put_there n s r [] there all = all
-put_there n s r (Out.Passed x e ∷ outs) there all =
+push_there : (n : ℕ) (s : SiteState) (r : ℕ) (outs : List Out) → r < n → AreThere n s.losses → AreThere n (push_outs s r outs).losses
+push_there n s r [] there all = all
+push_there n s r (Out.Passed x e ∷ outs) there all =
     let d : SiteAction = record { relay = r; action = x } in
-    put_there n (record s { passed = with_passed s.passed d (s.passed d ++ e.tag ∷ []) }) r outs there all
-put_there n s r (Out.Lost cause e ∷ outs) there all =
-    put_there n (record s { losses = s.losses ++ record { copy = e.tag; relay = r; list = e.list; cause = cause } ∷ [] }) r outs there
+    push_there n (record s { passed = with_passed s.passed d (s.passed d ++ e.tag ∷ []) }) r outs there all
+push_there n s r (Out.Lost cause e ∷ outs) there all =
+    push_there n (record s { losses = s.losses ++ record { copy = e.tag; relay = r; list = e.list; cause = cause } ∷ [] }) r outs there
     (each_append (λ (l : states.Loss). l.relay < n) s.losses _ all (there, tt))
 
 relay_there : (site : Site) (s : SiteState) (r : ℕ) (e : Event) (new : SiteState) → AreThere (length site.relays) s.losses → RelaySteps site s r e new
     → AreThere (length site.relays) new.losses
 relay_there site s r e new all st =
     subst (λ (x : SiteState). AreThere (length site.relays) x.losses) (sym st.after)
-    (put_there (length site.relays) (record s { relays = with_relay s.relays r st.state }) r st.outs
+    (push_there (length site.relays) (record s { relays = with_relay s.relays r st.state }) r st.outs
     (step_there site.relays r (s.relays r) e st.state st.outs st.step) all)
 
 site_there : (site : Site) (s : SiteState) (e : SiteEvent) (new : SiteState) → AreThere (length site.relays) s.losses → SiteStep site s e new

@@ -141,12 +141,12 @@ settled old new w action list tag message job (of, settles, is) = (
   λ took. ((action, of.run.entry, settles, refl), is),
 )
 
-pub as_told : (failure : Refused) (action : ℕ) → failure.device ≡ action → failure ≡ record failure { device = action }
-as_told failure action d = ap (λ x. record failure { device = x }) d
+pub as_reported : (failure : Refused) (action : ℕ) → failure.device ≡ action → failure ≡ record failure { device = action }
+as_reported failure action d = ap (λ x. record failure { device = x }) d
 
 pub tried : (old new : BoardState) (w action list tag : ℕ) (message : Said) (failure : Refused) → IsRunJob old w action list message tag → failure.device ≡ action
     → FailIs retry.Again old w failure new → Answers Answer.Fail old w action list tag new
-tried old new w action list tag message failure job d is = go (subst (λ x. FailIs retry.Again old w x new) (as_told failure action d) is)
+tried old new w action list tag message failure job d is = go (subst (λ x. FailIs retry.Again old w x new) (as_reported failure action d) is)
   where
     go : FailIs retry.Again old w (record failure { device = action }) new → Answers Answer.Fail old w action list tag new
     go (of, fails, same) = (
@@ -158,7 +158,7 @@ tried old new w action list tag message failure job d is = go (subst (λ x. Fail
 
 pub given_up : (old new : BoardState) (w action list tag : ℕ) (message : Said) (failure : Refused) → IsRunJob old w action list message tag → failure.device ≡ action
     → FailIs retry.GaveUp old w failure new → Answers Answer.GiveUp old w action list tag new
-given_up old new w action list tag message failure job d is = go (subst (λ x. FailIs retry.GaveUp old w x new) (as_told failure action d) is)
+given_up old new w action list tag message failure job d is = go (subst (λ x. FailIs retry.GaveUp old w x new) (as_reported failure action d) is)
   where
     go : FailIs retry.GaveUp old w (record failure { device = action }) new → Answers Answer.GiveUp old w action list tag new
     go (of, gives, same) = (

@@ -7,14 +7,14 @@ use Rattle.sy_board.proofs.relay.Outcomes.{one_step, one_taken}
 use Rattle.sy_chain.specs.Entries.{Entry}
 use Rattle.sy_site.specs.declared.site.SiteInput.{SiteInput}
 use Rattle.sy_site.specs.Sites.{Site, plan_at}
-use Rattle.sy_site.specs.machine.States.{Copy, SiteState, copy_of_new, off_link, put_outs, taken_by, with_passed, with_relay}
+use Rattle.sy_site.specs.machine.States.{Copy, SiteState, copy_of_new, off_link, push_outs, taken_by, with_passed, with_relay}
 use Rattle.sy_site.specs.machine.Steps.{RelaySteps, SiteEvent, SiteStep, TakesCopy}
 
 one_relay : (site : Site) (old : SiteState) (r : ℕ) (e : Event) (a b : SiteState) → RelaySteps site old r e a → RelaySteps site old r e b → a ≡ b
 one_relay site old r e a b s t =
     let same = one_step (plan_at site r) (old.relays r) e s.state t.state s.outs t.outs s.step t.step in
-    s.after ∙ ap (λ (x : RelayState). put_outs (record old { relays = with_relay old.relays r x }) r s.outs) same.0
-    ∙ ap (put_outs (record old { relays = with_relay old.relays r t.state }) r) same.1 ∙ sym t.after
+    s.after ∙ ap (λ (x : RelayState). push_outs (record old { relays = with_relay old.relays r x }) r s.outs) same.0
+    ∙ ap (push_outs (record old { relays = with_relay old.relays r t.state }) r) same.1 ∙ sym t.after
 
 one_take : (site : Site) (old : SiteState) (to : SiteInput) (hand : ℕ) (copy : Copy) (a b : SiteState) → TakesCopy site old to hand copy a
     → TakesCopy site old to hand copy b → a ≡ b

@@ -15,7 +15,7 @@ use Rattle.sy_board.specs.relay.Cells.{RelayState}
 use Rattle.sy_board.specs.relay.Steps.{Cause, Event, Out, Step, if_so}
 use Rattle.sy_site.specs.declared.site.SiteAction.{SiteAction}
 use Rattle.sy_site.specs.Sites.{Site, no_plan, plan_at}
-use Rattle.sy_site.specs.machine.States.{Arrival, Copy, Loss, SiteState, put_outs, with_passed, with_relay}
+use Rattle.sy_site.specs.machine.States.{Arrival, Copy, Loss, SiteState, push_outs, with_passed, with_relay}
 use Rattle.sy_site.specs.machine.Steps.{IsTake, RelaySteps, SiteEvent, SiteStep}
 use Rattle.sy_replay.specs.declared.event.Illegal.{Illegal}
 use Rattle.sy_replay.specs.declared.event.Illegal.TheVariants as illegal
@@ -62,9 +62,9 @@ AreThere n [] = Unit {0}
 AreThere n (Out.Passed action e ∷ outs) = (action < n) × AreThere n outs
 AreThere n (Out.Lost cause e ∷ outs) = AreThere n outs
 
-put_one : (k action : ℕ) (passed : List (List ℕ)) (others : SiteAction → List ℕ) (tags : List ℕ) → action < length passed → (a : SiteAction)
+push_one : (k action : ℕ) (passed : List (List ℕ)) (others : SiteAction → List ℕ) (tags : List ℕ) → action < length passed → (a : SiteAction)
     → with_passed (spread k passed others) (record { relay = k; action = action }) tags a ≡ spread k (slice_set passed action tags) others a
-put_one k action passed others tags l a = go (k == a.relay) (action == a.action) refl refl
+push_one k action passed others tags l a = go (k == a.relay) (action == a.action) refl refl
   where
     go : (b c : Bool) → (k == a.relay) ≡ b → (action == a.action) ≡ c
         → (if (k == a.relay) && (action == a.action) then tags else if k == a.relay then tags_at passed a.action else others a)
@@ -82,23 +82,23 @@ abbrev pub state_with : (ℕ → RelayState) → List Copy → (SiteAction → L
 state_with relays copies passed losses arrivals = record { relays = relays; copies = copies; passed = passed; losses = losses; arrivals = arrivals }
 
 -- what a relay lets out, all at once
-put_all : (k : ℕ) (relays : ℕ → RelayState) (copies : List Copy) (passed : List (List ℕ)) (others : SiteAction → List ℕ) (losses : List Loss) (arrivals : List Arrival)
+push_all : (k : ℕ) (relays : ℕ → RelayState) (copies : List Copy) (passed : List (List ℕ)) (others : SiteAction → List ℕ) (losses : List Loss) (arrivals : List Arrival)
     (outs : List Out) → AreThere (length passed) outs
-    → put_outs (state_with relays copies (spread k passed others) losses arrivals) k outs
+    → push_outs (state_with relays copies (spread k passed others) losses arrivals) k outs
     ≡ state_with relays copies (spread k (passed_by outs passed) others) (losses ++ lost_by k outs) arrivals
-put_all k relays copies passed others losses arrivals [] there =
+push_all k relays copies passed others losses arrivals [] there =
     ap (λ l. state_with relays copies (spread k passed others) l arrivals) (sym (append-nil losses))
-put_all k relays copies passed others losses arrivals (Out.Passed action e ∷ outs) there =
+push_all k relays copies passed others losses arrivals (Out.Passed action e ∷ outs) there =
     let by : SiteAction = record { relay = k; action = action } in
     let tags = tags_at passed action ++ e.tag ∷ [] in
     let one : with_passed (spread k passed others) by (spread k passed others by ++ e.tag ∷ []) ≡ spread k (slice_set passed action tags) others =
     ap (λ z. with_passed (spread k passed others) by (z ++ e.tag ∷ [])) (here k (tags_at passed action) (others by))
-    ∙ fun_ext (put_one k action passed others tags there.0) in
-    ap (λ p. put_outs (state_with relays copies p losses arrivals) k outs) one
-    ∙ put_all k relays copies (slice_set passed action tags) others losses arrivals outs
+    ∙ fun_ext (push_one k action passed others tags there.0) in
+    ap (λ p. push_outs (state_with relays copies p losses arrivals) k outs) one
+    ∙ push_all k relays copies (slice_set passed action tags) others losses arrivals outs
     (subst (λ n. AreThere n outs) (sym (length-set passed action tags)) there.1)
-put_all k relays copies passed others losses arrivals (Out.Lost cause e ∷ outs) there =
-    put_all k relays copies passed others (losses ++ record { copy = e.tag; relay = k; list = e.list; cause = cause } ∷ []) arrivals outs there
+push_all k relays copies passed others losses arrivals (Out.Lost cause e ∷ outs) there =
+    push_all k relays copies passed others (losses ++ record { copy = e.tag; relay = k; list = e.list; cause = cause } ∷ []) arrivals outs there
     ∙ ap (λ l. state_with relays copies (spread k (passed_by outs passed) others) l arrivals)
     (append_assoc losses (record { copy = e.tag; relay = k; list = e.list; cause = cause } ∷ []) (lost_by k outs))
 
@@ -179,10 +179,10 @@ outs_there plan old (Event.PostLost w no_memory) new outs whole (l, e, loses, is
 after_step : (parts : List PartState) (copies : List Copy) (losses now : List Loss) (arrivals : List Arrival) (k : ℕ) (p new : PartState) (outs : List Out)
     → slice_get parts k ≡ Some p → AreThere (length p.passed) outs → new.passed ≡ passed_by outs p.passed → now ≡ losses ++ lost_by k outs
     → site_state (slice_set parts k new) copies now arrivals
-    ≡ put_outs (record (site_state parts copies losses arrivals) { relays = with_relay (relays_of parts) k new.board.state }) k outs
+    ≡ push_outs (record (site_state parts copies losses arrivals) { relays = with_relay (relays_of parts) k new.board.state }) k outs
 after_step parts copies losses now arrivals k p new outs is there passed lost = sym (
-    ap (λ x. put_outs (state_with (with_relay (relays_of parts) k new.board.state) copies x losses arrivals) k outs) (fun_ext (own_lists k parts p is))
-    ∙ put_all k (with_relay (relays_of parts) k new.board.state) copies p.passed (passed_of parts) losses arrivals outs there
+    ap (λ x. push_outs (state_with (with_relay (relays_of parts) k new.board.state) copies x losses arrivals) k outs) (fun_ext (own_lists k parts p is))
+    ∙ push_all k (with_relay (relays_of parts) k new.board.state) copies p.passed (passed_of parts) losses arrivals outs there
     ∙ ap (λ x. state_with x copies (spread k (passed_by outs p.passed) (passed_of parts)) (losses ++ lost_by k outs) arrivals) (fun_ext (relays_set k parts p new is))
     ∙ ap (λ x. state_with (relays_of (slice_set parts k new)) copies x (losses ++ lost_by k outs) arrivals)
     (fun_ext (lists_set k parts p new (passed_by outs p.passed) is passed))
@@ -241,7 +241,7 @@ inside_refused illegal.NotAStep site parts copies losses arrivals k p event of i
     (subst (λ x. Step x (relays_of parts k) (step_of event) steps.1.state steps.1.outs) (of k ∙ ap plan_of is) steps.1.step))
 inside_refused illegal.NoMemory site parts copies losses arrivals k p event of is none = tt
 inside_refused illegal.TotalsFull site parts copies losses arrivals k p event of is (state, outs, step, full) = (
-  put_outs (record (site_state parts copies losses arrivals) { relays = with_relay (relays_of parts) k state }) k outs,
+  push_outs (record (site_state parts copies losses arrivals) { relays = with_relay (relays_of parts) k state }) k outs,
   (
     no_take event,
     record {

@@ -14,7 +14,7 @@ use Rattle.sy_board.specs.relay.Steps.{Event, Out, Step}
 use Rattle.sy_site.specs.declared.site.SiteAction.{SiteAction}
 use Rattle.sy_site.specs.declared.site.SiteInput.{SiteInput}
 use Rattle.sy_site.specs.Sites.{Site, plan_at}
-use Rattle.sy_site.specs.machine.States.{Arrival, Copy, Loss, SiteState, off_link, put_outs, taken_by, with_passed, with_relay}
+use Rattle.sy_site.specs.machine.States.{Arrival, Copy, Loss, SiteState, off_link, push_outs, taken_by, with_passed, with_relay}
 use Rattle.sy_site.specs.machine.Steps.{SiteEvent, TakesCopy, TakesFrom}
 use Rattle.sy_replay.specs.declared.event.Illegal.{Illegal}
 use Rattle.sy_replay.specs.declared.event.Illegal.TheVariants as illegal
@@ -169,14 +169,14 @@ left parts link place p new is there board less = record {
 
 -- ---- the step of the site
 
-put_lost : (k : ℕ) (plan : Plan) (old : RelayState) (i h : ℕ) (node : Entry) (new : RelayState) (relays : ℕ → RelayState) (copies : List Copy)
+push_lost : (k : ℕ) (plan : Plan) (old : RelayState) (i h : ℕ) (node : Entry) (new : RelayState) (relays : ℕ → RelayState) (copies : List Copy)
     (passed : SiteAction → List ℕ) (losses : List Loss) (arrivals : List Arrival) (outs : List Out) → Step plan old (Event.Take i h node) new outs
-    → put_outs (state_with relays copies passed losses arrivals) k outs ≡ state_with relays copies passed (losses ++ lost_by k outs) arrivals
-put_lost k plan old i h node new relays copies passed losses arrivals outs (false, takes, is) =
-    ap (put_outs (state_with relays copies passed losses arrivals) k) is
+    → push_outs (state_with relays copies passed losses arrivals) k outs ≡ state_with relays copies passed (losses ++ lost_by k outs) arrivals
+push_lost k plan old i h node new relays copies passed losses arrivals outs (false, takes, is) =
+    ap (push_outs (state_with relays copies passed losses arrivals) k) is
     ∙ ap (λ l. state_with relays copies passed l arrivals) (sym (append-nil losses) ∙ ap (λ os. losses ++ lost_by k os) (sym is))
-put_lost k plan old i h node new relays copies passed losses arrivals outs (true, takes, is) =
-    ap (put_outs (state_with relays copies passed losses arrivals) k) is
+push_lost k plan old i h node new relays copies passed losses arrivals outs (true, takes, is) =
+    ap (push_outs (state_with relays copies passed losses arrivals) k) is
     ∙ ap (λ os. state_with relays copies passed (losses ++ lost_by k os) arrivals) (sym is)
 
 -- whatever copies, links and files the site has
@@ -189,11 +189,11 @@ take_step site parts before after to hand message tag new of t =
 take_after : (parts : List PartState) (copies : List Copy) (passed : SiteAction → List ℕ) (before after : List Loss) (arrivals : List Arrival)
     (to : SiteInput) (hand : ℕ) (message : Said) (tag : ℕ) (new : List PartState) → (t : TakesEntry parts before to hand message tag new after)
     → state_with (relays_of new) copies passed after arrivals
-    ≡ put_outs (state_with (with_relay (relays_of parts) to.relay t.state) copies passed before arrivals) to.relay t.outs
+    ≡ push_outs (state_with (with_relay (relays_of parts) to.relay t.state) copies passed before arrivals) to.relay t.outs
 take_after parts copies passed before after arrivals to hand message tag new t =
     ap (λ r. state_with r copies passed after arrivals) t.relays
     ∙ ap (λ l. state_with (with_relay (relays_of parts) to.relay t.state) copies passed l arrivals) t.losses
-    ∙ sym (put_lost to.relay (plan_of (slice_get parts to.relay)) (relays_of parts to.relay) to.input hand t.node t.state
+    ∙ sym (push_lost to.relay (plan_of (slice_get parts to.relay)) (relays_of parts to.relay) to.input hand t.node t.state
     (with_relay (relays_of parts) to.relay t.state) copies passed before arrivals t.outs t.step)
 
 -- a message from outside
@@ -244,7 +244,7 @@ copy_refused illegal.NotAStep site parts copies passed losses arrivals to hand c
     (subst (λ plan. Step plan (relays_of parts to.relay) (Event.Take to.input hand takes.node) takes.step.state takes.step.outs) (of to.relay) takes.step.step)
 copy_refused illegal.NoMemory site parts copies passed losses arrivals to hand copy of none = tt
 copy_refused illegal.TotalsFull site parts copies passed losses arrivals to hand copy of (node, m, t, state, outs, step, full) = (
-  put_outs (state_with (with_relay (relays_of parts) to.relay state) (copies ++ taken_by to.relay copy ∷ []) passed losses arrivals) to.relay outs,
+  push_outs (state_with (with_relay (relays_of parts) to.relay state) (copies ++ taken_by to.relay copy ∷ []) passed losses arrivals) to.relay outs,
   record {
     node = node;
     message = m;

@@ -2,7 +2,7 @@
 use Rattle.std.specs.Prelude.{◌≡◌, ℕ, Bool, true, false, ◌⊎◌, List, codes}
 use Rattle.std.specs.Io.KnownBytes.{Appends}
 use Rattle.sy_wire.specs.Streams.{Rose}
-use Rattle.sy_report.specs.Reports.{Streams, Tells, Torn, said}
+use Rattle.sy_report.specs.Reports.{Streams, HasReported, Torn, said}
 
 -- the exit status: 0 accepted, 1 refused
 abbrev pub status_for : Bool → ℕ
@@ -16,4 +16,4 @@ Prints text is_accepted status old new =
     ((status ≡ status_for is_accepted) × Appends old.output.contents new.output.contents text × (new.output.is_flushed ≡ true)
     × (new.output.faults ≡ old.output.faults) × (new.errors ≡ old.errors))
     ⊎ ((status ≡ 4) × Torn old.output.contents new.output.contents text × Rose old.output.faults new.output.faults
-    × Tells old new (said (codes "write failed")))
+    × HasReported old new (said (codes "write failed")))

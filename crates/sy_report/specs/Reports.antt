@@ -42,8 +42,8 @@ Reported old new text =
     ⊎ (Torn old.contents new.contents text × Rose old.faults new.faults)
 
 -- The line was written to standard error, as far as that could be done.
-abbrev pub Tells : Streams → Streams → List ℕ → Type 0
-Tells old new line = Reported old.errors new.errors line
+abbrev pub HasReported : Streams → Streams → List ℕ → Type 0
+HasReported old new line = Reported old.errors new.errors line
 
 -- ---- the line on standard error
 

@@ -61,19 +61,19 @@ taken_in gathered.NoMemory read end kept end' kept' batch batch' held g p none =
 taken_in (gathered.Fault f) read end kept end' kept' batch batch' held g p none =
     (begins read end' kept' batch' held.left (p g.0), bare (λ rest. IsAtFront f rest) batch' held.left none g.1)
 
-rounds : (stop : Gathered) (put : Result ⊤ Halt) (read : List ℕ) (end : Counts) (kept : Kept) (end' : Counts) (kept' : Kept) (batch batch' : List Item) (held : Held)
-    → GatherIs stop read end kept batch held → ((read left : List ℕ) → Holds read end kept batch left → Holds read end' kept' batch' left) → OnOk put (batch' ≡ [])
-    → RoundIs (round_of stop put) read end' kept' held batch'
+rounds : (stop : Gathered) (inserted : Result ⊤ Halt) (read : List ℕ) (end : Counts) (kept : Kept) (end' : Counts) (kept' : Kept) (batch batch' : List Item) (held : Held)
+    → GatherIs stop read end kept batch held → ((read left : List ℕ) → Holds read end kept batch left → Holds read end' kept' batch' left) → OnOk inserted (batch' ≡ [])
+    → RoundIs (round_of stop inserted) read end' kept' held batch'
 rounds stop (Ok _) read end kept end' kept' batch batch' held g p all = taken_in stop read end kept end' kept' batch batch' held g (p read held.left) all
 rounds stop (Err h) read end kept end' kept' batch batch' held g p all =
     (begins read end' kept' batch' held.left (p read held.left (gathered_holds stop read end kept batch held g)), halted_at_early h stop (rest_of batch' held.left))
 
 -- after a batch
-pub rounded : (made : Round) (stop : Gathered) (put : Result ⊤ Halt) (read : List ℕ) (end : Counts) (kept : Kept) (end' : Counts) (kept' : Kept) (batch batch' : List Item) (held : Held)
-    → made ≡ round_of stop put → GatherIs stop read end kept batch held → ((read left : List ℕ) → Holds read end kept batch left → Holds read end' kept' batch' left)
-    → OnOk put (batch' ≡ []) → RoundIs made read end' kept' held batch'
-rounded made stop put read end kept end' kept' batch batch' held is g p all =
-    subst (λ r. RoundIs r read end' kept' held batch') (sym is) (rounds stop put read end kept end' kept' batch batch' held g p all)
+pub rounded : (made : Round) (stop : Gathered) (inserted : Result ⊤ Halt) (read : List ℕ) (end : Counts) (kept : Kept) (end' : Counts) (kept' : Kept) (batch batch' : List Item) (held : Held)
+    → made ≡ round_of stop inserted → GatherIs stop read end kept batch held → ((read left : List ℕ) → Holds read end kept batch left → Holds read end' kept' batch' left)
+    → OnOk inserted (batch' ≡ []) → RoundIs made read end' kept' held batch'
+rounded made stop inserted read end kept end' kept' batch batch' held is g p all =
+    subst (λ r. RoundIs r read end' kept' held batch') (sym is) (rounds stop inserted read end kept end' kept' batch batch' held g p all)
 
 fault_early : (f : FrameFault) (rest : List ℕ) (ahead : Option (List ℕ)) → IsAtFront f rest → GoesOnWith f rest ahead
 fault_early frame.BadLength rest ahead e = e

@@ -4,7 +4,7 @@ pub mod gathering;
 pub mod halt;
 pub mod keeping;
 pub mod makings;
-pub mod putting;
+pub mod inserting;
 pub mod reading;
 pub mod taking;
 pub mod turns;

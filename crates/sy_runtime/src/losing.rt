@@ -104,22 +104,22 @@ impl Moved {
 }
 
 /// Tells what was taken and lost at an input, where there is anything.
-pub(crate) fn tell_moved<G: Gate>(gate: &G, input: u32, moved: Moved) {
+pub(crate) fn report_moved<G: Gate>(gate: &G, input: u32, moved: Moved) {
     if moved.took > 0 || moved.unread > 0 {
         gate.takes(input, moved.took, moved.unread);
     }
-    tell_lost(gate, input, moved.lost);
+    report_lost(gate, input, moved.lost);
 }
 
 /// Tells of messages that an input lost, where there are any.
-pub(crate) fn tell_lost<G: Gate>(gate: &G, input: u32, count: u64) {
+pub(crate) fn report_lost<G: Gate>(gate: &G, input: u32, count: u64) {
     if count > 0 {
         gate.loses(input, count);
     }
 }
 
 /// Tells what who has the lock lost at a queue, where it did, and answers whether. The lock is let go for that.
-pub(crate) fn tell_lost_at_queue<'a, R: Wait, G: Gate>(
+pub(crate) fn report_lost_at_queue<'a, R: Wait, G: Gate>(
     rt: &R,
     shared: &'a Shared,
     gate: &G,

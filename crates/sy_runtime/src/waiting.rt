@@ -3,7 +3,7 @@
 use crate::connection::taking::{Hand, enter, has_hand};
 use crate::connection::used::keep;
 use crate::locked::Locked;
-use crate::losing::{Moved, tell_lost, tell_lost_at_queue, tell_moved};
+use crate::losing::{Moved, report_lost, report_lost_at_queue, report_moved};
 use crate::shared::{Gate, Shared};
 use std::alloc::Global;
 use std::sync::{MutexGuard, Wait};
@@ -87,7 +87,7 @@ pub(crate) struct Waiting {
 }
 
 // The same; it is told that the input is held and then goes on, and what it lost.
-fn wait_told<'a, R: Wait + Clock, G: Gate>(
+fn wait_reported<'a, R: Wait + Clock, G: Gate>(
     rt: &R,
     shared: &'a Shared,
     gate: &G,
@@ -103,7 +103,7 @@ fn wait_told<'a, R: Wait + Clock, G: Gate>(
     }
     drop(locked);
     gate.goes_on(hand.input);
-    tell_lost(
+    report_lost(
         gate,
         hand.input,
         u64::from(hold == Hold::Full && !*is_in_hand),
@@ -113,7 +113,7 @@ fn wait_told<'a, R: Wait + Clock, G: Gate>(
 
 /// Waits while the hand's message is held, and does what is to be done where it waited long enough. A full-delay mark and a full queue
 /// are told, with the lock let go; a light-delay mark isn't.
-pub(crate) fn wait_and_tell<'a, R: Wait + Clock, G: Gate>(
+pub(crate) fn wait_and_report<'a, R: Wait + Clock, G: Gate>(
     rt: &R,
     shared: &'a Shared,
     gate: &G,
@@ -123,9 +123,9 @@ pub(crate) fn wait_and_tell<'a, R: Wait + Clock, G: Gate>(
 ) -> MutexGuard<'a, Locked> {
     let Waiting { hand, hold, moved } = waiting;
     drop(locked);
-    tell_moved(gate, hand.input, moved);
+    report_moved(gate, hand.input, moved);
     match hold {
-        Hold::FullDelay | Hold::Full => wait_told(rt, shared, gate, waiting, is_in_hand),
+        Hold::FullDelay | Hold::Full => wait_reported(rt, shared, gate, waiting, is_in_hand),
         Hold::LightDelay | Hold::Clear => {
             let locked = shared.locked.lock(rt);
             wait_out(rt, shared, locked, hand, hold, is_in_hand)
@@ -192,5 +192,5 @@ pub(crate) fn wait_for_room<'a, R: Wait + Clock, G: Gate>(
     let locked = wait_for_post(rt, alloc, shared, locked, worker);
     // (it is dealt with, or memory for it is to be asked for again, or the relay closes)
     shared.wake_all();
-    tell_lost_at_queue(rt, shared, gate, locked).0
+    report_lost_at_queue(rt, shared, gate, locked).0
 }

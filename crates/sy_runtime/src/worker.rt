@@ -6,7 +6,7 @@ pub mod recording;
 pub mod working;
 
 use crate::locked::Locked;
-use crate::losing::tell_lost_at_queue;
+use crate::losing::report_lost_at_queue;
 use crate::shared::{Gate, Shared};
 use crate::waiting::{MEMORY_WAIT, pause, wait_for_room};
 use crate::worker::finding::Next;
@@ -55,8 +55,8 @@ fn find<'a, R: Wait, G: Gate>(
     messages: &mut Vec<Arc<Message>>,
 ) -> (MutexGuard<'a, Locked>, Next) {
     let next = locked.find(alloc, worker, messages);
-    let (locked, is_told) = tell_lost_at_queue(rt, shared, gate, locked);
-    if is_told {
+    let (locked, is_reported) = report_lost_at_queue(rt, shared, gate, locked);
+    if is_reported {
         (locked, Next::Posted)
     } else {
         (locked, next)

@@ -4,7 +4,7 @@ use Rattle.sy_script.specs.declared.token.Kind.{Kind}
 use Rattle.sy_script.specs.declared.token.Kind.TheVariants as k
 use Rattle.sy_script.specs.declared.token.Token.{Token}
 use Rattle.sy_script.specs.Brackets.{opens, is_bracket, Balanced, IsInnermost}
-use Rattle.sy_script.proofs.Told.{balanced_front}
+use Rattle.sy_script.proofs.Reported.{balanced_front}
 
 up : Kind → ℕ
 up k.LeftParen = 1

@@ -25,8 +25,8 @@ use Rattle.sy_script.proofs.LocalStmt.{top_stop}
 use Rattle.sy_script.proofs.Depths.{tops_up}
 use Rattle.sy_script.proofs.Deeper.{tops_deep}
 use Rattle.sy_script.proofs.Reaches.{deepens_reads, left_out_reads}
-use Rattle.sy_script.proofs.Told.{IsOpen}
-use Rattle.sy_script.proofs.ToldStmt.{tops_told}
+use Rattle.sy_script.proofs.Reported.{IsOpen}
+use Rattle.sy_script.proofs.ReportedStmt.{tops_reported}
 use Rattle.sy_script.proofs.Cuts.{BadAt, OpenAt, Stopped, tokens_cut, whole_cut, cut_in_order}
 use Rattle.sy_script.proofs.OnePlace.{one_place}
 
@@ -104,17 +104,17 @@ module _ (text : List ℕ) where
   halt_right halt.Memory e = λ other. absurd (other refl)
   halt_right (halt.Unexpected span) e =
       let d = top_stop text (tokens text).0 (halt.Unexpected span) tt e in
-      let s = tops_told text (tokens text).0 (halt.Unexpected span) e in
+      let s = tops_reported text (tokens text).0 (halt.Unexpected span) e in
       let cut = (tokens_cut text).cut in
       let fronts : s.up_to.front ≡ d.front = one_place 0 _ (tokens text).0 s.up_to.front d.front s.rest d.rest s.t d.t (cut_in_order cut 0 (omega arith)) s.up_to.is_ts d.is_ts (s.spot ∙ sym d.spot) in
       let P : List Token → Type 0 = λ v. g.Begins text v in
       unexpected_right d.t span d.spot
       (IsUnexpected.token d.front d.rest d.t cut d.is_ts (none_refused (halt.Unexpected span) (λ a b. cc) (λ a b. cc) e) (subst P fronts s.up_to.begins) (no_beginning d.front d.t span d.again))
-  halt_right (halt.TooDeep span) e = let t = tops_told text (tokens text).0 (halt.TooDeep span) e in deep_right t.0 span t.1 (IsTooDeep.token (tokens_cut text).cut t.2)
-  halt_right (halt.LeftOut span) e = let t = tops_told text (tokens text).0 (halt.LeftOut span) e in left_out_right t.0 span t.1 (IsLeftOut.token (tokens_cut text).cut t.2)
+  halt_right (halt.TooDeep span) e = let t = tops_reported text (tokens text).0 (halt.TooDeep span) e in deep_right t.0 span t.1 (IsTooDeep.token (tokens_cut text).cut t.2)
+  halt_right (halt.LeftOut span) e = let t = tops_reported text (tokens text).0 (halt.LeftOut span) e in left_out_right t.0 span t.1 (IsLeftOut.token (tokens_cut text).cut t.2)
   halt_right (halt.End opened) e =
       let w = tokens_cut text in
-      let s = tops_told text (tokens text).0 (halt.End opened) e in
+      let s = tops_reported text (tokens text).0 (halt.End opened) e in
       ending_right (tokens text).1 opened (tokens text).0 w.end w.rest w.cut w.stopped (whole_cut text) (none_refused (halt.End opened) (λ a b. cc) (λ a b. cc) e)
       (no_tree (tokens text).0 (halt.End opened) (λ deep same. cc) e) s.0 s.1
 

@@ -14,9 +14,9 @@ pub mod LocalItems
 pub mod LocalExpr
 pub mod LocalStmt
 pub mod Balance
-pub mod Told
-pub mod ToldExpr
-pub mod ToldStmt
+pub mod Reported
+pub mod ReportedExpr
+pub mod ReportedStmt
 pub mod Pieces
 pub mod Cuts
 pub mod FaultsStand

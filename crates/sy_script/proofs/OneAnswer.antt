@@ -21,7 +21,7 @@ use Rattle.sy_script.specs.internal.Answer.{at_end, fault_of, ended_by, ended, r
 use Rattle.sy_script.proofs.Places.{one_column}
 use Rattle.sy_script.proofs.SoundStmt.{reading_ok}
 use Rattle.sy_script.proofs.FaultsStand.{stands}
-use Rattle.sy_script.proofs.ToldStmt.{tops_told}
+use Rattle.sy_script.proofs.ReportedStmt.{tops_reported}
 use Rattle.sy_script.proofs.OneFault.{misplaced_read, one_misplaced, one_word}
 use Rattle.sy_script.proofs.OneEnding.{one_unended}
 
@@ -68,7 +68,7 @@ at_end_named len ending.Complete None is = cc
 
 module _ (text : List ℕ) where
   halt_named : (h : Halt) (e : Ending) → tops text max_depth (tokens text).0 ≡ Err h → (fault_of (length text) e h).code ≢ code.NoMemory
-  halt_named halt.Memory e stops is = tops_told text (tokens text).0 halt.Memory stops
+  halt_named halt.Memory e stops is = tops_reported text (tokens text).0 halt.Memory stops
   halt_named (halt.Unexpected span) e stops is = cc
   halt_named (halt.TooDeep span) e stops is = cc
   halt_named (halt.LeftOut span) e stops is = cc

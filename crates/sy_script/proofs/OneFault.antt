@@ -26,8 +26,8 @@ use Rattle.sy_script.proofs.OnePlace.{one_place}
 use Rattle.sy_script.proofs.Holes.{begins_front}
 use Rattle.sy_script.proofs.Reaches.{deepens_reads, left_out_reads}
 use Rattle.sy_script.proofs.Even.{none_open}
-use Rattle.sy_script.proofs.Told.{IsOpen}
-use Rattle.sy_script.proofs.ToldStmt.{tops_told}
+use Rattle.sy_script.proofs.Reported.{IsOpen}
+use Rattle.sy_script.proofs.ReportedStmt.{tops_reported}
 use Rattle.sy_script.proofs.FaultsStand.{no_beginning}
 
 -- two places in one list are one, or one is after the other
@@ -78,7 +78,7 @@ module _ (text : List ℕ) where
     here : (span : Span) → tops text max_depth ts ≡ Err (halt.Unexpected span) → Here span
     here span e =
         let d = top_stop text ts (halt.Unexpected span) tt e in
-        let s = tops_told text ts (halt.Unexpected span) e in
+        let s = tops_reported text ts (halt.Unexpected span) e in
         record {
           front = d.front;
           t = d.t;
@@ -95,10 +95,10 @@ module _ (text : List ℕ) where
 
       by_read : (r : Result (List Top) Halt) → tops text max_depth ts ≡ r → tops text max_depth ts ≡ Err (halt.Unexpected t.span)
       by_read (Ok tree) e = let P : List Token → Type 0 = λ v. g.TopsAt text max_depth tree v in absurd (behind_it (max_depth, tree, [], subst P (sym (append-nil ts)) (tops_ok text ts tree e)))
-      by_read (Err halt.Memory) e = absurd (tops_told text ts halt.Memory e)
-      by_read (Err (halt.End opened)) e = absurd (behind_it (tops_told text ts (halt.End opened) e).1)
-      by_read (Err (halt.TooDeep span)) e = let d = tops_told text ts (halt.TooDeep span) e in absurd (refused.none_deepens d.0 d.2)
-      by_read (Err (halt.LeftOut span)) e = let d = tops_told text ts (halt.LeftOut span) e in absurd (refused.none_left_out d.0 d.2)
+      by_read (Err halt.Memory) e = absurd (tops_reported text ts halt.Memory e)
+      by_read (Err (halt.End opened)) e = absurd (behind_it (tops_reported text ts (halt.End opened) e).1)
+      by_read (Err (halt.TooDeep span)) e = let d = tops_reported text ts (halt.TooDeep span) e in absurd (refused.none_deepens d.0 d.2)
+      by_read (Err (halt.LeftOut span)) e = let d = tops_reported text ts (halt.LeftOut span) e in absurd (refused.none_left_out d.0 d.2)
       by_read (Err (halt.Unexpected span)) e =
           let w = here span e in
           let same : t ≡ w.t = one_first ts front rest w.front w.rest t w.t is_ts w.is_ts begins none w.begins w.none in
@@ -111,10 +111,10 @@ module _ (text : List ℕ) where
 
       by_end : (r : Result (List Top) Halt) → tops text max_depth ts ≡ r → tops text max_depth ts ≡ Err (halt.End None)
       by_end (Ok tree) e = absurd (none max_depth tree (tops_ok text ts tree e))
-      by_end (Err halt.Memory) e = absurd (tops_told text ts halt.Memory e)
-      by_end (Err (halt.End opened)) e = end_none opened (tops_told text ts (halt.End opened) e).0 e
-      by_end (Err (halt.TooDeep span)) e = let d = tops_told text ts (halt.TooDeep span) e in absurd (refused.none_deepens d.0 d.2)
-      by_end (Err (halt.LeftOut span)) e = let d = tops_told text ts (halt.LeftOut span) e in absurd (refused.none_left_out d.0 d.2)
+      by_end (Err halt.Memory) e = absurd (tops_reported text ts halt.Memory e)
+      by_end (Err (halt.End opened)) e = end_none opened (tops_reported text ts (halt.End opened) e).0 e
+      by_end (Err (halt.TooDeep span)) e = let d = tops_reported text ts (halt.TooDeep span) e in absurd (refused.none_deepens d.0 d.2)
+      by_end (Err (halt.LeftOut span)) e = let d = tops_reported text ts (halt.LeftOut span) e in absurd (refused.none_left_out d.0 d.2)
       by_end (Err (halt.Unexpected span)) e =
           let w = here span e in
           absurd (w.none (begins_front text (w.front ++ w.t ∷ []) w.rest (begins_as (w.is_ts ∙ sym (append_assoc w.front (w.t ∷ []) w.rest)) begins)))

@@ -8,6 +8,6 @@ pub mod look;
 pub mod metrics;
 mod numbers;
 mod text;
-pub mod told;
+pub mod reported;
 pub mod watch;
 pub mod watched;

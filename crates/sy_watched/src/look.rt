@@ -92,7 +92,7 @@ fn reason_of(alloc: Global, noted: Noted) -> Result<Option<Vec<u8>>, AllocError>
         return Ok(None);
     }
     let mut reason = Vec::new(alloc);
-    Reason::from_code(noted.why).put(alloc, &mut reason)?;
+    Reason::from_code(noted.why).append(alloc, &mut reason)?;
     Ok(Some(reason))
 }
 

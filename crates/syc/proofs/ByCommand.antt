@@ -3,17 +3,17 @@ use Rattle.std.proofs.Common.{◌≡◌, ℕ, Bool, List, [], ◌∷◌, ◌++�
 use Rattle.std.specs.Prelude.{◌⊎◌, Option, Some, true, false}
 use Rattle.std.proofs.lemmas.List.{append-nil}
 use Rattle.sy_site.specs.Sites.{Site}
-use Rattle.sy_report.specs.Reports.{Streams, Tells}
+use Rattle.sy_report.specs.Reports.{Streams, HasReported}
 use Rattle.sy_report.specs.declared.command_line.command.Asked.{Asked}
 use Rattle.sy_report.specs.declared.command_line.command.Asked.TheVariants as asked
 use Rattle.sy_report.specs.declared.command_line.options.Options.{Options}
 use Rattle.syc.specs.Checks.{AskedIs, AskedReport, Says, SaysWith}
 use Rattle.syc.specs.CommandReports.{SaysReport}
 use Rattle.syc.specs.Optioned.{SaysAs}
-use Rattle.syc.specs.Outcomes.{AnswersTelling}
+use Rattle.syc.specs.Outcomes.{AnswersReporting}
 use Rattle.syc.specs.Replays.{EndsReplay}
-use Rattle.syc.specs.Reports.{TellsBy, TellsFirst}
-use Rattle.syc.specs.Verdicts.{VerifiesTelling}
+use Rattle.syc.specs.Reports.{HasReportedBy, HasReportedFirst}
+use Rattle.syc.specs.Verdicts.{VerifiesReporting}
 use Rattle.syc.specs.Words.{OverSite, is_any}
 use Rattle.syc.specs.Requests.{no_options}
 
@@ -31,16 +31,16 @@ asked_alone question bytes_of text status old new (inl (site, is, printed, is_ac
 asked_alone question bytes_of text status old new (inr none) = inr none
 
 -- with an option more may be told
-tells_first : (options : Options) (old new : Streams) → is_any options ≡ true → (P : (List ℕ → Type 0) → Type 0) → P (TellsBy (is_any options) old new)
-    → P (TellsFirst old new)
-tells_first options old new some P h = subst (λ b. P (TellsBy b old new)) some h
+reports_first : (options : Options) (old new : Streams) → is_any options ≡ true → (P : (List ℕ → Type 0) → Type 0) → P (HasReportedBy (is_any options) old new)
+    → P (HasReportedFirst old new)
+reports_first options old new some P h = subst (λ b. P (HasReportedBy b old new)) some h
 
 pub says_as : (bytes_of : List ℕ → Option (List ℕ)) (options : Options) (command : OverSite) (status : ℕ) (old new : Streams) → is_any options ≡ true
     → SaysReport bytes_of options command status old new → SaysAs bytes_of options command status old new
 says_as bytes_of options (OverSite.Ask question site) status old new some says = λ words text known.
-    tells_first options old new some (λ told. AnswersTelling told (SaysWith question options) bytes_of text status old new) (says words text known)
+    reports_first options old new some (λ reported. AnswersReporting reported (SaysWith question options) bytes_of text status old new) (says words text known)
 says_as bytes_of options (OverSite.Replay site events) status old new some says = λ words text input known read.
-    tells_first options old new some (λ told. EndsReplay bytes_of text input status old.output new.output told) (says words text input known read)
+    reports_first options old new some (λ reported. EndsReplay bytes_of text input status old.output new.output reported) (says words text input known read)
 says_as bytes_of options (OverSite.Verify site certificate) status old new some says = λ words site_text text known read.
-    tells_first options old new some (λ told. VerifiesTelling told bytes_of site_text text status old new) (says words site_text text known read)
+    reports_first options old new some (λ reported. VerifiesReporting reported bytes_of site_text text status old new) (says words site_text text known read)
 says_as bytes_of options (OverSite.Draw class site) status old new some says = tt

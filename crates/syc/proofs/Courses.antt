@@ -18,7 +18,7 @@ use Rattle.sy_replay.specs.Held.{opened_parts}
 use Rattle.sy_replay.specs.States.{Applies, Contents, IsIllegalAt, holding, state_in}
 use Rattle.sy_report.specs.Reports.{SinkState, Torn}
 use Rattle.sy_report.specs.HaltTexts.{halt_report}
-use Rattle.syc.specs.Replays.{Ending, EndsReplay, IsLeft, IsReplayed, IsTold, Replays, end_line, lines_of, loss_lines, next, opened, status_of}
+use Rattle.syc.specs.Replays.{Ending, EndsReplay, IsLeft, IsReplayed, IsReportedEnding, Replays, end_line, lines_of, loss_lines, next, opened, status_of}
 use Rattle.syc.specs.Replays.Replays.{done, end_torn, faulty, full, no_memory, no_step, skips, steps, torn, unread, unwritten}
 use Rattle.syc.specs.SiteFiles.{HasNoAnswer}
 use Rattle.syc.specs.internal.Halts.{Comes, Halted, IsCause, IsTorn, Replayed, Turns, halt_of, with_lines}
@@ -204,7 +204,7 @@ replayed_whole site events old new IsReported f flushed = record {
   wrote = f.wrote;
   status_is = refl;
   left = (f.same, flushed);
-  told = tt;
+  reported = tt;
 }
 
 status_behind : (why : Halt) (before after : ℕ) → HasCause why before after → status_at why ≡ status_of (ending_of why)
@@ -227,29 +227,29 @@ left_behind halt.NoMemory old new cause flushed = (cause, flushed)
 left_behind halt.ReadFailed old new cause flushed = (cause, flushed)
 left_behind halt.WriteFailed old new cause flushed = cause
 
-told_behind : (why : Halt) (before after : ℕ) (IsReported : List ℕ → Type 0) → HasCause why before after → IsReported (halt_report why)
-    → IsTold IsReported (ending_of why)
-told_behind (halt.Site fault) before after IsReported cause told = absurd cause
-told_behind (halt.Certificate fault) before after IsReported cause told = absurd cause
-told_behind (halt.Line line) before after IsReported cause told = told
-told_behind (halt.Illegal line) before after IsReported cause told = told
-told_behind (halt.TotalsFull line) before after IsReported cause told = told
-told_behind halt.NoMemory before after IsReported cause told = told
-told_behind halt.ReadFailed before after IsReported cause told = told
-told_behind halt.WriteFailed before after IsReported cause told = told
+reported_behind : (why : Halt) (before after : ℕ) (IsReported : List ℕ → Type 0) → HasCause why before after → IsReported (halt_report why)
+    → IsReportedEnding IsReported (ending_of why)
+reported_behind (halt.Site fault) before after IsReported cause reported = absurd cause
+reported_behind (halt.Certificate fault) before after IsReported cause reported = absurd cause
+reported_behind (halt.Line line) before after IsReported cause reported = reported
+reported_behind (halt.Illegal line) before after IsReported cause reported = reported
+reported_behind (halt.TotalsFull line) before after IsReported cause reported = reported
+reported_behind halt.NoMemory before after IsReported cause reported = reported
+reported_behind halt.ReadFailed before after IsReported cause reported = reported
+reported_behind halt.WriteFailed before after IsReported cause reported = reported
 
 -- it stopped, and what was printed is handed on
 pub replayed_up_to : (site : Site) (events : List ℕ) (why : Halt) (old new : SinkState) (written : Option (List ℕ)) (IsReported : List ℕ → Type 0)
     → Stops site (start site (lines_of events) old.contents old.faults) why written new.faults → Keeps written new.contents → new.is_flushed ≡ true
     → IsReported (halt_report why) → IsReplayed site events (status_at why) old new IsReported
-replayed_up_to site events why old new written IsReported s kept flushed told = record {
+replayed_up_to site events why old new written IsReported s kept flushed reported = record {
   out = s.out;
   ending = ending_of why;
   replays = s.stops;
   wrote = Appends-kept old.contents written new.contents s.out s.wrote kept;
   status_is = status_behind why old.faults new.faults s.cause;
   left = left_behind why old new s.cause flushed;
-  told = told_behind why old.faults new.faults IsReported s.cause told;
+  reported = reported_behind why old.faults new.faults IsReported s.cause reported;
 }
 
 -- it stopped, and what was printed could not be handed on
@@ -257,36 +257,36 @@ pub replayed_failing : (site : Site) (events : List ℕ) (why : Halt) (old new :
     (IsReported : List ℕ → Type 0)
     → Stops site (start site (lines_of events) old.contents old.faults) why written faults → Keeps written new.contents → Rose old.faults new.faults
     → IsReported (halt_report halt.WriteFailed) → IsReplayed site events 4 old new IsReported
-replayed_failing site events why old new written faults IsReported s kept rose told = record {
+replayed_failing site events why old new written faults IsReported s kept rose reported = record {
   out = s.out;
   ending = Ending.WriteFailed;
   replays = breaks s.stops;
   wrote = Appends-kept old.contents written new.contents s.out s.wrote kept;
   status_is = refl;
   left = rose;
-  told = told;
+  reported = reported;
 }
 
 -- no site
 pub no_site : (bytes_of : List ℕ → Option (List ℕ)) (site : List ℕ) (why : Halt) (IsReported : List ℕ → Type 0) → IsNoSite bytes_of site why
     → IsReported (halt_report why) → HasNoAnswer bytes_of site (status_at why) IsReported
-no_site bytes_of site (halt.Site site_fault.NoMemory) IsReported none told = inr (inl (refl, told))
-no_site bytes_of site (halt.Site (site_fault.Line n)) IsReported none told = inl (refl, _, none.1, told)
-no_site bytes_of site (halt.Site (site_fault.Duplicate n)) IsReported none told = inl (refl, _, none.1, told)
-no_site bytes_of site (halt.Site (site_fault.NoFile n)) IsReported none told = inl (refl, _, none.1, told)
-no_site bytes_of site (halt.Site (site_fault.NoSuchEntry n)) IsReported none told = inl (refl, _, none.1, told)
-no_site bytes_of site (halt.Site (site_fault.NoSuchArchive n)) IsReported none told = inl (refl, _, none.1, told)
-no_site bytes_of site (halt.Site (site_fault.NoSuchAction n)) IsReported none told = inl (refl, _, none.1, told)
-no_site bytes_of site (halt.Site (site_fault.SpareArchive n)) IsReported none told = inl (refl, _, none.1, told)
-no_site bytes_of site (halt.Site site_fault.NothingProtected) IsReported none told = inl (refl, _, none.1, told)
-no_site bytes_of site (halt.Site (site_fault.Relay n name why)) IsReported none told = inl (refl, _, none.1, told)
-no_site bytes_of site halt.NoMemory IsReported none told = inr (inl (refl, told))
-no_site bytes_of site halt.ReadFailed IsReported none told = inr (inr (refl, told))
-no_site bytes_of site halt.WriteFailed IsReported none told = absurd none
-no_site bytes_of site (halt.Certificate fault) IsReported none told = absurd none
-no_site bytes_of site (halt.Line n) IsReported none told = absurd none
-no_site bytes_of site (halt.Illegal n) IsReported none told = absurd none
-no_site bytes_of site (halt.TotalsFull n) IsReported none told = absurd none
+no_site bytes_of site (halt.Site site_fault.NoMemory) IsReported none reported = inr (inl (refl, reported))
+no_site bytes_of site (halt.Site (site_fault.Line n)) IsReported none reported = inl (refl, _, none.1, reported)
+no_site bytes_of site (halt.Site (site_fault.Duplicate n)) IsReported none reported = inl (refl, _, none.1, reported)
+no_site bytes_of site (halt.Site (site_fault.NoFile n)) IsReported none reported = inl (refl, _, none.1, reported)
+no_site bytes_of site (halt.Site (site_fault.NoSuchEntry n)) IsReported none reported = inl (refl, _, none.1, reported)
+no_site bytes_of site (halt.Site (site_fault.NoSuchArchive n)) IsReported none reported = inl (refl, _, none.1, reported)
+no_site bytes_of site (halt.Site (site_fault.NoSuchAction n)) IsReported none reported = inl (refl, _, none.1, reported)
+no_site bytes_of site (halt.Site (site_fault.SpareArchive n)) IsReported none reported = inl (refl, _, none.1, reported)
+no_site bytes_of site (halt.Site site_fault.NothingProtected) IsReported none reported = inl (refl, _, none.1, reported)
+no_site bytes_of site (halt.Site (site_fault.Relay n name why)) IsReported none reported = inl (refl, _, none.1, reported)
+no_site bytes_of site halt.NoMemory IsReported none reported = inr (inl (refl, reported))
+no_site bytes_of site halt.ReadFailed IsReported none reported = inr (inr (refl, reported))
+no_site bytes_of site halt.WriteFailed IsReported none reported = absurd none
+no_site bytes_of site (halt.Certificate fault) IsReported none reported = absurd none
+no_site bytes_of site (halt.Line n) IsReported none reported = absurd none
+no_site bytes_of site (halt.Illegal n) IsReported none reported = absurd none
+no_site bytes_of site (halt.TotalsFull n) IsReported none reported = absurd none
 
 keeps_on : (a b c : Option (List ℕ)) → Keeps a b → Keeps b c → Keeps a c
 keeps_on None b c p q = tt
@@ -298,18 +298,18 @@ keeps_on (Some xs) (Some ys) (Some zs) p q = q ∙ p
 pub halted : (bytes_of : List ℕ → Option (List ℕ)) (text events : List ℕ) (why : Halt) (old new : SinkState) (mid : Option (List ℕ)) (IsReported : List ℕ → Type 0)
     → Halted bytes_of text events why old.contents old.faults mid new.faults → Keeps mid new.contents → new.is_flushed ≡ true
     → IsReported (halt_report why) → EndsReplay bytes_of text events (status_at why) old new IsReported
-halted bytes_of text events why old new mid IsReported h kept flushed told = elim h [
-  | inl none ↦ inl (keeps_on old.contents mid new.contents none.1 kept, inl (no_site bytes_of text why IsReported none.0 told, none.2, flushed))
-  | inr some ↦ inr (some.0, some.1, replayed_up_to some.0 events why old new mid IsReported some.2 kept flushed told)
+halted bytes_of text events why old new mid IsReported h kept flushed reported = elim h [
+  | inl none ↦ inl (keeps_on old.contents mid new.contents none.1 kept, inl (no_site bytes_of text why IsReported none.0 reported, none.2, flushed))
+  | inr some ↦ inr (some.0, some.1, replayed_up_to some.0 events why old new mid IsReported some.2 kept flushed reported)
 ]
 
 pub halted_failing : (bytes_of : List ℕ → Option (List ℕ)) (text events : List ℕ) (why : Halt) (old new : SinkState) (mid : Option (List ℕ)) (faults : ℕ)
     (IsReported : List ℕ → Type 0)
     → Halted bytes_of text events why old.contents old.faults mid faults → Keeps mid new.contents → Rose old.faults new.faults
     → IsReported (halt_report halt.WriteFailed) → EndsReplay bytes_of text events 4 old new IsReported
-halted_failing bytes_of text events why old new mid faults IsReported h kept rose told = elim h [
-  | inl none ↦ inl (keeps_on old.contents mid new.contents none.1 kept, inr (inr (refl, rose, told)))
-  | inr some ↦ inr (some.0, some.1, replayed_failing some.0 events why old new mid faults IsReported some.2 kept rose told)
+halted_failing bytes_of text events why old new mid faults IsReported h kept rose reported = elim h [
+  | inl none ↦ inl (keeps_on old.contents mid new.contents none.1 kept, inr (inr (refl, rose, reported)))
+  | inr some ↦ inr (some.0, some.1, replayed_failing some.0 events why old new mid faults IsReported some.2 kept rose reported)
 ]
 
 pub replayed : (bytes_of : List ℕ → Option (List ℕ)) (text events : List ℕ) (old new : SinkState) (IsReported : List ℕ → Type 0)

@@ -8,9 +8,9 @@ use Rattle.syc.specs.Checks.{AskedIs, AskedReport, IsVerdict, SaysWith}
 use Rattle.sy_report.specs.HaltTexts.{halt_report}
 use Rattle.syc.specs.Outcomes.{FailsBy, MayEnd}
 use Rattle.sy_report.specs.Outcomes.{Prints, status_for}
-use Rattle.syc.specs.Reports.{TellsBy}
+use Rattle.syc.specs.Reports.{HasReportedBy}
 use Rattle.syc.specs.Words.{is_any}
-use Rattle.sy_report.specs.Reports.{SinkState, Streams, Tells, said}
+use Rattle.sy_report.specs.Reports.{SinkState, Streams, HasReported, said}
 use Rattle.sy_report.specs.internal.Reports.{streams}
 use Rattle.syc.specs.SiteFiles.{HasNoAnswer}
 use Rattle.sy_places.specs.SiteFiles.{IsSiteOf}
@@ -24,7 +24,7 @@ use Rattle.sy_places.specs.Halts.{IsNoSite, IsUnread}
 use Rattle.sy_report.specs.Halts.{status_at}
 use Rattle.syc.specs.Optioned.{DocumentEnds, HaltEnds, StopsBy}
 use Rattle.syc.specs.internal.Unverified.{HasNoVerdict}
-use Rattle.syc.proofs.Endings.{no_verdict, no_verdict_told, site_gone}
+use Rattle.syc.proofs.Endings.{no_verdict, no_verdict_reported, site_gone}
 use Rattle.syc.proofs.Failing.{printing_fails, stops_by}
 
 -- ---- streams that tell nothing
@@ -38,20 +38,20 @@ still = streams nothing nothing
 prints : (text : List ℕ) (is_accepted : Bool) → Prints text is_accepted (status_for is_accepted) still still
 prints text is_accepted = inl (refl, tt, refl, refl, refl)
 
-tells : (line : List ℕ) → Tells still still line
-tells line = inl (tt, refl, refl)
+reports : (line : List ℕ) → HasReported still still line
+reports line = inl (tt, refl, refl)
 
 -- no memory, or a failed read
-pub no_memory : (bytes_of : List ℕ → Option (List ℕ)) (text : List ℕ) → HasNoAnswer bytes_of text 3 (Tells still still)
-no_memory bytes_of text = inr (inl (refl, tells (said (codes "no memory"))))
+pub no_memory : (bytes_of : List ℕ → Option (List ℕ)) (text : List ℕ) → HasNoAnswer bytes_of text 3 (HasReported still still)
+no_memory bytes_of text = inr (inl (refl, reports (said (codes "no memory"))))
 
-pub failed : (bytes_of : List ℕ → Option (List ℕ)) (text : List ℕ) → HasNoAnswer bytes_of text 4 (Tells still still)
-failed bytes_of text = inr (inr (refl, tells (said (codes "read failed"))))
+pub failed : (bytes_of : List ℕ → Option (List ℕ)) (text : List ℕ) → HasNoAnswer bytes_of text 4 (HasReported still still)
+failed bytes_of text = inr (inr (refl, reports (said (codes "read failed"))))
 
 -- ---- what is asked of one site
 
 module _ (question : Asked) (bytes_of : List ℕ → Option (List ℕ)) (text : List ℕ) where
-  gone : (status : ℕ) → HasNoAnswer bytes_of text status (Tells still still) → MayEnd (AskedIs question bytes_of text) status
+  gone : (status : ℕ) → HasNoAnswer bytes_of text status (HasReported still still) → MayEnd (AskedIs question bytes_of text) status
   gone status none = record { old = still; new = still; is = inr (none, refl) }
 
   pub asked_no_memory : MayEnd (AskedIs question bytes_of text) 3
@@ -61,7 +61,7 @@ module _ (question : Asked) (bytes_of : List ℕ → Option (List ℕ)) (text : 
   asked_failed = gone 4 (failed bytes_of text)
 
   halted : (why : Halt) → IsNoSite bytes_of text why → MayEnd (AskedIs question bytes_of text) (status_at why)
-  halted why none = gone (status_at why) (site_gone bytes_of text why (status_at why) (Tells still still) none refl (tells (halt_report why)))
+  halted why none = gone (status_at why) (site_gone bytes_of text why (status_at why) (HasReported still still) none refl (reports (halt_report why)))
 
   said_of : (site : Site) (is_accepted : Bool) → IsSiteOf bytes_of text site → IsVerdict question site is_accepted
       → MayEnd (AskedIs question bytes_of text) (status_for is_accepted)
@@ -127,17 +127,17 @@ pub asked_says : (question : Asked) (options : Options) (bytes_of : List ℕ →
     → IfOk answer (λ a. Prints a.text.items a.is_accepted status old new)
     → (options.json ≡ false → IfErr answer (λ why. StopsBy (is_any options) why status old new))
     → options.json ≡ false → bytes_of name ≡ Some text → AskedReport question options bytes_of text status old new
-asked_says question options bytes_of name text (Ok a) status old new ok err printed told words known =
+asked_says question options bytes_of name text (Ok a) status old new ok err printed reported words known =
     let is = ok text known in
     inl (is.0, is.1, a.text.items, a.is_accepted, is.3 words, printed)
-asked_says question options bytes_of name text (Err why) status old new ok err printed told words known =
-    let stops = told words in
-    inr (site_gone bytes_of text why status (TellsBy (is_any options) old new) (err text known) stops.status_is stops.told, stops.same)
+asked_says question options bytes_of name text (Err why) status old new ok err printed reported words known =
+    let stops = reported words in
+    inr (site_gone bytes_of text why status (HasReportedBy (is_any options) old new) (err text known) stops.status_is stops.reported, stops.same)
 
 -- ---- a verify
 
 module _ (bytes_of : List ℕ → Option (List ℕ)) (site text : List ℕ) where
-  verify_gone : (status : ℕ) → HasNoAnswer bytes_of site status (Tells still still) → MayEnd (VerifyIs bytes_of site text) status
+  verify_gone : (status : ℕ) → HasNoAnswer bytes_of site status (HasReported still still) → MayEnd (VerifyIs bytes_of site text) status
   verify_gone status none = record { old = still; new = still; is = inr (refl, inr none) }
 
   pub verify_no_memory : MayEnd (VerifyIs bytes_of site text) 3
@@ -150,7 +150,7 @@ module _ (bytes_of : List ℕ → Option (List ℕ)) (site text : List ℕ) wher
   verify_halted why none = record {
     old = still;
     new = still;
-    is = no_verdict bytes_of site text still still (status_at why) refl why none refl (tells (halt_report why));
+    is = no_verdict bytes_of site text still still (status_at why) refl why none refl (reports (halt_report why));
   }
 
   verify_said : (bare : List ℕ) (is_accepted : Bool) → SaysOfFiles bytes_of site text bare is_accepted
@@ -182,7 +182,7 @@ pub verify_says : (options : Options) (bytes_of : List ℕ → Option (List ℕ)
 verify_says options bytes_of name other site text (Ok a) status old new ok err printed stops is_site is_text =
     inl (a.text.items, a.is_accepted, ok site text is_site is_text, printed)
 verify_says options bytes_of name other site text (Err why) status old new ok err printed stops is_site is_text =
-    inr (stops.same, no_verdict_told bytes_of site text status (TellsBy (is_any options) old new) why (err site text is_site is_text) stops.status_is stops.told)
+    inr (stops.same, no_verdict_reported bytes_of site text status (HasReportedBy (is_any options) old new) why (err site text is_site is_text) stops.status_is stops.reported)
 
 -- ---- status 4
 

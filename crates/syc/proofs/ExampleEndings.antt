@@ -14,9 +14,9 @@ use Rattle.syc.specs.Examples.{IsAccepted, IsCertified, IsReplayed, IsTheSite, I
 use Rattle.syc.specs.Outcomes.{FailsBy}
 use Rattle.sy_report.specs.Outcomes.{Prints}
 use Rattle.syc.specs.Replays.{Ending, MayRise, PiecesMayFail, ReplayIs, Replays, lines_of, opened}
-use Rattle.sy_report.specs.Reports.{SinkState, Streams, Tells}
+use Rattle.sy_report.specs.Reports.{SinkState, Streams, HasReported}
 use Rattle.syc.specs.Replays as replays
-use Rattle.syc.specs.SiteFiles.{AreTold, HasNoAnswer}
+use Rattle.syc.specs.SiteFiles.{AreReported, HasNoAnswer}
 use Rattle.sy_places.specs.SiteFiles.{AreGiven, IsSiteOf}
 use Rattle.syc.specs.Verdicts.{VerifyIs}
 use Rattle.sy_report.specs.declared.command_line.command.Asked.TheVariants as asked
@@ -102,7 +102,7 @@ module _ (one : (text : List ℕ) (files : List File) (a b : Site) → Describes
       accepts site kept.count status text is_accepted old new is kept.keeps kept.text_is kept.accepted printed ends
   checked status old new (inl (site, is, text, is_accepted, inr found, printed)) ends =
       absurd (not_refused text is_accepted status old new found.refused printed ends)
-  checked status old new (inr none) ends = absurd (some_answer status (Tells old new) none.0 ends)
+  checked status old new (inr none) ends = absurd (some_answer status (HasReported old new) none.0 ends)
 
   pub certified : ((site : Site) (rows : List Row) → IsFit site rows → IsSound site) → (status : ℕ) (old new : Streams)
       → AskedIs asked.Certify bytes_of SITE.now status old new → status ≡ 0 → IsCertified old new
@@ -118,7 +118,7 @@ module _ (one : (text : List ℕ) (files : List File) (a b : Site) → Describes
   }
   certified fit_is_sound status old new (inl (site, is, text, is_accepted, inr found, printed)) ends =
       absurd (not_refused text is_accepted status old new found.refused printed ends)
-  certified fit_is_sound status old new (inr none) ends = absurd (some_answer status (Tells old new) none.0 ends)
+  certified fit_is_sound status old new (inr none) ends = absurd (some_answer status (HasReported old new) none.0 ends)
 
   -- a verdict on the certificate
   pub verified : (status : ℕ) (old new : Streams) → VerifyIs bytes_of SITE.now CERTIFICATE.now status old new → status ≡ 0 → IsAccepted old new × IsVerified
@@ -131,7 +131,7 @@ module _ (one : (text : List ℕ) (files : List File) (a b : Site) → Describes
         | inr wrong ↦ absurd (not_refused text is_accepted status old new wrong.refused printed ends)
       ]
   verified status old new (inr (same, inl faulty)) ends = absurd (omega (arith, faulty.0, ends))
-  verified status old new (inr (same, inr none)) ends = absurd (some_answer status (Tells old new) none ends)
+  verified status old new (inr (same, inr none)) ends = absurd (some_answer status (HasReported old new) none ends)
 
   -- ---- a replay
 
@@ -147,7 +147,7 @@ module _ (one : (text : List ℕ) (files : List File) (a b : Site) → Describes
   whole_replay site out Ending.WriteFailed status old new replays left is ends = absurd (omega (arith, is, ends))
 
   pub replayed : (status : ℕ) (old new : Streams) → ReplayIs bytes_of SITE.now EVENTS.now status old new → status ≡ 0 → IsReplayed old new
-  replayed status old new (inl (kept, inl none)) ends = absurd (some_answer status (Tells old new) none.0 ends)
+  replayed status old new (inl (kept, inl none)) ends = absurd (some_answer status (HasReported old new) none.0 ends)
   replayed status old new (inl (kept, inr (inl no_memory))) ends = absurd (omega (arith, no_memory.0, ends))
   replayed status old new (inl (kept, inr (inr unwritten))) ends = absurd (omega (arith, unwritten.0, ends))
   replayed status old new (inr (site, is, r)) ends =
@@ -160,13 +160,13 @@ no_bytes : {bytes : List ℕ} → None ≡ Some bytes → ⊥
 no_bytes e = cc
 
 -- of files that are all there none is missing
-all_there : (names : List (List ℕ)) → AreTold bytes_of names → Any (λ name. bytes_of name ≡ None) names → ⊥
-all_there [] told (k, x, low, is, none) = omega (arith, low)
-all_there (name ∷ names) told (zero, x, low, is, none) = no_bytes (sym (ap bytes_of is ∙ none) ∙ told.0.1)
-all_there (name ∷ names) told (suc k, x, low, is, none) = all_there names told.1 (k, x, omega (arith, low), is, none)
+all_there : (names : List (List ℕ)) → AreReported bytes_of names → Any (λ name. bytes_of name ≡ None) names → ⊥
+all_there [] reported (k, x, low, is, none) = omega (arith, low)
+all_there (name ∷ names) reported (zero, x, low, is, none) = no_bytes (sym (ap bytes_of is ∙ none) ∙ reported.0.1)
+all_there (name ∷ names) reported (suc k, x, low, is, none) = all_there names reported.1 (k, x, omega (arith, low), is, none)
 
-relays_told : AreTold bytes_of (file_names SITE.now)
-relays_told = subst (AreTold bytes_of) (sym names_are) ((EDGE.now, refl), ((HUB.now, refl), tt))
+relays_reported : AreReported bytes_of (file_names SITE.now)
+relays_reported = subst (AreReported bytes_of) (sym names_are) ((EDGE.now, refl), ((HUB.now, refl), tt))
 
 -- a read of a file in memory doesn't fail
 no_rise : {S : Type 0} → MayRise {S = S} (λ _. 0) → ⊥
@@ -178,26 +178,26 @@ few_events (inl rise) = no_rise rise
 few_events (inr many) = let size : length EVENTS.now ≡ 157 = refl in omega (arith, size, many)
 
 module _ (given : List File) (are : given ≡ files) (status : ℕ) (old new : Streams) where
-  only_writes : (names : List (List ℕ)) → AreTold bytes_of names
+  only_writes : (names : List (List ℕ)) → AreReported bytes_of names
       → FailsBy (Any (λ name. file_named given name ≡ None) names) status old new → FailsBy ⊥ status old new
-  only_writes names told fails four =
+  only_writes names reported fails four =
       elim (fails four) [
-        | inl missing ↦ absurd (all_there names told (subst (λ fs. Any (λ name. file_named fs name ≡ None) names) are missing))
+        | inl missing ↦ absurd (all_there names reported (subst (λ fs. Any (λ name. file_named fs name ≡ None) names) are missing))
         | inr rose ↦ inr rose
       ]
 
   pub asking_writes : FailsBy (Any (λ name. file_named given name ≡ None) (codes "site" ∷ file_names SITE.now)) status old new → FailsBy ⊥ status old new
-  asking_writes = only_writes (codes "site" ∷ file_names SITE.now) ((SITE.now, refl), relays_told)
+  asking_writes = only_writes (codes "site" ∷ file_names SITE.now) ((SITE.now, refl), relays_reported)
 
   pub verifying_writes : FailsBy (Any (λ name. file_named given name ≡ None) (codes "site" ∷ codes "cert" ∷ file_names SITE.now)) status old new
       → FailsBy ⊥ status old new
-  verifying_writes = only_writes (codes "site" ∷ codes "cert" ∷ file_names SITE.now) ((SITE.now, refl), ((CERTIFICATE.now, refl), relays_told))
+  verifying_writes = only_writes (codes "site" ∷ codes "cert" ∷ file_names SITE.now) ((SITE.now, refl), ((CERTIFICATE.now, refl), relays_reported))
 
   pub replaying_writes : {S : Type 0}
       → FailsBy (Any (λ name. file_named given name ≡ None) (codes "site" ∷ codes "events" ∷ file_names SITE.now) ⊎ PiecesMayFail {S = S} (λ _. 0) EVENTS.now)
       status old new
       → FailsBy ⊥ status old new
-  replaying_writes fails = only_writes (codes "site" ∷ codes "events" ∷ file_names SITE.now) ((SITE.now, refl), ((EVENTS.now, refl), relays_told))
+  replaying_writes fails = only_writes (codes "site" ∷ codes "events" ∷ file_names SITE.now) ((SITE.now, refl), ((EVENTS.now, refl), relays_reported))
       (λ four. elim (fails four) [
         | inl (inl missing) ↦ inl missing
         | inl (inr pieces) ↦ absurd (few_events pieces)

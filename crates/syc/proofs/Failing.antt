@@ -9,7 +9,7 @@ use Rattle.sy_site.specs.declared.fault.SiteFault.TheVariants as site_fault
 use Rattle.sy_report.specs.HaltTexts.{halt_report}
 use Rattle.syc.specs.Outcomes.{FailsBy}
 use Rattle.sy_report.specs.Outcomes.{Prints}
-use Rattle.sy_report.specs.Reports.{Streams, Tells}
+use Rattle.sy_report.specs.Reports.{Streams, HasReported}
 use Rattle.sy_report.specs.declared.outcome.answer.Answer.{Answer}
 use Rattle.sy_report.specs.declared.outcome.halt.Halt.{Halt}
 use Rattle.sy_report.specs.declared.outcome.halt.Halt.TheVariants as halt
@@ -50,7 +50,7 @@ printing_fails text is_accepted status old new (inr torn) four = torn.2
 pub fails_by : (MayFail : List ℕ → Type 0) (Known : List ℕ → Type 0) (names : List ℕ → List (List ℕ)) (answer : Result Answer Halt) (status : ℕ)
     (old new : Streams)
     → IfOk answer (λ a. Prints a.text.items a.is_accepted status old new)
-    → IfErr answer (λ why. (status ≡ status_at why) × (new.output ≡ old.output) × Tells old new (halt_report why))
+    → IfErr answer (λ why. (status ≡ status_at why) × (new.output ≡ old.output) × HasReported old new (halt_report why))
     → IfErr answer (λ why. (text : List ℕ) → Known text → IsUnread MayFail (names text) why)
     → (text : List ℕ) → Known text → FailsBy (Any MayFail (names text)) status old new
 fails_by MayFail Known names (Ok a) status old new printed stopped unread text known =

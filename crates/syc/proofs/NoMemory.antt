@@ -9,7 +9,7 @@ use Rattle.syc.specs.CommandReports.{SaysReport}
 use Rattle.syc.specs.Optioned.{EndsAs, FailsAs, KeepsAs}
 use Rattle.syc.specs.Outcomes.{FailsBy}
 use Rattle.syc.specs.Reports.{ReportedBy, ReportedFirst}
-use Rattle.sy_report.specs.Reports.{Reported, SinkState, Streams, Tells, said}
+use Rattle.sy_report.specs.Reports.{Reported, SinkState, Streams, HasReported, said}
 use Rattle.syc.specs.Words.{OverSite, is_any}
 use Rattle.sy_report.specs.declared.command_line.command.Asked.TheVariants as asked
 use Rattle.sy_report.specs.declared.command_line.options.Options.{Options}
@@ -23,28 +23,28 @@ memory_ends bytes_of (OverSite.Verify site certificate) = λ site_text text know
 memory_ends bytes_of (OverSite.Draw class site) = tt
 
 first : (old new : SinkState) (line : List ℕ) → Reported old new line → ReportedFirst old new line
-first old new line told = ([], subst (Reported old new) (sym (append-nil line)) told)
+first old new line reported = ([], subst (Reported old new) (sym (append-nil line)) reported)
 
-told_by : (tells_more : Bool) (old new : SinkState) (line : List ℕ) → Reported old new line → ReportedBy tells_more old new line
-told_by false old new line told = told
-told_by true old new line told = first old new line told
+reported_by : (reports_more : Bool) (old new : SinkState) (line : List ℕ) → Reported old new line → ReportedBy reports_more old new line
+reported_by false old new line reported = reported
+reported_by true old new line reported = first old new line reported
 
 pub memory_draws : (bytes_of : List ℕ → Option (List ℕ)) (class : Option (List ℕ)) (text : List ℕ) (old new : Streams)
-    → Tells old new (said (codes "no memory")) → new.output ≡ old.output → GraphIs class bytes_of text 3 old new
-memory_draws bytes_of class text old new told same = inl (inr (inr (inl (refl, told)), same))
+    → HasReported old new (said (codes "no memory")) → new.output ≡ old.output → GraphIs class bytes_of text 3 old new
+memory_draws bytes_of class text old new reported same = inl (inr (inr (inl (refl, reported)), same))
 
-pub memory_says : (bytes_of : List ℕ → Option (List ℕ)) (old new : Streams) → Tells old new (said (codes "no memory")) → new.output ≡ old.output
+pub memory_says : (bytes_of : List ℕ → Option (List ℕ)) (old new : Streams) → HasReported old new (said (codes "no memory")) → new.output ≡ old.output
     → (options : Options) (command : OverSite) → SaysReport bytes_of options command 3 old new
-memory_says bytes_of old new told same options (OverSite.Ask question site) = λ words text known.
-    inr (inr (inl (refl, told_by (is_any options) old.errors new.errors _ told)), same)
-memory_says bytes_of old new told same options (OverSite.Replay site events) = λ words text input known read.
+memory_says bytes_of old new reported same options (OverSite.Ask question site) = λ words text known.
+    inr (inr (inl (refl, reported_by (is_any options) old.errors new.errors _ reported)), same)
+memory_says bytes_of old new reported same options (OverSite.Replay site events) = λ words text input known read.
     inl (
       subst (Keeps old.output.contents) (sym (ap (λ s. s.contents) same)) (Keeps-refl old.output.contents),
-      inr (inl (refl, same, told_by (is_any options) old.errors new.errors _ told)),
+      inr (inl (refl, same, reported_by (is_any options) old.errors new.errors _ reported)),
     )
-memory_says bytes_of old new told same options (OverSite.Verify site certificate) = λ words site_text text known read.
-    inr (same, inr (inr (inl (refl, told_by (is_any options) old.errors new.errors _ told))))
-memory_says bytes_of old new told same options (OverSite.Draw class site) = λ text known. memory_draws bytes_of class text old new told same
+memory_says bytes_of old new reported same options (OverSite.Verify site certificate) = λ words site_text text known read.
+    inr (same, inr (inr (inl (refl, reported_by (is_any options) old.errors new.errors _ reported))))
+memory_says bytes_of old new reported same options (OverSite.Draw class site) = λ text known. memory_draws bytes_of class text old new reported same
 
 pub three_or_four : (n : ℕ) → n ≡ 3 → n ≡ 4 → ⊥
 three_or_four n three four = omega (arith, three, four)

@@ -20,14 +20,14 @@ use Rattle.sy_checker.specs.declared.kinds.groups.Group.{Group}
 use Rattle.syc.specs.Checks.{AskedInWordsIs, BeginsInWords, SaysBy, SaysCertifiedInWords}
 use Rattle.sy_findings.specs.Checks.{AreLinesInWords, IsTally, IsTallyInWords, KeepsAll, accepted_line, finding_text, group_text}
 use Rattle.syc.specs.Examples.{IsAccepted, IsCertified, IsReplayed, IsTheSite, IsVerified, Printed, bytes_of}
-use Rattle.syc.specs.Graphs.{GraphIs, IsClass, TellsNoClass}
+use Rattle.syc.specs.Graphs.{GraphIs, IsClass, ReportsNoClass}
 use Rattle.sy_drawing.specs.Graphs.{IsNoClass}
 use Rattle.sy_report.specs.HaltTexts.{halt_report, site_report}
 use Rattle.syc.specs.Optioned.{EndsAs, FailsAs, KeepsAs, SaysAs}
 use Rattle.sy_report.specs.Outcomes.{Prints}
 use Rattle.syc.specs.Replays.{ReplayInWordsIs}
-use Rattle.syc.specs.Reports.{TellsFirst}
-use Rattle.sy_report.specs.Reports.{Streams, Tells}
+use Rattle.syc.specs.Reports.{HasReportedFirst}
+use Rattle.sy_report.specs.Reports.{Streams, HasReported}
 use Rattle.sy_report.specs.Texts.{class_text}
 use Rattle.syc.specs.SiteFiles.{HasNoAnswer}
 use Rattle.sy_places.specs.SiteFiles.{IsSiteFault}
@@ -46,8 +46,8 @@ use Rattle.syc.proofs.ExampleEndings.{certified, checked, eight_kept, not_refuse
 abbrev explaining : Options
 explaining = record { explain = true; all = false; json = false }
 
-abbrev telling_all : Options
-telling_all = record { explain = false; all = true; json = false }
+abbrev reporting_all : Options
+reporting_all = record { explain = false; all = true; json = false }
 
 abbrev both : Options
 both = record { explain = true; all = true; json = false }
@@ -116,13 +116,13 @@ all_or_none : (b : Bool) → 1 ≡ once_if b → not b ≡ true → ⊥
 all_or_none true is none = cc
 all_or_none false is none = omega (arith, is)
 
-certify_tells_no_more : (options : Options) (command : OverSite) → AreOptioned (codes "certify" ∷ codes "--all" ∷ codes "site" ∷ []) options command → ⊥
-certify_tells_no_more options (OverSite.Ask asked.Check site) are =
+certify_reports_no_more : (options : Options) (command : OverSite) → AreOptioned (codes "certify" ∷ codes "--all" ∷ codes "site" ∷ []) options command → ⊥
+certify_reports_no_more options (OverSite.Ask asked.Check site) are =
     certify_or_check (two_words _ _ _ _ (sym are.have.bare_are ∙ are.call.words_are))
-certify_tells_no_more options (OverSite.Ask asked.Certify site) are = all_or_none options.all are.have.all are.allowed
-certify_tells_no_more options (OverSite.Replay site events) are = two_or_three _ _ _ _ _ (sym are.have.bare_are ∙ are.call.words_are)
-certify_tells_no_more options (OverSite.Verify site certificate) are = two_or_three _ _ _ _ _ (sym are.have.bare_are ∙ are.call.words_are)
-certify_tells_no_more options (OverSite.Draw class site) are = are.call
+certify_reports_no_more options (OverSite.Ask asked.Certify site) are = all_or_none options.all are.have.all are.allowed
+certify_reports_no_more options (OverSite.Replay site events) are = two_or_three _ _ _ _ _ (sym are.have.bare_are ∙ are.call.words_are)
+certify_reports_no_more options (OverSite.Verify site certificate) are = two_or_three _ _ _ _ _ (sym are.have.bare_are ∙ are.call.words_are)
+certify_reports_no_more options (OverSite.Draw class site) are = are.call
 
 -- ---- what is printed
 
@@ -130,7 +130,7 @@ true_or_false : {b : Bool} → b ≡ true → b ≡ false → ⊥
 true_or_false is other = cc
 
 -- what is said of a site that is accepted
-said_kept : (is_explained tells_all : Bool) (site : Site) (said : List ℕ) (is_accepted : Bool) → SaysBy is_explained tells_all site said is_accepted
+said_kept : (is_explained reports_all : Bool) (site : Site) (said : List ℕ) (is_accepted : Bool) → SaysBy is_explained reports_all site said is_accepted
     → is_accepted ≡ true → (count : ℕ) × KeepsAll site count × (said ≡ accepted_line count)
 said_kept false false site said is_accepted (inl kept) accepts = (kept.count, kept.keeps, kept.text_is)
 said_kept true false site said is_accepted (inl kept) accepts = (kept.count, kept.keeps, kept.text_is)
@@ -149,14 +149,14 @@ refused_unsound false site said (inr found) sound = found.unsound sound
 refused_unsound true site said (inr found) sound = found.unsound sound
 
 -- with all of them, each in a line
-all_told : (site : Site) (text : List ℕ) → SaysBy false true site text false → (groups : List Group) × IsSurvey site groups × IsTally site groups text
-all_told site text (inl kept) = absurd (true_or_false kept.accepted refl)
-all_told site text (inr found) = (found.groups, found.is_survey, found.is_tally)
+all_reported : (site : Site) (text : List ℕ) → SaysBy false true site text false → (groups : List Group) × IsSurvey site groups × IsTally site groups text
+all_reported site text (inl kept) = absurd (true_or_false kept.accepted refl)
+all_reported site text (inr found) = (found.groups, found.is_survey, found.is_tally)
 
-all_told_in_words : (site : Site) (text : List ℕ) → SaysBy true true site text false
+all_reported_in_words : (site : Site) (text : List ℕ) → SaysBy true true site text false
     → (groups : List Group) × IsSurvey site groups × IsTallyInWords site groups text
-all_told_in_words site text (inl kept) = absurd (true_or_false kept.accepted refl)
-all_told_in_words site text (inr found) = (found.groups, found.is_survey, found.is_tally)
+all_reported_in_words site text (inl kept) = absurd (true_or_false kept.accepted refl)
+all_reported_in_words site text (inr found) = (found.groups, found.is_survey, found.is_tally)
 
 -- a line for one group, with words behind it
 one_in_words : (site : Site) (group : Group) (text : List ℕ) → AreLinesInWords site (group ∷ []) text
@@ -165,16 +165,16 @@ one_in_words site group text (names, words, rest, is, none) =
     (names, words, is ∙ ap (λ r. names ++ group_text site group ++ words ++ r) none ∙ append-nil (names ++ group_text site group ++ words))
 
 -- one finding is told that is true, with nothing but words behind it
-abbrev IsToldOf : Site → List ℕ → Type 0
-IsToldOf site text = (found : Finding) × IsTrueFinding site found × (words : List ℕ) × (text ≡ finding_text site found ++ words)
+abbrev IsReportedOf : Site → List ℕ → Type 0
+IsReportedOf site text = (found : Finding) × IsTrueFinding site found × (words : List ℕ) × (text ≡ finding_text site found ++ words)
 
-explained_told : (site : Site) (text : List ℕ) → SaysBy true false site text false → IsToldOf site text
-explained_told site text (inl kept) = absurd (true_or_false kept.accepted refl)
-explained_told site text (inr found) = (found.found, found.is_true, found.words, found.text_is)
+explained_reported : (site : Site) (text : List ℕ) → SaysBy true false site text false → IsReportedOf site text
+explained_reported site text (inl kept) = absurd (true_or_false kept.accepted refl)
+explained_reported site text (inr found) = (found.found, found.is_true, found.words, found.text_is)
 
-certified_told : (site : Site) (text : List ℕ) → SaysCertifiedInWords site text false → IsToldOf site text
-certified_told site text (inl fit) = absurd (true_or_false fit.accepted refl)
-certified_told site text (inr found) = (found.found, found.is_true, found.words, found.text_is)
+certified_reported : (site : Site) (text : List ℕ) → SaysCertifiedInWords site text false → IsReportedOf site text
+certified_reported site text (inl fit) = absurd (true_or_false fit.accepted refl)
+certified_reported site text (inr found) = (found.found, found.is_true, found.words, found.text_is)
 
 -- the one site that the texts describe keeps all messages of eight classes, which was printed, with more behind it
 record IsAcceptedInWords (more : List ℕ) (old new : Streams) : Type 0 where
@@ -206,7 +206,7 @@ module _ (one : (text : List ℕ) (files : List File) (a b : Site) → Describes
             (begins.2 ∙ ap (λ t. t ++ begins.1) kept.2) (the_site one site is),
       )
   checked_in_words options (inl (site, is, text, false, begins, printed)) = absurd (not_refused one text false status old new refl printed ends)
-  checked_in_words options (inr none) = absurd (some_answer one status (TellsFirst old new) none.0 ends)
+  checked_in_words options (inr none) = absurd (some_answer one status (HasReportedFirst old new) none.0 ends)
 
   check_explained : SaysAs bytes_of explaining (OverSite.Ask asked.Check (codes "site")) status old new → (more : List ℕ) × IsAcceptedInWords more old new
   check_explained says = let found = checked_in_words explaining (says refl SITE.now refl) in (found.0, found.2)
@@ -215,9 +215,9 @@ module _ (one : (text : List ℕ) (files : List File) (a b : Site) → Describes
   check_both says = let found = checked_in_words both (says refl SITE.now refl) in (found.0, found.2)
 
   -- Nothing stands behind it where nothing is explained.
-  check_all : SaysAs bytes_of telling_all (OverSite.Ask asked.Check (codes "site")) status old new → IsAccepted old new
+  check_all : SaysAs bytes_of reporting_all (OverSite.Ask asked.Check (codes "site")) status old new → IsAccepted old new
   check_all says =
-      let found = checked_in_words telling_all (says refl SITE.now refl) in record {
+      let found = checked_in_words reporting_all (says refl SITE.now refl) in record {
         site = found.2.site;
         is = found.2.is;
         keeps = found.2.keeps;
@@ -230,7 +230,7 @@ module _ (one : (text : List ℕ) (files : List File) (a b : Site) → Describes
       certified one fit_is_sound status old new (inl (site, is, text, is_accepted, inl made, printed)) ends
   certified_in_words fit_is_sound (inl (site, is, text, is_accepted, inr found, printed)) =
       absurd (not_refused one text is_accepted status old new found.refused printed ends)
-  certified_in_words fit_is_sound (inr none) = absurd (some_answer one status (TellsFirst old new) none.0 ends)
+  certified_in_words fit_is_sound (inr none) = absurd (some_answer one status (HasReportedFirst old new) none.0 ends)
 
   certify_explained : ((site : Site) (rows : List Row) → IsFit site rows → IsSound site)
       → SaysAs bytes_of explaining (OverSite.Ask asked.Certify (codes "site")) status old new → IsCertified old new
@@ -239,13 +239,13 @@ module _ (one : (text : List ℕ) (files : List File) (a b : Site) → Describes
   verified_in_words : VerifyInWordsIs bytes_of SITE.now CERTIFICATE.now status old new → IsAccepted old new × IsVerified
   verified_in_words (inl answer) = verified one status old new (inl answer) ends
   verified_in_words (inr (same, inl faulty)) = absurd (omega (arith, faulty.0, ends))
-  verified_in_words (inr (same, inr none)) = absurd (some_answer one status (TellsFirst old new) none ends)
+  verified_in_words (inr (same, inr none)) = absurd (some_answer one status (HasReportedFirst old new) none ends)
 
   verify_explained : SaysAs bytes_of explaining (OverSite.Verify (codes "site") (codes "cert")) status old new → IsAccepted old new × IsVerified
   verify_explained says = verified_in_words (says refl SITE.now CERTIFICATE.now refl refl)
 
   replayed_in_words : ReplayInWordsIs bytes_of SITE.now EVENTS.now status old new → IsReplayed old new
-  replayed_in_words (inl (kept, inl none)) = absurd (some_answer one status (TellsFirst old new) none.0 ends)
+  replayed_in_words (inl (kept, inl none)) = absurd (some_answer one status (HasReportedFirst old new) none.0 ends)
   replayed_in_words (inl (kept, inr (inl no_memory))) = absurd (omega (arith, no_memory.0, ends))
   replayed_in_words (inl (kept, inr (inr unwritten))) = absurd (omega (arith, unwritten.0, ends))
   replayed_in_words (inr (site, is, r)) =
@@ -263,8 +263,8 @@ module _ (one : (text : List ℕ) (files : List File) (a b : Site) → Describes
     text,
     printed_whole one text status old new (subst (λ b. Prints text b status old new) accepts.0 printed) ends,
   )
-  drawn class (inl (inr none)) = absurd (some_answer one status (Tells old new) none.0 ends)
-  drawn class (inr (word, is, isnt, two, same, line, told)) = absurd (omega (arith, two, ends))
+  drawn class (inl (inr none)) = absurd (some_answer one status (HasReported old new) none.0 ends)
+  drawn class (inr (word, is, isnt, two, same, line, reported)) = absurd (omega (arith, two, ends))
 
 -- A check may end with 0 only where it may accept the site without options.
 check_ends : ((text : List ℕ) (files : List File) (a b : Site) → Describes text files a → Describes text files b → a ≡ b)
@@ -302,8 +302,8 @@ auth_crit = record { facility = 4; severity = 2; facility_in_range = omega arith
 auth_crit_is_one : IsNoClass (class_text auth_crit) → ⊥
 auth_crit_is_one none = none auth_crit refl
 
-known_is_told : (status : ℕ) (old new : Streams) → TellsNoClass (Some (class_text auth_crit)) status old new → ⊥
-known_is_told status old new tells = auth_crit_is_one (subst IsNoClass (sym (same_some tells.1)) tells.2)
+known_is_reported : (status : ℕ) (old new : Streams) → ReportsNoClass (Some (class_text auth_crit)) status old new → ⊥
+known_is_reported status old new reports = auth_crit_is_one (subst IsNoClass (sym (same_some reports.1)) reports.2)
   where
     same_some : {v w : List ℕ} → Some v ≡ Some w → v ≡ w
     same_some e = cc
@@ -314,14 +314,14 @@ drawn_is_class word old new (inl (inl (site, is, text, is_accepted, says, printe
 drawn_is_class word old new (inl (inr (inl faulty, same))) = absurd (omega (arith, faulty.0))
 drawn_is_class word old new (inl (inr (inr (inl memory), same))) = absurd (omega (arith, memory.0))
 drawn_is_class word old new (inl (inr (inr (inr unread), same))) = absurd (omega (arith, unread.0))
-drawn_is_class word old new (inr tells) = absurd (zero_or_two tells.3)
+drawn_is_class word old new (inr reports) = absurd (zero_or_two reports.3)
   where
     zero_or_two : ◌≡◌ {A = ℕ} 0 2 → ⊥
     zero_or_two e = omega (arith, e)
 
 -- Nor is a drawing of all classes.
-all_are_drawn : (status : ℕ) (old new : Streams) → TellsNoClass None status old new → ⊥
-all_are_drawn status old new tells = none_or_some tells.1
+all_are_drawn : (status : ℕ) (old new : Streams) → ReportsNoClass None status old new → ⊥
+all_are_drawn status old new reports = none_or_some reports.1
   where
     none_or_some : {w : List ℕ} → None ≡ Some w → ⊥
     none_or_some e = cc
@@ -334,27 +334,27 @@ printed_at_two text false old new (inl printed) = omega (arith, printed.0)
 printed_at_two text is_accepted old new (inr torn) = omega (arith, torn.0)
 
 -- A fault of the site file is there, its line stands first, and nothing is printed.
-fault_told : (bytes_of : List ℕ → Option (List ℕ)) (text : List ℕ) (old new : Streams) → HasNoAnswer bytes_of text 2 (TellsFirst old new)
-    → (fault : SiteFault) × IsSiteFault bytes_of text fault × TellsFirst old new (site_report fault)
-fault_told bytes_of text old new (inl faulty) = (faulty.1, faulty.2, faulty.3)
-fault_told bytes_of text old new (inr (inl memory)) = absurd (omega (arith, memory.0))
-fault_told bytes_of text old new (inr (inr unread)) = absurd (omega (arith, unread.0))
+fault_reported : (bytes_of : List ℕ → Option (List ℕ)) (text : List ℕ) (old new : Streams) → HasNoAnswer bytes_of text 2 (HasReportedFirst old new)
+    → (fault : SiteFault) × IsSiteFault bytes_of text fault × HasReportedFirst old new (site_report fault)
+fault_reported bytes_of text old new (inl faulty) = (faulty.1, faulty.2, faulty.3)
+fault_reported bytes_of text old new (inr (inl memory)) = absurd (omega (arith, memory.0))
+fault_reported bytes_of text old new (inr (inr unread)) = absurd (omega (arith, unread.0))
 
 ask_faulty : (question : Asked) (options : Options) (bytes_of : List ℕ → Option (List ℕ)) (text : List ℕ) (old new : Streams)
     → AskedInWordsIs question options bytes_of text 2 old new
-    → (new.output ≡ old.output) × (fault : SiteFault) × IsSiteFault bytes_of text fault × TellsFirst old new (site_report fault)
+    → (new.output ≡ old.output) × (fault : SiteFault) × IsSiteFault bytes_of text fault × HasReportedFirst old new (site_report fault)
 ask_faulty question options bytes_of text old new (inl (site, is, printed, is_accepted, says, prints)) =
     absurd (printed_at_two printed is_accepted old new prints)
 ask_faulty question options bytes_of text old new (inr (none, same)) =
-    let told = fault_told bytes_of text old new none in (same, told.0, told.1, told.2)
+    let reported = fault_reported bytes_of text old new none in (same, reported.0, reported.1, reported.2)
 
 verify_faulty : (bytes_of : List ℕ → Option (List ℕ)) (text certificate : List ℕ) (old new : Streams) → VerifyInWordsIs bytes_of text certificate 2 old new
     → (new.output ≡ old.output) × (((fault : TextFault) × IsFaultyCertificate bytes_of text certificate fault
-    × TellsFirst old new (halt_report (halt.Certificate fault)))
-    ⊎ ((fault : SiteFault) × IsSiteFault bytes_of text fault × TellsFirst old new (site_report fault)))
+    × HasReportedFirst old new (halt_report (halt.Certificate fault)))
+    ⊎ ((fault : SiteFault) × IsSiteFault bytes_of text fault × HasReportedFirst old new (site_report fault)))
 verify_faulty bytes_of text certificate old new (inl (printed, is_accepted, says, prints)) = absurd (printed_at_two printed is_accepted old new prints)
 verify_faulty bytes_of text certificate old new (inr (same, inl faulty)) = (same, inl (faulty.1, faulty.2, faulty.3))
-verify_faulty bytes_of text certificate old new (inr (same, inr none)) = (same, inr (fault_told bytes_of text old new none))
+verify_faulty bytes_of text certificate old new (inr (same, inr none)) = (same, inr (fault_reported bytes_of text old new none))
 
 -- ---- status 4
 

@@ -27,7 +27,7 @@ use Rattle.sy_board.specs.declared.relay.answers.Job.{Job as JobAnswer}
 use Rattle.sy_board.specs.declared.relay.answers.Job.TheVariants as job
 use Rattle.sy_actions.specs.Devices.{Delivered}
 use Rattle.sy_board.specs.relay.Boards.{BoardState, EnterFails, EnterIs, Fits, GrabFails, GrabIs, HasNoJob, Is64, JobIs, LeftIs, SettleFails, SettleIs, TakeFails, TakeIs, account_of, opened, stepped}
-use Rattle.sy_board.specs.relay.Cells.{Cell, RelayState, at, opening, put, put_failures}
+use Rattle.sy_board.specs.relay.Cells.{Cell, RelayState, at, opening, set_cell, set_failures}
 use Rattle.sy_board.specs.relay.Plans.{IsDue, occurrences_at}
 use Rattle.sy_board.specs.relay.Steps.{Cause, Enters, Event, Grabs, IsOfInput, Job, Out, Settles, Takes, if_so, still}
 use Rattle.syc.specs.Stops.{IsIdle, IsReady}
@@ -108,7 +108,7 @@ takes_it n m _ room h = h
 enters : (n : ℕ) (m : Said) (node : Entry) (s : RelayState) → Enters plan (in_hand n m).state 0 0 node s → stepped (in_hand n m) (Event.Enter 0 0) s [] ≡ queued n m
 enters n m node s e =
     let same : node ≡ entry_of m = (let held = e.leaves.held in cc) in
-    ap (λ s. stepped (in_hand n m) (Event.Enter 0 0) s []) e.after ∙ ap (λ (x : Entry). board_of (totals_of (n + 1) n n) (put (opening plan) (Cell.Queue 0) (x ∷ []))) same
+    ap (λ s. stepped (in_hand n m) (Event.Enter 0 0) s []) e.after ∙ ap (λ (x : Entry). board_of (totals_of (n + 1) n n) (set_cell (opening plan) (Cell.Queue 0) (x ∷ []))) same
 
 pub entered : (n : ℕ) (m : Said) (a : EnterAnswer) (new : BoardState) → EnterIs a (in_hand n m) 0 0 new → (a ≡ entry.Entered) × (new ≡ queued n m)
 entered n m entry.Entered new h = (refl, h.2 ∙ enters n m h.0 new.state h.1)
@@ -194,8 +194,8 @@ settles n m action node s t =
     let first = first_run t.job.number action (subst (λ (e : Entry). slice_get (occurrences_at plan e.list) t.job.number ≡ Some (occurrence.Run action)) same t.job.found) in
     let left : t.job.left ≡ 0 = one_left 1 t.job.number 0 t.job.left 0 (subst (λ (e : Entry). IsLowest e.due t.job.number t.job.left) same t.job.first) lowest_of_one in
     ap (λ s. stepped (ready n m) (Event.Done 0) s (Out.Passed action node ∷ [])) t.after
-    ∙ ap (λ (x : ℕ). stepped (ready n m) (Event.Done 0) (put_failures (put (ready n m).state (Cell.Worker 0) (still t.job.entry x t.job.others)) 0 0) (Out.Passed action node ∷ [])) left
-    ∙ ap (λ (es : List Entry). stepped (ready n m) (Event.Done 0) (put_failures (put (ready n m).state (Cell.Worker 0) es) 0 0) (Out.Passed action node ∷ [])) alone
+    ∙ ap (λ (x : ℕ). stepped (ready n m) (Event.Done 0) (set_failures (set_cell (ready n m).state (Cell.Worker 0) (still t.job.entry x t.job.others)) 0 0) (Out.Passed action node ∷ [])) left
+    ∙ ap (λ (es : List Entry). stepped (ready n m) (Event.Done 0) (set_failures (set_cell (ready n m).state (Cell.Worker 0) es) 0 0) (Out.Passed action node ∷ [])) alone
     ∙ ap (λ (x : ℕ). stepped (ready n m) (Event.Done 0) (opening plan) (Out.Passed x node ∷ [])) first.1
 
 pub settled : (n : ℕ) (m : Said) (r : Delivered) (new : BoardState) → SettleIs (ready n m) 0 r new → new ≡ idle (n + 1)

@@ -7,8 +7,8 @@ use Rattle.sy_wire.specs.Streams.{Rose}
 use Rattle.sy_report.specs.HaltTexts.{halt_report}
 use Rattle.syc.specs.Outcomes.{MayEnd}
 use Rattle.sy_report.specs.Outcomes.{Prints}
-use Rattle.syc.specs.Replays.{Ending, EndsReplay, IsTold, ReplayIs}
-use Rattle.sy_report.specs.Reports.{SinkState, Streams, Tells}
+use Rattle.syc.specs.Replays.{Ending, EndsReplay, IsReportedEnding, ReplayIs}
+use Rattle.sy_report.specs.Reports.{SinkState, Streams, HasReported}
 use Rattle.sy_report.specs.internal.Reports.{streams}
 use Rattle.syc.specs.SiteFiles.{HasNoAnswer}
 use Rattle.sy_report.specs.declared.outcome.halt.Halt.{Halt}
@@ -23,28 +23,28 @@ use Rattle.syc.proofs.Ends.{failed, halt_fails, halted_by, no_memory, nothing, s
 -- ---- what is told otherwise
 
 module _ (P Q : List ℕ → Type 0) (on : (line : List ℕ) → P line → Q line) where
-  told_on : (ending : Ending) → IsTold P ending → IsTold Q ending
-  told_on Ending.Done h = tt
-  told_on (Ending.Faulty n) h = on _ h
-  told_on (Ending.Illegal n) h = on _ h
-  told_on (Ending.Full n) h = on _ h
-  told_on Ending.NoMemory h = on _ h
-  told_on Ending.ReadFailed h = on _ h
-  told_on Ending.WriteFailed h = on _ h
+  reported_on : (ending : Ending) → IsReportedEnding P ending → IsReportedEnding Q ending
+  reported_on Ending.Done h = tt
+  reported_on (Ending.Faulty n) h = on _ h
+  reported_on (Ending.Illegal n) h = on _ h
+  reported_on (Ending.Full n) h = on _ h
+  reported_on Ending.NoMemory h = on _ h
+  reported_on Ending.ReadFailed h = on _ h
+  reported_on Ending.WriteFailed h = on _ h
 
-  pub no_answer_telling : (bytes_of : List ℕ → Option (List ℕ)) (text : List ℕ) (status : ℕ) → HasNoAnswer bytes_of text status P
+  pub no_answer_reporting : (bytes_of : List ℕ → Option (List ℕ)) (text : List ℕ) (status : ℕ) → HasNoAnswer bytes_of text status P
       → HasNoAnswer bytes_of text status Q
-  no_answer_telling bytes_of text status (inl fault) = inl (fault.0, fault.1, fault.2, on _ fault.3)
-  no_answer_telling bytes_of text status (inr (inl memory)) = inr (inl (memory.0, on _ memory.1))
-  no_answer_telling bytes_of text status (inr (inr unread)) = inr (inr (unread.0, on _ unread.1))
+  no_answer_reporting bytes_of text status (inl fault) = inl (fault.0, fault.1, fault.2, on _ fault.3)
+  no_answer_reporting bytes_of text status (inr (inl memory)) = inr (inl (memory.0, on _ memory.1))
+  no_answer_reporting bytes_of text status (inr (inr unread)) = inr (inr (unread.0, on _ unread.1))
 
-ends_telling : (bytes_of : List ℕ → Option (List ℕ)) (text events : List ℕ) (status : ℕ) (old new : SinkState) (P Q : List ℕ → Type 0)
+ends_reporting : (bytes_of : List ℕ → Option (List ℕ)) (text events : List ℕ) (status : ℕ) (old new : SinkState) (P Q : List ℕ → Type 0)
     → ((line : List ℕ) → P line → Q line) → EndsReplay bytes_of text events status old new P → EndsReplay bytes_of text events status old new Q
-ends_telling bytes_of text events status old new P Q on (inl (kept, inl none)) =
-    inl (kept, inl (no_answer_telling P Q on bytes_of text status none.0, none.1, none.2))
-ends_telling bytes_of text events status old new P Q on (inl (kept, inr (inl memory))) = inl (kept, inr (inl (memory.0, memory.1, on _ memory.2)))
-ends_telling bytes_of text events status old new P Q on (inl (kept, inr (inr torn))) = inl (kept, inr (inr (torn.0, torn.1, on _ torn.2)))
-ends_telling bytes_of text events status old new P Q on (inr (site, is, done)) = inr (
+ends_reporting bytes_of text events status old new P Q on (inl (kept, inl none)) =
+    inl (kept, inl (no_answer_reporting P Q on bytes_of text status none.0, none.1, none.2))
+ends_reporting bytes_of text events status old new P Q on (inl (kept, inr (inl memory))) = inl (kept, inr (inl (memory.0, memory.1, on _ memory.2)))
+ends_reporting bytes_of text events status old new P Q on (inl (kept, inr (inr torn))) = inl (kept, inr (inr (torn.0, torn.1, on _ torn.2)))
+ends_reporting bytes_of text events status old new P Q on (inr (site, is, done)) = inr (
   site,
   is,
   record {
@@ -54,23 +54,23 @@ ends_telling bytes_of text events status old new P Q on (inr (site, is, done)) =
     wrote = done.wrote;
     status_is = done.status_is;
     left = done.left;
-    told = told_on P Q on done.ending done.told;
+    reported = reported_on P Q on done.ending done.reported;
   },
 )
 
 -- ---- how a replay ends
 
 module _ (bytes_of : List ℕ → Option (List ℕ)) (text events : List ℕ) (old new : SinkState) where
-  told : (line : List ℕ) → Tells (streams old nothing) (streams new nothing) line
-  told line = inl (tt, refl, refl)
+  reported : (line : List ℕ) → HasReported (streams old nothing) (streams new nothing) line
+  reported line = inl (tt, refl, refl)
 
-  ended : (status : ℕ) → EndsReplay bytes_of text events status old new (Tells (streams old nothing) (streams new nothing))
+  ended : (status : ℕ) → EndsReplay bytes_of text events status old new (HasReported (streams old nothing) (streams new nothing))
       → MayEnd (ReplayIs bytes_of text events) status
   ended status ends = record { old = streams old nothing; new = streams new nothing; is = ends }
 
   pub may_finish : Replayed bytes_of text events old.contents old.faults new.contents new.faults → new.is_flushed ≡ true
       → MayEnd (ReplayIs bytes_of text events) 0
-  may_finish done flushed = ended 0 (replayed bytes_of text events old new (Tells (streams old nothing) (streams new nothing)) done flushed)
+  may_finish done flushed = ended 0 (replayed bytes_of text events old new (HasReported (streams old nothing) (streams new nothing)) done flushed)
 
   -- It stopped, and what was printed was handed on, or that failed.
   pub handed_on : (why end : Halt) (mid : SinkState) → Halted bytes_of text events why old.contents old.faults mid.contents mid.faults
@@ -93,26 +93,26 @@ module _ (bytes_of : List ℕ → Option (List ℕ)) (text events : List ℕ) (o
       inr (failed.0, why, mid.contents, mid.faults, stopped, kept, rose)
 
   -- what it answers, once that is told
-  pub halted_told : (why : Halt) (IsReported : List ℕ → Type 0) → HandedOn bytes_of text events why old new → IsReported (halt_report why)
+  pub halted_reported : (why : Halt) (IsReported : List ℕ → Type 0) → HandedOn bytes_of text events why old new → IsReported (halt_report why)
       → EndsReplay bytes_of text events (status_at why) old new IsReported
-  halted_told why IsReported (inl whole) told =
-      halted bytes_of text events why old new whole.0 IsReported whole.1 whole.2 whole.3 told
-  halted_told why IsReported (inr failed) told =
+  halted_reported why IsReported (inl whole) reported =
+      halted bytes_of text events why old new whole.0 IsReported whole.1 whole.2 whole.3 reported
+  halted_reported why IsReported (inr failed) reported =
       subst (λ h. EndsReplay bytes_of text events (status_at h) old new IsReported) (sym failed.0)
       (halted_failing bytes_of text events failed.1 old new failed.2 failed.3 IsReported failed.4 failed.5 failed.6
-      (subst (λ h. IsReported (halt_report h)) failed.0 told))
+      (subst (λ h. IsReported (halt_report h)) failed.0 reported))
 
   pub may_halt : (why : Halt) → HandedOn bytes_of text events why old new → MayEnd (ReplayIs bytes_of text events) (status_at why)
-  may_halt why stopped = ended (status_at why) (halted_told why (Tells (streams old nothing) (streams new nothing)) stopped (told (halt_report why)))
+  may_halt why stopped = ended (status_at why) (halted_reported why (HasReported (streams old nothing) (streams new nothing)) stopped (reported (halt_report why)))
 
   -- The same status may be answered, whatever is told.
   pub may_end_so : (status : ℕ) (IsReported : List ℕ → Type 0) → EndsReplay bytes_of text events status old new IsReported
       → MayEnd (ReplayIs bytes_of text events) status
   may_end_so status IsReported ends =
-      ended status (ends_telling bytes_of text events status old new IsReported (Tells (streams old nothing) (streams new nothing)) (λ line h. told line) ends)
+      ended status (ends_reporting bytes_of text events status old new IsReported (HasReported (streams old nothing) (streams new nothing)) (λ line h. reported line) ends)
 
   -- memory ran out, or reading or writing failed
-  gone : (status : ℕ) → HasNoAnswer bytes_of text status (Tells still still) → MayEnd (ReplayIs bytes_of text events) status
+  gone : (status : ℕ) → HasNoAnswer bytes_of text status (HasReported still still) → MayEnd (ReplayIs bytes_of text events) status
   gone status none = record { old = still; new = still; is = inl (Keeps-refl nothing.contents, inl (none, refl, refl)) }
 
 module _ (bytes_of : List ℕ → Option (List ℕ)) (text events : List ℕ) where

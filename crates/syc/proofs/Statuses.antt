@@ -7,7 +7,7 @@ use Rattle.sy_wire.specs.Streams.{Rose}
 use Rattle.syc.specs.CommandReports.{IsPassed}
 use Rattle.syc.specs.Pass.{Counts, EndsPass, HasFailed, NoneFailed, PartPassed, lines}
 use Rattle.syc.specs.internal.Pass.{GivesUpFailing}
-use Rattle.sy_report.specs.Reports.{SinkState, Streams, Tells, report, status_shown}
+use Rattle.sy_report.specs.Reports.{SinkState, Streams, HasReported, report, status_shown}
 use Rattle.syc.specs.internal.Stops.{PassCause, StopIs, StopsAt, StopsIn}
 use Rattle.sy_report.specs.declared.outcome.stop.Stop.{Stop}
 use Rattle.sy_report.specs.declared.outcome.stop.Stop.TheVariants.{Frame, Message, NoMemory, ReadFailed, WriteFailed}
@@ -72,11 +72,11 @@ three_done (inr e) = omega (arith, e)
 three_four : ◌≡◌ {A = ℕ} 3 4 → ⊥
 three_four e = omega (arith, e)
 
-pub memory_passed : (input : Option (List ℕ)) (old new : Streams) (before after : Counts) → new.output ≡ old.output → Tells old new (report NoMemory 0)
+pub memory_passed : (input : Option (List ℕ)) (old new : Streams) (before after : Counts) → new.output ≡ old.output → HasReported old new (report NoMemory 0)
     → IsPassed input 3 old new before after
-memory_passed input old new before after same told = record {
-  says = λ bytes known. subst (λ (o : SinkState). EndsPass 3 bytes old.output.contents o.contents (Tells old new)) (sym same)
-      (nothing_passed bytes old.output.contents (Tells old new) told);
+memory_passed input old new before after same reported = record {
+  says = λ bytes known. subst (λ (o : SinkState). EndsPass 3 bytes old.output.contents o.contents (HasReported old new)) (sym same)
+      (nothing_passed bytes old.output.contents (HasReported old new) reported);
   leaves = record {
     flushed = inl (λ flushed. subst (λ (o : SinkState). o.is_flushed ≡ true) (sym same) flushed);
     done = λ ended. absurd (three_done ended);

@@ -12,8 +12,8 @@ use Rattle.sy_report.specs.declared.command_line.command.Asked.TheVariants as as
 use Rattle.sy_report.specs.declared.command_line.options.Options.{Options}
 use Rattle.sy_report.specs.Reports.{Streams}
 use Rattle.sy_findings.specs.Checks.{finding_text, IsTally, IsTallyInWords, SaysKept, SaysFit, SaysChecked, SaysCertified}
-use Rattle.syc.specs.Outcomes.{AnswersTelling, AnswersTellingFirst, AnswersOf}
-use Rattle.syc.specs.Reports.{TellsBy}
+use Rattle.syc.specs.Outcomes.{AnswersReporting, AnswersReportingFirst, AnswersOf}
+use Rattle.syc.specs.Reports.{HasReportedBy}
 use Rattle.syc.specs.Words.{is_any}
 
 -- what is found in it, and words for people behind that, of which nothing is said
@@ -62,7 +62,7 @@ abbrev pub IsVerdict : Asked → Site → Bool → Type 0
 IsVerdict question site is_accepted = (bare : List ℕ) × Says question site bare is_accepted
 
 -- what a check with options says, but for a document
-abbrev pub SaysBy : (is_explained tells_all : Bool) → Site → List ℕ → Bool → Type 0
+abbrev pub SaysBy : (is_explained reports_all : Bool) → Site → List ℕ → Bool → Type 0
 SaysBy false false = SaysChecked
 SaysBy true false = SaysExplained
 SaysBy false true = SaysAll
@@ -98,9 +98,9 @@ AskedIs question = AnswersOf (Says question)
 
 -- the same with options, but for a document
 abbrev pub AskedInWordsIs : Asked → Options → (List ℕ → Option (List ℕ)) → List ℕ → ℕ → Streams → Streams → Type 0
-AskedInWordsIs question options = AnswersTellingFirst (SaysWith question options)
+AskedInWordsIs question options = AnswersReportingFirst (SaysWith question options)
 
 -- The same with any options, or none, where the line that says why there is no answer stands alone.
 abbrev pub AskedReport : Asked → Options → (List ℕ → Option (List ℕ)) → List ℕ → ℕ → Streams → Streams → Type 0
 AskedReport question options bytes_of text status old new =
-    AnswersTelling (TellsBy (is_any options) old new) (SaysWith question options) bytes_of text status old new
+    AnswersReporting (HasReportedBy (is_any options) old new) (SaysWith question options) bytes_of text status old new

@@ -2,7 +2,7 @@
 use Rattle.std.specs.Prelude.{◌≡◌, ℕ, Bool, true, ◌⊎◌, List, [], ◌∷◌, Option, Some, IfSome, codes}
 use Rattle.sy_wire.specs.declared.class.Class.{Class}
 use Rattle.sy_site.specs.Sites.{Site}
-use Rattle.sy_report.specs.Reports.{Streams, Tells, joined}
+use Rattle.sy_report.specs.Reports.{Streams, HasReported, joined}
 use Rattle.sy_report.specs.Texts.{class_text}
 use Rattle.sy_drawing.specs.Graphs.{IsNoClass}
 use Rattle.syc.specs.Outcomes.{AnswersOf}
@@ -20,12 +20,12 @@ abbrev pub no_class_report : List ℕ → List ℕ
 no_class_report shown = joined (codes "syc: no class " ∷ shown ∷ codes ": a class is FACILITY.SEVERITY, as auth.crit\n" ∷ [])
 
 -- A word is no class, which is told.
-abbrev pub TellsNoClass : Option (List ℕ) → ℕ → Streams → Streams → Type 0
-TellsNoClass class status old new =
+abbrev pub ReportsNoClass : Option (List ℕ) → ℕ → Streams → Streams → Type 0
+ReportsNoClass class status old new =
     (word : List ℕ) × (class ≡ Some word) × IsNoClass word × (status ≡ 2) × (new.output ≡ old.output)
-    × (shown : List ℕ) × Tells old new (no_class_report shown)
+    × (shown : List ℕ) × HasReported old new (no_class_report shown)
 
 -- Such a text is printed; or there is no site, which is told; or what is asked for is no class.
 abbrev pub GraphIs : Option (List ℕ) → (List ℕ → Option (List ℕ)) → List ℕ → ℕ → Streams → Streams → Type 0
 GraphIs class bytes_of site_text status old new =
-    AnswersOf (SaysDrawn class) bytes_of site_text status old new ⊎ TellsNoClass class status old new
+    AnswersOf (SaysDrawn class) bytes_of site_text status old new ⊎ ReportsNoClass class status old new

@@ -15,7 +15,7 @@ use Rattle.syc.specs.Outcomes.{FailsBy, MayEnd}
 use Rattle.syc.specs.Replays.{ReplayInWordsIs, ReplayIs}
 use Rattle.syc.specs.Verdicts.{DescribesKept, VerifyInWordsIs, VerifyIs}
 use Rattle.syc.specs.Words.{OverSite}
-use Rattle.syc.specs.Reports.{TellsBy}
+use Rattle.syc.specs.Reports.{HasReportedBy}
 
 -- The exit status is one that the command without options answers over these files. A drawing has no options.
 abbrev pub EndsAs : (List ℕ → Option (List ℕ)) → OverSite → ℕ → Type 0
@@ -67,7 +67,7 @@ abbrev pub HaltEnds : Halt → ℕ → ℕ → ℕ → Type 0
 HaltEnds why status before after = (end : Halt) × (status ≡ status_at end) × DocumentEnds why end before after
 
 -- It ends with the status of the halt, whose line is told, alone or with more after it, and standard output is as before.
-pub record StopsBy (tells_more : Bool) (why : Halt) (status : ℕ) (old new : Streams) : Type 0 where
+pub record StopsBy (reports_more : Bool) (why : Halt) (status : ℕ) (old new : Streams) : Type 0 where
   pub status_is : status ≡ status_at why
-  pub told : TellsBy tells_more old new (halt_report why)
+  pub reported : HasReportedBy reports_more old new (halt_report why)
   pub same : new.output ≡ old.output

@@ -3,27 +3,27 @@ use Rattle.std.specs.Prelude.{◌≡◌, ℕ, Bool, true, ◌⊎◌, List, Optio
 use Rattle.std.specs.Io.KnownBytes.{Appends}
 use Rattle.sy_wire.specs.Streams.{Rose}
 use Rattle.sy_site.specs.Sites.{Site}
-use Rattle.sy_report.specs.Reports.{Streams, Tells, Torn, said}
+use Rattle.sy_report.specs.Reports.{Streams, HasReported, Torn, said}
 use Rattle.sy_report.specs.Outcomes.{Prints}
 use Rattle.sy_places.specs.SiteFiles.{IsSiteOf}
-use Rattle.syc.specs.Reports.{TellsFirst}
+use Rattle.syc.specs.Reports.{HasReportedFirst}
 use Rattle.syc.specs.SiteFiles.{HasNoAnswer}
 
 -- What a command over one site answers, where these are the texts that may be printed of a site, with a verdict, and a line is told so. Such a text is
 -- printed, of the site that the site file describes; or there is none, and standard output is as before.
-abbrev pub AnswersTelling : (List ℕ → Type 0) → (Site → List ℕ → Bool → Type 0) → (List ℕ → Option (List ℕ)) → List ℕ → ℕ → Streams → Streams → Type 0
-AnswersTelling IsReported Says bytes_of site_text status old new =
+abbrev pub AnswersReporting : (List ℕ → Type 0) → (Site → List ℕ → Bool → Type 0) → (List ℕ → Option (List ℕ)) → List ℕ → ℕ → Streams → Streams → Type 0
+AnswersReporting IsReported Says bytes_of site_text status old new =
     ((site : Site) × IsSiteOf bytes_of site_text site
     × (text : List ℕ) × (is_accepted : Bool) × Says site text is_accepted × Prints text is_accepted status old new)
     ⊎ (HasNoAnswer bytes_of site_text status IsReported × (new.output ≡ old.output))
 
 -- The line that says why there is none stands alone.
 abbrev pub AnswersOf : (Site → List ℕ → Bool → Type 0) → (List ℕ → Option (List ℕ)) → List ℕ → ℕ → Streams → Streams → Type 0
-AnswersOf Says bytes_of site_text status old new = AnswersTelling (Tells old new) Says bytes_of site_text status old new
+AnswersOf Says bytes_of site_text status old new = AnswersReporting (HasReported old new) Says bytes_of site_text status old new
 
 -- More may stand after the line that says why there is none.
-abbrev pub AnswersTellingFirst : (Site → List ℕ → Bool → Type 0) → (List ℕ → Option (List ℕ)) → List ℕ → ℕ → Streams → Streams → Type 0
-AnswersTellingFirst Says bytes_of site_text status old new = AnswersTelling (TellsFirst old new) Says bytes_of site_text status old new
+abbrev pub AnswersReportingFirst : (Site → List ℕ → Bool → Type 0) → (List ℕ → Option (List ℕ)) → List ℕ → ℕ → Streams → Streams → Type 0
+AnswersReportingFirst Says bytes_of site_text status old new = AnswersReporting (HasReportedFirst old new) Says bytes_of site_text status old new
 
 -- A status with which a command may end that answers so.
 pub record MayEnd (Is : ℕ → Streams → Streams → Type 0) (status : ℕ) : Type 0 where
@@ -42,6 +42,6 @@ Shows status old new =
     ((status ≡ 0) × (text : List ℕ) × Appends old.output.contents new.output.contents text × (new.output.is_flushed ≡ true)
     × (new.output.faults ≡ old.output.faults) × (new.errors ≡ old.errors))
     ⊎ ((status ≡ 2) × (new.output ≡ old.output))
-    ⊎ ((status ≡ 3) × (new.output ≡ old.output) × Tells old new (said (codes "no memory")))
+    ⊎ ((status ≡ 3) × (new.output ≡ old.output) × HasReported old new (said (codes "no memory")))
     ⊎ ((status ≡ 4) × (text : List ℕ) × Torn old.output.contents new.output.contents text × Rose old.output.faults new.output.faults
-    × Tells old new (said (codes "write failed")))
+    × HasReported old new (said (codes "write failed")))

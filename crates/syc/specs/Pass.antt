@@ -7,7 +7,7 @@ use Rattle.sy_wire.specs.Messages.{IsFault, IsMessage, Said}
 use Rattle.sy_wire.specs.Streams.{Rose, count_after}
 use Rattle.sy_wire.specs.declared.framer.FrameFault.TheVariants.{BadLength, TooLong, Truncated, NoMemory as OutOfMemory, Failed}
 use Rattle.sy_wire.specs.declared.message.MsgFault.{MsgFault}
-use Rattle.sy_report.specs.Reports.{Streams, Tells, line_feed, report}
+use Rattle.sy_report.specs.Reports.{Streams, HasReported, line_feed, report}
 use Rattle.sy_report.specs.declared.outcome.stop.Stop.{Stop}
 use Rattle.sy_report.specs.declared.outcome.stop.Stop.TheVariants.{Frame, Message, NoMemory, ReadFailed, WriteFailed}
 
@@ -107,7 +107,7 @@ EndsPass status input old new IsReported =
 
 -- the same of the two streams
 abbrev pub PassIs : ℕ → List ℕ → Streams → Streams → Type 0
-PassIs status input old new = EndsPass status input old.output.contents new.output.contents (Tells old new)
+PassIs status input old new = EndsPass status input old.output.contents new.output.contents (HasReported old new)
 
 -- how many reads a pass makes at most
 abbrev pub READS : ℕ
@@ -147,7 +147,7 @@ HasFailed IsReported before after =
 pub record Leaves (status : ℕ) (old new : Streams) (before after : Counts) : Type 0 where
   pub flushed : (old.output.is_flushed ≡ true → new.output.is_flushed ≡ true) ⊎ ((status ≡ 4) × Rose old.output.faults new.output.faults)
   pub done : (status ≡ 0) ⊎ (status ≡ 2) → new.output.is_flushed ≡ true
-  pub cause : status ≡ 4 → HasFailed (Tells old new) before after
+  pub cause : status ≡ 4 → HasFailed (HasReported old new) before after
 
 -- the exit statuses of a pass
 abbrev pub IsStatus : ℕ → Type 0

@@ -16,10 +16,10 @@ use Rattle.sy_replay.specs.States.{Applies, Contents, IsIllegalAt, holding, stat
 use Rattle.sy_replay.specs.declared.event.Illegal.TheVariants as illegal
 use Rattle.sy_report.specs.HaltTexts.{in_line}
 use Rattle.syc.specs.Pass.{READS}
-use Rattle.syc.specs.Reports.{TellsBy, TellsFirst}
+use Rattle.syc.specs.Reports.{HasReportedBy, HasReportedFirst}
 use Rattle.syc.specs.Words.{is_any}
 use Rattle.sy_report.specs.declared.command_line.options.Options.{Options}
-use Rattle.sy_report.specs.Reports.{SinkState, Streams, Tells, line_feed, said}
+use Rattle.sy_report.specs.Reports.{SinkState, Streams, HasReported, line_feed, said}
 use Rattle.syc.specs.SiteFiles.{HasNoAnswer}
 use Rattle.sy_places.specs.SiteFiles.{IsSiteOf}
 use Rattle.sy_report.specs.Texts.{class_text}
@@ -139,14 +139,14 @@ status_of Ending.ReadFailed = 4
 status_of Ending.WriteFailed = 4
 
 -- what is printed on standard error then: nothing where all lines were replayed
-abbrev pub IsTold : (List ℕ → Type 0) → Ending → Type 0
-IsTold IsReported Ending.Done = Unit {0}
-IsTold IsReported (Ending.Faulty line) = IsReported (in_line (codes "51 Line") line)
-IsTold IsReported (Ending.Illegal line) = IsReported (in_line (codes "illegal event") line)
-IsTold IsReported (Ending.Full line) = IsReported (in_line (codes "86 TotalsFull") line)
-IsTold IsReported Ending.NoMemory = IsReported (said (codes "no memory"))
-IsTold IsReported Ending.ReadFailed = IsReported (said (codes "read failed"))
-IsTold IsReported Ending.WriteFailed = IsReported (said (codes "write failed"))
+abbrev pub IsReportedEnding : (List ℕ → Type 0) → Ending → Type 0
+IsReportedEnding IsReported Ending.Done = Unit {0}
+IsReportedEnding IsReported (Ending.Faulty line) = IsReported (in_line (codes "51 Line") line)
+IsReportedEnding IsReported (Ending.Illegal line) = IsReported (in_line (codes "illegal event") line)
+IsReportedEnding IsReported (Ending.Full line) = IsReported (in_line (codes "86 TotalsFull") line)
+IsReportedEnding IsReported Ending.NoMemory = IsReported (said (codes "no memory"))
+IsReportedEnding IsReported Ending.ReadFailed = IsReported (said (codes "read failed"))
+IsReportedEnding IsReported Ending.WriteFailed = IsReported (said (codes "write failed"))
 
 -- How the output is left: a write or flush failed; or none did, and all that was written was handed on.
 abbrev pub IsLeft : Ending → SinkState → SinkState → Type 0
@@ -165,7 +165,7 @@ pub record IsReplayed (site : Site) (events : List ℕ) (status : ℕ) (old new 
   pub wrote : Appends old.contents new.contents out
   pub status_is : status ≡ status_of ending
   pub left : IsLeft ending old new
-  pub told : IsTold IsReported ending
+  pub reported : IsReportedEnding IsReported ending
 
 -- There is no answer of a site, and all that was printed before is handed on; or memory ran out before that, which is told; or handing it on failed, which
 -- is told. Nothing is printed.
@@ -183,13 +183,13 @@ EndsReplay bytes_of site_text events status old new IsReported =
 
 -- the same of the two streams
 abbrev pub ReplayIs : (List ℕ → Option (List ℕ)) → (site events : List ℕ) → ℕ → Streams → Streams → Type 0
-ReplayIs bytes_of site_text events status old new = EndsReplay bytes_of site_text events status old.output new.output (Tells old new)
+ReplayIs bytes_of site_text events status old new = EndsReplay bytes_of site_text events status old.output new.output (HasReported old new)
 
 -- The same in words: more may stand behind the line that says why it stopped.
 abbrev pub ReplayInWordsIs : (List ℕ → Option (List ℕ)) → (site events : List ℕ) → ℕ → Streams → Streams → Type 0
-ReplayInWordsIs bytes_of site_text events status old new = EndsReplay bytes_of site_text events status old.output new.output (TellsFirst old new)
+ReplayInWordsIs bytes_of site_text events status old new = EndsReplay bytes_of site_text events status old.output new.output (HasReportedFirst old new)
 
 -- The same with any options, or none, where that line stands alone.
 abbrev pub ReplayReport : Options → (List ℕ → Option (List ℕ)) → (site events : List ℕ) → ℕ → Streams → Streams → Type 0
 ReplayReport options bytes_of site_text events status old new =
-    EndsReplay bytes_of site_text events status old.output new.output (TellsBy (is_any options) old new)
+    EndsReplay bytes_of site_text events status old.output new.output (HasReportedBy (is_any options) old new)

@@ -6,13 +6,13 @@ use Rattle.sy_report.specs.Reports.{SinkState, Streams, Reported}
 abbrev pub ReportedFirst : SinkState → SinkState → List ℕ → Type 0
 ReportedFirst old new line = (more : List ℕ) × Reported old new (line ++ more)
 
-abbrev pub TellsFirst : Streams → Streams → List ℕ → Type 0
-TellsFirst old new line = ReportedFirst old.errors new.errors line
+abbrev pub HasReportedFirst : Streams → Streams → List ℕ → Type 0
+HasReportedFirst old new line = ReportedFirst old.errors new.errors line
 
 -- The line was written, and more may stand after it only where more is told.
-abbrev pub ReportedBy : (tells_more : Bool) → SinkState → SinkState → List ℕ → Type 0
+abbrev pub ReportedBy : (reports_more : Bool) → SinkState → SinkState → List ℕ → Type 0
 ReportedBy false = Reported
 ReportedBy true = ReportedFirst
 
-abbrev pub TellsBy : (tells_more : Bool) → Streams → Streams → List ℕ → Type 0
-TellsBy tells_more old new line = ReportedBy tells_more old.errors new.errors line
+abbrev pub HasReportedBy : (reports_more : Bool) → Streams → Streams → List ℕ → Type 0
+HasReportedBy reports_more old new line = ReportedBy reports_more old.errors new.errors line

@@ -7,14 +7,14 @@ use Rattle.sy_cert.specs.Faults.{HasFault}
 use Rattle.sy_cert.specs.declared.fault.TextFault.{TextFault}
 use Rattle.sy_report.specs.HaltTexts.{halt_report}
 use Rattle.sy_report.specs.Outcomes.{Prints}
-use Rattle.sy_report.specs.Reports.{Streams, Tells}
+use Rattle.sy_report.specs.Reports.{Streams, HasReported}
 use Rattle.sy_report.specs.declared.outcome.halt.Halt.TheVariants as halt
 use Rattle.sy_places.specs.SiteFiles.{IsSiteOf}
 use Rattle.sy_findings.specs.Checks.{IsTextOf, KeepsAll}
 use Rattle.sy_findings.specs.Verdicts.{SaysOf}
 use Rattle.sy_report.specs.declared.command_line.options.Options.{Options}
-use Rattle.syc.specs.Reports.{TellsBy, TellsFirst}
-use Rattle.syc.specs.SiteFiles.{AreTold, HasNoAnswer}
+use Rattle.syc.specs.Reports.{HasReportedBy, HasReportedFirst}
+use Rattle.syc.specs.SiteFiles.{AreReported, HasNoAnswer}
 use Rattle.syc.specs.Words.{is_any}
 
 -- ---- the files
@@ -40,14 +40,14 @@ pub record DescribesKept (bytes_of : List ℕ → Option (List ℕ)) (site_text 
   pub is_site : IsSiteOf bytes_of site_text site
   pub count : ℕ
   pub keeps : KeepsAll site count
-  pub alone : AreTold bytes_of (file_names site_text) → (other : Site) → IsSiteOf bytes_of site_text other → other ≡ site
+  pub alone : AreReported bytes_of (file_names site_text) → (other : Site) → IsSiteOf bytes_of site_text other → other ≡ site
 
 -- ---- the command
 
 -- What a verify of these files answers, where a line is told so: a verdict; or the certificate's text has a fault, which is told; or there is no site, no
 -- memory or no file, which is told. Where there is no verdict, standard output is as before.
-abbrev pub VerifiesTelling : (List ℕ → Type 0) → (List ℕ → Option (List ℕ)) → (site_text certificate : List ℕ) → ℕ → Streams → Streams → Type 0
-VerifiesTelling IsReported bytes_of site_text certificate status old new =
+abbrev pub VerifiesReporting : (List ℕ → Type 0) → (List ℕ → Option (List ℕ)) → (site_text certificate : List ℕ) → ℕ → Streams → Streams → Type 0
+VerifiesReporting IsReported bytes_of site_text certificate status old new =
     ((printed : List ℕ) × (is_accepted : Bool) × SaysOfFiles bytes_of site_text certificate printed is_accepted × Prints printed is_accepted status old new)
     ⊎ ((new.output ≡ old.output) × (
     ((status ≡ 2) × (fault : TextFault) × IsFaultyCertificate bytes_of site_text certificate fault × IsReported (halt_report (halt.Certificate fault)))
@@ -55,13 +55,13 @@ VerifiesTelling IsReported bytes_of site_text certificate status old new =
 
 -- what it answers without options
 abbrev pub VerifyIs : (List ℕ → Option (List ℕ)) → (site_text certificate : List ℕ) → ℕ → Streams → Streams → Type 0
-VerifyIs bytes_of site_text certificate status old new = VerifiesTelling (Tells old new) bytes_of site_text certificate status old new
+VerifyIs bytes_of site_text certificate status old new = VerifiesReporting (HasReported old new) bytes_of site_text certificate status old new
 
 -- The same in words: more may stand behind the line that says why there is no verdict.
 abbrev pub VerifyInWordsIs : (List ℕ → Option (List ℕ)) → (site_text certificate : List ℕ) → ℕ → Streams → Streams → Type 0
-VerifyInWordsIs bytes_of site_text certificate status old new = VerifiesTelling (TellsFirst old new) bytes_of site_text certificate status old new
+VerifyInWordsIs bytes_of site_text certificate status old new = VerifiesReporting (HasReportedFirst old new) bytes_of site_text certificate status old new
 
 -- The same with any options, or none, where that line stands alone.
 abbrev pub VerifyReport : Options → (List ℕ → Option (List ℕ)) → (site_text certificate : List ℕ) → ℕ → Streams → Streams → Type 0
 VerifyReport options bytes_of site_text certificate status old new =
-    VerifiesTelling (TellsBy (is_any options) old new) bytes_of site_text certificate status old new
+    VerifiesReporting (HasReportedBy (is_any options) old new) bytes_of site_text certificate status old new

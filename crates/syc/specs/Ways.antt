@@ -7,7 +7,7 @@ use Rattle.sy_chain.specs.Entries.{Entry}
 use Rattle.sy_actions.specs.Devices.{Hatched}
 use Rattle.sy_actions.specs.Lines.{LineState}
 use Rattle.sy_board.specs.relay.Boards.{BoardState}
-use Rattle.sy_board.specs.relay.Cells.{Cell, RelayState, opening, put}
+use Rattle.sy_board.specs.relay.Cells.{Cell, RelayState, opening, set_cell}
 use Rattle.sy_board.specs.relay.Totals.{Totals}
 
 -- a message's entry, as it enters a pass's board: of the one list, from the one input, its one occurrence due
@@ -58,7 +58,7 @@ idle n = board_of (totals_of n n n) (opening plan)
 
 -- the worker has it
 abbrev pub ready : ℕ → Said → BoardState
-ready n message = board_of (totals_of (n + 1) (n + 1) n) (put (opening plan) (Cell.Worker 0) (entry_of message ∷ []))
+ready n message = board_of (totals_of (n + 1) (n + 1) n) (set_cell (opening plan) (Cell.Worker 0) (entry_of message ∷ []))
 
 -- ---- the hatch of the one action, round the sink of lines
 

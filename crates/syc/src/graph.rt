@@ -6,7 +6,7 @@ ghost use Rattle.sy_site.specs.Sites.{Site as AnySite};
 ghost use Rattle.sy_site.specs.texts.Files.{file_names};
 ghost use Rattle.syc.specs.Graphs.{GraphIs, no_class_report};
 ghost use Rattle.syc.specs.Outcomes.{AnswersOf, FailsBy};
-ghost use Rattle.sy_report.specs.Reports.{Tells, said};
+ghost use Rattle.sy_report.specs.Reports.{HasReported, said};
 ghost use Rattle.sy_places.specs.SiteFiles.{IsSiteOf};
 ghost use Rattle.sy_places.specs.Halts.{IsNoSite, IsUnread};
 
@@ -22,7 +22,7 @@ use sy_places::site_file::site::{ReadSite, read_site};
 use sy_places::ways::executed::protected_classes;
 use sy_report::outcome::answer::{Answer, print};
 use sy_report::outcome::halt::Halt;
-use sy_report::outcome::report::tell_texts;
+use sy_report::outcome::report::report_texts;
 use sy_report::outcome::stop::out_of_memory;
 use sy_report::reading::files::Files;
 use sy_report::texts::parts::{Part, action_name, input_part, relay_name};
@@ -34,8 +34,8 @@ use sy_wire::{Class, Sink};
 
 // ---- the title
 
-fn put_finding(words: &mut Words, site: &Site, finding: &Finding) {
-    words.put(&[
+fn append_finding(words: &mut Words, site: &Site, finding: &Finding) {
+    words.append(&[
         Part::Text(b"refused: "),
         Part::Class(finding.class),
         Part::Text(b" at "),
@@ -44,7 +44,7 @@ fn put_finding(words: &mut Words, site: &Site, finding: &Finding) {
         Part::Text(finding.kind.words().as_bytes()),
     ]);
     if let Kind::Unmet(archive) = finding.kind {
-        words.put(&[
+        words.append(&[
             Part::Text(b" "),
             Part::Text(relay_name(site, archive.relay)),
             Part::Text(b" "),
@@ -63,7 +63,7 @@ fn found(alloc: Global, site: &Site) -> Result<Option<Finding>, AllocError> {
 }
 
 // The verdict, and the class where one was asked for.
-fn put_title(
+fn append_title(
     words: &mut Words,
     site: &Site,
     found: &Option<Finding>,
@@ -72,15 +72,15 @@ fn put_title(
 ) {
     words.say("  label=\"");
     match found {
-        Some(finding) => put_finding(words, site, finding),
-        None => words.put(&[
+        Some(finding) => append_finding(words, site, finding),
+        None => words.append(&[
             Part::Text(b"accepted: "),
             Part::Number(classes as u64),
             Part::Text(b" protected classes"),
         ]),
     }
     if let Some(class) = class {
-        words.put(&[Part::Text(b"\\nmessages of "), Part::Class(class)]);
+        words.append(&[Part::Text(b"\\nmessages of "), Part::Class(class)]);
     }
     words.say(if found.is_some() {
         "\";\n  fontcolor=\"#d93025\";\n"
@@ -90,7 +90,7 @@ fn put_title(
 }
 
 // What the lines and the colours mean.
-fn put_legend(words: &mut Words, is_one: bool) {
+fn append_legend(words: &mut Words, is_one: bool) {
     words.say(AROUND);
     words.say(if is_one { LEGEND_OF_ONE } else { LEGEND });
     words.say(MARKS);
@@ -98,7 +98,7 @@ fn put_legend(words: &mut Words, is_one: bool) {
 
 // ---- the drawing
 
-fn put_all(words: &mut Words, drawing: Drawing<'_>) -> Result<(), AllocError> {
+fn append_all(words: &mut Words, drawing: Drawing<'_>) -> Result<(), AllocError> {
     for relay in 0..drawing.site.relays() {
         push_relay(words, drawing, relay, drawing.site.plan(relay))?;
     }
@@ -128,9 +128,9 @@ fn draw(alloc: Global, site: &Site, class: Option<Class>) -> Result<Vec<u8>, All
     };
     let mut words = Words::new(alloc);
     words.say(HEAD);
-    put_title(&mut words, site, &found, protected.len(), class);
-    put_legend(&mut words, drawing.is_one);
-    put_all(&mut words, drawing)?;
+    append_title(&mut words, site, &found, protected.len(), class);
+    append_legend(&mut words, drawing.is_one);
+    append_all(&mut words, drawing)?;
     words.say("  }\n}\n");
     words.finish()
 }
@@ -182,19 +182,19 @@ fn print_drawing<F: Files, W: Sink, E: Sink>(
 // A word as it is told, without control characters.
 fn shown(alloc: Global, word: &str) -> Result<Vec<u8>, AllocError> {
     let mut words = Words::new(alloc);
-    words.put_in_line(word.as_bytes());
+    words.append_in_line(word.as_bytes());
     words.finish()
 }
 
 // Tells that a word is no class, and answers the exit status.
 fn no_class<W: Sink, E: Sink>(alloc: Global, out: &mut Outputs<W, E>, word: &str) -> u8
-    ensures told { ((result ≡ 2) × (shown : List ℕ) × Tells out.old out.new (no_class_report shown))
-        ⊎ ((result ≡ 3) × Tells out.old out.new (said (codes "no memory"))) }
+    ensures reported { ((result ≡ 2) × (shown : List ℕ) × HasReported out.old out.new (no_class_report shown))
+        ⊎ ((result ≡ 3) × HasReported out.old out.new (said (codes "no memory"))) }
     ensures same { out.new.output ≡ out.old.output }
 {
     match shown(alloc, word) {
         Ok(shown) => {
-            tell_texts(
+            report_texts(
                 &mut out.errors,
                 &[
                     b"syc: no class ",

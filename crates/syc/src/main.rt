@@ -319,13 +319,13 @@ where
         reopens,
         drain,
     };
-    let told = Notices {
+    let reported = Notices {
         log,
         runs,
         watch,
         unread,
     };
-    serve_devices(rt, host, served, store, told, explained, out)
+    serve_devices(rt, host, served, store, reported, explained, out)
 }
 
 // Serves a relay with the process's own streams.
@@ -342,7 +342,7 @@ fn serve_devices<
     host: HostRuntime,
     served: Served<'_>,
     mut store: LeftFiles,
-    told: Notices,
+    reported: Notices,
     explained: Option<&str>,
     out: HostOutputs,
 ) -> u8
@@ -357,7 +357,7 @@ fn serve_devices<
     } = out;
     // (lines come to it in pieces; without a buffer it is known which of them were written)
     let unbuffered = FromWrite::new(host.stderr());
-    let Ok(serving) = Arc::new(alloc, Serving::new(alloc, unbuffered, told)) else {
+    let Ok(serving) = Arc::new(alloc, Serving::new(alloc, unbuffered, reported)) else {
         return stop::out_of_memory(&mut errors);
     };
     let mut reader = FromRead::new(host.stdin());

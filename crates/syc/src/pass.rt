@@ -6,7 +6,7 @@ ghost use Rattle.sy_wire.specs.Streams.{Rose, count_after};
 ghost use Rattle.std.specs.Io.KnownBytes.{Keeps};
 ghost use Rattle.syc.specs.Pass.{EndsPass, EndsWhole, HasFailed, IsStatus, NoneFailed, PassIs, counted};
 ghost use Rattle.syc.specs.internal.Pass.{GivesUpFailing, counts};
-ghost use Rattle.sy_report.specs.Reports.{Tells, status_shown};
+ghost use Rattle.sy_report.specs.Reports.{HasReported, status_shown};
 ghost use Rattle.syc.specs.internal.Stops.{Advances, DrainFails, FailCause, IsBetween, PassCause, ReadCause, StopIs, StopsIn, TurnIs, WriteCause};
 ghost use Rattle.syc.specs.Stops.{IsIdle};
 ghost use Rattle.syc.specs.Ways.{IsWhole, idle};
@@ -18,7 +18,7 @@ use std::alloc::{AllocError, Global};
 use std::sync::Arc;
 use sy_actions::{Hatch, LineSink};
 use sy_board::Board;
-use sy_report::outcome::stop::{Stop, status_of, tell};
+use sy_report::outcome::stop::{Stop, status_of, report_stop};
 use sy_report::writing::outputs::Outputs;
 use sy_rules::Plan;
 use sy_wire::{FillFault, FrameFault, Framer, PIECE, Sink, Source};
@@ -262,19 +262,19 @@ fn pass_all<R: Source, W: Sink>(
 fn hand_on<W: Sink, E: Sink>(out: &mut Outputs<W, E>, stopped: Stopped) -> u8
     ensures pass { (input : List ℕ) (first : Option (List ℕ)) →
         StopsIn stopped.stop stopped.frame input first out.old.output.contents →
-        EndsPass result input first out.new.output.contents (Tells out.old out.new) }
+        EndsPass result input first out.new.output.contents (HasReported out.old out.new) }
     ensures status { (result ≡ 2) ⊎ (result ≡ 3) ⊎ (result ≡ 4) }
     ensures flushed { (out.new.output.is_flushed ≡ true)
         ⊎ ((result ≡ 4) × Rose out.old.output.faults out.new.output.faults) }
     ensures writes { out.old.output.faults ≤ out.new.output.faults }
     ensures none_failed { result ≢ 4 → (status_shown stopped.stop ≢ 4) × (out.new.output.faults ≡ out.old.output.faults) }
-    ensures cause { result ≡ 4 → GivesUpFailing (Tells out.old out.new) stopped.stop out.old.output.faults out.new.output.faults }
+    ensures cause { result ≡ 4 → GivesUpFailing (HasReported out.old out.new) stopped.stop out.old.output.faults out.new.output.faults }
 {
     let stop = match out.writer.flush() {
         Ok(()) => stopped.stop,
         Err(_) => Stop::WriteFailed,
     };
-    tell(&mut out.errors, stop, stopped.frame);
+    report_stop(&mut out.errors, stop, stopped.frame);
     status_of(stop)
 }
 
@@ -283,18 +283,18 @@ fn hand_on<W: Sink, E: Sink>(out: &mut Outputs<W, E>, stopped: Stopped) -> u8
 fn give_up<W: Sink, E: Sink>(out: &mut Outputs<W, E>, stopped: Stopped) -> u8
     ensures pass { (input : List ℕ) (first : Option (List ℕ)) →
         StopsIn stopped.stop stopped.frame input first out.old.output.contents →
-        EndsPass result input first out.new.output.contents (Tells out.old out.new) }
+        EndsPass result input first out.new.output.contents (HasReported out.old out.new) }
     ensures status { (result ≡ 2) ⊎ (result ≡ 3) ⊎ (result ≡ 4) }
     ensures untouched { stopped.stop ≡ Stop.WriteFailed → out.new.output ≡ out.old.output }
     ensures flushed { (out.new.output.is_flushed ≡ true)
         ⊎ ((result ≡ 4) × ((stopped.stop ≡ Stop.WriteFailed) ⊎ Rose out.old.output.faults out.new.output.faults)) }
     ensures writes { out.old.output.faults ≤ out.new.output.faults }
     ensures none_failed { result ≢ 4 → (status_shown stopped.stop ≢ 4) × (out.new.output.faults ≡ out.old.output.faults) }
-    ensures cause { result ≡ 4 → GivesUpFailing (Tells out.old out.new) stopped.stop out.old.output.faults out.new.output.faults }
+    ensures cause { result ≡ 4 → GivesUpFailing (HasReported out.old out.new) stopped.stop out.old.output.faults out.new.output.faults }
 {
     match stopped.stop {
         Stop::WriteFailed => {
-            tell(&mut out.errors, stopped.stop, stopped.frame);
+            report_stop(&mut out.errors, stopped.stop, stopped.frame);
             4
         }
         Stop::Frame(_) | Stop::Message(_) | Stop::NoMemory | Stop::ReadFailed => {
@@ -318,7 +318,7 @@ pub fn pass<R: Source, W: Sink, E: Sink>(
     ensures calls { R.calls reader.new ≤ R.calls reader.old + READS }
     ensures none_failed { result ≢ 4 → NoneFailed
         (counted R.faults R.calls reader.old out.old) (counted R.faults R.calls reader.new out.new) }
-    ensures cause { result ≡ 4 → HasFailed (Tells out.old out.new)
+    ensures cause { result ≡ 4 → HasFailed (HasReported out.old out.new)
         (counted R.faults R.calls reader.old out.old) (counted R.faults R.calls reader.new out.new) }
 {
     match pass_all(alloc, reader, &mut out.writer) {

@@ -7,7 +7,7 @@ ghost use Rattle.sy_site.specs.texts.Files.{file_names};
 ghost use Rattle.syc.specs.Replays.{PiecesMayFail, ReplayIs, ReplayReport};
 ghost use Rattle.sy_report.specs.HaltTexts.{halt_report};
 ghost use Rattle.syc.specs.Outcomes.{FailsBy, MayEnd};
-ghost use Rattle.syc.specs.Reports.{TellsBy};
+ghost use Rattle.syc.specs.Reports.{HasReportedBy};
 ghost use Rattle.sy_report.specs.Reports.{seen};
 ghost use Rattle.syc.specs.internal.Halts.{Halted, HandedOn, IsCause, Replayed};
 ghost use Rattle.syc.specs.internal.Optioned.{in_memory as halt_in_memory};
@@ -21,7 +21,7 @@ pub mod losses;
 use crate::commands::is_any;
 use crate::reading::read_for;
 use crate::replay::events::replay_events;
-use crate::reporting::{stop_with_document, tell_halt};
+use crate::reporting::{stop_with_document, report_halt_by_options};
 use std::alloc::{AllocError, Global};
 use sy_documents::json::replay_document;
 use sy_places::site_file::texts::{SiteTexts, read_second};
@@ -146,11 +146,11 @@ fn stop_replay<W: Sink, E: Sink>(
     out: &mut Outputs<W, E>,
 ) -> u8
     ensures status { result ≡ status_at halt.now }
-    ensures told { TellsBy (spec.is_any options) out.old out.new (halt_report halt.now) }
+    ensures reported { HasReportedBy (spec.is_any options) out.old out.new (halt_report halt.now) }
     ensures same { out.new.output ≡ out.old.output }
     ensures failed { result ≢ 0 }
 {
-    tell_halt(alloc, texts, options, halt, &mut out.errors)
+    report_halt_by_options(alloc, texts, options, halt, &mut out.errors)
 }
 
 // Replays, and prints a line for each loss.

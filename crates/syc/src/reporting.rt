@@ -18,8 +18,8 @@ use sy_faults::all_faults::all_fault_words;
 use sy_places::site_file::texts::SiteTexts;
 use sy_report::command_line::options::Options;
 use sy_report::outcome::answer::{Answer, print, stop};
-use sy_report::outcome::halt::{Halt, status_of, tell};
-use sy_report::outcome::report::tell_texts;
+use sy_report::outcome::halt::{Halt, status_of, report_halt};
+use sy_report::outcome::report::report_texts;
 use sy_report::writing::kept_text::Gathered;
 use sy_report::writing::output::send;
 use sy_report::writing::outputs::Outputs;
@@ -30,19 +30,19 @@ fn line_of(alloc: Global, halt: &Halt) -> Option<Gathered>
     ensures { IfSome result (λ line. line.text.items ≡ halt_report halt.now) }
 {
     let mut line = Gathered::new(alloc);
-    tell(&mut line, halt);
+    report_halt(&mut line, halt);
     if line.is_whole() { Some(line) } else { None }
 }
 
 // Prints why a command stopped, and words after that.
-fn tell_with<E: Sink>(alloc: Global, errors: &mut E, halt: &Halt, words: &[u8])
+fn report_with<E: Sink>(alloc: Global, errors: &mut E, halt: &Halt, words: &[u8])
     ensures { ReportedFirst
         (seen E.contents E.is_flushed E.faults errors.old) (seen E.contents E.is_flushed E.faults errors.new)
         (halt_report halt.now) }
 {
     match line_of(alloc, halt) {
-        Some(line) => tell_texts(errors, &[line.text(), words]),
-        None => tell(errors, halt),
+        Some(line) => report_texts(errors, &[line.text(), words]),
+        None => report_halt(errors, halt),
     }
 }
 
@@ -71,7 +71,7 @@ fn words_or_none(alloc: Global, texts: &SiteTexts<'_>, options: Options, halt: &
 }
 
 /// Reports why a command stopped, with words after that where options ask for them, and answers the exit status.
-pub fn tell_halt<E: Sink>(
+pub fn report_halt_by_options<E: Sink>(
     alloc: Global,
     texts: &SiteTexts<'_>,
     options: Options,
@@ -79,15 +79,15 @@ pub fn tell_halt<E: Sink>(
     errors: &mut E,
 ) -> u8
     ensures status { result ≡ status_at halt.now }
-    ensures told { ReportedBy (spec.is_any options)
+    ensures reported { ReportedBy (spec.is_any options)
         (seen E.contents E.is_flushed E.faults errors.old) (seen E.contents E.is_flushed E.faults errors.new)
         (halt_report halt.now) }
 {
     if is_any(options) {
         let words = words_or_none(alloc, texts, options, halt);
-        tell_with(alloc, errors, halt, words.as_slice());
+        report_with(alloc, errors, halt, words.as_slice());
     } else {
-        tell(errors, halt);
+        report_halt(errors, halt);
     }
     status_of(halt)
 }
@@ -129,7 +129,7 @@ fn stop_as<W: Sink, E: Sink>(
     halt: Halt,
     out: &mut Outputs<W, E>,
 ) -> u8
-    ensures told { options.json ≡ false → StopsBy (spec.is_any options) halt result out.old out.new }
+    ensures reported { options.json ≡ false → StopsBy (spec.is_any options) halt result out.old out.new }
     ensures ends { HaltEnds halt result out.old.output.faults out.new.output.faults }
     ensures failed { result ≢ 0 }
     ensures status { result ≤ 4 }
@@ -138,7 +138,7 @@ fn stop_as<W: Sink, E: Sink>(
         let document = fault_document(alloc, texts, command, options, &halt);
         stop_with_document(document, halt, out)
     } else {
-        tell_halt(alloc, texts, options, &halt, &mut out.errors)
+        report_halt_by_options(alloc, texts, options, &halt, &mut out.errors)
     }
 }
 
@@ -152,7 +152,7 @@ pub fn print_report<W: Sink, E: Sink>(
     out: &mut Outputs<W, E>,
 ) -> u8
     ensures printed { IfOk answer (λ a. Prints a.text.items a.is_accepted result out.old out.new) }
-    ensures told { options.json ≡ false → IfErr answer (λ halt. StopsBy (spec.is_any options) halt result out.old out.new) }
+    ensures reported { options.json ≡ false → IfErr answer (λ halt. StopsBy (spec.is_any options) halt result out.old out.new) }
     ensures stopped { IfErr answer (λ halt. HaltEnds halt result out.old.output.faults out.new.output.faults) }
     ensures status { result ≤ 4 }
     ensures none_failed { result ≢ 4 → out.new.output.faults ≡ out.old.output.faults }

@@ -6,9 +6,9 @@ use std::alloc::Global;
 use std::fs::File;
 use sy_report::command_line::command::{is_plain, is_word};
 use sy_report::command_line::options::all_words;
-use sy_report::outcome::report::{tell_text, tell_texts};
+use sy_report::outcome::report::{report_text, report_texts};
 use sy_report::outcome::stop::{out_of_memory, write_failed};
-use sy_report::texts::parts::{Part, put_parts};
+use sy_report::texts::parts::{Part, append_parts};
 use sy_report::writing::output::send;
 use sy_report::writing::outputs::Outputs;
 use sy_unread::records::{FileFault, Records};
@@ -124,8 +124,8 @@ fn report_count<E: Sink>(alloc: Global, errors: &mut E, number: u64, words: &str
         Part::Text(words.as_bytes()),
         Part::Text(b"\n"),
     ];
-    if put_parts(&mut text, &parts).is_ok() {
-        tell_texts(errors, &[text.as_slice()]);
+    if append_parts(&mut text, &parts).is_ok() {
+        report_texts(errors, &[text.as_slice()]);
     }
 }
 
@@ -133,14 +133,14 @@ fn report_count<E: Sink>(alloc: Global, errors: &mut E, number: u64, words: &str
 fn halted<E: Sink>(errors: &mut E, halt: Halt) -> u8 {
     match halt {
         Halt::File(FileFault::Frame(fault)) => {
-            tell_texts(
+            report_texts(
                 errors,
                 &[b"syc: ", fault.words().as_bytes(), b" in the file\n"],
             );
             2
         }
         Halt::File(FileFault::ReadFailed) => {
-            tell_text(errors, "read failed");
+            report_text(errors, "read failed");
             4
         }
         Halt::File(FileFault::NoMemory) | Halt::NoMemory => out_of_memory(errors),
@@ -223,7 +223,7 @@ pub fn unread<W: Sink, E: Sink>(rt: &HostRuntime, args: &[String], out: &mut Out
         return refuse(alloc, out, &refusal(alloc, words.as_slice()));
     };
     let Ok(file) = File::open(rt, found.file) else {
-        tell_text(&mut out.errors, "read failed");
+        report_text(&mut out.errors, "read failed");
         return 4;
     };
     let mut source = FromRead::new(file);

@@ -11,13 +11,13 @@ use Rattle.sy_rules.specs.declared.lists.occurrence.Occurrence.{Occurrence}
 use Rattle.sy_rules.specs.declared.lists.occurrence.Occurrence.TheVariants as occurrence
 use Rattle.sy_rules.specs.lists.Sets.{IsLowest}
 use Rattle.sy_rules.specs.PlanValue.{Plan}
-use Rattle.sy_board.specs.relay.Cells.{Cell, IsShaped, RelayState, at, opening, put, hand}
+use Rattle.sy_board.specs.relay.Cells.{Cell, IsShaped, RelayState, at, opening, set_cell, hand}
 use Rattle.sy_board.specs.relay.Plans.{marks_at, occurrences_at, parameters_at, queue_of_input, queue_of_worker}
 use Rattle.sy_board.specs.relay.Steps.{Cause, Enters, Event, Expires, Fails, GivesUp, Grabs, Job, LosesPost, Out, Posts, Settles, Step, Takes, advanced, if_so, still}
 use Rattle.sy_board.specs.relay.Totals.{Counts, GuardState, Laws, Totals, counted, counted_by, counts_at, counts_done, counts_given_up, due_for, due_of, in_hands, in_queues, is_post, is_run_of, left_of, no_counts, nothing_counted, total, with_due}
 use Rattle.sy_rules.specs.Whole.{IsWhole, queue_for}
 use Rattle.sy_board.proofs.relay.There.{hand_there, input_queue_there, list_queue_there, worker_queue_there, worker_there}
-use Rattle.sy_board.proofs.relay.Put.{at_put, if_elim, set_length}
+use Rattle.sy_board.proofs.relay.SetCells.{at_set, if_elim, set_length}
 
 pub total_set : {A : Type 0} (f : A → ℕ) (xs : List A) (k : ℕ) (v d : A) → k < length xs → total f (set xs k v) + f (get_or xs k d) ≡ total f xs + f v
 total_set f [] k v d l = absurd (omega arith)
@@ -26,14 +26,14 @@ total_set f (x ∷ xs) (ℕ.suc k) v d l = let m : k < length xs = omega arith i
 
 -- ---- what a change of one place does to the counts
 
-pub hand_sum : (part : RelayState) (k : ℕ) (es : List Entry) → k < length part.hands → in_hands (put part (Cell.Hand k) es) + length (at part (Cell.Hand k)) ≡ in_hands part + length es
+pub hand_sum : (part : RelayState) (k : ℕ) (es : List Entry) → k < length part.hands → in_hands (set_cell part (Cell.Hand k) es) + length (at part (Cell.Hand k)) ≡ in_hands part + length es
 hand_sum part k es l = total_set length part.hands k es [] l
 
-pub queue_sum : (part : RelayState) (k : ℕ) (es : List Entry) → k < length part.queues → in_queues (put part (Cell.Queue k) es) + length (at part (Cell.Queue k)) ≡ in_queues part + length es
+pub queue_sum : (part : RelayState) (k : ℕ) (es : List Entry) → k < length part.queues → in_queues (set_cell part (Cell.Queue k) es) + length (at part (Cell.Queue k)) ≡ in_queues part + length es
 queue_sum part k es l = total_set length part.queues k es [] l
 
 pub worker_sum : (plan : Plan) (f : Occurrence → Bool) (part : RelayState) (w : ℕ) (es : List Entry) → w < length part.workers
-    → left_of plan f (put part (Cell.Worker w) es) + due_for plan f (at part (Cell.Worker w)) ≡ left_of plan f part + due_for plan f es
+    → left_of plan f (set_cell part (Cell.Worker w) es) + due_for plan f (at part (Cell.Worker w)) ≡ left_of plan f part + due_for plan f es
 worker_sum plan f part w es l = total_set (due_for plan f) part.workers w es [] l
 
 -- ---- one occurrence due less
@@ -104,7 +104,7 @@ pub laws_enter : (plan : Plan) (old new : RelayState) (i h : ℕ) (node : Entry)
     → Laws plan new (counted_by plan old (Event.Enter i h) new [] t)
 laws_enter plan old new i h node t hh q laws enters =
     let a = hand_sum old (64 * i + h) [] hh in
-    let b = queue_sum (put old (hand i h) []) (queue_of_input plan i) (at old (Cell.Queue (queue_of_input plan i)) ++ node ∷ []) q in
+    let b = queue_sum (set_cell old (hand i h) []) (queue_of_input plan i) (at old (Cell.Queue (queue_of_input plan i)) ++ node ∷ []) q in
     let c = ap length enters.leaves.held in
     let d = length-append (at old (Cell.Queue (queue_of_input plan i))) (node ∷ []) in
     let e = laws.entries in
@@ -122,7 +122,7 @@ pub laws_take : (plan : Plan) (old new : RelayState) (i h : ℕ) (node : Entry) 
     → Laws plan new (counted_by plan old (Event.Take i h node) new (if_so lost (Out.Lost Cause.Take node)) t)
 laws_take plan old new i h node lost t hh laws takes = subst (λ x. Laws plan x (counted_by plan old (Event.Take i h node) x (if_so lost (Out.Lost Cause.Take node)) t)) (sym takes.after) (go lost)
   where
-    go : (lost : Bool) → Laws plan (if lost then old else (put old (hand i h) (node ∷ []))) (counted_by plan old (Event.Take i h node) old (if_so lost (Out.Lost Cause.Take node)) t)
+    go : (lost : Bool) → Laws plan (if lost then old else (set_cell old (hand i h) (node ∷ []))) (counted_by plan old (Event.Take i h node) old (if_so lost (Out.Lost Cause.Take node)) t)
     go true = let e = laws.entries in record { entries = omega (arith, e); posts = laws.posts; actions = laws.actions; runs = laws.runs }
     go false =
         let a = hand_sum old (64 * i + h) (node ∷ []) hh in
@@ -136,14 +136,14 @@ laws_grab plan old new w lost t there q laws grabs outs =
     let n = (parameters_at plan (queue_of_worker plan w)).batch in
     let es = at old (Cell.Queue (queue_of_worker plan w)) in
     let kept = kept_of (marks_at plan (queue_of_worker plan w)) n es in
-    let one = put old (Cell.Queue (queue_of_worker plan w)) (drop n es) in
+    let one = set_cell old (Cell.Queue (queue_of_worker plan w)) (drop n es) in
     let a = queue_sum old (queue_of_worker plan w) (drop n es) q in
     let b = length-drop n es in
     let e = laws.entries in
     let idle = λ (f : Occurrence → Bool). ap (due_for plan f) grabs.idle in
-    let has = λ (f : Occurrence → Bool). ap (due_for plan f) (at_put one (Cell.Worker w) kept there) in
+    let has = λ (f : Occurrence → Bool). ap (due_for plan f) (at_set one (Cell.Worker w) kept there) in
     let more = λ (f : Occurrence → Bool). worker_sum plan f one w kept there in
-    let more_of = λ (a : ℕ). due_for plan (is_run_of a) (at (put one (Cell.Worker w) kept) (Cell.Worker w)) in
+    let more_of = λ (a : ℕ). due_for plan (is_run_of a) (at (set_cell one (Cell.Worker w) kept) (Cell.Worker w)) in
     subst (λ x. Laws plan x (counted_by plan old (Event.Grab w) x outs t)) (sym grabs.after) (record {
       entries = omega (arith, a, b, e);
       posts = let x = idle is_post in let y = has is_post in let z = more is_post in let p = laws.posts in omega (arith, x, y, z, p);
@@ -227,7 +227,7 @@ pub laws_post : (plan : Plan) (old new : RelayState) (w l : ℕ) (node : Entry) 
     → Laws plan new (counted_by plan old (Event.Post w) new (if_so lost (Out.Lost (Cause.Post l) posts.job.entry)) t)
 laws_post plan old new w l node lost t there q laws posts = subst (λ x. Laws plan x (counted_by plan old (Event.Post w) x (if_so lost (Out.Lost (Cause.Post l) posts.job.entry)) t)) (sym posts.after) (go lost)
   where
-    go : (lost : Bool) → Laws plan (if lost then (advanced plan old w (occurrence.Post l) posts.job) else (put (advanced plan old w (occurrence.Post l) posts.job) (Cell.Queue (queue_for plan l)) (at old (Cell.Queue (queue_for plan l)) ++ node ∷ [])))
+    go : (lost : Bool) → Laws plan (if lost then (advanced plan old w (occurrence.Post l) posts.job) else (set_cell (advanced plan old w (occurrence.Post l) posts.job) (Cell.Queue (queue_for plan l)) (at old (Cell.Queue (queue_for plan l)) ++ node ∷ [])))
         (counted_by plan old (Event.Post w) old (if_so lost (Out.Lost (Cause.Post l) posts.job.entry)) t)
     go true =
         let e = laws.entries in

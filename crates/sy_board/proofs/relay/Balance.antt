@@ -8,7 +8,7 @@ use Rattle.sy_marks.specs.declared.marks.Marks.{Marks}
 use Rattle.sy_marks.specs.Marks.{finished_of, is_lost, kept_of, lost_of}
 use Rattle.sy_rules.specs.PlanValue.{Plan}
 use Rattle.sy_rules.specs.Whole.{IsWhole, queue_for}
-use Rattle.sy_board.specs.relay.Cells.{Cell, IsShaped, RelayState, at, put, hand}
+use Rattle.sy_board.specs.relay.Cells.{Cell, IsShaped, RelayState, at, set_cell, hand}
 use Rattle.sy_board.specs.relay.Plans.{marks_at, parameters_at, queue_of_input, queue_of_worker}
 use Rattle.sy_board.specs.relay.Steps.{Event, Job, Out, Step, advanced, if_so, still}
 use Rattle.sy_board.specs.relay.Totals.{total}
@@ -22,13 +22,13 @@ total_append f (x ∷ xs) ys = let e = total_append f xs ys in omega (arith, e)
 
 -- ---- one place
 
-hand_over : (f : Entry → ℕ) (part : RelayState) (k : ℕ) (es : List Entry) → k < length part.hands → over f (put part (Cell.Hand k) es) + total f (at part (Cell.Hand k)) ≡ over f part + total f es
+hand_over : (f : Entry → ℕ) (part : RelayState) (k : ℕ) (es : List Entry) → k < length part.hands → over f (set_cell part (Cell.Hand k) es) + total f (at part (Cell.Hand k)) ≡ over f part + total f es
 hand_over f part k es l = let e = total_set (total f) part.hands k es [] l in omega (arith, e)
 
-queue_over : (f : Entry → ℕ) (part : RelayState) (k : ℕ) (es : List Entry) → k < length part.queues → over f (put part (Cell.Queue k) es) + total f (at part (Cell.Queue k)) ≡ over f part + total f es
+queue_over : (f : Entry → ℕ) (part : RelayState) (k : ℕ) (es : List Entry) → k < length part.queues → over f (set_cell part (Cell.Queue k) es) + total f (at part (Cell.Queue k)) ≡ over f part + total f es
 queue_over f part k es l = let e = total_set (total f) part.queues k es [] l in omega (arith, e)
 
-worker_over : (f : Entry → ℕ) (part : RelayState) (k : ℕ) (es : List Entry) → k < length part.workers → over f (put part (Cell.Worker k) es) + total f (at part (Cell.Worker k)) ≡ over f part + total f es
+worker_over : (f : Entry → ℕ) (part : RelayState) (k : ℕ) (es : List Entry) → k < length part.workers → over f (set_cell part (Cell.Worker k) es) + total f (at part (Cell.Worker k)) ≡ over f part + total f es
 worker_over f part k es l = let e = total_set (total f) part.workers k es [] l in omega (arith, e)
 
 -- ---- a worker's first entry
@@ -73,7 +73,7 @@ pub balance_step : (f : Entry → ℕ) (plan : Plan) (old : RelayState) (event :
 balance_step f plan old (Event.Take i h node) new outs whole s (lost, takes, is) =
     subst (λ x. over f old + total f (node ∷ []) ≡ over f x + total f (if_so lost node)) (sym takes.after) (go lost)
   where
-    go : (b : Bool) → over f old + total f (node ∷ []) ≡ over f (if b then old else put old (hand i h) (node ∷ [])) + total f (if_so b node)
+    go : (b : Bool) → over f old + total f (node ∷ []) ≡ over f (if b then old else set_cell old (hand i h) (node ∷ [])) + total f (if_so b node)
     go true = refl
     go false =
         let a = hand_over f old (64 * i + h) (node ∷ []) (hand_there plan old i h s takes.there) in
@@ -82,7 +82,7 @@ balance_step f plan old (Event.Take i h node) new outs whole s (lost, takes, is)
 balance_step f plan old (Event.Enter i h) new outs whole s (node, enters, is) =
     let q = queue_of_input plan i in
     let a = hand_over f old (64 * i + h) [] (hand_there plan old i h s enters.leaves.there) in
-    let b = queue_over f (put old (hand i h) []) q (at old (Cell.Queue q) ++ node ∷ []) (input_queue_there plan old i whole s enters.leaves.there.0) in
+    let b = queue_over f (set_cell old (hand i h) []) q (at old (Cell.Queue q) ++ node ∷ []) (input_queue_there plan old i whole s enters.leaves.there.0) in
     let c = ap (total f) enters.leaves.held in
     let d = total_append f (at old (Cell.Queue q)) (node ∷ []) in
     subst (λ x. over f old + 0 ≡ over f x + 0) (sym enters.after) (omega (arith, a, b, c, d))
@@ -95,14 +95,14 @@ balance_step f plan old (Event.Grab w) new outs whole s (lost, grabs, is) =
     let m = marks_at plan q in
     let n = (parameters_at plan q).batch in
     let es = at old (Cell.Queue q) in
-    let one = put old (Cell.Queue q) (drop n es) in
+    let one = set_cell old (Cell.Queue q) (drop n es) in
     let a = queue_over f old q (drop n es) (worker_queue_there plan old w whole s grabs.there) in
     let b = worker_over f one w (kept_of m n es) (worker_there plan old w s grabs.there) in
     let c = ap (total f) grabs.idle in
     let d = batch_over f m n es in
     let e = total_append f (lost_of m n es) (finished_of m n es) in
     subst (λ x. over f old + 0 ≡ over f x + total f (lost ++ finished_of m n es)) (sym grabs.after)
-    (subst (λ xs. over f old + 0 ≡ over f (put one (Cell.Worker w) (kept_of m n es)) + total f (xs ++ finished_of m n es)) (sym grabs.lost_are) (omega (arith, a, b, c, d, e)))
+    (subst (λ xs. over f old + 0 ≡ over f (set_cell one (Cell.Worker w) (kept_of m n es)) + total f (xs ++ finished_of m n es)) (sym grabs.lost_are) (omega (arith, a, b, c, d, e)))
 balance_step f plan old (Event.Done w) new outs whole s (x, e, does, is) =
     let a = advanced_over f plan old w (occurrence.Run x) does.job (worker_there plan old w s does.job.there) in
     let b = ap f does.its in
@@ -122,11 +122,11 @@ balance_step f plan old (Event.Post w) new outs whole s (l, node, lost, posts, i
     subst (λ y. over f old + total f (if_so (not lost) node ++ rest plan old w _ posts.job) ≡ over f y + total f (posts.job.entry ∷ [])) (sym posts.after) (go a b d lost)
   where
     go : over f old + total f (rest plan old w _ posts.job) ≡ over f (advanced plan old w (occurrence.Post l) posts.job) + f posts.job.entry
-        → over f (put (advanced plan old w (occurrence.Post l) posts.job) (Cell.Queue (queue_for plan l)) (at old (Cell.Queue (queue_for plan l)) ++ node ∷ [])) + total f (at old (Cell.Queue (queue_for plan l)))
+        → over f (set_cell (advanced plan old w (occurrence.Post l) posts.job) (Cell.Queue (queue_for plan l)) (at old (Cell.Queue (queue_for plan l)) ++ node ∷ [])) + total f (at old (Cell.Queue (queue_for plan l)))
         ≡ over f (advanced plan old w (occurrence.Post l) posts.job) + total f (at old (Cell.Queue (queue_for plan l)) ++ node ∷ [])
         → total f (at old (Cell.Queue (queue_for plan l)) ++ node ∷ []) ≡ total f (at old (Cell.Queue (queue_for plan l))) + total f (node ∷ [])
         → (b : Bool) → over f old + total f (if_so (not b) node ++ rest plan old w _ posts.job)
-        ≡ over f (if b then advanced plan old w (occurrence.Post l) posts.job else put (advanced plan old w (occurrence.Post l) posts.job) (Cell.Queue (queue_for plan l)) (at old (Cell.Queue (queue_for plan l)) ++ node ∷ []))
+        ≡ over f (if b then advanced plan old w (occurrence.Post l) posts.job else set_cell (advanced plan old w (occurrence.Post l) posts.job) (Cell.Queue (queue_for plan l)) (at old (Cell.Queue (queue_for plan l)) ++ node ∷ []))
         + total f (posts.job.entry ∷ [])
     go a b d true = omega (arith, a)
     go a b d false = omega (arith, a, b, d)

@@ -8,11 +8,11 @@ use Rattle.sy_rules.specs.PlanValue.{Plan}
 use Rattle.sy_rules.specs.declared.parameters.settings.QueueParameters.{QueueParameters}
 use Rattle.sy_rules.specs.parameters.Objects.{AreInRange}
 use Rattle.sy_rules.specs.Whole.{IsWhole}
-use Rattle.sy_board.specs.relay.Cells.{RelayState, hand, put}
+use Rattle.sy_board.specs.relay.Cells.{RelayState, hand, set_cell}
 use Rattle.sy_board.specs.relay.Plans.{marks_at, parameters_at, queue_of_worker}
 use Rattle.sy_board.specs.relay.Steps.{Event, Job, Out, Step, advanced, still}
 use Rattle.sy_board.specs.internal.Kept.{LARGEST_BATCH}
-use Rattle.sy_board.proofs.relay.Put.{if_elim, set_elim, set_length}
+use Rattle.sy_board.proofs.relay.SetCells.{if_elim, set_elim, set_length}
 
 abbrev IsBatch : List Entry → Type 0
 IsBatch entries = length entries ≤ LARGEST_BATCH
@@ -70,7 +70,7 @@ pub batches_step : (plan : Plan) (old : RelayState) (event : Event) (new : Relay
     → All (λ entries. length entries ≤ LARGEST_BATCH) old.workers → Step plan old event new outs
     → All (λ entries. length entries ≤ LARGEST_BATCH) new.workers
 batches_step plan old (Event.Take i h node) new outs whole all (lost, takes, is) = subst (λ (x : RelayState). All IsBatch x.workers) (sym takes.after)
-    (if_elim (λ (x : RelayState). All IsBatch x.workers) lost old (put old (hand i h) (node ∷ [])) (λ t. all) (λ t. all))
+    (if_elim (λ (x : RelayState). All IsBatch x.workers) lost old (set_cell old (hand i h) (node ∷ [])) (λ t. all) (λ t. all))
 batches_step plan old (Event.Enter i h) new outs whole all (node, enters, is) = subst (λ (x : RelayState). All IsBatch x.workers) (sym enters.after) all
 batches_step plan old (Event.Expire i h) new outs whole all (node, expires, is) = subst (λ (x : RelayState). All IsBatch x.workers) (sym expires.after) all
 batches_step plan old (Event.Grab w) new outs whole all (lost, grabs, is) = subst (λ (x : RelayState). All IsBatch x.workers) (sym grabs.after)

@@ -7,7 +7,7 @@ use Rattle.sy_marks.specs.Marks.{front_where, is_kept, kept_of, lost_of}
 use Rattle.sy_rules.specs.PlanValue.{Plan}
 use Rattle.sy_rules.specs.Whole.{IsWhole}
 use Rattle.sy_board.specs.relay.Boards.{Account, BoardState, Fits, Is64, account_of, guard_of, stepped}
-use Rattle.sy_board.specs.relay.Cells.{Cell, RelayState, at, put, waiting}
+use Rattle.sy_board.specs.relay.Cells.{Cell, RelayState, at, set_cell, waiting}
 use Rattle.sy_board.specs.relay.Plans.{marks_at, parameters_at, queue_of_worker}
 use Rattle.sy_board.specs.relay.Steps.{Cause, Event, Out}
 use Rattle.sy_board.specs.relay.Totals.{Counts, counts_at, due_for, guarded_losses, in_queues, is_post, is_run_of, no_counts, with_due}
@@ -16,7 +16,7 @@ use Rattle.sy_board.specs.internal.Kept.{IsOrderly}
 use Rattle.sy_board.proofs.relay.AccountLaws.{total_set}
 use Rattle.sy_board.proofs.relay.Bounds.{all_first, all_later, due_for_few, left_of_few}
 use Rattle.sy_board.proofs.relay.Losses.{losses_of}
-use Rattle.sy_board.proofs.relay.Put.{set_same}
+use Rattle.sy_board.proofs.relay.SetCells.{set_same}
 
 -- what a worker's grab keeps, what is lost, and how many entries leave the queue
 abbrev pub kept_by : Plan → RelayState → ℕ → List Entry
@@ -32,8 +32,8 @@ count_by plan old worker = min (parameters_at plan (queue_of_worker plan worker)
 
 -- the state after it
 abbrev pub grabbed_state : Plan → RelayState → ℕ → RelayState
-grabbed_state plan old worker = put
-    (put old (Cell.Queue (queue_of_worker plan worker))
+grabbed_state plan old worker = set_cell
+    (set_cell old (Cell.Queue (queue_of_worker plan worker))
     (drop (parameters_at plan (queue_of_worker plan worker)).batch (at old (Cell.Queue (queue_of_worker plan worker)))))
     (Cell.Worker worker) (kept_by plan old worker)
 

@@ -52,22 +52,22 @@ marked_pair : (pairs : Pairs) (table : List Bool) (j : ℕ) (d : Class) → IsTa
     → IsTable (pairs ++ (j, d) ∷ []) (if below then set table (place j d) true else table)
 marked_pair pairs table j d is true below = record {
   size = length-set table (place j d) true ∙ is.size;
-  tells = λ i c l. elim (cases_eq (place j d) (place i c)) [
+  reports = λ i c l. elim (cases_eq (place j d) (place i c)) [
     | inl same ↦ (let there : place j d < length table = rw is.size (rw same (within i c l)) in
         ap (λ k. get_or (set table (place j d) true) k false) (sym same)
         ∙ get_or-set_same table (place j d) true false there
         ∙ sym (guards_more pairs j i d c ∙ ap (λ b. guards pairs i c || b) (pair_at i j c d same) ∙ or_true (guards pairs i c)))
     | inr apart ↦ get_or-set_other table (place j d) (place i c) true false (λ e. apart (sym e))
-        ∙ is.tells i c l
+        ∙ is.reports i c l
         ∙ sym (guards_more pairs j i d c ∙ ap (λ b. guards pairs i c || b) (no_pair i j c d apart) ∙ or_false (guards pairs i c))
   ];
 }
 marked_pair pairs table j d is false below = record {
   size = is.size;
-  tells = λ i c l.
+  reports = λ i c l.
       let above : 64 ≤ j = ltb-false j 64 below in
       let other : is_pair i c (j, d) ≡ false = and_left (j == i) _ (ne_eqb j i (omega arith)) in
-      is.tells i c l ∙ sym (guards_more pairs j i d c ∙ ap (λ b. guards pairs i c || b) other ∙ or_false (guards pairs i c));
+      is.reports i c l ∙ sym (guards_more pairs j i d c ∙ ap (λ b. guards pairs i c || b) other ∙ or_false (guards pairs i c));
 }
 
 -- one pair more
@@ -78,5 +78,5 @@ is_marked pairs table j d is = marked_pair pairs table j d is (nat_lt j 64) refl
 pub none_marked : IsTable [] (replicate 12288 false)
 none_marked = record {
   size = length-replicate 12288 false;
-  tells = λ i c l. get_or-replicate 12288 (place i c) false false (within i c l);
+  reports = λ i c l. get_or-replicate 12288 (place i c) false false (within i c l);
 }

@@ -198,9 +198,9 @@ module _ (plan : Plan) (guard : GuardState) (may : MayGuard plan guard) where
   queue_safe q e is good = elim good.place [
     | inl its ↦ subst (IsSafe e) its
         (flow_at plan e.input, clean_input plan spares e.message.class e.input (clean_at (Cell.Queue q) e is good))
-    | inr put ↦ subst (IsSafe e) put.into (
+    | inr set_cell ↦ subst (IsSafe e) set_cell.into (
       post_flow plan (queue_for plan e.list),
-      clean_posts plan spares e.message.class e.input (clean_at (Cell.Queue q) e is good) put.from put.number e.list put.follows put.does,
+      clean_posts plan spares e.message.class e.input (clean_at (Cell.Queue q) e is good) set_cell.from set_cell.number e.list set_cell.follows set_cell.does,
     )
   ]
 

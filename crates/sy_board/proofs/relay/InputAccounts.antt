@@ -3,7 +3,7 @@ use Rattle.std.proofs.Common.{◌≡◌, ℕ, ◌+◌, ◌*◌, ◌<◌, Bool, t
 use Rattle.std.specs.Prelude.{◌&&◌}
 use Rattle.sy_chain.specs.Entries.{Entry}
 use Rattle.sy_board.specs.relay.Boards.{Account, BoardState, account_of, guard_of, stepped}
-use Rattle.sy_board.specs.relay.Cells.{Cell, RelayState, at, hand, put}
+use Rattle.sy_board.specs.relay.Cells.{Cell, RelayState, at, hand, set_cell}
 use Rattle.sy_board.specs.relay.Plans.{queue_of_input}
 use Rattle.sy_board.specs.relay.Steps.{Cause, Enters, Event, Expires, IsHand, Out, Takes, if_so}
 use Rattle.sy_board.specs.relay.Totals.{Totals, in_hands, is_guarded}
@@ -52,7 +52,7 @@ account_enter old a o i h node new enters = subst (λ x. account_of (stepped old
     let f = ap length enters.leaves.held in
     let k = queue_of_input old.plan i in
     let there = input_queue_there old.plan old.state i o.whole o.shaped enters.leaves.there.0 in
-    let q = queue_sum (put old.state (hand i h) []) k (at old.state (Cell.Queue k) ++ node ∷ []) there in
+    let q = queue_sum (set_cell old.state (hand i h) []) k (at old.state (Cell.Queue k) ++ node ∷ []) there in
     let n = length-append (at old.state (Cell.Queue k)) (node ∷ []) in
     same_account _ _ _ _ _ _
     (ap (guarded_as old.totals) (zero old.totals.guarded_lost))

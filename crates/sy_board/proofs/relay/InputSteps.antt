@@ -12,7 +12,7 @@ use Rattle.sy_board.specs.declared.relay.board.Board.TheInside.{Inside}
 use Rattle.sy_board.specs.relay.Boards.{EnterFails, ExpireFails, Fits, account_of, guard_of, stepped}
 use Rattle.sy_board.specs.declared.fault.BoardFault.{BoardFault}
 use Rattle.sy_board.specs.declared.fault.BoardFault.TheVariants as fault
-use Rattle.sy_board.specs.relay.Cells.{Cell, RelayState, at, hand, put, waiting}
+use Rattle.sy_board.specs.relay.Cells.{Cell, RelayState, at, hand, set_cell, waiting}
 use Rattle.sy_board.specs.relay.Plans.{flow_at, marks_at, parameters_at, queue_of_input}
 use Rattle.sy_board.specs.relay.Steps.{Cause, Enters, Event, Expires, IsHand, IsOfInput, Out, Takes, if_so}
 use Rattle.sy_board.specs.relay.Totals.{is_guarded}
@@ -40,7 +40,7 @@ input_queue_seen b kept i there k q is read =
     queue_seen (board_inside b).plan (board_inside b).state b.queues.items (queue_of_input (board_inside b).plan i) q kept.marks refl (queue_in_table b kept i there) (rw is at read)
 
 abbrev pub taken_state : Inside → ℕ → ℕ → Entry → Bool → RelayState
-taken_state b i h node lost = if lost then (board_inside b).state else put (board_inside b).state (hand i h) (node ∷ [])
+taken_state b i h node lost = if lost then (board_inside b).state else set_cell (board_inside b).state (hand i h) (node ∷ [])
 
 abbrev pub taken_outs : Entry → Bool → List Out
 taken_outs node lost = if_so lost (Out.Lost Cause.Take node)
@@ -54,7 +54,7 @@ takes_seen : (b : Inside) → IsKept b → (i h : ℕ) (node : Entry) → IsHand
     → (x : Option Entry) → x ≡ get_or b.hands.items (64 * i + h) x → is_some x ≡ false
     → (q : QueueState) → IsQueue (board_inside b).plan (board_inside b).state (queue_of_input (board_inside b).plan i) q
     → (lost : Bool) → lost ≡ discards q.marks node.message.class.severity (length q.entries)
-    → Takes (board_inside b).plan (board_inside b).state i h node lost (if lost then (board_inside b).state else put (board_inside b).state (hand i h) (node ∷ []))
+    → Takes (board_inside b).plan (board_inside b).state i h node lost (if lost then (board_inside b).state else set_cell (board_inside b).state (hand i h) (node ∷ []))
 takes_seen b kept i h node there made x read none q queue lost is = record {
   there = there;
   made = made;
@@ -67,9 +67,9 @@ pub take_seen : (b : Inside) → IsKept b → (i h : ℕ) (node : Entry) → IsH
     → (x : Option Entry) → x ≡ get_or b.hands.items (64 * i + h) x → is_some x ≡ false
     → (q : QueueState) → IsQueue (board_inside b).plan (board_inside b).state (queue_of_input (board_inside b).plan i) q
     → (lost guarded : Bool) → lost ≡ discards q.marks node.message.class.severity (length q.entries) → guarded ≡ (lost && is_guarded (board_inside b).plan (guard_of (board_inside b)) node)
-    → TakeSeen b i h node lost guarded (if lost then (board_inside b).state else put (board_inside b).state (hand i h) (node ∷ []))
+    → TakeSeen b i h node lost guarded (if lost then (board_inside b).state else set_cell (board_inside b).state (hand i h) (node ∷ []))
 take_seen b kept i h node there made x read none q queue lost guarded is g =
-    let new = if lost then (board_inside b).state else put (board_inside b).state (hand i h) (node ∷ []) in
+    let new = if lost then (board_inside b).state else set_cell (board_inside b).state (hand i h) (node ∷ []) in
     let takes = takes_seen b kept i h node there made x read none q queue lost is in
     let more = lost && is_guarded (board_inside b).plan (guard_of (board_inside b)) node in
     record {
@@ -87,7 +87,7 @@ some_in None n = cc
 some_in (Some node) n = (node, refl)
 
 abbrev pub entered_state : Inside → ℕ → ℕ → Option Entry → RelayState
-entered_state b i h x = put (put (board_inside b).state (hand i h) [])
+entered_state b i h x = set_cell (set_cell (board_inside b).state (hand i h) [])
     (Cell.Queue (queue_of_input (board_inside b).plan i)) (at (board_inside b).state (Cell.Queue (queue_of_input (board_inside b).plan i)) ++ option_to_list x)
 
 -- nothing holds the message, or the light-delay mark alone
@@ -155,7 +155,7 @@ bring_fails b i h x seen fault.NotExpired is = absurd is
 -- ---- expire
 
 abbrev pub expired_state : Inside → ℕ → ℕ → RelayState
-expired_state b i h = put (board_inside b).state (hand i h) []
+expired_state b i h = set_cell (board_inside b).state (hand i h) []
 
 full_if : (plan : Plan) (state : RelayState) (i : ℕ) (h : Hold) → HoldIs h (flow_at plan i) (marks_at plan (queue_of_input plan i)) (waiting state (queue_of_input plan i))
     → true ≡ is_expiring h → (is_delayed (flow_at plan i) (marks_at plan (queue_of_input plan i)) (waiting state (queue_of_input plan i)) ≡ false)

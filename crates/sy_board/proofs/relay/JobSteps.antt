@@ -24,7 +24,7 @@ use Rattle.sy_board.specs.internal.Counting.{after_done, after_give_up}
 use Rattle.sy_board.specs.internal.Jobs.{HasNextRun, IsNext, IsNextOf, RunFails, advanced_entries}
 use Rattle.sy_board.specs.internal.Kept.{IsKept, board_inside, state_inside}
 use Rattle.sy_board.proofs.relay.JobAccounts.{board_after, done_account, fail_account, give_up_account, kept_after}
-use Rattle.sy_board.proofs.relay.Put.{set_same}
+use Rattle.sy_board.proofs.relay.SetCells.{set_same}
 use Rattle.sy_board.proofs.relay.Slots.{IsSlot, advanced_state, failed_state, job_of, next_of_job, slot_entries, slot_failures, slot_of, with_worker}
 
 -- ---- what a method found, and what it made of it
@@ -61,9 +61,9 @@ pub record IsRun (b : Inside) (w : ℕ) (slot : Worker) (device : ℕ) (message 
 pub run_as : (b : Inside) (old : BoardState) (w : ℕ) (slot : Worker) (plan : Plan) (device d : ℕ) (message m : Said) (left : ℕ) → board_inside b ≡ old → IsKept b
     → w < length old.plan.workers → slot ≡ get_or b.workers.items w slot → plan ≡ arc_value b.plan → d ≡ device → m ≡ message
     → IsNextOf plan slot.entries d m left → IsRun b w slot device message left
-run_as b old w slot plan device d message m left view kept there read same from told is =
+run_as b old w slot plan device d message m left view kept there read same from reported is =
     let next : IsNextOf (arc_value b.plan) slot.entries device message left =
-    subst (λ (x : Said). IsNextOf (arc_value b.plan) slot.entries device x left) told
+    subst (λ (x : Said). IsNextOf (arc_value b.plan) slot.entries device x left) reported
     (subst (λ (x : ℕ). IsNextOf (arc_value b.plan) slot.entries x m left) from (subst (λ (p : Plan). IsNextOf p slot.entries d m left) same is)) in
     record { turn = record { kept = kept; is = slot_in b old w slot view kept there read; next = next.next }; its = next.its }
 
@@ -82,8 +82,8 @@ has_run b w slot is (action, left, next) = (action, job_of b w slot (occurrence.
 
 run_fails : (why : BoardFault) (b : Inside) (w : ℕ) (slot : Worker) (plan : Plan) (device d : ℕ) (message m : Said) → IsSlot b w slot → plan ≡ arc_value b.plan → d ≡ device
     → m ≡ message → RunFails why plan slot.entries d m → RunFails why (arc_value b.plan) slot.entries device message
-run_fails why b w slot plan device d message m is same from told fails =
-    subst (λ (x : Said). RunFails why (arc_value b.plan) slot.entries device x) told
+run_fails why b w slot plan device d message m is same from reported fails =
+    subst (λ (x : Said). RunFails why (arc_value b.plan) slot.entries device x) reported
     (subst (λ (x : ℕ). RunFails why (arc_value b.plan) slot.entries x m) from (subst (λ (p : Plan). RunFails why p slot.entries d m) same fails))
 
 settle_fails_by : (why : BoardFault) (b : Inside) (w : ℕ) (slot : Worker) (receipt : Delivered) → IsSlot b w slot
@@ -110,13 +110,13 @@ fail_fails_by fault.NotExpired b w slot failure is fails = absurd fails
 
 pub settle_fails : (why : BoardFault) (b : Inside) (w : ℕ) (slot : Worker) (plan : Plan) (receipt : Delivered) (d : ℕ) (m : Said) → IsSlot b w slot → plan ≡ arc_value b.plan
     → d ≡ receipt.device → m ≡ receipt.message → RunFails why plan slot.entries d m → SettleFails why (board_inside b) w receipt
-settle_fails why b w slot plan receipt d m is same from told fails =
-    settle_fails_by why b w slot receipt is (run_fails why b w slot plan receipt.device d receipt.message m is same from told fails)
+settle_fails why b w slot plan receipt d m is same from reported fails =
+    settle_fails_by why b w slot receipt is (run_fails why b w slot plan receipt.device d receipt.message m is same from reported fails)
 
 pub fail_fails : (why : BoardFault) (b : Inside) (w : ℕ) (slot : Worker) (plan : Plan) (failure : Refused) (d : ℕ) (m : Said) → IsSlot b w slot → plan ≡ arc_value b.plan
     → d ≡ failure.device → m ≡ failure.message → RunFails why plan slot.entries d m → FailFails why (board_inside b) w failure
-fail_fails why b w slot plan failure d m is same from told fails =
-    fail_fails_by why b w slot failure is (run_fails why b w slot plan failure.device d failure.message m is same from told fails)
+fail_fails why b w slot plan failure d m is same from reported fails =
+    fail_fails_by why b w slot failure is (run_fails why b w slot plan failure.device d failure.message m is same from reported fails)
 
 -- nothing was offered
 pub not_offered : (b : Inside) (w : ℕ) (slot : Worker) (failure : Refused) (left : ℕ) → IsRun b w slot failure.device failure.message left
@@ -130,10 +130,10 @@ pub front_is : (plan : Plan) (es : List Entry) (o : Occurrence) (left : ℕ) (no
 front_is plan es o left node next read = read ∙ ap (λ (xs : List Entry). get_or xs 0 node) next.held
 
 -- what a job tells of the entry that was read
-pub told : (b : Inside) (w : ℕ) (slot : Worker) (o : Occurrence) (left : ℕ) (turn : IsTurn b w slot o left) (node : Entry) (said : Said) (input tag : ℕ) → node ≡ get_or slot.entries 0 node
+pub reported : (b : Inside) (w : ℕ) (slot : Worker) (o : Occurrence) (left : ℕ) (turn : IsTurn b w slot o left) (node : Entry) (said : Said) (input tag : ℕ) → node ≡ get_or slot.entries 0 node
     → said ≡ node.message → input ≡ node.input → tag ≡ node.tag
     → (is : Job (arc_value b.plan) (state_inside b) w o) × (said ≡ is.entry.message) × (input ≡ is.entry.input) × (tag ≡ is.entry.tag)
-told b w slot o left turn node said input tag read message from tagged =
+reported b w slot o left turn node said input tag read message from tagged =
     let same = front_is (arc_value b.plan) slot.entries o left node turn.next read in
     (job_of b w slot o left turn.is turn.next, message ∙ ap (λ (e : Entry). e.message) same, from ∙ ap (λ (e : Entry). e.input) same, tagged ∙ ap (λ (e : Entry). e.tag) same)
 

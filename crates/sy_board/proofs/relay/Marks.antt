@@ -11,11 +11,11 @@ use Rattle.sy_rules.specs.declared.lists.occurrence.Occurrence.TheVariants as oc
 use Rattle.sy_rules.specs.PlanValue.{Plan}
 use Rattle.sy_rules.specs.Whole.{queue_for}
 use Rattle.sy_board.specs.relay.Cells as cells
-use Rattle.sy_board.specs.relay.Cells.{Cell, RelayState, at, put, hand, waiting}
+use Rattle.sy_board.specs.relay.Cells.{Cell, RelayState, at, set_cell, hand, waiting}
 use Rattle.sy_board.specs.relay.Feeders.{Feeder, OnlyFullDelay}
 use Rattle.sy_board.specs.relay.Plans.{flow_at, marks_at, parameters_at, post_flow, queue_of_input, queue_of_worker}
 use Rattle.sy_board.specs.relay.Steps.{Event, HasRoom, Job, Out, Step, advanced, still}
-use Rattle.sy_board.proofs.relay.Put.{put_elim, if_elim}
+use Rattle.sy_board.proofs.relay.SetCells.{set_cell_elim, if_elim}
 
 -- what the mark doesn't hold
 pub not_delayed : (f : Flow) (marks : Marks) (n : ℕ) → f ≡ flow.Full → 1 ≤ marks.full_delay_mark → is_delayed f marks n ≡ false
@@ -42,28 +42,28 @@ module _ (plan : Plan) where
   InMarks state = (c : Cell) → MarkAt c (at state c)
 
   advanced_marks : (old : RelayState) (w : ℕ) (o : Occurrence) → InMarks old → (job : Job plan old w o) → InMarks (advanced plan old w o job)
-  advanced_marks old w o a job c = put_elim MarkAt old (Cell.Worker w) (still job.entry job.left job.others) tt a c
+  advanced_marks old w o a job c = set_cell_elim MarkAt old (Cell.Worker w) (still job.entry job.left job.others) tt a c
 
   pub marks_step : (old : RelayState) (e : Event) (new : RelayState) (outs : List Out) → InMarks old → Step plan old e new outs → InMarks new
   marks_step old (Event.Take i h node) new outs a (lost, takes, is) =
       subst InMarks (sym takes.after)
-      (if_elim InMarks lost old (put old (hand i h) (node ∷ [])) (λ t. a) (λ t. put_elim MarkAt old (hand i h) (node ∷ []) tt a))
+      (if_elim InMarks lost old (set_cell old (hand i h) (node ∷ [])) (λ t. a) (λ t. set_cell_elim MarkAt old (hand i h) (node ∷ []) tt a))
   marks_step old (Event.Enter i h) new outs a (node, enters, is) =
       let q = queue_of_input plan i in
       subst InMarks (sym enters.after)
-      (put_elim MarkAt (put old (hand i h) []) (Cell.Queue q) (at old (Cell.Queue q) ++ node ∷ [])
+      (set_cell_elim MarkAt (set_cell old (hand i h) []) (Cell.Queue q) (at old (Cell.Queue q) ++ node ∷ [])
       (λ only mark.
       let below = not_delayed (flow_at plan i) (marks_at plan q) (waiting old q)
       (only (Feeder.Input i) (enters.leaves.there.0, refl)) mark enters.leaves.not_held in
       omega (arith, length-append (at old (Cell.Queue q)) (node ∷ [])))
-      (put_elim MarkAt old (hand i h) [] tt a))
-  marks_step old (Event.Expire i h) new outs a (node, expires, is) = subst InMarks (sym expires.after) (put_elim MarkAt old (hand i h) [] tt a)
+      (set_cell_elim MarkAt old (hand i h) [] tt a))
+  marks_step old (Event.Expire i h) new outs a (node, expires, is) = subst InMarks (sym expires.after) (set_cell_elim MarkAt old (hand i h) [] tt a)
   marks_step old (Event.Grab w) new outs a (lost, grabs, is) =
       let q = queue_of_worker plan w in
       let n = (parameters_at plan q).batch in
       subst InMarks (sym grabs.after)
-      (put_elim MarkAt (put old (Cell.Queue q) (drop n (at old (Cell.Queue q)))) (Cell.Worker w) _ tt
-      (put_elim MarkAt old (Cell.Queue q) (drop n (at old (Cell.Queue q)))
+      (set_cell_elim MarkAt (set_cell old (Cell.Queue q) (drop n (at old (Cell.Queue q)))) (Cell.Worker w) _ tt
+      (set_cell_elim MarkAt old (Cell.Queue q) (drop n (at old (Cell.Queue q)))
       (λ only mark. let m = a (Cell.Queue q) only mark in omega (arith, length-drop n (at old (Cell.Queue q)))) a))
   marks_step old (Event.Done w) new outs a (x, e, does, is) = subst InMarks (sym does.after) (advanced_marks old w _ a does.job)
   marks_step old (Event.Fail w took) new outs a (x, e, fails, is) = subst InMarks (sym fails.after) a
@@ -72,7 +72,7 @@ module _ (plan : Plan) where
       let b = advanced_marks old w (occurrence.Post l) a posts.job in
       subst InMarks (sym posts.after)
       (if_elim InMarks lost (advanced plan old w (occurrence.Post l) posts.job) _ (λ t. b)
-      (λ t. put_elim MarkAt (advanced plan old w (occurrence.Post l) posts.job) (Cell.Queue (queue_for plan l)) _
+      (λ t. set_cell_elim MarkAt (advanced plan old w (occurrence.Post l) posts.job) (Cell.Queue (queue_for plan l)) _
       (λ only mark.
       let q = queue_for plan l in
       let room = has_room plan old l lost posts.room t in

@@ -12,7 +12,7 @@ use Rattle.sy_rules.specs.lists.Sets.{Bits, IsLowest}
 use Rattle.sy_rules.specs.PlanValue.{Plan}
 use Rattle.sy_rules.specs.Whole.{queue_for}
 use Rattle.sy_rules.proofs.lemmas.lists.Lowest.{one_left}
-use Rattle.sy_board.specs.relay.Cells.{Cell, RelayState, at, failures_at, hand, put, put_failures, waiting}
+use Rattle.sy_board.specs.relay.Cells.{Cell, RelayState, at, failures_at, hand, set_cell, set_failures, waiting}
 use Rattle.sy_board.specs.relay.Plans.{IsDue, input_at, marks_at, queue_of_input, retry_at}
 use Rattle.sy_board.specs.relay.Steps.{Cause, Event, IsOfInput, IsPosted, Job, Out, Step, advanced, if_so, one_more, still}
 use Rattle.sy_board.proofs.relay.Patience.{one_job}
@@ -44,7 +44,7 @@ one_entry : (plan : Plan) (state : RelayState) (w : ℕ) (a b : Occurrence) (j :
 one_entry plan state w a b j k = first_same j.entry k.entry j.others k.others (sym j.held ∙ k.held)
 
 abbrev moved_on : RelayState → ℕ → Entry → ℕ → List Entry → RelayState
-moved_on state w e left others = put_failures (put state (Cell.Worker w) (still e left others)) w 0
+moved_on state w e left others = set_failures (set_cell state (Cell.Worker w) (still e left others)) w 0
 
 one_advance : (plan : Plan) (state : RelayState) (w : ℕ) (a b : Occurrence) (j : Job plan state w a) (k : Job plan state w b) → advanced plan state w a j ≡ advanced plan state w b k
 one_advance plan state w a b j k =
@@ -90,17 +90,17 @@ jobs_same plan state w a b j k =
 
 abbrev posted_state : Plan → RelayState → RelayState → ℕ → Entry → Bool → RelayState
 posted_state plan old moved l node lost =
-    if lost then moved else put moved (Cell.Queue (queue_for plan l)) (at old (Cell.Queue (queue_for plan l)) ++ node ∷ [])
+    if lost then moved else set_cell moved (Cell.Queue (queue_for plan l)) (at old (Cell.Queue (queue_for plan l)) ++ node ∷ [])
 
 pub one_step : (plan : Plan) (old : RelayState) (event : Event) (a b : RelayState) (outs others : List Out) → Step plan old event a outs → Step plan old event b others → Both a b outs others
 one_step plan old (Event.Take i h node) a b outs others (x, s, o) (y, t, p) =
     let same : x ≡ y = sym s.discarded ∙ t.discarded in (
-      s.after ∙ ap (λ (z : Bool). if z then old else put old (hand i h) (node ∷ [])) same ∙ sym t.after,
+      s.after ∙ ap (λ (z : Bool). if z then old else set_cell old (hand i h) (node ∷ [])) same ∙ sym t.after,
       o ∙ ap (λ (z : Bool). if_so z (Out.Lost Cause.Take node)) same ∙ sym p,
     )
 one_step plan old (Event.Enter i h) a b outs others (x, s, o) (y, t, p) =
     let same : x ≡ y = one_held (at old (hand i h)) x y s.leaves.held t.leaves.held in (
-      s.after ∙ ap (λ (z : Entry). put (put old (hand i h) []) (Cell.Queue (queue_of_input plan i)) (at old (Cell.Queue (queue_of_input plan i)) ++ z ∷ [])) same ∙ sym t.after,
+      s.after ∙ ap (λ (z : Entry). set_cell (set_cell old (hand i h) []) (Cell.Queue (queue_of_input plan i)) (at old (Cell.Queue (queue_of_input plan i)) ++ z ∷ [])) same ∙ sym t.after,
       o ∙ sym p,
     )
 one_step plan old (Event.Expire i h) a b outs others (x, s, o) (y, t, p) =
@@ -117,7 +117,7 @@ one_step plan old (Event.Done w) a b outs others (x, e, s, o) (y, f, t, p) =
 one_step plan old (Event.Fail w took) a b outs others (x, e, s, o) (y, f, t, p) =
     let run : x ≡ y = same_run x y (one_job plan old w _ _ s.job t.job) in
     let entry : e ≡ f = sym s.its ∙ one_entry plan old w _ _ s.job t.job ∙ t.its in (
-      s.after ∙ ap (λ (z : ℕ). put_failures old w (one_more (retry_at plan z) (failures_at old w))) run ∙ sym t.after,
+      s.after ∙ ap (λ (z : ℕ). set_failures old w (one_more (retry_at plan z) (failures_at old w))) run ∙ sym t.after,
       o ∙ ap (λ (z : ℕ). if_so took (Out.Passed z e)) run ∙ ap (λ (z : Entry). if_so took (Out.Passed y z)) entry ∙ sym p,
     )
 one_step plan old (Event.GiveUp w took) a b outs others (x, e, s, o) (y, f, t, p) =

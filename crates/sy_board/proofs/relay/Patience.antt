@@ -9,13 +9,13 @@ use Rattle.sy_rules.specs.PlanValue.{Plan}
 use Rattle.sy_rules.specs.Whole.{queue_for}
 use Rattle.sy_rules.specs.lists.Sets.{IsLowest}
 use Rattle.sy_rules.proofs.lemmas.lists.Lowest.{one_lowest}
-use Rattle.sy_board.specs.relay.Cells.{Cell, RelayState, at, failures_at, put, put_failures}
+use Rattle.sy_board.specs.relay.Cells.{Cell, RelayState, at, failures_at, set_cell, set_failures}
 use Rattle.sy_board.specs.relay.Moves.{IsLeftAlone, worker_of}
 use Rattle.sy_board.specs.relay.Patience.{IsPatient}
 use Rattle.sy_board.specs.relay.Plans.{occurrences_at, retry_at}
 use Rattle.sy_board.specs.relay.Steps.{Event, Fails, Job, MayTry, Out, Step, advanced, one_more}
 use Rattle.sy_board.proofs.relay.Lengths.{alone_step}
-use Rattle.sy_board.proofs.relay.Put.{if_elim, set_elim}
+use Rattle.sy_board.proofs.relay.SetCells.{if_elim, set_elim}
 
 -- ---- a worker has one job
 
@@ -98,7 +98,7 @@ failed plan old w a e new patient fails = subst (λ (s : RelayState). IsPatientA
     not_idle : (first : Entry) (others : List Entry) → at old (Cell.Worker w) ≡ first ∷ others → at old (Cell.Worker w) ≡ [] → ⊥
     not_idle first others held none = cc
 
-    as_before : {action : ℕ} → Job plan (put_failures old w (one_more (retry_at plan a) (failures_at old w))) w (occurrence.Run action) → Job plan old w (occurrence.Run action)
+    as_before : {action : ℕ} → Job plan (set_failures old w (one_more (retry_at plan a) (failures_at old w))) w (occurrence.Run action) → Job plan old w (occurrence.Run action)
     as_before job = record {
       there = job.there;
       entry = job.entry;
@@ -132,7 +132,7 @@ patient_at plan old (Event.GiveUp w took) new outs patient (a, e, gives, is) v i
 patient_at plan old (Event.Post w) new outs patient (l, node, lost, posts, is) v its =
     subst (IsPatientAt plan new) (same_worker w v its) (subst (λ (s : RelayState). IsPatientAt plan s w) (sym posts.after)
     (if_elim (λ (s : RelayState). IsPatientAt plan s w) lost (advanced plan old w _ posts.job)
-    (put (advanced plan old w _ posts.job) (Cell.Queue (queue_for plan l)) (at old (Cell.Queue (queue_for plan l)) ++ node ∷ []))
+    (set_cell (advanced plan old w _ posts.job) (Cell.Queue (queue_for plan l)) (at old (Cell.Queue (queue_for plan l)) ++ node ∷ []))
     (λ t. advances plan old w _ posts.job) (λ t. none_failed plan _ w (zeroed old.failures w))))
 patient_at plan old (Event.PostLost w no_memory) new outs patient (l, e, loses, is) v its =
     subst (IsPatientAt plan new) (same_worker w v its) (subst (λ (s : RelayState). IsPatientAt plan s w) (sym loses.after) (advances plan old w _ loses.job))

@@ -21,7 +21,7 @@ use Rattle.sy_board.specs.declared.relay.answers.Posted.TheVariants as posted
 use Rattle.sy_board.specs.declared.relay.board.Board.TheInside.{Inside}
 use Rattle.sy_board.specs.declared.relay.board.Worker.{Worker}
 use Rattle.sy_board.specs.relay.Boards.{Account, BoardState, Fits, HasNoPost, IsForPost, PostFails, PostIs, PostLostFails, PostLostIs, account_of, guard_of, is_no_memory, stepped}
-use Rattle.sy_board.specs.relay.Cells.{Cell, RelayState, at, put, waiting}
+use Rattle.sy_board.specs.relay.Cells.{Cell, RelayState, at, set_cell, waiting}
 use Rattle.sy_board.specs.relay.Plans.{marks_at, post_flow}
 use Rattle.sy_board.specs.relay.Steps.{Cause, Event, HasRoom, Job, LosesPost, MayBeLost, Out, Posts, advanced}
 use Rattle.sy_board.specs.relay.Totals.{Totals, is_guarded_loss}
@@ -187,7 +187,7 @@ module _ {b : Inside} {w list left : ℕ} {slot : Worker} (turn : IsTurn b w slo
 
     module _ {node : Entry} (made : IsForPost board w node) where
       abbrev grown : RelayState
-      grown = put moved (Cell.Queue (queue_for plan list)) (at old (Cell.Queue (queue_for plan list)) ++ node ∷ [])
+      grown = set_cell moved (Cell.Queue (queue_for plan list)) (at old (Cell.Queue (queue_for plan list)) ++ node ∷ [])
 
       posts : discards queue.marks node.message.class.severity (length queue.entries) ≡ false → IsFree → Posts plan old w list node false grown
       posts stays room = record {
@@ -222,23 +222,23 @@ module _ {b : Inside} {w list left : ℕ} {slot : Worker} (turn : IsTurn b w slo
           grown_state : state_inside after ≡ grown
           grown_state =
               ap (λ (es : List (List Entry)). record (state_inside (with_worker b w worker account)) { queues = es }) (map-set (λ (x : QueueState). x.entries) b.queues.items q new)
-              ∙ ap (λ (s : RelayState). put s (Cell.Queue q) new.entries) (moved_state worker account on)
-              ∙ ap (λ (k : ℕ). put moved (Cell.Queue k) new.entries) is.number
-              ∙ ap (put moved (Cell.Queue (queue_for plan list))) (ap (λ (x : QueueState). x.entries) longer ∙ ap (λ (es : List Entry). es ++ node ∷ []) is.entries)
+              ∙ ap (λ (s : RelayState). set_cell s (Cell.Queue q) new.entries) (moved_state worker account on)
+              ∙ ap (λ (k : ℕ). set_cell moved (Cell.Queue k) new.entries) is.number
+              ∙ ap (set_cell moved (Cell.Queue (queue_for plan list))) (ap (λ (x : QueueState). x.entries) longer ∙ ap (λ (es : List Entry). es ++ node ∷ []) is.entries)
 
-          puts : Posts plan old w list node false (state_inside after)
-          puts = subst (Posts plan old w list node false) (sym grown_state) (posts stays room)
+          sets_cells : Posts plan old w list node false (state_inside after)
+          sets_cells = subst (Posts plan old w list node false) (sym grown_state) (posts stays room)
 
           account_after : account ≡ account_of (stepped board (Event.Post w) (state_inside after) [])
           account_after =
               let o = turn.kept.orderly in
-              counted ∙ ap after_post o.counted ∙ sym (account_post board w list node (state_inside after) o.whole o.shaped puts)
+              counted ∙ ap after_post o.counted ∙ sym (account_post board w list node (state_inside after) o.whole o.shaped sets_cells)
 
           board_is : board_inside after ≡ stepped board (Event.Post w) (state_inside after) []
           board_is = ap (λ (t : Totals). record (board_inside after) { totals = t }) (ap (λ (x : Account). x.totals) account_after)
 
           pub post_done : PostIs posted.Done board w node (board_inside after)
-          post_done = (list, puts, board_is)
+          post_done = (list, sets_cells, board_is)
 
           pub post_done_kept : IsKept after
           post_done_kept = record {
@@ -248,7 +248,7 @@ module _ {b : Inside} {w list left : ℕ} {slot : Worker} (turn : IsTurn b w slo
                 ∙ ap (map marks) (back b.queues.items q queue is.read) ∙ turn.kept.marks;
             orderly =
                 let before = subst (IsOrderly board) turn.kept.orderly.counted turn.kept.orderly in
-                let next = orderly_step board before (Event.Post w) (state_inside after) [] (list, node, false, puts, refl) in
+                let next = orderly_step board before (Event.Post w) (state_inside after) [] (list, node, false, sets_cells, refl) in
                 subst (λ x. IsOrderly x account) (sym board_is) (subst (IsOrderly (stepped board (Event.Post w) (state_inside after) [])) (sym account_after) next);
           }
 

@@ -9,7 +9,7 @@ use Rattle.sy_board.specs.relay.Cells.{Cell, IsShaped, RelayState, at}
 use Rattle.sy_board.specs.relay.Runs.{AreRuns, BeginsWith}
 use Rattle.sy_board.specs.relay.Steps.{Job, Settles, still}
 use Rattle.sy_board.proofs.relay.Outcomes.{jobs_same}
-use Rattle.sy_board.proofs.relay.Put.{set_same}
+use Rattle.sy_board.proofs.relay.SetCells.{set_same}
 
 tail_is : (a b : Entry) (more others : List Entry) → a ∷ more ≡ b ∷ others → more ≡ others
 tail_is a b more others e = cc

@@ -8,7 +8,7 @@ use Rattle.sy_rules.specs.declared.lists.occurrence.Occurrence.{Occurrence}
 use Rattle.sy_board.specs.declared.relay.board.Board.TheInside.{Inside}
 use Rattle.sy_board.specs.declared.relay.board.Worker.{Worker}
 use Rattle.sy_board.specs.relay.Boards.{Account}
-use Rattle.sy_board.specs.relay.Cells.{Cell, RelayState, at, failures_at, put_failures}
+use Rattle.sy_board.specs.relay.Cells.{Cell, RelayState, at, failures_at, set_failures}
 use Rattle.sy_board.specs.relay.Steps.{Job, advanced}
 use Rattle.sy_board.specs.internal.Jobs.{HasNext, IsNext, advanced_entries}
 use Rattle.sy_board.specs.internal.Kept.{IsKept, state_inside}
@@ -90,7 +90,7 @@ set_back (y ∷ xs) (ℕ.suc k) x d e = ap (λ z. y ∷ z) (set_back xs k x d e)
 
 -- the same entries, and so many failures
 pub failed_state : (b : Inside) (w : ℕ) (slot new : Worker) (count : ℕ) (a : Account) → IsSlot b w slot → new.entries ≡ slot.entries → new.failures ≡ count
-    → state_inside (with_worker b w new a) ≡ put_failures (state_inside b) w count
+    → state_inside (with_worker b w new a) ≡ set_failures (state_inside b) w count
 failed_state b w slot new count a is entries failures = same_state _ _ _ _ _ _
     (map-set (λ (x : Worker). x.entries) b.workers.items w new
     ∙ set_back (map (λ (x : Worker). x.entries) b.workers.items) w new.entries [] (slot_entries b w slot is ∙ sym entries))

@@ -3,7 +3,7 @@ use Rattle.std.proofs.Common.{◌≡◌, ℕ, ◌+◌, ◌-◌, ◌<◌, ◌≤�
 use Rattle.std.specs.Prelude.{◌≢◌, OnErr, slice_get}
 use Rattle.std.proofs.lemmas.List.{get_or-map, map-set, length-map, get_or_past, get_or-set_same, set_past}
 use Rattle.std.proofs.lemmas.List.Elements.{All-get_or}
-use Rattle.sy_board.proofs.relay.Put.{set_length}
+use Rattle.sy_board.proofs.relay.SetCells.{set_length}
 use Rattle.std.proofs.lemmas.Bool.{cases_lt, eq-eqb, ne_eqb}
 use Rattle.sy_board.specs.declared.relay.accounts.ActionCounts.{ActionCounts}
 use Rattle.sy_board.specs.relay.Boards.{Account, Fits, Is64}

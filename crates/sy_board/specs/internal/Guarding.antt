@@ -16,4 +16,4 @@ marked table input class = if nat_lt input 64 then slice_set table (place input 
 -- it tells of each input below 64 and each class whether it is among the pairs
 pub record IsTable (pairs : Pairs) (table : List Bool) : Type 0 where
   pub size : length table ≡ 12288
-  pub tells : (input : ℕ) (class : Class) → input < 64 → slice_index_or table (place input class) false ≡ guards pairs input class
+  pub reports : (input : ℕ) (class : Class) → input < 64 → slice_index_or table (place input class) false ≡ guards pairs input class

@@ -29,10 +29,10 @@ at part (Cell.Queue k) = slice_index_or part.queues k []
 at part (Cell.Worker k) = slice_index_or part.workers k []
 
 -- the same, but these entries at that place
-abbrev pub put : RelayState → Cell → List Entry → RelayState
-put part (Cell.Hand k) entries = record part { hands = slice_set part.hands k entries }
-put part (Cell.Queue k) entries = record part { queues = slice_set part.queues k entries }
-put part (Cell.Worker k) entries = record part { workers = slice_set part.workers k entries }
+abbrev pub set_cell : RelayState → Cell → List Entry → RelayState
+set_cell part (Cell.Hand k) entries = record part { hands = slice_set part.hands k entries }
+set_cell part (Cell.Queue k) entries = record part { queues = slice_set part.queues k entries }
+set_cell part (Cell.Worker k) entries = record part { workers = slice_set part.workers k entries }
 
 abbrev pub failures_at : RelayState → ℕ → ℕ
 failures_at part worker = slice_index_or part.failures worker 0
@@ -46,8 +46,8 @@ first_list (e ∷ later) = Some e.list
 abbrev pub followed_at : RelayState → ℕ → Option ℕ
 followed_at part worker = first_list (at part (Cell.Worker worker))
 
-abbrev pub put_failures : RelayState → ℕ → ℕ → RelayState
-put_failures part worker count = record part { failures = slice_set part.failures worker count }
+abbrev pub set_failures : RelayState → ℕ → ℕ → RelayState
+set_failures part worker count = record part { failures = slice_set part.failures worker count }
 
 -- a hand of an input
 abbrev pub hand : ℕ → ℕ → Cell

@@ -10,7 +10,7 @@ use Rattle.sy_marks.specs.Marks.{discards, is_delayed, kept_of, lost_of}
 use Rattle.sy_rules.specs.lists.Sets.{IsLowest}
 use Rattle.sy_rules.specs.Whole.{queue_for}
 use Rattle.sy_rules.specs.PlanValue.{Plan}
-use Rattle.sy_board.specs.relay.Cells.{Cell, RelayState, at, put, failures_at, put_failures, hand, waiting}
+use Rattle.sy_board.specs.relay.Cells.{Cell, RelayState, at, set_cell, failures_at, set_failures, hand, waiting}
 use Rattle.sy_board.specs.relay.Plans.{IsDue, flow_at, input_at, marks_at, occurrences_at, parameters_at, post_flow, queue_of_input, queue_of_worker, retry_at}
 
 -- ---- a message comes in
@@ -32,7 +32,7 @@ pub record Takes (plan : Plan) (old : RelayState) (input number : ℕ) (node : E
   pub free : at old (hand input number) ≡ []
   pub discarded :
       discards (marks_at plan (queue_of_input plan input)) node.message.class.severity (waiting old (queue_of_input plan input)) ≡ lost
-  pub after : new ≡ if lost then old else put old (hand input number) (node ∷ [])
+  pub after : new ≡ if lost then old else set_cell old (hand input number) (node ∷ [])
 
 -- A hand's entry may leave where the full-delay mark doesn't hold it (queue.fullDelayMark).
 pub record MayLeave (plan : Plan) (old : RelayState) (input number : ℕ) (node : Entry) : Type 0 where
@@ -45,14 +45,14 @@ pub record MayLeave (plan : Plan) (old : RelayState) (input number : ℕ) (node 
 pub record Enters (plan : Plan) (old : RelayState) (input number : ℕ) (node : Entry) (new : RelayState) : Type 0 where
   pub leaves : MayLeave plan old input number node
   pub room : waiting old (queue_of_input plan input) < (parameters_at plan (queue_of_input plan input)).size
-  pub after : new ≡ put (put old (hand input number) [])
+  pub after : new ≡ set_cell (set_cell old (hand input number) [])
       (Cell.Queue (queue_of_input plan input)) (at old (Cell.Queue (queue_of_input plan input)) ++ node ∷ [])
 
 -- Expire: a hand's entry, which the full-delay mark doesn't hold, is lost, since the input's queue is full (queue.timeoutEnqueue).
 pub record Expires (plan : Plan) (old : RelayState) (input number : ℕ) (node : Entry) (new : RelayState) : Type 0 where
   pub leaves : MayLeave plan old input number node
   pub full : (parameters_at plan (queue_of_input plan input)).size ≤ waiting old (queue_of_input plan input)
-  pub after : new ≡ put old (hand input number) []
+  pub after : new ≡ set_cell old (hand input number) []
 
 -- ---- a worker takes entries
 
@@ -64,8 +64,8 @@ pub record Grabs (plan : Plan) (old : RelayState) (worker : ℕ) (lost : List En
   pub some : 0 < waiting old (queue_of_worker plan worker)
   pub lost_are : lost ≡ lost_of (marks_at plan (queue_of_worker plan worker))
       (parameters_at plan (queue_of_worker plan worker)).batch (at old (Cell.Queue (queue_of_worker plan worker)))
-  pub after : new ≡ put
-      (put old (Cell.Queue (queue_of_worker plan worker))
+  pub after : new ≡ set_cell
+      (set_cell old (Cell.Queue (queue_of_worker plan worker))
       (drop (parameters_at plan (queue_of_worker plan worker)).batch (at old (Cell.Queue (queue_of_worker plan worker)))))
       (Cell.Worker worker)
       (kept_of (marks_at plan (queue_of_worker plan worker))
@@ -90,7 +90,7 @@ still e left others = if left == 0 then others else record e { due = left } ∷ 
 
 -- the job's occurrence is dealt with, and the next one hasn't failed yet
 abbrev pub advanced : (plan : Plan) (old : RelayState) (worker : ℕ) (is : Occurrence) → Job plan old worker is → RelayState
-advanced plan old worker is job = put_failures (put old (Cell.Worker worker) (still job.entry job.left job.others)) worker 0
+advanced plan old worker is job = set_failures (set_cell old (Cell.Worker worker) (still job.entry job.left job.others)) worker 0
 
 -- Done: the job runs an action, whose device took the message.
 pub record Settles (plan : Plan) (old : RelayState) (worker action : ℕ) (entry : Entry) (new : RelayState) : Type 0 where
@@ -113,7 +113,7 @@ pub record Fails (plan : Plan) (old : RelayState) (worker action : ℕ) (entry :
   pub job : Job plan old worker (occurrence.Run action)
   pub its : job.entry ≡ entry
   pub again : MayTry (retry_at plan action) (failures_at old worker)
-  pub after : new ≡ put_failures old worker (one_more (retry_at plan action) (failures_at old worker))
+  pub after : new ≡ set_failures old worker (one_more (retry_at plan action) (failures_at old worker))
 
 -- Give up: it failed once more than it may be tried again, and the occurrence is lost.
 pub record GivesUp (plan : Plan) (old : RelayState) (worker action : ℕ) (entry : Entry) (new : RelayState) : Type 0 where
@@ -149,7 +149,7 @@ pub record Posts (plan : Plan) (old : RelayState) (worker list : ℕ) (node : En
       discards (marks_at plan (queue_for plan list)) node.message.class.severity (waiting old (queue_for plan list)) ≡ lost
   pub room : (lost ≡ true) ⊎ HasRoom plan old list
   pub after : new ≡ if lost then advanced plan old worker (occurrence.Post list) job
-      else put (advanced plan old worker (occurrence.Post list) job)
+      else set_cell (advanced plan old worker (occurrence.Post list) job)
       (Cell.Queue (queue_for plan list)) (at old (Cell.Queue (queue_for plan list)) ++ node ∷ [])
 
 -- the list's queue is full, and its mark doesn't hold the post

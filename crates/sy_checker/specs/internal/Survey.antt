@@ -21,14 +21,14 @@ pub record IsAt (groups : List Group) (place : ℕ) (input : SiteInput) (k : Kin
   pub is_of : subject group ≡ (input, k)
 
 -- the kind at the input is put to the class
-pub record Puts (class : Class) (input : SiteInput) (k : Kind) (old new : List Group) : Type 0 where
+pub record Pushes (class : Class) (input : SiteInput) (k : Kind) (old new : List Group) : Type 0 where
   pub kept : (c : Class) (i : SiteInput) (j : Kind) → Names old c i j → Names new c i j
-  pub put : Names new class input k
+  pub pushed : Names new class input k
   pub only : (c : Class) (i : SiteInput) (j : Kind) → Names new c i j → Names old c i j ⊎ ((c ≡ class) × (i ≡ input) × (j ≡ k))
   pub groups : AreGroups old → AreGroups new
 
 -- All of this is put to a class, and nothing that isn't true.
-pub record Tells (site : Site) (class : Class) (P : SiteInput → Kind → Type 0) (old new : List Group) : Type 0 where
+pub record Reports (site : Site) (class : Class) (P : SiteInput → Kind → Type 0) (old new : List Group) : Type 0 where
   pub kept : (c : Class) (i : SiteInput) (j : Kind) → Names old c i j → Names new c i j
   pub all : (i : SiteInput) (j : Kind) → P i j → Names new class i j
   pub only : (c : Class) (i : SiteInput) (j : Kind) → Names new c i j → Names old c i j ⊎ IsThere site c i j

@@ -31,7 +31,7 @@ pub fn are_met(met: &[Met], place: usize, archives: &[SiteAction]) -> bool
 }
 
 /// Puts each of some archives with the place of a course.
-pub fn put_met(met: &mut Vec<Met>, place: usize, archives: &[SiteAction]) -> Result<(), AllocError>
+pub fn push_met(met: &mut Vec<Met>, place: usize, archives: &[SiteAction]) -> Result<(), AllocError>
     ensures { OnOk result (met.new.items ≡ met.old.items ++ map (spec.met_at place) archives.now) }
 {
     for archive in archives {

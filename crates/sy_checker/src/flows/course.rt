@@ -220,7 +220,7 @@ fn same_course(
 }
 
 // Puts a course behind the others, and answers its place.
-fn put_course(courses: &mut Vec<Course>, course: Course) -> Result<usize, AllocError>
+fn push_course(courses: &mut Vec<Course>, course: Course) -> Result<usize, AllocError>
     ensures place { IfOk result (λ place. place ≡ length courses.old.items) }
     ensures courses { OnOk result (courses.new.items ≡ courses.old.items ++ course ∷ []) }
 {
@@ -247,7 +247,7 @@ fn more_course(
     ensures err { IfErr result (λ why. IsTrueRefusal site.now why) }
 {
     let course = new_course(alloc, site, class, lists)?;
-    let place = put_course(courses, course)?;
+    let place = push_course(courses, course)?;
     Ok(place)
 }
 

@@ -25,7 +25,7 @@ pub struct SiteFirm {
 }
 
 // Puts the number of an action behind the others where it is this relay's.
-fn put_action(found: &mut Vec<u32>, relay: u32, action: SiteAction) -> Result<(), AllocError>
+fn push_action(found: &mut Vec<u32>, relay: u32, action: SiteAction) -> Result<(), AllocError>
     ensures { OnOk result (found.new.items ≡ found.old.items ++ sites.actions_at (action ∷ []) relay) }
 {
     if action.relay == relay {
@@ -40,7 +40,7 @@ pub fn actions_at(alloc: Global, actions: &[SiteAction], relay: u32) -> Result<V
 {
     let mut found = Vec::new(alloc);
     for action in actions {
-        put_action(&mut found, relay, *action)?;
+        push_action(&mut found, relay, *action)?;
     }
     Ok(found)
 }

@@ -45,7 +45,7 @@ fn is_walked(lists: &[u32], list: u32) -> bool
 }
 
 // Puts that an occurrence leads to an input behind the others, where none of these leads there.
-fn put_hop(hops: &mut Vec<Hop>, number: u32, to: SiteInput) -> Result<(), AllocError>
+fn push_hop(hops: &mut Vec<Hop>, number: u32, to: SiteInput) -> Result<(), AllocError>
     ensures { OnOk result (spec.AddsHop number to hops.old.items hops.new.items) }
 {
     if is_there(hops.as_slice(), to) {
@@ -56,7 +56,7 @@ fn put_hop(hops: &mut Vec<Hop>, number: u32, to: SiteInput) -> Result<(), AllocE
 }
 
 // The same of the input that an action leads to.
-fn put_target(
+fn push_target(
     site: &Site,
     relay: u32,
     action: u32,
@@ -67,7 +67,7 @@ fn put_target(
     ensures { OnOk result (spec.AddsTarget site.now relay action number hops.old.items hops.new.items) }
 {
     match site.target(relay, action) {
-        Some(to) => put_hop(hops, number, to),
+        Some(to) => push_hop(hops, number, to),
         None => Ok(()),
     }
 }
@@ -204,7 +204,7 @@ fn follow_one(
     let _ = list;
     let _ = at;
     match is {
-        Occurrence::Run(action) => put_target(site, relay, action, number, &mut found.hops),
+        Occurrence::Run(action) => push_target(site, relay, action, number, &mut found.hops),
         Occurrence::Post(inner) => {
             if !follows_posts(which) {
                 return Ok(());

@@ -60,7 +60,7 @@ fn place_of(groups: &[Group], likely: usize, input: SiteInput, kind: Kind) -> Op
 }
 
 // Puts a class behind the others of a group.
-fn put_class(group: &mut Group, class: Class) -> Result<(), AllocError>
+fn push_class(group: &mut Group, class: Class) -> Result<(), AllocError>
     ensures subject { OnOk result (spec.subject group.new ≡ spec.subject group.old) }
     ensures classes { OnOk result (group.new.classes.items ≡ group.old.classes.items ++ class ∷ []) }
 {
@@ -77,11 +77,11 @@ fn join(
     kind: Kind,
 ) -> Result<(), AllocError>
     requires at { inside.IsAt groups.old.items place input kind }
-    ensures { OnOk result (inside.Puts class input kind groups.old.items groups.new.items) }
+    ensures { OnOk result (inside.Pushes class input kind groups.old.items groups.new.items) }
 {
     let _ = input;
     let _ = kind;
-    put_class(&mut groups[place], class)?;
+    push_class(&mut groups[place], class)?;
     Ok(())
 }
 
@@ -94,7 +94,7 @@ fn begin(
     kind: Kind,
 ) -> Result<(), AllocError>
     requires new { (g : AnyGroup) → Contains groups.old.items g → spec.subject g ≡ (input, kind) → ⊥ }
-    ensures { OnOk result (inside.Puts class input kind groups.old.items groups.new.items) }
+    ensures { OnOk result (inside.Pushes class input kind groups.old.items groups.new.items) }
 {
     let mut classes = Vec::new(alloc);
     classes.push(class)?;
@@ -117,14 +117,14 @@ pub fn nothing_gathered(alloc: Global) -> Gathered
 }
 
 /// Puts a class to the group of a kind at an input, or begins that group.
-pub fn put(
+pub fn push_found(
     alloc: Global,
     found: &mut Gathered,
     class: Class,
     input: SiteInput,
     kind: Kind,
 ) -> Result<(), AllocError>
-    ensures { OnOk result (inside.Puts class input kind found.old.groups.items found.new.groups.items) }
+    ensures { OnOk result (inside.Pushes class input kind found.old.groups.items found.new.groups.items) }
 {
     match place_of(found.groups.as_slice(), found.next, input, kind) {
         Some(place) => {

@@ -135,7 +135,7 @@ fn greater(one: u32, other: u32) -> u32
     one
 }
 
-fn put(done: &mut Vec<ListNumber>, list: u32, number: u32) -> Result<(), AllocError>
+fn push_number(done: &mut Vec<ListNumber>, list: u32, number: u32) -> Result<(), AllocError>
     ensures { OnOk result (done.new.items ≡ done.old.items ++ record { list = list; number = number } ∷ []) }
 {
     done.push(ListNumber { list, number })?;
@@ -191,7 +191,7 @@ fn visit(
     go_on(way, list)?;
     let number = visit_posts(site, class, flows, input, list, way, done)?;
     go_back(way);
-    put(done, list, number)?;
+    push_number(done, list, number)?;
     Ok(number)
 }
 

@@ -40,7 +40,7 @@ fn is_posted(site: &Site, class: Class, flows: &ClassFlows, inputs: &[SiteInput]
 }
 
 // Puts a list behind the others where posts lead to it. These are the inputs of its relay that are reached.
-fn put_inner(
+fn push_inner(
     site: &Site,
     class: Class,
     flows: &ClassFlows,
@@ -62,7 +62,7 @@ fn put_inner(
 }
 
 // Puts those of a relay.
-fn put_inners(
+fn push_inners(
     site: &Site,
     class: Class,
     flows: &ClassFlows,
@@ -79,7 +79,7 @@ fn put_inners(
     plans_are_whole(site.plan(relay));
     let many = site.plan(relay).list_names().len() as u32;
     for list in 0..many {
-        put_inner(site, class, flows, own, relay, list, inners)?;
+        push_inner(site, class, flows, own, relay, list, inners)?;
     }
     Ok(())
 }
@@ -101,7 +101,7 @@ pub fn inners_of(
     let mut inners = Vec::new(alloc);
     for relay in 0..site.relays() {
         let own = own_inputs(alloc, firm, relay)?;
-        put_inners(site, class, flows, own.as_slice(), relay, &mut inners)?;
+        push_inners(site, class, flows, own.as_slice(), relay, &mut inners)?;
     }
     Ok(inners)
 }

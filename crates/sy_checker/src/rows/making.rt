@@ -196,7 +196,7 @@ fn row_for(
     }
 }
 
-fn put(rows: &mut Vec<Row>, row: Row) -> Result<(), AllocError>
+fn push_made(rows: &mut Vec<Row>, row: Row) -> Result<(), AllocError>
     ensures { OnOk result (rows.new.items ≡ rows.old.items ++ row ∷ []) }
 {
     rows.push(row)?;
@@ -230,7 +230,7 @@ pub fn rows_for(
     let mut rows = Vec::new(alloc);
     for is in part {
         let row = row_for(alloc, site, class, flows, leads, part, ranks, numbers, *is)?;
-        put(&mut rows, row)?;
+        push_made(&mut rows, row)?;
     }
     Ok(rows)
 }

@@ -81,7 +81,7 @@ fn is_among(archives: &[SiteAction], archive: SiteAction) -> bool
 }
 
 // Puts the archive of a protect line that asks for the class behind the others, where it isn't one of them.
-fn put_archive(
+fn push_archive(
     protection: &Protection,
     class: Class,
     found: &mut Vec<SiteAction>,
@@ -104,12 +104,12 @@ pub fn archives(alloc: Global, site: &Site, class: Class) -> Result<Vec<SiteActi
 {
     let mut found = Vec::new(alloc);
     for protection in site.protections() {
-        put_archive(protection, class, &mut found)?;
+        push_archive(protection, class, &mut found)?;
     }
     Ok(found)
 }
 
-fn put_inputs(part: &mut Vec<Wanted>, inputs: &[SiteInput]) -> Result<(), AllocError>
+fn push_inputs(part: &mut Vec<Wanted>, inputs: &[SiteInput]) -> Result<(), AllocError>
     ensures { OnOk result (part.new.items ≡ part.old.items ++ map spec.Reach inputs.now) }
 {
     for input in inputs {
@@ -118,7 +118,7 @@ fn put_inputs(part: &mut Vec<Wanted>, inputs: &[SiteInput]) -> Result<(), AllocE
     Ok(())
 }
 
-fn put_branches(part: &mut Vec<Wanted>, inputs: &[SiteInput]) -> Result<(), AllocError>
+fn push_branches(part: &mut Vec<Wanted>, inputs: &[SiteInput]) -> Result<(), AllocError>
     ensures { OnOk result (part.new.items ≡ part.old.items ++ map spec.Branch inputs.now) }
 {
     for input in inputs {
@@ -127,7 +127,7 @@ fn put_branches(part: &mut Vec<Wanted>, inputs: &[SiteInput]) -> Result<(), Allo
     Ok(())
 }
 
-fn put_relays(part: &mut Vec<Wanted>, relays: &[u32]) -> Result<(), AllocError>
+fn push_relays(part: &mut Vec<Wanted>, relays: &[u32]) -> Result<(), AllocError>
     ensures { OnOk result (part.new.items ≡ part.old.items ++ map spec.Rank relays.now) }
 {
     for relay in relays {
@@ -136,7 +136,7 @@ fn put_relays(part: &mut Vec<Wanted>, relays: &[u32]) -> Result<(), AllocError>
     Ok(())
 }
 
-fn put_inners(part: &mut Vec<Wanted>, inners: &[InnerList]) -> Result<(), AllocError>
+fn push_inners(part: &mut Vec<Wanted>, inners: &[InnerList]) -> Result<(), AllocError>
     ensures { OnOk result (part.new.items ≡ part.old.items ++ map spec.Inner inners.now) }
 {
     for inner in inners {
@@ -146,7 +146,7 @@ fn put_inners(part: &mut Vec<Wanted>, inners: &[InnerList]) -> Result<(), AllocE
 }
 
 // Puts a path from an entry to each archive.
-fn put_paths(
+fn push_paths(
     part: &mut Vec<Wanted>,
     entry: SiteInput,
     archives: &[SiteAction],
@@ -159,7 +159,7 @@ fn put_paths(
     Ok(())
 }
 
-fn put_all_paths(
+fn push_all_paths(
     part: &mut Vec<Wanted>,
     entries: &[SiteInput],
     archives: &[SiteAction],
@@ -168,7 +168,7 @@ fn put_all_paths(
         ≡ part.old.items ++ flat_map (λ entry. map (λ a. spec.Path entry a) archives.now) entries.now) }
 {
     for entry in entries {
-        put_paths(part, *entry, archives)?;
+        push_paths(part, *entry, archives)?;
     }
     Ok(())
 }
@@ -196,10 +196,10 @@ pub fn wanted_rows(
     let archives = archives(alloc, site, class)?;
     let mut part = Vec::new(alloc);
     part.push(Wanted::Class(class))?;
-    put_inputs(&mut part, inputs.as_slice())?;
-    put_branches(&mut part, branches.as_slice())?;
-    put_relays(&mut part, relays.as_slice())?;
-    put_inners(&mut part, inners.as_slice())?;
-    put_all_paths(&mut part, site.entries(), archives.as_slice())?;
+    push_inputs(&mut part, inputs.as_slice())?;
+    push_branches(&mut part, branches.as_slice())?;
+    push_relays(&mut part, relays.as_slice())?;
+    push_inners(&mut part, inners.as_slice())?;
+    push_all_paths(&mut part, site.entries(), archives.as_slice())?;
     Ok(part)
 }

@@ -50,7 +50,7 @@ pub fn push_object(words: &mut Words, object: Object<'_>) {
         _ => ("", b""),
     };
     match value_of(object.params, name) {
-        Some(value) => words.put(&[Part::Text(word.as_bytes()), Part::Text(value)]),
+        Some(value) => words.append(&[Part::Text(word.as_bytes()), Part::Text(value)]),
         None => words.say(bare(object.word)),
     }
 }
@@ -98,13 +98,13 @@ fn push_unknown_ruleset(
     objects: &[Object<'_>],
     name: &[u8],
 ) -> Result<(), AllocError> {
-    note.why.put(&[
+    note.why.append(&[
         Part::Text(b"no ruleset of the file has the name "),
         Part::Text(name),
     ]);
     let names = rulesets(alloc, objects)?;
     match nearest(name, names.as_slice()) {
-        Some(near) => note.change.put(&[Part::Text(near)]),
+        Some(near) => note.change.append(&[Part::Text(near)]),
         None if names.is_empty() => note.change.say("a ruleset of this name"),
         None => {
             note.change.say("the name of a ruleset of the file: ");
@@ -132,10 +132,10 @@ fn push_unknown_parameter(
         article_of(object.word)
     });
     note.why
-        .put(&[Part::Text(b" has no parameter "), Part::Text(name)]);
+        .append(&[Part::Text(b" has no parameter "), Part::Text(name)]);
     let names = names_of(alloc, object)?;
     match nearest(name, names.as_slice()) {
-        Some(near) => note.change.put(&[Part::Text(near)]),
+        Some(near) => note.change.append(&[Part::Text(near)]),
         None => note.change.say(
             "leave it out: this profile has no such parameter (docs/MIGRATING.md)",
         ),
@@ -180,7 +180,7 @@ fn example_in(object: Object<'_>, name: &[u8], values: Shape) -> &'static [u8] {
 }
 
 fn push_missing(note: &mut Note, object: Option<Object<'_>>, name: &[u8]) {
-    note.why.put(&[Part::Text(name), Part::Text(b" isn't given, and must be")]);
+    note.why.append(&[Part::Text(name), Part::Text(b" isn't given, and must be")]);
     let Some(object) = object else {
         return;
     };
@@ -221,14 +221,14 @@ fn push_duplicate(note: &mut Note, places: Places<'_>, fault: &PlanFault) {
     if let Some((object, _)) = param_at(places.objects, fault.span.start) {
         if let Some(first) = first_param(object, word) {
             note.why
-                .put(&[Part::Text(word), Part::Text(b" is given already, at ")]);
+                .append(&[Part::Text(word), Part::Text(b" is given already, at ")]);
             places.push_point(&mut note.why, first.name.span.start);
         }
         note.change.say("one of the two");
         return;
     }
     note.why
-        .put(&[Part::Text(word), Part::Text(b" is there already")]);
+        .append(&[Part::Text(word), Part::Text(b" is there already")]);
     if let Some(object) = object_at(places.objects, fault.span.start) {
         if let Some(first) = earlier(places.objects, object, b"name") {
             note.why.say(", at ");
@@ -299,7 +299,7 @@ fn push_what(note: &mut Note, places: Places<'_>, fault: &PlanFault) {
     }
     match object_at(places.objects, fault.span.start) {
         Some(object) => push_object(&mut note.what, object),
-        None => note.what.put(&[Part::Text(between(
+        None => note.what.append(&[Part::Text(between(
             places.text,
             fault.span.start,
             fault.span.end,

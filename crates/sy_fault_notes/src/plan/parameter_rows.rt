@@ -41,13 +41,13 @@ pub fn names_of(alloc: Global, object: Object<'_>) -> Result<Vec<&'static [u8]>,
 pub fn push_list(words: &mut Words, names: &[&[u8]]) {
     let mut separator: &[u8] = b"";
     for name in names {
-        words.put(&[Part::Text(separator), Part::Text(name)]);
+        words.append(&[Part::Text(separator), Part::Text(name)]);
         separator = b", ";
     }
 }
 
 fn push_range(words: &mut Words, lowest: u64, highest: u64) {
-    words.put(&[
+    words.append(&[
         Part::Number(lowest),
         Part::Text(b" to "),
         Part::Number(highest),
@@ -69,7 +69,7 @@ pub fn append_values(words: &mut Words, values: Shape) {
 
 /// Puts a parameter with a value, as `queue.size="100"`.
 pub fn push_parameter<'a>(words: &mut Words, name: &'a [u8], value: &'a [u8]) {
-    words.put(&[
+    words.append(&[
         Part::Text(name),
         Part::Text(b"=\""),
         Part::Text(value),

@@ -24,7 +24,7 @@ fn names_in(
 // Says which name is likely meant, or which names there are.
 fn push_names(note: &mut Note, name: &[u8], names: &[&'static [u8]]) {
     match nearest(name, names) {
-        Some(near) => note.change.put(&[Part::Text(near)]),
+        Some(near) => note.change.append(&[Part::Text(near)]),
         None => {
             note.change.say("one of ");
             push_list(&mut note.change, names);
@@ -36,7 +36,7 @@ fn push_names(note: &mut Note, name: &[u8], names: &[&'static [u8]]) {
 pub fn push_facility(alloc: Global, note: &mut Note, name: &[u8]) -> Result<(), AllocError> {
     let names = names_in(alloc, facility_names(), &[b"*"])?;
     note.why
-        .put(&[Part::Text(name), Part::Text(b" is no facility")]);
+        .append(&[Part::Text(name), Part::Text(b" is no facility")]);
     push_names(note, name, names.as_slice());
     Ok(())
 }
@@ -45,14 +45,14 @@ pub fn push_facility(alloc: Global, note: &mut Note, name: &[u8]) -> Result<(), 
 pub fn push_severity(alloc: Global, note: &mut Note, name: &[u8]) -> Result<(), AllocError> {
     let names = names_in(alloc, severity_names(), &[b"none", b"*"])?;
     note.why
-        .put(&[Part::Text(name), Part::Text(b" is no severity")]);
+        .append(&[Part::Text(name), Part::Text(b" is no severity")]);
     push_names(note, name, names.as_slice());
     Ok(())
 }
 
 /// Says that a text is no selector.
 pub fn push_shape(note: &mut Note, selector: &[u8]) {
-    note.why.put(&[
+    note.why.append(&[
         Part::Text(b"\""),
         Part::Text(selector),
         Part::Text(b"\" is no selector"),
@@ -62,7 +62,7 @@ pub fn push_shape(note: &mut Note, selector: &[u8]) {
 
 /// Says that an operator doesn't go with its property.
 pub fn push_operator(note: &mut Note, word: &[u8]) {
-    note.why.put(&[
+    note.why.append(&[
         Part::Text(word),
         Part::Text(b" doesn't go with this property, or with what it is compared with here"),
     ]);
@@ -81,7 +81,7 @@ pub fn push_unknown_property(
     for row in properties() {
         names.push(row.0)?;
     }
-    note.why.put(&[
+    note.why.append(&[
         Part::Text(name),
         Part::Text(b" is no property of this profile"),
     ]);

@@ -31,7 +31,7 @@ fn values_of(object: Object<'_>, name: &[u8]) -> Option<Shape> {
 
 // A value with its quotes.
 fn push_value(words: &mut Words, value: &[u8]) {
-    words.put(&[Part::Text(b"\""), Part::Text(value), Part::Text(b"\"")]);
+    words.append(&[Part::Text(b"\""), Part::Text(value), Part::Text(b"\"")]);
 }
 
 // The number that digits with a letter behind them write: in thousands, and as rsyslog reads it.
@@ -51,7 +51,7 @@ fn sizes_of(value: &[u8]) -> Option<(u64, u64)> {
 
 // Puts a parameter with a number.
 fn push_number(words: &mut Words, name: &[u8], number: u64) {
-    words.put(&[
+    words.append(&[
         Part::Text(name),
         Part::Text(b"=\""),
         Part::Number(number),
@@ -66,7 +66,7 @@ fn push_no_number(note: &mut Note, name: &[u8], value: &[u8]) {
             note.why.say("; suffixes aren't read");
             push_number(&mut note.change, name, plain);
             if plain != read {
-                note.change.put(&[
+                note.change.append(&[
                     Part::Text(b" (rsyslog reads "),
                     Part::Text(value),
                     Part::Text(b" as "),

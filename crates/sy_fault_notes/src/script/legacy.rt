@@ -63,12 +63,12 @@ fn push_page(note: &mut Note) {
 // Puts the action for what a selector line names behind its selector.
 fn push_action(note: &mut Note, target: &[u8]) {
     match target {
-        [b'-', b'/', ..] => note.change.put(&[
+        [b'-', b'/', ..] => note.change.append(&[
             Part::Text(b"action(type=\"omfile\" file=\""),
             Part::Text(between(target, 1, target.len())),
             Part::Text(b"\")"),
         ]),
-        [b'/', ..] => note.change.put(&[
+        [b'/', ..] => note.change.append(&[
             Part::Text(b"action(type=\"omfile\" file=\""),
             Part::Text(target),
             Part::Text(b"\")"),
@@ -87,8 +87,8 @@ pub fn push_selector_line(note: &mut Note, line: &[u8]) {
     let selector = word_in(line, 0);
     let target = word_in(line, 1);
     if let (Some((_, selector)), Some((_, target))) = (selector, target) {
-        note.what.put(&[Part::Text(selector)]);
-        note.change.put(&[
+        note.what.append(&[Part::Text(selector)]);
+        note.change.append(&[
             Part::Text(b"if prifilt(\""),
             Part::Text(selector),
             Part::Text(b"\") then "),
@@ -123,7 +123,7 @@ pub fn push_filter_line(note: &mut Note, text: &[u8], place: usize) -> bool {
 
 // Puts an object with one parameter.
 fn push_with<'a>(note: &mut Note, before: &'a str, value: &'a [u8]) {
-    note.change.put(&[
+    note.change.append(&[
         Part::Text(before.as_bytes()),
         Part::Text(value),
         Part::Text(b"\")"),
@@ -166,7 +166,7 @@ pub fn push_left_out(note: &mut Note, text: &[u8], place: usize, word: &[u8]) {
         push_page(note);
         return;
     }
-    note.why.put(&[
+    note.why.append(&[
         Part::Text(word),
         Part::Text(b" is left out of this profile"),
     ]);

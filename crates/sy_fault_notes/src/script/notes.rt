@@ -47,7 +47,7 @@ fn push_found(words: &mut Words, token: &[u8]) {
     if token.is_empty() || token == b"\n".as_slice() {
         words.say("the end of the text");
     } else {
-        words.put(&[Part::Text(token)]);
+        words.append(&[Part::Text(token)]);
     }
 }
 
@@ -68,7 +68,7 @@ fn closing(opening: Opening) -> &'static [u8] {
 // Says that what is open isn't closed.
 fn push_not_closed(note: &mut Note, text: &[u8], open: Open) {
     let point = point_at(text, open.place);
-    note.why.put(&[
+    note.why.append(&[
         Part::Text(opening_word(open.opening)),
         Part::Text(b" opened at "),
         Part::Number(point.line),
@@ -76,11 +76,11 @@ fn push_not_closed(note: &mut Note, text: &[u8], open: Open) {
         Part::Number(point.column),
         Part::Text(b" isn't closed"),
     ]);
-    note.change.put(&[Part::Text(closing(open.opening)), Part::Text(b" before it")]);
+    note.change.append(&[Part::Text(closing(open.opening)), Part::Text(b" before it")]);
 }
 
 fn push_expected(note: &mut Note, expected: &str, token: &[u8]) {
-    note.why.put(&[
+    note.why.append(&[
         Part::Text(expected.as_bytes()),
         Part::Text(b" is expected, found "),
     ]);
@@ -106,7 +106,7 @@ fn value_at(text: &[u8], place: usize) -> &[u8] {
 
 // Puts the parameter before a place with the value that is likely meant there.
 fn push_value(note: &mut Note, text: &[u8], place: usize, open: Open) {
-    note.change.put(&[
+    note.change.append(&[
         Part::Text(open.name(text)),
         Part::Text(b"=\""),
         Part::Text(value_at(text, place)),
@@ -187,7 +187,7 @@ fn push_statement(note: &mut Note, token: &[u8]) {
         Some(near) if near == token => note.change.say(
             "what is missing before it, as { behind ruleset(..) or then behind a test; an object but action stands outside braces",
         ),
-        Some(near) => note.change.put(&[Part::Text(near)]),
+        Some(near) => note.change.append(&[Part::Text(near)]),
         None => note.change.say(
             "an object (module, global, main_queue, input, ruleset, action), or call, stop, if .. then ..",
         ),
@@ -200,7 +200,7 @@ fn push_byte(words: &mut Words, byte: u8) {
     let high = digits.get((byte >> 4) as usize);
     let low = digits.get((byte & 15) as usize);
     if let (Some(high), Some(low)) = (high, low) {
-        words.put(&[Part::Text(b"0x"), Part::Text(&[*high]), Part::Text(&[*low])]);
+        words.append(&[Part::Text(b"0x"), Part::Text(&[*high]), Part::Text(&[*low])]);
     }
 }
 
@@ -241,7 +241,7 @@ fn push_unclosed(note: &mut Note, text: &[u8], place: usize) {
 
 // Of a text that is too long.
 fn push_too_large(note: &mut Note, file: &[u8], text: &[u8]) {
-    note.why.put(&[
+    note.why.append(&[
         Part::Text(file),
         Part::Text(b" has "),
         Part::Number(text.len() as u64),

@@ -13,7 +13,7 @@ use sy_site::without_return;
 // Puts where a name was looked for.
 fn push_folder(words: &mut Words, unread: &Unread) {
     if let Some(folder) = &unread.folder {
-        words.put(&[
+        words.append(&[
             Part::Text(b" (looked for in "),
             Part::Text(folder.as_bytes()),
             Part::Text(b", the working directory)"),
@@ -66,7 +66,7 @@ pub fn push_unread_relay(
     let (file, line, relay) = site;
     let point = Point { line, column: 1 };
     note.stands_at(alloc, file.as_bytes(), Some(point));
-    note.what.put(&[Part::Text(b"relay "), Part::Text(relay)]);
+    note.what.append(&[Part::Text(b"relay "), Part::Text(relay)]);
     push_reason(note, unread, "in that line");
 }
 

@@ -72,7 +72,7 @@ fn push_first_word(alloc: Global, note: &mut Note, at: FileLine<'_>, word: &[u8]
     stands_at_word(alloc, note, at, 0);
     note.why.say("a line begins with relay, entry, protect, policy or spare");
     match nearest(word, &FIRST_WORDS) {
-        Some(near) => note.change.put(&[Part::Text(near)]),
+        Some(near) => note.change.append(&[Part::Text(near)]),
         None => note
             .change
             .say("one of them, or # before what is a comment"),
@@ -128,9 +128,9 @@ pub fn push_unknown_relay(
         return Ok(false);
     }
     stands_at_word(alloc, note, at, number);
-    note.why.put(&[Part::Text(b"no relay line has the name "), Part::Text(name)]);
+    note.why.append(&[Part::Text(b"no relay line has the name "), Part::Text(name)]);
     match nearest(name, names.as_slice()) {
-        Some(near) => note.change.put(&[Part::Text(near)]),
+        Some(near) => note.change.append(&[Part::Text(near)]),
         None => {
             note.change.say("one of ");
             push_list(&mut note.change, names.as_slice());
@@ -240,7 +240,7 @@ pub fn push_faulty_line(
 ) -> Result<(), AllocError> {
     if at.text.len() > MOST {
         note.stands_at(alloc, at.file.as_bytes(), None);
-        note.why.put(&[
+        note.why.append(&[
             Part::Text(at.file.as_bytes()),
             Part::Text(b" has "),
             Part::Number(at.text.len() as u64),
@@ -342,7 +342,7 @@ pub fn push_duplicate_line(alloc: Global, note: &mut Note, at: FileLine<'_>) {
     };
     let found = earlier(at, word, is_relay);
     if let Some(number) = found {
-        note.why.put(&[Part::Text(b"line "), Part::Number(number)]);
+        note.why.append(&[Part::Text(b"line "), Part::Number(number)]);
     } else {
         note.why.say("an earlier line");
     }

@@ -49,7 +49,7 @@ fn append_ports(words: &mut Words, objects: &[Object<'_>]) {
     for object in objects {
         if object.word == ObjectWord::Input {
             if let Some(port) = value_of(object.params, b"port") {
-                words.put(&[Part::Text(b" "), Part::Text(port)]);
+                words.append(&[Part::Text(b" "), Part::Text(port)]);
             }
         }
     }
@@ -69,8 +69,8 @@ pub fn push_no_port(
     if has_port(objects.as_slice(), port) {
         return Ok(false);
     }
-    note.why.put(&[Part::Text(relay), Part::Text(b" has no input of this port")]);
-    note.change.put(&[
+    note.why.append(&[Part::Text(relay), Part::Text(b" has no input of this port")]);
+    note.change.append(&[
         Part::Text(b"a port of "),
         Part::Text(relay),
         Part::Text(b":"),
@@ -116,8 +116,8 @@ fn is_sought(object: Object<'_>, sought: Sought) -> bool {
 // Puts the name of an action with its place; `action-N` by its number where it has none.
 fn push_found(words: &mut Words, places: Places<'_>, object: Object<'_>, number: u64) {
     match value_of(object.params, b"name") {
-        Some(name) => words.put(&[Part::Text(b" "), Part::Text(name)]),
-        None => words.put(&[Part::Text(b" action-"), Part::Number(number)]),
+        Some(name) => words.append(&[Part::Text(b" "), Part::Text(name)]),
+        None => words.append(&[Part::Text(b" action-"), Part::Number(number)]),
     }
     words.say(" (");
     places.push_point(words, object.start);
@@ -175,7 +175,7 @@ fn push_choice(
 ) -> Result<(), AllocError> {
     let file = relay_file(alloc, file)?;
     let objects = objects_of(alloc, &file)?;
-    note.change.put(&[Part::Text(b" of "), Part::Text(relay), Part::Text(b":")]);
+    note.change.append(&[Part::Text(b" of "), Part::Text(relay), Part::Text(b":")]);
     if !objects
         .as_slice()
         .iter()
@@ -200,7 +200,7 @@ pub fn push_no_archive(
     let (Some((_, relay)), Some((_, wanted))) = (word_in(at.line, 2), word_in(at.line, 3)) else {
         return Ok(());
     };
-    note.why.put(&[
+    note.why.append(&[
         Part::Text(relay),
         Part::Text(b" has no omfile action of this name"),
     ]);
@@ -219,7 +219,7 @@ pub fn push_no_action(
     let (Some((_, relay)), Some((_, wanted))) = (word_in(at.line, 1), word_in(at.line, 2)) else {
         return Ok(());
     };
-    note.why.put(&[
+    note.why.append(&[
         Part::Text(relay),
         Part::Text(b" has no action of this name"),
     ]);

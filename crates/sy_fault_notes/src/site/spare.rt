@@ -54,7 +54,7 @@ pub fn push_policy_line(alloc: Global, note: &mut Note, at: FileLine<'_>) {
     note.why.say("policy 2 stands in the first line of a file and nowhere else");
     match first_line(at.text) {
         Some((number, line)) => {
-            note.why.put(&[
+            note.why.append(&[
                 Part::Text(b"; that is line "),
                 Part::Number(number),
                 Part::Text(b" here: "),
@@ -84,7 +84,7 @@ pub fn push_spare_line(alloc: Global, note: &mut Note, at: FileLine<'_>) -> Resu
     if !has_policy {
         stands_at_word(alloc, note, at, 0);
         note.why.say("spare lines stand only in a file whose first line is policy 2");
-        note.change.put(&[
+        note.change.append(&[
             Part::Text(b"policy 2 as the first line of "),
             Part::Text(at.file.as_bytes()),
             Part::Text(b", or leave out this line"),
@@ -116,7 +116,7 @@ pub fn push_spare_archive(alloc: Global, note: &mut Note, at: FileLine<'_>) {
     for line in at.text.split(|b| *b == b'\n') {
         let line = without_return(line);
         if names_action(line, relay, action) {
-            note.why.put(&[
+            note.why.append(&[
                 Part::Text(b"line "),
                 Part::Number(number),
                 Part::Text(b" asks that messages are kept there: "),

@@ -6,5 +6,5 @@ use Rattle.sy_checker.specs.declared.kinds.groups.Group.{Group}
 use Rattle.sy_findings.specs.Checks.{group_text}
 
 -- such a line, with words behind it, is put behind a text
-abbrev pub PutsLineInWords : Site → Group → List ℕ → List ℕ → Type 0
-PutsLineInWords site group old new = (names words : List ℕ) × (new ≡ old ++ names ++ group_text site group ++ words)
+abbrev pub AppendsLineInWords : Site → Group → List ℕ → List ℕ → Type 0
+AppendsLineInWords site group old new = (names words : List ℕ) × (new ≡ old ++ names ++ group_text site group ++ words)

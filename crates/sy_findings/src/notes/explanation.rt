@@ -20,7 +20,7 @@ use sy_places::ways::followed_lists::circle;
 use sy_places::ways::relay_parts::{
     Feeder, Spot, free_feeder, free_input, name_of_list, queue_at, spot_at,
 };
-use sy_report::texts::note::{Note, put_note};
+use sy_report::texts::note::{Note, append_note};
 use sy_report::texts::parts::Part;
 use sy_report::texts::words::Words;
 use sy_rules::QueueParameters;
@@ -83,7 +83,7 @@ fn push_feeder(words: &mut Words, site: &Site, relay: u32, subject: Subject<'_>)
             push_with_place(words, site, relay, subject.places, thing);
         }
         Some(Feeder::Post(list)) => {
-            words.put(&[
+            words.append(&[
                 Part::Text(b"what is posted to "),
                 Part::Text(name_of_list(subject.spot.plan, list)),
             ]);
@@ -93,7 +93,7 @@ fn push_feeder(words: &mut Words, site: &Site, relay: u32, subject: Subject<'_>)
 }
 
 // Whether what feeds the queue is told: it discards, and its full-delay mark alone would keep it from that.
-fn tells_feeder(kind: Kind, queue: QueueParameters) -> bool {
+fn reports_feeder(kind: Kind, queue: QueueParameters) -> bool {
     let discards = match kind {
         Kind::Discards => true,
         Kind::InnerQueue => queue.waits && is_marked(queue),
@@ -111,12 +111,12 @@ fn push_fed_by(
     subject: Subject<'_>,
     kind: Kind,
 ) -> Result<(), AllocError> {
-    if !tells_feeder(kind, subject.queue) {
+    if !reports_feeder(kind, subject.queue) {
         return Ok(());
     }
     let mut text = Words::new(alloc);
     push_feeder(&mut text, site, relay, subject);
-    note.put_line("fed by", text)
+    note.append_line("fed by", text)
 }
 
 // Why a post loses messages.
@@ -231,8 +231,8 @@ fn push_group(
         if group.input == finding.input && group.kind == finding.kind && group.classes.len() > 1 {
             let names = names_of(alloc, group.classes.as_slice())?;
             let mut text = Words::new(alloc);
-            text.put(&[Part::Text(names.as_slice())]);
-            note.put_line("classes", text)?;
+            text.append(&[Part::Text(names.as_slice())]);
+            note.append_line("classes", text)?;
         }
     }
     Ok(())
@@ -250,6 +250,6 @@ pub fn explanation(
     push_group(alloc, &mut note, site, finding)?;
     let note = note.finish()?;
     let mut words = Words::new(alloc);
-    put_note(&mut words, &note);
+    append_note(&mut words, &note);
     words.finish()
 }

@@ -4,7 +4,7 @@ use crate::notes::explanation::note_of_finding;
 use std::alloc::{AllocError, Global};
 use sy_checker::Group;
 use sy_places::site_file::texts::SiteTexts;
-use sy_report::texts::note::put_note;
+use sy_report::texts::note::append_note;
 use sy_report::texts::words::Words;
 use sy_script::Items;
 use sy_site::Site;
@@ -26,7 +26,7 @@ pub fn group_words(
             kind: group.kind,
         };
         let note = note_of_finding(alloc, texts, site, &finding)?;
-        put_note(&mut words, &note);
+        append_note(&mut words, &note);
     }
     words.finish()
 }

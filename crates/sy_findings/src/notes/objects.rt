@@ -41,7 +41,7 @@ fn parts_of(plan: &Plan, thing: Thing) -> [Part<'_>; 2] {
 /// Puts an object of a relay, as `action up`.
 pub fn push_thing(words: &mut Words, site: &Site, relay: u32, thing: Thing) {
     if relay < site.relays() {
-        words.put(&parts_of(site.plan(relay), thing));
+        words.append(&parts_of(site.plan(relay), thing));
     }
 }
 
@@ -70,7 +70,7 @@ pub fn stands_at(
         }
         None => {
             note.what
-                .put(&[Part::Text(relay_name(site, relay)), Part::Text(b": ")]);
+                .append(&[Part::Text(relay_name(site, relay)), Part::Text(b": ")]);
             push_thing(&mut note.what, site, relay, thing);
         }
     }
@@ -87,7 +87,7 @@ pub fn push_with_place(
     if let Some(places) = places {
         match places.object(thing) {
             Some(object) => places.push_point(words, object.start),
-            None => words.put(&[Part::Text(places.file.as_bytes())]),
+            None => words.append(&[Part::Text(places.file.as_bytes())]),
         }
         words.say(": ");
     }

@@ -8,7 +8,7 @@ use sy_rules::{FlowControl, Plan, QueueParameters};
 
 // That a message is lost at a full queue after a while.
 fn push_wait(words: &mut Words, queue: QueueParameters) {
-    words.put(&[
+    words.append(&[
         Part::Text(b", so that messages may come to a full queue: there one waits "),
         Part::Number(u64::from(queue.timeout_enqueue)),
         Part::Text(b" ms at most, and is then lost"),
@@ -32,7 +32,7 @@ fn right_mark(queue: QueueParameters) -> u64 {
 }
 
 fn push_right_mark(words: &mut Words, queue: QueueParameters) {
-    words.put(&[
+    words.append(&[
         Part::Text(b"queue.fullDelayMark=\""),
         Part::Number(right_mark(queue)),
         Part::Text(b"\" there"),
@@ -49,7 +49,7 @@ fn flow_word(flow: FlowControl) -> &'static [u8] {
 
 /// Of an input that isn't a full-delay one.
 pub fn push_not_full(note: &mut Note, spot: Spot<'_>, queue: QueueParameters) {
-    note.why.put(&[
+    note.why.append(&[
         Part::Text(b"its flowControl is "),
         Part::Text(flow_word(spot.input.flow)),
     ]);
@@ -71,7 +71,7 @@ pub fn push_mark_off(note: &mut Note, queue: QueueParameters) {
 }
 
 fn push_why_mark_above_size(note: &mut Note, queue: QueueParameters) {
-    note.why.put(&[
+    note.why.append(&[
         Part::Text(b"its queue.fullDelayMark is "),
         Part::Number(u64::from(queue.full_delay_mark)),
         Part::Text(b" and its queue.size "),
@@ -83,7 +83,7 @@ fn push_why_mark_above_size(note: &mut Note, queue: QueueParameters) {
 /// Of a queue that is smaller than its full-delay mark.
 pub fn push_mark_above_size(note: &mut Note, queue: QueueParameters) {
     push_why_mark_above_size(note, queue);
-    note.change.put(&[
+    note.change.append(&[
         Part::Text(b"queue.size=\""),
         Part::Number(u64::from(queue.full_delay_mark)),
         Part::Text(b"\" there, or "),
@@ -102,7 +102,7 @@ fn waiting(queue: QueueParameters) -> &'static [u8] {
 
 /// Of a queue that discards.
 pub fn push_discarding(note: &mut Note, plan: &Plan, number: u32, queue: QueueParameters) {
-    note.why.put(&[
+    note.why.append(&[
         Part::Text(b"with "),
         Part::Number(u64::from(queue.discard_mark)),
         Part::Text(b" messages waiting (queue.discardMark; its queue.size is "),
@@ -132,7 +132,7 @@ pub fn is_marked(queue: QueueParameters) -> bool {
 fn push_marks_needed(words: &mut Words, queue: QueueParameters, fed_freely: bool) {
     let discards = has_discards(queue);
     if !is_marked(queue) || discards && queue.discard_mark <= queue.full_delay_mark {
-        words.put(&[
+        words.append(&[
             Part::Text(b"queue.fullDelayMark=\""),
             Part::Number(right_mark(queue)),
             Part::Text(b"\" "),

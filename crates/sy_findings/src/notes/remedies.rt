@@ -44,7 +44,7 @@ pub fn push_spare(note: &mut Note, site: &Site, relay: u32, thing: Thing) {
     if !may_be_spare(site, action) {
         return;
     }
-    note.change.put(&[
+    note.change.append(&[
         Part::Text(b"; or, where what is lost there or behind it needn't be kept: spare "),
         Part::Text(relay_name(site, relay)),
         Part::Text(b" "),
@@ -66,7 +66,7 @@ pub fn push_gives_up(note: &mut Note, plan: &Plan, thing: Thing, object: Option<
             "it has no action.resumeRetryCount, so the default 0 holds: a message is lost at the first failure",
         );
     } else {
-        note.why.put(&[
+        note.why.append(&[
             Part::Text(b"its action.resumeRetryCount is "),
             Part::Number(retries(action)),
             Part::Text(
@@ -79,13 +79,13 @@ pub fn push_gives_up(note: &mut Note, plan: &Plan, thing: Thing, object: Option<
 
 // The ports of a relay's inputs.
 fn append_ports(words: &mut Words, site: &Site, plan: &Plan, relay: u32) {
-    words.put(&[
+    words.append(&[
         Part::Text(b"a port of "),
         Part::Text(relay_name(site, relay)),
         Part::Text(b" there:"),
     ]);
     for input in plan.inputs() {
-        words.put(&[Part::Text(b" "), Part::Number(u64::from(input.port))]);
+        words.append(&[Part::Text(b" "), Part::Number(u64::from(input.port))]);
     }
 }
 
@@ -112,10 +112,10 @@ fn likely<'n>(target: &[u8], names: &[&'n [u8]]) -> Option<&'n [u8]> {
 fn append_names(words: &mut Words, names: &[&[u8]], target: &[u8]) {
     words.say("a target of the site there:");
     match likely(target, names) {
-        Some(name) => words.put(&[Part::Text(b" "), Part::Text(name)]),
+        Some(name) => words.append(&[Part::Text(b" "), Part::Text(name)]),
         None => {
             for name in names {
-                words.put(&[Part::Text(b" "), Part::Text(name)]);
+                words.append(&[Part::Text(b" "), Part::Text(name)]);
             }
         }
     }
@@ -130,7 +130,7 @@ fn push_line(words: &mut Words, site: &Site, site_text: &[u8], name: Option<&[u8
         return;
     };
     if let Some((number, _)) = relay_line(site_text, relay) {
-        words.put(&[
+        words.append(&[
             Part::Text(b" (line "),
             Part::Number(number),
             Part::Text(b")"),
@@ -147,7 +147,7 @@ fn push_address(
     name: Option<&[u8]>,
 ) {
     if target.contains(&b'.') {
-        words.put(&[
+        words.append(&[
             Part::Text(b", or name the relay "),
             Part::Text(target),
             Part::Text(b" in the site file"),
@@ -197,7 +197,7 @@ pub fn push_no_target(
     match &action.destination {
         Destination::Archive(_) => Ok(()),
         Destination::Forward(target, port) => {
-            note.why.put(&[
+            note.why.append(&[
                 Part::Text(b"it forwards to "),
                 Part::Input(target.as_slice(), u64::from(*port)),
                 Part::Text(
@@ -219,7 +219,7 @@ pub fn push_no_target(
 // The relays of a way.
 fn push_way(words: &mut Words, site: &Site, way: &[WayRow]) {
     for row in way {
-        words.put(&[
+        words.append(&[
             Part::Text(relay_name(site, row.input.relay)),
             Part::Text(b", "),
         ]);
@@ -231,7 +231,7 @@ pub fn push_loop(note: &mut Note, site: &Site, finding: &Finding) {
     note.why
         .say("by it a message may come to a relay once more: ");
     push_way(&mut note.why, site, finding.way.as_slice());
-    note.why.put(&[
+    note.why.append(&[
         Part::Text(relay_name(site, finding.input.relay)),
         Part::Text(b"; what goes round fills the queues there"),
     ]);
@@ -244,10 +244,10 @@ pub fn push_loop(note: &mut Note, site: &Site, finding: &Finding) {
 pub fn push_inner_loop(note: &mut Note, plan: &Plan, circle: &[u32]) {
     note.why.say("by posts from queue to queue a message may come there once more: ");
     for list in circle.iter().rev() {
-        note.why.put(&[Part::Text(name_of_list(plan, *list)), Part::Text(b", ")]);
+        note.why.append(&[Part::Text(name_of_list(plan, *list)), Part::Text(b", ")]);
     }
     if let Some(list) = circle.last() {
-        note.why.put(&[Part::Text(name_of_list(plan, *list))]);
+        note.why.append(&[Part::Text(name_of_list(plan, *list))]);
     }
     note.why
         .say("; once these queues are full, each waits for the next");

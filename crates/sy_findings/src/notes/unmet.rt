@@ -112,7 +112,7 @@ fn push_nothing(note: &mut Note, search: Search<'_>, of: Wanted<'_>, relay: u32)
     note.why
         .say(" and no forward there leads to an input that has ");
     push_wanted(&mut note.why, search, of);
-    note.change.put(&[
+    note.change.append(&[
         Part::Text(b"a forward there to a port of "),
         Part::Text(relay_name(search.site, archive.relay)),
     ]);
@@ -136,13 +136,13 @@ fn push_hindrance(
         Hindrance::Test(place) => {
             places.stands_at(alloc, note, place);
             note.what
-                .put(&[Part::Text(words_of_test(places.text, place))]);
+                .append(&[Part::Text(words_of_test(places.text, place))]);
             push_test(note, search, of, false);
         }
         Hindrance::Never(place) => {
             places.stands_at(alloc, note, place);
             note.what
-                .put(&[Part::Text(words_of_test(places.text, place))]);
+                .append(&[Part::Text(words_of_test(places.text, place))]);
             push_test(note, search, of, true);
         }
     }
@@ -161,7 +161,7 @@ fn push_spare_line(
     if let Some((line, _)) = found {
         note.stands_at(alloc, site_name.as_bytes(), Some(Point { line, column: 1 }));
     }
-    note.what.put(&[
+    note.what.append(&[
         Part::Text(b"spare "),
         Part::Text(relay_name(search.site, spare.relay)),
         Part::Text(b" "),
@@ -259,7 +259,7 @@ pub fn push_unmet(
         places,
         Thing::Action(archive.action),
     );
-    note.put_line("archive", text)?;
+    note.append_line("archive", text)?;
     let search = search_of(site, &approach, archive, places);
     push_search(alloc, texts, note, search, finding)
 }

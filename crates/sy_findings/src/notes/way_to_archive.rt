@@ -139,7 +139,7 @@ pub fn push_wanted(words: &mut Words, search: Search<'_>, of: Wanted<'_>) {
 pub fn push_moved(words: &mut Words, search: Search<'_>, of: Wanted<'_>) {
     words.say("put ");
     match of.ruleset {
-        Some(name) => words.put(&[Part::Text(b"call "), Part::Text(name)]),
+        Some(name) => words.append(&[Part::Text(b"call "), Part::Text(name)]),
         None => push_thing(words, search.site, of.relay, of.thing),
     }
 }
@@ -150,16 +150,16 @@ fn push_step(words: &mut Words, site: &Site, relay: u32, step: Step) {
         Some((_, Occurrence::Run(action))) => {
             words.say(" -> ");
             push_name(words, site, relay, action);
-            words.put(&[Part::Text(b" -> "), input_part(site, step.input)]);
+            words.append(&[Part::Text(b" -> "), input_part(site, step.input)]);
         }
         Some((_, Occurrence::Post(list))) if relay < site.relays() => {
             let plan = site.plan(relay);
             if plan.own_action(list).is_none() {
-                words.put(&[Part::Text(b" -> "), Part::Text(name_of_list(plan, list))]);
+                words.append(&[Part::Text(b" -> "), Part::Text(name_of_list(plan, list))]);
             }
         }
         Some(_) => {}
-        None => words.put(&[input_part(site, step.input)]),
+        None => words.append(&[input_part(site, step.input)]),
     }
 }
 
@@ -176,5 +176,5 @@ pub fn push_path(words: &mut Words, site: &Site, back: &[Step]) {
 /// Puts the name of an action.
 pub fn push_name(words: &mut Words, site: &Site, relay: u32, action: u32) {
     let action = SiteAction { relay, action };
-    words.put(&[Part::Text(action_name(site, action))]);
+    words.append(&[Part::Text(action_name(site, action))]);
 }

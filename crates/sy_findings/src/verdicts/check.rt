@@ -10,7 +10,7 @@ use sy_cert::{Certificate, write_cert};
 use sy_checker::{certify as make_certificate, check_site};
 use sy_report::outcome::answer::Answer;
 use sy_report::outcome::halt::Halt;
-use sy_report::texts::parts::{Part, put_parts};
+use sy_report::texts::parts::{Part, append_parts};
 use sy_site::Site;
 use sy_site::finding::{Finding, Refusal};
 
@@ -26,7 +26,7 @@ pub fn accepted(alloc: Global, classes: usize) -> Result<Answer, AllocError>
         Part::Text(b" protected classes"),
         Part::Text(b"\n"),
     ];
-    put_parts(&mut text, &parts)?;
+    append_parts(&mut text, &parts)?;
     Ok(Answer {
         text,
         is_accepted: true,

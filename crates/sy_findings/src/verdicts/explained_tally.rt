@@ -18,7 +18,7 @@ fn push_explained(
     site: &Site,
     group: &Group,
 ) -> Result<(), AllocError>
-    ensures { OnOk result (inside.PutsLineInWords site.now group.now text.old.items text.new.items) }
+    ensures { OnOk result (inside.AppendsLineInWords site.now group.now text.old.items text.new.items) }
 {
     let words = group_words(alloc, texts, site, group)?;
     push_group(alloc, text, site, group)?;

@@ -3,7 +3,7 @@ ghost use Rattle.std.specs.Prelude.{◌≡◌, ◌++◌, OnOk, flat_map};
 ghost use Rattle.sy_findings.specs.Checks as spec;
 
 use std::alloc::AllocError;
-use sy_report::texts::parts::{Part, action_name, input_part, put_parts, relay_name};
+use sy_report::texts::parts::{Part, action_name, input_part, append_parts, relay_name};
 use sy_site::finding::{Finding, Kind, WayRow};
 use sy_site::{Site, SiteAction};
 
@@ -17,7 +17,7 @@ fn push_archive(text: &mut Vec<u8>, site: &Site, archive: SiteAction) -> Result<
         Part::Text(b" "),
         Part::Text(action_name(site, archive)),
     ];
-    put_parts(text, &parts)
+    append_parts(text, &parts)
 }
 
 /// Puts what is found behind a text.
@@ -42,7 +42,7 @@ fn push_found(text: &mut Vec<u8>, site: &Site, finding: &Finding) -> Result<(), 
         input_part(site, finding.input),
         Part::Text(b": "),
     ];
-    put_parts(text, &parts)?;
+    append_parts(text, &parts)?;
     push_kind(text, site, finding.kind)?;
     text.extend_from_slice(b"\n")
 }
@@ -58,7 +58,7 @@ fn push_row(text: &mut Vec<u8>, site: &Site, row: WayRow) -> Result<(), AllocErr
         Part::Number(u64::from(row.number)),
         Part::Text(b"\n"),
     ];
-    put_parts(text, &parts)
+    append_parts(text, &parts)
 }
 
 // Puts a line for each part of a way behind a text.

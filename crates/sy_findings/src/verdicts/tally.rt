@@ -5,7 +5,7 @@ ghost use Rattle.sy_findings.specs.Checks as spec;
 use crate::verdicts::findings::push_kind;
 use std::alloc::{AllocError, Global};
 use sy_checker::Group;
-use sy_report::texts::parts::{Part, input_part, put_parts};
+use sy_report::texts::parts::{Part, input_part, append_parts};
 use sy_report::texts::words::Words;
 use sy_select::{facility_text, severity_text};
 use sy_site::Site;
@@ -51,7 +51,7 @@ fn sets_of(alloc: Global, classes: &[Class]) -> Result<Vec<u8>, AllocError> {
 fn push_facility(words: &mut Words, facility: usize) {
     if facility < FACILITIES as usize {
         let class = Class::of_number(facility as u8 * SEVERITIES);
-        words.put(&[Part::Text(facility_text(class))]);
+        words.append(&[Part::Text(facility_text(class))]);
     }
 }
 
@@ -73,7 +73,7 @@ fn append_facilities(words: &mut Words, sets: &[u8], set: u8) {
 
 fn push_severity(words: &mut Words, severity: u8) {
     if severity < SEVERITIES {
-        words.put(&[Part::Text(severity_text(Class::of_number(severity)))]);
+        words.append(&[Part::Text(severity_text(Class::of_number(severity)))]);
     }
 }
 
@@ -149,7 +149,7 @@ pub fn names_of(alloc: Global, classes: &[Class]) -> Result<Vec<u8>, AllocError>
     let mut words = Words::new(alloc);
     append_classes(alloc, &mut words, classes)?;
     if classes.len() > 1 {
-        words.put(&[
+        words.append(&[
             Part::Text(b" ("),
             Part::Number(classes.len() as u64),
             Part::Text(b" classes)"),
@@ -168,7 +168,7 @@ fn push_line(text: &mut Vec<u8>, site: &Site, group: &Group, names: &[u8]) -> Re
         input_part(site, group.input),
         Part::Text(b": "),
     ];
-    put_parts(text, &parts)?;
+    append_parts(text, &parts)?;
     push_kind(text, site, group.kind)?;
     text.extend_from_slice(b"\n")
 }
@@ -180,7 +180,7 @@ pub fn push_group(
     site: &Site,
     group: &Group,
 ) -> Result<(), AllocError>
-    ensures { OnOk result (spec.PutsLine site.now group.now text.old.items text.new.items) }
+    ensures { OnOk result (spec.AppendsLine site.now group.now text.old.items text.new.items) }
 {
     let names = names_of(alloc, group.classes.as_slice())?;
     push_line(text, site, group, names.as_slice())?;
@@ -230,7 +230,7 @@ pub fn head_of(alloc: Global, groups: &[Group]) -> Result<Vec<u8>, AllocError> {
     let mut words = Words::new(alloc);
     let findings = groups.len() as u64;
     let classes = u64::from(named(groups));
-    words.put(&[
+    words.append(&[
         Part::Text(b"refused: "),
         Part::Number(findings),
         word_for(findings, b" finding", b" findings"),

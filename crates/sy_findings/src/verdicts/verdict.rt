@@ -11,7 +11,7 @@ use sy_cert::Certificate;
 use sy_checker::{CertFault, RowKind, verify};
 use sy_report::outcome::answer::Answer;
 use sy_report::outcome::halt::Halt;
-use sy_report::texts::parts::{Part, put_parts};
+use sy_report::texts::parts::{Part, append_parts};
 use sy_site::Site;
 
 /// The first line of a certificate that is wrong, and what is wanted there.
@@ -34,7 +34,7 @@ fn refused(alloc: Global, line: usize, row: RowKind) -> Result<Answer, AllocErro
         Part::Text(row.words().as_bytes()),
         Part::Text(b"\n"),
     ];
-    put_parts(&mut text, &parts)?;
+    append_parts(&mut text, &parts)?;
     Ok(Answer {
         text,
         is_accepted: false,

@@ -36,7 +36,7 @@ fn note_of(alloc: Global, looked: Looked<'_>, item: Item<'_>) -> Note {
     let mut note = Note::new(alloc);
     let point = point_at(looked.text, item.place);
     note.stands_at(alloc, looked.file.as_bytes(), Some(point));
-    note.what.put(&parts_of(looked, item.what));
+    note.what.append(&parts_of(looked, item.what));
     note
 }
 
@@ -45,8 +45,8 @@ fn note_of_param(alloc: Global, looked: Looked<'_>, item: Item<'_>, param: &Para
     let mut note = Note::new(alloc);
     let point = point_at(looked.text, param.name.span.start);
     note.stands_at(alloc, looked.file.as_bytes(), Some(point));
-    note.what.put(&[Part::Text(param.name.text.as_slice()), Part::Text(b" of ")]);
-    note.what.put(&parts_of(looked, item.what));
+    note.what.append(&[Part::Text(param.name.text.as_slice()), Part::Text(b" of ")]);
+    note.what.append(&parts_of(looked, item.what));
     note
 }
 
@@ -61,7 +61,7 @@ pub fn no_effect(alloc: Global, looked: Looked<'_>, item: Item<'_>, param: &Para
 /// That a parameter of a queue has no effect, since there is no queue.
 pub fn no_queue(alloc: Global, looked: Looked<'_>, item: Item<'_>, param: &Param) -> Note {
     let mut note = note_of_param(alloc, looked, item, param);
-    note.why.put(&parts_of(looked, item.what));
+    note.why.append(&parts_of(looked, item.what));
     match item.what {
         What::Action(_) => {
             note.why.say(
@@ -96,14 +96,14 @@ pub fn mark_above_size(
     mark: u32,
 ) -> Note {
     let mut note = note_of_param(alloc, looked, item, param);
-    note.why.put(&[
+    note.why.append(&[
         Part::Text(b"it is "),
         Part::Number(u64::from(mark)),
         Part::Text(b" and queue.size "),
         Part::Number(u64::from(queue.size)),
         Part::Text(b", so that the queue is full before it comes to this mark"),
     ]);
-    note.change.put(&[
+    note.change.append(&[
         Part::Text(b"at most "),
         Part::Number(u64::from(queue.size)),
         Part::Text(b" there, or queue.size=\""),
@@ -118,7 +118,7 @@ pub fn uncalled_ruleset(alloc: Global, looked: Looked<'_>, item: Item<'_>, rules
     let mut note = note_of(alloc, looked, item);
     let name = Part::Text(name_of_list(looked.plan, ruleset.saturating_add(1)));
     note.why.say("no input and no call names it, so that no message comes to it");
-    note.change.put(&[
+    note.change.append(&[
         Part::Text(b"ruleset=\""),
         name,
         Part::Text(b"\" at an input, or call "),
@@ -154,9 +154,9 @@ pub fn unreached_relay(alloc: Global, site: &Site, relay: u32, site_name: &str, 
     let mut note = Note::new(alloc);
     let name = Part::Text(relay_name(site, relay));
     note.stands_at(alloc, site_name.as_bytes(), Some(Point { line, column: 1 }));
-    note.what.put(&[Part::Text(b"relay "), name]);
+    note.what.append(&[Part::Text(b"relay "), name]);
     note.why.say("it has no entry, and no forward by which messages of an entry come leads to it");
-    note.change.put(&[
+    note.change.append(&[
         Part::Text(b"a line entry "),
         name,
         Part::Text(b" PORT in the site file, or a forward to it, or leave it out"),
@@ -173,13 +173,13 @@ pub fn outside_input(
     port: u16,
 ) -> Note {
     let mut note = note_of(alloc, looked, item);
-    note.why.put(&[
+    note.why.append(&[
         Part::Text(
             b"it is no entry and no forward of the site leads to it; what comes in there has no promise, and takes room in the queue of the protected messages of port ",
         ),
         Part::Number(u64::from(port)),
     ]);
-    note.change.put(&[
+    note.change.append(&[
         Part::Text(b"a line entry "),
         Part::Text(relay_name(looked.site, looked.relay)),
         Part::Text(b" "),
@@ -193,7 +193,7 @@ pub fn outside_input(
 pub fn after_stop(alloc: Global, looked: Looked<'_>, item: Item<'_>, stop: usize) -> Note {
     let mut note = note_of(alloc, looked, item);
     let point = point_at(looked.text, stop);
-    note.why.put(&[
+    note.why.append(&[
         Part::Text(b"no message comes to it, since it stands after the stop at "),
         Part::Text(looked.file.as_bytes()),
         Part::Text(b":"),
@@ -219,9 +219,9 @@ fn point_of_action(looked: Looked<'_>, action: u32) -> Option<Point> {
 
 // Puts an action by its name and where it stands.
 fn push_action(note: &mut Note, looked: Looked<'_>, action: u32) {
-    note.why.put(&[action_part(looked.plan, action)]);
+    note.why.append(&[action_part(looked.plan, action)]);
     if let Some(point) = point_of_action(looked, action) {
-        note.why.put(&[
+        note.why.append(&[
             Part::Text(b" at "),
             Part::Text(looked.file.as_bytes()),
             Part::Text(b":"),
@@ -242,7 +242,7 @@ pub fn unread_in_archive(
 ) -> Note {
     let mut note = note_of(alloc, looked, item);
     note.why.say("it keeps frames without a message in ");
-    note.why.put(&[Part::Text(file)]);
+    note.why.append(&[Part::Text(file)]);
     note.why.say(", which is written by action ");
     push_action(&mut note, looked, action);
     note.why
@@ -261,7 +261,7 @@ pub fn same_file(
 ) -> Note {
     let mut note = note_of(alloc, looked, item);
     note.why.say("it writes ");
-    note.why.put(&[Part::Text(file)]);
+    note.why.append(&[Part::Text(file)]);
     note.why.say(", as does action ");
     push_action(&mut note, looked, earlier);
     note.why

@@ -94,8 +94,8 @@ fn answer<R: Wait + Clock, C: Connector, E: Sink + Drop>(
     match request {
         Request::Reopen => of.reopens.ask(),
         Request::Status => match of.relay.status(rt, alloc) {
-            Some(standing) => of.serving.tell_totals(rt, alloc, of.actions, &standing),
-            None => of.serving.tell_text(rt, "no memory"),
+            Some(standing) => of.serving.report_totals(rt, alloc, of.actions, &standing),
+            None => of.serving.report_text(rt, "no memory"),
         },
         Request::StatusJson => of.serving.report_document(rt, alloc, of.relay),
     }

@@ -3,7 +3,7 @@ ghost use Rattle.std.specs.Prelude.{◌≡◌, ◌≤◌, ◌<◌, ◌^◌, List
 ghost use Rattle.sy_board.specs.relay.Totals.{GuardState};
 ghost use Rattle.sy_host.specs.Left.{Keeps, KeepsFile};
 ghost use Rattle.sy_runtime.specs.Connections.{Counts};
-ghost use Rattle.sy_host.specs.Totals.{EndsWithTotals, IsTold, WroteTotals, unread_of};
+ghost use Rattle.sy_host.specs.Totals.{EndsWithTotals, IsReported, WroteTotals, unread_of};
 ghost use Rattle.sy_host.specs.internal.Served.{IsLeft};
 
 use crate::ending::left::{KeepFault, Store, keep_left};
@@ -24,7 +24,7 @@ use sy_wire::Sink;
 pub(crate) fn out_of_memory<R: Wait, E: Sink + Drop>(rt: &R, serving: &Serving<E>) -> u8
     ensures { result ≡ 3 }
 {
-    serving.tell_text(rt, "no memory");
+    serving.report_text(rt, "no memory");
     3
 }
 
@@ -64,7 +64,7 @@ fn print_totals<R: Wait, W: Sink, E: Sink + Drop>(
         Ok(()) => 0,
         Err(TotalsFault::NoMemory) => out_of_memory(rt, serving),
         Err(TotalsFault::Write) => {
-            serving.tell_text(rt, "write failed");
+            serving.report_text(rt, "write failed");
             4
         }
     }
@@ -94,7 +94,7 @@ fn keep<R: Wait, T: Store, E: Sink + Drop>(
         Ok(()) => status,
         Err(KeepFault::NoMemory) => out_of_memory(rt, serving),
         Err(KeepFault::Write) => {
-            serving.tell_text(rt, "write failed");
+            serving.report_text(rt, "write failed");
             4
         }
     }
@@ -113,7 +113,7 @@ pub(crate) fn finish<R: Wait, T: Store, W: Sink, E: Sink + Drop>(
     ensures status { result ≤ 4 }
     ensures done { result ≡ 0 → (guard : Option GuardState) (ends : List Counts)
         → IfOk ended.answer (λ stopped. IsLeft guard ends stopped.accounts stopped.left)
-        → (unread_of ends < 2 ^ 128 → IsTold (unread_of ends) ended.unread)
+        → (unread_of ends < 2 ^ 128 → IsReported (unread_of ends) ended.unread)
         → EndsWithTotals plan.now.actions guard (W.contents writer.old) (W.contents writer.new)
         (T.wanted store.old) (KeepsFile T.begun T.kept) plan.now.inputs store.old store.new }
 {
@@ -133,7 +133,7 @@ pub(crate) fn finish<R: Wait, T: Store, W: Sink, E: Sink + Drop>(
             keep(rt, alloc, serving, store, plan.inputs(), left, status)
         }
         Err(Mismatch) => {
-            serving.tell_text(rt, "totals differ");
+            serving.report_text(rt, "totals differ");
             4
         }
     }

@@ -1,6 +1,6 @@
 //! The totals of a relay as they stand, on standard error.
 
-use crate::ending::totals::{Numbers, put_totals, told_of};
+use crate::ending::totals::{Numbers, append_totals, reported_of};
 use crate::listening::serving::Serving;
 use std::alloc::{AllocError, Global};
 use std::sync::Wait;
@@ -16,12 +16,12 @@ fn append_standing(
     numbers: Numbers<'_>,
 ) -> Result<(), AllocError> {
     text.extend_from_slice(runs)?;
-    put_totals(text, actions, numbers)
+    append_totals(text, actions, numbers)
 }
 
 impl<E: Sink + Drop> Serving<E> {
     /// Prints which files the relay runs, and the totals of a relay with these actions as they stand.
-    pub fn tell_totals<R: Wait>(
+    pub fn report_totals<R: Wait>(
         &self,
         rt: &R,
         alloc: Global,
@@ -32,14 +32,14 @@ impl<E: Sink + Drop> Serving<E> {
             taken: standing.taken,
             lost: standing.lost,
             held: standing.held,
-            unread: told_of(self.unread().is_some(), self.log().unread_frames()),
+            unread: reported_of(self.unread().is_some(), self.log().unread_frames()),
             actions: standing.actions.as_slice(),
         };
         let mut text = Vec::new(alloc);
         let written = append_standing(&mut text, self.runs(), actions, numbers);
         match written {
             Ok(()) => self.print(rt, Ok(text)),
-            Err(_) => self.tell_text(rt, "no memory"),
+            Err(_) => self.report_text(rt, "no memory"),
         }
     }
 }

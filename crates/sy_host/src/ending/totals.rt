@@ -6,7 +6,7 @@ ghost use Rattle.sy_host.specs.Totals as spec;
 
 use std::alloc::{AllocError, Global};
 use sy_board::{Accounts, ActionCounts};
-use sy_report::texts::parts::{Part, put_parts};
+use sy_report::texts::parts::{Part, append_parts};
 use sy_report::writing::output::send;
 use sy_rules::Action;
 use sy_runtime::ConnEnd;
@@ -42,8 +42,8 @@ pub fn unread_of(ends: &[ConnEnd]) -> u128
 }
 
 /// What is told of so many frames that carried no message: how many, where there are any, or where they are kept.
-pub fn told_of(is_kept: bool, unread: u128) -> Option<u128>
-    ensures { spec.IsTold unread result }
+pub fn reported_of(is_kept: bool, unread: u128) -> Option<u128>
+    ensures { spec.IsReported unread result }
 {
     if is_kept || unread > 0 {
         return Some(unread);
@@ -52,10 +52,10 @@ pub fn told_of(is_kept: bool, unread: u128) -> Option<u128>
 }
 
 /// What is told of the frames of these connections that carried no message.
-pub fn told_by(is_kept: bool, ends: &Vec<ConnEnd>) -> Option<u128>
-    ensures { spec.unread_of ends.now.items < 2 ^ 128 → spec.IsTold (spec.unread_of ends.now.items) result }
+pub fn reported_by(is_kept: bool, ends: &Vec<ConnEnd>) -> Option<u128>
+    ensures { spec.unread_of ends.now.items < 2 ^ 128 → spec.IsReported (spec.unread_of ends.now.items) result }
 {
-    told_of(is_kept, unread_of(ends.as_slice()))
+    reported_of(is_kept, unread_of(ends.as_slice()))
 }
 
 /// The numbers of a relay that still holds so many entries, of which this is told of frames that carried no message.
@@ -73,7 +73,7 @@ pub fn numbers_of(accounts: &Accounts, held: u128, unread: Option<u128>) -> Numb
 }
 
 // The line of the messages.
-fn put_messages(text: &mut Vec<u8>, numbers: Numbers<'_>) -> Result<(), AllocError>
+fn append_messages(text: &mut Vec<u8>, numbers: Numbers<'_>) -> Result<(), AllocError>
     ensures { OnOk result (text.new.items
         ≡ text.old.items ++ spec.messages_line numbers.entry.taken numbers.entry.lost numbers.entry.held) }
 {
@@ -86,7 +86,7 @@ fn put_messages(text: &mut Vec<u8>, numbers: Numbers<'_>) -> Result<(), AllocErr
         Part::Sum(numbers.held),
         Part::Text(b"\n"),
     ];
-    put_parts(text, &parts)
+    append_parts(text, &parts)
 }
 
 // The line of the frames that carried no message, where that is told.
@@ -97,11 +97,11 @@ fn append_unread(text: &mut Vec<u8>, unread: Option<u128>) -> Result<(), AllocEr
         return Ok(());
     };
     let parts = [Part::Text(b"unread "), Part::Sum(unread), Part::Text(b"\n")];
-    put_parts(text, &parts)
+    append_parts(text, &parts)
 }
 
 // What stands in the line of an action behind its name.
-fn put_counts(text: &mut Vec<u8>, due: u128, counts: ActionCounts) -> Result<(), AllocError>
+fn append_counts(text: &mut Vec<u8>, due: u128, counts: ActionCounts) -> Result<(), AllocError>
     ensures { OnOk result (text.new.items
         ≡ text.old.items ++ spec.counts_text due counts.done counts.given_up counts.left) }
 {
@@ -116,11 +116,11 @@ fn put_counts(text: &mut Vec<u8>, due: u128, counts: ActionCounts) -> Result<(),
         Part::Number(counts.left),
         Part::Text(b"\n"),
     ];
-    put_parts(text, &parts)
+    append_parts(text, &parts)
 }
 
 // The line of an action, of which so many runs became due.
-fn put_line(
+fn append_line(
     text: &mut Vec<u8>,
     name: &[u8],
     due: u128,
@@ -130,19 +130,19 @@ fn put_line(
         ≡ text.old.items ++ spec.line_with name.now due counts.done counts.given_up counts.left) }
 {
     text.extend_from_slice(name)?;
-    put_counts(text, due, counts)
+    append_counts(text, due, counts)
 }
 
 // The line of an action.
 #[tactic(auto, using(crate::proofs::Counted::line_of))]
-fn put_action(text: &mut Vec<u8>, name: &[u8], counts: ActionCounts) -> Result<(), AllocError>
+fn append_action(text: &mut Vec<u8>, name: &[u8], counts: ActionCounts) -> Result<(), AllocError>
     ensures { OnOk result (text.new.items ≡ text.old.items ++ spec.action_line name.now (counts_of counts)) }
 {
-    put_line(text, name, counts.due(), counts)
+    append_line(text, name, counts.due(), counts)
 }
 
 // The lines of the actions, in their order.
-fn put_actions(
+fn append_actions(
     text: &mut Vec<u8>,
     actions: &[Action],
     counts: &[ActionCounts],
@@ -154,14 +154,14 @@ fn put_actions(
         let Some(count) = counts.get(place) else {
             return Ok(());
         };
-        put_action(text, action.name.as_slice(), *count)?;
+        append_action(text, action.name.as_slice(), *count)?;
         place += 1;
     }
     Ok(())
 }
 
 // Puts the totals of a relay with these actions behind a text.
-pub(crate) fn put_totals(
+pub(crate) fn append_totals(
     text: &mut Vec<u8>,
     actions: &[Action],
     numbers: Numbers<'_>,
@@ -169,9 +169,9 @@ pub(crate) fn put_totals(
     ensures { OnOk result (text.new.items ≡ text.old.items
         ++ spec.counts_lines actions.now numbers.entry.taken numbers.entry.lost numbers.entry.held numbers.entry.unread (map counts_of numbers.entry.actions.now)) }
 {
-    put_messages(text, numbers)?;
+    append_messages(text, numbers)?;
     append_unread(text, numbers.unread)?;
-    put_actions(text, actions, numbers.actions)
+    append_actions(text, actions, numbers.actions)
 }
 
 /// Writes the totals of a relay with these actions, and hands them on.
@@ -185,7 +185,7 @@ pub fn write_totals<W: Sink>(
         (spec.counts_lines actions.now numbers.entry.taken numbers.entry.lost numbers.entry.held numbers.entry.unread (map counts_of numbers.entry.actions.now))) }
 {
     let mut text = Vec::new(alloc);
-    let Ok(()) = put_totals(&mut text, actions, numbers) else {
+    let Ok(()) = append_totals(&mut text, actions, numbers) else {
         return Err(TotalsFault::NoMemory);
     };
     match send(writer, text.as_slice()) {

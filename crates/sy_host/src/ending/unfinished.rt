@@ -4,7 +4,7 @@ use crate::ending::remaining::Counted;
 use crate::listening::serving::Serving;
 use std::alloc::{AllocError, Global};
 use std::sync::Wait;
-use sy_report::texts::parts::{Part, put_parts};
+use sy_report::texts::parts::{Part, append_parts};
 use sy_rules::Input;
 use sy_wire::Sink;
 
@@ -20,7 +20,7 @@ fn untaken_line(alloc: Global, port: u16, counted: Counted) -> Result<Vec<u8>, A
         Part::Number(counted.parts),
         Part::Text(b" connections\n"),
     ];
-    put_parts(&mut line, &parts)?;
+    append_parts(&mut line, &parts)?;
     Ok(line)
 }
 
@@ -36,7 +36,7 @@ fn unread_line(alloc: Global, port: u16, counted: Counted) -> Result<Vec<u8>, Al
         Part::Number(counted.bytes),
         Part::Text(b" bytes or more\n"),
     ];
-    put_parts(&mut line, &parts)?;
+    append_parts(&mut line, &parts)?;
     Ok(line)
 }
 
@@ -46,8 +46,8 @@ fn report<R: Wait, E: Sink + Drop>(
     line: Result<Vec<u8>, AllocError>,
 ) {
     match line {
-        Ok(line) => serving.tell_line(rt, line.as_slice()),
-        Err(_) => serving.tell_text(rt, "no memory"),
+        Ok(line) => serving.report_line(rt, line.as_slice()),
+        Err(_) => serving.report_text(rt, "no memory"),
     }
 }
 

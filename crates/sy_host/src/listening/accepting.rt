@@ -124,7 +124,7 @@ fn accept_all<
             let has_accepted = accept(rt, alloc, of, threads, number).is_ok();
             if !has_accepted {
                 if !has_failed {
-                    of.serving.tell(&rt, b"accept failed", of.at.port);
+                    of.serving.report_at_port(&rt, b"accept failed", of.at.port);
                 }
                 thread::sleep(&rt, pause);
             }

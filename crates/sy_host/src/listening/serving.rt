@@ -16,7 +16,7 @@ use sy_log::log::Log;
 use sy_log::peers::PeerEnd;
 use sy_log::printer::Printer;
 use sy_log::printing::Printing;
-use sy_report::texts::parts::{Part, put_parts};
+use sy_report::texts::parts::{Part, append_parts};
 use sy_report::texts::reason::Reason;
 use sy_runtime::{ConnEnd, Finish, RunFault, Untaken};
 use sy_watched::watch::Watch;
@@ -65,7 +65,7 @@ pub struct Port {
 // The line that says this.
 fn said(alloc: Global, words: &[u8]) -> Result<Vec<u8>, AllocError> {
     let mut text = Vec::new(alloc);
-    put_parts(
+    append_parts(
         &mut text,
         &[Part::Text(b"syc: "), Part::Text(words), Part::Text(b"\n")],
     )?;
@@ -81,13 +81,13 @@ fn said_at(alloc: Global, words: &[u8], port: u16) -> Result<Vec<u8>, AllocError
 
 impl<E: Sink + Drop> Serving<E> {
     /// Nothing is served yet. What happens is noted there and printed here.
-    pub fn new(alloc: Global, errors: E, told: Notices) -> Serving<E> {
+    pub fn new(alloc: Global, errors: E, reported: Notices) -> Serving<E> {
         let Notices {
             log,
             runs,
             watch,
             unread,
-        } = told;
+        } = reported;
         Serving {
             alloc,
             printing: Printing::new(alloc),
@@ -138,17 +138,17 @@ impl<E: Sink + Drop> Serving<E> {
     }
 
     /// Prints this line.
-    pub fn tell_line<R: Wait>(&self, rt: &R, line: &[u8]) {
+    pub fn report_line<R: Wait>(&self, rt: &R, line: &[u8]) {
         self.print(rt, Vec::from_slice(self.alloc, line));
     }
 
     /// Prints what happened at a port.
-    pub fn tell<R: Wait>(&self, rt: &R, words: &[u8], port: u16) {
+    pub fn report_at_port<R: Wait>(&self, rt: &R, words: &[u8], port: u16) {
         self.print(rt, said_at(self.alloc, words, port));
     }
 
     /// Prints what happened.
-    pub fn tell_text<R: Wait>(&self, rt: &R, text: &str) {
+    pub fn report_text<R: Wait>(&self, rt: &R, text: &str) {
         self.print(rt, said(self.alloc, text.as_bytes()));
     }
 

@@ -21,7 +21,7 @@ pub struct Coming<'a, E: Drop> {
     // how many of its frames were too long, of which its end counts none
     long: AtomicU64,
     // whether it was told that it sends what is no message
-    is_told: AtomicBool,
+    is_reported: AtomicBool,
 }
 
 impl<'a, E: Sink + Drop> Coming<'a, E> {
@@ -32,7 +32,7 @@ impl<'a, E: Sink + Drop> Coming<'a, E> {
             at,
             peer,
             long: AtomicU64::new(0),
-            is_told: AtomicBool::new(false),
+            is_reported: AtomicBool::new(false),
         }
     }
 
@@ -51,7 +51,7 @@ impl<'a, E: Sink + Drop> Coming<'a, E> {
         if let Some(file) = self.serving.unread() {
             file.keep(rt, frame)?;
         }
-        if !self.is_told.swap(true, Ordering::SeqCst) {
+        if !self.is_reported.swap(true, Ordering::SeqCst) {
             let sending = Sending {
                 peer: self.peer,
                 what: frame.what,

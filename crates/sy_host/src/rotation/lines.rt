@@ -13,8 +13,8 @@ fn say_refusal(alloc: Global, words: &mut Words, refusal: Refusal) -> Result<(),
         Refusal::NoFrames => words.say("it hasn't whole frames alone"),
         Refusal::Host(reason) => {
             let mut text = Vec::new(alloc);
-            reason.put(alloc, &mut text)?;
-            words.put(&[Part::Text(text.as_slice())]);
+            reason.append(alloc, &mut text)?;
+            words.append(&[Part::Text(text.as_slice())]);
         }
     }
     Ok(())
@@ -36,7 +36,7 @@ fn say_notice(
     match notice {
         Notice::Is(Trouble::Refused(refusal)) => {
             words.say(" can't reopen ");
-            words.put_in_line(path);
+            words.append_in_line(path);
             words.say(": ");
             say_refusal(alloc, words, refusal)?;
             words.say("; lines go on to the file that was renamed");
@@ -44,11 +44,11 @@ fn say_notice(
         Notice::Is(Trouble::Nameless) => words.say(" writes to a file that has no name any more"),
         Notice::Reopened => {
             words.say(" reopened ");
-            words.put_in_line(path);
+            words.append_in_line(path);
         }
         Notice::Named => {
             words.say(" writes to ");
-            words.put_in_line(path);
+            words.append_in_line(path);
             words.say(" again");
         }
     }
@@ -65,7 +65,7 @@ pub fn notice_line(
 ) -> Result<Vec<u8>, AllocError> {
     let mut words = Words::new(alloc);
     words.say("syc: ");
-    words.put(&[Part::Text(action)]);
+    words.append(&[Part::Text(action)]);
     say_notice(alloc, &mut words, path, notice)?;
     words.say("\n");
     words.finish()
@@ -74,13 +74,13 @@ pub fn notice_line(
 /// The answer once so many archives were opened anew. Others wait for who writes to them, or for a pipe's reader.
 pub fn answer_line(alloc: Global, reopened: u64, later: u64) -> Result<Vec<u8>, AllocError> {
     let mut words = Words::new(alloc);
-    words.put(&[
+    words.append(&[
         Part::Text(b"syc: reopened "),
         Part::Number(reopened),
         Part::Text(b" archives"),
     ]);
     if later > 0 {
-        words.put(&[
+        words.append(&[
             Part::Text(b", "),
             Part::Number(later),
             Part::Text(b" not yet"),

@@ -35,7 +35,7 @@ pub enum Notice {
 /// What was told of an archive's file. All times are in milliseconds.
 #[derive(Clone, Copy)]
 pub struct Troubles {
-    told: Option<Trouble>,
+    reported: Option<Trouble>,
     // of the requests that were tried and followed as that was told, the last
     tried: u64,
     followed: u64,
@@ -81,7 +81,7 @@ impl Troubles {
     /// Nothing was told of a file of which this is known.
     pub fn new(known: &Known) -> Troubles {
         Troubles {
-            told: None,
+            reported: None,
             tried: known.tried,
             followed: known.followed,
             again: 0,
@@ -164,7 +164,7 @@ impl Troubles {
     // When there is a line, if there is one.
     fn line_at(&self, known: &Known) -> Option<u64> {
         let trouble = self.trouble(known);
-        if kind_of(trouble) != kind_of(self.told) {
+        if kind_of(trouble) != kind_of(self.reported) {
             return Some(self.pace.next);
         }
         if trouble.is_none() {
@@ -182,11 +182,11 @@ impl Troubles {
             return None;
         }
         let is_new = known.followed != self.followed;
-        self.told = self.trouble(known);
+        self.reported = self.trouble(known);
         self.tried = known.tried;
         self.followed = known.followed;
         self.again = now.saturating_add(AGAIN);
-        match self.told {
+        match self.reported {
             Some(trouble) => Some(Notice::Is(trouble)),
             None if is_new => Some(Notice::Reopened),
             None => Some(Notice::Named),

@@ -5,7 +5,7 @@ use crate::rotation::lines::{answer_line, notice_line};
 use crate::rotation::reopens::Reopens;
 use crate::rotation::rotated::{Known, Rotated};
 use crate::rotation::troubles::{Troubles, earlier};
-use crate::telling::millis;
+use crate::reporting::millis;
 use std::alloc::{AllocError, Global};
 use std::sync::{Arc, Wait};
 use std::thread;
@@ -56,7 +56,7 @@ impl Seen {
 }
 
 // Tells what is due of an archive.
-fn tell_due<R: Wait, E: Sink + Drop>(
+fn report_due<R: Wait, E: Sink + Drop>(
     rt: &R,
     alloc: Global,
     serving: &Serving<E>,
@@ -70,7 +70,7 @@ fn tell_due<R: Wait, E: Sink + Drop>(
     let archive = &*watched.archive;
     let path = archive.path().as_bytes();
     if let Ok(line) = notice_line(alloc, archive.log().name(), path, notice) {
-        serving.tell_line(rt, line.as_slice());
+        serving.report_line(rt, line.as_slice());
     }
 }
 
@@ -107,7 +107,7 @@ fn attend_to_all<R: Wait, E: Sink + Drop>(
     };
     for watched in watcher.archives.iter_mut() {
         if let Some(known) = attend(watched, asked, now) {
-            tell_due(rt, alloc, &watcher.serving, watched, &known, now);
+            report_due(rt, alloc, &watcher.serving, watched, &known, now);
             seen.add(&known, asked);
             let wake = watched.troubles.wake(&known, watched.archive.is_written());
             let retry = watched.troubles.retry_wake(&known, asked);
@@ -140,7 +140,7 @@ fn answer<R: Wait, E: Sink + Drop>(
     watcher.answered = asked;
     watcher.answer_by = None;
     if let Ok(line) = answer_line(alloc, seen.reopened, seen.later) {
-        watcher.serving.tell_line(rt, line.as_slice());
+        watcher.serving.report_line(rt, line.as_slice());
     }
     seen.wake
 }

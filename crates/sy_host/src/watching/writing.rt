@@ -14,7 +14,7 @@ use sy_watched::document::document;
 use sy_watched::file::MetricsFile;
 use sy_watched::look::{Moment, now, running, stopped, watched};
 use sy_watched::metrics::metrics;
-use sy_watched::told::{Told, file_line};
+use sy_watched::reported::{Reported, file_line};
 use sy_wire::Sink;
 
 // What writes the file.
@@ -23,7 +23,7 @@ struct Writer<C: Drop, E: Drop> {
     relay: Arc<C>,
     serving: Arc<Serving<E>>,
     file: MetricsFile,
-    told: Told,
+    reported: Reported,
 }
 
 // The metrics of a relay with these totals.
@@ -78,14 +78,14 @@ fn write<R: Wait, C: Connector, E: Sink + Drop>(
     seconds: u64,
 ) {
     let line = match replace(&writer.file, text) {
-        Ok(()) => writer.told.works(seconds),
-        Err(reason) => writer.told.fails(seconds, reason),
+        Ok(()) => writer.reported.works(seconds),
+        Err(reason) => writer.reported.fails(seconds, reason),
     };
     let Some(line) = line else {
         return;
     };
     if let Ok(text) = file_line(alloc, writer.file.name(), line) {
-        writer.serving.tell_line(rt, text.as_slice());
+        writer.serving.report_line(rt, text.as_slice());
     }
 }
 
@@ -141,7 +141,7 @@ fn start_writing<
         relay: Arc::try_clone(relay)?,
         serving: Arc::try_clone(serving)?,
         file,
-        told: Told::new(),
+        reported: Reported::new(),
     };
     serving.watch().set_over(false);
     match thread::spawn(&rt, move || write_all(rt, alloc, writer)) {
@@ -163,7 +163,7 @@ pub fn start_metrics<
         return;
     };
     if start_writing(rt, alloc, relay, serving, file).is_err() {
-        serving.tell_text(&rt, "metrics can't be written: no thread");
+        serving.report_text(&rt, "metrics can't be written: no thread");
     }
 }
 
@@ -192,8 +192,8 @@ impl<E: Sink + Drop> Serving<E> {
             None => Err(AllocError),
         };
         match text {
-            Ok(text) => self.tell_line(rt, text.as_slice()),
-            Err(_) => self.tell_text(rt, "no memory"),
+            Ok(text) => self.report_line(rt, text.as_slice()),
+            Err(_) => self.report_text(rt, "no memory"),
         }
     }
 

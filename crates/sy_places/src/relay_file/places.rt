@@ -5,7 +5,7 @@ use crate::site_file::source::{point_at, word_in};
 use crate::site_file::texts::RelayFile;
 use std::alloc::{AllocError, Global};
 use std::str;
-use sy_report::texts::note::{Note, Point, put_point};
+use sy_report::texts::note::{Note, Point, append_point};
 use sy_report::texts::words::Words;
 use sy_site::{Site, SiteAction, without_return};
 
@@ -54,7 +54,7 @@ impl<'a> Places<'a> {
     /// Puts the file with a place of it, as `hub.conf:4:1`.
     pub fn push_point(&self, words: &mut Words, place: usize) {
         let point = point_at(self.text, place);
-        put_point(words, self.file.as_bytes(), Some(point));
+        append_point(words, self.file.as_bytes(), Some(point));
     }
 }
 

@@ -55,7 +55,7 @@ pub fn all_words<'a>(alloc: Global, args: &'a [String]) -> Result<Vec<&'a str>, 
 }
 
 // Puts a word behind others, where it is no option.
-fn put_bare<'a>(words: &mut Vec<&'a str>, word: &'a str) -> Result<(), AllocError>
+fn push_bare<'a>(words: &mut Vec<&'a str>, word: &'a str) -> Result<(), AllocError>
     ensures { OnOk result (map (λ s. s.now) words.new.items ≡ map (λ s. s.now) words.old.items ++ bare_of (word.now ∷ [])) }
 {
     if is_option(word) {
@@ -72,7 +72,7 @@ fn bare_words<'a>(alloc: Global, args: &'a [String]) -> Result<Vec<&'a str>, All
     let mut bare = Vec::new(alloc);
     bare.push("syc")?;
     for arg in args {
-        put_bare(&mut bare, arg.as_str())?;
+        push_bare(&mut bare, arg.as_str())?;
     }
     Ok(bare)
 }

@@ -3,10 +3,10 @@ ghost use Rattle.std.specs.Prelude.{◌≡◌, ◌≢◌, ◌≤◌, IfErr, IfOk
 ghost use Rattle.std.specs.Io.KnownBytes.{Keeps};
 ghost use Rattle.sy_report.specs.HaltTexts.{halt_report};
 ghost use Rattle.sy_report.specs.Outcomes.{Prints, status_for};
-ghost use Rattle.sy_report.specs.Reports.{Tells};
+ghost use Rattle.sy_report.specs.Reports.{HasReported};
 ghost use Rattle.sy_report.specs.Halts.{status_at};
 
-use crate::outcome::halt::{Halt, status_of, tell};
+use crate::outcome::halt::{Halt, status_of, report_halt};
 use crate::writing::output::send;
 use crate::writing::outputs::Outputs;
 use sy_wire::Sink;
@@ -21,11 +21,11 @@ pub struct Answer {
 /// Tells why a command stops, and answers the exit status.
 pub fn stop<W: Sink, E: Sink>(out: &mut Outputs<W, E>, halt: &Halt) -> u8
     ensures status { result ≡ status_at halt.now }
-    ensures told { Tells out.old out.new (halt_report halt.now) }
+    ensures reported { HasReported out.old out.new (halt_report halt.now) }
     ensures same { out.new.output ≡ out.old.output }
     ensures failed { result ≢ 0 }
 {
-    tell(&mut out.errors, halt);
+    report_halt(&mut out.errors, halt);
     status_of(halt)
 }
 
@@ -40,7 +40,7 @@ fn status(is_accepted: bool) -> u8
 pub fn print<W: Sink, E: Sink>(answer: Result<Answer, Halt>, out: &mut Outputs<W, E>) -> u8
     ensures printed { IfOk answer (λ a. Prints a.text.items a.is_accepted result out.old out.new) }
     ensures stopped { IfErr answer (λ halt. (result ≡ status_at halt) × (out.new.output ≡ out.old.output)
-        × Tells out.old out.new (halt_report halt)) }
+        × HasReported out.old out.new (halt_report halt)) }
     ensures failed { IfErr answer (λ _. result ≢ 0) }
     ensures status { result ≤ 4 }
     ensures none_failed { result ≢ 4 → out.new.output.faults ≡ out.old.output.faults }

@@ -4,7 +4,7 @@ ghost use Rattle.sy_report.specs.HaltTexts.{at_place, first_line, halt_report, i
 ghost use Rattle.sy_report.specs.Reports.{Reported, seen};
 ghost use Rattle.sy_report.specs.Halts as spec;
 
-use crate::outcome::report::{tell_text, tell_texts};
+use crate::outcome::report::{report_text, report_texts};
 use itoa::Buffer;
 use sy_cert::TextFault;
 use sy_script::ScriptFault;
@@ -30,21 +30,21 @@ pub enum Halt {
 }
 
 // Where a fault lies.
-fn tell_in_line<E: Sink>(errors: &mut E, words: &str, line: u64)
+fn report_in_line<E: Sink>(errors: &mut E, words: &str, line: u64)
     ensures { Reported
         (seen E.contents E.is_flushed E.faults errors.old) (seen E.contents E.is_flushed E.faults errors.new)
         (in_line words.now line) }
 {
     let mut digits = Buffer::new();
     let line = digits.format(line).as_bytes();
-    tell_texts(
+    report_texts(
         errors,
         &[b"syc: ", words.as_bytes(), b" in line ", line, b"\n"],
     );
 }
 
 // A fault of a relay's script, its number and name, and its line and column in digits.
-fn tell_at_place<'a, E: Sink>(
+fn report_at_place<'a, E: Sink>(
     errors: &mut E,
     words: &'a [u8],
     line: &'a [u8],
@@ -55,7 +55,7 @@ fn tell_at_place<'a, E: Sink>(
         (seen E.contents E.is_flushed E.faults errors.old) (seen E.contents E.is_flushed E.faults errors.new)
         (at_place words.now line.now column.now relay.now) }
 {
-    tell_texts(
+    report_texts(
         errors,
         &[
             b"syc: ", words, b" at ", line, b":", column, b" of ", relay, b"\n",
@@ -63,14 +63,14 @@ fn tell_at_place<'a, E: Sink>(
     );
 }
 
-fn tell_script_fault<E: Sink>(errors: &mut E, relay: &[u8], fault: &ScriptFault)
+fn report_script_fault<E: Sink>(errors: &mut E, relay: &[u8], fault: &ScriptFault)
     ensures { Reported
         (seen E.contents E.is_flushed E.faults errors.old) (seen E.contents E.is_flushed E.faults errors.new)
         (relay_report relay.now (RelayFault.Script fault.now)) }
 {
     let mut line = Buffer::new();
     let mut column = Buffer::new();
-    tell_at_place(
+    report_at_place(
         errors,
         fault.code.words().as_bytes(),
         line.format(fault.line as u64).as_bytes(),
@@ -104,12 +104,12 @@ fn first_line(word: &[u8]) -> &[u8]
 }
 
 // A fault of a relay's plan, its number and name, and its word.
-fn tell_with_word<'a, E: Sink>(errors: &mut E, words: &'a [u8], relay: &'a [u8], word: &'a [u8])
+fn report_with_word<'a, E: Sink>(errors: &mut E, words: &'a [u8], relay: &'a [u8], word: &'a [u8])
     ensures { Reported
         (seen E.contents E.is_flushed E.faults errors.old) (seen E.contents E.is_flushed E.faults errors.new)
         (with_word words.now relay.now word.now) }
 {
-    tell_texts(
+    report_texts(
         errors,
         &[
             b"syc: ",
@@ -123,21 +123,21 @@ fn tell_with_word<'a, E: Sink>(errors: &mut E, words: &'a [u8], relay: &'a [u8],
     );
 }
 
-fn tell_relay_fault<E: Sink>(errors: &mut E, relay: &[u8], fault: &RelayFault)
+fn report_relay_fault<E: Sink>(errors: &mut E, relay: &[u8], fault: &RelayFault)
     ensures { Reported
         (seen E.contents E.is_flushed E.faults errors.old) (seen E.contents E.is_flushed E.faults errors.new)
         (relay_report relay.now fault.now) }
 {
     match fault {
-        RelayFault::Script(fault) => tell_script_fault(errors, relay, fault),
+        RelayFault::Script(fault) => report_script_fault(errors, relay, fault),
         RelayFault::Plan(fault) => {
             let words = fault.code.words().as_bytes();
-            tell_with_word(errors, words, relay, fault.word.as_slice());
+            report_with_word(errors, words, relay, fault.word.as_slice());
         }
     }
 }
 
-fn tell_site_fault<E: Sink>(errors: &mut E, fault: &SiteFault)
+fn report_site_fault<E: Sink>(errors: &mut E, fault: &SiteFault)
     ensures { Reported
         (seen E.contents E.is_flushed E.faults errors.old) (seen E.contents E.is_flushed E.faults errors.new)
         (site_report fault.now) }
@@ -149,28 +149,28 @@ fn tell_site_fault<E: Sink>(errors: &mut E, fault: &SiteFault)
         | SiteFault::NoSuchEntry(line)
         | SiteFault::NoSuchArchive(line)
         | SiteFault::NoSuchAction(line)
-        | SiteFault::SpareArchive(line) => tell_in_line(errors, fault.words(), *line as u64),
-        SiteFault::NothingProtected => tell_in_line(errors, fault.words(), 1),
-        SiteFault::Relay(_, name, why) => tell_relay_fault(errors, name.as_slice(), why),
-        SiteFault::NoMemory => tell_text(errors, "no memory"),
+        | SiteFault::SpareArchive(line) => report_in_line(errors, fault.words(), *line as u64),
+        SiteFault::NothingProtected => report_in_line(errors, fault.words(), 1),
+        SiteFault::Relay(_, name, why) => report_relay_fault(errors, name.as_slice(), why),
+        SiteFault::NoMemory => report_text(errors, "no memory"),
     }
 }
 
 /// Prints why a command stopped, as far as that can be written.
-pub fn tell<E: Sink>(errors: &mut E, halt: &Halt)
+pub fn report_halt<E: Sink>(errors: &mut E, halt: &Halt)
     ensures { Reported
         (seen E.contents E.is_flushed E.faults errors.old) (seen E.contents E.is_flushed E.faults errors.new)
         (halt_report halt.now) }
 {
     match halt {
-        Halt::Site(fault) => tell_site_fault(errors, fault),
-        Halt::Certificate(fault) => tell_in_line(errors, fault.code.words(), fault.line as u64),
-        Halt::Line(line) => tell_in_line(errors, "51 Line", *line),
-        Halt::Illegal(line) => tell_in_line(errors, "illegal event", *line),
-        Halt::TotalsFull(line) => tell_in_line(errors, "86 TotalsFull", *line),
-        Halt::NoMemory => tell_text(errors, "no memory"),
-        Halt::ReadFailed => tell_text(errors, "read failed"),
-        Halt::WriteFailed => tell_text(errors, "write failed"),
+        Halt::Site(fault) => report_site_fault(errors, fault),
+        Halt::Certificate(fault) => report_in_line(errors, fault.code.words(), fault.line as u64),
+        Halt::Line(line) => report_in_line(errors, "51 Line", *line),
+        Halt::Illegal(line) => report_in_line(errors, "illegal event", *line),
+        Halt::TotalsFull(line) => report_in_line(errors, "86 TotalsFull", *line),
+        Halt::NoMemory => report_text(errors, "no memory"),
+        Halt::ReadFailed => report_text(errors, "read failed"),
+        Halt::WriteFailed => report_text(errors, "write failed"),
     }
 }
 

@@ -21,7 +21,7 @@ fn send_texts<E: Sink>(errors: &mut E, texts: &[&[u8]]) -> Result<(), WriteFault
 }
 
 /// Prints these texts one behind the other, as far as that can be done. That it fails changes nothing else.
-pub fn tell_texts<E: Sink>(errors: &mut E, texts: &[&[u8]])
+pub fn report_texts<E: Sink>(errors: &mut E, texts: &[&[u8]])
     ensures { Reported
         (seen E.contents E.is_flushed E.faults errors.old) (seen E.contents E.is_flushed E.faults errors.new)
         (joined (map (λ text. text.now) texts.now)) }
@@ -30,10 +30,10 @@ pub fn tell_texts<E: Sink>(errors: &mut E, texts: &[&[u8]])
 }
 
 /// Prints a line that says this.
-pub fn tell_text<E: Sink>(errors: &mut E, text: &str)
+pub fn report_text<E: Sink>(errors: &mut E, text: &str)
     ensures { Reported
         (seen E.contents E.is_flushed E.faults errors.old) (seen E.contents E.is_flushed E.faults errors.new)
         (said text.now) }
 {
-    tell_texts(errors, &[b"syc: ", text.as_bytes(), b"\n"]);
+    report_texts(errors, &[b"syc: ", text.as_bytes(), b"\n"]);
 }

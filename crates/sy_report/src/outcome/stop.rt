@@ -2,7 +2,7 @@
 ghost use Rattle.std.specs.Prelude.{◌≡◌};
 ghost use Rattle.sy_report.specs.Reports.{Reported, at_offset, report, seen, status_shown};
 
-use crate::outcome::report::{tell_text, tell_texts};
+use crate::outcome::report::{report_text, report_texts};
 use itoa::Buffer;
 use sy_wire::{FrameFault, MsgFault, Sink};
 
@@ -18,14 +18,14 @@ pub enum Stop {
     WriteFailed,
 }
 
-fn tell_frame_fault<E: Sink>(errors: &mut E, fault: FrameFault, frame: u64)
+fn report_frame_fault<E: Sink>(errors: &mut E, fault: FrameFault, frame: u64)
     ensures { Reported
         (seen E.contents E.is_flushed E.faults errors.old) (seen E.contents E.is_flushed E.faults errors.new)
         (report (Stop.Frame fault) frame) }
 {
     let mut digits = Buffer::new();
     let frame = digits.format(frame).as_bytes();
-    tell_texts(
+    report_texts(
         errors,
         &[
             b"syc: ",
@@ -38,12 +38,12 @@ fn tell_frame_fault<E: Sink>(errors: &mut E, fault: FrameFault, frame: u64)
 }
 
 // A fault of a message, its number and name, with its offset and the frame's number in digits.
-fn tell_at_offset<'a, E: Sink>(errors: &mut E, words: &'a [u8], offset: &'a [u8], frame: &'a [u8])
+fn report_at_offset<'a, E: Sink>(errors: &mut E, words: &'a [u8], offset: &'a [u8], frame: &'a [u8])
     ensures { Reported
         (seen E.contents E.is_flushed E.faults errors.old) (seen E.contents E.is_flushed E.faults errors.new)
         (at_offset words.now offset.now frame.now) }
 {
-    tell_texts(
+    report_texts(
         errors,
         &[
             b"syc: ",
@@ -57,14 +57,14 @@ fn tell_at_offset<'a, E: Sink>(errors: &mut E, words: &'a [u8], offset: &'a [u8]
     );
 }
 
-fn tell_message_fault<E: Sink>(errors: &mut E, fault: MsgFault, frame: u64)
+fn report_message_fault<E: Sink>(errors: &mut E, fault: MsgFault, frame: u64)
     ensures { Reported
         (seen E.contents E.is_flushed E.faults errors.old) (seen E.contents E.is_flushed E.faults errors.new)
         (report (Stop.Message fault) frame) }
 {
     let mut offset = Buffer::new();
     let mut number = Buffer::new();
-    tell_at_offset(
+    report_at_offset(
         errors,
         fault.code.words().as_bytes(),
         offset.format(fault.offset as u64).as_bytes(),
@@ -73,17 +73,17 @@ fn tell_message_fault<E: Sink>(errors: &mut E, fault: MsgFault, frame: u64)
 }
 
 /// Prints why the pass stopped, and in which frame, counted from 1, as far as that can be written.
-pub fn tell<E: Sink>(errors: &mut E, stop: Stop, frame: u64)
+pub fn report_stop<E: Sink>(errors: &mut E, stop: Stop, frame: u64)
     ensures { Reported
         (seen E.contents E.is_flushed E.faults errors.old) (seen E.contents E.is_flushed E.faults errors.new)
         (report stop frame) }
 {
     match stop {
-        Stop::Frame(fault) => tell_frame_fault(errors, fault, frame),
-        Stop::Message(fault) => tell_message_fault(errors, fault, frame),
-        Stop::NoMemory => tell_text(errors, "no memory"),
-        Stop::ReadFailed => tell_text(errors, "read failed"),
-        Stop::WriteFailed => tell_text(errors, "write failed"),
+        Stop::Frame(fault) => report_frame_fault(errors, fault, frame),
+        Stop::Message(fault) => report_message_fault(errors, fault, frame),
+        Stop::NoMemory => report_text(errors, "no memory"),
+        Stop::ReadFailed => report_text(errors, "read failed"),
+        Stop::WriteFailed => report_text(errors, "write failed"),
     }
 }
 
@@ -105,7 +105,7 @@ pub fn out_of_memory<E: Sink>(errors: &mut E) -> u8
         (seen E.contents E.is_flushed E.faults errors.old) (seen E.contents E.is_flushed E.faults errors.new)
         (report Stop.NoMemory 0) }
 {
-    tell(errors, Stop::NoMemory, 0);
+    report_stop(errors, Stop::NoMemory, 0);
     3
 }
 
@@ -116,6 +116,6 @@ pub fn write_failed<E: Sink>(errors: &mut E) -> u8
         (seen E.contents E.is_flushed E.faults errors.old) (seen E.contents E.is_flushed E.faults errors.new)
         (report Stop.WriteFailed 0) }
 {
-    tell(errors, Stop::WriteFailed, 0);
+    report_stop(errors, Stop::WriteFailed, 0);
     4
 }

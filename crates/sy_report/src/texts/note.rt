@@ -55,12 +55,12 @@ impl Note {
     /// Says where it stands.
     pub fn stands_at(&mut self, alloc: Global, file: &[u8], point: Option<Point>) {
         let mut name = Words::new(alloc);
-        name.put(&[Part::Text(file)]);
+        name.append(&[Part::Text(file)]);
         self.place = Some(Place { file: name, point });
     }
 
     /// Puts a further line behind the others.
-    pub fn put_line(&mut self, word: &'static str, text: Words) -> Result<(), AllocError> {
+    pub fn append_line(&mut self, word: &'static str, text: Words) -> Result<(), AllocError> {
         self.lines.push(Line { word, text })?;
         Ok(())
     }
@@ -93,10 +93,10 @@ impl Note {
 }
 
 /// Puts a file, and the point there, as `edge.conf:3:44`.
-pub fn put_point(words: &mut Words, file: &[u8], point: Option<Point>) {
-    words.put_in_line(file);
+pub fn append_point(words: &mut Words, file: &[u8], point: Option<Point>) {
+    words.append_in_line(file);
     if let Some(point) = point {
-        words.put(&[
+        words.append(&[
             Part::Text(b":"),
             Part::Number(point.line),
             Part::Text(b":"),
@@ -106,38 +106,38 @@ pub fn put_point(words: &mut Words, file: &[u8], point: Option<Point>) {
 }
 
 /// Puts a place.
-pub fn put_place(words: &mut Words, place: &Place) {
-    put_point(words, place.file.as_slice(), place.point);
+pub fn append_place(words: &mut Words, place: &Place) {
+    append_point(words, place.file.as_slice(), place.point);
 }
 
 /// Puts a line of a word, or of some, and a text, where that isn't empty.
-pub fn put_line(words: &mut Words, word: &str, text: &[u8]) {
+pub fn append_line(words: &mut Words, word: &str, text: &[u8]) {
     if text.is_empty() {
         return;
     }
-    words.put(&[Part::Text(word.as_bytes()), Part::Text(b": ")]);
-    words.put_in_line(text);
+    words.append(&[Part::Text(word.as_bytes()), Part::Text(b": ")]);
+    words.append_in_line(text);
     words.say("\n");
 }
 
-fn put_where(words: &mut Words, note: &Note) {
+fn append_where(words: &mut Words, note: &Note) {
     words.say("where: ");
     if let Some(place) = &note.place {
-        put_place(words, place);
+        append_place(words, place);
         if !note.what.is_empty() {
             words.say(": ");
         }
     }
-    words.put_in_line(note.what.as_slice());
+    words.append_in_line(note.what.as_slice());
     words.say("\n");
 }
 
 /// Puts a note as lines: where it stands, what else it is about, why, and what would change that.
-pub fn put_note(words: &mut Words, note: &Note) {
-    put_where(words, note);
+pub fn append_note(words: &mut Words, note: &Note) {
+    append_where(words, note);
     for line in note.lines.as_slice() {
-        put_line(words, line.word, line.text.as_slice());
+        append_line(words, line.word, line.text.as_slice());
     }
-    put_line(words, "why", note.why.as_slice());
-    put_line(words, "change", note.change.as_slice());
+    append_line(words, "why", note.why.as_slice());
+    append_line(words, "change", note.change.as_slice());
 }

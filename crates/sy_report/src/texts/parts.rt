@@ -26,7 +26,7 @@ pub enum Part<'a> {
 }
 
 // Puts a number in decimal digits behind a text.
-fn put_number(text: &mut Vec<u8>, number: u64) -> Result<(), AllocError>
+fn append_number(text: &mut Vec<u8>, number: u64) -> Result<(), AllocError>
     ensures { OnOk result (text.new.items ≡ text.old.items ++ decimal number) }
 {
     let mut digits = Buffer::new();
@@ -34,7 +34,7 @@ fn put_number(text: &mut Vec<u8>, number: u64) -> Result<(), AllocError>
 }
 
 // Puts a sum in decimal digits behind a text.
-fn put_sum(text: &mut Vec<u8>, sum: u128) -> Result<(), AllocError>
+fn append_sum(text: &mut Vec<u8>, sum: u128) -> Result<(), AllocError>
     ensures { OnOk result (text.new.items ≡ text.old.items ++ decimal sum) }
 {
     let mut digits = Buffer::new();
@@ -42,7 +42,7 @@ fn put_sum(text: &mut Vec<u8>, sum: u128) -> Result<(), AllocError>
 }
 
 // Puts a class behind a text.
-fn put_class(text: &mut Vec<u8>, class: Class) -> Result<(), AllocError>
+fn append_class(text: &mut Vec<u8>, class: Class) -> Result<(), AllocError>
     ensures { OnOk result (text.new.items ≡ text.old.items ++ class_text class) }
 {
     text.extend_from_slice(facility_text(class))?;
@@ -51,32 +51,32 @@ fn put_class(text: &mut Vec<u8>, class: Class) -> Result<(), AllocError>
 }
 
 // Puts an input behind a text.
-fn put_input(text: &mut Vec<u8>, relay: &[u8], port: u64) -> Result<(), AllocError>
+fn append_input(text: &mut Vec<u8>, relay: &[u8], port: u64) -> Result<(), AllocError>
     ensures { OnOk result (text.new.items ≡ text.old.items ++ relay.now ++ codes " " ++ decimal port) }
 {
     text.extend_from_slice(relay)?;
     text.extend_from_slice(b" ")?;
-    put_number(text, port)
+    append_number(text, port)
 }
 
-fn put_part(text: &mut Vec<u8>, part: Part<'_>) -> Result<(), AllocError>
+fn append_part(text: &mut Vec<u8>, part: Part<'_>) -> Result<(), AllocError>
     ensures { OnOk result (text.new.items ≡ text.old.items ++ part_text part.entry) }
 {
     match part {
         Part::Text(words) => text.extend_from_slice(words),
-        Part::Number(number) => put_number(text, number),
-        Part::Sum(sum) => put_sum(text, sum),
-        Part::Class(class) => put_class(text, class),
-        Part::Input(relay, port) => put_input(text, relay, port),
+        Part::Number(number) => append_number(text, number),
+        Part::Sum(sum) => append_sum(text, sum),
+        Part::Class(class) => append_class(text, class),
+        Part::Input(relay, port) => append_input(text, relay, port),
     }
 }
 
 /// Puts parts one behind the other behind a text.
-pub fn put_parts(text: &mut Vec<u8>, parts: &[Part<'_>]) -> Result<(), AllocError>
+pub fn append_parts(text: &mut Vec<u8>, parts: &[Part<'_>]) -> Result<(), AllocError>
     ensures { OnOk result (text.new.items ≡ text.old.items ++ flat_map part_text parts.now) }
 {
     for part in parts {
-        put_part(text, *part)?;
+        append_part(text, *part)?;
     }
     Ok(())
 }

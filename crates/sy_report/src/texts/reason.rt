@@ -1,6 +1,6 @@
 //! Why an action fails, as the host says it.
 
-use crate::texts::parts::{Part, put_parts};
+use crate::texts::parts::{Part, append_parts};
 use std::alloc::{AllocError, Global};
 use std::io::{Error, ErrorKind};
 
@@ -81,28 +81,28 @@ impl Reason {
     }
 
     /// Puts the reason behind a text: of a number of the host its words, or the number where it has none.
-    pub fn put(self, alloc: Global, text: &mut Vec<u8>) -> Result<(), AllocError> {
+    pub fn append(self, alloc: Global, text: &mut Vec<u8>) -> Result<(), AllocError> {
         match self {
-            Reason::Os(code) => put_host(alloc, text, code),
+            Reason::Os(code) => append_host(alloc, text, code),
             _ => text.extend_from_slice(self.words().as_bytes()),
         }
     }
 }
 
-fn put_number(text: &mut Vec<u8>, code: u32) -> Result<(), AllocError> {
-    put_parts(
+fn append_number(text: &mut Vec<u8>, code: u32) -> Result<(), AllocError> {
+    append_parts(
         text,
         &[Part::Text(b"error "), Part::Number(u64::from(code))],
     )
 }
 
 // Puts the words of the host's error of that number, or the number where it has none.
-fn put_host(alloc: Global, text: &mut Vec<u8>, code: u32) -> Result<(), AllocError> {
+fn append_host(alloc: Global, text: &mut Vec<u8>, code: u32) -> Result<(), AllocError> {
     let Ok(number) = i32::try_from(code) else {
-        return put_number(text, code);
+        return append_number(text, code);
     };
     match Error::from_raw_os_error(number).kind() {
-        ErrorKind::Uncategorized => put_number(text, code),
+        ErrorKind::Uncategorized => append_number(text, code),
         kind => {
             let words = kind.to_string(alloc)?;
             text.extend_from_slice(words.as_str().as_bytes())

@@ -1,6 +1,6 @@
 //! Words for people.
 
-use crate::texts::parts::{Part, put_parts};
+use crate::texts::parts::{Part, append_parts};
 use std::alloc::{AllocError, Global};
 
 /// The digits of numbers to the base 16.
@@ -30,8 +30,8 @@ impl Words {
     }
 
     /// Puts parts one behind the other.
-    pub fn put(&mut self, parts: &[Part<'_>]) {
-        match put_parts(&mut self.text, parts) {
+    pub fn append(&mut self, parts: &[Part<'_>]) {
+        match append_parts(&mut self.text, parts) {
             Ok(()) => {}
             Err(_) => self.is_cut = true,
         }
@@ -39,18 +39,18 @@ impl Words {
 
     /// Puts words as they stand.
     pub fn say(&mut self, words: &str) {
-        self.put(&[Part::Text(words.as_bytes())]);
+        self.append(&[Part::Text(words.as_bytes())]);
     }
 
     /// Puts words that are of a file, in one line: control characters stand there as `\x0a`.
-    pub fn put_in_line(&mut self, words: &[u8]) {
+    pub fn append_in_line(&mut self, words: &[u8]) {
         for byte in words {
             if is_control(*byte) {
                 self.say("\\x");
                 self.say(DIGITS[(*byte / 16) as usize]);
                 self.say(DIGITS[(*byte % 16) as usize]);
             } else {
-                self.put(&[Part::Text(&[*byte])]);
+                self.append(&[Part::Text(&[*byte])]);
             }
         }
     }

@@ -1,6 +1,6 @@
 -- Lists, their tables and their work.
 pub mod Fronts
-pub mod Puts
+pub mod Pushes
 pub mod Places
 pub mod TableLaws
 pub mod TableRuns

@@ -56,7 +56,7 @@ front_of_otherwise None rest = rest
 front_of_otherwise (Some block) rest = front_of_block block rest
 
 -- What stands before a text is put into a table: whatever follows, the table and the counts go on to the same.
-pub record IsPut (rulesets : List RulesetParameters) (statements : List Statement) (front : Front) (before after : Counts) (old new : List Statement) : Type 0 where
+pub record IsPush (rulesets : List RulesetParameters) (statements : List Statement) (front : Front) (before after : Counts) (old new : List Statement) : Type 0 where
   pub table : (rest : Text) → new ++ table_of rulesets statements after.actions after.tests rest ≡ old ++ table_of rulesets statements before.actions before.tests (front rest)
   pub actions : (rest : Text) → after.actions + length (actions rest) ≡ before.actions + length (actions (front rest))
   pub tests : (rest : Text) → after.tests + length (tests rest) ≡ before.tests + length (tests (front rest))
@@ -78,7 +78,7 @@ inside_tables rulesets statements a t (Part.Inside x ∷ later) =
     table_of rulesets statements a t x ∷ inside_tables rulesets statements (a + length (actions x)) (t + length (tests x)) later
 
 -- A part of a file is put into the tables so far: whatever follows, they go on to the same.
-pub record IsPartPut (rulesets : List RulesetParameters) (statements : List Statement) (found : List Part) (old new : Lists) : Type 0 where
+pub record IsPartPush (rulesets : List RulesetParameters) (statements : List Statement) (found : List Part) (old new : Lists) : Type 0 where
   pub outside : (later : List Part) → new.outside.items ++ outside_table rulesets statements new.counts.actions new.counts.tests later ≡ old.outside.items ++ outside_table rulesets statements old.counts.actions old.counts.tests (found ++ later)
   pub inside : (later : List Part) → map (λ t. t.items) new.inside.items ++ inside_tables rulesets statements new.counts.actions new.counts.tests later ≡ map (λ t. t.items) old.inside.items ++ inside_tables rulesets statements old.counts.actions old.counts.tests (found ++ later)
 

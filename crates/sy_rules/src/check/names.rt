@@ -36,7 +36,7 @@ impl<'s> Names<'s> {
     }
 
     /// Adds a name.
-    pub fn put(&mut self, name: &'s [u8]) -> Result<(), AllocError>
+    pub fn insert(&mut self, name: &'s [u8]) -> Result<(), AllocError>
         ensures { OnOk result ((other : List ℕ) → is_among other self.new
             ≡ (is_among other self.old || bytes_eq other name.now)) }
     {

@@ -90,12 +90,12 @@ fn has_imtcp(items: &[Item<'_>]) -> bool
     false
 }
 
-fn put_name<'s>(names: &mut Names<'s>, next: &Item<'s>) -> Result<(), AllocError>
+fn push_name<'s>(names: &mut Names<'s>, next: &Item<'s>) -> Result<(), AllocError>
     ensures { OnOk result ((name : List ℕ) → spec.is_among name names.new
         ≡ (spec.is_among name names.old || spec.is_among name (spec.ruleset_names_of (item next.now ∷ [])))) }
 {
     match *next {
-        Item::Ruleset(_, params) => names.put(name_of_ruleset(params)),
+        Item::Ruleset(_, params) => names.insert(name_of_ruleset(params)),
         _ => Ok(()),
     }
 }
@@ -107,7 +107,7 @@ fn ruleset_names<'s>(alloc: Global, items: &[Item<'s>]) -> Result<Names<'s>, All
     let mut names = Names::new(alloc);
     let mut rest = items;
     while let [next, after @ ..] = rest {
-        put_name(&mut names, next)?;
+        push_name(&mut names, next)?;
         rest = after;
     }
     Ok(names)
@@ -160,7 +160,7 @@ fn meet_ruleset<'s>(
     }
 }
 
-fn put_action(alloc: Global, actions: &mut Vec<Items<u8>>, name: Items<u8>) -> Result<(), ItemFault>
+fn push_action(alloc: Global, actions: &mut Vec<Items<u8>>, name: Items<u8>) -> Result<(), ItemFault>
     ensures ok { OnOk result (spec.action_faults actions.old.items name ≡ []) }
     ensures new { OnOk result (actions.new.items ≡ actions.old.items ++ name ∷ []) }
     ensures err { IfErr result (λ f. IsFound (spec.action_faults actions.old.items name) f) }
@@ -182,7 +182,7 @@ fn meet_action(alloc: Global, seen: &mut Seen<'_>, params: &[Param]) -> Result<(
         (objects.action_of (objects.kind_of_action params.now) params.now).name)) f) }
 {
     match action_name(alloc, seen.actions.len(), given_name(params)) {
-        Ok(name) => put_action(alloc, &mut seen.actions, name),
+        Ok(name) => push_action(alloc, &mut seen.actions, name),
         Err(_) => Err(ItemFault::no_memory(alloc)),
     }
 }

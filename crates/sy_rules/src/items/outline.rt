@@ -39,7 +39,7 @@ impl<'s> Item<'s> {
     }
 }
 
-fn put<'s>(found: &mut Vec<Item<'s>>, next: Item<'s>) -> Result<(), AllocError>
+fn push_item<'s>(found: &mut Vec<Item<'s>>, next: Item<'s>) -> Result<(), AllocError>
     ensures { OnOk result (map placed found.new.items ≡ map placed found.old.items ++ placed next.entry ∷ []) }
 {
     found.push(next)?;
@@ -47,61 +47,61 @@ fn put<'s>(found: &mut Vec<Item<'s>>, next: Item<'s>) -> Result<(), AllocError>
 }
 
 #[cycle(items)]
-fn put_stmt<'s>(found: &mut Vec<Item<'s>>, stmt: &'s Stmt) -> Result<(), AllocError>
+fn push_stmt<'s>(found: &mut Vec<Item<'s>>, stmt: &'s Stmt) -> Result<(), AllocError>
     ensures { OnOk result (map placed found.new.items ≡ map placed found.old.items ++ spec.placed_in_stmt stmt.now) }
 {
     match stmt {
-        Stmt::Action(span, params) => put(found, Item::Action(*span, params.as_slice())),
-        Stmt::Call(name) => put(found, Item::Call(name.span, name.text.as_slice())),
+        Stmt::Action(span, params) => push_item(found, Item::Action(*span, params.as_slice())),
+        Stmt::Call(name) => push_item(found, Item::Call(name.span, name.text.as_slice())),
         Stmt::Stop(_) => Ok(()),
         Stmt::If(test, done, None) => {
-            put(found, Item::Test(test))?;
-            put_block(found, done)
+            push_item(found, Item::Test(test))?;
+            push_block(found, done)
         }
         Stmt::If(test, done, Some(otherwise)) => {
-            put(found, Item::Test(test))?;
-            put_block(found, done)?;
-            put_block(found, otherwise)
+            push_item(found, Item::Test(test))?;
+            push_block(found, done)?;
+            push_block(found, otherwise)
         }
     }
 }
 
 #[cycle(items)]
-fn put_block<'s>(found: &mut Vec<Item<'s>>, block: &'s Block) -> Result<(), AllocError>
+fn push_block<'s>(found: &mut Vec<Item<'s>>, block: &'s Block) -> Result<(), AllocError>
     ensures { OnOk result (map placed found.new.items ≡ map placed found.old.items ++ inside.placed_in_block block.now) }
 {
     match block {
-        Block::Single(stmt) => put_stmt(found, stmt.get()),
-        Block::Braced(body) => put_body(found, body.as_slice()),
+        Block::Single(stmt) => push_stmt(found, stmt.get()),
+        Block::Braced(body) => push_body(found, body.as_slice()),
     }
 }
 
 #[cycle(items)]
-fn put_body<'s>(found: &mut Vec<Item<'s>>, body: &'s [Stmt]) -> Result<(), AllocError>
+fn push_body<'s>(found: &mut Vec<Item<'s>>, body: &'s [Stmt]) -> Result<(), AllocError>
     ensures { OnOk result (map placed found.new.items ≡ map placed found.old.items ++ spec.placed_in_body body.now) }
 {
     for stmt in body {
-        put_stmt(found, stmt)?;
+        push_stmt(found, stmt)?;
     }
     Ok(())
 }
 
-fn put_top<'s>(found: &mut Vec<Item<'s>>, top: &'s Top) -> Result<(), AllocError>
+fn push_top<'s>(found: &mut Vec<Item<'s>>, top: &'s Top) -> Result<(), AllocError>
     ensures { OnOk result (map placed found.new.items ≡ map placed found.old.items ++ spec.placed_in_top top.now) }
 {
     match top {
         Top::Object(object) => {
             let params = object.params.as_slice();
-            put(found, Item::Object(object.span, object.kind, params))
+            push_item(found, Item::Object(object.span, object.kind, params))
         }
         Top::Ruleset(ruleset) => {
-            put(
+            push_item(
                 found,
                 Item::Ruleset(ruleset.span, ruleset.params.as_slice()),
             )?;
-            put_body(found, ruleset.body.as_slice())
+            push_body(found, ruleset.body.as_slice())
         }
-        Top::Stmt(stmt) => put_stmt(found, stmt),
+        Top::Stmt(stmt) => push_stmt(found, stmt),
     }
 }
 
@@ -113,7 +113,7 @@ pub fn outline(alloc: Global, script: &Script) -> Result<Vec<Item<'_>>, AllocErr
     let mut found = Vec::new(alloc);
     let mut rest = script.tops.as_slice();
     while let [top, after @ ..] = rest {
-        put_top(&mut found, top)?;
+        push_top(&mut found, top)?;
         rest = after;
     }
     Ok(found)

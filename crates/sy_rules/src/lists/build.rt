@@ -17,7 +17,7 @@ use crate::parameters::objects::{ActionParameters, RulesetParameters};
 use scope::{Scope, action_statements};
 use std::alloc::{AllocError, Global};
 use sy_script::tree::Script;
-use tops::{put_singles, put_tops};
+use tops::{push_singles, push_tops};
 
 fn tables(
     alloc: Global,
@@ -33,8 +33,8 @@ fn tables(
         rulesets,
         actions: statements.as_slice(),
     };
-    let (outside, mut tables) = put_tops(alloc, &scope, script.tops.as_slice())?;
-    put_singles(alloc, &mut tables, actions)?;
+    let (outside, mut tables) = push_tops(alloc, &scope, script.tops.as_slice())?;
+    push_singles(alloc, &mut tables, actions)?;
     tables.insert(0, outside)?;
     Ok(tables)
 }

@@ -36,7 +36,7 @@ fn is_missing(known: &[Items<Flow>], list: u32) -> bool {
 }
 
 // Gives a list its row, where it has one.
-fn put_row(known: &mut Vec<Items<Flow>>, list: u32, row: Items<Flow>)
+fn set_row(known: &mut Vec<Items<Flow>>, list: u32, row: Items<Flow>)
     ensures { (tests : List (Formula Test)) (tables : List (List Statement)) (classes : List Class)
         → AreKnownRows tests tables classes known.old.items → IsKnownRow tests tables classes list row
         → AreKnownRows tests tables classes known.new.items }
@@ -80,8 +80,8 @@ impl Callers<'_> {
     }
 
     // The row of a list, behind those of the lists that it calls, where lists may lie in one another so deep.
-    #[cycle(put)]
-    fn put(
+    #[cycle(set_rows)]
+    fn set_rows(
         self,
         alloc: Global,
         depth: u32,
@@ -95,16 +95,16 @@ impl Callers<'_> {
         if depth == 0 || !is_missing(known, list) {
             return Ok(());
         }
-        self.put_called(alloc, depth - 1, list, known)?;
+        self.set_called(alloc, depth - 1, list, known)?;
         let row = self.row(alloc, list, known)?;
-        put_row(known, list, row);
+        set_row(known, list, row);
         Ok(())
     }
 
     /// Puts in the rows of the lists that a list calls, where lists may lie in one another so deep. What is known of a list isn't worked
     /// out again, and of one that lies deeper nothing is known.
-    #[cycle(put)]
-    pub fn put_called(
+    #[cycle(set_rows)]
+    pub fn set_called(
         self,
         alloc: Global,
         depth: u32,
@@ -117,7 +117,7 @@ impl Callers<'_> {
     {
         for statement in table_at(self.tables, list) {
             if let Statement::Call(callee, _) = *statement {
-                self.put(alloc, depth, callee, known)?;
+                self.set_rows(alloc, depth, callee, known)?;
             }
         }
         Ok(())

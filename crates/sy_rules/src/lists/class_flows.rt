@@ -109,7 +109,7 @@ impl Parts<'_> {
                 return Ok(known);
             }
             if self.is_reached(list) {
-                callers.put_called(alloc, LISTS_DEEP, list, &mut known)?;
+                callers.set_called(alloc, LISTS_DEEP, list, &mut known)?;
             }
         }
         Ok(known)

@@ -11,7 +11,7 @@ use crate::parts::action_names::name_by_number;
 use std::alloc::{AllocError, Global};
 use sy_script::Items;
 
-fn put_rulesets(
+fn push_rulesets(
     alloc: Global,
     names: &mut Vec<Items<u8>>,
     rulesets: &[RulesetParameters],
@@ -33,7 +33,7 @@ fn name_of(alloc: Global, number: u32, action: &ActionParameters) -> Result<Item
     }
 }
 
-fn put_name(
+fn push_name(
     alloc: Global,
     names: &mut Vec<Items<u8>>,
     number: u32,
@@ -46,7 +46,7 @@ fn put_name(
 }
 
 // Those of the actions that have a queue.
-fn put_queued(
+fn push_queued(
     alloc: Global,
     names: &mut Vec<Items<u8>>,
     actions: &[ActionParameters],
@@ -56,7 +56,7 @@ fn put_queued(
     let mut number = 0u32;
     for action in actions {
         if action.queue.is_some() {
-            put_name(alloc, names, number, action)?;
+            push_name(alloc, names, number, action)?;
         }
         number = next(number)?;
     }
@@ -72,8 +72,8 @@ fn all_names(
 {
     let mut names = Vec::new(alloc);
     names.push(Items::from_slice(alloc, DEFAULT_RULESET)?)?;
-    put_rulesets(alloc, &mut names, rulesets)?;
-    put_queued(alloc, &mut names, actions)?;
+    push_rulesets(alloc, &mut names, rulesets)?;
+    push_queued(alloc, &mut names, actions)?;
     Ok(names)
 }
 

@@ -29,7 +29,7 @@ use std::alloc::Global;
 use sy_script::Items;
 use sy_script::tree::{ObjectKind, Param};
 
-pub(crate) fn put<T: Drop>(alloc: Global, found: &mut Vec<T>, next: T) -> Result<(), PlanFault>
+pub(crate) fn push_part<T: Drop>(alloc: Global, found: &mut Vec<T>, next: T) -> Result<(), PlanFault>
     ensures ok { OnOk result (found.new.items ≡ found.old.items ++ next ∷ []) }
     ensures err { IfErr result (λ f. f ≡ no_memory) }
 {
@@ -63,7 +63,7 @@ pub fn rulesets(alloc: Global, items: &[Item<'_>]) -> Result<Vec<RulesetParamete
     let mut rest = items;
     while let [next, after @ ..] = rest {
         if let Some(ruleset) = ruleset_at(alloc, next)? {
-            put(alloc, &mut found, ruleset)?;
+            push_part(alloc, &mut found, ruleset)?;
         }
         rest = after;
     }
@@ -92,14 +92,14 @@ pub fn actions(alloc: Global, items: &[Item<'_>]) -> Result<Vec<ActionParameters
     let mut rest = items;
     while let [next, after @ ..] = rest {
         if let Some(action) = action_at(alloc, next)? {
-            put(alloc, &mut found, action)?;
+            push_part(alloc, &mut found, action)?;
         }
         rest = after;
     }
     Ok(found)
 }
 
-fn put_action_parts(
+fn push_action_parts(
     alloc: Global,
     found: &mut Vec<Action>,
     actions: Vec<ActionParameters>,
@@ -112,7 +112,7 @@ fn put_action_parts(
     let mut number = 0;
     while let Some(action) = left.next() {
         let part = action_part(alloc, number, action)?;
-        put(alloc, found, part)?;
+        push_part(alloc, found, part)?;
         number += 1;
     }
     Ok(())
@@ -145,7 +145,7 @@ pub fn action_parts(alloc: Global, actions: Vec<ActionParameters>) -> Result<Vec
     ensures err { IfErr result (λ f. f ≡ no_memory) }
 {
     let mut found = Vec::new(alloc);
-    put_action_parts(alloc, &mut found, actions)?;
+    push_action_parts(alloc, &mut found, actions)?;
     Ok(found)
 }
 
@@ -171,24 +171,24 @@ pub fn queues(alloc: Global, items: &[Item<'_>]) -> Result<Vec<QueueParameters>,
 {
     let mut found = Vec::new(alloc);
     let main = queue_parameters(Kind::MainQueue, main_queue_params(items));
-    put(alloc, &mut found, main)?;
+    push_part(alloc, &mut found, main)?;
     let mut rest = items;
     while let [next, after @ ..] = rest {
         if let Some(queue) = own_queue(next) {
-            put(alloc, &mut found, queue)?;
+            push_part(alloc, &mut found, queue)?;
         }
         rest = after;
     }
     Ok(found)
 }
 
-fn put_workers(alloc: Global, found: &mut Vec<u32>, count: u32, queue: u32) -> Result<(), PlanFault>
+fn push_workers(alloc: Global, found: &mut Vec<u32>, count: u32, queue: u32) -> Result<(), PlanFault>
     ensures ok { OnOk result (found.new.items ≡ found.old.items ++ replicate count queue) }
     ensures err { IfErr result (λ f. f ≡ no_memory) }
 {
     let mut left = count;
     while left > 0 {
-        put(alloc, found, queue)?;
+        push_part(alloc, found, queue)?;
         left -= 1;
     }
     Ok(())
@@ -204,7 +204,7 @@ pub fn workers(alloc: Global, queues: &[QueueParameters]) -> Result<Vec<u32>, Pl
     let mut number = 0;
     let mut rest = queues;
     while let [queue, after @ ..] = rest {
-        put_workers(alloc, &mut found, queue.workers, number)?;
+        push_workers(alloc, &mut found, queue.workers, number)?;
         number += 1;
         rest = after;
     }
@@ -303,7 +303,7 @@ pub fn inputs(
     let mut rest = items;
     while let [next, after @ ..] = rest {
         if let Some(input) = input_at(alloc, next)? {
-            put(alloc, &mut found, input_part(rulesets, queues, input))?;
+            push_part(alloc, &mut found, input_part(rulesets, queues, input))?;
         }
         rest = after;
     }

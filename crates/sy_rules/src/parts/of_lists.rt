@@ -10,7 +10,7 @@ use crate::items::outline::Item;
 use crate::parameters::kind::Kind;
 use crate::parameters::objects::kind_of_action;
 use crate::parameters::settings::has_queue;
-use crate::parts::of_items::put;
+use crate::parts::of_items::push_part;
 use std::alloc::Global;
 
 #[tactic(auto, unfolding(crate::specs::parameters::Objects::ruleset_of, crate::specs::parameters::Objects::action_of))]
@@ -62,7 +62,7 @@ fn queue_after(number: u32, next: &Item<'_>) -> u32
     }
 }
 
-fn put_ruleset_queues(
+fn push_ruleset_queues(
     alloc: Global,
     found: &mut Vec<Option<u32>>,
     items: &[Item<'_>],
@@ -75,7 +75,7 @@ fn put_ruleset_queues(
     let mut rest = items;
     while let [next, after @ ..] = rest {
         if is_ruleset(next) {
-            put(alloc, found, queue_here(number, next))?;
+            push_part(alloc, found, queue_here(number, next))?;
         }
         number = queue_after(number, next);
         rest = after;
@@ -83,7 +83,7 @@ fn put_ruleset_queues(
     Ok(())
 }
 
-fn put_action_queues(
+fn push_action_queues(
     alloc: Global,
     found: &mut Vec<Option<u32>>,
     items: &[Item<'_>],
@@ -96,7 +96,7 @@ fn put_action_queues(
     let mut rest = items;
     while let [next, after @ ..] = rest {
         if is_queued_action(next) {
-            put(alloc, found, Some(number))?;
+            push_part(alloc, found, Some(number))?;
         }
         number = queue_after(number, next);
         rest = after;
@@ -111,8 +111,8 @@ pub fn list_queues(alloc: Global, items: &[Item<'_>]) -> Result<Vec<Option<u32>>
     ensures err { IfErr result (λ f. f ≡ no_memory) }
 {
     let mut found = Vec::new(alloc);
-    put(alloc, &mut found, None)?;
-    put_ruleset_queues(alloc, &mut found, items)?;
-    put_action_queues(alloc, &mut found, items)?;
+    push_part(alloc, &mut found, None)?;
+    push_ruleset_queues(alloc, &mut found, items)?;
+    push_action_queues(alloc, &mut found, items)?;
     Ok(found)
 }

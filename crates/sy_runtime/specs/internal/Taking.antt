@@ -19,9 +19,9 @@ TakenIs (Ok stays) read end kept later left = Holds read end kept later left
 TakenIs (Err e) read end kept later left = Holds read end kept (e.1 ∷ later) left
 
 -- the same, of one that goes on
-abbrev pub PutIs : Result ⊤ (Pause × Option Item) → List ℕ → Counts → Kept → List Item → List ℕ → Type 0
-PutIs (Ok _) read end kept later left = Holds read end kept later left
-PutIs (Err e) read end kept later left = Holds read end kept (option_to_list e.1 ++ later) left
+abbrev pub InsertIs : Result ⊤ (Pause × Option Item) → List ℕ → Counts → Kept → List Item → List ℕ → Type 0
+InsertIs (Ok _) read end kept later left = Holds read end kept later left
+InsertIs (Err e) read end kept later left = Holds read end kept (option_to_list e.1 ++ later) left
 
 -- after these a connection takes nothing more
 abbrev pub IsLast : Pause → Type 0
@@ -65,41 +65,41 @@ ItemTaken stays (item.Other text fault) old hand new = ⊥
 ItemTaken stays (item.Unmade text) old hand new = ⊥
 
 -- the same, where its message may have gone on
-abbrev pub ItemPut : Item → BoardState → Hand → BoardState → Type 0
-ItemPut (item.Message node) old hand new = (between : BoardState) × Takes old hand node.message between × MayEnter between hand new
-ItemPut (item.Other text fault) old hand new = ⊥
-ItemPut (item.Unmade text) old hand new = ⊥
+abbrev pub ItemInsert : Item → BoardState → Hand → BoardState → Type 0
+ItemInsert (item.Message node) old hand new = (between : BoardState) × Takes old hand node.message between × MayEnter between hand new
+ItemInsert (item.Other text fault) old hand new = ⊥
+ItemInsert (item.Unmade text) old hand new = ⊥
 
 -- the board after these items, one after the other
-pub data ItemsPut : List Item → BoardState → Hand → BoardState → Type 0 where
-  none : {board : BoardState} {hand : Hand} → ItemsPut [] board hand board
+pub data ItemsInsert : List Item → BoardState → Hand → BoardState → Type 0 where
+  none : {board : BoardState} {hand : Hand} → ItemsInsert [] board hand board
   more :
       {items : List Item} {old between new : BoardState} {hand : Hand} (item : Item)
-      → ItemsPut items old hand between → ItemPut item between hand new → ItemsPut (items ++ item ∷ []) old hand new
+      → ItemsInsert items old hand between → ItemInsert item between hand new → ItemsInsert (items ++ item ∷ []) old hand new
 
 -- the message that was in the hand may have gone on, and then these of a batch were put, one after the other
-pub record BatchPut (batch later : List Item) (old : BoardState) (hand : Hand) (new : BoardState) : Type 0 where
+pub record BatchInsert (batch later : List Item) (old : BoardState) (hand : Hand) (new : BoardState) : Type 0 where
   pub before : BoardState
   pub items : List Item
   pub first : MayEnter old hand before
   pub parts : batch ≡ items ++ later
-  pub put : ItemsPut items before hand new
+  pub inserted : ItemsInsert items before hand new
 
 -- where something holds the message in the hand, it was taken, and no item stands first again
-abbrev pub IsHeldPut : Pause → Option Item → Item → BoardState → Hand → BoardState → Type 0
-IsHeldPut (Held hold) back item old hand new = (back ≡ None) × ItemPut item old hand new
-IsHeldPut TotalsFull back item old hand new = Unit {0}
-IsHeldPut Hands back item old hand new = Unit {0}
-IsHeldPut NoMemory back item old hand new = Unit {0}
+abbrev pub IsHeldInsert : Pause → Option Item → Item → BoardState → Hand → BoardState → Type 0
+IsHeldInsert (Held hold) back item old hand new = (back ≡ None) × ItemInsert item old hand new
+IsHeldInsert TotalsFull back item old hand new = Unit {0}
+IsHeldInsert Hands back item old hand new = Unit {0}
+IsHeldInsert NoMemory back item old hand new = Unit {0}
 
 -- The same by what was answered. After the answers that end a connection nothing is said.
-abbrev pub OnePut : Result ⊤ (Pause × Option Item) → Item → BoardState → Hand → BoardState → Type 0
-OnePut (Ok _) item old hand new = ItemPut item old hand new
-OnePut (Err e) item old hand new = IsHeldPut e.0 e.1 item old hand new
+abbrev pub OneInsert : Result ⊤ (Pause × Option Item) → Item → BoardState → Hand → BoardState → Type 0
+OneInsert (Ok _) item old hand new = ItemInsert item old hand new
+OneInsert (Err e) item old hand new = IsHeldInsert e.0 e.1 item old hand new
 
-abbrev pub SomePut : Result ⊤ Pause → List Item → List Item → BoardState → Hand → BoardState → Type 0
-SomePut (Ok _) batch later old hand new = BatchPut batch later old hand new
-SomePut (Err (Held hold)) batch later old hand new = BatchPut batch later old hand new
-SomePut (Err TotalsFull) batch later old hand new = Unit {0}
-SomePut (Err Hands) batch later old hand new = Unit {0}
-SomePut (Err NoMemory) batch later old hand new = Unit {0}
+abbrev pub SomeInsert : Result ⊤ Pause → List Item → List Item → BoardState → Hand → BoardState → Type 0
+SomeInsert (Ok _) batch later old hand new = BatchInsert batch later old hand new
+SomeInsert (Err (Held hold)) batch later old hand new = BatchInsert batch later old hand new
+SomeInsert (Err TotalsFull) batch later old hand new = Unit {0}
+SomeInsert (Err Hands) batch later old hand new = Unit {0}
+SomeInsert (Err NoMemory) batch later old hand new = Unit {0}

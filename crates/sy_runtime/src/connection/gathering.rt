@@ -32,9 +32,9 @@ fn gather_one(
     batch: &mut VecDeque<Item>,
 ) -> Result<(), Gathered>
     requires { framer.old.has_failed ≡ false }
-    ensures kept { (read : List ℕ) (end : Counts) (told : Kept) → Holds read end told batch.old.items framer.old.left →
-        MatchResult result (λ _. Holds read end told batch.new.items framer.new.left)
-        (λ g. GatherIs g read end told batch.new.items framer.new) }
+    ensures kept { (read : List ℕ) (end : Counts) (reported : Kept) → Holds read end reported batch.old.items framer.old.left →
+        MatchResult result (λ _. Holds read end reported batch.new.items framer.new.left)
+        (λ g. GatherIs g read end reported batch.new.items framer.new) }
     ensures good { OnOk result (framer.new.has_failed ≡ false) }
     ensures grows { OnOk result (length batch.new.items ≡ length batch.old.items + 1) }
 {
@@ -61,8 +61,8 @@ pub(crate) fn gather(
     most: usize,
 ) -> Gathered
     requires { framer.old.has_failed ≡ false }
-    ensures kept { (read : List ℕ) (end : Counts) (told : Kept) → Holds read end told batch.old.items framer.old.left →
-        GatherIs result read end told batch.new.items framer.new }
+    ensures kept { (read : List ℕ) (end : Counts) (reported : Kept) → Holds read end reported batch.old.items framer.old.left →
+        GatherIs result read end reported batch.new.items framer.new }
 {
     for _ in 0..most {
         match gather_one(alloc, framer, raw, makings, batch) {

@@ -23,9 +23,9 @@ pub(crate) fn read_more<S: Source>(reader: &mut S, framer: &mut Framer, is_over:
     requires good { framer.old.has_failed ≡ false }
     requires is_open { IsOpen framer.old.left }
     requires over { is_over.old ≡ true → IsAtEnd (S.remaining reader.old) }
-    ensures kept { (ahead : Option (List ℕ)) (end : Counts) (told : Kept) →
-        Serves ahead (S.remaining reader.old) end told framer.old.left →
-        StepIs result ahead (S.remaining reader.new) (S.faults reader.old) (S.faults reader.new) end told framer.new is_over.new }
+    ensures kept { (ahead : Option (List ℕ)) (end : Counts) (reported : Kept) →
+        Serves ahead (S.remaining reader.old) end reported framer.old.left →
+        StepIs result ahead (S.remaining reader.new) (S.faults reader.old) (S.faults reader.new) end reported framer.new is_over.new }
 {
     if *is_over {
         return match framer.end() {

@@ -6,7 +6,7 @@ ghost use Rattle.sy_board.specs.relay.Steps.{IsHand, IsOfInput};
 ghost use Rattle.sy_runtime.specs.Connections.{Kept as KeptTexts};
 ghost use Rattle.sy_runtime.specs.declared.untaken.Item.{Item as Kept};
 ghost use Rattle.sy_runtime.specs.internal.Held.{Holds};
-ghost use Rattle.sy_runtime.specs.internal.Taking.{Enters, HasMessage, IsLast, IsUpToUnread, ItemTaken, MayEnter, OnePut, PutIs, SomePut, TakenIs, Takes};
+ghost use Rattle.sy_runtime.specs.internal.Taking.{Enters, HasMessage, IsLast, IsUpToUnread, ItemTaken, MayEnter, OneInsert, InsertIs, SomeInsert, TakenIs, Takes};
 
 use crate::connection::used::keep;
 use crate::connection_end::ConnEnd;
@@ -151,8 +151,8 @@ fn take_item(
 ) -> Result<bool, (Pause, Item)>
     requires hand { IsHand board.old.plan hand.input hand.number }
     requires has { HasMessage item }
-    ensures kept { (read left : List ℕ) (told : KeptTexts) (later : List Kept) → Holds read end.old told (item ∷ later) left →
-        TakenIs result read end.new told later left }
+    ensures kept { (read left : List ℕ) (reported : KeptTexts) (later : List Kept) → Holds read end.old reported (item ∷ later) left →
+        TakenIs result read end.new reported later left }
     ensures ok { IfOk result (λ stays. ItemTaken stays item board.old hand board.new) }
     ensures last { IfErr result (λ e. IsLast e.0) }
     ensures err { OnErr result (board.new ≡ board.old) }
@@ -176,7 +176,7 @@ fn take_item(
 }
 
 // The same, and a message that stays in the hand goes on, unless something holds it there.
-fn put_one(
+fn insert_one(
     board: &mut Board,
     hand: Hand,
     item: Item,
@@ -186,9 +186,9 @@ fn put_one(
 ) -> Result<(), (Pause, Option<Item>)>
     requires hand { IsHand board.old.plan hand.input hand.number }
     requires has { HasMessage item }
-    ensures kept { (read left : List ℕ) (told : KeptTexts) (later : List Kept) → Holds read end.old told (item ∷ later) left →
-        PutIs result read end.new told later left }
-    ensures put { OnePut result item board.old hand board.new }
+    ensures kept { (read left : List ℕ) (reported : KeptTexts) (later : List Kept) → Holds read end.old reported (item ∷ later) left →
+        InsertIs result read end.new reported later left }
+    ensures inserted { OneInsert result item board.old hand board.new }
     ensures taken { board.new.totals.taken + end.old.took ≡ board.old.totals.taken + end.new.took }
     ensures plan { board.new.plan ≡ board.old.plan }
 {
@@ -208,7 +208,7 @@ fn put_one(
 }
 
 // An item that wasn't taken stands first again.
-fn put_back(batch: &mut VecDeque<Item>, item: Option<Item>)
+fn push_front_if_any(batch: &mut VecDeque<Item>, item: Option<Item>)
     requires { deque_len batch.old < deque_capacity batch.old }
     ensures { batch.new.items ≡ option_to_list item ++ batch.old.items }
 {
@@ -219,8 +219,8 @@ fn put_back(batch: &mut VecDeque<Item>, item: Option<Item>)
 
 /// Takes a batch, item after item, up to the first frame that carries no message, or to where the connection has to pause. `is_in_hand` says whether its last
 /// message is still in the hand, where it goes on from there.
-#[tactic(auto, using(crate::proofs::Puts::some_put, crate::proofs::Puts::first_put))]
-pub(crate) fn put_some(
+#[tactic(auto, using(crate::proofs::Inserts::some_insert, crate::proofs::Inserts::first_insert))]
+pub(crate) fn insert_some(
     board: &mut Board,
     hand: Hand,
     batch: &mut VecDeque<Item>,
@@ -228,10 +228,10 @@ pub(crate) fn put_some(
     is_in_hand: &mut bool,
     used: &mut Vec<Node>,
 ) -> Result<(), Pause>
-    ensures kept { (read left : List ℕ) (told : KeptTexts) → Holds read end.old told batch.old.items left →
-        Holds read end.new told batch.new.items left }
+    ensures kept { (read left : List ℕ) (reported : KeptTexts) → Holds read end.old reported batch.old.items left →
+        Holds read end.new reported batch.new.items left }
     ensures all { OnOk result (IsUpToUnread batch.new.items) }
-    ensures put { SomePut result batch.old.items batch.new.items board.old hand board.new }
+    ensures inserted { SomeInsert result batch.old.items batch.new.items board.old hand board.new }
     ensures taken { board.new.totals.taken + end.old.took ≡ board.old.totals.taken + end.new.took }
     ensures plan { board.new.plan ≡ board.old.plan }
 {
@@ -244,13 +244,13 @@ pub(crate) fn put_some(
     }
     while let Some(item) = batch.pop_front() {
         if let Item::Other(..) = item {
-            put_back(batch, Some(item));
+            push_front_if_any(batch, Some(item));
             return Ok(());
         }
-        match put_one(board, hand, item, end, is_in_hand, used) {
+        match insert_one(board, hand, item, end, is_in_hand, used) {
             Ok(()) => {}
             Err((pause, item)) => {
-                put_back(batch, item);
+                push_front_if_any(batch, item);
                 return Err(pause);
             }
         }

@@ -6,7 +6,7 @@ ghost use Rattle.sy_runtime.specs.internal.Turning.{nothing_counted, RoundIs, Tu
 use crate::connection::gathering::{Gathered, gather};
 use crate::connection::halt::{Halt, answer_at};
 use crate::connection::makings::Makings;
-use crate::connection::putting::put;
+use crate::connection::inserting::insert_batch;
 use crate::connection::reading::{Step, read_more};
 use crate::connection::taking::Hand;
 use crate::connection_end::{ConnEnd, Finish, UnreadSink};
@@ -65,10 +65,10 @@ impl Intake {
 }
 
 // What comes of a batch whose gathering ended so, and which was put so.
-fn sum_up(stop: Gathered, put: Result<(), Halt>) -> Round
-    ensures { result ≡ round_of stop put }
+fn sum_up(stop: Gathered, insert_batch: Result<(), Halt>) -> Round
+    ensures { result ≡ round_of stop insert_batch }
 {
-    match put {
+    match insert_batch {
         Err(halt) => Round::Over(answer_at(halt, stop)),
         Ok(()) => match stop {
             Gathered::Open => Round::Reads,
@@ -106,7 +106,7 @@ fn take_in<R: Wait + Clock, G: Gate, U: UnreadSink>(
         ..
     } = intake;
     let stop = gather(alloc, framer, raw, makings, batch, BATCH);
-    let put = put(
+    let insert_batch = insert_batch(
         rt,
         shared,
         gate,
@@ -117,7 +117,7 @@ fn take_in<R: Wait + Clock, G: Gate, U: UnreadSink>(
         is_in_hand,
         &mut makings.used,
     );
-    sum_up(stop, put)
+    sum_up(stop, insert_batch)
 }
 
 // Waits for memory; the answer where the relay closes.

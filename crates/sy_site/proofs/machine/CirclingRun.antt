@@ -8,7 +8,7 @@ use Rattle.sy_chain.specs.Entries.{Entry}
 use Rattle.sy_rules.specs.Whole.{AreDifferent}
 use Rattle.sy_rules.proofs.lemmas.plan.Different.{one_differs}
 use Rattle.sy_board.specs.relay.Cells as cells
-use Rattle.sy_board.specs.relay.Cells.{Cell, RelayState, at, put, put_failures, hand}
+use Rattle.sy_board.specs.relay.Cells.{Cell, RelayState, at, set_cell, set_failures, hand}
 use Rattle.sy_board.specs.relay.Steps.{Enters, Event, Grabs, Settles, Takes}
 use Rattle.sy_board.proofs.relay.Keeps.{Each}
 use Rattle.sy_board.proofs.relay.Marks.{empty_everywhere}
@@ -36,19 +36,19 @@ module _ (class : Class) where
   h0 = cells.opening circling_plan
 
   abbrev h1 : RelayState
-  h1 = put h0 (hand 0 0) (node 3 ∷ [])
+  h1 = set_cell h0 (hand 0 0) (node 3 ∷ [])
 
   abbrev h2 : RelayState
-  h2 = put (put h1 (hand 0 0) []) (Cell.Queue 0) (node 3 ∷ [])
+  h2 = set_cell (set_cell h1 (hand 0 0) []) (Cell.Queue 0) (node 3 ∷ [])
 
   abbrev h3 : RelayState
-  h3 = put (put h2 (Cell.Queue 0) []) (Cell.Worker 0) (node 3 ∷ [])
+  h3 = set_cell (set_cell h2 (Cell.Queue 0) []) (Cell.Worker 0) (node 3 ∷ [])
 
   abbrev h4 : RelayState
-  h4 = put_failures (put h3 (Cell.Worker 0) (node 2 ∷ [])) 0 0
+  h4 = set_failures (set_cell h3 (Cell.Worker 0) (node 2 ∷ [])) 0 0
 
   abbrev h5 : RelayState
-  h5 = put_failures (put h4 (Cell.Worker 0) []) 0 0
+  h5 = set_failures (set_cell h4 (Cell.Worker 0) []) 0 0
 
   takes5 : Takes circling_plan h0 0 0 (node 3) false h1
   takes5 = record {

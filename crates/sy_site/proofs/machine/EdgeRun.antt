@@ -3,7 +3,7 @@ use Rattle.std.proofs.Common.{ℕ, false, [], ◌∷◌, refl, arith}
 use Rattle.sy_wire.specs.declared.class.Class.{Class}
 use Rattle.sy_chain.specs.Entries.{Entry}
 use Rattle.sy_board.specs.relay.Cells as cells
-use Rattle.sy_board.specs.relay.Cells.{Cell, RelayState, put, put_failures, hand}
+use Rattle.sy_board.specs.relay.Cells.{Cell, RelayState, set_cell, set_failures, hand}
 use Rattle.sy_board.specs.relay.Steps.{Enters, Grabs, Settles, Takes}
 use Rattle.sy_site.specs.machine.Examples.{edge_plan, example_message}
 use Rattle.sy_site.proofs.machine.DueSets.{first_due, lowest}
@@ -16,16 +16,16 @@ module _ (class : Class) (tag : ℕ) where
   r0 = cells.opening edge_plan
 
   abbrev pub r1 : RelayState
-  r1 = put r0 (hand 0 0) (node ∷ [])
+  r1 = set_cell r0 (hand 0 0) (node ∷ [])
 
   abbrev pub r2 : RelayState
-  r2 = put (put r1 (hand 0 0) []) (Cell.Queue 1) (node ∷ [])
+  r2 = set_cell (set_cell r1 (hand 0 0) []) (Cell.Queue 1) (node ∷ [])
 
   abbrev pub r3 : RelayState
-  r3 = put (put r2 (Cell.Queue 1) []) (Cell.Worker 1) (node ∷ [])
+  r3 = set_cell (set_cell r2 (Cell.Queue 1) []) (Cell.Worker 1) (node ∷ [])
 
   abbrev pub r4 : RelayState
-  r4 = put_failures (put r3 (Cell.Worker 1) []) 1 0
+  r4 = set_failures (set_cell r3 (Cell.Worker 1) []) 1 0
 
   pub takes : Takes edge_plan r0 0 0 node false r1
   takes = record {

@@ -4,7 +4,7 @@ use Rattle.std.specs.Prelude.{drop}
 use Rattle.sy_wire.specs.declared.class.Class.{Class}
 use Rattle.sy_chain.specs.Entries.{Entry}
 use Rattle.sy_board.specs.relay.Cells as cells
-use Rattle.sy_board.specs.relay.Cells.{Cell, RelayState, put, put_failures, hand}
+use Rattle.sy_board.specs.relay.Cells.{Cell, RelayState, set_cell, set_failures, hand}
 use Rattle.sy_board.specs.relay.Steps.{Cause, Enters, Event, Fails, GivesUp, Grabs, Posts, Settles, Takes}
 use Rattle.sy_site.specs.Sites.{SiteAction}
 use Rattle.sy_site.specs.machine.States.{Copy, Loss, SiteState, off_link, opening, taken_by, with_passed, with_relay}
@@ -22,25 +22,25 @@ module _ (class : Class) where
   edge0 = cells.opening waiting_plan
 
   abbrev edge1 : RelayState
-  edge1 = put edge0 (hand 0 0) (node 1 1 0 ∷ [])
+  edge1 = set_cell edge0 (hand 0 0) (node 1 1 0 ∷ [])
 
   abbrev edge2 : RelayState
-  edge2 = put (put edge1 (hand 0 0) []) (Cell.Queue 1) (node 1 1 0 ∷ [])
+  edge2 = set_cell (set_cell edge1 (hand 0 0) []) (Cell.Queue 1) (node 1 1 0 ∷ [])
 
   abbrev edge3 : RelayState
-  edge3 = put (put edge2 (Cell.Queue 1) []) (Cell.Worker 1) (node 1 1 0 ∷ [])
+  edge3 = set_cell (set_cell edge2 (Cell.Queue 1) []) (Cell.Worker 1) (node 1 1 0 ∷ [])
 
   abbrev edge4 : RelayState
-  edge4 = put (put_failures (put edge3 (Cell.Worker 1) []) 1 0) (Cell.Queue 2) (node 2 1 0 ∷ [])
+  edge4 = set_cell (set_failures (set_cell edge3 (Cell.Worker 1) []) 1 0) (Cell.Queue 2) (node 2 1 0 ∷ [])
 
   abbrev edge5 : RelayState
-  edge5 = put (put edge4 (Cell.Queue 2) []) (Cell.Worker 2) (node 2 1 0 ∷ [])
+  edge5 = set_cell (set_cell edge4 (Cell.Queue 2) []) (Cell.Worker 2) (node 2 1 0 ∷ [])
 
   abbrev edge6 : RelayState
-  edge6 = put_failures edge5 2 0
+  edge6 = set_failures edge5 2 0
 
   abbrev edge7 : RelayState
-  edge7 = put_failures (put edge6 (Cell.Worker 2) []) 2 0
+  edge7 = set_failures (set_cell edge6 (Cell.Worker 2) []) 2 0
 
   edge_takes : Takes waiting_plan edge0 0 0 (node 1 1 0) false edge1
   edge_takes = record {
@@ -91,25 +91,25 @@ module _ (class : Class) where
   hub0 = cells.opening copying_plan
 
   abbrev hub1 : RelayState
-  hub1 = put hub0 (hand 0 0) (node 0 3 1 ∷ [])
+  hub1 = set_cell hub0 (hand 0 0) (node 0 3 1 ∷ [])
 
   abbrev hub2 : RelayState
-  hub2 = put (put hub1 (hand 0 0) []) (Cell.Queue 0) (node 0 3 1 ∷ [])
+  hub2 = set_cell (set_cell hub1 (hand 0 0) []) (Cell.Queue 0) (node 0 3 1 ∷ [])
 
   abbrev hub3 : RelayState
-  hub3 = put (put hub2 (Cell.Queue 0) []) (Cell.Worker 0) (node 0 3 1 ∷ [])
+  hub3 = set_cell (set_cell hub2 (Cell.Queue 0) []) (Cell.Worker 0) (node 0 3 1 ∷ [])
 
   abbrev hub4 : RelayState
-  hub4 = put_failures (put hub3 (Cell.Worker 0) (node 0 2 1 ∷ [])) 0 0
+  hub4 = set_failures (set_cell hub3 (Cell.Worker 0) (node 0 2 1 ∷ [])) 0 0
 
   abbrev hub5 : RelayState
-  hub5 = put (put_failures (put hub4 (Cell.Worker 0) []) 0 0) (Cell.Queue 1) (node 1 1 1 ∷ [])
+  hub5 = set_cell (set_failures (set_cell hub4 (Cell.Worker 0) []) 0 0) (Cell.Queue 1) (node 1 1 1 ∷ [])
 
   abbrev hub6 : RelayState
-  hub6 = put (put hub5 (Cell.Queue 1) []) (Cell.Worker 1) (node 1 1 1 ∷ [])
+  hub6 = set_cell (set_cell hub5 (Cell.Queue 1) []) (Cell.Worker 1) (node 1 1 1 ∷ [])
 
   abbrev hub7 : RelayState
-  hub7 = put_failures (put hub6 (Cell.Worker 1) []) 1 0
+  hub7 = set_failures (set_cell hub6 (Cell.Worker 1) []) 1 0
 
   hub_takes : Takes copying_plan hub0 0 0 (node 0 3 1) false hub1
   hub_takes = record {
@@ -159,16 +159,16 @@ module _ (class : Class) where
   mirror0 = cells.opening mirror_plan
 
   abbrev mirror1 : RelayState
-  mirror1 = put mirror0 (hand 0 0) (node 0 1 2 ∷ [])
+  mirror1 = set_cell mirror0 (hand 0 0) (node 0 1 2 ∷ [])
 
   abbrev mirror2 : RelayState
-  mirror2 = put (put mirror1 (hand 0 0) []) (Cell.Queue 0) (node 0 1 2 ∷ [])
+  mirror2 = set_cell (set_cell mirror1 (hand 0 0) []) (Cell.Queue 0) (node 0 1 2 ∷ [])
 
   abbrev mirror3 : RelayState
-  mirror3 = put (put mirror2 (Cell.Queue 0) []) (Cell.Worker 0) (node 0 1 2 ∷ [])
+  mirror3 = set_cell (set_cell mirror2 (Cell.Queue 0) []) (Cell.Worker 0) (node 0 1 2 ∷ [])
 
   abbrev mirror4 : RelayState
-  mirror4 = put_failures (put mirror3 (Cell.Worker 0) []) 0 0
+  mirror4 = set_failures (set_cell mirror3 (Cell.Worker 0) []) 0 0
 
   mirror_takes : Takes mirror_plan mirror0 0 0 (node 0 1 2) false mirror1
   mirror_takes = record {

@@ -54,14 +54,14 @@ low most [] k d l all = l
 low most (x ∷ inputs) ℕ.zero d l all = all_first (λ (i : Input). i.list ≤ most) x inputs all
 low most (x ∷ inputs) (ℕ.suc k) d l all = low most inputs k d l (all_later (λ (i : Input). i.list ≤ most) x inputs all)
 
-tells : (a b : ℕ) → a ≤ b → nat_le a b ≡ true
-tells a b l = grind (arith, nat_tests)
+reports : (a b : ℕ) → a ≤ b → nat_le a b ≡ true
+reports a b l = grind (arith, nat_tests)
 
 no_owner : (plan : Plan) → All (λ i. i.list ≤ plan.rulesets) plan.inputs → (input : ℕ) → owner_at plan (input_at plan input).list ≡ None
 no_owner plan lists input =
     let list = (input_at plan input).list in
     let below : list ≤ plan.rulesets = low plan.rulesets plan.inputs input _ (omega arith) lists in
-    subst (λ b. (if b then None else runs_alone (body_at plan list)) ≡ None) (sym (tells list plan.rulesets below)) refl
+    subst (λ b. (if b then None else runs_alone (body_at plan list)) ≡ None) (sym (reports list plan.rulesets below)) refl
 
 lists_of : (relays : List Relay) (r : ℕ) → All (λ relay. IsWhole relay.plan) relays
     → All (λ i. i.list ≤ (plan_in (slice_get relays r)).rulesets) (plan_in (slice_get relays r)).inputs

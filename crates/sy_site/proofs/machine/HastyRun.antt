@@ -5,7 +5,7 @@ use Rattle.sy_wire.specs.declared.class.Class.{Class}
 use Rattle.sy_chain.specs.Entries.{Entry}
 use Rattle.sy_rules.proofs.lemmas.plan.Different.{one_differs}
 use Rattle.sy_board.specs.relay.Cells as cells
-use Rattle.sy_board.specs.relay.Cells.{Cell, RelayState, put, put_failures, hand}
+use Rattle.sy_board.specs.relay.Cells.{Cell, RelayState, set_cell, set_failures, hand}
 use Rattle.sy_board.specs.relay.Steps.{Cause, Enters, Event, GivesUp, Grabs, Takes}
 use Rattle.sy_site.specs.machine.States.{Arrival, Copy, SiteState, opening, with_passed, with_relay}
 use Rattle.sy_site.specs.machine.Steps.{Runs, SiteEvent, SiteStep}
@@ -24,16 +24,16 @@ module _ (class : Class) where
   r0 = cells.opening hasty_plan
 
   abbrev pub r1 : RelayState
-  r1 = put r0 (hand 0 0) (node ∷ [])
+  r1 = set_cell r0 (hand 0 0) (node ∷ [])
 
   abbrev pub r2 : RelayState
-  r2 = put (put r1 (hand 0 0) []) (Cell.Queue 1) (node ∷ [])
+  r2 = set_cell (set_cell r1 (hand 0 0) []) (Cell.Queue 1) (node ∷ [])
 
   abbrev pub r3 : RelayState
-  r3 = put (put r2 (Cell.Queue 1) []) (Cell.Worker 1) (node ∷ [])
+  r3 = set_cell (set_cell r2 (Cell.Queue 1) []) (Cell.Worker 1) (node ∷ [])
 
   abbrev pub r4 : RelayState
-  r4 = put_failures (put r3 (Cell.Worker 1) []) 1 0
+  r4 = set_failures (set_cell r3 (Cell.Worker 1) []) 1 0
 
   takes1 : Takes hasty_plan r0 0 0 node false r1
   takes1 = record {

@@ -16,7 +16,7 @@ use Rattle.sy_board.specs.relay.Plans.{occurrences_at}
 use Rattle.sy_board.specs.relay.Steps.{Cause, Event, IsOfInput, Out, Step, Takes, if_so}
 use Rattle.sy_board.proofs.relay.There.{hand_there}
 use Rattle.sy_site.specs.Sites.{Site, SiteInput, SiteAction, does_spare, is_spare, is_spare_list, plan_at, same_action, target}
-use Rattle.sy_site.specs.machine.States.{Copy, Loss, SiteState, copy_of_new, is_flagged_at, is_flagged_loss, loses_spare, off_link, put_outs, taken_by, with_passed, with_relay}
+use Rattle.sy_site.specs.machine.States.{Copy, Loss, SiteState, copy_of_new, is_flagged_at, is_flagged_loss, loses_spare, off_link, push_outs, taken_by, with_passed, with_relay}
 use Rattle.sy_site.specs.machine.Steps.{RelaySteps, SiteEvent, SiteStep, TakesCopy}
 use Rattle.sy_site.specs.machine.Reach.{list_of}
 use Rattle.sy_site.specs.machine.Lawful.{IsLawful}
@@ -27,7 +27,7 @@ use Rattle.sy_site.proofs.machine.Marks.{relay_elim}
 use Rattle.sy_site.proofs.machine.Naming.{AllShaped}
 use Rattle.sy_site.proofs.machine.Spares.{both_false, firm_list}
 use Rattle.sy_site.proofs.machine.Spread.{action_elim, get_last, get_more, some_same}
-use Rattle.sy_site.proofs.machine.Stays.{ByCause, Fitting, Held, Keeps, NotLost, PassedOn, SomeOf, put_here, some_left, some_right, stays}
+use Rattle.sy_site.proofs.machine.Stays.{ByCause, Fitting, Held, Keeps, NotLost, PassedOn, SomeOf, set_here, some_left, some_right, stays}
 
 some_split : {A : Type 0} (P : A → Type 0) (xs ys : List A) → SomeOf P (xs ++ ys) → SomeOf P xs ⊎ SomeOf P ys
 some_split P [] ys h = inr h
@@ -196,14 +196,14 @@ module _ (site : Site) (archive : SiteAction) (n : ℕ) (m : Said) where
   cause_plain copies r e (Cause.Post list) by = by.firm
   cause_plain copies r e (Cause.PostLost list) by = by.firm
 
-  put_outs_safe : (s : SiteState) (r : ℕ) (outs : List Out) → NoLoss (put_outs s r outs) → NoLoss s × Each (Safely s r) outs
-  put_outs_safe s r [] a = (a, tt)
-  put_outs_safe s r (Out.Passed x e ∷ outs) a =
+  push_outs_safe : (s : SiteState) (r : ℕ) (outs : List Out) → NoLoss (push_outs s r outs) → NoLoss s × Each (Safely s r) outs
+  push_outs_safe s r [] a = (a, tt)
+  push_outs_safe s r (Out.Passed x e ∷ outs) a =
       let d : SiteAction = record { relay = r; action = x } in
-      let f = put_outs_safe (record s { passed = with_passed s.passed d (s.passed d ++ e.tag ∷ []) }) r outs a in (f.0, (tt, f.1))
-  put_outs_safe s r (Out.Lost cause e ∷ outs) a =
+      let f = push_outs_safe (record s { passed = with_passed s.passed d (s.passed d ++ e.tag ∷ []) }) r outs a in (f.0, (tt, f.1))
+  push_outs_safe s r (Out.Lost cause e ∷ outs) a =
       let l : Loss = record { copy = e.tag; relay = r; list = e.list; cause = cause } in
-      let f = put_outs_safe (record s { losses = s.losses ++ l ∷ [] }) r outs a in
+      let f = push_outs_safe (record s { losses = s.losses ++ l ∷ [] }) r outs a in
       let g = each_right (NotIts s.copies) s.losses (l ∷ []) f.0 in (
         each_left (NotIts s.copies) s.losses (l ∷ []) f.0,
         (
@@ -213,15 +213,15 @@ module _ (site : Site) (archive : SiteAction) (n : ℕ) (m : Said) where
         ),
       )
 
-  put_outs_met : (s : SiteState) (r : ℕ) (outs : List Out)
-      → Met s ⊎ SomeOf (PassedOn (plan_at site r) (IsHeading s.copies r) (GoesBy s.copies r)) outs → Met (put_outs s r outs)
-  put_outs_met s r [] h = elim h [ inl k ↦ k | inr k ↦ absurd k ]
-  put_outs_met s r (Out.Passed x e ∷ outs) h =
+  push_outs_met : (s : SiteState) (r : ℕ) (outs : List Out)
+      → Met s ⊎ SomeOf (PassedOn (plan_at site r) (IsHeading s.copies r) (GoesBy s.copies r)) outs → Met (push_outs s r outs)
+  push_outs_met s r [] h = elim h [ inl k ↦ k | inr k ↦ absurd k ]
+  push_outs_met s r (Out.Passed x e ∷ outs) h =
       let d : SiteAction = record { relay = r; action = x } in
       let v = s.passed d ++ e.tag ∷ [] in
       let new : SiteState = record s { passed = with_passed s.passed d v } in
       let here : SomeOf (IsSent s.copies d) v → Met new = λ k. inr (d, subst (SomeOf (IsSent s.copies d)) (sym (with_device_here s.passed d v)) k) in
-      put_outs_met new r outs
+      push_outs_met new r outs
       (elim h [
         | inl k ↦ inl (elim k [
           | inl z ↦ inl z
@@ -233,9 +233,9 @@ module _ (site : Site) (archive : SiteAction) (n : ℕ) (m : Said) where
           | inr more ↦ inr (more)
         ]
       ])
-  put_outs_met s r (Out.Lost cause e ∷ outs) h =
+  push_outs_met s r (Out.Lost cause e ∷ outs) h =
       let new : SiteState = record s { losses = s.losses ++ record { copy = e.tag; relay = r; list = e.list; cause = cause } ∷ [] } in
-      put_outs_met new r outs (elim h [ inl k ↦ inl k | inr k ↦ elim k [ inl none ↦ absurd none | inr more ↦ inr more ] ])
+      push_outs_met new r outs (elim h [ inl k ↦ inl k | inr k ↦ elim k [ inl none ↦ absurd none | inr more ↦ inr more ] ])
 
   -- ---- the steps of a site
 
@@ -243,9 +243,9 @@ module _ (site : Site) (archive : SiteAction) (n : ℕ) (m : Said) where
       → RelaySteps site s r e new → Met new
   relays_met law s r e new sized safe met st =
       let mid : SiteState = record s { relays = with_relay s.relays r st.state } in
-      let clear = put_outs_safe mid r st.outs (subst NoLoss st.after safe) in
+      let clear = push_outs_safe mid r st.outs (subst NoLoss st.after safe) in
       subst Met (sym st.after)
-      (put_outs_met mid r st.outs
+      (push_outs_met mid r st.outs
       (elim met [
         | inl h ↦ some_relay (λ y. Held (IsHeading s.copies y)) s.relays r st.state
             (Met mid ⊎ SomeOf (PassedOn (plan_at site r) (IsHeading mid.copies r) (GoesBy mid.copies r)) st.outs) (λ y k. inl (inl (y, k)))
@@ -314,9 +314,9 @@ module _ (site : Site) (archive : SiteAction) (n : ℕ) (m : Said) where
           → st.step.outs ≡ if_so lost (Out.Lost Cause.Take st.node) → Met new
       go lost takes outs =
           let end : SiteState = record mid { relays = with_relay s.relays to.relay st.step.state } in
-          let clear = put_outs_safe end to.relay st.step.outs (subst NoLoss st.step.after safe) in
+          let clear = push_outs_safe end to.relay st.step.outs (subst NoLoss st.step.after safe) in
           subst Met (sym st.step.after)
-          (put_outs_met end to.relay st.step.outs
+          (push_outs_met end to.relay st.step.outs
           (inl (inl (
             to.relay,
             subst (Held (IsHeading mid.copies to.relay)) (sym (with_relay_here s.relays to.relay st.step.state))
@@ -327,7 +327,7 @@ module _ (site : Site) (archive : SiteAction) (n : ℕ) (m : Said) where
               → Each (Safely mid to.relay) (if_so b (Out.Lost Cause.Take st.node)) → Held (IsHeading mid.copies to.relay) st.step.state
           held true takes none = absurd (none.0 (heading takes.made) tt)
           held false takes none = subst (Held (IsHeading mid.copies to.relay)) (sym takes.after)
-              (put_here (IsHeading mid.copies to.relay) (s.relays to.relay) (hand to.input h) (st.node ∷ [])
+              (set_here (IsHeading mid.copies to.relay) (s.relays to.relay) (hand to.input h) (st.node ∷ [])
               (hand_there (plan_at site to.relay) (s.relays to.relay) to.input h (sized to.relay) takes.there) (inl (heading takes.made)))
 
   -- the copy that stood on the link

@@ -10,7 +10,7 @@ use Rattle.sy_rules.specs.declared.parameters.settings.QueueParameters.{QueuePar
 use Rattle.sy_rules.specs.PlanValue.{Plan}
 use Rattle.sy_rules.proofs.lemmas.plan.Different.{one_differs}
 use Rattle.sy_board.specs.relay.Cells as cells
-use Rattle.sy_board.specs.relay.Cells.{Cell, RelayState, put, put_failures, hand}
+use Rattle.sy_board.specs.relay.Cells.{Cell, RelayState, set_cell, set_failures, hand}
 use Rattle.sy_board.specs.relay.Plans.{marks_at}
 use Rattle.sy_board.specs.relay.Steps.{Cause, Enters, Event, Grabs, HasRoom, Job, LosesPost, Posts, Takes}
 use Rattle.sy_site.specs.Sites.{Site}
@@ -41,19 +41,19 @@ module _ (class : Class) where
   r0 = cells.opening (leaking_plan unmarked_queue)
 
   abbrev r1 : RelayState
-  r1 = put r0 (hand 0 0) (node 1 3 ∷ [])
+  r1 = set_cell r0 (hand 0 0) (node 1 3 ∷ [])
 
   abbrev r2 : RelayState
-  r2 = put (put r1 (hand 0 0) []) (Cell.Queue 1) (node 1 3 ∷ [])
+  r2 = set_cell (set_cell r1 (hand 0 0) []) (Cell.Queue 1) (node 1 3 ∷ [])
 
   abbrev r3 : RelayState
-  r3 = put (put r2 (Cell.Queue 1) []) (Cell.Worker 1) (node 1 3 ∷ [])
+  r3 = set_cell (set_cell r2 (Cell.Queue 1) []) (Cell.Worker 1) (node 1 3 ∷ [])
 
   abbrev r4 : RelayState
-  r4 = put (put_failures (put r3 (Cell.Worker 1) (node 1 2 ∷ [])) 1 0) (Cell.Queue 2) (node 2 1 ∷ [])
+  r4 = set_cell (set_failures (set_cell r3 (Cell.Worker 1) (node 1 2 ∷ [])) 1 0) (Cell.Queue 2) (node 2 1 ∷ [])
 
   abbrev r5 : RelayState
-  r5 = put_failures (put r4 (Cell.Worker 1) []) 1 0
+  r5 = set_failures (set_cell r4 (Cell.Worker 1) []) 1 0
 
   -- ---- to the second post, whichever queue that is
 

@@ -4,9 +4,9 @@ use Rattle.std.proofs.lemmas.Bool.{eqb-true}
 use Rattle.sy_board.specs.relay.Cells.{Cell, RelayState}
 use Rattle.sy_board.specs.relay.Steps.{Event, Out}
 use Rattle.sy_board.proofs.relay.Marks.{InMarks, marks_start, marks_step}
-use Rattle.sy_board.proofs.relay.Put.{if_elim}
+use Rattle.sy_board.proofs.relay.SetCells.{if_elim}
 use Rattle.sy_site.specs.Sites.{Site, SiteAction, plan_at}
-use Rattle.sy_site.specs.machine.States.{SiteState, opening, put_outs, with_passed, with_relay}
+use Rattle.sy_site.specs.machine.States.{SiteState, opening, push_outs, with_passed, with_relay}
 use Rattle.sy_site.specs.machine.Steps.{SiteSteps, RelaySteps, Runs, SiteEvent, SiteStep}
 use Rattle.sy_site.specs.machine.Lengths.{IsWithinMarks}
 
@@ -15,13 +15,13 @@ pub relay_elim : (P : ℕ → RelayState → Type 0) (f : ℕ → RelayState) (r
 relay_elim P f r state p all x = if_elim (P x) (r == x) state (f x) (λ e. subst (λ z. P z state) (eqb-true r x e) p) (λ e. all x)
 
 -- what leaves a relay changes no relay
-pub put_outs_relays : (s : SiteState) (r : ℕ) (outs : List Out) → (put_outs s r outs).relays ≡ s.relays
-put_outs_relays s r [] = refl
-put_outs_relays s r (Out.Passed a e ∷ outs) =
+pub push_outs_relays : (s : SiteState) (r : ℕ) (outs : List Out) → (push_outs s r outs).relays ≡ s.relays
+push_outs_relays s r [] = refl
+push_outs_relays s r (Out.Passed a e ∷ outs) =
     let d : SiteAction = record { relay = r; action = a } in
-    put_outs_relays (record s { passed = with_passed s.passed d (s.passed d ++ e.tag ∷ []) }) r outs
-put_outs_relays s r (Out.Lost cause e ∷ outs) =
-    put_outs_relays (record s { losses = s.losses ++ record { copy = e.tag; relay = r; list = e.list; cause = cause } ∷ [] }) r outs
+    push_outs_relays (record s { passed = with_passed s.passed d (s.passed d ++ e.tag ∷ []) }) r outs
+push_outs_relays s r (Out.Lost cause e ∷ outs) =
+    push_outs_relays (record s { losses = s.losses ++ record { copy = e.tag; relay = r; list = e.list; cause = cause } ∷ [] }) r outs
 
 module _ (site : Site) where
   abbrev pub AllMarks : (ℕ → RelayState) → Type 0
@@ -30,7 +30,7 @@ module _ (site : Site) where
   relay_marks : (old : SiteState) (r : ℕ) (e : Event) (new : SiteState) → AllMarks old.relays → RelaySteps site old r e new → AllMarks new.relays
   relay_marks old r e new a st =
       subst (λ (s : SiteState). AllMarks s.relays) (sym st.after)
-      (subst AllMarks (sym (put_outs_relays (record old { relays = with_relay old.relays r st.state }) r st.outs))
+      (subst AllMarks (sym (push_outs_relays (record old { relays = with_relay old.relays r st.state }) r st.outs))
       (relay_elim (λ x. InMarks (plan_at site x)) old.relays r st.state
       (marks_step (plan_at site r) (old.relays r) e st.state st.outs (a r) st.step) a))
 

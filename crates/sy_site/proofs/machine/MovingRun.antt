@@ -5,7 +5,7 @@ use Rattle.sy_wire.specs.declared.class.Class.{Class}
 use Rattle.sy_chain.specs.Entries.{Entry}
 use Rattle.sy_rules.specs.declared.lists.occurrence.Occurrence.TheVariants as occurrence
 use Rattle.sy_board.specs.relay.Cells as cells
-use Rattle.sy_board.specs.relay.Cells.{Cell, RelayState, put, put_failures, hand}
+use Rattle.sy_board.specs.relay.Cells.{Cell, RelayState, set_cell, set_failures, hand}
 use Rattle.sy_board.specs.relay.Steps.{Enters, Event, Grabs, Job, Posts, Takes}
 use Rattle.sy_site.specs.machine.States.{Copy, SiteState, opening, with_relay}
 use Rattle.sy_site.specs.machine.Steps.{Runs, SiteEvent, SiteStep}
@@ -24,19 +24,19 @@ module _ (class : Class) where
   r0 = cells.opening moving_plan
 
   abbrev r1 : RelayState
-  r1 = put r0 (hand 0 0) (node 1 ∷ [])
+  r1 = set_cell r0 (hand 0 0) (node 1 ∷ [])
 
   abbrev r2 : RelayState
-  r2 = put (put r1 (hand 0 0) []) (Cell.Queue 0) (node 1 ∷ [])
+  r2 = set_cell (set_cell r1 (hand 0 0) []) (Cell.Queue 0) (node 1 ∷ [])
 
   abbrev r3 : RelayState
-  r3 = put (put r2 (Cell.Queue 0) []) (Cell.Worker 0) (node 1 ∷ [])
+  r3 = set_cell (set_cell r2 (Cell.Queue 0) []) (Cell.Worker 0) (node 1 ∷ [])
 
   abbrev r4 : RelayState
-  r4 = put (put_failures (put r3 (Cell.Worker 0) []) 0 0) (Cell.Queue 1) (node 1 ∷ [])
+  r4 = set_cell (set_failures (set_cell r3 (Cell.Worker 0) []) 0 0) (Cell.Queue 1) (node 1 ∷ [])
 
   abbrev r5 : RelayState
-  r5 = put (put r4 (Cell.Queue 1) []) (Cell.Worker 1) (node 1 ∷ [])
+  r5 = set_cell (set_cell r4 (Cell.Queue 1) []) (Cell.Worker 1) (node 1 ∷ [])
 
   takes1 : Takes moving_plan r0 0 0 (node 1) false r1
   takes1 = record {

@@ -8,11 +8,11 @@ use Rattle.sy_board.specs.relay.Cells.{Cell, IsShaped, RelayState}
 use Rattle.sy_board.specs.relay.Steps.{Cause, Event, Out}
 use Rattle.sy_board.proofs.relay.Shapes.{shape_step}
 use Rattle.sy_site.specs.Sites.{Site, SiteInput, SiteAction, plan_at}
-use Rattle.sy_site.specs.machine.States.{Arrival, Copy, SiteState, copy_of_new, off_link, opening, put_outs, taken_by, with_passed, with_relay}
+use Rattle.sy_site.specs.machine.States.{Arrival, Copy, SiteState, copy_of_new, off_link, opening, push_outs, taken_by, with_passed, with_relay}
 use Rattle.sy_site.specs.machine.Steps.{RelaySteps, Runs, SiteEvent, SiteStep, SiteSteps, TakesCopy}
 use Rattle.sy_site.specs.machine.Naming.{AreShaped, NumbersName, TagsName}
 use Rattle.sy_board.proofs.relay.Keeps.{Each, Kept}
-use Rattle.sy_site.proofs.machine.Marks.{put_outs_relays, relay_elim}
+use Rattle.sy_site.proofs.machine.Marks.{push_outs_relays, relay_elim}
 use Rattle.sy_site.proofs.machine.Spread.{Grows, Moves, OutOf, get_last, get_more, run_keeps, start_keeps}
 
 pub get_cases : {A : Type 0} (xs : List A) (n : ℕ) (a x : A) → slice_get (xs ++ x ∷ []) n ≡ Some a
@@ -23,21 +23,21 @@ get_cases (y ∷ ys) ℕ.zero a x e = inl e
 get_cases (y ∷ ys) (ℕ.suc n) a x e = elim (get_cases ys n a x e) [ inl h ↦ inl h | inr h ↦ inr (ap ℕ.suc h.0, h.1) ]
 
 -- what leaves a relay makes no copy, and brings no message
-put_outs_copies : (s : SiteState) (r : ℕ) (outs : List Out) → (put_outs s r outs).copies ≡ s.copies
-put_outs_copies s r [] = refl
-put_outs_copies s r (Out.Passed a e ∷ outs) =
+push_outs_copies : (s : SiteState) (r : ℕ) (outs : List Out) → (push_outs s r outs).copies ≡ s.copies
+push_outs_copies s r [] = refl
+push_outs_copies s r (Out.Passed a e ∷ outs) =
     let d : SiteAction = record { relay = r; action = a } in
-    put_outs_copies (record s { passed = with_passed s.passed d (s.passed d ++ e.tag ∷ []) }) r outs
-put_outs_copies s r (Out.Lost cause e ∷ outs) =
-    put_outs_copies (record s { losses = s.losses ++ record { copy = e.tag; relay = r; list = e.list; cause = cause } ∷ [] }) r outs
+    push_outs_copies (record s { passed = with_passed s.passed d (s.passed d ++ e.tag ∷ []) }) r outs
+push_outs_copies s r (Out.Lost cause e ∷ outs) =
+    push_outs_copies (record s { losses = s.losses ++ record { copy = e.tag; relay = r; list = e.list; cause = cause } ∷ [] }) r outs
 
-put_outs_arrivals : (s : SiteState) (r : ℕ) (outs : List Out) → (put_outs s r outs).arrivals ≡ s.arrivals
-put_outs_arrivals s r [] = refl
-put_outs_arrivals s r (Out.Passed a e ∷ outs) =
+push_outs_arrivals : (s : SiteState) (r : ℕ) (outs : List Out) → (push_outs s r outs).arrivals ≡ s.arrivals
+push_outs_arrivals s r [] = refl
+push_outs_arrivals s r (Out.Passed a e ∷ outs) =
     let d : SiteAction = record { relay = r; action = a } in
-    put_outs_arrivals (record s { passed = with_passed s.passed d (s.passed d ++ e.tag ∷ []) }) r outs
-put_outs_arrivals s r (Out.Lost cause e ∷ outs) =
-    put_outs_arrivals (record s { losses = s.losses ++ record { copy = e.tag; relay = r; list = e.list; cause = cause } ∷ [] }) r outs
+    push_outs_arrivals (record s { passed = with_passed s.passed d (s.passed d ++ e.tag ∷ []) }) r outs
+push_outs_arrivals s r (Out.Lost cause e ∷ outs) =
+    push_outs_arrivals (record s { losses = s.losses ++ record { copy = e.tag; relay = r; list = e.list; cause = cause } ∷ [] }) r outs
 
 -- what holds of each element, at one that the list contains
 pub each_in : {A : Type 0} (P : A → Type 0) (xs : List A) → Each P xs → (x : A) → Contains xs x → P x
@@ -50,11 +50,11 @@ module _ (site : Site) where
 
   pub relay_copies : (s : SiteState) (r : ℕ) (e : Event) (new : SiteState) → RelaySteps site s r e new → new.copies ≡ s.copies
   relay_copies s r e new st =
-      ap (λ (x : SiteState). x.copies) st.after ∙ put_outs_copies (record s { relays = with_relay s.relays r st.state }) r st.outs
+      ap (λ (x : SiteState). x.copies) st.after ∙ push_outs_copies (record s { relays = with_relay s.relays r st.state }) r st.outs
 
   pub relay_arrivals : (s : SiteState) (r : ℕ) (e : Event) (new : SiteState) → RelaySteps site s r e new → new.arrivals ≡ s.arrivals
   relay_arrivals s r e new st =
-      ap (λ (x : SiteState). x.arrivals) st.after ∙ put_outs_arrivals (record s { relays = with_relay s.relays r st.state }) r st.outs
+      ap (λ (x : SiteState). x.arrivals) st.after ∙ push_outs_arrivals (record s { relays = with_relay s.relays r st.state }) r st.outs
 
   copy_named : (s : SiteState) (to : SiteInput) (h : ℕ) (c : Copy) (new : SiteState) → NumbersName s
       → slice_get s.arrivals c.number ≡ Some (record { message = c.message; origin = c.origin }) → TakesCopy site s to h c new → NumbersName new
@@ -146,7 +146,7 @@ module _ (site : Site) where
   relay_shaped : (s : SiteState) (r : ℕ) (e : Event) (new : SiteState) → AllShaped s.relays → RelaySteps site s r e new → AllShaped new.relays
   relay_shaped s r e new a st =
       subst (λ (x : SiteState). AllShaped x.relays) (sym st.after)
-      (subst AllShaped (sym (put_outs_relays (record s { relays = with_relay s.relays r st.state }) r st.outs))
+      (subst AllShaped (sym (push_outs_relays (record s { relays = with_relay s.relays r st.state }) r st.outs))
       (relay_elim (λ x. IsShaped (plan_at site x)) s.relays r st.state (shape_step (plan_at site r) (s.relays r) e st.state st.outs (a r) st.step) a))
 
   pub shaped_step : (s : SiteState) (e : SiteEvent) (new : SiteState) → AllShaped s.relays → SiteStep site s e new → AllShaped new.relays

@@ -5,7 +5,7 @@ use Rattle.sy_wire.specs.declared.class.Class.{Class}
 use Rattle.sy_chain.specs.Entries.{Entry}
 use Rattle.sy_rules.specs.declared.lists.occurrence.Occurrence.TheVariants as occurrence
 use Rattle.sy_board.specs.relay.Cells as cells
-use Rattle.sy_board.specs.relay.Cells.{Cell, RelayState, put, put_failures, hand}
+use Rattle.sy_board.specs.relay.Cells.{Cell, RelayState, set_cell, set_failures, hand}
 use Rattle.sy_board.specs.relay.Steps.{Cause, Enters, Event, Expires, Fails, GivesUp, Grabs, Job, LosesPost, Posts, Takes}
 use Rattle.sy_site.specs.machine.States.{Copy, SiteState, opening, with_relay}
 use Rattle.sy_site.specs.machine.Steps.{Runs, SiteEvent, SiteStep, SiteSteps}
@@ -27,47 +27,47 @@ module _ (class : Class) where
 
   -- the first message enters
   abbrev pub r1 : RelayState
-  r1 = put r0 (hand 0 0) (node 0 0 ∷ [])
+  r1 = set_cell r0 (hand 0 0) (node 0 0 ∷ [])
 
   abbrev pub r2 : RelayState
-  r2 = put (put r1 (hand 0 0) []) (q 0) (node 0 0 ∷ [])
+  r2 = set_cell (set_cell r1 (hand 0 0) []) (q 0) (node 0 0 ∷ [])
 
   -- the second one expires
   abbrev pub r3 : RelayState
-  r3 = put r2 (hand 0 1) (node 0 1 ∷ [])
+  r3 = set_cell r2 (hand 0 1) (node 0 1 ∷ [])
 
   abbrev pub r4 : RelayState
-  r4 = put r3 (hand 0 1) []
+  r4 = set_cell r3 (hand 0 1) []
 
   -- the first one is posted
   abbrev pub r5 : RelayState
-  r5 = put (put r4 (q 0) []) (w 0) (node 0 0 ∷ [])
+  r5 = set_cell (set_cell r4 (q 0) []) (w 0) (node 0 0 ∷ [])
 
   abbrev pub r6 : RelayState
-  r6 = put (put_failures (put r5 (w 0) []) 0 0) (q 1) (node 1 0 ∷ [])
+  r6 = set_cell (set_failures (set_cell r5 (w 0) []) 0 0) (q 1) (node 1 0 ∷ [])
 
   -- the third one finds no room there
   abbrev pub r7 : RelayState
-  r7 = put r6 (hand 0 0) (node 0 2 ∷ [])
+  r7 = set_cell r6 (hand 0 0) (node 0 2 ∷ [])
 
   abbrev pub r8 : RelayState
-  r8 = put (put r7 (hand 0 0) []) (q 0) (node 0 2 ∷ [])
+  r8 = set_cell (set_cell r7 (hand 0 0) []) (q 0) (node 0 2 ∷ [])
 
   abbrev pub r9 : RelayState
-  r9 = put (put r8 (q 0) []) (w 0) (node 0 2 ∷ [])
+  r9 = set_cell (set_cell r8 (q 0) []) (w 0) (node 0 2 ∷ [])
 
   abbrev pub r10 : RelayState
-  r10 = put_failures (put r9 (w 0) []) 0 0
+  r10 = set_failures (set_cell r9 (w 0) []) 0 0
 
   -- the first one is given up
   abbrev pub r11 : RelayState
-  r11 = put (put r10 (q 1) []) (w 1) (node 1 0 ∷ [])
+  r11 = set_cell (set_cell r10 (q 1) []) (w 1) (node 1 0 ∷ [])
 
   abbrev pub r12 : RelayState
-  r12 = put_failures r11 1 1
+  r12 = set_failures r11 1 1
 
   abbrev pub r13 : RelayState
-  r13 = put_failures (put r12 (w 1) []) 1 0
+  r13 = set_failures (set_cell r12 (w 1) []) 1 0
 
   takes1 : Takes narrow_plan r0 0 0 (node 0 0) false r1
   takes1 = record {

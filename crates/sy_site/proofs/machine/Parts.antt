@@ -6,10 +6,10 @@ use Rattle.sy_rules.specs.Whole.{AreDifferent}
 use Rattle.sy_chain.specs.Entries.{Entry}
 use Rattle.sy_rules.specs.PlanValue.{Plan}
 use Rattle.sy_board.specs.relay.Cells as cells
-use Rattle.sy_board.specs.relay.Cells.{Cell, at, put}
+use Rattle.sy_board.specs.relay.Cells.{Cell, at, set_cell}
 use Rattle.sy_board.proofs.relay.Keeps.{Each}
 use Rattle.sy_board.proofs.relay.Marks.{empty_everywhere}
-use Rattle.sy_board.proofs.relay.Put.{put_elim}
+use Rattle.sy_board.proofs.relay.SetCells.{set_cell_elim}
 use Rattle.sy_site.specs.Sites.{Site}
 use Rattle.sy_site.specs.machine.States.{Arrival, Copy, SiteState}
 use Rattle.sy_site.specs.machine.Safety.{IsCopyOf}
@@ -39,5 +39,5 @@ of_nothing plan P cell = subst (Each (P cell)) (sym (empty_everywhere plan cell)
 
 -- what holds of the one entry that a relay has
 pub of_one_entry : (plan : Plan) (P : Cell → Entry → Type 0) (place : Cell) (entry : Entry) → P place entry → (cell : Cell)
-    → Each (P cell) (at (put (cells.opening plan) place (entry ∷ [])) cell)
-of_one_entry plan P place entry p = put_elim (λ cell. Each (P cell)) (cells.opening plan) place (entry ∷ []) (p, tt) (of_nothing plan P)
+    → Each (P cell) (at (set_cell (cells.opening plan) place (entry ∷ [])) cell)
+of_one_entry plan P place entry p = set_cell_elim (λ cell. Each (P cell)) (cells.opening plan) place (entry ∷ []) (p, tt) (of_nothing plan P)

@@ -5,7 +5,7 @@ use Rattle.sy_wire.specs.declared.class.Class.{Class}
 use Rattle.sy_marks.specs.Marks.{discards}
 use Rattle.sy_rules.specs.declared.lists.occurrence.Occurrence.TheVariants as occurrence
 use Rattle.sy_rules.specs.Whole.{queue_for}
-use Rattle.sy_board.specs.relay.Cells.{Cell, RelayState, put, hand, waiting}
+use Rattle.sy_board.specs.relay.Cells.{Cell, RelayState, set_cell, hand, waiting}
 use Rattle.sy_board.specs.relay.Plans.{marks_at}
 use Rattle.sy_board.specs.relay.Steps.{Enters, Event, HasRoom, Takes}
 use Rattle.sy_board.proofs.relay.Excluded.{enter_or_expire, fail_or_give_up, post_or_lose}
@@ -94,10 +94,10 @@ module _ (class : Class) where
   -- ---- grabs
 
   abbrev r10 : RelayState
-  r10 = put (narrow.r9 class) (hand 0 0) (narrow.node class 0 3 ∷ [])
+  r10 = set_cell (narrow.r9 class) (hand 0 0) (narrow.node class 0 3 ∷ [])
 
   abbrev r11 : RelayState
-  r11 = put (put r10 (hand 0 0) []) (Cell.Queue 0) (narrow.node class 0 3 ∷ [])
+  r11 = set_cell (set_cell r10 (hand 0 0) []) (Cell.Queue 0) (narrow.node class 0 3 ∷ [])
 
   takes10 : Takes narrow_plan (narrow.r9 class) 0 0 (narrow.node class 0 3) false r10
   takes10 = record {

@@ -12,11 +12,11 @@ use Rattle.sy_rules.specs.lists.Sets.{Bits}
 use Rattle.sy_rules.specs.PlanValue.{Plan}
 use Rattle.sy_rules.proofs.lemmas.plan.Different.{one_differs}
 use Rattle.sy_board.specs.relay.Cells as cells
-use Rattle.sy_board.specs.relay.Cells.{Cell, RelayState, at, put, hand}
+use Rattle.sy_board.specs.relay.Cells.{Cell, RelayState, at, set_cell, hand}
 use Rattle.sy_board.specs.relay.Steps.{Takes}
 use Rattle.sy_board.proofs.relay.Keeps.{Each, Everywhere}
 use Rattle.sy_board.proofs.relay.Marks.{empty_everywhere}
-use Rattle.sy_board.proofs.relay.Put.{put_elim}
+use Rattle.sy_board.proofs.relay.SetCells.{set_cell_elim}
 use Rattle.sy_site.specs.Sites.{SiteAction, plan_at}
 use Rattle.sy_site.specs.machine.Safety.{Heads, IsHeld, IsWrittenOrHeads, Left, forwards, posts, writes}
 use Rattle.sy_site.specs.machine.States.{Arrival, Copy, SiteState, opening, with_relay}
@@ -49,7 +49,7 @@ module _ (class : Class) where
   r0 = cells.opening silent_plan
 
   abbrev r1 : RelayState
-  r1 = put r0 (hand 0 0) (node ∷ [])
+  r1 = set_cell r0 (hand 0 0) (node ∷ [])
 
   takes1 : Takes silent_plan r0 0 0 node false r1
   takes1 = record {
@@ -87,7 +87,7 @@ module _ (class : Class) where
 
   nothing_due : (relay : ℕ) → Everywhere (λ cell entry. entry.due ≡ 0) (s1.relays relay)
   nothing_due = relay_elim (λ relay. Everywhere (λ cell entry. entry.due ≡ 0)) s0.relays 0 r1
-      (put_elim (λ cell. Each (λ (entry : Entry). entry.due ≡ 0)) r0 (hand 0 0) (node ∷ []) (refl, tt) (nothing_held silent_plan))
+      (set_cell_elim (λ cell. Each (λ (entry : Entry). entry.due ≡ 0)) r0 (hand 0 0) (node ∷ []) (refl, tt) (nothing_held silent_plan))
       (λ relay. nothing_held (plan_at silent_site relay))
 
   due_is_0 : (relay : ℕ) (cell : Cell) (entry : Entry) → Contains (at (s1.relays relay) cell) entry → entry.due ≡ 0

@@ -7,16 +7,16 @@ use Rattle.sy_rules.specs.declared.lists.occurrence.Occurrence.TheVariants as oc
 use Rattle.sy_rules.specs.PlanValue.{Plan}
 use Rattle.sy_rules.specs.Whole.{queue_for}
 use Rattle.sy_board.specs.relay.Cells as cells
-use Rattle.sy_board.specs.relay.Cells.{Cell, RelayState, at, put, hand}
+use Rattle.sy_board.specs.relay.Cells.{Cell, RelayState, at, set_cell, hand}
 use Rattle.sy_board.specs.relay.Plans.{parameters_at, queue_of_input, queue_of_worker}
 use Rattle.sy_board.specs.relay.Steps.{Event, HasRoom, Job, Out, Step, advanced, still}
-use Rattle.sy_board.proofs.relay.Put.{put_elim, if_elim}
+use Rattle.sy_board.proofs.relay.SetCells.{set_cell_elim, if_elim}
 use Rattle.sy_site.specs.Sites.{Site, plan_at}
 use Rattle.sy_site.specs.machine.States.{SiteState, opening, with_relay}
 use Rattle.sy_site.specs.machine.Steps.{RelaySteps, Runs, SiteEvent, SiteStep, SiteSteps}
 use Rattle.sy_site.specs.machine.Lengths.{IsWithinSizes}
 use Rattle.sy_board.proofs.relay.Marks.{empty_everywhere}
-use Rattle.sy_site.proofs.machine.Marks.{put_outs_relays, relay_elim}
+use Rattle.sy_site.proofs.machine.Marks.{push_outs_relays, relay_elim}
 
 has_room : (plan : Plan) (old : RelayState) (list : ℕ) → (false ≡ true) ⊎ HasRoom plan old list → HasRoom plan old list
 has_room plan old list (inl e) = absurd (cc)
@@ -32,27 +32,27 @@ module _ (plan : Plan) where
   InSizes state = (c : Cell) → SizeAt c (at state c)
 
   advanced_sizes : (old : RelayState) (w : ℕ) (o : Occurrence) → InSizes old → (job : Job plan old w o) → InSizes (advanced plan old w o job)
-  advanced_sizes old w o a job c = put_elim SizeAt old (Cell.Worker w) (still job.entry job.left job.others) tt a c
+  advanced_sizes old w o a job c = set_cell_elim SizeAt old (Cell.Worker w) (still job.entry job.left job.others) tt a c
 
   sizes_step : (old : RelayState) (e : Event) (new : RelayState) (outs : List Out) → InSizes old → Step plan old e new outs → InSizes new
   sizes_step old (Event.Take i h node) new outs a (lost, takes, is) =
       subst InSizes (sym takes.after)
-      (if_elim InSizes lost old (put old (hand i h) (node ∷ [])) (λ t. a) (λ t. put_elim SizeAt old (hand i h) (node ∷ []) tt a))
+      (if_elim InSizes lost old (set_cell old (hand i h) (node ∷ [])) (λ t. a) (λ t. set_cell_elim SizeAt old (hand i h) (node ∷ []) tt a))
   sizes_step old (Event.Enter i h) new outs a (node, enters, is) =
       let q = queue_of_input plan i in
       let room = enters.room in
       subst InSizes (sym enters.after)
-      (put_elim SizeAt (put old (hand i h) []) (Cell.Queue q) (at old (Cell.Queue q) ++ node ∷ [])
+      (set_cell_elim SizeAt (set_cell old (hand i h) []) (Cell.Queue q) (at old (Cell.Queue q) ++ node ∷ [])
       (omega (arith, room, length-append (at old (Cell.Queue q)) (node ∷ [])))
-      (put_elim SizeAt old (hand i h) [] tt a))
-  sizes_step old (Event.Expire i h) new outs a (node, expires, is) = subst InSizes (sym expires.after) (put_elim SizeAt old (hand i h) [] tt a)
+      (set_cell_elim SizeAt old (hand i h) [] tt a))
+  sizes_step old (Event.Expire i h) new outs a (node, expires, is) = subst InSizes (sym expires.after) (set_cell_elim SizeAt old (hand i h) [] tt a)
   sizes_step old (Event.Grab w) new outs a (lost, grabs, is) =
       let q = queue_of_worker plan w in
       let n = (parameters_at plan q).batch in
       let m = a (Cell.Queue q) in
       subst InSizes (sym grabs.after)
-      (put_elim SizeAt (put old (Cell.Queue q) (drop n (at old (Cell.Queue q)))) (Cell.Worker w) _ tt
-      (put_elim SizeAt old (Cell.Queue q) (drop n (at old (Cell.Queue q))) (omega (arith, m, length-drop n (at old (Cell.Queue q)))) a))
+      (set_cell_elim SizeAt (set_cell old (Cell.Queue q) (drop n (at old (Cell.Queue q)))) (Cell.Worker w) _ tt
+      (set_cell_elim SizeAt old (Cell.Queue q) (drop n (at old (Cell.Queue q))) (omega (arith, m, length-drop n (at old (Cell.Queue q)))) a))
   sizes_step old (Event.Done w) new outs a (x, e, does, is) = subst InSizes (sym does.after) (advanced_sizes old w _ a does.job)
   sizes_step old (Event.Fail w took) new outs a (x, e, fails, is) = subst InSizes (sym fails.after) a
   sizes_step old (Event.GiveUp w took) new outs a (x, e, gives, is) = subst InSizes (sym gives.after) (advanced_sizes old w _ a gives.job)
@@ -61,7 +61,7 @@ module _ (plan : Plan) where
       let q = queue_for plan l in
       let room = (has_room plan old l posts.room).not_full in
       subst InSizes (sym posts.after)
-      (put_elim SizeAt (advanced plan old w (occurrence.Post l) posts.job) (Cell.Queue q) (at old (Cell.Queue q) ++ node ∷ [])
+      (set_cell_elim SizeAt (advanced plan old w (occurrence.Post l) posts.job) (Cell.Queue q) (at old (Cell.Queue q) ++ node ∷ [])
       (omega (arith, room, length-append (at old (Cell.Queue q)) (node ∷ []))) (advanced_sizes old w _ a posts.job))
   sizes_step old (Event.PostLost w no_memory) new outs a (l, e, loses, is) = subst InSizes (sym loses.after) (advanced_sizes old w _ a loses.job)
 
@@ -80,7 +80,7 @@ module _ (site : Site) where
   relay_sizes : (old : SiteState) (r : ℕ) (e : Event) (new : SiteState) → AllSizes old.relays → RelaySteps site old r e new → AllSizes new.relays
   relay_sizes old r e new a st =
       subst (λ (s : SiteState). AllSizes s.relays) (sym st.after)
-      (subst AllSizes (sym (put_outs_relays (record old { relays = with_relay old.relays r st.state }) r st.outs))
+      (subst AllSizes (sym (push_outs_relays (record old { relays = with_relay old.relays r st.state }) r st.outs))
       (relay_elim (λ x. InSizes (plan_at site x)) old.relays r st.state
       (sizes_step (plan_at site r) (old.relays r) e st.state st.outs (a r) st.step) a))
 

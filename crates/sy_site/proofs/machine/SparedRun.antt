@@ -4,7 +4,7 @@ use Rattle.std.specs.Prelude.{take}
 use Rattle.sy_wire.specs.declared.class.Class.{Class}
 use Rattle.sy_chain.specs.Entries.{Entry}
 use Rattle.sy_board.specs.relay.Cells as cells
-use Rattle.sy_board.specs.relay.Cells.{Cell, RelayState, put, put_failures, hand}
+use Rattle.sy_board.specs.relay.Cells.{Cell, RelayState, set_cell, set_failures, hand}
 use Rattle.sy_board.specs.relay.Steps.{Enters, Event, Grabs, Settles, Takes}
 use Rattle.sy_site.specs.machine.States.{Copy, SiteState, opening, with_passed, with_relay}
 use Rattle.sy_site.specs.machine.Steps.{Runs, SiteEvent, SiteStep}
@@ -21,16 +21,16 @@ module _ (class : Class) where
   h0 = cells.opening hub_plan
 
   abbrev pub h1 : RelayState
-  h1 = put h0 (hand 0 0) (node ∷ [])
+  h1 = set_cell h0 (hand 0 0) (node ∷ [])
 
   abbrev h2 : RelayState
-  h2 = put (put h1 (hand 0 0) []) (Cell.Queue 0) (node ∷ [])
+  h2 = set_cell (set_cell h1 (hand 0 0) []) (Cell.Queue 0) (node ∷ [])
 
   abbrev h3 : RelayState
-  h3 = put (put h2 (Cell.Queue 0) []) (Cell.Worker 0) (node ∷ [])
+  h3 = set_cell (set_cell h2 (Cell.Queue 0) []) (Cell.Worker 0) (node ∷ [])
 
   abbrev pub h4 : RelayState
-  h4 = put_failures (put h3 (Cell.Worker 0) []) 0 0
+  h4 = set_failures (set_cell h3 (Cell.Worker 0) []) 0 0
 
   takes5 : Takes hub_plan h0 0 0 node false h1
   takes5 = record {

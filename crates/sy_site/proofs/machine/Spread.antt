@@ -7,9 +7,9 @@ use Rattle.sy_chain.specs.Entries.{Entry}
 use Rattle.sy_rules.specs.PlanValue.{Plan}
 use Rattle.sy_board.specs.relay.Cells.{Cell, RelayState, at, hand}
 use Rattle.sy_board.specs.relay.Steps.{Cause, Event, IsHand, IsOfInput, Out}
-use Rattle.sy_board.proofs.relay.Put.{if_elim}
+use Rattle.sy_board.proofs.relay.SetCells.{if_elim}
 use Rattle.sy_site.specs.Sites.{Site, SiteInput, SiteAction, plan_at, same_action, target}
-use Rattle.sy_site.specs.machine.States.{Arrival, Copy, Loss, SiteState, copy_of_new, off_link, opening, put_outs, taken_by, with_passed, with_relay}
+use Rattle.sy_site.specs.machine.States.{Arrival, Copy, Loss, SiteState, copy_of_new, off_link, opening, push_outs, taken_by, with_passed, with_relay}
 use Rattle.sy_site.specs.machine.Steps.{IsTake, RelaySteps, SiteEvent, SiteStep, SiteSteps, TakesCopy}
 use Rattle.sy_board.proofs.relay.Keeps.{Comes, Each, Everywhere, Kept, each_append, each_left, each_right, each_weaker, step_keeps}
 use Rattle.sy_board.proofs.relay.Marks.{empty_everywhere}
@@ -122,11 +122,11 @@ module _ (site : Site) (P : List Arrival → ℕ → Copy → Cell → Entry →
   abbrev OutSp : SiteState → ℕ → Out → Type 0
   OutSp s r out = Of s.copies (λ x. OutOf (D s.arrivals) (L s.arrivals) r x out) (tag_of out)
 
-  put_outs_keeps : (s : SiteState) (r : ℕ) (outs : List Out) → Sp s → Each (OutSp s r) outs → Sp (put_outs s r outs)
-  put_outs_keeps s r [] a o = a
-  put_outs_keeps s r (Out.Passed x e ∷ outs) a o =
+  push_outs_keeps : (s : SiteState) (r : ℕ) (outs : List Out) → Sp s → Each (OutSp s r) outs → Sp (push_outs s r outs)
+  push_outs_keeps s r [] a o = a
+  push_outs_keeps s r (Out.Passed x e ∷ outs) a o =
       let d : SiteAction = record { relay = r; action = x } in
-      put_outs_keeps (record s { passed = with_passed s.passed d (s.passed d ++ e.tag ∷ []) }) r outs
+      push_outs_keeps (record s { passed = with_passed s.passed d (s.passed d ++ e.tag ∷ []) }) r outs
       (record {
         held = a.held;
         passed = action_elim (λ z. Each (Of s.copies (D s.arrivals z))) s.passed d _
@@ -134,9 +134,9 @@ module _ (site : Site) (P : List Arrival → ℕ → Copy → Cell → Entry →
         losses = a.losses;
       })
       o.1
-  put_outs_keeps s r (Out.Lost cause e ∷ outs) a o =
+  push_outs_keeps s r (Out.Lost cause e ∷ outs) a o =
       let l : Loss = record { copy = e.tag; relay = r; list = e.list; cause = cause } in
-      put_outs_keeps (record s { losses = s.losses ++ l ∷ [] }) r outs
+      push_outs_keeps (record s { losses = s.losses ++ l ∷ [] }) r outs
       (record {
         held = a.held;
         passed = a.passed;
@@ -153,7 +153,7 @@ module _ (site : Site) (P : List Arrival → ℕ → Copy → Cell → Entry →
       (kept_of_all (plan_at site r) (P s.arrivals r) (OutOf (D s.arrivals) (L s.arrivals) r) (G r) s.copies ((moves s.arrivals).inside r))
       (s.relays r) e st.state st.outs g comes (a.held r) st.step in
       subst Sp (sym st.after)
-      (put_outs_keeps (record s { relays = with_relay s.relays r st.state }) r st.outs
+      (push_outs_keeps (record s { relays = with_relay s.relays r st.state }) r st.outs
       (record {
         held = relay_elim (λ z. Everywhere (λ c e. Of s.copies (λ x. P s.arrivals z x c e) e.tag)) s.relays r st.state k.0 a.held;
         passed = a.passed;

@@ -10,10 +10,10 @@ use Rattle.sy_rules.specs.declared.lists.occurrence.Occurrence.TheVariants as oc
 use Rattle.sy_rules.specs.lists.Sets.{IsLowest}
 use Rattle.sy_rules.specs.PlanValue.{Plan}
 use Rattle.sy_rules.specs.Whole.{IsWhole, queue_for}
-use Rattle.sy_board.specs.relay.Cells.{Cell, IsShaped, RelayState, at, put, hand}
+use Rattle.sy_board.specs.relay.Cells.{Cell, IsShaped, RelayState, at, set_cell, hand}
 use Rattle.sy_board.specs.relay.Plans.{marks_at, parameters_at, queue_of_input, queue_of_worker}
 use Rattle.sy_board.specs.relay.Steps.{Cause, Event, IsPosted, Job, Out, Step, advanced, if_so, still}
-use Rattle.sy_board.proofs.relay.Put.{Has, at_put, put_elim, if_elim}
+use Rattle.sy_board.proofs.relay.SetCells.{Has, at_set, set_cell_elim, if_elim}
 use Rattle.sy_board.proofs.relay.There.{input_queue_there, list_queue_there, worker_there}
 use Rattle.sy_board.proofs.relay.Keeps.{Each, Owes, owed}
 
@@ -35,14 +35,14 @@ abbrev pub Held : (Entry → Type 0) → RelayState → Type 0
 Held Q part = (c : Cell) × SomeOf Q (at part c)
 
 -- what holds at some place still does, or else held at the one that changed
-pub put_held : (Q : Entry → Type 0) (part : RelayState) (c : Cell) (es : List Entry) (Goal : Type 0)
-    → (Held Q (put part c es) → Goal) → (SomeOf Q (at part c) → Goal) → Held Q part → Goal
-put_held Q part c es Goal there gone h =
-    put_elim (λ d new. (SomeOf Q new → Goal) → SomeOf Q (at part d) → Goal) part c es (λ k s. gone s) (λ d k s. k s) h.0 (λ n. there (h.0, n)) h.1
+pub set_held : (Q : Entry → Type 0) (part : RelayState) (c : Cell) (es : List Entry) (Goal : Type 0)
+    → (Held Q (set_cell part c es) → Goal) → (SomeOf Q (at part c) → Goal) → Held Q part → Goal
+set_held Q part c es Goal there gone h =
+    set_cell_elim (λ d new. (SomeOf Q new → Goal) → SomeOf Q (at part d) → Goal) part c es (λ k s. gone s) (λ d k s. k s) h.0 (λ n. there (h.0, n)) h.1
 
 -- what is put at a place that exists is held
-pub put_here : (Q : Entry → Type 0) (part : RelayState) (c : Cell) (es : List Entry) → Has part c → SomeOf Q es → Held Q (put part c es)
-put_here Q part c es has s = (c, subst (SomeOf Q) (sym (at_put part c es has)) s)
+pub set_here : (Q : Entry → Type 0) (part : RelayState) (c : Cell) (es : List Entry) → Has part c → SomeOf Q es → Held Q (set_cell part c es)
+set_here Q part c es has s = (c, subst (SomeOf Q) (sym (at_set part c es has)) s)
 
 -- of what a worker grabs, each entry with work is kept or lost
 pub grab_cases : (Q : Entry → Type 0) → ((e : Entry) → Q e → e.due ≡ 0 → ⊥) → (q : Marks) (n : ℕ) (es : List Entry) → SomeOf Q es
@@ -107,15 +107,15 @@ module _ (plan : Plan) (Q : Entry → Type 0) (Through : Entry → Occurrence �
         → Held Q (advanced plan old w o job) ⊎ (Q job.entry × Through job.entry o)
     advance old w o fits job h =
         let has : w < length old.workers = worker_there plan old w fits.shaped job.there in
-        put_held Q old (Cell.Worker w) (still job.entry job.left job.others)
+        set_held Q old (Cell.Worker w) (still job.entry job.left job.others)
         (Held Q (advanced plan old w o job) ⊎ (Q job.entry × Through job.entry o))
         (λ k. inl k)
         (λ s. elim (subst (SomeOf Q) job.held s) [
           | inl q ↦ elim (keeps.on job.entry o job.left (owed plan old w o job) job.first q) [
-            | inl p ↦ inl (put_here Q old (Cell.Worker w) (still job.entry job.left job.others) has (here job.left p))
+            | inl p ↦ inl (set_here Q old (Cell.Worker w) (still job.entry job.left job.others) has (here job.left p))
             | inr t ↦ inr (q, t)
           ]
-          | inr later ↦ inl (put_here Q old (Cell.Worker w) (still job.entry job.left job.others) has (behind job.left later))
+          | inr later ↦ inl (set_here Q old (Cell.Worker w) (still job.entry job.left job.others) has (behind job.left later))
         ])
         h
       where
@@ -129,43 +129,43 @@ module _ (plan : Plan) (Q : Entry → Type 0) (Through : Entry → Occurrence �
     pub stays : (old : RelayState) (e : Event) (new : RelayState) (outs : List Out) → Fitting plan old → Each NotLost outs
         → Step plan old e new outs → Held Q old → Held Q new ⊎ SomeOf PassedOn outs
     stays old (Event.Take i h node) new outs fits safe (lost, takes, is) k =
-        inl (subst (Held Q) (sym takes.after) (if_elim (Held Q) lost old (put old (hand i h) (node ∷ [])) (λ t. k)
-        (λ t. put_held Q old (hand i h) (node ∷ []) (Held Q (put old (hand i h) (node ∷ []))) (λ z. z)
+        inl (subst (Held Q) (sym takes.after) (if_elim (Held Q) lost old (set_cell old (hand i h) (node ∷ [])) (λ t. k)
+        (λ t. set_held Q old (hand i h) (node ∷ []) (Held Q (set_cell old (hand i h) (node ∷ []))) (λ z. z)
         (λ s. absurd (subst (SomeOf Q) takes.free s)) k)))
     stays old (Event.Enter i h) new outs fits safe (node, enters, is) k =
         let q = queue_of_input plan i in
         let has : q < length old.queues = input_queue_there plan old i fits.whole fits.shaped enters.leaves.there.0 in
-        let mid = put old (hand i h) [] in
+        let mid = set_cell old (hand i h) [] in
         let all = at old (Cell.Queue q) ++ node ∷ [] in
         inl (subst (Held Q) (sym enters.after)
-        (put_held Q old (hand i h) [] (Held Q (put mid (Cell.Queue q) all))
-        (λ m. put_held Q mid (Cell.Queue q) all (Held Q (put mid (Cell.Queue q) all)) (λ z. z)
-        (λ s. put_here Q mid (Cell.Queue q) all has (some_left Q (at old (Cell.Queue q)) (node ∷ []) s)) m)
-        (λ s. put_here Q mid (Cell.Queue q) all has (some_right Q (at old (Cell.Queue q)) (node ∷ []) (subst (SomeOf Q) enters.leaves.held s))) k))
+        (set_held Q old (hand i h) [] (Held Q (set_cell mid (Cell.Queue q) all))
+        (λ m. set_held Q mid (Cell.Queue q) all (Held Q (set_cell mid (Cell.Queue q) all)) (λ z. z)
+        (λ s. set_here Q mid (Cell.Queue q) all has (some_left Q (at old (Cell.Queue q)) (node ∷ []) s)) m)
+        (λ s. set_here Q mid (Cell.Queue q) all has (some_right Q (at old (Cell.Queue q)) (node ∷ []) (subst (SomeOf Q) enters.leaves.held s))) k))
     stays old (Event.Expire i h) new outs fits safe (node, expires, is) k =
         let none : (Q node → Unit {0} → ⊥) × Unit {0} = subst (Each NotLost) is safe in
-        inl (subst (Held Q) (sym expires.after) (put_held Q old (hand i h) [] (Held Q (put old (hand i h) [])) (λ z. z)
+        inl (subst (Held Q) (sym expires.after) (set_held Q old (hand i h) [] (Held Q (set_cell old (hand i h) [])) (λ z. z)
         (λ s. elim (subst (SomeOf Q) expires.leaves.held s) [ inl q ↦ absurd (none.0 q tt) | inr b ↦ absurd b ]) k))
     stays old (Event.Grab w) new outs fits safe (lost, grabs, is) k =
         let q = queue_of_worker plan w in
         let l = marks_at plan q in
         let n = (parameters_at plan q).batch in
-        let mid = put old (Cell.Queue q) (drop n (at old (Cell.Queue q))) in
+        let mid = set_cell old (Cell.Queue q) (drop n (at old (Cell.Queue q))) in
         let kept = kept_of l n (at old (Cell.Queue q)) in
         let has : w < length old.workers = worker_there plan old w fits.shaped grabs.there in
         let none : Each NotLost (map (Out.Lost Cause.Grab) (lost_of l n (at old (Cell.Queue q)))) = subst
         (λ xs. Each NotLost (map (Out.Lost Cause.Grab) xs)) grabs.lost_are (subst (Each NotLost) is safe) in
         let there : q < length old.queues = some_there old.queues q grabs.some in
-        let from_mid : Held Q mid → Held Q (put mid (Cell.Worker w) kept) = λ m. put_held Q mid (Cell.Worker w) kept
-        (Held Q (put mid (Cell.Worker w) kept)) (λ z. z) (λ s. absurd (subst (SomeOf Q) grabs.idle s)) m in
+        let from_mid : Held Q mid → Held Q (set_cell mid (Cell.Worker w) kept) = λ m. set_held Q mid (Cell.Worker w) kept
+        (Held Q (set_cell mid (Cell.Worker w) kept)) (λ z. z) (λ s. absurd (subst (SomeOf Q) grabs.idle s)) m in
         inl (subst (Held Q) (sym grabs.after)
-        (put_held Q old (Cell.Queue q) (drop n (at old (Cell.Queue q))) (Held Q (put mid (Cell.Worker w) kept)) from_mid
+        (set_held Q old (Cell.Queue q) (drop n (at old (Cell.Queue q))) (Held Q (set_cell mid (Cell.Worker w) kept)) from_mid
         (λ s. elim (grab_cases Q keeps.busy l n (at old (Cell.Queue q)) s) [
-          | inl a ↦ put_here Q mid (Cell.Worker w) kept has a
+          | inl a ↦ set_here Q mid (Cell.Worker w) kept has a
           | inr o ↦ elim o [
             | inl b ↦ absurd (not_lost_all (lost_of l n (at old (Cell.Queue q))) none b)
             | inr c ↦ from_mid
-                (put_here Q old (Cell.Queue q) (drop n (at old (Cell.Queue q))) there c)
+                (set_here Q old (Cell.Queue q) (drop n (at old (Cell.Queue q))) there c)
           ]
         ]) k))
     stays old (Event.Done w) new outs fits safe (a, e, does, is) k =
@@ -185,18 +185,18 @@ module _ (plan : Plan) (Q : Entry → Type 0) (Through : Entry → Occurrence �
       where
         go : (b : Bool) → Each NotLost (if_so b (Out.Lost (Cause.Post l) posts.job.entry))
             → Held Q (if b then advanced plan old w (occurrence.Post l) posts.job else
-            (put (advanced plan old w (occurrence.Post l) posts.job) (Cell.Queue (queue_for plan l))
+            (set_cell (advanced plan old w (occurrence.Post l) posts.job) (Cell.Queue (queue_for plan l))
             (at old (Cell.Queue (queue_for plan l)) ++ node ∷ [])))
         go true none = elim (advance old w (occurrence.Post l) fits posts.job k) [ inl h ↦ h | inr t ↦ absurd (none.0 t.0 t.1) ]
         go false none = elim (advance old w (occurrence.Post l) fits posts.job k) [
-          | inl h ↦ put_held Q (advanced plan old w (occurrence.Post l) posts.job) (Cell.Queue (queue_for plan l))
+          | inl h ↦ set_held Q (advanced plan old w (occurrence.Post l) posts.job) (Cell.Queue (queue_for plan l))
               (at old (Cell.Queue (queue_for plan l)) ++ node ∷ [])
-              (Held Q (put (advanced plan old w (occurrence.Post l) posts.job) (Cell.Queue (queue_for plan l))
+              (Held Q (set_cell (advanced plan old w (occurrence.Post l) posts.job) (Cell.Queue (queue_for plan l))
               (at old (Cell.Queue (queue_for plan l)) ++ node ∷ []))) (λ z. z)
-              (λ s. put_here Q (advanced plan old w (occurrence.Post l) posts.job) (Cell.Queue (queue_for plan l))
+              (λ s. set_here Q (advanced plan old w (occurrence.Post l) posts.job) (Cell.Queue (queue_for plan l))
               (at old (Cell.Queue (queue_for plan l)) ++ node ∷ []) (list_queue_there plan old l fits.whole fits.shaped)
               (some_left Q (at old (Cell.Queue (queue_for plan l))) (node ∷ []) s)) h
-          | inr t ↦ put_here Q (advanced plan old w (occurrence.Post l) posts.job) (Cell.Queue (queue_for plan l))
+          | inr t ↦ set_here Q (advanced plan old w (occurrence.Post l) posts.job) (Cell.Queue (queue_for plan l))
               (at old (Cell.Queue (queue_for plan l)) ++ node ∷ []) (list_queue_there plan old l fits.whole fits.shaped)
               (some_right Q (at old (Cell.Queue (queue_for plan l))) (node ∷ []) (inl (keeps.posts posts.job.entry l node t.1 posts.made)))
         ]

@@ -5,7 +5,7 @@ use Rattle.sy_wire.specs.declared.class.Class.{Class}
 use Rattle.sy_chain.specs.Entries.{Entry}
 use Rattle.sy_rules.specs.Whole.{AreDifferent}
 use Rattle.sy_board.specs.relay.Cells as cells
-use Rattle.sy_board.specs.relay.Cells.{Cell, RelayState, put, put_failures, hand}
+use Rattle.sy_board.specs.relay.Cells.{Cell, RelayState, set_cell, set_failures, hand}
 use Rattle.sy_board.specs.relay.Steps.{Enters, Event, Grabs, Settles, Takes}
 use Rattle.sy_site.specs.Sites.{SiteAction}
 use Rattle.sy_site.specs.machine.States.{Copy, SiteState, opening, with_passed, with_relay}
@@ -24,28 +24,28 @@ module _ (class : Class) where
   e0 = cells.opening twice_plan
 
   abbrev e1 : RelayState
-  e1 = put e0 (hand 0 0) (node 0 0 0 ∷ [])
+  e1 = set_cell e0 (hand 0 0) (node 0 0 0 ∷ [])
 
   abbrev e2 : RelayState
-  e2 = put (put e1 (hand 0 0) []) (Cell.Queue 0) (node 0 0 0 ∷ [])
+  e2 = set_cell (set_cell e1 (hand 0 0) []) (Cell.Queue 0) (node 0 0 0 ∷ [])
 
   abbrev e3 : RelayState
-  e3 = put (put e2 (Cell.Queue 0) []) (Cell.Worker 0) (node 0 0 0 ∷ [])
+  e3 = set_cell (set_cell e2 (Cell.Queue 0) []) (Cell.Worker 0) (node 0 0 0 ∷ [])
 
   abbrev e4 : RelayState
-  e4 = put_failures (put e3 (Cell.Worker 0) []) 0 0
+  e4 = set_failures (set_cell e3 (Cell.Worker 0) []) 0 0
 
   abbrev e5 : RelayState
-  e5 = put e4 (hand 1 0) (node 1 1 1 ∷ [])
+  e5 = set_cell e4 (hand 1 0) (node 1 1 1 ∷ [])
 
   abbrev e6 : RelayState
-  e6 = put (put e5 (hand 1 0) []) (Cell.Queue 0) (node 1 1 1 ∷ [])
+  e6 = set_cell (set_cell e5 (hand 1 0) []) (Cell.Queue 0) (node 1 1 1 ∷ [])
 
   abbrev e7 : RelayState
-  e7 = put (put e6 (Cell.Queue 0) []) (Cell.Worker 0) (node 1 1 1 ∷ [])
+  e7 = set_cell (set_cell e6 (Cell.Queue 0) []) (Cell.Worker 0) (node 1 1 1 ∷ [])
 
   abbrev pub e8 : RelayState
-  e8 = put_failures (put e7 (Cell.Worker 0) []) 0 0
+  e8 = set_failures (set_cell e7 (Cell.Worker 0) []) 0 0
 
   takes1 : Takes twice_plan e0 0 0 (node 0 0 0) false e1
   takes1 = record {
@@ -99,16 +99,16 @@ module _ (class : Class) where
   h0 = cells.opening hub_plan
 
   abbrev h1 : RelayState
-  h1 = put h0 (hand 0 0) (node 0 0 2 ∷ [])
+  h1 = set_cell h0 (hand 0 0) (node 0 0 2 ∷ [])
 
   abbrev h2 : RelayState
-  h2 = put (put h1 (hand 0 0) []) (Cell.Queue 0) (node 0 0 2 ∷ [])
+  h2 = set_cell (set_cell h1 (hand 0 0) []) (Cell.Queue 0) (node 0 0 2 ∷ [])
 
   abbrev h3 : RelayState
-  h3 = put (put h2 (Cell.Queue 0) []) (Cell.Worker 0) (node 0 0 2 ∷ [])
+  h3 = set_cell (set_cell h2 (Cell.Queue 0) []) (Cell.Worker 0) (node 0 0 2 ∷ [])
 
   abbrev pub h4 : RelayState
-  h4 = put_failures (put h3 (Cell.Worker 0) []) 0 0
+  h4 = set_failures (set_cell h3 (Cell.Worker 0) []) 0 0
 
   takes9 : Takes hub_plan h0 0 0 (node 0 0 2) false h1
   takes9 = record {

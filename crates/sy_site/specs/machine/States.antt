@@ -49,13 +49,13 @@ abbrev pub with_passed : (SiteAction → List ℕ) → SiteAction → List ℕ �
 with_passed passed action new = λ a. if same_action action a then new else passed a
 
 -- What a relay lets out comes to the ends of its links and files, and to the losses.
-abbrev pub put_outs : SiteState → ℕ → List Out → SiteState
-put_outs state relay [] = state
-put_outs state relay (Out.Passed action e ∷ outs) =
+abbrev pub push_outs : SiteState → ℕ → List Out → SiteState
+push_outs state relay [] = state
+push_outs state relay (Out.Passed action e ∷ outs) =
     let by : SiteAction = record { relay = relay; action = action } in
-    put_outs (record state { passed = with_passed state.passed by (state.passed by ++ e.tag ∷ []) }) relay outs
-put_outs state relay (Out.Lost cause e ∷ outs) =
-    put_outs (record state { losses = state.losses ++ record { copy = e.tag; relay = relay; list = e.list; cause = cause } ∷ [] }) relay outs
+    push_outs (record state { passed = with_passed state.passed by (state.passed by ++ e.tag ∷ []) }) relay outs
+push_outs state relay (Out.Lost cause e ∷ outs) =
+    push_outs (record state { losses = state.losses ++ record { copy = e.tag; relay = relay; list = e.list; cause = cause } ∷ [] }) relay outs
 
 -- the copy, taken by one more relay
 abbrev pub taken_by : ℕ → Copy → Copy

@@ -32,7 +32,7 @@ fn is_among(names: &[String], name: &str) -> bool
 }
 
 // Puts a name behind the others, where it isn't one of them.
-fn put(alloc: Global, names: &mut Vec<String>, name: &str) -> Result<(), AllocError>
+fn push_name(alloc: Global, names: &mut Vec<String>, name: &str) -> Result<(), AllocError>
     ensures { OnOk result (map string_bytes names.new.items
         ≡ spec.with_names (map string_bytes names.old.items) (name.now ∷ [])) }
 {
@@ -66,7 +66,7 @@ fn note_relay(
         return Err(Halt::Faulty);
     }
     match relay_line(behind) {
-        Some(line) => match put(alloc, names, line.file) {
+        Some(line) => match push_name(alloc, names, line.file) {
             Ok(()) => Ok(()),
             Err(_) => Err(Halt::NoMemory),
         },

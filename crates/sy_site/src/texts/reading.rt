@@ -197,7 +197,7 @@ fn read_given(alloc: Global, number: usize, line: &[u8]) -> Option<Given<'_>>
 }
 
 // Puts a line behind those that were found.
-fn put<'t>(found: &mut Vec<Given<'t>>, line: Given<'t>) -> Result<(), Halt>
+fn push_given<'t>(found: &mut Vec<Given<'t>>, line: Given<'t>) -> Result<(), Halt>
     ensures found { OnOk result (found.new.items ≡ found.old.items ++ line.entry ∷ []) }
     ensures placed { OnOk result (spec.HasNoPlace (map line_given found.old.items) (line_given line.entry) → ⊥) }
     ensures few { OnOk result (spec.HasRoom (map words_given found.old.items) (line_given line.entry)) }
@@ -236,7 +236,7 @@ fn note<'t>(
         return Ok(());
     }
     match read_given(alloc, number, line) {
-        Some(line) => put(found, line),
+        Some(line) => push_given(found, line),
         None => Err(Halt::Line),
     }
 }

@@ -17,12 +17,12 @@ use crate::site::lookup::{Missing, action, archive, entry};
 use crate::site::relay::Relay;
 use crate::site::{Protection, SiteAction, SiteInput};
 use crate::texts::reading::Given;
-use crate::texts::relays::put;
+use crate::texts::relays::push_item;
 use crate::texts::shapes::{Line, ProtectLine, SpareLine};
 use std::alloc::Global;
 
 // Puts the input of a line behind the others, where it is an entry line.
-fn put_entry(
+fn push_entry(
     entries: &mut Vec<SiteInput>,
     given: &Given<'_>,
     relays: &[Relay],
@@ -37,7 +37,7 @@ fn put_entry(
         return Ok(());
     };
     match entry(relays, line) {
-        Ok(input) => put(entries, input),
+        Ok(input) => push_item(entries, input),
         Err(Missing::Relay) => Err(SiteFault::Line(given.number)),
         Err(Missing::Part) => Err(SiteFault::NoSuchEntry(given.number)),
     }
@@ -57,7 +57,7 @@ pub fn entries(
 {
     let mut entries = Vec::new(alloc);
     for given in found {
-        put_entry(&mut entries, given, relays)?;
+        push_entry(&mut entries, given, relays)?;
     }
     Ok(entries)
 }
@@ -81,7 +81,7 @@ fn put_whole_entry(
     if !line.is_whole {
         return Ok(());
     }
-    put_entry(entries, given, relays)
+    push_entry(entries, given, relays)
 }
 
 /// The inputs of the entry lines of a text that end in `whole`.
@@ -120,7 +120,7 @@ fn protect(
     match archive(relays, line.relay, line.action) {
         Ok(archive) => {
             let selector = line.selector;
-            put(protections, Protection { selector, archive })
+            push_item(protections, Protection { selector, archive })
         }
         Err(Missing::Relay) => Err(SiteFault::Line(number)),
         Err(Missing::Part) => Err(SiteFault::NoSuchArchive(number)),
@@ -128,7 +128,7 @@ fn protect(
 }
 
 // Puts what a line says behind the others, where it is a protect line.
-fn put_protection(
+fn push_protection(
     protections: &mut Vec<Protection>,
     given: Given<'_>,
     relays: &[Relay],
@@ -164,7 +164,7 @@ pub fn protections(
 {
     let mut protections = Vec::new(alloc);
     for given in found {
-        put_protection(&mut protections, given, relays)?;
+        push_protection(&mut protections, given, relays)?;
     }
     Ok(protections)
 }
@@ -187,7 +187,7 @@ fn is_protected(found: &[Given<'_>], spare: &SpareLine<'_>) -> bool
 }
 
 // Puts the action of a line behind the others, where it is a spare line.
-fn put_spare(
+fn push_spare(
     spares: &mut Vec<SiteAction>,
     given: &Given<'_>,
     relays: &[Relay],
@@ -209,7 +209,7 @@ fn put_spare(
             if is_protected(found, line) {
                 return Err(SiteFault::SpareArchive(given.number));
             }
-            put(spares, action)
+            push_item(spares, action)
         }
         Err(Missing::Relay) => Err(SiteFault::Line(given.number)),
         Err(Missing::Part) => Err(SiteFault::NoSuchAction(given.number)),
@@ -231,7 +231,7 @@ pub fn spares(
 {
     let mut spares = Vec::new(alloc);
     for given in found {
-        put_spare(&mut spares, given, relays, found)?;
+        push_spare(&mut spares, given, relays, found)?;
     }
     Ok(spares)
 }

@@ -21,7 +21,7 @@ use sy_rules::laws::plans_are_whole;
 use sy_script::Items;
 
 /// Puts one more behind the others.
-pub fn put<T: Drop>(items: &mut Vec<T>, item: T) -> Result<(), SiteFault>
+pub fn push_item<T: Drop>(items: &mut Vec<T>, item: T) -> Result<(), SiteFault>
     ensures ok { OnOk result (items.new.items ≡ items.old.items ++ item ∷ []) }
     ensures err { IfErr result (λ fault. fault ≡ SiteFault.NoMemory) }
 {
@@ -87,7 +87,7 @@ fn relay(
 }
 
 // Puts the relay of a line behind the others, where it is a relay line.
-fn put_relay(
+fn push_relay(
     alloc: Global,
     relays: &mut Vec<Relay>,
     given: &Given<'_>,
@@ -102,7 +102,7 @@ fn put_relay(
         return Ok(());
     };
     match relay(alloc, line, given.number, files) {
-        Ok(relay) => put(relays, relay),
+        Ok(relay) => push_item(relays, relay),
         Err(fault) => Err(fault),
     }
 }
@@ -120,7 +120,7 @@ pub fn relays(
 {
     let mut relays = Vec::new(alloc);
     for given in found {
-        put_relay(alloc, &mut relays, given, files)?;
+        push_relay(alloc, &mut relays, given, files)?;
     }
     Ok(relays)
 }

@@ -75,7 +75,7 @@ pub fn entry(alloc: Global, used: Option<Node>, raw: &mut Vec<u8>) -> Result<Nod
 }
 
 // Brings an entry through its hand and the queue to the worker.
-fn put(board: &mut Board, node: Node)
+fn insert_entry(board: &mut Board, node: Node)
     requires idle { IsIdle board.old }
     requires room { board.old.totals.taken + 1 < 2 ^ 64 }
     requires node { IsEntry node }
@@ -166,7 +166,7 @@ pub fn carry<W: Sink + Drop>(
     ensures cause { IfErr result (λ e. CarryCause e (W.faults hatch.old.device.writer)
         (W.faults hatch.new.device.writer)) }
 {
-    put(board, node);
+    insert_entry(board, node);
     let receipt = match offer(board, hatch) {
         Ok(receipt) => receipt,
         Err(fault) => return Err(fault),

@@ -11,7 +11,7 @@ ghost use Rattle.syc.specs.internal.Halts.{Comes, place};
 ghost use Rattle.syc.specs.Halts.{Finishes, Stops, start};
 
 use crate::pass::READS;
-use crate::replay::losses::{put_end, put_losses};
+use crate::replay::losses::{append_end, append_losses};
 use memchr::memchr;
 use std::alloc::{AllocError, Global};
 use sy_replay::{Event, EventFault, Illegal, Replay, read_event};
@@ -53,7 +53,7 @@ fn print_losses<W: Sink>(
         return Ok(());
     }
     let mut text = Vec::new(alloc);
-    let Ok(()) = put_losses(
+    let Ok(()) = append_losses(
         &mut text,
         site,
         &course.replay,
@@ -283,7 +283,7 @@ fn finish<W: Sink>(
 {
     apply_line(alloc, site, course, last, writer)?;
     let mut text = Vec::new(alloc);
-    let Ok(()) = put_end(&mut text, &course.replay, course.events) else {
+    let Ok(()) = append_end(&mut text, &course.replay, course.events) else {
         return Err(Halt::NoMemory);
     };
     let Ok(()) = write_all(writer, text.as_slice()) else {

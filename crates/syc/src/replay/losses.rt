@@ -7,7 +7,7 @@ ghost use Rattle.sy_report.specs.Parts.{part_text};
 
 use std::alloc::AllocError;
 use sy_replay::{Cause, Loss, Replay};
-use sy_report::texts::parts::{Part, put_parts, relay_name};
+use sy_report::texts::parts::{Part, append_parts, relay_name};
 use sy_site::Site;
 
 fn cause_word(cause: Cause) -> &'static [u8]
@@ -48,7 +48,7 @@ fn class_part(replay: &Replay<'_>, copy: u64) -> Part<'static>
     }
 }
 
-fn put_loss(
+fn append_loss(
     text: &mut Vec<u8>,
     site: &Site,
     replay: &Replay<'_>,
@@ -73,11 +73,11 @@ fn put_loss(
         Part::Text(spare_word(replay.is_flagged(loss))),
         Part::Text(b"\n"),
     ];
-    put_parts(text, &parts)
+    append_parts(text, &parts)
 }
 
 /// Puts the lines of losses, which the event in this line made, behind a text.
-pub fn put_losses(
+pub fn append_losses(
     text: &mut Vec<u8>,
     site: &Site,
     replay: &Replay<'_>,
@@ -89,13 +89,13 @@ pub fn put_losses(
         ≡ text.old.items ++ flat_map (spec.loss_line site.now (state_at replay.now) line) (losses_of losses.now)) }
 {
     for loss in losses {
-        put_loss(text, site, replay, line, *loss)?;
+        append_loss(text, site, replay, line, *loss)?;
     }
     Ok(())
 }
 
 /// Puts the last line of a replay behind a text.
-pub fn put_end(text: &mut Vec<u8>, replay: &Replay<'_>, events: u64) -> Result<(), AllocError>
+pub fn append_end(text: &mut Vec<u8>, replay: &Replay<'_>, events: u64) -> Result<(), AllocError>
     ensures { OnOk result (text.new.items ≡ text.old.items ++ spec.end_line events (state_at replay.now)) }
 {
     let parts = [
@@ -107,5 +107,5 @@ pub fn put_end(text: &mut Vec<u8>, replay: &Replay<'_>, events: u64) -> Result<(
         Part::Number(replay.losses().len() as u64),
         Part::Text(b"\n"),
     ];
-    put_parts(text, &parts)
+    append_parts(text, &parts)
 }

@@ -36,7 +36,7 @@ fn push_no_folder(note: &mut Note, name: &[u8], folder: Option<&str>) {
     let own = folder_in(name);
     note.why.say(": no such folder");
     if !own.is_empty() {
-        note.why.put(&[Part::Text(b" as "), Part::Text(own)]);
+        note.why.append(&[Part::Text(b" as "), Part::Text(own)]);
     }
     push_folder(&mut note.why, name, folder);
     note.change
@@ -50,7 +50,7 @@ fn push_unopened(
     name: &[u8],
     why: Unopened<'_>,
 ) -> Result<(), AllocError> {
-    note.why.put(&[Part::Text(name)]);
+    note.why.append(&[Part::Text(name)]);
     match kind_of(why.reason) {
         ErrorKind::NotFound => push_no_folder(note, name, why.folder),
         ErrorKind::NotADirectory => {

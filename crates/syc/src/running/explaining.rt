@@ -4,7 +4,7 @@ ghost use Rattle.sy_report.specs.Halts.{status_at};
 ghost use Rattle.sy_site.specs.Finding.{IsTrueRefusal};
 
 use crate::check::explain::say_found_explained;
-use crate::reporting::{print_report, tell_halt};
+use crate::reporting::{print_report, report_halt_by_options};
 use crate::running::archive_note::{Unopened, archive_words};
 use crate::running::port_note::port_words;
 use crate::running::start_notes::{Lack, lack_text};
@@ -18,7 +18,7 @@ use sy_places::site_file::texts::{SiteTexts, read_rest};
 use sy_report::command_line::options::Options;
 use sy_report::outcome::answer::print;
 use sy_report::outcome::halt::Halt;
-use sy_report::outcome::report::tell_texts;
+use sy_report::outcome::report::report_texts;
 use sy_report::reading::files::{Files, HostFiles};
 use sy_report::texts::reason::Reason;
 use sy_report::writing::outputs::Outputs;
@@ -66,7 +66,7 @@ pub fn options_for(is_explained: bool) -> Options {
 /// Prints words, where there was memory for them.
 pub fn print_words<E: Sink>(errors: &mut E, words: Result<Vec<u8>, AllocError>) {
     if let Ok(words) = words {
-        tell_texts(errors, &[words.as_slice()]);
+        report_texts(errors, &[words.as_slice()]);
     }
 }
 
@@ -81,9 +81,9 @@ pub fn print_halt<E: Sink>(
     ensures { result ≡ status_at halt.now }
 {
     let options = options_for(words.is_explained);
-    let status = tell_halt(alloc, texts, options, halt, errors);
+    let status = report_halt_by_options(alloc, texts, options, halt, errors);
     if words.is_explained && status == 3 {
-        tell_texts(errors, &[lack_text(Lack::Memory).as_bytes()]);
+        report_texts(errors, &[lack_text(Lack::Memory).as_bytes()]);
     }
     status
 }
@@ -193,7 +193,7 @@ fn lack_of<R: Threads>(rt: &R) -> Lack {
 // Explains what a relay lacked.
 fn explain_lack(host: &HostRuntime, lack: Lack) {
     let text = lack_text(lack);
-    tell_texts(&mut FromWrite::new(host.stderr()), &[text.as_bytes()]);
+    report_texts(&mut FromWrite::new(host.stderr()), &[text.as_bytes()]);
 }
 
 /// Explains that there was no memory to make what a relay needs, where the words ask for that.

@@ -5,14 +5,14 @@ use crate::running::start_notes::{lines_of, push_folder};
 use crate::running::words::RunWords;
 use std::alloc::{AllocError, Global};
 use sy_host::ending::left_file::{LeftFault, LeftFiles};
-use sy_report::outcome::report::tell_texts;
+use sy_report::outcome::report::report_texts;
 use sy_report::outcome::stop;
 use sy_report::reading::files::{Files, HostFiles};
 use sy_report::texts::note::Note;
 use sy_wire::Sink;
 
 fn report_left<'a, E: Sink>(errors: &mut E, name: &'a str, words: &'a str) {
-    tell_texts(
+    report_texts(
         errors,
         &[
             b"syc: left file ",

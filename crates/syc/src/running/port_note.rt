@@ -43,16 +43,16 @@ fn stands_at_address(
     };
     let name = relay_name(site, relay);
     let Some((line, words)) = found else {
-        note.what.put(&[Part::Text(b"relay "), Part::Text(name)]);
+        note.what.append(&[Part::Text(b"relay "), Part::Text(name)]);
         return;
     };
     let column = match word_in(words, 3) {
         Some((place, word)) => {
-            note.what.put(&[Part::Text(word)]);
+            note.what.append(&[Part::Text(word)]);
             (place as u64).saturating_add(1)
         }
         None => {
-            note.what.put(&[Part::Text(b"relay "), Part::Text(name)]);
+            note.what.append(&[Part::Text(b"relay "), Part::Text(name)]);
             1
         }
     };
@@ -80,7 +80,7 @@ fn push_refused(
     port: u16,
     reason: Reason,
 ) -> Result<(), AllocError> {
-    note.why.put(&[
+    note.why.append(&[
         Part::Text(b"port "),
         Part::Number(u64::from(port)),
         Part::Text(b" of "),

@@ -17,7 +17,7 @@ use sy_board::Guard;
 use sy_checker::check_site;
 use sy_places::site_file::texts::SiteTexts;
 use sy_report::command_line::options::all_words;
-use sy_report::outcome::report::tell_texts;
+use sy_report::outcome::report::report_texts;
 use sy_report::outcome::stop::out_of_memory;
 use sy_report::reading::files::Files;
 use sy_report::writing::outputs::Outputs;
@@ -30,7 +30,7 @@ fn no_relay<E: Sink>(alloc: Global, site: &Site, words: RunWords<'_>, errors: &m
     ensures { result ≡ 2 }
 {
     let name = words.relay;
-    tell_texts(errors, &[b"syc: no relay ", name.as_bytes(), b"\n"]);
+    report_texts(errors, &[b"syc: no relay ", name.as_bytes(), b"\n"]);
     if words.is_explained {
         print_words(errors, no_relay_words(alloc, site, name));
     }

@@ -7,7 +7,7 @@ use sy_findings::notes::objects::stands_at;
 use sy_places::relay_file::places::{Thing, objects_of, places_of};
 use sy_places::site_file::texts::{SiteTexts, relay_file};
 use sy_report::texts::near::nearest;
-use sy_report::texts::note::{Note, put_note};
+use sy_report::texts::note::{Note, append_note};
 use sy_report::texts::parts::Part;
 use sy_report::texts::reason::Reason;
 use sy_report::texts::words::Words;
@@ -16,7 +16,7 @@ use sy_site::Site;
 /// The lines of a note.
 pub fn lines_of(alloc: Global, note: &Note) -> Result<Vec<u8>, AllocError> {
     let mut words = Words::new(alloc);
-    put_note(&mut words, note);
+    append_note(&mut words, note);
     words.finish()
 }
 
@@ -56,8 +56,8 @@ pub fn push_reason(
 ) -> Result<(), AllocError> {
     if let Some(reason) = reason {
         let mut text = Vec::new(alloc);
-        reason.put(alloc, &mut text)?;
-        words.put(&[Part::Text(b": "), Part::Text(text.as_slice())]);
+        reason.append(alloc, &mut text)?;
+        words.append(&[Part::Text(b": "), Part::Text(text.as_slice())]);
     }
     Ok(())
 }
@@ -66,7 +66,7 @@ pub fn push_reason(
 pub fn push_folder(words: &mut Words, name: &[u8], folder: Option<&str>) {
     if let Some(folder) = folder {
         if name.first() != Some(&b'/') {
-            words.put(&[
+            words.append(&[
                 Part::Text(b" (looked for in "),
                 Part::Text(folder.as_bytes()),
                 Part::Text(b", the working directory)"),
@@ -87,7 +87,7 @@ fn names_of(alloc: Global, site: &Site) -> Result<Vec<&[u8]>, AllocError> {
 fn push_names(words: &mut Words, names: &[&[u8]]) {
     let mut between: &[u8] = b"";
     for name in names {
-        words.put(&[Part::Text(between), Part::Text(name)]);
+        words.append(&[Part::Text(between), Part::Text(name)]);
         between = b", ";
     }
 }
@@ -103,7 +103,7 @@ pub fn no_relay_words(alloc: Global, site: &Site, name: &str) -> Result<Vec<u8>,
     note.why.say("; the names are ");
     push_names(&mut note.why, names.as_slice());
     match nearest(name.as_bytes(), names.as_slice()) {
-        Some(near) => note.change.put(&[Part::Text(near)]),
+        Some(near) => note.change.append(&[Part::Text(near)]),
         None => {
             note.change.say("one of ");
             push_names(&mut note.change, names.as_slice());

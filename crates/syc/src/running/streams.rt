@@ -2,7 +2,7 @@
 
 use std::fs::{self, File};
 use std::io;
-use sy_report::outcome::report::tell_text;
+use sy_report::outcome::report::report_text;
 use sy_wire::Sink;
 
 /// What this process's standard input is.
@@ -32,7 +32,7 @@ fn has_no_input(rt: &HostRuntime) -> bool {
 /// Tells where nothing keeps a relay running.
 pub fn report_input<E: Sink>(rt: &HostRuntime, errors: &mut E) {
     if has_no_input(rt) {
-        tell_text(
+        report_text(
             errors,
             "standard input is at its end: nothing keeps the relay running; see syc-run",
         );

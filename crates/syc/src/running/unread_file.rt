@@ -9,11 +9,11 @@ use sy_host::listening::unread_file::UnreadFile;
 use sy_host::rotation::lines::refusal_text;
 use sy_host::rotation::opened::Refusal;
 use sy_log::log::{ActionLog, Log};
-use sy_report::outcome::report::tell_texts;
+use sy_report::outcome::report::report_texts;
 use sy_report::outcome::stop;
 use sy_report::reading::files::{Files, HostFiles};
 use sy_report::texts::note::Note;
-use sy_report::texts::parts::{Part, put_parts};
+use sy_report::texts::parts::{Part, append_parts};
 use sy_report::texts::reason::Reason;
 use sy_wire::Sink;
 
@@ -28,7 +28,7 @@ pub struct UnreadWanted<'a> {
 }
 
 fn report<E: Sink>(errors: &mut E, name: &str, words: &[u8]) {
-    tell_texts(
+    report_texts(
         errors,
         &[b"syc: unread file ", name.as_bytes(), b": ", words, b"\n"],
     );
@@ -42,7 +42,7 @@ fn report_cut<E: Sink>(alloc: Global, errors: &mut E, name: &str, cut: u64) {
         Part::Number(cut),
         Part::Text(b" bytes"),
     ];
-    match put_parts(&mut words, &parts) {
+    match append_parts(&mut words, &parts) {
         Ok(()) => report(errors, name, words.as_slice()),
         Err(_) => report(errors, name, b"cut off a part of a record at its end"),
     }
@@ -72,7 +72,7 @@ fn refused_words(
     note.what.say("the command line: --unread ");
     note.what.say(name);
     note.why.say(name);
-    note.why.put(&[Part::Text(b": "), Part::Text(words)]);
+    note.why.append(&[Part::Text(b": "), Part::Text(words)]);
     if let Refusal::NoFolder = why {
         push_folder(&mut note.why, name.as_bytes(), folder);
     }

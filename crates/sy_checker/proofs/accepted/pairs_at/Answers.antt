@@ -6,9 +6,9 @@ use Rattle.sy_checker.proofs.accepted.pairs_at.Goals as goal
 
 pub loop-pair-preserved : goal.loop-pair-preserved
 loop-pair-preserved c =
-    subst (λ l. ArePairsAt l c.args.relay c.put_pair.new.found.items)
+    subst (λ l. ArePairsAt l c.args.relay c.push_pair.new.found.items)
     (take_next c.args.pairs.now c.loop-pair.pair-index c.pair-item.result c.loop-pair-test.true c.pair-item.is)
-    (c.in_ok-put_pair.ensures (take c.loop-pair.pair-index c.args.pairs.now) c.loop-pair.invariant)
+    (c.in_ok-push_pair.ensures (take c.loop-pair.pair-index c.args.pairs.now) c.loop-pair.invariant)
 
 pub returns : goal.returns
 returns c =

@@ -6,8 +6,8 @@ use Rattle.sy_site.proofs.lemmas.sites.More.{nothing}
 use Rattle.sy_checker.proofs.Shaped.{last_more}
 use Rattle.sy_checker.proofs.certifying.certificate_of.Goals as goal
 
-pub put_row-requires : goal.put_row-requires
-put_row-requires c =
+pub push_row-requires : goal.push_row-requires
+push_row-requires c =
     let shaped = subst (AreShaped c.args.version (last_kind c.loop-row.certificate.rows)) c.in-Some.ensures.steps.0 c.loop-row.invariant.shaped in
     record {
       shape = λ range. subst (λ v. IsRow v c.in-Some.row) (sym c.loop-row.invariant.version) (shaped.0 range);
@@ -30,10 +30,10 @@ loop-row-preserved c =
     let rest = c.next.new.self.rest.items in
     let shaped = subst (AreShaped c.args.version (last_kind rows)) c.in-Some.ensures.steps.0 c.loop-row.invariant.shaped in
     record {
-      version = c.in_ok-put_row.ensures.version ∙ c.loop-row.invariant.version;
-      whole = ap (λ l. l ++ rest) c.in_ok-put_row.ensures.rows ∙ append_assoc rows (c.in-Some.row ∷ []) rest
+      version = c.in_ok-push_row.ensures.version ∙ c.loop-row.invariant.version;
+      whole = ap (λ l. l ++ rest) c.in_ok-push_row.ensures.rows ∙ append_assoc rows (c.in-Some.row ∷ []) rest
           ∙ ap (λ l. rows ++ l) (sym c.in-Some.ensures.steps.0) ∙ c.loop-row.invariant.whole;
-      shaped = subst (λ l. AreShaped c.args.version (last_kind l) rest) (sym c.in_ok-put_row.ensures.rows)
+      shaped = subst (λ l. AreShaped c.args.version (last_kind l) rest) (sym c.in_ok-push_row.ensures.rows)
           (subst (λ k. AreShaped c.args.version k rest) (sym (last_more kinds.Cert rows c.in-Some.row)) shaped.2);
     }
 

@@ -11,8 +11,8 @@ use Rattle.sy_checker.proofs.certifying.rows_of_classes.Goals as goal
 pub loop-class-init : goal.loop-class-init
 loop-class-init c = (c.new-rows.ensures.items, subst (AreCourses c.args.site.now) (sym c.new-courses.ensures.items) (no_courses c.args.site.now))
 
-pub put_class-requires : goal.put_class-requires
-put_class-requires c = record {
+pub push_class-requires : goal.push_class-requires
+push_class-requires c = record {
   protected = c.requires.protected c.class-item.result
       (subst (Contains c.args.classes.now) (sym c.class-item.is)
       (Contains-get_or c.args.classes.now c.loop-class.class-index c.class-item.result c.loop-class-test.true));
@@ -24,14 +24,14 @@ pub loop-class-preserved : goal.loop-class-preserved
 loop-class-preserved c =
     let site = c.args.site.now in
     let before = take c.loop-class.class-index c.args.classes.now in
-    let added = c.in_ok-put_class.ensures.rows in
+    let added = c.in_ok-push_class.ensures.rows in
     let it = added.are in (
-      subst (λ l. AreFit site l c.put_class.new.rows.items)
+      subst (λ l. AreFit site l c.push_class.new.rows.items)
           (take_next c.args.classes.now c.loop-class.class-index c.class-item.result c.loop-class-test.true c.class-item.is)
           (subst (AreFit site (before ++ c.class-item.result ∷ [])) (sym added.whole)
           (c.parts_join.ensures site before c.class-item.result it.part c.loop-class.rows.items added.more c.loop-class.invariant.0 it.are_wanted
           it.right it.many)),
-      c.in_ok-put_class.ensures.courses,
+      c.in_ok-push_class.ensures.courses,
     )
 
 pub returns-clause-ok : goal.returns-clause-ok

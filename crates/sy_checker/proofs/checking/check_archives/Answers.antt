@@ -11,6 +11,6 @@ returns-then-are_met-clause-sound c =
 
 pub returns-clause-met : goal.returns-clause-met
 returns-clause-met c =
-    subst (AreMet c.args.site.now c.args.courses.now) (sym c.in_ok-put_met.ensures)
+    subst (AreMet c.args.site.now c.args.courses.now) (sym c.in_ok-push_met.ensures)
     (more_met c.args.site.now c.args.class c.args.courses.now c.args.place c.args.met.now.items c.as_slice-3.result.now c.requires.course c.requires.met
     (c.as_slice-3.ensures.value ∙ c.in_ok-named.ensures) c.in_ok-check_rows.ensures.sound)

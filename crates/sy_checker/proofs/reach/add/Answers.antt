@@ -2,7 +2,7 @@ use Rattle.std.proofs.Common.{◌≡◌, ◌∙◌, ◌++◌, ◌∷◌, [], sym
 use Rattle.std.specs.List.{list_any}
 use Rattle.sy_checker.specs.internal.Found.{Adds, same_input}
 use Rattle.sy_checker.specs.internal.Search.{AreRooted}
-use Rattle.sy_checker.proofs.Found.{had, put}
+use Rattle.sy_checker.proofs.Found.{had, pushed}
 use Rattle.sy_checker.proofs.Rooted.{rooted_more}
 use Rattle.sy_checker.proofs.reach.add.Goals as goal
 
@@ -14,7 +14,7 @@ returns-then-is_among-clause-inputs c =
 pub returns-clause-inputs : goal.returns-clause-inputs
 returns-clause-inputs c =
     subst (Adds (λ x. x ≡ c.args.input) c.args.found.now.inputs.items) (sym c.in_ok-push.ensures.items)
-    (put c.args.found.now.inputs.items c.args.input
+    (pushed c.args.found.now.inputs.items c.args.input
     (ap (list_any (same_input c.args.input)) (sym c.as_slice.ensures.value) ∙ sym c.is_among.ensures ∙ c.if-is_among.false))
 
 pub returns-clause-roots : goal.returns-clause-roots

@@ -3,7 +3,7 @@ use Rattle.std.specs.Prelude.{slice_get}
 use Rattle.std.proofs.lemmas.Option.{slice_get_read}
 use Rattle.sy_checker.specs.internal.Inner.{AreAllDone, AreDone, AreNumbered, HasNumbers, KeepsDone, KeepsNumbers}
 use Rattle.sy_checker.proofs.Found.{on_ok}
-use Rattle.sy_checker.proofs.PutNumbers.{numbers_kept, numbers_of_input, numbers_put}
+use Rattle.sy_checker.proofs.PushNumbers.{numbers_kept, numbers_of_input, numbers_push}
 use Rattle.sy_checker.proofs.There.{relay_there}
 use Rattle.sy_checker.proofs.site_numbers.number_input.Goals as goal
 
@@ -25,7 +25,7 @@ returns-clause-done c =
     slice_get_read numbers (length numbers) c.args.input.relay c.index_mut.result.now refl low c.index_mut.ensures.value in
     on_ok (AreDone c.args.site.now c.args.class c.args.input.relay c.number_relay.new.own.lists.items)
     (AreNumbered c.args.site.now c.args.class (set numbers c.args.input.relay c.number_relay.new.own))
-    (numbers_put c.args.site.now c.args.class numbers c.args.input.relay c.index_mut.result.now c.number_relay.new.own stands low c.requires.done)
+    (numbers_push c.args.site.now c.args.class numbers c.args.input.relay c.index_mut.result.now c.number_relay.new.own stands low c.requires.done)
     c.number_relay.result c.number_relay.ensures.done
 
 pub returns-clause-kept : goal.returns-clause-kept

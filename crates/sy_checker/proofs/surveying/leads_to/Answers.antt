@@ -1,7 +1,7 @@
 use Rattle.std.proofs.Common.{subst, sym}
 use Rattle.std.specs.Prelude.{Decides}
 use Rattle.sy_site.specs.machine.Reach.{LeadsTo}
-use Rattle.sy_checker.proofs.Telling.{lead_decides}
+use Rattle.sy_checker.proofs.Reporting.{lead_decides}
 use Rattle.sy_checker.proofs.surveying.leads_to.Goals as goal
 
 pub returns : goal.returns

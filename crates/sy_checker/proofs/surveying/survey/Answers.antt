@@ -1,4 +1,4 @@
-use Rattle.sy_checker.proofs.Telling.{none_sound, sound_none}
+use Rattle.sy_checker.proofs.Reporting.{none_sound, sound_none}
 use Rattle.sy_checker.proofs.surveying.survey.Goals as goal
 
 pub returns-clause-sound : goal.returns-clause-sound

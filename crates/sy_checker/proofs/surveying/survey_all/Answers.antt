@@ -1,6 +1,6 @@
 use Rattle.std.proofs.Common.{subst, sym}
 use Rattle.std.specs.Prelude.{Contains}
-use Rattle.sy_checker.proofs.Telling.{survey_as}
+use Rattle.sy_checker.proofs.Reporting.{survey_as}
 use Rattle.sy_checker.proofs.surveying.survey_all.Goals as goal
 
 pub survey_of-requires : goal.survey_of-requires

@@ -4,11 +4,11 @@ use Rattle.std.proofs.lemmas.List.{take_all}
 use Rattle.std.proofs.lemmas.List.Elements.{Contains-get_or}
 use Rattle.sy_checker.specs.Survey.{IsSurveyOf}
 use Rattle.sy_checker.proofs.Guarded.{take_next}
-use Rattle.sy_checker.proofs.Telling.{survey_first, survey_more}
+use Rattle.sy_checker.proofs.Reporting.{survey_first, survey_more}
 use Rattle.sy_checker.proofs.surveying.survey_of.Goals as goal
 
-pub put_all-requires : goal.put_all-requires
-put_all-requires c = record {
+pub push_all-requires : goal.push_all-requires
+push_all-requires c = record {
   firm = c.in_ok-firm.ensures;
   protected = c.requires.protected c.class-item.result
       (subst (Contains c.args.classes.now) (sym c.class-item.is)
@@ -23,10 +23,10 @@ pub loop-class-preserved : goal.loop-class-preserved
 loop-class-preserved c =
     let site = c.args.site.now in
     let before = take c.loop-class.class-index c.args.classes.now in
-    subst (λ l. IsSurveyOf site (Contains l) c.put_all.new.found.groups.items)
+    subst (λ l. IsSurveyOf site (Contains l) c.push_all.new.found.groups.items)
     (take_next c.args.classes.now c.loop-class.class-index c.class-item.result c.loop-class-test.true c.class-item.is)
-    (survey_more site before c.class-item.result c.loop-class.found.groups.items c.put_all.new.found.groups.items c.loop-class.invariant
-    c.in_ok-put_all.ensures.tells c.in_ok-put_all.ensures.told)
+    (survey_more site before c.class-item.result c.loop-class.found.groups.items c.push_all.new.found.groups.items c.loop-class.invariant
+    c.in_ok-push_all.ensures.reports c.in_ok-push_all.ensures.reported)
 
 pub returns : goal.returns
 returns c =

@@ -32,4 +32,4 @@ returns-clause-done g c = λ zero.
     {x = c.deref-plan.result.now} {y = plan_at c.args.served.site.now c.args.served.relay} (search rules)
     (c.finish-status.ensures.done zero c.args.run.0 _
     (left_of c.stop-answer.result (λ stopped stops. left_with _ c.args.run.0 _ _ _ _ (search rules) stops) c.stop-answer.ensures)
-    c.told_by-unread.ensures)
+    c.reported_by-unread.ensures)

@@ -18,8 +18,8 @@ pub record Able (k : Test → Option Bool) (ts : List Test) (P : Valuation → T
   pub is : (w : Valuation) → P (values ++ w)
 
 -- What a flag tells of a truth value under the admitted valuations: with b = true whether it may be true, with b = false whether it must be.
-abbrev pub Told : (Test → Option Bool) → List Test → (Valuation → Bool) → Bool → Bool → Type 0
-Told k ts f b flag = (flag ≡ b → Able k ts (λ v. f v ≡ b)) × (flag ≡ not b → Sure k ts (λ v. f v ≡ not b))
+abbrev pub Reported : (Test → Option Bool) → List Test → (Valuation → Bool) → Bool → Bool → Type 0
+Reported k ts f b flag = (flag ≡ b → Able k ts (λ v. f v ≡ b)) × (flag ≡ not b → Sure k ts (λ v. f v ≡ not b))
 
 module _ (k : Test → Option Bool) where
   pub able_by : (ts : List Test) (P Q : Valuation → Type 0) → ((v : Valuation) → P v → Q v) → Able k ts P → Able k ts Q
@@ -58,11 +58,11 @@ module _ (k : Test → Option Bool) where
 
   -- ---- what flags tell
 
-  pub told_same : (ts : List Test) (b c : Bool) → Told k ts (λ v. c) b c
-  told_same ts b c = (λ h. always ts (λ v. c ≡ b) (λ v. h), λ h us v a. h)
+  pub reported_same : (ts : List Test) (b c : Bool) → Reported k ts (λ v. c) b c
+  reported_same ts b c = (λ h. always ts (λ v. c ≡ b) (λ v. h), λ h us v a. h)
 
-  pub told_by : (ts : List Test) (f g : Valuation → Bool) (b p q : Bool) → ((v : Valuation) → f v ≡ g v) → p ≡ q → Told k ts f b p → Told k ts g b q
-  told_by ts f g b p q e same t = (
+  pub reported_by : (ts : List Test) (f g : Valuation → Bool) (b p q : Bool) → ((v : Valuation) → f v ≡ g v) → p ≡ q → Reported k ts f b p → Reported k ts g b q
+  reported_by ts f g b p q e same t = (
     λ h. able_by ts (λ v. f v ≡ b) (λ v. g v ≡ b) (λ v r. sym (e v) ∙ r) (t.0 (same ∙ h)),
     λ h. sure_by ts (λ v. f v ≡ not b) (λ v. g v ≡ not b) (λ v r. sym (e v) ∙ r) (t.1 (same ∙ h)),
   )
@@ -70,7 +70,7 @@ module _ (k : Test → Option Bool) where
   -- ---- two parts, the second where the first goes on
 
   module _ (ts us : List Test) (f g : Valuation → Bool) where
-    pub both_may : (p q : Bool) → Told k ts f true p → Told k us g true q → Told k (ts ++ us) (λ v. f v && g (behind ts v)) true (p && q)
+    pub both_may : (p q : Bool) → Reported k ts f true p → Reported k us g true q → Reported k (ts ++ us) (λ v. f v && g (behind ts v)) true (p && q)
     both_may true q F G = (
       λ h. able_by (ts ++ us) _ _ (λ v e. ap (λ r. r && g (behind ts v)) e.0 ∙ e.1) (able_both ts us (λ v. f v ≡ true) (λ v. g v ≡ true) (F.0 refl) (G.0 h)),
       λ h. sure_by (ts ++ us) _ _ (λ v e. ap (λ r. f v && r) e ∙ and-false (f v)) (sure_second ts us (λ v. g v ≡ false) (G.1 h)),
@@ -80,7 +80,7 @@ module _ (k : Test → Option Bool) where
       λ h. sure_by (ts ++ us) _ _ (λ v e. ap (λ r. r && g (behind ts v)) e) (sure_first ts us (λ v. f v ≡ false) (F.1 refl)),
     )
 
-    pub both_must : (p q : Bool) → Told k ts f false p → Told k us g false q → Told k (ts ++ us) (λ v. f v && g (behind ts v)) false (p && q)
+    pub both_must : (p q : Bool) → Reported k ts f false p → Reported k us g false q → Reported k (ts ++ us) (λ v. f v && g (behind ts v)) false (p && q)
     both_must true q F G = (
       λ h. able_by (ts ++ us) _ _ (λ v e. ap (λ r. f v && r) e ∙ and-false (f v)) (able_second ts us (λ v. g v ≡ false) (G.0 h)),
       λ h rs v a. ap (λ r. r && g (behind ts v)) (sure_first ts us (λ v. f v ≡ true) (F.1 refl) rs v a) ∙ sure_second ts us (λ v. g v ≡ true) (G.1 h) rs v a,
@@ -92,7 +92,7 @@ module _ (k : Test → Option Bool) where
 
   -- e or then c and d, where e and c are of the first part
   module _ (ts us : List Test) (e c d : Valuation → Bool) where
-    pub in_may : (p q r : Bool) → Told k ts e true p → Told k ts c true q → Told k us d true r → Told k (ts ++ us) (λ v. e v || (c v && d (behind ts v))) true (p || (q && r))
+    pub in_may : (p q r : Bool) → Reported k ts e true p → Reported k ts c true q → Reported k us d true r → Reported k (ts ++ us) (λ v. e v || (c v && d (behind ts v))) true (p || (q && r))
     in_may true q r E C D = (
       λ h. able_by (ts ++ us) _ _ (λ v is. ap (λ b. b || (c v && d (behind ts v))) is) (able_first ts us (λ v. e v ≡ true) (E.0 refl)),
       λ h. absurd (true≢false h),
@@ -105,7 +105,7 @@ module _ (k : Test → Option Bool) where
 
     -- where one of the two is never true
     pub in_must : (p q r : Bool) → ((v : Valuation) → e v ≡ false) ⊎ ((v : Valuation) → d v ≡ false)
-        → Told k ts e false p → Told k ts c false q → Told k us d false r → Told k (ts ++ us) (λ v. e v || (c v && d (behind ts v))) false (p || (q && r))
+        → Reported k ts e false p → Reported k ts c false q → Reported k us d false r → Reported k (ts ++ us) (λ v. e v || (c v && d (behind ts v))) false (p || (q && r))
     in_must true q r one E C D = (
       λ h. absurd (true≢false h),
       λ h us2 v a. ap (λ b. b || (c v && d (behind ts v))) (sure_first ts us (λ v. e v ≡ true) (E.1 refl) us2 v a),

@@ -11,7 +11,7 @@ use Rattle.sy_select.proofs.ExprLaws.{some_valuation}
 use Rattle.sy_select.proofs.Valuations.{must_front, can_front}
 use Rattle.sy_rules.specs.internal.Flow.{may_of, must_of}
 use Rattle.sy_rules.specs.lists.Body.{Walk, ◌then◌, is_in}
-use Rattle.sy_rules.proofs.lemmas.lists.Admitted.{Able, Sure, Told, able_both, able_by, able_first, able_second, always, both_may, both_must, in_may, in_must, sure_by, sure_first, sure_second, told_by, told_same}
+use Rattle.sy_rules.proofs.lemmas.lists.Admitted.{Able, Sure, Reported, able_both, able_by, able_first, able_second, always, both_may, both_must, in_may, in_must, sure_by, sure_first, sure_second, reported_by, reported_same}
 use Rattle.sy_rules.proofs.lemmas.lists.WorkLaws.{Within, behind_behind}
 
 -- ---- one walk after another
@@ -44,18 +44,18 @@ out_of n m j w inside out = by (is_in j w.executed) (inside j)
 -- What two walks by verdicts tell of the walks under all admitted valuations: whether they may and must go on, and which occurrences they may
 -- and must execute.
 pub record Known (k : Test → Option Bool) (ts : List Test) (walks : Valuation → Walk) (may must : Walk) : Type 0 where
-  pub may_on : Told k ts (λ v. (walks v).goes_on) true may.goes_on
-  pub must_on : Told k ts (λ v. (walks v).goes_on) false must.goes_on
-  pub mays : (j : ℕ) → Told k ts (λ v. is_in j (walks v).executed) true (is_in j may.executed)
-  pub musts : (j : ℕ) → Told k ts (λ v. is_in j (walks v).executed) false (is_in j must.executed)
+  pub may_on : Reported k ts (λ v. (walks v).goes_on) true may.goes_on
+  pub must_on : Reported k ts (λ v. (walks v).goes_on) false must.goes_on
+  pub mays : (j : ℕ) → Reported k ts (λ v. is_in j (walks v).executed) true (is_in j may.executed)
+  pub musts : (j : ℕ) → Reported k ts (λ v. is_in j (walks v).executed) false (is_in j must.executed)
 
 module _ (k : Test → Option Bool) where
   pub known_same : (ts : List Test) (w : Walk) → Known k ts (λ v. w) w w
   known_same ts w = record {
-    may_on = told_same k ts true w.goes_on;
-    must_on = told_same k ts false w.goes_on;
-    mays = λ j. told_same k ts true (is_in j w.executed);
-    musts = λ j. told_same k ts false (is_in j w.executed);
+    may_on = reported_same k ts true w.goes_on;
+    must_on = reported_same k ts false w.goes_on;
+    mays = λ j. reported_same k ts true (is_in j w.executed);
+    musts = λ j. reported_same k ts false (is_in j w.executed);
   }
 
   apart : (n m l j : ℕ) (A B : Valuation → Walk) → ((v : Valuation) → Within n m (A v)) → ((v : Valuation) → Within m l (B v))
@@ -69,10 +69,10 @@ module _ (k : Test → Option Bool) where
   pub known_then : (ts us : List Test) (n m l : ℕ) (A B : Valuation → Walk) (a a' b b' : Walk) → ((v : Valuation) → Within n m (A v)) → ((v : Valuation) → Within m l (B v))
       → Known k ts A a a' → Known k us B b b' → Known k (ts ++ us) (λ v. A v then B (behind ts v)) (a then b) (a' then b')
   known_then ts us n m l A B a a' b b' wa wb x y = record {
-    may_on = told_by k (ts ++ us) _ _ true _ _ (λ v. sym (then_on (A v) (B (behind ts v)))) (sym (then_on a b)) (both_may k ts us _ _ _ _ x.may_on y.may_on);
-    must_on = told_by k (ts ++ us) _ _ false _ _ (λ v. sym (then_on (A v) (B (behind ts v)))) (sym (then_on a' b')) (both_must k ts us _ _ _ _ x.must_on y.must_on);
-    mays = λ j. told_by k (ts ++ us) _ _ true _ _ (λ v. sym (then_in j (A v) (B (behind ts v)))) (sym (then_in j a b)) (in_may k ts us _ _ _ _ _ _ (x.mays j) x.may_on (y.mays j));
-    musts = λ j. told_by k (ts ++ us) _ _ false _ _ (λ v. sym (then_in j (A v) (B (behind ts v)))) (sym (then_in j a' b')) (in_must k ts us _ _ _ _ _ _ (apart n m l j A B wa wb) (x.musts j) x.must_on (y.musts j));
+    may_on = reported_by k (ts ++ us) _ _ true _ _ (λ v. sym (then_on (A v) (B (behind ts v)))) (sym (then_on a b)) (both_may k ts us _ _ _ _ x.may_on y.may_on);
+    must_on = reported_by k (ts ++ us) _ _ false _ _ (λ v. sym (then_on (A v) (B (behind ts v)))) (sym (then_on a' b')) (both_must k ts us _ _ _ _ x.must_on y.must_on);
+    mays = λ j. reported_by k (ts ++ us) _ _ true _ _ (λ v. sym (then_in j (A v) (B (behind ts v)))) (sym (then_in j a b)) (in_may k ts us _ _ _ _ _ _ (x.mays j) x.may_on (y.mays j));
+    musts = λ j. reported_by k (ts ++ us) _ _ false _ _ (λ v. sym (then_in j (A v) (B (behind ts v)))) (sym (then_in j a' b')) (in_must k ts us _ _ _ _ _ _ (apart n m l j A B wa wb) (x.musts j) x.must_on (y.musts j));
   }
 
   -- ---- a test and its two blocks
@@ -124,39 +124,39 @@ module _ (k : Test → Option Bool) where
     sure_any : (q : Walk → Bool) (b : Bool) → Sure k ds (λ v. q (D v) ≡ b) → Sure k os (λ v. q (O v) ≡ b) → Sure k (xs ++ (ds ++ os)) (λ v. q (taken v) ≡ b)
     sure_any q b a c us v admitted = pick_any q b v (sure_done (λ v. q (D v) ≡ b) a us v admitted) (sure_otherwise (λ v. q (O v) ≡ b) c us v admitted)
 
-    told_yes : (q : Walk → Bool) (b p : Bool) → Able k xs (λ v. x v ≡ true) → Sure k xs (λ v. x v ≡ true) → Told k ds (λ v. q (D v)) b p → Told k (xs ++ (ds ++ os)) (λ v. q (taken v)) b p
-    told_yes q b p able sure t = (λ h. able_yes q b able (t.0 h), λ h. sure_yes q (not b) sure (t.1 h))
+    reported_yes : (q : Walk → Bool) (b p : Bool) → Able k xs (λ v. x v ≡ true) → Sure k xs (λ v. x v ≡ true) → Reported k ds (λ v. q (D v)) b p → Reported k (xs ++ (ds ++ os)) (λ v. q (taken v)) b p
+    reported_yes q b p able sure t = (λ h. able_yes q b able (t.0 h), λ h. sure_yes q (not b) sure (t.1 h))
 
-    told_no : (q : Walk → Bool) (b p : Bool) → Able k xs (λ v. x v ≡ false) → Sure k xs (λ v. x v ≡ false) → Told k os (λ v. q (O v)) b p → Told k (xs ++ (ds ++ os)) (λ v. q (taken v)) b p
-    told_no q b p able sure t = (λ h. able_no q b able (t.0 h), λ h. sure_no q (not b) sure (t.1 h))
+    reported_no : (q : Walk → Bool) (b p : Bool) → Able k xs (λ v. x v ≡ false) → Sure k xs (λ v. x v ≡ false) → Reported k os (λ v. q (O v)) b p → Reported k (xs ++ (ds ++ os)) (λ v. q (taken v)) b p
+    reported_no q b p able sure t = (λ h. able_no q b able (t.0 h), λ h. sure_no q (not b) sure (t.1 h))
 
     known_yes : (a a' : Walk) → Able k xs (λ v. x v ≡ true) → Sure k xs (λ v. x v ≡ true) → Known k ds D a a' → Known k (xs ++ (ds ++ os)) taken a a'
     known_yes a a' able sure known = record {
-      may_on = told_yes (λ w. w.goes_on) true a.goes_on able sure known.may_on;
-      must_on = told_yes (λ w. w.goes_on) false a'.goes_on able sure known.must_on;
-      mays = λ j. told_yes (λ w. is_in j w.executed) true (is_in j a.executed) able sure (known.mays j);
-      musts = λ j. told_yes (λ w. is_in j w.executed) false (is_in j a'.executed) able sure (known.musts j);
+      may_on = reported_yes (λ w. w.goes_on) true a.goes_on able sure known.may_on;
+      must_on = reported_yes (λ w. w.goes_on) false a'.goes_on able sure known.must_on;
+      mays = λ j. reported_yes (λ w. is_in j w.executed) true (is_in j a.executed) able sure (known.mays j);
+      musts = λ j. reported_yes (λ w. is_in j w.executed) false (is_in j a'.executed) able sure (known.musts j);
     }
 
     known_no : (b b' : Walk) → Able k xs (λ v. x v ≡ false) → Sure k xs (λ v. x v ≡ false) → Known k os O b b' → Known k (xs ++ (ds ++ os)) taken b b'
     known_no b b' able sure known = record {
-      may_on = told_no (λ w. w.goes_on) true b.goes_on able sure known.may_on;
-      must_on = told_no (λ w. w.goes_on) false b'.goes_on able sure known.must_on;
-      mays = λ j. told_no (λ w. is_in j w.executed) true (is_in j b.executed) able sure (known.mays j);
-      musts = λ j. told_no (λ w. is_in j w.executed) false (is_in j b'.executed) able sure (known.musts j);
+      may_on = reported_no (λ w. w.goes_on) true b.goes_on able sure known.may_on;
+      must_on = reported_no (λ w. w.goes_on) false b'.goes_on able sure known.must_on;
+      mays = λ j. reported_no (λ w. is_in j w.executed) true (is_in j b.executed) able sure (known.mays j);
+      musts = λ j. reported_no (λ w. is_in j w.executed) false (is_in j b'.executed) able sure (known.musts j);
     }
 
     -- where both blocks can be taken
     module _ (yes : Able k xs (λ v. x v ≡ true)) (no : Able k xs (λ v. x v ≡ false)) where
-      any_may : (q : Walk → Bool) (f g : Bool) → Told k ds (λ v. q (D v)) true f → Told k os (λ v. q (O v)) true g → Told k (xs ++ (ds ++ os)) (λ v. q (taken v)) true (f || g)
+      any_may : (q : Walk → Bool) (f g : Bool) → Reported k ds (λ v. q (D v)) true f → Reported k os (λ v. q (O v)) true g → Reported k (xs ++ (ds ++ os)) (λ v. q (taken v)) true (f || g)
       any_may q true g F G = (λ h. able_yes q true yes (F.0 refl), λ h. absurd (true≢false h))
       any_may q false g F G = (λ h. able_no q true no (G.0 h), λ h. sure_any q false (F.1 refl) (G.1 h))
 
-      any_must : (q : Walk → Bool) (f g : Bool) → Told k ds (λ v. q (D v)) false f → Told k os (λ v. q (O v)) false g → Told k (xs ++ (ds ++ os)) (λ v. q (taken v)) false (f && g)
+      any_must : (q : Walk → Bool) (f g : Bool) → Reported k ds (λ v. q (D v)) false f → Reported k os (λ v. q (O v)) false g → Reported k (xs ++ (ds ++ os)) (λ v. q (taken v)) false (f && g)
       any_must q true g F G = (λ h. able_no q false no (G.0 h), λ h. sure_any q true (F.1 refl) (G.1 h))
       any_must q false g F G = (λ h. able_yes q false yes (F.0 refl), λ h. absurd (true≢false (sym h)))
 
-      none_must : (q : Walk → Bool) → ((v : Valuation) → q (D v) ≡ false) ⊎ ((v : Valuation) → q (O v) ≡ false) → Told k (xs ++ (ds ++ os)) (λ v. q (taken v)) false false
+      none_must : (q : Walk → Bool) → ((v : Valuation) → q (D v) ≡ false) ⊎ ((v : Valuation) → q (O v) ≡ false) → Reported k (xs ++ (ds ++ os)) (λ v. q (taken v)) false false
       none_must q (inl none) = (λ h. able_yes q false yes (always k ds (λ v. q (D v) ≡ false) none), λ h. absurd (true≢false (sym h)))
       none_must q (inr none) = (λ h. able_no q false no (always k os (λ v. q (O v) ≡ false) none), λ h. absurd (true≢false (sym h)))
 
@@ -165,7 +165,7 @@ module _ (k : Test → Option Bool) where
       known_any n m l a a' b b' wd wo d o = record {
         may_on = any_may (λ w. w.goes_on) a.goes_on b.goes_on d.may_on o.may_on;
         must_on = any_must (λ w. w.goes_on) a'.goes_on b'.goes_on d.must_on o.must_on;
-        mays = λ j. told_by k (xs ++ (ds ++ os)) (λ v. is_in j (taken v).executed) (λ v. is_in j (taken v).executed) true _ _ (λ v. refl) (sym (list_any-append (λ n. n == j) a.executed b.executed))
+        mays = λ j. reported_by k (xs ++ (ds ++ os)) (λ v. is_in j (taken v).executed) (λ v. is_in j (taken v).executed) true _ _ (λ v. refl) (sym (list_any-append (λ n. n == j) a.executed b.executed))
             (any_may (λ w. is_in j w.executed) (is_in j a.executed) (is_in j b.executed) (d.mays j) (o.mays j));
         musts = λ j. none_must (λ w. is_in j w.executed) (apart n m l j D O wd wo);
       }

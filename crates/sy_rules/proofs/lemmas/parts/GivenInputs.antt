@@ -21,7 +21,7 @@ use Rattle.sy_rules.specs.PlanValue.{input_part, queue_or_main}
 use Rattle.sy_rules.specs.check.ScriptFaults.{is_among, unknown_ruleset}
 use Rattle.sy_rules.specs.internal.Checking.{faults_after}
 use Rattle.sy_rules.proofs.lemmas.parts.GivenItems.{not_both, one_own, own_is, same_some}
-use Rattle.sy_rules.proofs.lemmas.parts.GivenParts.{all_given, collected, put}
+use Rattle.sy_rules.proofs.lemmas.parts.GivenParts.{all_given, collected, pushed}
 use Rattle.sy_rules.proofs.lemmas.check.ItemsRefuted.{is_known}
 
 -- ---- the ruleset that an input names
@@ -201,13 +201,13 @@ same_input all before x n p q g h =
     let there = ap input_at h.found in
     one_input all before x n p (input_of h.params) there g ∙ sym (one_input all before x n q (input_of h.params) there h)
 
-put_input : (all : List Item) (o : Option InputParameters) (same next : List Input) (rest : List InputParameters) → same ≡ map (input_part all) rest → next ≡ map (input_part all) rest → put o (input_part all) same next ≡ map (input_part all) (cons_option o rest)
-put_input all None same next rest e f = e
-put_input all (Some i) same next rest e f = ap (λ xs. input_part all i ∷ xs) f
+push_input : (all : List Item) (o : Option InputParameters) (same next : List Input) (rest : List InputParameters) → same ≡ map (input_part all) rest → next ≡ map (input_part all) rest → pushed o (input_part all) same next ≡ map (input_part all) (cons_option o rest)
+push_input all None same next rest e f = e
+push_input all (Some i) same next rest e f = ap (λ xs. input_part all i ∷ xs) f
 
 inputs_collected : (all : List Item) (number : ℕ) (before later : List Item) → collected input_at (input_given all) number before later ≡ map (input_part all) (inputs_of later)
 inputs_collected all number before [] = refl
-inputs_collected all number before (x ∷ later) = put_input all (input_at x) _ _ (inputs_of later) (inputs_collected all number (before ++ x ∷ []) later) (inputs_collected all (number + 1) (before ++ x ∷ []) later)
+inputs_collected all number before (x ∷ later) = push_input all (input_at x) _ _ (inputs_of later) (inputs_collected all number (before ++ x ∷ []) later) (inputs_collected all (number + 1) (before ++ x ∷ []) later)
 
 pub inputs_given : (all : List Item) → faults_after all [] all ≡ [] → Given (GivesInput all) 0 [] all (map (input_part all) (inputs_of all))
 inputs_given all clean =

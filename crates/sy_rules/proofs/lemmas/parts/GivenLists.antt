@@ -20,7 +20,7 @@ use Rattle.sy_rules.specs.PlanValue.{file_of, lines_of, listed_from}
 use Rattle.sy_rules.specs.lists.Body.{Body}
 use Rattle.sy_rules.specs.lists.Texts.{parts}
 use Rattle.sy_rules.proofs.lemmas.parts.GivenItems.{has_from, has_to, next_number, not_both, one_own, own_is, queued_at, queued_item, ruleset_item}
-use Rattle.sy_rules.proofs.lemmas.parts.GivenParts.{all_given, collected, counted_none, counted_one, put}
+use Rattle.sy_rules.proofs.lemmas.parts.GivenParts.{all_given, collected, counted_none, counted_one, pushed}
 use Rattle.sy_rules.proofs.lemmas.items.RulesetItems.{as_many_rulesets}
 
 abbrev listed : Body → Option ℕ → Listed
@@ -53,16 +53,16 @@ as_ruleset (Item.Object found ps) = refl
 as_ruleset (Item.Call name) = refl
 as_ruleset (Item.Test test) = refl
 
-put_listed : (lines : List Lines) (number : ℕ) (own : Option ℕ) (rest : List (Option ℕ)) {A : Type 0} (o : Option A) (same next : List Listed) → same ≡ listed_from lines number rest → next ≡ listed_from lines (number + 1) rest → put o (λ a. listed (body_of lines number) own) same next ≡ listed_from lines number (if is_some o then own ∷ rest else rest)
-put_listed lines number own rest None same next e f = e
-put_listed lines number own rest (Some a) same next e f = ap (λ ls. listed (body_of lines number) own ∷ ls) f
+push_listed : (lines : List Lines) (number : ℕ) (own : Option ℕ) (rest : List (Option ℕ)) {A : Type 0} (o : Option A) (same next : List Listed) → same ≡ listed_from lines number rest → next ≡ listed_from lines (number + 1) rest → pushed o (λ a. listed (body_of lines number) own) same next ≡ listed_from lines number (if is_some o then own ∷ rest else rest)
+push_listed lines number own rest None same next e f = e
+push_listed lines number own rest (Some a) same next e f = ap (λ ls. listed (body_of lines number) own ∷ ls) f
 
 rulesets_listed : (lines : List Lines) (number : ℕ) (before later : List Item) → collected ruleset_at (ruleset_part lines) number before later ≡ listed_from lines number (ruleset_queues (queue_number before) later)
 rulesets_listed lines number before [] = refl
 rulesets_listed lines number before (x ∷ later) =
     let rest = ruleset_queues (queue_after (queue_number before) x) later in
     let own = queue_here (queue_number before) x in
-    put_listed lines number own rest (ruleset_at x) _ _
+    push_listed lines number own rest (ruleset_at x) _ _
     (rulesets_listed lines number (before ++ x ∷ []) later ∙ ap (λ n. listed_from lines number (ruleset_queues n later)) (next_number before x))
     (rulesets_listed lines (number + 1) (before ++ x ∷ []) later ∙ ap (λ n. listed_from lines (number + 1) (ruleset_queues n later)) (next_number before x))
     ∙ ap (λ b. listed_from lines number (if b then own ∷ rest else rest)) (as_ruleset x)
@@ -247,9 +247,9 @@ run_behind script tests before x later q number e h n = by_item (queued_item x q
         let same : number ≡ list_of_action (file_of all tests) a = omega (arith, n, count_queued before, ap queued before_it) in
         ap (body_of (lines_of script tests)) same ∙ post_runs script tests a has
 
-put_run : (lines : List Lines) (number a own : ℕ) (rest : List (Option ℕ)) (o : Option QueueParameters) (same next : List Listed) → ((q : QueueParameters) → o ≡ Some q → body_of lines number ≡ Body.Run a Body.End) → (o ≡ None → same ≡ listed_from lines number rest) → ((q : QueueParameters) → o ≡ Some q → next ≡ listed_from lines (number + 1) rest) → put o (λ q. listed (Body.Run a Body.End) (Some own)) same next ≡ listed_from lines number (if is_some o then Some own ∷ rest else rest)
-put_run lines number a own rest None same next run e f = e refl
-put_run lines number a own rest (Some q) same next run e f =
+push_run : (lines : List Lines) (number a own : ℕ) (rest : List (Option ℕ)) (o : Option QueueParameters) (same next : List Listed) → ((q : QueueParameters) → o ≡ Some q → body_of lines number ≡ Body.Run a Body.End) → (o ≡ None → same ≡ listed_from lines number rest) → ((q : QueueParameters) → o ≡ Some q → next ≡ listed_from lines (number + 1) rest) → pushed o (λ q. listed (Body.Run a Body.End) (Some own)) same next ≡ listed_from lines number (if is_some o then Some own ∷ rest else rest)
+push_run lines number a own rest None same next run e f = e refl
+push_run lines number a own rest (Some q) same next run e f =
     ap (λ s. listed s (Some own) ∷ next) (sym (run q refl)) ∙ ap (λ ls. listed (body_of lines number) (Some own) ∷ ls) (f q refl)
 
 module _ (script : Script) (tests : List (Formula Test)) where
@@ -260,7 +260,7 @@ module _ (script : Script) (tests : List (Formula Test)) where
       let own = queue_number before in
       let rest = action_queues (queue_after own x) later in
       let whole = e ∙ sym (append_assoc before (x ∷ []) later) in
-      put_run lines number (length (actions_of before)) own rest (queued_at x) _ _
+      push_run lines number (length (actions_of before)) own rest (queued_at x) _ _
       (λ q h. run_behind script tests before x later q number e h n)
       (λ h. actions_listed number (before ++ x ∷ []) later whole (omega (arith, n, counted_none queued_at before x h)) ∙ ap (λ m. listed_from lines number (action_queues m later)) (next_number before x))
       (λ q h. actions_listed (number + 1) (before ++ x ∷ []) later whole (omega (arith, n, counted_one queued_at before x q h)) ∙ ap (λ m. listed_from lines (number + 1) (action_queues m later)) (next_number before x))

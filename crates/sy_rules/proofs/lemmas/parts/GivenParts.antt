@@ -50,19 +50,19 @@ counted_none at before x e = omega (arith, counted at before x None e)
 pub counted_one : {A : Type 0} (at : Item → Option A) (before : List Item) (x : Item) (a : A) → at x ≡ Some a → length (filter_map at (before ++ x ∷ [])) ≡ length (filter_map at before) + 1
 counted_one at before x a e = omega (arith, counted at before x (Some a) e)
 
-abbrev pub put : {A X : Type 0} → Option A → (A → X) → List X → List X → List X
-put None part same next = same
-put (Some a) part same next = part a ∷ next
+abbrev pub pushed : {A X : Type 0} → Option A → (A → X) → List X → List X → List X
+pushed None part same next = same
+pushed (Some a) part same next = part a ∷ next
 
 -- the parts of the objects after others, from this number on
 abbrev pub collected : {A X : Type 0} → (Item → Option A) → (List Item → Item → ℕ → A → X) → ℕ → List Item → List Item → List X
 collected at part number before [] = []
-collected at part number before (x ∷ later) = put (at x) (part before x number) (collected at part number (before ++ x ∷ []) later) (collected at part (number + 1) (before ++ x ∷ []) later)
+collected at part number before (x ∷ later) = pushed (at x) (part before x number) (collected at part number (before ++ x ∷ []) later) (collected at part (number + 1) (before ++ x ∷ []) later)
 
 module _ {A X : Type 0} (Gives : List Item → Item → ℕ → X → Type 0) (at : Item → Option A) (part : List Item → Item → ℕ → A → X) (first : ℕ) (all : List Item)
     (gives : (before : List Item) (x : Item) (number : ℕ) (a : A) → Stands all before x → at x ≡ Some a → number ≡ first + length (filter_map at before) → Gives before x number (part before x number a))
     (none : (before : List Item) (x : Item) (n : ℕ) (p : X) → at x ≡ None → Gives before x n p → ⊥) where
-  by_case : (number : ℕ) (before : List Item) (x : Item) (later : List Item) (o : Option A) → Stands all before x → at x ≡ o → number ≡ first + length (filter_map at before) → ((n : ℕ) → n ≡ first + length (filter_map at (before ++ x ∷ [])) → Given Gives n (before ++ x ∷ []) later (collected at part n (before ++ x ∷ []) later)) → Given Gives number before (x ∷ later) (put o (part before x number) (collected at part number (before ++ x ∷ []) later) (collected at part (number + 1) (before ++ x ∷ []) later))
+  by_case : (number : ℕ) (before : List Item) (x : Item) (later : List Item) (o : Option A) → Stands all before x → at x ≡ o → number ≡ first + length (filter_map at before) → ((n : ℕ) → n ≡ first + length (filter_map at (before ++ x ∷ [])) → Given Gives n (before ++ x ∷ []) later (collected at part n (before ++ x ∷ []) later)) → Given Gives number before (x ∷ later) (pushed o (part before x number) (collected at part number (before ++ x ∷ []) later) (collected at part (number + 1) (before ++ x ∷ []) later))
   by_case number before x later None stands h e next = Given.Nothing (λ n p g. none before x n p h g) (next number (omega (arith, e, counted_none at before x h)))
   by_case number before x later (Some a) stands h e next = Given.One (gives before x number a stands h e) (next (number + 1) (omega (arith, e, counted_one at before x a h)))
 

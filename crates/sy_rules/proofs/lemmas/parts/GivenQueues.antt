@@ -16,20 +16,20 @@ use Rattle.sy_rules.specs.parts.Plans.{action_at, actions_of, first_params, main
 use Rattle.sy_rules.specs.PlanValue.{action_part, action_parts}
 use Rattle.sy_rules.specs.check.ScriptFaults.{is_main_queue}
 use Rattle.sy_rules.proofs.lemmas.parts.GivenItems.{action_item, gives_no_queue, gives_queue, not_both, same_some}
-use Rattle.sy_rules.proofs.lemmas.parts.GivenParts.{all_given, collected, put}
+use Rattle.sy_rules.proofs.lemmas.parts.GivenParts.{all_given, collected, pushed}
 
 -- ---- queues of rulesets and actions
 
-put_as_it_is : {A : Type 0} (o : Option A) (same next rest : List A) → same ≡ rest → next ≡ rest → put o (λ a. a) same next ≡ cons_option o rest
-put_as_it_is None same next rest e f = e
-put_as_it_is (Some a) same next rest e f = ap (λ xs. a ∷ xs) f
+push_as_it_is : {A : Type 0} (o : Option A) (same next rest : List A) → same ≡ rest → next ≡ rest → pushed o (λ a. a) same next ≡ cons_option o rest
+push_as_it_is None same next rest e f = e
+push_as_it_is (Some a) same next rest e f = ap (λ xs. a ∷ xs) f
 
 abbrev queue_part : List Item → Item → ℕ → QueueParameters → QueueParameters
 queue_part before x number q = q
 
 queues_collected : (number : ℕ) (before later : List Item) → collected own_queue queue_part number before later ≡ filter_map own_queue later
 queues_collected number before [] = refl
-queues_collected number before (x ∷ later) = put_as_it_is (own_queue x) _ _ (filter_map own_queue later) (queues_collected number (before ++ x ∷ []) later) (queues_collected (number + 1) (before ++ x ∷ []) later)
+queues_collected number before (x ∷ later) = push_as_it_is (own_queue x) _ _ (filter_map own_queue later) (queues_collected number (before ++ x ∷ []) later) (queues_collected (number + 1) (before ++ x ∷ []) later)
 
 pub queues_given : (all : List Item) → Given GivesQueue 1 [] all (filter_map own_queue all)
 queues_given all =
@@ -128,13 +128,13 @@ same_action before x n p q g h =
     let said = action_of (kind_of_action h.params) h.params in
     one_action before x n p said (ap action_at h.found) g ∙ sym (one_action before x n q said (ap action_at h.found) h)
 
-put_action : (number : ℕ) (o : Option ActionParameters) (same next : List Action) (rest : List ActionParameters) → same ≡ action_parts number rest → next ≡ action_parts (number + 1) rest → put o (action_part number) same next ≡ action_parts number (cons_option o rest)
-put_action number None same next rest e f = e
-put_action number (Some a) same next rest e f = ap (λ xs. action_part number a ∷ xs) f
+push_action : (number : ℕ) (o : Option ActionParameters) (same next : List Action) (rest : List ActionParameters) → same ≡ action_parts number rest → next ≡ action_parts (number + 1) rest → pushed o (action_part number) same next ≡ action_parts number (cons_option o rest)
+push_action number None same next rest e f = e
+push_action number (Some a) same next rest e f = ap (λ xs. action_part number a ∷ xs) f
 
 actions_collected : (number : ℕ) (before later : List Item) → collected action_at action_given number before later ≡ action_parts number (actions_of later)
 actions_collected number before [] = refl
-actions_collected number before (x ∷ later) = put_action number (action_at x) _ _ (actions_of later) (actions_collected number (before ++ x ∷ []) later) (actions_collected (number + 1) (before ++ x ∷ []) later)
+actions_collected number before (x ∷ later) = push_action number (action_at x) _ _ (actions_of later) (actions_collected number (before ++ x ∷ []) later) (actions_collected (number + 1) (before ++ x ∷ []) later)
 
 pub actions_given : (all : List Item) → Given GivesAction 0 [] all (action_parts 0 (actions_of all))
 actions_given all =

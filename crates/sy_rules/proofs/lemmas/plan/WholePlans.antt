@@ -176,8 +176,8 @@ module _ (script : Script) (tests : List (Formula Test))
   abbrev plan : Plan
   plan = plan_from all (lines_of script tests)
 
-  puts : (i : InputParameters) → (input_part all i).queue ≡ queue_for plan (input_part all i).list
-  puts i =
+  pushes : (i : InputParameters) → (input_part all i).queue ≡ queue_for plan (input_part all i).list
+  pushes i =
       let list = list_of_input all i.ruleset_name in
       or_main (slice_get (list_queues all) list) ∙ ap (λ (o : Option ℕ). unwrap_or o 0) (sym (own_listed (lines_of script tests) 0 (list_queues all) list))
 
@@ -228,7 +228,7 @@ module _ (script : Script) (tests : List (Formula Test))
         input_ports = All-from_recursion (λ i. 1 ≤ i.port) plan.inputs (each (IsBound all) (λ i. 1 ≤ i.port) (λ i p. p.0) plan.inputs bound);
         ports_differ = ports_differ all clean;
         input_lists = All-from_recursion (λ i. i.list ≤ plan.rulesets) plan.inputs (each (IsBound all) (λ i. i.list ≤ plan.rulesets) (λ i p. p.1) plan.inputs bound);
-        input_queues_are_those_of_their_lists = All-map (λ i. i.queue ≡ queue_for plan i.list) (input_part all) (inputs_of all) (λ k d within. puts (slice_index_or (inputs_of all) k d));
+        input_queues_are_those_of_their_lists = All-map (λ i. i.queue ≡ queue_for plan i.list) (input_part all) (inputs_of all) (λ k d within. pushes (slice_index_or (inputs_of all) k d));
         input_queues = All-from_recursion (λ i. i.queue < length plan.queues) plan.inputs (each (IsBound all) (λ i. i.queue < length plan.queues) (λ i p. p.2) plan.inputs bound);
         queues_least = omega arith;
         queues_most = omega (arith, inner, rulesets, actions);

@@ -18,7 +18,7 @@ struct Opened {
     at: usize,
 }
 
-fn put_action(
+fn push_action(
     actions: &[Statement],
     counts: &mut Counts,
     table: &mut Vec<Statement>,
@@ -37,7 +37,7 @@ fn put_action(
     Ok(())
 }
 
-fn put_call(scope: &Scope<'_>, table: &mut Vec<Statement>, name: &[u8]) -> Result<(), AllocError>
+fn push_call(scope: &Scope<'_>, table: &mut Vec<Statement>, name: &[u8]) -> Result<(), AllocError>
     ensures { OnOk result (table.new.items ≡ table.old.items
         ++ spec.in_front (spec.call_statement scope.now.rulesets.now
         (place_of name.now (names_of scope.now.rulesets.now))) []) }
@@ -83,78 +83,78 @@ fn close_if(table: &mut Vec<Statement>, opened: Opened, middle: usize) -> Result
 
 /// Puts a statement after a table. It goes as deep as the statement nests.
 #[cycle(statements)]
-pub fn put_stmt(
+pub fn push_stmt(
     scope: &Scope<'_>,
     counts: &mut Counts,
     table: &mut Vec<Statement>,
     stmt: &Stmt,
 ) -> Result<(), AllocError>
-    ensures { OnOk result (spec.IsPut scope.now.rulesets.now scope.now.actions.now (front_of_stmt stmt.now) counts.old
+    ensures { OnOk result (spec.IsPush scope.now.rulesets.now scope.now.actions.now (front_of_stmt stmt.now) counts.old
         counts.new table.old.items table.new.items) }
 {
     match stmt {
-        Stmt::Action(_, _) => put_action(scope.actions, counts, table),
-        Stmt::Call(name) => put_call(scope, table, name.text.as_slice()),
+        Stmt::Action(_, _) => push_action(scope.actions, counts, table),
+        Stmt::Call(name) => push_call(scope, table, name.text.as_slice()),
         Stmt::Stop(_) => {
             table.push(Statement::Stop)?;
             Ok(())
         }
         Stmt::If(_, done, otherwise) => {
             let opened = open_if(counts, table)?;
-            put_block(scope, counts, table, done)?;
+            push_block(scope, counts, table, done)?;
             let middle = table.len();
-            put_otherwise(scope, counts, table, otherwise)?;
+            push_otherwise(scope, counts, table, otherwise)?;
             close_if(table, opened, middle)
         }
     }
 }
 
 #[cycle(statements)]
-fn put_otherwise(
+fn push_otherwise(
     scope: &Scope<'_>,
     counts: &mut Counts,
     table: &mut Vec<Statement>,
     otherwise: &Option<Block>,
 ) -> Result<(), AllocError>
-    ensures { OnOk result (spec.IsPut scope.now.rulesets.now scope.now.actions.now
+    ensures { OnOk result (spec.IsPush scope.now.rulesets.now scope.now.actions.now
         (spec.front_of_otherwise otherwise.now)
         counts.old counts.new table.old.items table.new.items) }
 {
     match otherwise {
-        Some(block) => put_block(scope, counts, table, block),
+        Some(block) => push_block(scope, counts, table, block),
         None => Ok(()),
     }
 }
 
 #[cycle(statements)]
-fn put_block(
+fn push_block(
     scope: &Scope<'_>,
     counts: &mut Counts,
     table: &mut Vec<Statement>,
     block: &Block,
 ) -> Result<(), AllocError>
-    ensures { OnOk result (spec.IsPut scope.now.rulesets.now scope.now.actions.now (front_of_block block.now) counts.old
+    ensures { OnOk result (spec.IsPush scope.now.rulesets.now scope.now.actions.now (front_of_block block.now) counts.old
         counts.new table.old.items table.new.items) }
 {
     match block {
-        Block::Single(stmt) => put_stmt(scope, counts, table, stmt.get()),
-        Block::Braced(body) => put_body(scope, counts, table, body.as_slice()),
+        Block::Single(stmt) => push_stmt(scope, counts, table, stmt.get()),
+        Block::Braced(body) => push_body(scope, counts, table, body.as_slice()),
     }
 }
 
 /// Puts statements after a table, in their order.
 #[cycle(statements)]
-pub fn put_body(
+pub fn push_body(
     scope: &Scope<'_>,
     counts: &mut Counts,
     table: &mut Vec<Statement>,
     body: &[Stmt],
 ) -> Result<(), AllocError>
-    ensures { OnOk result (spec.IsPut scope.now.rulesets.now scope.now.actions.now (front_of_body body.now) counts.old
+    ensures { OnOk result (spec.IsPush scope.now.rulesets.now scope.now.actions.now (front_of_body body.now) counts.old
         counts.new table.old.items table.new.items) }
 {
     for stmt in body {
-        put_stmt(scope, counts, table, stmt)?;
+        push_stmt(scope, counts, table, stmt)?;
     }
     Ok(())
 }

@@ -5,7 +5,7 @@ ghost use Rattle.sy_rules.specs.lists.Texts.{part_of, parts};
 
 use super::count::{Counts, next};
 use super::scope::Scope;
-use super::statements::{put_body, put_stmt};
+use super::statements::{push_body, push_stmt};
 use crate::lists::statement::Statement;
 use crate::parameters::objects::ActionParameters;
 use std::alloc::{AllocError, Global};
@@ -19,15 +19,15 @@ pub struct Lists {
     pub inside: Vec<Vec<Statement>>,
 }
 
-fn put_top(alloc: Global, scope: &Scope<'_>, lists: &mut Lists, top: &Top) -> Result<(), AllocError>
-    ensures { OnOk result (spec.IsPartPut scope.now.rulesets.now scope.now.actions.now (part_of top.now) lists.old
+fn push_top(alloc: Global, scope: &Scope<'_>, lists: &mut Lists, top: &Top) -> Result<(), AllocError>
+    ensures { OnOk result (spec.IsPartPush scope.now.rulesets.now scope.now.actions.now (part_of top.now) lists.old
         lists.new) }
 {
     match top {
         Top::Object(_) => Ok(()),
         Top::Ruleset(ruleset) => {
             let mut table = Vec::new(alloc);
-            put_body(
+            push_body(
                 scope,
                 &mut lists.counts,
                 &mut table,
@@ -36,12 +36,12 @@ fn put_top(alloc: Global, scope: &Scope<'_>, lists: &mut Lists, top: &Top) -> Re
             lists.inside.push(table)?;
             Ok(())
         }
-        Top::Stmt(stmt) => put_stmt(scope, &mut lists.counts, &mut lists.outside, stmt),
+        Top::Stmt(stmt) => push_stmt(scope, &mut lists.counts, &mut lists.outside, stmt),
     }
 }
 
 /// The table of the statements outside every ruleset, and those of the rulesets.
-pub fn put_tops(
+pub fn push_tops(
     alloc: Global,
     scope: &Scope<'_>,
     tops: &[Top],
@@ -61,7 +61,7 @@ pub fn put_tops(
         inside: Vec::new(alloc),
     };
     for top in tops {
-        put_top(alloc, scope, &mut lists, top)?;
+        push_top(alloc, scope, &mut lists, top)?;
     }
     let Lists {
         outside,
@@ -72,7 +72,7 @@ pub fn put_tops(
 }
 
 /// Puts a table with a single run after the others for each action that has a queue.
-pub fn put_singles(
+pub fn push_singles(
     alloc: Global,
     tables: &mut Vec<Vec<Statement>>,
     actions: &[ActionParameters],
@@ -83,14 +83,14 @@ pub fn put_singles(
     let mut number = 0u32;
     for action in actions {
         if action.queue.is_some() {
-            put_single(alloc, tables, number)?;
+            push_single(alloc, tables, number)?;
         }
         number = next(number)?;
     }
     Ok(())
 }
 
-fn put_single(
+fn push_single(
     alloc: Global,
     tables: &mut Vec<Vec<Statement>>,
     number: u32,

@@ -178,10 +178,10 @@ pub none_of : {X B : Type 0} (P : X → B → Type 0) (lines : List X) (old : Li
 none_of P lines old none = subst (λ l. HasMore P l old old) (sym none) (more_none P old)
 
 -- where putting one was answered Ok, it is what belongs to the line
-pub put_one : {A B E : Type 0} (P : A → B → Type 0) (x : A) (y : B) (old new : List B) (r : Result (Unit {0}) E) → P x y
+pub push_one : {A B E : Type 0} (P : A → B → Type 0) (x : A) (y : B) (old new : List B) (r : Result (Unit {0}) E) → P x y
     → OnOk r (new ≡ old ++ y ∷ []) → OnOk r (HasMore P (x ∷ []) old new)
-put_one P x y old new (Ok u) belongs is = more_one P x y old new is belongs
-put_one P x y old new (Err e) belongs is = tt
+push_one P x y old new (Ok u) belongs is = more_one P x y old new is belongs
+push_one P x y old new (Err e) belongs is = tt
 
 -- at the end of the lines
 pub at_end : {X B : Type 0} (P : X → B → Type 0) (kind : List Line → List X) (found : List Given) (i : ℕ) (old : List B) → kind [] ≡ [] → length found ≤ i

@@ -14,7 +14,7 @@ use Rattle.sy_site.specs.machine.Reach.{Follows, MayDo, list_of}
 use Rattle.sy_site.proofs.machine.confined_workers.Goals as goal
 
 -- what the record says of it, told in full
-told : (site : Site) (class : Class) (relay worker : ℕ) (entry : Entry)
+reported : (site : Site) (class : Class) (relay worker : ℕ) (entry : Entry)
     → IsOfItsInput (plan_at site relay) (Cell.Worker worker) entry ⊎ IsOfAPost site class relay (Cell.Worker worker) entry
     → ((queue_of_input (plan_at site relay) entry.input ≡ queue_of_worker (plan_at site relay) worker) × (entry.list ≡ list_of site (record { relay = relay; input = entry.input })))
     ⊎ ((queue_for (plan_at site relay) entry.list ≡ queue_of_worker (plan_at site relay) worker)
@@ -22,9 +22,9 @@ told : (site : Site) (class : Class) (relay worker : ℕ) (entry : Entry)
     × MayDo site class Scope.Firm relay before number (occurrence.Post entry.list))
     × (MayLose (plan_at site relay) class (queue_for (plan_at site relay) entry.list)
     (post_flow (plan_at site relay) (queue_for (plan_at site relay) entry.list)) → ⊥))
-told site class relay worker entry (inl its) = inl (its.place, its.list)
-told site class relay worker entry (inr post) = inr (post.place, (post.before, post.number, post.follows, post.does), post.keeps)
+reported site class relay worker entry (inl its) = inl (its.place, its.list)
+reported site class relay worker entry (inr post) = inr (post.place, (post.before, post.number, post.follows, post.does), post.keeps)
 
 pub returns : goal.returns
 returns c site class state confined relay worker entry there copy followed plain =
-    told site class relay worker entry (confined.placed relay (Cell.Worker worker) entry there copy followed plain)
+    reported site class relay worker entry (confined.placed relay (Cell.Worker worker) entry there copy followed plain)

@@ -7,8 +7,8 @@ use Rattle.sy_unread.proofs.record.append_records.Goals as goal
 appended :
     {T E : Type 0} (r : Result T E) (old new x y : List ℕ)
     → new ≡ (if is_ok r then old ++ x else old) → x ≡ y → OnOk r (new ≡ old ++ y)
-appended (Ok t) old new x y put same = put ∙ ap (λ z. old ++ z) same
-appended (Err e) old new x y put same = tt
+appended (Ok t) old new x y append same = append ∙ ap (λ z. old ++ z) same
+appended (Err e) old new x y append same = tt
 
 pub returns-clause-records : goal.returns-clause-records
 returns-clause-records c =

@@ -6,7 +6,7 @@ use Rattle.syc.proofs.NoMemory.{memory_fails}
 use Rattle.syc.proofs.graph.graph.Goals as goal
 
 pub returns-in-Ok-None-clause-draws : goal.returns-in-Ok-None-clause-draws
-returns-in-Ok-None-clause-draws g c = λ text known. elim c.no_class.ensures.told [
+returns-in-Ok-None-clause-draws g c = λ text known. elim c.no_class.ensures.reported [
   | inl two ↦ inr (
     c.in-Some.word.now,
     ap (option_map (λ word. word.now)) c.in-Some.is,
@@ -20,7 +20,7 @@ returns-in-Ok-None-clause-draws g c = λ text known. elim c.no_class.ensures.tol
 ]
 
 pub returns-in-Ok-None-clause-fails : goal.returns-in-Ok-None-clause-fails
-returns-in-Ok-None-clause-fails g c = λ text known. elim c.no_class.ensures.told [
+returns-in-Ok-None-clause-fails g c = λ text known. elim c.no_class.ensures.reported [
   | inl two ↦ two_fails _ c.no_class.result c.args.out.now c.no_class.new.out two.0
   | inr three ↦ memory_fails _ c.no_class.result c.args.out.now c.no_class.new.out three.0
 ]

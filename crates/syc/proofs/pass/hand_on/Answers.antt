@@ -7,8 +7,8 @@ use Rattle.syc.proofs.pass.hand_on.Goals.{in-Ok, in-Err}
 pub returns-clause-pass : goal.returns-clause-pass
 returns-clause-pass g c = rw (← c.out.view_is) (λ input first s.
     elim c.match-flush.branch [
-      | in-Ok w ↦ rw (c.status_of.ensures, w.stop-is) (stopped input first _ _ c.flush.ensures.bytes _ c.args.stopped.stop c.args.stopped.frame s (rw w.stop-is at c.tell.ensures))
-      | in-Err w ↦ rw (c.status_of.ensures, w.stop-is) (flush_failed input first _ _ c.flush.ensures.bytes _ c.args.stopped.stop c.args.stopped.frame s (rw w.stop-is at c.tell.ensures))
+      | in-Ok w ↦ rw (c.status_of.ensures, w.stop-is) (stopped input first _ _ c.flush.ensures.bytes _ c.args.stopped.stop c.args.stopped.frame s (rw w.stop-is at c.report_stop.ensures))
+      | in-Err w ↦ rw (c.status_of.ensures, w.stop-is) (flush_failed input first _ _ c.flush.ensures.bytes _ c.args.stopped.stop c.args.stopped.frame s (rw w.stop-is at c.report_stop.ensures))
     ])
 
 pub returns-clause-flushed : goal.returns-clause-flushed
@@ -21,8 +21,8 @@ returns-clause-flushed g c = rw (← c.out.view_is) (
 pub returns-clause-cause : goal.returns-clause-cause
 returns-clause-cause g c = rw (← c.out.view_is) (λ is.
     elim c.match-flush.branch [
-      | in-Ok w ↦ gives_up (Reported (seen g.E.Sink.contents g.E.Sink.is_flushed g.E.Sink.faults c.out.inside.errors) (seen g.E.Sink.contents g.E.Sink.is_flushed g.E.Sink.faults c.tell.new.errors)) c.args.stopped.stop c.args.stopped.frame _ _ (ap status_shown (sym w.stop-is) ∙ sym c.status_of.ensures ∙ is) (rw w.stop-is at c.tell.ensures)
-      | in-Err w ↦ inr (rw w.stop-is at c.tell.ensures, inr w.in-Err.ensures.err)
+      | in-Ok w ↦ gives_up (Reported (seen g.E.Sink.contents g.E.Sink.is_flushed g.E.Sink.faults c.out.inside.errors) (seen g.E.Sink.contents g.E.Sink.is_flushed g.E.Sink.faults c.report_stop.new.errors)) c.args.stopped.stop c.args.stopped.frame _ _ (ap status_shown (sym w.stop-is) ∙ sym c.status_of.ensures ∙ is) (rw w.stop-is at c.report_stop.ensures)
+      | in-Err w ↦ inr (rw w.stop-is at c.report_stop.ensures, inr w.in-Err.ensures.err)
     ])
 
 pub returns-clause-none_failed : goal.returns-clause-none_failed

@@ -5,7 +5,7 @@ use Rattle.syc.specs.Words.{is_any}
 use Rattle.sy_report.specs.Reports.{SinkState, seen}
 use Rattle.sy_report.specs.Halts.{status_at}
 use Rattle.syc.proofs.Courses.{replayed}
-use Rattle.syc.proofs.Replayed.{halted_told}
+use Rattle.syc.proofs.Replayed.{halted_reported}
 use Rattle.syc.proofs.Failing.{stop_fails}
 use Rattle.syc.proofs.replay.replay_lines.Goals as goal
 
@@ -21,7 +21,7 @@ returns-clause-says g c = rw (← c.out.view_is) (λ text events known read.
     let mid = seen g.W.Sink.contents g.W.Sink.is_flushed g.W.Sink.faults c.replay_on-replayed.new.writer in
     let is_reported = ReportedBy (is_any c.args.options) (seen g.E.Sink.contents g.E.Sink.is_flushed g.E.Sink.faults c.out.inside.errors) c.stop_replay.new.out.errors in
     let ends : EndsReplay bytes_of text events (status_at halt) old mid is_reported =
-    halted_told bytes_of text events old mid halt is_reported (c.in-Err.ensures.halted text events known read) c.stop_replay.ensures.told in
+    halted_reported bytes_of text events old mid halt is_reported (c.in-Err.ensures.halted text events known read) c.stop_replay.ensures.reported in
     subst (λ (n : ℕ). EndsReplay bytes_of text events n old c.stop_replay.new.out.output is_reported) (sym c.stop_replay.ensures.status)
     (subst (λ (s : SinkState). EndsReplay bytes_of text events (status_at halt) old s is_reported) (sym c.stop_replay.ensures.same) ends))
 

@@ -2,7 +2,7 @@ use Rattle.std.proofs.Common.{◌∷◌}
 use Rattle.sy_site.specs.texts.Files.{file_names}
 use Rattle.std.proofs.lemmas.Result.{err_from_is_err_and}
 use Rattle.syc.proofs.Endings.{certificate_unread, site_unread}
-use Rattle.syc.proofs.Told.{kept_site}
+use Rattle.syc.proofs.ReportLaws.{kept_site}
 use Rattle.sy_places.proofs.Unread.{unread_behind, unread_between, unread_first}
 use Rattle.syc.proofs.verify.answer_of.Goals as goal
 

@@ -1,7 +1,7 @@
 use Rattle.std.proofs.Common.{◌≡◌, ◌∷◌, Some}
 use Rattle.sy_site.specs.texts.Files.{file_names}
 use Rattle.syc.proofs.Ends.{fails_with, verify_ends, verify_says}
-use Rattle.syc.proofs.Told.{halted_otherwise, kept_by_zero}
+use Rattle.syc.proofs.ReportLaws.{halted_otherwise, kept_by_zero}
 use Rattle.syc.proofs.verify.verify.Goals as goal
 
 pub returns-clause-ends : goal.returns-clause-ends
@@ -23,7 +23,7 @@ returns-clause-says g c = λ words site text is_site is_text.
     verify_says c.args.options (g.F.Files.bytes_of c.args.files.now) c.args.site_name.now c.args.certificate_name.now site text
     c.answer_of-answer.result c.print_report.result c.args.out.now c.print_report.new.out
     (c.answer_of-answer.ensures.words words) c.answer_of-answer.ensures.err
-    c.print_report.ensures.printed (c.print_report.ensures.told words) is_site is_text
+    c.print_report.ensures.printed (c.print_report.ensures.reported words) is_site is_text
 
 pub returns-clause-verify_safe : goal.returns-clause-verify_safe
 returns-clause-verify_safe g c = λ text is_site zero.

@@ -21,7 +21,7 @@ use Rattle.std.proofs.raw_atomic.Walks.{proved_at, leaves}
 use denote.Param.Laws.{param_laws}
 use Rattle.core.proofs.alloc.Calls.{Goes-blank}
 use Rattle.sy_chain.proofs.blocks.Blocks.TheLaws.{the_row_laws}
-use Rattle.sy_chain.proofs.Steps.{D, Sr, R, Held, own_in, tells, lends, gives_back}
+use Rattle.sy_chain.proofs.Steps.{D, Sr, R, Held, own_in, reports, lends, gives_back}
 use Rattle.sy_chain.specs.contracts.blocks.Blocks.append.{ended, clauses}
 use Rattle.sy_chain.specs.contracts.blocks.Blocks.append.Key.{name as #self}
 use Rattle.sy_chain.proofs.blocks.Blocks.append.Statement.{statement}
@@ -37,7 +37,7 @@ append_spec 𝓤 𝓛 𝓜 𝓡 wired Y L =
     let toks = ‵ (flft κs.0 qs.0) ⊛ ‵ (flft κs.1.0 qs.1.0) ⊛ ‵ ftrue in
     let x : D Y = z.0.3.1.0 in let new : D Y = record d { placed = d.placed ++ x.placed } in
     qed 𝓛 ((toks ⊛ ‵ (owns (types_at En.signature.params κs) z.0.3 vss)) ∷ raw ((c κs z.0.3).requires z.1) ∷ []) ∵ split ! $ move ! (1 ∷ []) $ fsplit3 ! $ fsplit3 ! $ feq_l ! (λ e₀. keep ! (0 ∷ 1 ∷ 2 ∷ 4 ∷ []) $
-    move ! (2 ∷ []) $ tells (Sr Y) (the_row_laws (R Y) (param_laws 0 Y L)) ! x vss.1.0 (λ w e₁ good. fsplit ! $ drop ! $ move ! (3 ∷ []) $ split ! $ move ! (3 ∷ 4 ∷ 0 ∷ 2 ∷ []) $
+    move ! (2 ∷ []) $ reports (Sr Y) (the_row_laws (R Y) (param_laws 0 Y L)) ! x vss.1.0 (λ w e₁ good. fsplit ! $ drop ! $ move ! (3 ∷ []) $ split ! $ move ! (3 ∷ 4 ∷ 0 ∷ 2 ∷ []) $
     regoal ! (λ (us : List Val). prop (Run (us ++ (vss.1.0 ++ [])))) e₀ refl $ regoal ! (λ (us : List Val). prop (Run (vptr rb ro ∷ (us ++ [])))) e₁ refl $
     enter ! 𝓣.C 𝓣.Λ fn (vptr rb ro ∷ w ∷ []) Post $ alloc_all ! (λ l. pass_all ! refl ((tt, tt), (good, tt)) $
     lends Y ! tt d rb ro (λ vs. move ! (1 ∷ 6 ∷ []) $ use2 𝓛 (‵ (Held Y new.placed)) (own_in Y 𝓛 d.placed x.placed) $

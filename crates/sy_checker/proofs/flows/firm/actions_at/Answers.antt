@@ -9,7 +9,7 @@ loop-action-preserved c =
     let xs = c.args.actions.now in
     let k = c.loop-action.action-index in
     let item = get_or xs k (record { relay = 0; action = 0 }) in
-    c.in_ok-put_action.ensures
+    c.in_ok-push_action.ensures
     ∙ ap (λ l. l ++ actions_at (item ∷ []) c.args.relay) c.loop-action.invariant
     ∙ sym (actions_append (take k xs) (item ∷ []) c.args.relay)
     ∙ ap (λ l. actions_at l c.args.relay) (sym (take_more xs k (record { relay = 0; action = 0 }) c.loop-action-test.true))

@@ -99,28 +99,28 @@ follow-returns-in-Some-clause-followed t c = λ is here.
 
 pub follow_one-returns-in-Run-clause-grows : goal.follow_one-returns-in-Run-clause-grows
 follow_one-returns-in-Run-clause-grows t c =
-    on_ok (AddsTarget c.args.site.now c.args.relay c.in-Run.action c.args.number c.args.found.now.hops.items c.put_target.new.hops.items)
-    (WalksOn c.args.site.now c.args.class c.args.which c.args.relay c.args.found.now.hops.items c.args.found.now.lists.items c.put_target.new.hops.items
+    on_ok (AddsTarget c.args.site.now c.args.relay c.in-Run.action c.args.number c.args.found.now.hops.items c.push_target.new.hops.items)
+    (WalksOn c.args.site.now c.args.class c.args.which c.args.relay c.args.found.now.hops.items c.args.found.now.lists.items c.push_target.new.hops.items
     c.args.found.now.lists.items)
     (run_grows c.args.site.now c.args.class c.args.which c.args.relay c.in-Run.action c.args.number c.args.found.now.hops.items
-    c.put_target.new.hops.items c.args.found.now.lists.items)
-    c.put_target.result c.put_target.ensures
+    c.push_target.new.hops.items c.args.found.now.lists.items)
+    c.push_target.result c.push_target.ensures
 
 pub follow_one-returns-in-Run-clause-sound : goal.follow_one-returns-in-Run-clause-sound
 follow_one-returns-in-Run-clause-sound t c = λ first leads.
-    on_ok (AddsTarget c.args.site.now c.args.relay c.in-Run.action c.args.number c.args.found.now.hops.items c.put_target.new.hops.items)
-    (AddsLeads c.args.site.now c.args.class c.args.which c.args.relay first c.args.number c.args.found.now.hops.items c.put_target.new.hops.items)
+    on_ok (AddsTarget c.args.site.now c.args.relay c.in-Run.action c.args.number c.args.found.now.hops.items c.push_target.new.hops.items)
+    (AddsLeads c.args.site.now c.args.class c.args.which c.args.relay first c.args.number c.args.found.now.hops.items c.push_target.new.hops.items)
     (run_sound c.args.site.now c.args.class c.args.which c.args.relay c.args.list c.args.at c.in-Run.action first c.args.number
-    c.args.found.now.hops.items c.put_target.new.hops.items
+    c.args.found.now.hops.items c.push_target.new.hops.items
     (subst (Does c.args.site.now c.args.class c.args.which c.args.relay c.args.list c.args.at) c.in-Run.is c.requires.does) leads)
-    c.put_target.result c.put_target.ensures
+    c.push_target.result c.push_target.ensures
 
 pub follow_one-returns-in-Run-clause-followed : goal.follow_one-returns-in-Run-clause-followed
 follow_one-returns-in-Run-clause-followed t c =
-    on_ok (AddsTarget c.args.site.now c.args.relay c.in-Run.action c.args.number c.args.found.now.hops.items c.put_target.new.hops.items)
-    (IsFollowed c.args.site.now c.args.which c.args.relay c.put_target.new.hops.items c.args.found.now.lists.items c.args.is)
-    (λ adds. subst (IsFollowed c.args.site.now c.args.which c.args.relay c.put_target.new.hops.items c.args.found.now.lists.items) (sym c.in-Run.is) adds.has)
-    c.put_target.result c.put_target.ensures
+    on_ok (AddsTarget c.args.site.now c.args.relay c.in-Run.action c.args.number c.args.found.now.hops.items c.push_target.new.hops.items)
+    (IsFollowed c.args.site.now c.args.which c.args.relay c.push_target.new.hops.items c.args.found.now.lists.items c.args.is)
+    (λ adds. subst (IsFollowed c.args.site.now c.args.which c.args.relay c.push_target.new.hops.items c.args.found.now.lists.items) (sym c.in-Run.is) adds.has)
+    c.push_target.result c.push_target.ensures
 
 pub follow_one-walk-requires : goal.follow_one-walk-requires
 follow_one-walk-requires t c =

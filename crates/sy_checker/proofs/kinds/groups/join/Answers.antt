@@ -9,6 +9,6 @@ pub returns : goal.returns
 returns c =
     let at = c.requires.at in
     let one : c.index_mut.result.now ≡ at.group = c.index_mut.ensures.value ∙ get_or_from_slice_get c.args.groups.now.items c.args.place at.group _ at.stands in
-    joined c.args.groups.now.items c.args.place c.args.class c.args.input c.args.kind at c.put_class.new.group
-    (c.in_ok-put_class.ensures.subject ∙ ap subject one)
-    (c.in_ok-put_class.ensures.classes ∙ ap (λ (g : Group). g.classes.items ++ c.args.class ∷ []) one)
+    joined c.args.groups.now.items c.args.place c.args.class c.args.input c.args.kind at c.push_class.new.group
+    (c.in_ok-push_class.ensures.subject ∙ ap subject one)
+    (c.in_ok-push_class.ensures.classes ∙ ap (λ (g : Group). g.classes.items ++ c.args.class ∷ []) one)

@@ -51,21 +51,21 @@ visit-visit_posts-requires t c =
 
 pub visit-returns-clause-undone : goal.visit-returns-clause-undone
 visit-returns-clause-undone t c =
-    open_done c.args.way.now.items c.go_on.new.way.items c.args.list c.in_ok-number.number c.visit_posts.new.done.items c.put.new.done.items
+    open_done c.args.way.now.items c.go_on.new.way.items c.args.list c.in_ok-number.number c.visit_posts.new.done.items c.push_number.new.done.items
     c.in_ok-go_on.ensures c.in_ok-number.ensures.undone
     (λ there. false≢true (sym c.if-is_on.false ∙ c.is_on.ensures.1 (subst (λ l. Contains l c.args.list) (sym c.as_slice-before.ensures.value) there)))
-    c.in_ok-put.ensures
+    c.in_ok-push_number.ensures
 
 pub visit-returns-clause-done : goal.visit-returns-clause-done
 visit-returns-clause-done t c =
-    done_more c.args.site.now c.args.class c.args.input.relay c.visit_posts.new.done.items c.put.new.done.items c.args.list c.in_ok-number.number
+    done_more c.args.site.now c.args.class c.args.input.relay c.visit_posts.new.done.items c.push_number.new.done.items c.args.list c.in_ok-number.number
     c.in_ok-number.ensures.done
     (open_back c.args.way.now.items c.go_on.new.way.items c.args.list c.visit_posts.new.done.items c.in_ok-go_on.ensures c.in_ok-number.ensures.undone)
-    c.requires.there c.in_ok-number.ensures.asked c.in_ok-put.ensures
+    c.requires.there c.in_ok-number.ensures.asked c.in_ok-push_number.ensures
 
 pub visit-returns-clause-its : goal.visit-returns-clause-its
 visit-returns-clause-its t c =
-    subst (λ l. Contains l (numbered c.args.list c.in_ok-number.number)) (sym c.in_ok-put.ensures)
+    subst (λ l. Contains l (numbered c.args.list c.in_ok-number.number)) (sym c.in_ok-push_number.ensures)
     (Contains-push c.visit_posts.new.done.items (numbered c.args.list c.in_ok-number.number))
 
 -- ---- its posts

@@ -7,8 +7,8 @@ use Rattle.sy_checker.proofs.lists.inners.inners_of.Goals as goal
 pub loop-relay-init : goal.loop-relay-init
 loop-relay-init c = subst (AreInners c.args.site.now c.args.class 0 0) (sym c.new-inners.ensures.items) (inners_first c.args.site.now c.args.class)
 
-pub put_inners-requires : goal.put_inners-requires
-put_inners-requires c = record {
+pub push_inners-requires : goal.push_inners-requires
+push_inners-requires c = record {
   there = omega (arith, c.loop-relay-test.true, c.relays-relay-end.ensures);
   own = reached_of c.args.site.now c.args.class c.args.firm.now c.loop-relay.relay c.as_slice.result.now c.requires.firm
       (subst (AreOf c.args.firm.now c.loop-relay.relay) (sym c.as_slice.ensures.value) c.in_ok-own.ensures);
@@ -18,7 +18,7 @@ put_inners-requires c = record {
 
 pub loop-relay-preserved : goal.loop-relay-preserved
 loop-relay-preserved c =
-    inners_relay c.args.site.now c.is_lawful.ensures c.args.class c.loop-relay.relay c.put_inners.new.inners.items c.in_ok-put_inners.ensures
+    inners_relay c.args.site.now c.is_lawful.ensures c.args.class c.loop-relay.relay c.push_inners.new.inners.items c.in_ok-push_inners.ensures
 
 pub returns : goal.returns
 returns c =

@@ -6,8 +6,8 @@ use Rattle.sy_checker.proofs.rows.making.rows_for.Goals as goal
 
 pub loop-is-preserved : goal.loop-is-preserved
 loop-is-preserved c =
-    made_step c.args.site.now c.args.class c.args.part.now c.args.ranks.now (number_at c.args.numbers.now) c.loop-is.rows.items c.put.new.rows.items c.loop-is.is-index
-    c.is-item.result c.in_ok-row.row c.in_ok-put.ensures
+    made_step c.args.site.now c.args.class c.args.part.now c.args.ranks.now (number_at c.args.numbers.now) c.loop-is.rows.items c.push_made.new.rows.items c.loop-is.is-index
+    c.is-item.result c.in_ok-row.row c.in_ok-push_made.ensures
     (slice_get_read c.args.part.now (length c.args.part.now) c.loop-is.is-index c.is-item.result refl c.loop-is-test.true c.is-item.is)
     c.in_ok-row.ensures.ok c.loop-is.invariant
 

@@ -26,19 +26,19 @@ relays_of-requires c = record {
 pub returns : goal.returns
 returns c =
     let first = c.in_ok-push.ensures.items ∙ ap (λ l. l ++ wanted.Class c.args.class ∷ []) c.new-part.ensures.items in
-    let second = c.in_ok-put_inputs.ensures ∙ ap (λ l. c.push.new.self.items ++ map wanted.Reach l) c.as_slice.ensures.value
+    let second = c.in_ok-push_inputs.ensures ∙ ap (λ l. c.push.new.self.items ++ map wanted.Reach l) c.as_slice.ensures.value
     ∙ ap (λ l. l ++ map wanted.Reach c.in_ok-inputs.inputs.items) first in
-    let branched = c.in_ok-put_branches.ensures ∙ ap (λ l. c.put_inputs.new.part.items ++ map wanted.Branch l) c.as_slice-2.ensures.value
+    let branched = c.in_ok-push_branches.ensures ∙ ap (λ l. c.push_inputs.new.part.items ++ map wanted.Branch l) c.as_slice-2.ensures.value
     ∙ ap (λ l. l ++ map wanted.Branch c.in_ok-branches.branches.items) second in
-    let third = c.in_ok-put_relays.ensures ∙ ap (λ l. c.put_branches.new.part.items ++ map wanted.Rank l) c.as_slice-3.ensures.value
+    let third = c.in_ok-push_relays.ensures ∙ ap (λ l. c.push_branches.new.part.items ++ map wanted.Rank l) c.as_slice-3.ensures.value
     ∙ ap (λ l. l ++ map wanted.Rank c.in_ok-relays.relays.items) branched in
-    let fourth = c.in_ok-put_inners.ensures ∙ ap (λ l. c.put_relays.new.part.items ++ map wanted.Inner l) c.as_slice-4.ensures.value
+    let fourth = c.in_ok-push_inners.ensures ∙ ap (λ l. c.push_relays.new.part.items ++ map wanted.Inner l) c.as_slice-4.ensures.value
     ∙ ap (λ l. l ++ map wanted.Inner c.in_ok-inners.inners.items) third in
-    let last = c.in_ok-put_all_paths.ensures
-    ∙ ap (λ l. c.put_inners.new.part.items ++ flat_map (λ e. map (λ a. wanted.Path e a) l) c.entries.result.now)
+    let last = c.in_ok-push_all_paths.ensures
+    ∙ ap (λ l. c.push_inners.new.part.items ++ flat_map (λ e. map (λ a. wanted.Path e a) l) c.entries.result.now)
     (c.as_slice-5.ensures.value ∙ c.in_ok-archives.ensures)
-    ∙ ap (λ l. c.put_inners.new.part.items ++ flat_map (λ e. map (λ a. wanted.Path e a) (archives c.args.site.now c.args.class)) l) c.entries.ensures
+    ∙ ap (λ l. c.push_inners.new.part.items ++ flat_map (λ e. map (λ a. wanted.Path e a) (archives c.args.site.now c.args.class)) l) c.entries.ensures
     ∙ ap (λ l. l ++ paths c.args.site.now c.args.class) fourth in
     are_wanted c.args.site.now c.args.class c.args.firm.now c.args.every.now c.in_ok-inputs.inputs.items c.in_ok-branches.branches.items
-    c.in_ok-relays.relays.items c.in_ok-inners.inners.items c.put_all_paths.new.part.items c.requires.firm c.requires.every c.in_ok-inputs.ensures c.in_ok-branches.ensures
+    c.in_ok-relays.relays.items c.in_ok-inners.inners.items c.push_all_paths.new.part.items c.requires.firm c.requires.every c.in_ok-inputs.ensures c.in_ok-branches.ensures
     c.in_ok-relays.ensures c.in_ok-inners.ensures last

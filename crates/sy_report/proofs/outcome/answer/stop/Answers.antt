@@ -1,4 +1,4 @@
 use Rattle.sy_report.proofs.outcome.answer.stop.Goals as goal
 
-pub returns-clause-told : goal.returns-clause-told
-returns-clause-told g c = rw (← c.out.view_is) c.tell.ensures
+pub returns-clause-reported : goal.returns-clause-reported
+returns-clause-reported g c = rw (← c.out.view_is) c.report_halt.ensures

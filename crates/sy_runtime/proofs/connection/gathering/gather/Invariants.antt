@@ -5,5 +5,5 @@ use Rattle.sy_runtime.proofs.connection.gathering.gather.Given as goal
 
 abbrev pub invariant-loop : goal.invariant-loop
 invariant-loop l =
-    ((read : List ℕ) (end : Counts) (told : Kept) → Holds read end told l.fn.batch.items l.fn.framer.left → Holds read end told l.batch.items l.framer.left)
+    ((read : List ℕ) (end : Counts) (reported : Kept) → Holds read end reported l.fn.batch.items l.fn.framer.left → Holds read end reported l.batch.items l.framer.left)
     × (l.framer.has_failed ≡ false)

@@ -8,6 +8,6 @@ returns g c = record {
   kept = λ read before begun.
       rounded _ _ _ read _ _ _ _ _ _ _ c.sum_up.ensures
       (c.gather-stop.ensures.kept read c.args.end.now _ (unsettled read _ _ _ _ c.requires.empty begun))
-      (λ read left. c.put-put.ensures.kept read left before) c.put-put.ensures.all;
+      (λ read left. c.insert_batch-insert_batch.ensures.kept read left before) c.insert_batch-insert_batch.ensures.all;
   same = refl;
 }

@@ -2,7 +2,7 @@ use Rattle.std.proofs.Common.{inr, refl}
 use Rattle.sy_site.specs.internal.Lines.{protect_line_of}
 use Rattle.sy_site.specs.internal.SiteInside.{site_with}
 use Rattle.sy_site.specs.texts.Describes.{IsProtection}
-use Rattle.sy_site.proofs.lemmas.sites.More.{put_one}
+use Rattle.sy_site.proofs.lemmas.sites.More.{push_one}
 use Rattle.sy_site.proofs.lemmas.texts.FaultsFound.{no_archive, protect_unknown}
 use Rattle.sy_site.proofs.texts.references.protect.Goals as goal
 
@@ -17,5 +17,5 @@ returns-in-Err-Part-clause-err c = λ text files at r.
 
 pub returns-in-Ok-clause-protections : goal.returns-in-Ok-clause-protections
 returns-in-Ok-clause-protections c =
-    put_one (IsProtection (site_with c.args.relays.now)) (protect_line_of c.args.line) (record { selector = c.args.line.selector; archive = c.in-Ok.archive })
-    c.args.protections.now.items _ c.put.result (record { selector = refl; archive = c.in-Ok.ensures.archive }) c.put.ensures.ok
+    push_one (IsProtection (site_with c.args.relays.now)) (protect_line_of c.args.line) (record { selector = c.args.line.selector; archive = c.in-Ok.archive })
+    c.args.protections.now.items _ c.push_item.result (record { selector = refl; archive = c.in-Ok.ensures.archive }) c.push_item.ensures.ok

@@ -12,7 +12,7 @@ loop-given-preserved c = λ final later.
     (subst (λ l. HasMore (IsProtection (site_with c.args.relays.now)) (protect_lines (map line_given l)) c.loop-given.protections.items final)
     (sym c.in-Some.ensures.steps.0)
     (next_line (IsProtection (site_with c.args.relays.now)) protect_lines protect_first c.in-Some.given c.next.new.self.rest.items _ _ final
-    c.in_ok-put_protection.ensures.protections later))
+    c.in_ok-push_protection.ensures.protections later))
 
 pub returns-clause-protections : goal.returns-clause-protections
 returns-clause-protections c =

@@ -13,10 +13,10 @@ loop-given-preserved c =
     let place = c.loop-given.given-index in (
       λ final later. c.loop-given.invariant.0 final
           (next_at (IsSpare (site_with c.args.relays.now)) spare_lines spare_first found place c.given-item.result _ _ final
-          (omega (arith, c.loop-given-test.true)) c.given-item.is c.in_ok-put_spare.ensures.spares later),
+          (omega (arith, c.loop-given-test.true)) c.given-item.is c.in_ok-push_spare.ensures.spares later),
       λ later. c.loop-given.invariant.1
           (all_at (λ spare. is_protected found spare ≡ false) spare_lines spare_first found place c.given-item.result
-          (omega (arith, c.loop-given-test.true)) c.given-item.is c.in_ok-put_spare.ensures.apart later),
+          (omega (arith, c.loop-given-test.true)) c.given-item.is c.in_ok-push_spare.ensures.apart later),
     )
 
 pub returns-clause-spares : goal.returns-clause-spares

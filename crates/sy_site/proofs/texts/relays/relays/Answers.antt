@@ -8,7 +8,7 @@ pub loop-given-preserved : goal.loop-given-preserved
 loop-given-preserved c = λ final later.
     c.loop-given.invariant final
     (next_at (IsWholeRelay (map (λ f. file f.0.now f.1.now) c.args.files.now)) relay_lines relay_first c.args.found.now c.loop-given.given-index c.given-item.result _ _ final (omega (arith, c.loop-given-test.true)) c.given-item.is
-    c.in_ok-put_relay.ensures.relays later)
+    c.in_ok-push_relay.ensures.relays later)
 
 pub returns-clause-relays : goal.returns-clause-relays
 returns-clause-relays c =

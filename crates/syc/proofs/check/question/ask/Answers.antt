@@ -1,7 +1,7 @@
 use Rattle.std.proofs.Common.{◌≡◌, ◌∷◌, Some}
 use Rattle.sy_site.specs.texts.Files.{file_names}
 use Rattle.syc.proofs.Ends.{WordsOf, asked_ends, asked_says, fails_with}
-use Rattle.syc.proofs.Told.{kept_in_words}
+use Rattle.syc.proofs.ReportLaws.{kept_in_words}
 use Rattle.syc.proofs.check.question.ask.Goals as goal
 
 pub returns-clause-ends : goal.returns-clause-ends
@@ -14,7 +14,7 @@ pub returns-clause-says : goal.returns-clause-says
 returns-clause-says g c = λ words text known.
     asked_says c.args.asked c.args.options (g.F.Files.bytes_of c.args.files.now) c.args.site.now text c.answer_of-answer.result c.print_report.result
     c.args.out.now c.print_report.new.out c.answer_of-answer.ensures.ok c.answer_of-answer.ensures.err
-    c.print_report.ensures.printed c.print_report.ensures.told words known
+    c.print_report.ensures.printed c.print_report.ensures.reported words known
 
 pub returns-clause-check_safe : goal.returns-clause-check_safe
 returns-clause-check_safe g c = λ text known check zero.

@@ -3,8 +3,8 @@ use Rattle.syc.proofs.check.survey.tally_of.Goals as goal
 
 pub returns-in-Ok : goal.returns-in-Ok
 returns-in-Ok c =
-    if_ok c.tally.result c.tally.ensures (λ text tells. record {
+    if_ok c.tally.result c.tally.ensures (λ text reports. record {
       groups = c.in-Ok.groups.items;
       is_survey = c.in-Ok.ensures.survey;
-      is_tally = rw (← c.as_slice.ensures.value) tells;
+      is_tally = rw (← c.as_slice.ensures.value) reports;
     })

@@ -12,7 +12,7 @@ returns-in-Ok-write_all-clause-ok g c =
     let losses = c.losses-losses.result.now in
     let first = c.args.first in
     let line = loss_line c.args.site.now (state_at c.args.course.now.replay) c.args.course.now.line in
-    let text : c.put_losses.new.text.items ≡ flat_map line (losses_of (take (length losses - first) (drop first losses))) =
+    let text : c.append_losses.new.text.items ≡ flat_map line (losses_of (take (length losses - first) (drop first losses))) =
     rw c.new-text.ensures.items at c.in-Ok.ensures in
     let behind : losses_of (take (length losses - first) (drop first losses)) ≡ drop first (state_at c.args.course.now.replay).losses =
     losses_behind losses first ∙ ap (drop first) c.losses-losses.ensures.all in
@@ -24,7 +24,7 @@ returns-clause-err g c =
     let losses = c.losses-losses.result.now in
     let first = c.args.first in
     let line = loss_line c.args.site.now (state_at c.args.course.now.replay) c.args.course.now.line in
-    let text : c.put_losses.new.text.items ≡ flat_map line (losses_of (take (length losses - first) (drop first losses))) =
+    let text : c.append_losses.new.text.items ≡ flat_map line (losses_of (take (length losses - first) (drop first losses))) =
     rw c.new-text.ensures.items at c.in-Ok.ensures in
     let behind : losses_of (take (length losses - first) (drop first losses)) ≡ drop first (state_at c.args.course.now.replay).losses =
     losses_behind losses first ∙ ap (drop first) c.losses-losses.ensures.all in (

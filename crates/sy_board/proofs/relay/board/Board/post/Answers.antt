@@ -116,7 +116,7 @@ returns-then-not-has_room_for_post-clause-err c =
     let before = goal.at.returns-then-not-has_room_for_post-clause-err c in
     rw (← c.self.view_is) (post_full (turn before.In-Some) (queue before.After-discards) (made before.In-Some) (judged before.After-discards ∙ c.if-discards.false)
     (free before.After-holds c.if-holds.false)
-    (λ fits. let told : false ≡ true = sym c.if-not-has_room_for_post.true ∙ c.has_room_for_post.ensures.1 fits in cc))
+    (λ fits. let reported : false ≡ true = sym c.if-not-has_room_for_post.true ∙ c.has_room_for_post.ensures.1 fits in cc))
 
 pub count_post-requires-clause-left : goal.count_post-requires-clause-left
 count_post-requires-clause-left c = left_to_count (turn (goal.at.count_post-requires-clause-left c).In-Some)
