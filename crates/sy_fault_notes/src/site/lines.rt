@@ -342,7 +342,8 @@ pub fn push_duplicate_line(alloc: Global, note: &mut Note, at: FileLine<'_>) {
     };
     let found = earlier(at, word, is_relay);
     if let Some(number) = found {
-        note.why.append(&[Part::Text(b"line "), Part::Number(number)]);
+        note.why
+            .append(&[Part::Text(b"line "), Part::Number(number)]);
     } else {
         note.why.say("an earlier line");
     }

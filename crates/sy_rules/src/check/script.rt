@@ -160,7 +160,11 @@ fn meet_ruleset<'s>(
     }
 }
 
-fn push_action(alloc: Global, actions: &mut Vec<Items<u8>>, name: Items<u8>) -> Result<(), ItemFault>
+fn push_action(
+    alloc: Global,
+    actions: &mut Vec<Items<u8>>,
+    name: Items<u8>,
+) -> Result<(), ItemFault>
     ensures ok { OnOk result (spec.action_faults actions.old.items name ≡ []) }
     ensures new { OnOk result (actions.new.items ≡ actions.old.items ++ name ∷ []) }
     ensures err { IfErr result (λ f. IsFound (spec.action_faults actions.old.items name) f) }
