@@ -90,7 +90,7 @@ fn has_imtcp(items: &[Item<'_>]) -> bool
     false
 }
 
-fn push_name<'s>(names: &mut Names<'s>, next: &Item<'s>) -> Result<(), AllocError>
+fn insert_name<'s>(names: &mut Names<'s>, next: &Item<'s>) -> Result<(), AllocError>
     ensures { OnOk result ((name : List ℕ) → spec.is_among name names.new
         ≡ (spec.is_among name names.old || spec.is_among name (spec.ruleset_names_of (item next.now ∷ [])))) }
 {
@@ -107,7 +107,7 @@ fn ruleset_names<'s>(alloc: Global, items: &[Item<'s>]) -> Result<Names<'s>, All
     let mut names = Names::new(alloc);
     let mut rest = items;
     while let [next, after @ ..] = rest {
-        push_name(&mut names, next)?;
+        insert_name(&mut names, next)?;
         rest = after;
     }
     Ok(names)
