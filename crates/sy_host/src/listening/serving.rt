@@ -19,8 +19,8 @@ use sy_log::printing::Printing;
 use sy_report::texts::parts::{Part, append_parts};
 use sy_report::texts::reason::Reason;
 use sy_runtime::{ConnEnd, Finish, RunFault, Untaken};
-use sy_watched::watch::Watch;
 use sy_unread::skipping::Skipping;
+use sy_watched::watch::Watch;
 use sy_wire::{FrameFault, FromRead, Sink};
 
 /// What the threads of a relay that is served share.
@@ -346,8 +346,13 @@ fn read_all<R: Wait + Clock, C: Connector, E: Sink + Drop>(
         let mut reader = FromRead::new(stream);
         return relay.connect(rt, alloc, at.input, &mut reader, &mut unread);
     };
-    let (mut end, untaken, mut answer) =
-        relay.connect(rt, alloc, at.input, &mut reader, &mut unread);
+    let (mut end, untaken, mut answer) = relay.connect(
+        rt,
+        alloc,
+        at.input,
+        &mut reader,
+        &mut unread,
+    );
     if end.add_unread(coming.long()).is_err() {
         answer = Err(RunFault::TotalsFull);
     }

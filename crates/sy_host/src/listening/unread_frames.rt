@@ -8,8 +8,8 @@ use std::sync::atomic::{AtomicBool, AtomicU64, Ordering};
 use std::time::Clock;
 use sy_log::peers::{NoMessage, Sending};
 use sy_runtime::{NotKept, Unread, UnreadSink};
-use sy_unread::skipping::{self, LongSink};
 use sy_unread::Hint;
+use sy_unread::skipping::{self, LongSink};
 use sy_wire::Sink;
 
 /// A connection, as who keeps what it sends knows it.
@@ -95,7 +95,12 @@ pub struct LongFrames<'a, R, E: Drop> {
 
 impl<R: Wait + Clock, E: Sink + Drop> LongFrames<'_, R, E> {
     // Keeps the first bytes of one, of which this is wrong.
-    fn keep(&self, what: NoMessage, length: Option<u64>, text: &[u8]) -> Result<(), skipping::NotKept> {
+    fn keep(
+        &self,
+        what: NoMessage,
+        length: Option<u64>,
+        text: &[u8],
+    ) -> Result<(), skipping::NotKept> {
         let coming = self.coming;
         let frame = UnreadFrame {
             port: coming.at.port,
