@@ -9,3 +9,4 @@ pub mod Turns
 pub mod Again
 pub mod Messages
 pub mod Repairing
+pub mod Causes

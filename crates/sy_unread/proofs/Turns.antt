@@ -7,7 +7,7 @@ use Rattle.std.proofs.lemmas.List.{append_assoc, append-nil, drop-drop, drop_at,
 use Rattle.std.specs.Fmt.{decimal}
 use Rattle.sy_wire.specs.Characters.{space}
 use Rattle.sy_wire.specs.Streams.{ReadsPiece}
-use Rattle.sy_unread.specs.Skipping.{At, Goes, HandsOn, IsCut, IsLong, IsNumbered, IsUnframed, Kept, KeepsMore, Reads, SetsAside, ends, follows, frame, keeps, long, passes, past_long, rests, skips, strays, unframed}
+use Rattle.sy_unread.specs.Skipping.{At, Goes, HandsOn, IsCut, IsLong, IsNumbered, IsUnframed, Kept, KeepsMore, KeepsStray, Reads, SetsAside, ends, follows, frame, keeps, long, passes, past_long, rests, skips, strays, unframed}
 use Rattle.sy_wire.specs.Frames.{IsSize}
 use Rattle.sy_unread.specs.internal.Fronts.{HasHead}
 use Rattle.sy_unread.specs.declared.skipping.place.Place.{Place}
@@ -24,19 +24,28 @@ keeps_both (Some a) None c x y p q = absurd p
 keeps_both (Some a) (Some b) None x y p q = absurd q
 keeps_both (Some a) (Some b) (Some c) x y p q = q ∙ ap (λ l. l ++ y) p ∙ append_assoc a x y
 
+-- where a frame may begin or is under way
+pub not_stray : (n : ℕ) (place : Place) → place ≡ Within n → place ≡ Unframed → ⊥
+not_stray n place is other = cc
+
+past_frame : (n : ℕ) → past_long n ≡ Unframed → ⊥
+past_frame zero is = cc
+past_frame (suc n) is = cc
+
 -- nothing was set aside, and these bytes came
 pub came_goes : (old new : At) (ahead ahead' : Option (List ℕ)) (kept : Option (List Kept)) (came : List ℕ)
-    → Consumes ahead ahead' came → Goes false old.place (old.held ++ came) [] [] new.place new.held → SetsAside old new ahead ahead' kept kept
-came_goes old new ahead ahead' kept came consumed goes = record { came = came; consumed = consumed; kept = []; keeps = keeps_none kept; goes = goes }
+    → Consumes ahead ahead' came → Goes false old.place (old.held ++ came) [] [] new.place new.held → KeepsStray old new [] → SetsAside old new ahead ahead' kept kept
+came_goes old new ahead ahead' kept came consumed goes stray =
+    record { came = came; consumed = consumed; kept = []; keeps = keeps_none kept; goes = goes; stray = stray }
 
 -- nothing came
 pub none_goes : (old new : At) (ahead ahead' : Option (List ℕ)) (kept : Option (List Kept))
-    → Keeps ahead ahead' → Goes false old.place old.held [] [] new.place new.held → SetsAside old new ahead ahead' kept kept
-none_goes old new ahead ahead' kept same goes =
-    came_goes old new ahead ahead' kept [] (Consumes-kept ahead ahead ahead' [] (Consumes-nil ahead) same) (rw (append-nil old.held) goes)
+    → Keeps ahead ahead' → Goes false old.place old.held [] [] new.place new.held → KeepsStray old new [] → SetsAside old new ahead ahead' kept kept
+none_goes old new ahead ahead' kept same goes stray =
+    came_goes old new ahead ahead' kept [] (Consumes-kept ahead ahead ahead' [] (Consumes-nil ahead) same) (rw (append-nil old.held) goes) stray
 
 pub stays : (old : At) (ahead ahead' : Option (List ℕ)) (kept : Option (List Kept)) → Keeps ahead ahead' → SetsAside old old ahead ahead' kept kept
-stays old ahead ahead' kept same = none_goes old old ahead ahead' kept same rests
+stays old ahead ahead' kept same = none_goes old old ahead ahead' kept same rests (λ place. inl (place, refl, refl))
 
 pub stays_same : (old : At) (ahead : Option (List ℕ)) (before after : Option (List Kept)) → after ≡ before → SetsAside old old ahead ahead before after
 stays_same old ahead before after same = rw same (stays old ahead ahead before (Keeps-refl ahead))
@@ -89,7 +98,7 @@ drops_long old left count ahead kept place fits inside =
     let sized : length (take count old.held) ≡ count = length-take-le count old.held inside in
     let goes : Goes false (WithinLong left) old.held [] [] (past_long (left - count)) (drop count old.held) =
     skips (take count old.held) (drop count old.held) (omega (arith, sized)) (sym (take-append-drop count old.held)) (rw sized rests) in
-    came_goes old _ ahead ahead kept [] (Consumes-nil ahead) (rw (append-nil old.held, place) goes)
+    came_goes old _ ahead ahead kept [] (Consumes-nil ahead) (rw (append-nil old.held, place) goes) (λ is. absurd (past_frame (left - count) is))
 
 -- none goes
 pub skips_none : (old : At) (left : ℕ) (ahead : Option (List ℕ)) (kept : Option (List Kept))
@@ -97,7 +106,7 @@ pub skips_none : (old : At) (left : ℕ) (ahead : Option (List ℕ)) (kept : Opt
 skips_none old left ahead kept place =
     let none : left - 0 ≡ left = omega arith in
     let goes : Goes false (WithinLong left) old.held [] [] (past_long left) old.held = skips [] old.held (omega arith) refl (rw none rests) in
-    came_goes old _ ahead ahead kept [] (Consumes-nil ahead) (rw (append-nil old.held, place) goes)
+    came_goes old _ ahead ahead kept [] (Consumes-nil ahead) (rw (append-nil old.held, place) goes) (λ is. absurd (past_frame left is))
 
 -- bytes of a long frame come, and go
 pub skips_long : (old : At) (left count : ℕ) (buffer : List ℕ) (ahead ahead' : Option (List ℕ)) (kept : Option (List Kept))
@@ -106,7 +115,7 @@ pub skips_long : (old : At) (left count : ℕ) (buffer : List ℕ) (ahead ahead'
 skips_long old left count buffer ahead ahead' kept is fits read =
     let goes : Goes false (WithinLong left) ([] ++ take count buffer) [] [] (past_long (left - count)) [] =
     skips (take count buffer) [] (omega (arith, read.size)) (sym (append-nil (take count buffer))) (rw read.size rests) in
-    came_goes old _ ahead ahead' kept (take count buffer) read.consumed (rw is goes)
+    came_goes old _ ahead ahead' kept (take count buffer) read.consumed (rw is goes) (λ after. absurd (past_frame (left - count) after))
 
 -- bytes that no frame begins with come, and are handed on
 pub reads_unframed : (old : At) (count : ℕ) (buffer : List ℕ) (ahead ahead' : Option (List ℕ))
@@ -159,7 +168,7 @@ sets_long old n from text ahead before after place is head all first kept =
     head.whole ∙ ap (λ x. decimal n ++ space ∷ x) (sym (ap (λ x. x ++ drop (from + 65536) old.held) text_is ∙ ap (λ x. take 65536 head.rest ++ x) later ∙ take-append-drop 65536 head.rest)) in
     let goes : Goes false (Within 0) old.held [] (long n text ∷ []) (past_long (n - 65536)) (drop (from + 65536) old.held) =
     keeps n text (drop (from + 65536) old.held) is text_size whole rests in
-    record { came = []; consumed = Consumes-nil ahead; kept = long n text ∷ []; keeps = kept; goes = rw (append-nil old.held, place) goes }
+    record { came = []; consumed = Consumes-nil ahead; kept = long n text ∷ []; keeps = kept; goes = rw (append-nil old.held, place) goes; stray = λ after. absurd (past_frame (n - 65536) after) }
 
 -- what begins no frame was kept
 pub sets_stray : (old : At) (text : List ℕ) (ahead : Option (List ℕ)) (before after : Option (List Kept))
@@ -167,7 +176,7 @@ pub sets_stray : (old : At) (text : List ℕ) (ahead : Option (List ℕ)) (befor
     → SetsAside old (record { place = Unframed; held = old.held }) ahead ahead before after
 sets_stray old text ahead before after place is first kept =
     let goes : Goes false (Within 0) old.held [] (unframed (take 1024 old.held) ∷ []) Unframed old.held = strays old.held [] is (sym (append-nil old.held)) rests in
-    record { came = []; consumed = Consumes-nil ahead; kept = unframed (take 1024 old.held) ∷ []; keeps = rw (← first) kept; goes = rw (append-nil old.held, place) goes }
+    record { came = []; consumed = Consumes-nil ahead; kept = unframed (take 1024 old.held) ∷ []; keeps = rw (← first) kept; goes = rw (append-nil old.held, place) goes; stray = λ after. inr ([], refl) }
 
 le_or_lt : (a b : ℕ) → (a ≤ b) ⊎ (b < a)
 le_or_lt zero b = inl (omega arith)
@@ -184,6 +193,15 @@ take_least xs k = elim (le_or_lt (length xs) k) [
   | inr lt ↦ let least : min (length xs) k ≡ k = omega (arith, lt) in rw least refl
 ]
 
+both_stray : (a b c : At) (x y : List Kept) → KeepsStray a b x → KeepsStray b c y → KeepsStray a c (x ++ y)
+both_stray a b c x y p q place = elim (q place) [
+  | inl stays ↦ elim (p stays.0) [
+    | inl there ↦ inl (there.0, rw (there.1, stays.1) refl, stays.2 ∙ there.2)
+    | inr before ↦ inr (before.0, ap (λ l. x ++ l) stays.1 ∙ append-nil x ∙ before.1 ∙ ap (λ h. before.0 ++ unframed (take 1024 h) ∷ []) (sym stays.2))
+  ]
+  | inr before ↦ inr (x ++ before.0, ap (λ l. x ++ l) before.1 ∙ sym (append_assoc x before.0 (unframed (take 1024 c.held) ∷ [])))
+]
+
 -- one turn after others that handed nothing on
 pub sets_both : (a b c : At) (ahead ahead' ahead'' : Option (List ℕ)) (before between after : Option (List Kept))
     → SetsAside a b ahead ahead' before between → SetsAside b c ahead' ahead'' between after → SetsAside a c ahead ahead'' before after
@@ -193,6 +211,7 @@ sets_both a b c ahead ahead' ahead'' before between after one other = record {
   kept = one.kept ++ other.kept;
   keeps = keeps_both before between after one.kept other.kept one.keeps other.keeps;
   goes = rw (← append_assoc a.held one.came other.came) (goes_on (goes_before other.came one.goes) other.goes);
+  stray = both_stray a b c one.kept other.kept one.stray other.stray;
 }
 
 pub reads : (a b c : At) (ahead ahead' ahead'' : Option (List ℕ)) (before after after' : Option (List Kept)) (out : List ℕ)

@@ -27,8 +27,14 @@ pub record IsRecord (raw : List ℕ) (found : Found) : Type 0 where
   pub within : found.start ≤ length raw
   pub whole : (about : About) → Says found about → raw ≡ head about (share_text found.share) ++ drop found.start raw
 
--- two records of the parts of one frame
+-- two records of the parts of one frame: of what they say the share alone differs
 pub record AreParts (first second : Found) : Type 0 where
   pub is_first : first.share ≡ First
   pub is_second : second.share ≡ Second
-  pub same : (about : About) → Says first about → Says second about
+  pub relay : first.relay.items ≡ second.relay.items
+  pub input : first.input ≡ second.input
+  pub peer : string_bytes first.peer ≡ string_bytes second.peer
+  pub frame : first.frame ≡ second.frame
+  pub fault : string_bytes first.fault ≡ string_bytes second.fault
+  pub at : first.at ≡ second.at
+  pub length : first.length ≡ second.length

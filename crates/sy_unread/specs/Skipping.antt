@@ -1,9 +1,10 @@
 -- Streams with frames above the limit of a framer: what of them is handed on, and what is kept of the rest (this profile's own).
-use Rattle.std.specs.Prelude.{◌≡◌, ◌≢◌, ◌⊎◌, ℕ, zero, suc, ◌+◌, ◌-◌, ◌<◌, ◌≤◌, Bool, true, false, List, [], ◌∷◌, ◌++◌, Option, None, Some, length, take}
+use Rattle.std.specs.Prelude.{◌≡◌, ◌≢◌, ◌⊎◌, ℕ, zero, suc, ◌+◌, ◌-◌, ◌^◌, ◌<◌, ◌≤◌, Bool, true, false, List, [], ◌∷◌, ◌++◌, Option, None, Some, length, take}
 use Rattle.std.specs.Fmt.{decimal}
 use Rattle.std.specs.Io.KnownBytes.{Consumes, IsAtEnd}
 use Rattle.sy_wire.specs.Characters.{IsDigit, nought, space}
 use Rattle.sy_wire.specs.Frames.{MAX_FRAME, IsSize}
+use Rattle.sy_wire.specs.Streams.{Rose, count_after}
 use Rattle.sy_unread.specs.declared.skipping.place.Place.{Place}
 use Rattle.sy_unread.specs.declared.skipping.place.Place.TheVariants.{Within, WithinLong, Unframed}
 
@@ -38,6 +39,12 @@ abbrev pub KeepsMore : Option (List Kept) → Option (List Kept) → List Kept �
 KeepsMore None after more = Unit {0}
 KeepsMore (Some before) None more = ⊥
 KeepsMore (Some before) (Some after) more = after ≡ before ++ more
+
+-- what keeps these refused once more, where it says how often it did
+abbrev pub Refuses : Option ℕ → Option ℕ → Type 0
+Refuses None after = Unit {0}
+Refuses (Some before) None = ⊥
+Refuses (Some before) (Some after) = Rose before after
 
 -- where so many bytes of a long frame are left
 abbrev pub past_long : ℕ → Place
@@ -93,6 +100,13 @@ pub record At : Type 0 where
   pub place : Place
   pub held : List ℕ
 
+-- Where no frame begins, the first 1,024 of all bytes that are there are what is kept last; unless it stood there before, and nothing came.
+abbrev pub KeepsStray : At → At → List Kept → Type 0
+KeepsStray old new kept =
+    new.place ≡ Unframed
+    → ((old.place ≡ Unframed) × (kept ≡ []) × (new.held ≡ old.held))
+    ⊎ ((before : List Kept) × (kept ≡ before ++ unframed (take 1024 new.held) ∷ []))
+
 -- bytes came, and nothing of them was handed on; what was kept of them
 pub record SetsAside (old new : At) (ahead ahead' : Option (List ℕ)) (before after : Option (List Kept)) : Type 0 where
   pub came : List ℕ
@@ -100,6 +114,7 @@ pub record SetsAside (old new : At) (ahead ahead' : Option (List ℕ)) (before a
   pub kept : List Kept
   pub keeps : KeepsMore before after kept
   pub goes : Goes false old.place (old.held ++ came) [] kept new.place new.held
+  pub stray : KeepsStray old new kept
 
 -- bytes came, and those were handed on; nothing was kept
 pub record HandsOn (old new : At) (ahead ahead' : Option (List ℕ)) (out : List ℕ) : Type 0 where
@@ -115,3 +130,11 @@ pub record Reads (old new : At) (ahead ahead' : Option (List ℕ)) (before after
   pub between_ahead : Option (List ℕ)
   pub first : SetsAside old between ahead between_ahead before after
   pub second : HandsOn between new between_ahead ahead' out
+
+-- So often was the inner source read without a byte to hand on that a read ends: with the bytes that were held, 2^46 times or more.
+abbrev pub IsEndless : At → ℕ → ℕ → Type 0
+IsEndless old calls calls' = (reads : ℕ) × (count_after calls reads ≤ calls') × (2 ^ 46 ≤ length old.held + reads)
+
+-- Why a read fails: a read of the inner source failed, or what had to be kept was refused, or it found no end.
+abbrev pub HasCause : At → ℕ → ℕ → ℕ → ℕ → Option ℕ → Option ℕ → Type 0
+HasCause old faults faults' calls calls' refused refused' = Rose faults faults' ⊎ Refuses refused refused' ⊎ IsEndless old calls calls'

@@ -1,5 +1,5 @@
 //! Records that are read again.
-ghost use Rattle.std.specs.Prelude.{◌≡◌, ◌≤◌, ◌++◌, IfOk, IfSome, IsTrue, drop, length};
+ghost use Rattle.std.specs.Prelude.{◌≡◌, ◌≤◌, ◌++◌, Decides, IfOk, IfSome, IsTrue, drop, length};
 ghost use Rattle.sy_unread.specs.Reading as spec;
 
 use crate::fields::{Fields, read_fields, unescaped};
@@ -113,7 +113,7 @@ pub fn read_record(alloc: Global, raw: &[u8]) -> Result<Option<Found>, AllocErro
 
 /// Whether two records have the two parts of one frame.
 pub fn are_parts(first: &Found, second: &Found) -> bool
-    ensures { IsTrue result → spec.AreParts first.now second.now }
+    ensures { Decides result (spec.AreParts first.now second.now) }
 {
     if first.share != Share::First || second.share != Share::Second {
         return false;

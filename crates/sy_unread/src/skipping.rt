@@ -1,9 +1,9 @@
 //! A source of frames that a framer takes, out of one whose frames may be longer.
 ghost use Rattle.std.specs.Prelude.{◌≡◌, ◌≢◌, ◌≤◌, ◌<◌, ◌+◌, ◌∷◌, [], ℕ, List, None, Option, length, take, IfErr, IfOk, OnErr, OnOk};
 ghost use Rattle.std.specs.Io.KnownBytes.{IsAtEnd, ReadConsumes};
-ghost use Rattle.sy_unread.specs.Skipping.{IsLong, IsUnframed, Kept, KeepsMore, Reads, SetsAside, is_within_long, long, unframed};
+ghost use Rattle.sy_unread.specs.Skipping.{HasCause, IsLong, IsUnframed, Kept, KeepsMore, Reads, Refuses, SetsAside, is_within_long, long, unframed};
 ghost use Rattle.sy_unread.specs.declared.skipping.place.Place.TheVariants.{Within};
-ghost use Rattle.sy_unread.specs.internal.Fronts.{HasHead, TurnIs};
+ghost use Rattle.sy_unread.specs.internal.Fronts.{CauseIs, HasHead, TurnIs};
 ghost use Rattle.sy_wire.specs.Streams.{Rose, count_after};
 
 mod front;
@@ -34,16 +34,22 @@ pub struct NotKept;
 pub trait LongSink {
     // what it has kept, in its order, where that is known
     ghost kept: { Self → Option (List Kept) } = { λ _. None };
+    // how often it refused to keep what it was given, where that is known
+    ghost refused: { Self → Option ℕ } = { λ _. None };
 
     /// Keeps the first 65,536 bytes of a frame of that length, however long that takes; or doesn't, where nothing more is taken.
     fn keep_long(&mut self, length: u64, text: &[u8]) -> Result<(), NotKept>
         ensures ok { OnOk result (KeepsMore (kept self.old) (kept self.new) (long length text.now ∷ [])) }
-        ensures err { OnErr result (kept self.new ≡ kept self.old) };
+        ensures err { OnErr result (kept self.new ≡ kept self.old) }
+        ensures no_refusal { OnOk result (refused self.new ≡ refused self.old) }
+        ensures refusal { OnErr result (Refuses (refused self.old) (refused self.new)) };
 
     /// Keeps bytes that stand where a frame should begin, and begin none; at most 1,024 of them.
     fn keep_unframed(&mut self, text: &[u8]) -> Result<(), NotKept>
         ensures ok { OnOk result (KeepsMore (kept self.old) (kept self.new) (unframed text.now ∷ [])) }
-        ensures err { OnErr result (kept self.new ≡ kept self.old) };
+        ensures err { OnErr result (kept self.new ≡ kept self.old) }
+        ensures no_refusal { OnOk result (refused self.new ≡ refused self.old) }
+        ensures refusal { OnErr result (Refuses (refused self.old) (refused self.new)) };
 }
 
 /// A source of the bytes of another but for the frames that are longer than 65,536 bytes and have at most nine digits: of these the
@@ -103,6 +109,8 @@ impl<S: Source, K: LongSink> Skipping<S, K> {
         requires all { from + 65536 ≤ length self.old.standing.held }
         ensures turn { (ahead : Option (List ℕ)) (buffer : List ℕ) → TurnIs result self.old.standing self.new.standing ahead ahead
             (K.kept self.old.sink) (K.kept self.new.sink) buffer }
+        ensures cause { CauseIs result self.old.standing self.new.standing (S.faults self.old.source) (S.faults self.new.source)
+            (S.calls self.old.source) (S.calls self.new.source) (K.refused self.old.sink) (K.refused self.new.sink) }
         ensures source { self.new.source ≡ self.old.source }
     {
         let text = &self.standing.held()[from..from + MAX_FRAME];
@@ -120,6 +128,8 @@ impl<S: Source, K: LongSink> Skipping<S, K> {
         requires front { IsUnframed self.old.standing.held }
         ensures turn { (ahead : Option (List ℕ)) (buffer : List ℕ) → TurnIs result self.old.standing self.new.standing ahead ahead
             (K.kept self.old.sink) (K.kept self.new.sink) buffer }
+        ensures cause { CauseIs result self.old.standing self.new.standing (S.faults self.old.source) (S.faults self.new.source)
+            (S.calls self.old.source) (S.calls self.new.source) (K.refused self.old.sink) (K.refused self.new.sink) }
         ensures source { self.new.source ≡ self.old.source }
     {
         let held = self.standing.held();
@@ -135,8 +145,10 @@ impl<S: Source, K: LongSink> Skipping<S, K> {
         requires place { self.old.standing.place ≡ Within 0 }
         requires held { self.old.standing.held ≢ [] }
         requires room { 0 < length buffer.old }
-        ensures { TurnIs result self.old.standing self.new.standing (S.remaining self.old.source) (S.remaining self.new.source)
+        ensures turn { TurnIs result self.old.standing self.new.standing (S.remaining self.old.source) (S.remaining self.new.source)
             (K.kept self.old.sink) (K.kept self.new.sink) buffer.new }
+        ensures cause { CauseIs result self.old.standing self.new.standing (S.faults self.old.source) (S.faults self.new.source)
+            (S.calls self.old.source) (S.calls self.new.source) (K.refused self.old.sink) (K.refused self.new.sink) }
     {
         match front_of(self.standing.held()) {
             Front::Frame(size, from) => Turn::Gives(begin_frame(
@@ -162,8 +174,10 @@ impl<S: Source, K: LongSink> Skipping<S, K> {
     fn deal_with_held(&mut self, buffer: &mut [u8]) -> Turn
         requires held { self.old.standing.held ≢ [] }
         requires room { 0 < length buffer.old }
-        ensures { TurnIs result self.old.standing self.new.standing (S.remaining self.old.source) (S.remaining self.new.source)
+        ensures turn { TurnIs result self.old.standing self.new.standing (S.remaining self.old.source) (S.remaining self.new.source)
             (K.kept self.old.sink) (K.kept self.new.sink) buffer.new }
+        ensures cause { CauseIs result self.old.standing self.new.standing (S.faults self.old.source) (S.faults self.new.source)
+            (S.calls self.old.source) (S.calls self.new.source) (K.refused self.old.sink) (K.refused self.new.sink) }
     {
         match self.standing.place() {
             Place::Within(0) => self.deal_with_front(buffer),
@@ -183,8 +197,10 @@ impl<S: Source, K: LongSink> Skipping<S, K> {
     // A turn of a read.
     fn turn(&mut self, buffer: &mut [u8]) -> Turn
         requires room { 0 < length buffer.old }
-        ensures { TurnIs result self.old.standing self.new.standing (S.remaining self.old.source) (S.remaining self.new.source)
+        ensures turn { TurnIs result self.old.standing self.new.standing (S.remaining self.old.source) (S.remaining self.new.source)
             (K.kept self.old.sink) (K.kept self.new.sink) buffer.new }
+        ensures cause { CauseIs result self.old.standing self.new.standing (S.faults self.old.source) (S.faults self.new.source)
+            (S.calls self.old.source) (S.calls self.new.source) (K.refused self.old.sink) (K.refused self.new.sink) }
     {
         if !self.standing.held().is_empty() {
             return self.deal_with_held(buffer);
@@ -201,8 +217,12 @@ impl<S: Source, K: LongSink> Skipping<S, K> {
         ensures end { IfOk result (λ count. count ≡ 0 → IsAtEnd (S.remaining self.new.source) × (self.new.standing.held ≡ [])) }
         ensures err { OnErr result (SetsAside self.old.standing self.new.standing (S.remaining self.old.source) (S.remaining self.new.source)
             (K.kept self.old.sink) (K.kept self.new.sink)) }
+        ensures cause { OnErr result (HasCause self.old.standing (S.faults self.old.source) (S.faults self.new.source)
+            (S.calls self.old.source) (S.calls self.new.source) (K.refused self.old.sink) (K.refused self.new.sink)) }
     {
-        for _ in 0..u64::MAX {
+        let mut turns = 0u64;
+        while turns < u64::MAX {
+            turns += 1;
             match self.turn(buffer) {
                 Turn::Gives(count) => return Ok(count),
                 Turn::GoesOn => {}
@@ -234,6 +254,8 @@ impl<S: Source, K: LongSink> Source for Skipping<S, K> {
             IsAtEnd (S.remaining self.new.source) × (self.new.standing.held ≡ [])) }
         ensures fails { OnErr result (SetsAside self.old.standing self.new.standing (S.remaining self.old.source) (S.remaining self.new.source)
             (K.kept self.old.sink) (K.kept self.new.sink)) }
+        ensures cause { OnErr result (HasCause self.old.standing (S.faults self.old.source) (S.faults self.new.source)
+            (S.calls self.old.source) (S.calls self.new.source) (K.refused self.old.sink) (K.refused self.new.sink)) }
     {
         let calls = self.calls.saturating_add(1);
         let faults = self.faults;

@@ -1,11 +1,13 @@
 -- What bytes begin with, where frames may be long, and what the steps of a read say.
-use Rattle.std.specs.Prelude.{◌≡◌, ◌⊎◌, ℕ, ◌+◌, ◌<◌, ◌≤◌, false, List, [], ◌∷◌, ◌++◌, Option, length, take, drop}
+use Rattle.std.specs.Prelude.{◌≡◌, ◌⊎◌, ℕ, ◌+◌, ◌*◌, ◌<◌, ◌≤◌, false, List, [], ◌∷◌, ◌++◌, Option, length, take, drop}
 use Rattle.std.specs.Fmt.{decimal}
 use Rattle.std.specs.Io.KnownBytes.{IsAtEnd}
 use Rattle.sy_wire.specs.Characters.{space}
 use Rattle.sy_wire.specs.Frames.{IsSize}
-use Rattle.sy_unread.specs.Skipping.{At, Goes, HandsOn, IsLong, IsNumbered, IsUnframed, Kept, SetsAside}
-use Rattle.sy_unread.specs.declared.skipping.place.Place.TheVariants.{Within}
+use Rattle.sy_wire.specs.Streams.{Rose, count_after}
+use Rattle.sy_unread.specs.Skipping.{At, Goes, HandsOn, IsLong, IsNumbered, IsUnframed, Kept, Refuses, SetsAside}
+use Rattle.sy_unread.specs.declared.skipping.place.Place.{Place}
+use Rattle.sy_unread.specs.declared.skipping.place.Place.TheVariants.{Within, WithinLong, Unframed}
 use Rattle.sy_unread.specs.declared.skipping.front.Front.{Front}
 use Rattle.sy_unread.specs.declared.skipping.front.Front.TheVariants as front
 use Rattle.sy_unread.specs.declared.skipping.turn.Turn.{Turn}
@@ -38,3 +40,22 @@ TurnIs turn.GoesOn old new ahead ahead' before after buffer = SetsAside old new 
 TurnIs turn.Fails old new ahead ahead' before after buffer = SetsAside old new ahead ahead' before after
 TurnIs (turn.Gives count) old new ahead ahead' before after buffer =
     (count ≤ length buffer) × HandsOn old new ahead ahead' (take count buffer) × (after ≡ before) × (count ≡ 0 → IsAtEnd ahead' × (new.held ≡ []))
+
+abbrev pub rank : Place → ℕ
+rank Unframed = 0
+rank (Within n) = 1
+rank (WithinLong n) = 2
+
+-- more than the turns that may go on without a read
+abbrev pub turns_left : At → ℕ
+turns_left at = 2 * length at.held + rank at.place
+
+-- a turn that goes on has fewer before it, or read once
+abbrev pub Nears : At → At → ℕ → ℕ → Type 0
+Nears old new calls calls' = ((calls' ≡ calls) × (turns_left new < turns_left old)) ⊎ ((calls' ≡ count_after calls 1) × (turns_left new ≤ 131094))
+
+-- why a turn fails, and that turns that go on come to an end
+abbrev pub CauseIs : Turn → At → At → ℕ → ℕ → ℕ → ℕ → Option ℕ → Option ℕ → Type 0
+CauseIs turn.Fails old new faults faults' calls calls' refused refused' = Rose faults faults' ⊎ Refuses refused refused'
+CauseIs turn.GoesOn old new faults faults' calls calls' refused refused' = (faults ≤ faults') × (refused' ≡ refused) × Nears old new calls calls'
+CauseIs (turn.Gives count) old new faults faults' calls calls' refused refused' = Unit {0}

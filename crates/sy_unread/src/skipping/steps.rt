@@ -2,11 +2,11 @@
 ghost use Rattle.std.specs.Prelude.{◌≡◌, ◌≢◌, ◌+◌, ◌≤◌, ◌<◌, [], List, Option, ℕ, length, take, IfOk, OnErr};
 ghost use Rattle.std.specs.Io.KnownBytes.{Keeps};
 ghost use Rattle.sy_wire.specs.Frames.{IsSize};
-ghost use Rattle.sy_wire.specs.Streams.{ReadsPiece};
+ghost use Rattle.sy_wire.specs.Streams.{ReadsPiece, Rose, count_after};
 ghost use Rattle.sy_unread.specs.Skipping.{IsCut, Kept, SetsAside};
 ghost use Rattle.sy_unread.specs.declared.skipping.place.Place.TheVariants.{Within, WithinLong, Unframed};
 ghost use Rattle.sy_unread.specs.declared.skipping.turn.Turn.TheVariants as turn;
-ghost use Rattle.sy_unread.specs.internal.Fronts.{HasHead, TurnIs};
+ghost use Rattle.sy_unread.specs.internal.Fronts.{CauseIs, HasHead, TurnIs, turns_left};
 
 use super::passing::scan;
 use super::place::{Place, past_long};
@@ -23,6 +23,9 @@ fn read_front<S: Source>(source: &mut S, buffer: &mut [u8], most: usize) -> Resu
     ensures read { IfOk result (λ count. ReadsPiece (S.remaining source.old) (S.remaining source.new)
         (take count buffer.new) count) }
     ensures kept { OnErr result (Keeps (S.remaining source.old) (S.remaining source.new)) }
+    ensures call { S.calls source.new ≡ count_after (S.calls source.old) 1 }
+    ensures faults { S.faults source.old ≤ S.faults source.new }
+    ensures fault { OnErr result (Rose (S.faults source.old) (S.faults source.new)) }
 {
     let most = most.min(buffer.len());
     let (front, _) = buffer.split_at_mut(most);
@@ -38,7 +41,9 @@ pub(crate) fn read_frames<S: Source>(
 ) -> Turn
     requires at { standing.old ≡ record { place = Within within; held = [] } }
     requires room { 0 < length buffer.old }
-    ensures { (kept : Option (List Kept)) → TurnIs result standing.old standing.new (S.remaining source.old) (S.remaining source.new) kept kept buffer.new }
+    ensures turn { (kept : Option (List Kept)) → TurnIs result standing.old standing.new (S.remaining source.old) (S.remaining source.new) kept kept buffer.new }
+    ensures cause { (refused : Option ℕ) → CauseIs result standing.old standing.new (S.faults source.old) (S.faults source.new)
+        (S.calls source.old) (S.calls source.new) refused refused }
 {
     let Ok(count) = read_front(source, buffer, PIECE) else {
         return Turn::Fails;
@@ -65,7 +70,9 @@ pub(crate) fn skip<S: Source>(
 ) -> Turn
     requires at { standing.old ≡ record { place = WithinLong left; held = [] } }
     requires room { 0 < length buffer.old }
-    ensures { (kept : Option (List Kept)) → TurnIs result standing.old standing.new (S.remaining source.old) (S.remaining source.new) kept kept buffer.new }
+    ensures turn { (kept : Option (List Kept)) → TurnIs result standing.old standing.new (S.remaining source.old) (S.remaining source.new) kept kept buffer.new }
+    ensures cause { (refused : Option ℕ) → CauseIs result standing.old standing.new (S.faults source.old) (S.faults source.new)
+        (S.calls source.old) (S.calls source.new) refused refused }
 {
     if left == 0 {
         standing.set_place(past_long(left));
@@ -90,7 +97,9 @@ pub(crate) fn read_unframed<S: Source>(
 ) -> Turn
     requires at { standing.old ≡ record { place = Unframed; held = [] } }
     requires room { 0 < length buffer.old }
-    ensures { (kept : Option (List Kept)) → TurnIs result standing.old standing.new (S.remaining source.old) (S.remaining source.new) kept kept buffer.new }
+    ensures turn { (kept : Option (List Kept)) → TurnIs result standing.old standing.new (S.remaining source.old) (S.remaining source.new) kept kept buffer.new }
+    ensures cause { (refused : Option ℕ) → CauseIs result standing.old standing.new (S.faults source.old) (S.faults source.new)
+        (S.calls source.old) (S.calls source.new) refused refused }
 {
     match read_front(source, buffer, PIECE) {
         Ok(count) => Turn::Gives(count),
@@ -111,7 +120,9 @@ pub(crate) fn read_more<S: Source>(
     requires some { 0 < most }
     requires fits { length standing.old.held + most ≤ 65546 }
     requires room { 0 < length buffer.old }
-    ensures { (kept : Option (List Kept)) → TurnIs result standing.old standing.new (S.remaining source.old) (S.remaining source.new) kept kept buffer.new }
+    ensures turn { (kept : Option (List Kept)) → TurnIs result standing.old standing.new (S.remaining source.old) (S.remaining source.new) kept kept buffer.new }
+    ensures cause { (refused : Option ℕ) → CauseIs result standing.old standing.new (S.faults source.old) (S.faults source.new)
+        (S.calls source.old) (S.calls source.new) refused refused }
 {
     let Ok(count) = read_front(source, buffer, most) else {
         return Turn::Fails;
@@ -150,7 +161,8 @@ pub(crate) fn hand_on_unframed(standing: &mut Standing, buffer: &mut [u8]) -> us
 // Lets go of what is held of a long frame.
 pub(crate) fn drop_long(standing: &mut Standing, left: usize)
     requires { standing.old.place ≡ WithinLong left }
-    ensures { (kept : Option (List Kept)) (ahead : Option (List ℕ)) → SetsAside standing.old standing.new ahead ahead kept kept }
+    ensures aside { (kept : Option (List Kept)) (ahead : Option (List ℕ)) → SetsAside standing.old standing.new ahead ahead kept kept }
+    ensures less { standing.old.held ≢ [] → turns_left standing.new < turns_left standing.old }
 {
     let count = left.min(standing.held().len());
     standing.drop_front(count);
@@ -179,7 +191,9 @@ pub(crate) fn begin_frame(
 pub(crate) fn read_on<S: Source>(standing: &mut Standing, source: &mut S, buffer: &mut [u8]) -> Turn
     requires held { standing.old.held ≡ [] }
     requires room { 0 < length buffer.old }
-    ensures { (kept : Option (List Kept)) → TurnIs result standing.old standing.new (S.remaining source.old) (S.remaining source.new) kept kept buffer.new }
+    ensures turn { (kept : Option (List Kept)) → TurnIs result standing.old standing.new (S.remaining source.old) (S.remaining source.new) kept kept buffer.new }
+    ensures cause { (refused : Option ℕ) → CauseIs result standing.old standing.new (S.faults source.old) (S.faults source.new)
+        (S.calls source.old) (S.calls source.new) refused refused }
 {
     match standing.place() {
         Place::Within(within) => read_frames(standing, source, buffer, within),

@@ -1,13 +1,13 @@
 use Rattle.std.proofs.Common.{◌<◌, ◌∙◌, arith, ap, length, refl, sym}
 use Rattle.sy_unread.specs.Skipping.{At, rests}
-use Rattle.sy_unread.proofs.Turns.{came_goes, hands_cut, not_nil, stays}
+use Rattle.sy_unread.proofs.Turns.{came_goes, hands_cut, not_nil, not_stray, stays}
 use Rattle.sy_unread.proofs.skipping.steps.read_more.Goals as goal
 
-pub returns-in_default : goal.returns-in_default
-returns-in_default g c kept = stays _ _ _ kept c.in_default.ensures.kept
+pub returns-in_default-clause-turn : goal.returns-in_default-clause-turn
+returns-in_default-clause-turn g c kept = stays _ _ _ kept c.in_default.ensures.kept
 
-pub returns-then-count-eq0 : goal.returns-then-count-eq0
-returns-then-count-eq0 g c kept =
+pub returns-then-count-eq0-clause-turn : goal.returns-then-count-eq0-clause-turn
+returns-then-count-eq0-clause-turn g c kept =
     let read = rw c.if-count-eq0.true at c.in-Ok.ensures.read in
     let same_held = ap (λ (a : At). a.held) c.set_place.ensures in
     let same_size = ap length same_held in
@@ -17,5 +17,5 @@ returns-then-count-eq0 g c kept =
     (sym same_held ∙ c.hand_on.ensures.whole) in
     (omega (arith, c.hand_on.ensures.count), handed, refl, λ none. absurd (omega (arith, none, c.hand_on.ensures.count, same_size, c.requires.room, held_some)))
 
-pub returns : goal.returns
-returns g c kept = came_goes _ _ _ _ kept _ c.in-Ok.ensures.read.consumed (rw c.append.ensures rests)
+pub returns-clause-turn : goal.returns-clause-turn
+returns-clause-turn g c kept = came_goes _ _ _ _ kept _ c.in-Ok.ensures.read.consumed (rw c.append.ensures rests) (λ place. absurd (not_stray 0 _ (ap (λ (a : At). a.place) c.append.ensures ∙ c.requires.place) place))
