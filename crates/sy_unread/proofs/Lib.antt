@@ -10,3 +10,4 @@ pub mod Again
 pub mod Messages
 pub mod Repairing
 pub mod Causes
+pub mod Classes

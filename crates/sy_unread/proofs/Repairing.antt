@@ -1,10 +1,12 @@
 -- What is text behind a head is its last bytes, and all bytes are one message's text.
-use Rattle.std.proofs.Common.{◌≡◌, ℕ, ◌+◌, ◌-◌, ◌*◌, ◌/◌, ◌%◌, ◌<◌, ◌≤◌, inl, List, [], ◌∷◌, ◌++◌, length, drop, refl, sym, ap, ◌∙◌, arith, append_assoc, append-nil, length-append}
+use Rattle.std.proofs.Common.{◌≡◌, ℕ, ◌+◌, ◌-◌, ◌*◌, ◌/◌, ◌%◌, ◌<◌, ◌≤◌, inl, inr, List, [], ◌∷◌, ◌++◌, length, drop, refl, sym, ap, ◌∙◌, arith, append_assoc, append-nil, length-append}
+use Rattle.std.proofs.lemmas.Bool.{cases_lt}
 use Rattle.std.proofs.Math.Seq.{drop-append_seam}
 use Rattle.std.specs.Fmt.{decimal}
 use Rattle.std.proofs.lemmas.Fmt.{decimal_is_IsNumeral, length-decimal-le}
 use Rattle.sy_wire.specs.Messages.{IsMessage, IsPriority, IsPri, Said}
 use Rattle.sy_unread.specs.internal.{whole_text}
+use Rattle.sy_unread.specs.declared.repaired.Repair.TheVariants.{Cut, Whole}
 use Rattle.sy_unread.proofs.Grammar.{regroup}
 
 abbrev pub said_of : (n : ℕ) → n < 192 → List ℕ → Said
@@ -68,3 +70,9 @@ last_bytes original front msg is =
     let whole : length original ≡ length front + length msg = ap length is ∙ length-append front msg in
     let place : length original - length msg ≡ length front = omega arith in
     rw place (ap (λ x. drop (length front) x) is ∙ drop-append_seam front msg)
+
+pub too_many : (most length : ℕ) → (length ≤ most → ⊥) → most < length
+too_many most length never = elim (cases_lt most length) [ inl more ↦ more | inr few ↦ absurd (never few) ]
+
+pub cut_is_not_whole : Cut ≡ Whole → ⊥
+cut_is_not_whole is = cc

@@ -1,12 +1,17 @@
 -- What a repair makes of a frame's bytes.
-use Rattle.std.specs.Prelude.{◌≡◌, ℕ, ◌≤◌, ◌<◌, ◌⊎◌, List, [], ◌∷◌, drop, length, map, take, if◌then◌else◌}
+use Rattle.std.specs.Prelude.{◌≡◌, ℕ, ◌≤◌, ◌<◌, ◌+◌, ◌*◌, ◌⊎◌, List, [], ◌∷◌, ◌++◌, drop, length, map, take, if◌then◌else◌}
 use Rattle.sy_wire.specs.Frames.{MAX_FRAME}
-use Rattle.sy_wire.specs.Messages.{IsMessage}
+use Rattle.sy_wire.specs.Messages.{IsMessage, IsPri, Said}
 use Rattle.sy_unread.specs.Hints.{hint_of}
+use Rattle.sy_unread.specs.declared.hint.Hint.{Hint}
 use Rattle.sy_unread.specs.declared.hint.Hint.TheVariants.{Http, Tls}
 use Rattle.sy_unread.specs.Records.{is_print_us_ascii, nil_value}
 use Rattle.sy_unread.specs.declared.repaired.Repaired.{Repaired}
 use Rattle.sy_unread.specs.declared.repaired.Repair.TheVariants.{Whole}
+
+-- the number of the priority that the bytes begin with, where they begin with one
+abbrev pub IsPriorityOf : List ℕ → ℕ → Type 0
+IsPriorityOf bytes number = (text rest : List ℕ) (n : ℕ) → IsPri text n → bytes ≡ text ++ rest → number ≡ n
 
 -- The result is a message that a frame may carry. Its text is the bytes from a place on, and so ends with them: that is
 -- where their head ends, or their first byte where no head was read.
@@ -16,14 +21,23 @@ pub record IsRepair (bytes : List ℕ) (repaired : Repaired) : Type 0 where
   pub within : repaired.head ≤ length bytes
   pub text : repaired.message.msg ≡ drop repaired.head bytes
   pub whole : repaired.how ≡ Whole → repaired.head ≡ 0
+  pub class : IsPriorityOf bytes (8 * repaired.message.class.facility + repaired.message.class.severity)
+
+-- they are no message that a frame may carry
+abbrev pub IsUncut : List ℕ → Type 0
+IsUncut bytes = (said : Said) → IsMessage said → said.raw ≡ bytes → MAX_FRAME < length bytes
 
 -- how many bytes may be made text by a head that says nothing but a priority of three digits: 19 bytes fewer than a frame carries
 abbrev pub MOST_TEXT : ℕ
 MOST_TEXT = 65517
 
--- No repair is made: there are too many bytes, or they begin like what no sender of syslog sends.
+-- they begin like what no sender of syslog sends
+abbrev pub IsForeign : Hint → Type 0
+IsForeign hint = (hint ≡ Tls) ⊎ (hint ≡ Http)
+
+-- No repair is made: they begin so, or they are no message, and are too many to be text.
 abbrev pub IsBeyondRepair : List ℕ → Type 0
-IsBeyondRepair bytes = (MOST_TEXT < length bytes) ⊎ ((hint_of bytes ≡ Tls) ⊎ (hint_of bytes ≡ Http))
+IsBeyondRepair bytes = IsForeign (hint_of bytes) ⊎ ((MOST_TEXT < length bytes) × IsUncut bytes)
 
 -- a byte of a name: `_` where it is none of PRINTUSASCII
 abbrev pub name_byte : ℕ → ℕ

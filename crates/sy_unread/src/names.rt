@@ -26,7 +26,7 @@ fn append_bytes(text: &mut Vec<u8>, name: &[u8]) -> Result<(), AllocError>
 }
 
 // The first bytes, as many as the number says.
-fn front(bytes: &[u8], most: usize) -> &[u8]
+pub(crate) fn front(bytes: &[u8], most: usize) -> &[u8]
     ensures { result.now ≡ take most bytes.now }
 {
     if bytes.len() <= most {

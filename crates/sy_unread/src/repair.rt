@@ -1,12 +1,14 @@
 //! Repairs of frames that carry no message.
-ghost use Rattle.std.specs.Prelude.{◌≡◌, ◌<◌, IfNone, IfOk, IfSome, length};
+ghost use Rattle.std.specs.Prelude.{◌≡◌, ◌<◌, ◌++◌, Decides, IfNone, IfOk, IfSome, codes, length, take};
 ghost use Rattle.sy_unread.specs.Repairs as spec;
+ghost use Rattle.sy_unread.specs.Hints.{hint_of, pri_length};
+ghost use Rattle.sy_unread.specs.declared.repaired.Repair.TheVariants.{Cut};
 ghost use Rattle.sy_unread.specs.internal.{whole_text};
 
-use crate::heads::{Head, from, head_3164, head_5424, pri};
-use crate::hint::Hint;
+use crate::heads::{Head, from, head_3164, head_5424};
+use crate::hint::{Hint, pri_length};
 use crate::judged::checked;
-use crate::names::append_name;
+use crate::names::{append_name, front};
 use crate::parts::{append_escaped, append_number};
 use crate::repaired::{Repair, Repaired};
 use std::alloc::{AllocError, Global};
@@ -84,15 +86,37 @@ fn full(alloc: Global, draft: &Draft<'_>, original: &[u8]) -> Result<Vec<u8>, Al
     Ok(text)
 }
 
+// A message that has the priority at the front, and nothing else, where there is one.
+fn pri_text(alloc: Global, bytes: &[u8]) -> Result<Vec<u8>, AllocError>
+    ensures { IfOk result (λ text. text.items ≡ take (pri_length bytes.now) bytes.now ++ codes "1 - - - - - -") }
+{
+    let mut text = Vec::new(alloc);
+    text.extend_from_slice(front(bytes, pri_length(bytes)))?;
+    text.extend_from_slice(b"1 - - - - - -")?;
+    Ok(text)
+}
+
+// The number of a priority that is read at the front, else 13 (RFC 3164, section 4.3.3).
+fn pri_number(alloc: Global, bytes: &[u8]) -> Result<u8, AllocError>
+    ensures low { IfOk result (λ n. n < 192) }
+    ensures class { IfOk result (λ n. spec.IsPriorityOf bytes.now n) }
+{
+    match Message::read(pri_text(alloc, bytes)?) {
+        Ok(message) => Ok(message.class().number()),
+        Err(_) => Ok(13),
+    }
+}
+
 // The message of a draft: with the original of its head where a frame has room for it.
 fn drafted(alloc: Global, draft: &Draft<'_>, bytes: &[u8]) -> Result<Option<Repaired>, AllocError>
     ensures { IfOk result (λ made. IfSome made (λ repaired. spec.IsRepair bytes.now repaired)) }
 {
-    let Some(made) = checked(draft.how, plain(alloc, draft)?, bytes) else {
+    let class = pri_number(alloc, bytes)?;
+    let Some(made) = checked(draft.how, class, plain(alloc, draft)?, bytes) else {
         return Ok(None);
     };
     let original = &bytes[..made.head.min(bytes.len())];
-    match checked(draft.how, full(alloc, draft, original)?, bytes) {
+    match checked(draft.how, class, full(alloc, draft, original)?, bytes) {
         Some(more) => Ok(Some(more)),
         None => Ok(Some(made)),
     }
@@ -100,11 +124,14 @@ fn drafted(alloc: Global, draft: &Draft<'_>, bytes: &[u8]) -> Result<Option<Repa
 
 /// The bytes themselves, where they are a message: of a longer frame they are what is kept.
 pub fn cut(alloc: Global, bytes: &[u8]) -> Result<Option<Repaired>, AllocError>
-    ensures { IfOk result (λ made. IfSome made (λ repaired. spec.IsRepair bytes.now repaired)) }
+    ensures some { IfOk result (λ made. IfSome made (λ repaired. spec.IsRepair bytes.now repaired)) }
+    ensures same { IfOk result (λ made. IfSome made (λ repaired. (repaired.how ≡ Cut) × (repaired.message.raw ≡ bytes.now))) }
+    ensures none { IfOk result (λ made. IfNone made (spec.IsUncut bytes.now)) }
 {
+    let class = pri_number(alloc, bytes)?;
     let mut text = Vec::new(alloc);
     text.extend_from_slice(bytes)?;
-    Ok(checked(Repair::Cut, text, bytes))
+    Ok(checked(Repair::Cut, class, text, bytes))
 }
 
 /// A head of RFC 5424 with names that fit their fields, and NILVALUE for a TIMESTAMP that is none. Where what is after
@@ -161,22 +188,6 @@ pub fn rfc_3164(alloc: Global, bytes: &[u8]) -> Result<Option<Repaired>, AllocEr
     drafted(alloc, &anew, bytes)
 }
 
-// The number of a priority that is read at the front, else 13 (RFC 3164, section 4.3.3).
-fn pri_number(alloc: Global, bytes: &[u8]) -> Result<u8, AllocError>
-    ensures { IfOk result (λ n. n < 192) }
-{
-    let Some(pri) = pri(bytes) else {
-        return Ok(13);
-    };
-    let mut text = Vec::new(alloc);
-    text.extend_from_slice(pri)?;
-    text.extend_from_slice(b"1 - - - - - -")?;
-    match Message::read(text) {
-        Ok(message) => Ok(message.class().number()),
-        Err(_) => Ok(13),
-    }
-}
-
 // All of the bytes as text behind a priority.
 fn whole_text(alloc: Global, number: u8, bytes: &[u8]) -> Result<Vec<u8>, AllocError>
     ensures { IfOk result (λ text. text.items ≡ whole_text number bytes.now) }
@@ -197,7 +208,17 @@ pub fn whole(alloc: Global, bytes: &[u8]) -> Result<Option<Repaired>, AllocError
 {
     let number = pri_number(alloc, bytes)?;
     let text = whole_text(alloc, number, bytes)?;
-    Ok(checked(Repair::Whole, text, bytes))
+    Ok(checked(Repair::Whole, number, text, bytes))
+}
+
+// Whether no sender of syslog begins so.
+fn is_foreign(hint: Hint) -> bool
+    ensures { Decides result (spec.IsForeign hint) }
+{
+    match hint {
+        Hint::Tls | Hint::Http => true,
+        _ => false,
+    }
 }
 
 /// The first of these repairs that makes a message, and none for what begins like TLS or HTTP, and for more than 65,517
@@ -205,10 +226,10 @@ pub fn whole(alloc: Global, bytes: &[u8]) -> Result<Option<Repaired>, AllocError
 pub fn repair(alloc: Global, bytes: &[u8]) -> Result<Option<Repaired>, AllocError>
     ensures none { IfOk result (λ made. IfNone made (spec.IsBeyondRepair bytes.now)) }
     ensures some { IfOk result (λ made. IfSome made (λ repaired. spec.IsRepair bytes.now repaired)) }
+    ensures hint { IfOk result (λ made. IfSome made (λ repaired. spec.IsForeign (hint_of bytes.now) → ⊥)) }
 {
-    match Hint::of(bytes) {
-        Hint::Tls | Hint::Http => return Ok(None),
-        _ => {}
+    if is_foreign(Hint::of(bytes)) {
+        return Ok(None);
     }
     match cut(alloc, bytes)? {
         Some(made) => return Ok(Some(made)),
