@@ -11,3 +11,4 @@ pub mod Messages
 pub mod Repairing
 pub mod Causes
 pub mod Classes
+pub mod HeadTexts

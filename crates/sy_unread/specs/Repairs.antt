@@ -1,5 +1,6 @@
 -- What a repair makes of a frame's bytes.
-use Rattle.std.specs.Prelude.{◌≡◌, ℕ, ◌≤◌, ◌<◌, ◌+◌, ◌*◌, ◌⊎◌, List, [], ◌∷◌, ◌++◌, drop, length, map, take, if◌then◌else◌}
+use Rattle.std.specs.Prelude.{◌≡◌, ℕ, ◌≤◌, ◌<◌, ◌+◌, ◌*◌, ◌⊎◌, List, [], ◌∷◌, ◌++◌, codes, drop, length, map, take, if◌then◌else◌}
+use Rattle.std.specs.List.{concat}
 use Rattle.sy_wire.specs.Frames.{MAX_FRAME}
 use Rattle.sy_wire.specs.Messages.{IsMessage, IsPri, Said}
 use Rattle.sy_unread.specs.Hints.{hint_of}
@@ -47,3 +48,40 @@ name_byte b = if is_print_us_ascii b then b else 95
 abbrev pub name_of : ℕ → List ℕ → List ℕ
 name_of most [] = nil_value
 name_of most (b ∷ name) = map name_byte (take most (b ∷ name))
+
+-- the fields of a head, as bytes
+pub record HeadFields : Type 0 where
+  pub pri : List ℕ
+  pub timestamp : List ℕ
+  pub hostname : List ℕ
+  pub app_name : List ℕ
+  pub procid : List ℕ
+  pub msgid : List ℕ
+
+-- a head of RFC 5424, whatever its fields, with the space after it
+abbrev pub head_text : HeadFields → List ℕ
+head_text head =
+    concat (head.pri ∷ codes "1 " ∷ head.timestamp ∷ codes " " ∷ head.hostname ∷ codes " " ∷ head.app_name ∷ codes " "
+    ∷ head.procid ∷ codes " " ∷ head.msgid ∷ codes " " ∷ [])
+
+-- names that fit their fields
+abbrev pub fitted : HeadFields → HeadFields
+fitted head = record {
+  pri = head.pri;
+  timestamp = head.timestamp;
+  hostname = name_of 255 head.hostname;
+  app_name = name_of 48 head.app_name;
+  procid = name_of 128 head.procid;
+  msgid = name_of 32 head.msgid;
+}
+
+abbrev pub BeginsWith : List ℕ → List ℕ → Type 0
+BeginsWith front bytes = (rest : List ℕ) × (bytes ≡ front ++ rest)
+
+-- The bytes begin with a head, and the message with the same, whose names fit their fields; NILVALUE may stand for its TIMESTAMP.
+pub record IsHeadAnew (bytes raw : List ℕ) : Type 0 where
+  pub head : HeadFields
+  pub came : BeginsWith (head_text head) bytes
+  pub timestamp : List ℕ
+  pub same_time : (timestamp ≡ head.timestamp) ⊎ (timestamp ≡ nil_value)
+  pub anew : BeginsWith (head_text (fitted (record head { timestamp = timestamp }))) raw

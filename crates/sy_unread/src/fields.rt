@@ -1,4 +1,5 @@
 //! The fields of a record, as they stand in it.
+ghost use Rattle.std.specs.Prelude.{◌≡◌, ◌++◌, ◌∷◌, IfSome};
 
 use crate::reading::Share;
 use std::alloc::{AllocError, Global};
@@ -17,7 +18,9 @@ pub(crate) struct Fields<'a> {
 }
 
 // The bytes before the first space, and those after it.
-pub(crate) fn word(bytes: &[u8]) -> Option<(&[u8], &[u8])> {
+pub(crate) fn word(bytes: &[u8]) -> Option<(&[u8], &[u8])>
+    ensures { IfSome result (λ r. bytes.now ≡ r.0.now ++ 32 ∷ r.1.now) }
+{
     for (i, byte) in bytes.iter().enumerate() {
         if *byte == b' ' {
             return Some((&bytes[..i], &bytes[i + 1..]));

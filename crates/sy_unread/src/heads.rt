@@ -1,5 +1,7 @@
 //! The heads of frames that carry no message, as far as they can be read.
-ghost use Rattle.std.specs.Prelude.{◌≡◌, drop};
+ghost use Rattle.std.specs.Prelude.{◌≡◌, ◌++◌, IfSome, codes, drop, length};
+ghost use Rattle.sy_unread.specs.Repairs as spec;
+ghost use Rattle.sy_unread.specs.internal.{fields_of};
 
 use crate::fields::{number, word};
 use crate::hint::{byte_at, is_digit, pri_length};
@@ -22,7 +24,9 @@ pub(crate) struct Head<'a> {
 const NOTHING: &[u8] = b"-";
 
 /// The priority at the front, if it is one: its value is below 192.
-pub(crate) fn pri(bytes: &[u8]) -> Option<&[u8]> {
+pub(crate) fn pri(bytes: &[u8]) -> Option<&[u8]>
+    ensures { IfSome result (λ pri. bytes.now ≡ pri.now ++ drop (length pri.now) bytes.now) }
+{
     let length = pri_length(bytes);
     if length < 3 || length > bytes.len() {
         return None;
@@ -40,15 +44,39 @@ pub(crate) fn from(bytes: &[u8], at: usize) -> &[u8]
     if at <= bytes.len() { &bytes[at..] } else { &[] }
 }
 
+// What is after a version 1 and a space.
+fn version(bytes: &[u8]) -> Option<&[u8]>
+    ensures { IfSome result (λ rest. bytes.now ≡ codes "1 " ++ rest.now) }
+{
+    bytes.strip_prefix(b"1 ")
+}
+
 /// A head whose version is 1: six fields, each with a space after it.
-pub(crate) fn head_5424(bytes: &[u8]) -> Option<Head<'_>> {
-    let pri = pri(bytes)?;
-    let rest = from(bytes, pri.len()).strip_prefix(b"1 ")?;
-    let (timestamp, rest) = word(rest)?;
-    let (hostname, rest) = word(rest)?;
-    let (app_name, rest) = word(rest)?;
-    let (procid, rest) = word(rest)?;
-    let (msgid, rest) = word(rest)?;
+pub(crate) fn head_5424(bytes: &[u8]) -> Option<Head<'_>>
+    ensures { IfSome result (λ head. spec.BeginsWith (spec.head_text (fields_of head)) bytes.now) }
+{
+    let Some(pri) = pri(bytes) else {
+        return None;
+    };
+    let Some(rest) = version(from(bytes, pri.len())) else {
+        return None;
+    };
+    let Some((timestamp, rest)) = word(rest) else {
+        return None;
+    };
+    let Some((hostname, rest)) = word(rest) else {
+        return None;
+    };
+    let Some((app_name, rest)) = word(rest) else {
+        return None;
+    };
+    let Some((procid, rest)) = word(rest) else {
+        return None;
+    };
+    let Some((msgid, rest)) = word(rest) else {
+        return None;
+    };
+    let end = bytes.len() - rest.len().min(bytes.len());
     Some(Head {
         pri,
         timestamp,
@@ -56,7 +84,7 @@ pub(crate) fn head_5424(bytes: &[u8]) -> Option<Head<'_>> {
         app_name,
         procid,
         msgid,
-        end: bytes.len() - rest.len().min(bytes.len()),
+        end,
     })
 }
 

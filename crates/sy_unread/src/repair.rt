@@ -1,9 +1,9 @@
 //! Repairs of frames that carry no message.
-ghost use Rattle.std.specs.Prelude.{◌≡◌, ◌<◌, ◌++◌, Decides, IfNone, IfOk, IfSome, codes, length, take};
+ghost use Rattle.std.specs.Prelude.{◌≡◌, ◌<◌, ◌++◌, Decides, IfNone, IfOk, IfSome, OnOk, codes, length, take};
 ghost use Rattle.sy_unread.specs.Repairs as spec;
 ghost use Rattle.sy_unread.specs.Hints.{hint_of, pri_length};
 ghost use Rattle.sy_unread.specs.declared.repaired.Repair.TheVariants.{Cut};
-ghost use Rattle.sy_unread.specs.internal.{whole_text};
+ghost use Rattle.sy_unread.specs.internal.{IsTimed, fields_of, whole_text};
 
 use crate::heads::{Head, from, head_3164, head_5424};
 use crate::hint::{Hint, pri_length};
@@ -37,13 +37,17 @@ fn is_timestamp(alloc: Global, field: &[u8]) -> Result<bool, AllocError> {
 }
 
 // Appends a name and the space after it.
-fn append_field(text: &mut Vec<u8>, name: &[u8], most: usize) -> Result<(), AllocError> {
+fn append_field(text: &mut Vec<u8>, name: &[u8], most: usize) -> Result<(), AllocError>
+    ensures { OnOk result (text.new.items ≡ (text.old.items ++ spec.name_of most name.now) ++ codes " ") }
+{
     append_name(text, name, most)?;
     text.extend_from_slice(b" ")
 }
 
 // Appends a head, each field cut to its length.
-fn append_head(text: &mut Vec<u8>, head: &Head<'_>) -> Result<(), AllocError> {
+fn append_head(text: &mut Vec<u8>, head: &Head<'_>) -> Result<(), AllocError>
+    ensures { OnOk result (text.new.items ≡ text.old.items ++ spec.head_text (spec.fitted (fields_of head.now))) }
+{
     text.extend_from_slice(head.pri)?;
     text.extend_from_slice(b"1 ")?;
     text.extend_from_slice(head.timestamp)?;
@@ -51,7 +55,8 @@ fn append_head(text: &mut Vec<u8>, head: &Head<'_>) -> Result<(), AllocError> {
     append_field(text, head.hostname, 255)?;
     append_field(text, head.app_name, 48)?;
     append_field(text, head.procid, 128)?;
-    append_field(text, head.msgid, 32)
+    append_field(text, head.msgid, 32)?;
+    Ok(())
 }
 
 // Appends an element that has the original.
@@ -61,28 +66,49 @@ fn append_original(text: &mut Vec<u8>, original: &[u8]) -> Result<(), AllocError
     text.extend_from_slice(b"\"]")
 }
 
-// A draft without the original of its head.
-fn plain(alloc: Global, draft: &Draft<'_>) -> Result<Vec<u8>, AllocError> {
+// A head that is written anew.
+fn headed(alloc: Global, head: &Head<'_>) -> Result<Vec<u8>, AllocError>
+    ensures { IfOk result (λ text. text.items ≡ spec.head_text (spec.fitted (fields_of head.now))) }
+{
     let mut text = Vec::new(alloc);
-    append_head(&mut text, &draft.head)?;
-    if draft.is_text {
-        text.extend_from_slice(b"- ")?;
-    }
+    append_head(&mut text, head)?;
+    Ok(text)
+}
+
+// What is between the head of a draft and its rest.
+fn between(draft: &Draft<'_>) -> &'static [u8] {
+    if draft.is_text { b"- " } else { b"" }
+}
+
+// A draft without the original of its head.
+fn plain(alloc: Global, draft: &Draft<'_>) -> Result<Vec<u8>, AllocError>
+    ensures { IfOk result (λ text. spec.BeginsWith (spec.head_text (spec.fitted (fields_of draft.now.head))) text.items) }
+{
+    let mut text = headed(alloc, &draft.head)?;
+    text.extend_from_slice(between(draft))?;
     text.extend_from_slice(draft.rest)?;
     Ok(text)
 }
 
-// A draft with the original of its head.
-fn full(alloc: Global, draft: &Draft<'_>, original: &[u8]) -> Result<Vec<u8>, AllocError> {
-    let mut text = Vec::new(alloc);
-    append_head(&mut text, &draft.head)?;
-    append_original(&mut text, original)?;
+// What is after the original of the head of a draft.
+fn behind<'a>(draft: &Draft<'a>) -> &'a [u8] {
     if draft.is_text {
-        text.extend_from_slice(b" ")?;
-        text.extend_from_slice(draft.rest)?;
-        return Ok(text);
+        draft.rest
+    } else {
+        draft.rest.strip_prefix(b"-").unwrap_or(draft.rest)
     }
-    text.extend_from_slice(draft.rest.strip_prefix(b"-").unwrap_or(draft.rest))?;
+}
+
+// A draft with the original of its head.
+fn full(alloc: Global, draft: &Draft<'_>, original: &[u8]) -> Result<Vec<u8>, AllocError>
+    ensures { IfOk result (λ text. spec.BeginsWith (spec.head_text (spec.fitted (fields_of draft.now.head))) text.items) }
+{
+    let mut text = headed(alloc, &draft.head)?;
+    let mut after = Vec::new(alloc);
+    append_original(&mut after, original)?;
+    text.extend_from_slice(&after)?;
+    text.extend_from_slice(if draft.is_text { b" " } else { b"" })?;
+    text.extend_from_slice(behind(draft))?;
     Ok(text)
 }
 
@@ -109,7 +135,8 @@ fn pri_number(alloc: Global, bytes: &[u8]) -> Result<u8, AllocError>
 
 // The message of a draft: with the original of its head where a frame has room for it.
 fn drafted(alloc: Global, draft: &Draft<'_>, bytes: &[u8]) -> Result<Option<Repaired>, AllocError>
-    ensures { IfOk result (λ made. IfSome made (λ repaired. spec.IsRepair bytes.now repaired)) }
+    ensures repair { IfOk result (λ made. IfSome made (λ repaired. spec.IsRepair bytes.now repaired)) }
+    ensures head { IfOk result (λ made. IfSome made (λ repaired. spec.BeginsWith (spec.head_text (spec.fitted (fields_of draft.now.head))) repaired.message.raw)) }
 {
     let class = pri_number(alloc, bytes)?;
     let Some(made) = checked(draft.how, class, plain(alloc, draft)?, bytes) else {
@@ -134,19 +161,32 @@ pub fn cut(alloc: Global, bytes: &[u8]) -> Result<Option<Repaired>, AllocError>
     Ok(checked(Repair::Cut, class, text, bytes))
 }
 
+// The head with NILVALUE for a TIMESTAMP that is none, and what is changed then.
+fn with_time<'a>(alloc: Global, head: Head<'a>) -> Result<(Repair, Head<'a>), AllocError>
+    ensures { IfOk result (λ r. IsTimed (fields_of head.entry) (fields_of r.1)) }
+{
+    if is_timestamp(alloc, head.timestamp)? {
+        return Ok((Repair::Names, head));
+    }
+    Ok((
+        Repair::Timestamp,
+        Head {
+            timestamp: b"-",
+            ..head
+        },
+    ))
+}
+
 /// A head of RFC 5424 with names that fit their fields, and NILVALUE for a TIMESTAMP that is none. Where what is after
 /// it is no structured data it becomes text.
 pub fn fields(alloc: Global, bytes: &[u8]) -> Result<Option<Repaired>, AllocError>
-    ensures { IfOk result (λ made. IfSome made (λ repaired. spec.IsRepair bytes.now repaired)) }
+    ensures repair { IfOk result (λ made. IfSome made (λ repaired. spec.IsRepair bytes.now repaired)) }
+    ensures head { IfOk result (λ made. IfSome made (λ repaired. spec.IsHeadAnew bytes.now repaired.message.raw)) }
 {
-    let Some(mut head) = head_5424(bytes) else {
+    let Some(came) = head_5424(bytes) else {
         return Ok(None);
     };
-    let mut how = Repair::Names;
-    if !is_timestamp(alloc, head.timestamp)? {
-        how = Repair::Timestamp;
-        head.timestamp = b"-";
-    }
+    let (how, head) = with_time(alloc, came)?;
     let rest = from(bytes, head.end);
     let draft = Draft {
         how,
@@ -155,16 +195,18 @@ pub fn fields(alloc: Global, bytes: &[u8]) -> Result<Option<Repaired>, AllocErro
         rest,
     };
     match drafted(alloc, &draft, bytes)? {
+        Some(made) => return Ok(Some(made)),
+        None => {}
+    }
+    let as_text = Draft {
+        how: Repair::Data,
+        head,
+        is_text: true,
+        rest,
+    };
+    match drafted(alloc, &as_text, bytes)? {
         Some(made) => Ok(Some(made)),
-        None => {
-            let as_text = Draft {
-                how: Repair::Data,
-                head,
-                is_text: true,
-                rest,
-            };
-            drafted(alloc, &as_text, bytes)
-        }
+        None => Ok(None),
     }
 }
 
