@@ -1,0 +1,50 @@
+//! Whether a file keeps what comes in at each whole entry of a relay and carries no message.
+ghost use Rattle.std.specs.Prelude.{◌≡◌, ◌<◌, length, option_map};
+ghost use Rattle.sy_report.specs.Reports.{Reported, seen};
+ghost use Rattle.sy_host.specs.WholeEntries as spec;
+
+use itoa::Buffer;
+use sy_log::unread_names::unread_file;
+use sy_report::outcome::report::report_texts;
+use sy_rules::laws::plans_are_whole;
+use sy_site::{Site, SiteInput};
+use sy_wire::Sink;
+
+/// The first input of a relay that is a whole entry, and whose frames without a message no file keeps: it names none, and none is given for all.
+pub fn first_unkept(site: &Site, relay: u32, given: Option<&[u8]>) -> Option<u32>
+    requires exists { relay < length site.now.relays }
+    ensures { spec.IsFirstUnkept site.now relay (option_map (λ name. name.now) given) result }
+{
+    let plan = site.plan(relay);
+    plans_are_whole(plan);
+    let mut number: u32 = 0;
+    for input in plan.inputs() {
+        let at = SiteInput {
+            relay,
+            input: number,
+        };
+        if site.is_whole(at) && unread_file(input, given).is_none() {
+            return Some(number);
+        }
+        number += 1;
+    }
+    None
+}
+
+/// Tells that nothing keeps the frames without a message of the input of this port, which is a whole entry.
+pub fn report_unkept<E: Sink>(errors: &mut E, port: u16)
+    ensures { Reported
+        (seen E.contents E.is_flushed E.faults errors.old) (seen E.contents E.is_flushed E.faults errors.new)
+        (spec.unkept_line port) }
+{
+    let mut digits = Buffer::new();
+    report_texts(
+        errors,
+        &[
+            b"syc: input ",
+            digits.format(u64::from(port)).as_bytes(),
+            b" is a whole entry of the site, and nothing keeps its frames without a message: give --unread FILE, or unreadFile= on the input",
+            b"\n",
+        ],
+    );
+}
