@@ -45,7 +45,7 @@ static int flush_lines(void) {
 }
 
 /* Adds one line to those that wait. */
-static int put_line(const unsigned char *message, size_t length) {
+static int append_line(const unsigned char *message, size_t length) {
     if (length + 1 > BLOCK - lines_length && flush_lines())
         return -1;
     if (length + 1 > BLOCK)
@@ -111,7 +111,7 @@ static inline int pass_lines(struct fault (*check)(const unsigned char *message,
             struct fault fault = check(message, length);
             if (fault.code)
                 return end_with_message_fault(fault, frame);
-            if (put_line(message, length))
+            if (append_line(message, length))
                 return end_with(4, "write failed");
             at += head + length;
             continue;

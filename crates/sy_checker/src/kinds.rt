@@ -15,8 +15,8 @@ ghost use Rattle.sy_checker.specs.internal.Flows.{AreSiteFlows, is_used};
 ghost use Rattle.sy_checker.specs.internal.Hops.{AreFlows};
 
 pub mod groups;
-pub mod search;
 pub mod reported;
+pub mod search;
 
 use crate::flows::executed::Executed;
 use crate::flows::hops::{lists_at, occurrence_at};

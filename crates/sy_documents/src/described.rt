@@ -10,7 +10,7 @@ use sy_places::site_file::texts::SiteTexts;
 use sy_places::ways::followed_lists::circle;
 use sy_places::ways::relay_parts::{name_of_list, spot_at};
 use sy_report::texts::note::{Note, Place};
-use sy_report::texts::parts::{Part, action_name, port_of, append_parts, relay_name};
+use sy_report::texts::parts::{Part, action_name, append_parts, port_of, relay_name};
 use sy_script::Items;
 use sy_site::finding::{Finding, Kind, WayRow};
 use sy_site::{Site, SiteAction, SiteInput};

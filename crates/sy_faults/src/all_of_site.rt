@@ -137,8 +137,7 @@ fn push_fault(
     fault: SiteFault,
 ) -> Result<(), AllocError> {
     let note = note_of(alloc, hunt, judged, &fault)?;
-    hunt.found
-        .push(ReportedFault::new(0, line as u64, Halt::Site(fault), note))?;
+    hunt.found.push(ReportedFault::new(0, line as u64, Halt::Site(fault), note))?;
     Ok(())
 }
 

@@ -64,7 +64,12 @@ fn words_of(alloc: Global, note: &Note) -> Result<Vec<u8>, AllocError> {
 }
 
 // Whether a fault has this line, and this note where one is given.
-fn is_same(alloc: Global, fault: &ReportedFault, line: &[u8], note: &[u8]) -> Result<bool, AllocError> {
+fn is_same(
+    alloc: Global,
+    fault: &ReportedFault,
+    line: &[u8],
+    note: &[u8],
+) -> Result<bool, AllocError> {
     let reported = line_of(alloc, &fault.halt)?;
     let words = words_of(alloc, &fault.note)?;
     Ok(reported.text() == line && (note.is_empty() || words.as_slice() == note))

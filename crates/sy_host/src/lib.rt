@@ -4,7 +4,7 @@
 pub mod devices;
 pub mod ending;
 pub mod listening;
+pub mod reporting;
 pub mod rotation;
 pub mod serve;
-pub mod reporting;
 pub mod watching;

@@ -4,9 +4,9 @@ pub mod port_lines;
 pub mod printing_thread;
 
 use crate::listening::serving::Serving;
-use crate::rotation::troubles::earlier;
 use crate::reporting::port_lines::{PortPace, print_due, print_left};
 use crate::reporting::printing_thread::wait_for_printing;
+use crate::rotation::troubles::earlier;
 use crate::watching::noted::date;
 use std::alloc::{AllocError, Global};
 use std::sync::{Arc, Wait};
@@ -145,7 +145,14 @@ fn finish<R: Wait, E: Sink + Drop>(rt: &R, alloc: Global, reporter: &mut Reporte
     let mut number: usize = 0;
     for paced in reporter.reported.iter_mut() {
         print_left(rt, alloc, &reporter.serving, number);
-        finish_one(rt, alloc, &reporter.serving, number, &mut paced.reported, now);
+        finish_one(
+            rt,
+            alloc,
+            &reporter.serving,
+            number,
+            &mut paced.reported,
+            now,
+        );
         number = number.wrapping_add(1);
     }
 }
@@ -165,7 +172,11 @@ pub fn millis<R: Clock>(rt: &R, start: &Option<Instant>) -> u64 {
 }
 
 // Tells what happens until the relay ends.
-fn report_all<R: Wait + Clock + Drop, E: Sink + Drop>(rt: R, alloc: Global, mut reporter: Reporter<E>) {
+fn report_all<R: Wait + Clock + Drop, E: Sink + Drop>(
+    rt: R,
+    alloc: Global,
+    mut reporter: Reporter<E>,
+) {
     let start = Instant::now(&rt).ok();
     for _ in rt.forever() {
         let now = millis(&rt, &start);

@@ -21,7 +21,7 @@ without_zero word none = by (nat_le (length word) 1) refl (get_or word 0 0 == 48
     by false short true first = absurd (none (eqb-true (get_or word 0 0) 48 first) (leb-false (length word) 1 short))
 
 short_or_none : (word : List ℕ) → no_zero_before word ≡ true → get_or word 0 0 ≡ 48 → length word ≤ 1
-short_or_none word e zero = by (nat_le (length word) 1) refl (rw (zero) e)
+short_or_none word e zero = by (nat_le (length word) 1) refl (subst (λ d. (nat_le (length word) 1 || not (d == 48)) ≡ true) zero e)
   where
     by : (a : Bool) → nat_le (length word) 1 ≡ a → (a || not (48 == 48)) ≡ true → length word ≤ 1
     by true short e = leb-true (length word) 1 short

@@ -2,9 +2,9 @@
 
 pub mod gathering;
 pub mod halt;
+pub mod inserting;
 pub mod keeping;
 pub mod makings;
-pub mod inserting;
 pub mod reading;
 pub mod taking;
 pub mod turns;

@@ -7,7 +7,7 @@ pub mod file;
 pub mod look;
 pub mod metrics;
 mod numbers;
-mod text;
 pub mod reported;
+mod text;
 pub mod watch;
 pub mod watched;

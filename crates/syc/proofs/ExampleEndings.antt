@@ -16,7 +16,7 @@ use Rattle.sy_report.specs.Outcomes.{Prints}
 use Rattle.syc.specs.Replays.{Ending, MayRise, PiecesMayFail, ReplayIs, Replays, lines_of, opened}
 use Rattle.sy_report.specs.Reports.{SinkState, Streams, HasReported}
 use Rattle.syc.specs.Replays as replays
-use Rattle.syc.specs.SiteFiles.{AreReported, HasNoAnswer}
+use Rattle.syc.specs.SiteFiles.{HasNoAnswer, HaveBytes}
 use Rattle.sy_places.specs.SiteFiles.{AreGiven, IsSiteOf}
 use Rattle.syc.specs.Verdicts.{VerifyIs}
 use Rattle.sy_report.specs.declared.command_line.command.Asked.TheVariants as asked
@@ -160,13 +160,13 @@ no_bytes : {bytes : List ℕ} → None ≡ Some bytes → ⊥
 no_bytes e = cc
 
 -- of files that are all there none is missing
-all_there : (names : List (List ℕ)) → AreReported bytes_of names → Any (λ name. bytes_of name ≡ None) names → ⊥
+all_there : (names : List (List ℕ)) → HaveBytes bytes_of names → Any (λ name. bytes_of name ≡ None) names → ⊥
 all_there [] reported (k, x, low, is, none) = omega (arith, low)
 all_there (name ∷ names) reported (zero, x, low, is, none) = no_bytes (sym (ap bytes_of is ∙ none) ∙ reported.0.1)
 all_there (name ∷ names) reported (suc k, x, low, is, none) = all_there names reported.1 (k, x, omega (arith, low), is, none)
 
-relays_reported : AreReported bytes_of (file_names SITE.now)
-relays_reported = subst (AreReported bytes_of) (sym names_are) ((EDGE.now, refl), ((HUB.now, refl), tt))
+relays_have_bytes : HaveBytes bytes_of (file_names SITE.now)
+relays_have_bytes = subst (HaveBytes bytes_of) (sym names_are) ((EDGE.now, refl), ((HUB.now, refl), tt))
 
 -- a read of a file in memory doesn't fail
 no_rise : {S : Type 0} → MayRise {S = S} (λ _. 0) → ⊥
@@ -178,7 +178,7 @@ few_events (inl rise) = no_rise rise
 few_events (inr many) = let size : length EVENTS.now ≡ 157 = refl in omega (arith, size, many)
 
 module _ (given : List File) (are : given ≡ files) (status : ℕ) (old new : Streams) where
-  only_writes : (names : List (List ℕ)) → AreReported bytes_of names
+  only_writes : (names : List (List ℕ)) → HaveBytes bytes_of names
       → FailsBy (Any (λ name. file_named given name ≡ None) names) status old new → FailsBy ⊥ status old new
   only_writes names reported fails four =
       elim (fails four) [
@@ -187,17 +187,17 @@ module _ (given : List File) (are : given ≡ files) (status : ℕ) (old new : S
       ]
 
   pub asking_writes : FailsBy (Any (λ name. file_named given name ≡ None) (codes "site" ∷ file_names SITE.now)) status old new → FailsBy ⊥ status old new
-  asking_writes = only_writes (codes "site" ∷ file_names SITE.now) ((SITE.now, refl), relays_reported)
+  asking_writes = only_writes (codes "site" ∷ file_names SITE.now) ((SITE.now, refl), relays_have_bytes)
 
   pub verifying_writes : FailsBy (Any (λ name. file_named given name ≡ None) (codes "site" ∷ codes "cert" ∷ file_names SITE.now)) status old new
       → FailsBy ⊥ status old new
-  verifying_writes = only_writes (codes "site" ∷ codes "cert" ∷ file_names SITE.now) ((SITE.now, refl), ((CERTIFICATE.now, refl), relays_reported))
+  verifying_writes = only_writes (codes "site" ∷ codes "cert" ∷ file_names SITE.now) ((SITE.now, refl), ((CERTIFICATE.now, refl), relays_have_bytes))
 
   pub replaying_writes : {S : Type 0}
       → FailsBy (Any (λ name. file_named given name ≡ None) (codes "site" ∷ codes "events" ∷ file_names SITE.now) ⊎ PiecesMayFail {S = S} (λ _. 0) EVENTS.now)
       status old new
       → FailsBy ⊥ status old new
-  replaying_writes fails = only_writes (codes "site" ∷ codes "events" ∷ file_names SITE.now) ((SITE.now, refl), ((EVENTS.now, refl), relays_reported))
+  replaying_writes fails = only_writes (codes "site" ∷ codes "events" ∷ file_names SITE.now) ((SITE.now, refl), ((EVENTS.now, refl), relays_have_bytes))
       (λ four. elim (fails four) [
         | inl (inl missing) ↦ inl missing
         | inl (inr pieces) ↦ absurd (few_events pieces)

@@ -9,7 +9,7 @@ use Rattle.syc.specs.Checks.{AskedIs, IsVerdict}
 use Rattle.sy_findings.specs.Checks.{KeepsAll, SaysChecked}
 use Rattle.sy_report.specs.Outcomes.{Prints}
 use Rattle.sy_report.specs.Reports.{Streams}
-use Rattle.syc.specs.SiteFiles.{AreReported}
+use Rattle.syc.specs.SiteFiles.{HaveBytes}
 use Rattle.sy_places.specs.SiteFiles.{AreGiven, IsSiteOf}
 use Rattle.syc.specs.Verdicts.{DescribesKept}
 use Rattle.sy_findings.specs.Verdicts.{SaysOf}
@@ -44,7 +44,7 @@ name_of file = file.name
 
 module _ (bytes_of : List ℕ → Option (List ℕ)) where
   same_files : (xs ys : List File) → map name_of xs ≡ map name_of ys → AreGiven bytes_of xs → AreGiven bytes_of ys
-      → AreReported bytes_of (map name_of ys) → xs ≡ ys
+      → HaveBytes bytes_of (map name_of ys) → xs ≡ ys
   same_files [] [] names gx gy reported = refl
   same_files [] (y ∷ ys) names gx gy reported = absurd (no_names names)
   same_files (x ∷ xs) [] names gx gy reported = absurd (no_names (sym names))
@@ -55,11 +55,11 @@ module _ (bytes_of : List ℕ → Option (List ℕ)) where
       ap (λ f. f ∷ xs) (same_file x y name (first ∙ sym second)) ∙ ap (λ fs. y ∷ fs) (same_files xs ys (later_names names) gx.1 gy.1 reported.1)
 
   pub one_of_files : ((text : List ℕ) (files : List File) (a b : Site) → Describes text files a → Describes text files b → a ≡ b)
-      → (text : List ℕ) (site : Site) → IsSiteOf bytes_of text site → AreReported bytes_of (file_names text)
+      → (text : List ℕ) (site : Site) → IsSiteOf bytes_of text site → HaveBytes bytes_of (file_names text)
       → (other : Site) → IsSiteOf bytes_of text other → other ≡ site
   one_of_files one text site is reported other is_other =
       let same = same_files is_other.given is.given (is_other.are_given.names ∙ sym is.are_given.names) is_other.are_given.bytes is.are_given.bytes
-      (subst (AreReported bytes_of) (sym is.are_given.names) reported) in
+      (subst (HaveBytes bytes_of) (sym is.are_given.names) reported) in
       one text is.given other site (subst (λ files. Describes text files other) same is_other.describes) is.describes
 
 -- ---- what an accepted certificate shows

@@ -6,9 +6,9 @@ use Rattle.sy_report.specs.Reports.{said}
 use Rattle.sy_places.specs.SiteFiles.{IsSiteFault}
 
 -- the bytes of each of these files are known by its name
-abbrev pub AreReported : (List ℕ → Option (List ℕ)) → List (List ℕ) → Type 0
-AreReported bytes_of [] = Unit {0}
-AreReported bytes_of (name ∷ names) = ((bytes : List ℕ) × (bytes_of name ≡ Some bytes)) × AreReported bytes_of names
+abbrev pub HaveBytes : (List ℕ → Option (List ℕ)) → List (List ℕ) → Type 0
+HaveBytes bytes_of [] = Unit {0}
+HaveBytes bytes_of (name ∷ names) = ((bytes : List ℕ) × (bytes_of name ≡ Some bytes)) × HaveBytes bytes_of names
 
 -- There is no answer: the site file has a fault, memory ran out, or a file can't be read. That is told.
 abbrev pub HasNoAnswer : (List ℕ → Option (List ℕ)) → List ℕ → ℕ → (List ℕ → Type 0) → Type 0

@@ -14,7 +14,7 @@ use Rattle.sy_findings.specs.Checks.{IsTextOf, KeepsAll}
 use Rattle.sy_findings.specs.Verdicts.{SaysOf}
 use Rattle.sy_report.specs.declared.command_line.options.Options.{Options}
 use Rattle.syc.specs.Reports.{HasReportedBy, HasReportedFirst}
-use Rattle.syc.specs.SiteFiles.{AreReported, HasNoAnswer}
+use Rattle.syc.specs.SiteFiles.{HasNoAnswer, HaveBytes}
 use Rattle.syc.specs.Words.{is_any}
 
 -- ---- the files
@@ -40,7 +40,7 @@ pub record DescribesKept (bytes_of : List ℕ → Option (List ℕ)) (site_text 
   pub is_site : IsSiteOf bytes_of site_text site
   pub count : ℕ
   pub keeps : KeepsAll site count
-  pub alone : AreReported bytes_of (file_names site_text) → (other : Site) → IsSiteOf bytes_of site_text other → other ≡ site
+  pub alone : HaveBytes bytes_of (file_names site_text) → (other : Site) → IsSiteOf bytes_of site_text other → other ≡ site
 
 -- ---- the command
 

@@ -18,7 +18,7 @@ use std::alloc::{AllocError, Global};
 use std::sync::Arc;
 use sy_actions::{Hatch, LineSink};
 use sy_board::Board;
-use sy_report::outcome::stop::{Stop, status_of, report_stop};
+use sy_report::outcome::stop::{Stop, report_stop, status_of};
 use sy_report::writing::outputs::Outputs;
 use sy_rules::Plan;
 use sy_wire::{FillFault, FrameFault, Framer, PIECE, Sink, Source};

@@ -21,7 +21,7 @@ pub mod losses;
 use crate::commands::is_any;
 use crate::reading::read_for;
 use crate::replay::events::replay_events;
-use crate::reporting::{stop_with_document, report_halt_by_options};
+use crate::reporting::{report_halt_by_options, stop_with_document};
 use std::alloc::{AllocError, Global};
 use sy_documents::json::replay_document;
 use sy_places::site_file::texts::{SiteTexts, read_second};

@@ -18,7 +18,7 @@ use sy_faults::all_faults::all_fault_words;
 use sy_places::site_file::texts::SiteTexts;
 use sy_report::command_line::options::Options;
 use sy_report::outcome::answer::{Answer, print, stop};
-use sy_report::outcome::halt::{Halt, status_of, report_halt};
+use sy_report::outcome::halt::{Halt, report_halt, status_of};
 use sy_report::outcome::report::report_texts;
 use sy_report::writing::kept_text::Gathered;
 use sy_report::writing::output::send;

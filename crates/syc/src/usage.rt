@@ -117,8 +117,7 @@ const GRAPH_BEHIND: &str = "Exit status:
 Example:
   syc graph site | dot -Tsvg >site.svg";
 
-// The commands: the word of each, what it does, the names behind it and its options, each with what it means, and what
-// stands at the end of its help.
+// The commands: the word of each, what it does, its names and options with what they mean, and the end of its help.
 static COMMANDS: [(&str, &str, &[(&str, &str)], &[(&str, &str)], &str); 8] = [
     (
         "pass",
@@ -378,8 +377,7 @@ fn unread(words: &[&str]) -> &'static str {
     "these words are read in no other order or form: write the command's word first, and an option as syc --help has it"
 }
 
-// What clap answers for words that are no command as it is written here: a call for help or for the version, or what is
-// wrong with them.
+// What clap answers for words that are no command: a call for help or the version, or what is wrong with them.
 fn ask_clap<'a>(parser: &mut Parser<'a>, words: &'a [&'a str]) -> Error {
     if let Err(error) = parser.try_get_matches_from_mut(words) {
         return error;

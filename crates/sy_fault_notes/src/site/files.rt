@@ -66,7 +66,8 @@ pub fn push_unread_relay(
     let (file, line, relay) = site;
     let point = Point { line, column: 1 };
     note.stands_at(alloc, file.as_bytes(), Some(point));
-    note.what.append(&[Part::Text(b"relay "), Part::Text(relay)]);
+    note.what
+        .append(&[Part::Text(b"relay "), Part::Text(relay)]);
     push_reason(note, unread, "in that line");
 }
 

@@ -290,7 +290,7 @@ fn earlier(at: FileLine<'_>, word: &[u8], is_relay: bool) -> Option<u64> {
             Some((_, name)) if is_relay => {
                 name == word && word_in(line, 0) == word_in(at.line, 0)
             }
-            _ => !is_relay && same_words(line, at.line, words_that_tell(at.line)),
+            _ => !is_relay && same_words(line, at.line, identifying_words(at.line)),
         };
         if is_same {
             return Some(number);
@@ -301,7 +301,7 @@ fn earlier(at: FileLine<'_>, word: &[u8], is_relay: bool) -> Option<u64> {
 }
 
 // How many words of a line say what it gives: of an entry line its relay and its port.
-fn words_that_tell(line: &[u8]) -> usize {
+fn identifying_words(line: &[u8]) -> usize {
     match word_in(line, 0) {
         Some((_, b"entry")) => 3,
         _ => 4,
@@ -342,7 +342,8 @@ pub fn push_duplicate_line(alloc: Global, note: &mut Note, at: FileLine<'_>) {
     };
     let found = earlier(at, word, is_relay);
     if let Some(number) = found {
-        note.why.append(&[Part::Text(b"line "), Part::Number(number)]);
+        note.why
+            .append(&[Part::Text(b"line "), Part::Number(number)]);
     } else {
         note.why.say("an earlier line");
     }

@@ -3,7 +3,7 @@ ghost use Rattle.std.specs.Prelude.{◌≡◌, ◌++◌, OnOk, flat_map};
 ghost use Rattle.sy_findings.specs.Checks as spec;
 
 use std::alloc::AllocError;
-use sy_report::texts::parts::{Part, action_name, input_part, append_parts, relay_name};
+use sy_report::texts::parts::{Part, action_name, append_parts, input_part, relay_name};
 use sy_site::finding::{Finding, Kind, WayRow};
 use sy_site::{Site, SiteAction};
 

@@ -5,7 +5,7 @@ ghost use Rattle.sy_findings.specs.Checks as spec;
 use crate::verdicts::findings::push_kind;
 use std::alloc::{AllocError, Global};
 use sy_checker::Group;
-use sy_report::texts::parts::{Part, input_part, append_parts};
+use sy_report::texts::parts::{Part, append_parts, input_part};
 use sy_report::texts::words::Words;
 use sy_select::{facility_text, severity_text};
 use sy_site::Site;

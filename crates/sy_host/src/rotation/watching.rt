@@ -1,11 +1,11 @@
 //! The thread that watches over archives: it opens them anew, and tells where one can't be, or has lost its name.
 
 use crate::listening::serving::Serving;
+use crate::reporting::millis;
 use crate::rotation::lines::{answer_line, notice_line};
 use crate::rotation::reopens::Reopens;
 use crate::rotation::rotated::{Known, Rotated};
 use crate::rotation::troubles::{Troubles, earlier};
-use crate::reporting::millis;
 use std::alloc::{AllocError, Global};
 use std::sync::{Arc, Wait};
 use std::thread;

@@ -6,7 +6,7 @@ ghost use Rattle.sy_report.specs.Outcomes.{Prints, status_for};
 ghost use Rattle.sy_report.specs.Reports.{HasReported};
 ghost use Rattle.sy_report.specs.Halts.{status_at};
 
-use crate::outcome::halt::{Halt, status_of, report_halt};
+use crate::outcome::halt::{Halt, report_halt, status_of};
 use crate::writing::output::send;
 use crate::writing::outputs::Outputs;
 use sy_wire::Sink;

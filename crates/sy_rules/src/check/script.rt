@@ -90,7 +90,7 @@ fn has_imtcp(items: &[Item<'_>]) -> bool
     false
 }
 
-fn push_name<'s>(names: &mut Names<'s>, next: &Item<'s>) -> Result<(), AllocError>
+fn insert_name<'s>(names: &mut Names<'s>, next: &Item<'s>) -> Result<(), AllocError>
     ensures { OnOk result ((name : List ℕ) → spec.is_among name names.new
         ≡ (spec.is_among name names.old || spec.is_among name (spec.ruleset_names_of (item next.now ∷ [])))) }
 {
@@ -107,7 +107,7 @@ fn ruleset_names<'s>(alloc: Global, items: &[Item<'s>]) -> Result<Names<'s>, All
     let mut names = Names::new(alloc);
     let mut rest = items;
     while let [next, after @ ..] = rest {
-        push_name(&mut names, next)?;
+        insert_name(&mut names, next)?;
         rest = after;
     }
     Ok(names)
@@ -160,7 +160,11 @@ fn meet_ruleset<'s>(
     }
 }
 
-fn push_action(alloc: Global, actions: &mut Vec<Items<u8>>, name: Items<u8>) -> Result<(), ItemFault>
+fn push_action(
+    alloc: Global,
+    actions: &mut Vec<Items<u8>>,
+    name: Items<u8>,
+) -> Result<(), ItemFault>
     ensures ok { OnOk result (spec.action_faults actions.old.items name ≡ []) }
     ensures new { OnOk result (actions.new.items ≡ actions.old.items ++ name ∷ []) }
     ensures err { IfErr result (λ f. IsFound (spec.action_faults actions.old.items name) f) }

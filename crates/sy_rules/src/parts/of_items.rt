@@ -29,7 +29,11 @@ use std::alloc::Global;
 use sy_script::Items;
 use sy_script::tree::{ObjectKind, Param};
 
-pub(crate) fn push_part<T: Drop>(alloc: Global, found: &mut Vec<T>, next: T) -> Result<(), PlanFault>
+pub(crate) fn push_part<T: Drop>(
+    alloc: Global,
+    found: &mut Vec<T>,
+    next: T,
+) -> Result<(), PlanFault>
     ensures ok { OnOk result (found.new.items ≡ found.old.items ++ next ∷ []) }
     ensures err { IfErr result (λ f. f ≡ no_memory) }
 {
@@ -182,7 +186,12 @@ pub fn queues(alloc: Global, items: &[Item<'_>]) -> Result<Vec<QueueParameters>,
     Ok(found)
 }
 
-fn push_workers(alloc: Global, found: &mut Vec<u32>, count: u32, queue: u32) -> Result<(), PlanFault>
+fn push_workers(
+    alloc: Global,
+    found: &mut Vec<u32>,
+    count: u32,
+    queue: u32,
+) -> Result<(), PlanFault>
     ensures ok { OnOk result (found.new.items ≡ found.old.items ++ replicate count queue) }
     ensures err { IfErr result (λ f. f ≡ no_memory) }
 {

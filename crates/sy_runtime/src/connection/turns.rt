@@ -5,8 +5,8 @@ ghost use Rattle.sy_runtime.specs.internal.Turning.{nothing_counted, RoundIs, Tu
 
 use crate::connection::gathering::{Gathered, gather};
 use crate::connection::halt::{Halt, answer_at};
-use crate::connection::makings::Makings;
 use crate::connection::inserting::insert_batch;
+use crate::connection::makings::Makings;
 use crate::connection::reading::{Step, read_more};
 use crate::connection::taking::Hand;
 use crate::connection_end::{ConnEnd, Finish, UnreadSink};

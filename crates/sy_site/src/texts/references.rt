@@ -64,7 +64,7 @@ pub fn entries(
 
 // Puts the input of a line behind the others, where it is an entry line that ends in `whole`.
 #[tactic(auto, using(crate::proofs::lemmas::sites::More::none_of, crate::proofs::lemmas::sites::More::plain_entry, crate::proofs::lemmas::sites::More::whole_entry))]
-fn put_whole_entry(
+fn push_whole_entry(
     entries: &mut Vec<SiteInput>,
     given: &Given<'_>,
     relays: &[Relay],
@@ -98,7 +98,7 @@ pub fn whole_entries(
 {
     let mut entries = Vec::new(alloc);
     for given in found {
-        put_whole_entry(&mut entries, given, relays)?;
+        push_whole_entry(&mut entries, given, relays)?;
     }
     Ok(entries)
 }

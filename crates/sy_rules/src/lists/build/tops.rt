@@ -19,7 +19,12 @@ pub struct Lists {
     pub inside: Vec<Vec<Statement>>,
 }
 
-fn push_top(alloc: Global, scope: &Scope<'_>, lists: &mut Lists, top: &Top) -> Result<(), AllocError>
+fn push_top(
+    alloc: Global,
+    scope: &Scope<'_>,
+    lists: &mut Lists,
+    top: &Top,
+) -> Result<(), AllocError>
     ensures { OnOk result (spec.IsPartPush scope.now.rulesets.now scope.now.actions.now (part_of top.now) lists.old
         lists.new) }
 {

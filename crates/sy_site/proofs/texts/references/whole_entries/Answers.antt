@@ -8,7 +8,7 @@ pub loop-given-preserved : goal.loop-given-preserved
 loop-given-preserved c = λ final later.
     c.loop-given.invariant final
     (next_at (IsEntry (site_with c.args.relays.now)) whole_lines whole_first c.args.found.now c.loop-given.given-index c.given-item.result _ _ final (omega (arith, c.loop-given-test.true)) c.given-item.is
-    c.in_ok-put_whole_entry.ensures.entries later)
+    c.in_ok-push_whole_entry.ensures.entries later)
 
 pub returns-clause-entries : goal.returns-clause-entries
 returns-clause-entries c =
