@@ -1,5 +1,5 @@
 -- Which file keeps an input's frames that carry no message (this profile's own).
-use Rattle.std.specs.Prelude.{◌≡◌, ℕ, List, Option, Some, None, map, option_and_then, slice_get}
+use Rattle.std.specs.Prelude.{◌≡◌, ℕ, List, Option, Some, None, map, option_map, slice_get}
 use Rattle.sy_rules.specs.declared.parts.Input.{Input}
 
 -- the first of two where it is there, else the second
@@ -11,6 +11,7 @@ own_or None given = given
 abbrev pub unread_file : Option (List ℕ) → Input → Option (List ℕ)
 unread_file given input = own_or input.unread_file given
 
--- of each of these inputs, the file of this number among these names is its own
+-- of each of these inputs the number of that file, whose name is at this place among these; none of an input without a file
 abbrev pub AreTheirFiles : Option (List ℕ) → List Input → List (List ℕ) → List (Option ℕ) → Type 0
-AreTheirFiles given inputs names files = map (option_and_then (slice_get names)) files ≡ map (unread_file given) inputs
+AreTheirFiles given inputs names files =
+    map (λ file. option_map (slice_get names) file) files ≡ map (λ input. option_map Some (unread_file given input)) inputs

@@ -1,5 +1,8 @@
 //! The files that keep a relay's frames without a message, by their names.
-ghost use Rattle.std.specs.Prelude.{◌≡◌, IfOk, map, option_map};
+ghost use Rattle.std.specs.Prelude.{◌≡◌, Some, IfOk, OnOk, map, option_map, slice_get};
+ghost use Rattle.std.specs.List.{position};
+ghost use Rattle.std.specs.Str.{bytes_eq};
+ghost use Rattle.sy_log.specs.internal.Names.{KeepsNames};
 ghost use Rattle.sy_log.specs.UnreadFiles as spec;
 
 use std::alloc::{AllocError, Global};
@@ -25,9 +28,19 @@ pub fn unread_file<'a>(input: &'a Input, given: Option<&'a [u8]>) -> Option<&'a 
     }
 }
 
+// The place of a name among these.
+fn place_among(names: &[&[u8]], name: &[u8]) -> Option<usize>
+    ensures { result ≡ position (λ n. bytes_eq n.now name.now) names.now }
+{
+    names.iter().position(|other| *other == name)
+}
+
 // The place of a name among these, of which it becomes the last where it is none of them.
-fn place_of<'a>(names: &mut Vec<&'a [u8]>, name: &'a [u8]) -> Result<usize, AllocError> {
-    if let Some(place) = names.iter().position(|other| *other == name) {
+fn place_of<'a>(names: &mut Vec<&'a [u8]>, name: &'a [u8]) -> Result<usize, AllocError>
+    ensures there { IfOk result (λ place. slice_get (map (λ n. n.now) names.new.items) place ≡ Some name.entry.now) }
+    ensures kept { OnOk result (KeepsNames (map (λ n. n.now) names.old.items) (map (λ n. n.now) names.new.items)) }
+{
+    if let Some(place) = place_among(names.as_slice(), name) {
         return Ok(place);
     }
     let place = names.len();
@@ -40,7 +53,11 @@ fn file_of<'a>(
     names: &mut Vec<&'a [u8]>,
     input: &'a Input,
     given: Option<&'a [u8]>,
-) -> Result<Option<usize>, AllocError> {
+) -> Result<Option<usize>, AllocError>
+    ensures there { IfOk result (λ file. option_map (slice_get (map (λ n. n.now) names.new.items)) file
+        ≡ option_map Some (spec.unread_file (option_map (λ n. n.now) given.entry) input.entry.now)) }
+    ensures kept { OnOk result (KeepsNames (map (λ n. n.now) names.old.items) (map (λ n. n.now) names.new.items)) }
+{
     match unread_file(input, given) {
         Some(name) => Ok(Some(place_of(names, name)?)),
         None => Ok(None),

@@ -1,14 +1,28 @@
 //! Whether a file keeps what comes in at each whole entry of a relay and carries no message.
-ghost use Rattle.std.specs.Prelude.{◌≡◌, ◌<◌, length, option_map};
+ghost use Rattle.std.specs.Prelude.{◌≡◌, ◌<◌, None, true, false, length, option_map};
 ghost use Rattle.sy_report.specs.Reports.{Reported, seen};
+ghost use Rattle.sy_site.specs.Sites.{is_whole};
+ghost use Rattle.sy_log.specs.UnreadFiles.{unread_file};
 ghost use Rattle.sy_host.specs.WholeEntries as spec;
 
 use itoa::Buffer;
 use sy_log::unread_names::unread_file;
 use sy_report::outcome::report::report_texts;
+use sy_rules::Input;
 use sy_rules::laws::plans_are_whole;
 use sy_site::{Site, SiteInput};
 use sy_wire::Sink;
+
+// Whether an input is a whole entry that no file keeps.
+fn is_unkept(site: &Site, at: SiteInput, input: &Input, given: Option<&[u8]>) -> bool
+    ensures yes { result ≡ true → (is_whole site.now at ≡ true) × (unread_file (option_map (λ name. name.now) given) input.now ≡ None) }
+    ensures no { result ≡ false → is_whole site.now at ≡ true → unread_file (option_map (λ name. name.now) given) input.now ≡ None → ⊥ }
+{
+    match unread_file(input, given) {
+        Some(_) => false,
+        None => site.is_whole(at),
+    }
+}
 
 /// The first input of a relay that is a whole entry, and whose frames without a message no file keeps: it names none, and none is given for all.
 pub fn first_unkept(site: &Site, relay: u32, given: Option<&[u8]>) -> Option<u32>
@@ -23,7 +37,7 @@ pub fn first_unkept(site: &Site, relay: u32, given: Option<&[u8]>) -> Option<u32
             relay,
             input: number,
         };
-        if site.is_whole(at) && unread_file(input, given).is_none() {
+        if is_unkept(site, at, input, given) {
             return Some(number);
         }
         number += 1;
