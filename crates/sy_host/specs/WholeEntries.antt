@@ -17,11 +17,11 @@ pub record IsUnkept (site : Site) (relay : ℕ) (given : Option (List ℕ)) (num
 abbrev pub KeepsWhole : Site → ℕ → Option (List ℕ) → Type 0
 KeepsWhole site relay given = (number : ℕ) → IsUnkept site relay given number → ⊥
 
--- the first input of which that isn't so, where there is one
-abbrev pub IsFirstUnkept : Site → ℕ → Option (List ℕ) → Option ℕ → Type 0
+-- the first input of which that isn't so, where there is one, by its number and its port
+abbrev pub IsFirstUnkept : Site → ℕ → Option (List ℕ) → Option (ℕ × ℕ) → Type 0
 IsFirstUnkept site relay given None = KeepsWhole site relay given
-IsFirstUnkept site relay given (Some number) =
-    IsUnkept site relay given number × ((before : ℕ) → before < number → IsUnkept site relay given before → ⊥)
+IsFirstUnkept site relay given (Some found) =
+    ((is : IsUnkept site relay given found.0) × (found.1 ≡ is.input.port)) × ((before : ℕ) → before < found.0 → IsUnkept site relay given before → ⊥)
 
 -- syc: input PORT is a whole entry of the site, ..
 abbrev pub unkept_line : ℕ → List ℕ

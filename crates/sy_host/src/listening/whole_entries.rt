@@ -1,5 +1,5 @@
 //! Whether a file keeps what comes in at each whole entry of a relay and carries no message.
-ghost use Rattle.std.specs.Prelude.{◌≡◌, ◌<◌, None, true, false, length, option_map};
+ghost use Rattle.std.specs.Prelude.{◌≡◌, ◌<◌, None, true, false, IfNone, IfSome, length, option_map};
 ghost use Rattle.sy_report.specs.Reports.{Reported, seen};
 ghost use Rattle.sy_site.specs.Sites.{is_whole};
 ghost use Rattle.sy_log.specs.UnreadFiles.{unread_file};
@@ -24,8 +24,9 @@ fn is_unkept(site: &Site, at: SiteInput, input: &Input, given: Option<&[u8]>) ->
     }
 }
 
-/// The first input of a relay that is a whole entry, and whose frames without a message no file keeps: it names none, and none is given for all.
-pub fn first_unkept(site: &Site, relay: u32, given: Option<&[u8]>) -> Option<u32>
+/// The first input of a relay that is a whole entry, and whose frames without a message no file keeps, by its number and its port: it names none, and
+/// none is given for all.
+pub fn first_unkept(site: &Site, relay: u32, given: Option<&[u8]>) -> Option<(u32, u16)>
     requires exists { relay < length site.now.relays }
     ensures { spec.IsFirstUnkept site.now relay (option_map (λ name. name.now) given) result }
 {
@@ -38,15 +39,15 @@ pub fn first_unkept(site: &Site, relay: u32, given: Option<&[u8]>) -> Option<u32
             input: number,
         };
         if is_unkept(site, at, input, given) {
-            return Some(number);
+            return Some((number, input.port));
         }
         number += 1;
     }
     None
 }
 
-/// Tells that nothing keeps the frames without a message of the input of this port, which is a whole entry.
-pub fn report_unkept<E: Sink>(errors: &mut E, port: u16)
+// Tells that nothing keeps the frames without a message of the input of this port, which is a whole entry.
+fn report_unkept<E: Sink>(errors: &mut E, port: u16)
     ensures { Reported
         (seen E.contents E.is_flushed E.faults errors.old) (seen E.contents E.is_flushed E.faults errors.new)
         (spec.unkept_line port) }
@@ -61,4 +62,23 @@ pub fn report_unkept<E: Sink>(errors: &mut E, port: u16)
             b"\n",
         ],
     );
+}
+
+/// The same, which is told, where there is one.
+pub fn report_first_unkept<E: Sink>(
+    site: &Site,
+    relay: u32,
+    given: Option<&[u8]>,
+    errors: &mut E,
+) -> Option<(u32, u16)>
+    requires exists { relay < length site.now.relays }
+    ensures first { spec.IsFirstUnkept site.now relay (option_map (λ name. name.now) given) result }
+    ensures reported { IfSome result (λ found. Reported
+        (seen E.contents E.is_flushed E.faults errors.old) (seen E.contents E.is_flushed E.faults errors.new)
+        (spec.unkept_line found.1)) }
+    ensures quiet { IfNone result (errors.new ≡ errors.old) }
+{
+    let (input, port) = first_unkept(site, relay, given)?;
+    report_unkept(errors, port);
+    Some((input, port))
 }

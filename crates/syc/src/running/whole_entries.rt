@@ -1,11 +1,11 @@
 //! Whether a relay may start, by its whole entries.
-ghost use Rattle.std.specs.Prelude.{◌≡◌, ◌<◌, IfErr, IfOk, length, option_map};
-ghost use Rattle.sy_host.specs.WholeEntries.{KeepsWhole};
+ghost use Rattle.std.specs.Prelude.{◌≡◌, ◌<◌, ℕ, Some, IfErr, IfOk, length, option_map};
+ghost use Rattle.sy_host.specs.WholeEntries.{IsFirstUnkept, KeepsWhole};
 
 use crate::running::explaining::print_words;
 use crate::running::start_notes::{lines_of, note_at};
 use std::alloc::{AllocError, Global};
-use sy_host::listening::whole_entries::{first_unkept, report_unkept};
+use sy_host::listening::whole_entries::report_first_unkept;
 use sy_places::relay_file::places::Thing;
 use sy_places::site_file::texts::SiteTexts;
 use sy_report::texts::parts::{Part, relay_name};
@@ -47,20 +47,16 @@ pub fn keep_whole<E: Sink>(
 ) -> Result<(), u8>
     requires exists { relay < length site.now.relays }
     ensures ok { IfOk result (λ _. KeepsWhole site.now relay (option_map (λ file. file.now) unread)) }
-    ensures status { IfErr result (λ status. status ≡ 2) }
+    ensures refused { IfErr result (λ status. (status ≡ 2)
+        × (found : ℕ × ℕ) × IsFirstUnkept site.now relay (option_map (λ file. file.now) unread) (Some found)) }
 {
     let given = match unread {
         Some(file) => Some(file.as_bytes()),
         None => None,
     };
-    let Some(input) = first_unkept(site, relay, given) else {
+    let Some((input, port)) = report_first_unkept(site, relay, given, errors) else {
         return Ok(());
     };
-    let port = match site.plan(relay).inputs().get(input as usize) {
-        Some(input) => input.port,
-        None => 0,
-    };
-    report_unkept(errors, port);
     if let Some(texts) = explained {
         print_words(errors, unkept_words(alloc, texts, site, relay, input, port));
     }
