@@ -4,3 +4,4 @@ pub mod LeftFrames
 pub mod Named
 pub mod Offers
 pub mod Sent
+pub mod Unkept

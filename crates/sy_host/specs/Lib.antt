@@ -1,5 +1,6 @@
 pub mod Outlets
 pub mod Totals
+pub mod WholeEntries
 pub mod Left
 pub mod Listened
 pub mod internal

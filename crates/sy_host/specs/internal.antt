@@ -1,3 +1,4 @@
 -- What only private functions cite.
 pub mod Cutting
 pub mod Served
+pub mod Unkept

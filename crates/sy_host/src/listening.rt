@@ -9,6 +9,7 @@ pub mod served_threads;
 pub mod serving;
 pub mod unread_file;
 pub mod unread_frames;
+pub mod whole_entries;
 
 use crate::listening::serving::Port;
 use std::alloc::Global;

@@ -208,7 +208,7 @@ where
     relay.drain(&rt, most);
     relay.close(&rt);
     let ends = end_connections(rt, alloc, serving, &served.is_ending);
-    let unread = reported_by(serving.unread().is_some(), &ends);
+    let unread = reported_by(serving.log().has_unread_files(), &ends);
     let answer = relay.stop(&rt, workers, ends);
     end_metrics(&rt, alloc, serving, &answer);
     let untaken = sum_up(&rt, alloc, serving, plan.inputs());

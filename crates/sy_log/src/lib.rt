@@ -13,5 +13,6 @@ mod spell;
 pub mod start_lines;
 pub mod subject;
 mod subjects;
+pub mod unread_names;
 pub mod unreported;
 pub mod waiting_lines;

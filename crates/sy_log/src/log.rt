@@ -2,7 +2,8 @@
 
 use crate::peers::{Ended, PeerEnd, Sending};
 use crate::subject::Subject;
-use crate::subjects::{name_in_line, subjects_of};
+use crate::subjects::{names_in_lines, subjects_of};
+use crate::unread_names::UnreadNames;
 use std::alloc::{AllocError, Global};
 use std::sync::atomic::{AtomicBool, AtomicU64, Ordering};
 use std::sync::{Arc, Mutex, Wait};
@@ -21,13 +22,14 @@ const LAST_WAIT: u64 = 100;
 /// What an operator is told of a relay. Devices, workers and connections note here what happens; a thread looks, and prints.
 #[derive(Drop)]
 pub struct Log {
-    // the actions, then the inputs, then the queues, and then the unread file, if there is one
+    // the actions, then the inputs, then the queues, and then the unread files
     subjects: Vec<Subject>,
     // of each input
     ended: Vec<Mutex<Ended>>,
     actions: usize,
-    // the name of the unread file, if there is one
-    unread: Option<Vec<u8>>,
+    // the names of the unread files, as lines have them, and which of them each input's is
+    unread: Vec<Vec<u8>>,
+    unread_of: Vec<Option<usize>>,
     // wakes who looks
     change: Parker,
     is_ending: AtomicBool,
@@ -45,17 +47,19 @@ fn ended_of(alloc: Global, inputs: &[Input]) -> Result<Vec<Mutex<Ended>>, AllocE
 }
 
 impl Log {
-    /// Nothing has happened yet to a relay of this plan, whose frames that carry no message are kept in the file of that name, if there is one.
-    pub fn new(alloc: Global, plan: &Plan, unread: Option<&str>) -> Result<Arc<Log>, AllocError> {
-        let unread = match unread {
-            Some(name) => Some(name_in_line(alloc, name)?),
-            None => None,
-        };
+    /// Nothing has happened yet to a relay of this plan, whose frames that carry no message are kept in these files.
+    pub fn new(
+        alloc: Global,
+        plan: &Plan,
+        files: &UnreadNames<'_>,
+    ) -> Result<Arc<Log>, AllocError> {
+        let unread = names_in_lines(alloc, files.names.as_slice())?;
         let log = Log {
-            subjects: subjects_of(alloc, plan, unread.as_ref().map(|it| it.as_slice()))?,
+            subjects: subjects_of(alloc, plan, unread.as_slice())?,
             ended: ended_of(alloc, plan.inputs())?,
             actions: plan.actions().len(),
             unread,
+            unread_of: Vec::from_slice(alloc, files.of_inputs.as_slice())?,
             change: Parker::new(),
             is_ending: AtomicBool::new(false),
             end: Parker::new(),
@@ -67,7 +71,7 @@ impl Log {
         }
     }
 
-    /// The actions, then the inputs, then the queues, and then the unread file, if there is one.
+    /// The actions, then the inputs, then the queues, and then the unread files.
     pub fn subjects(&self) -> &[Subject] {
         self.subjects.as_slice()
     }
@@ -100,20 +104,34 @@ impl Log {
         }
     }
 
-    /// The name of the unread file, as lines have it, if there is one.
-    pub fn unread(&self) -> Option<&[u8]> {
-        match &self.unread {
-            Some(name) => Some(name.as_slice()),
-            None => None,
+    /// Whether there is an unread file.
+    pub fn has_unread_files(&self) -> bool {
+        !self.unread.is_empty()
+    }
+
+    /// Which of the unread files keeps the frames of an input, if there is one.
+    pub fn unread_of(&self, input: usize) -> Option<usize> {
+        *self.unread_of.get(input)?
+    }
+
+    /// The name of the unread file of this number, as lines have it.
+    pub fn unread_name(&self, file: usize) -> &[u8] {
+        match self.unread.get(file) {
+            Some(name) => name.as_slice(),
+            None => b"",
         }
     }
 
-    /// Which of the subjects the unread file is, if there is one.
-    pub fn unread_subject(&self) -> Option<usize> {
-        if self.unread.is_none() {
-            return None;
-        }
-        self.subjects.len().checked_sub(1)
+    /// The name of the unread file of the input that is the subject of this number, as lines have it, if there is one.
+    pub fn unread_at(&self, number: usize) -> Option<&[u8]> {
+        let file = self.unread_of(number.checked_sub(self.actions)?)?;
+        Some(self.unread_name(file))
+    }
+
+    /// Which of the subjects is the unread file of this number.
+    pub fn unread_subject(&self, file: usize) -> usize {
+        let before = self.subjects.len().saturating_sub(self.unread.len());
+        before.saturating_add(file)
     }
 
     /// How many frames of all inputs carried no message.
@@ -261,7 +279,7 @@ impl Gate for LogGate {
     }
 }
 
-/// What notes of an action, or of the unread file, whether it fails. Its device alone has it, and what that writes to.
+/// What notes of an action, or of an unread file, whether it fails. Its device alone has it, and what that writes to.
 #[derive(Drop)]
 pub struct ActionLog {
     log: Arc<Log>,

@@ -8,7 +8,7 @@ pub enum Kind {
     Action,
     Input,
     Queue,
-    /// The file for frames that carry no message.
+    /// A file for frames that carry no message.
     Unread,
 }
 
@@ -19,12 +19,12 @@ impl Kind {
     }
 }
 
-/// An action, an input, a queue or the unread file, of which an operator is told. Threads note here what happens, and wait for nothing.
+/// An action, an input, a queue or an unread file, of which an operator is told. Threads note here what happens, and wait for nothing.
 #[derive(Drop)]
 pub struct Subject {
     pub kind: Kind,
     pub name: Vec<u8>,
-    // 1 while an action or the file fails; how many connections of an input are held
+    // 1 while an action or a file fails; how many connections of an input are held
     on: AtomicU64,
     // how often that began
     begun: AtomicU64,

@@ -51,18 +51,27 @@ fn push_queues(alloc: Global, subjects: &mut Vec<Subject>, plan: &Plan) -> Resul
     Ok(())
 }
 
-/// The name of a file as lines have it: control characters stand there as `\x0a`.
-pub fn name_in_line(alloc: Global, name: &str) -> Result<Vec<u8>, AllocError> {
+// The name of a file as lines have it: control characters stand there as `\x0a`.
+fn name_in_line(alloc: Global, name: &[u8]) -> Result<Vec<u8>, AllocError> {
     let mut words = Words::new(alloc);
-    words.append_in_line(name.as_bytes());
+    words.append_in_line(name);
     words.finish()
 }
 
-/// The actions, then the inputs, then the queues of a plan, and then the unread file of that name, if there is one. Nothing has happened yet to any.
+/// The names of files as lines have them.
+pub fn names_in_lines(alloc: Global, names: &[&[u8]]) -> Result<Vec<Vec<u8>>, AllocError> {
+    let mut all = Vec::new(alloc);
+    for name in names {
+        all.push(name_in_line(alloc, name)?)?;
+    }
+    Ok(all)
+}
+
+/// The actions, then the inputs, then the queues of a plan, and then the unread files of these names. Nothing has happened yet to any.
 pub fn subjects_of(
     alloc: Global,
     plan: &Plan,
-    unread: Option<&[u8]>,
+    unread: &[Vec<u8>],
 ) -> Result<Vec<Subject>, AllocError> {
     let mut subjects = Vec::new(alloc);
     for action in plan.actions() {
@@ -74,8 +83,8 @@ pub fn subjects_of(
         subjects.push(named(alloc, Kind::Input, &[Part::Text(b"input "), port])?)?;
     }
     push_queues(alloc, &mut subjects, plan)?;
-    if let Some(name) = unread {
-        let parts = [Part::Text(b"unread file "), Part::Text(name)];
+    for name in unread {
+        let parts = [Part::Text(b"unread file "), Part::Text(name.as_slice())];
         subjects.push(named(alloc, Kind::Unread, &parts)?)?;
     }
     Ok(subjects)

@@ -26,7 +26,7 @@ pub struct Noted {
     pub since: u64,
 }
 
-/// What a log knows of the actions, the inputs and the queues of a relay, in their order, and of its unread file, if there is one.
+/// What a log knows of the actions, the inputs and the queues of a relay, in their order, and of its unread files, if there are any: of one that fails, where one does.
 #[derive(Clone, Copy)]
 pub struct NotedOfAll<'a> {
     pub actions: &'a [Noted],

@@ -46,7 +46,7 @@ impl RelayNumber {
             )),
             RelayNumber::UnreadFails => Some(gauge(
                 "unread_file_failing",
-                "Whether the unread file can't be written.",
+                "Whether an unread file can't be written.",
             )),
         }
     }

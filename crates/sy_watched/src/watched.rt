@@ -15,7 +15,7 @@ pub struct Watched<'a> {
     pub queued: u64,
     /// How many lines of its log were left out.
     pub left_out: u64,
-    /// 1 while its unread file can't be written.
+    /// 1 while an unread file can't be written.
     pub unread_fails: u64,
     pub inputs: Vec<WatchedInput>,
     pub actions: Vec<WatchedAction<'a>>,

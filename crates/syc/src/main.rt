@@ -1,9 +1,10 @@
 //! The program `syc`.
 #![tactic(auto)]
 
-ghost use Rattle.std.specs.Prelude.{◌≡◌, ◌<◌, IfOk, IfSome, length};
+ghost use Rattle.std.specs.Prelude.{◌≡◌, ◌<◌, IfSome, length, option_map};
 ghost use Rattle.sy_board.specs.relay.Guards.{MayGuard};
 ghost use Rattle.sy_site.specs.Sites.{plan_at};
+ghost use Rattle.sy_host.specs.WholeEntries.{KeepsWhole};
 
 mod check;
 mod commands;
@@ -22,16 +23,13 @@ mod verify;
 mod wrong_words;
 
 use run::run;
-use running::explaining::{
-    NoDevice, explain_no_device, explain_no_memory, explain_refused, explain_status, explained_by,
-};
+use running::explaining::{explain_no_memory, explain_refused, explain_status, explained_by};
 use running::identity::runs_line;
 use running::left_store::store_of;
+use running::opening::{Opened, Wanted, open_all};
 use running::prepare::prepare;
 use running::streams::{report_input, take_closed_streams};
-use running::unread_file::{UnreadWanted, unread_for};
 use running::words::{RunWords, is_run};
-use std::alloc::{AllocError, Global};
 use std::env;
 use std::io::BufWriter;
 use std::net::{Net, TcpListener, TcpStream};
@@ -42,20 +40,15 @@ use std::sync::{Arc, Wait};
 use std::thread::Threads;
 use std::time::Clock;
 use sy_board::Guard;
-use sy_host::devices::host_device::HostDevice;
-use sy_host::devices::opening::{OpenFault, Signals, taker};
+use sy_host::devices::opening::Signals;
 use sy_host::devices::outlets::{Outlet, outlets};
 use sy_host::ending::left_file::LeftFiles;
 use sy_host::listening::serving::{Notices, Serving};
 use sy_host::serve::{Served, serve};
-use sy_host::watching::noted::watch_of;
-use sy_log::log::{ActionLog, Log};
 use sy_report::outcome::stop;
 use sy_report::reading::files::HostFiles;
 use sy_report::writing::outputs::Outputs;
 use sy_site::Site;
-use sy_watched::file::MetricsFile;
-use sy_watched::watch::Watch;
 use sy_wire::{Buffered, FromRead, FromWrite, Sink, Source};
 use unread::{is_unread, unread};
 
@@ -103,14 +96,17 @@ fn main(rt: HostRuntime) -> ExitCode {
     let Ok(runs) = runs_line(alloc, found.relay.as_bytes(), identity) else {
         return no_memory(&rt, found, &mut out);
     };
-    let with = With {
-        drain: found.drain,
+    let wanted = Wanted {
         unread: found.unread,
-        store,
-        runs,
         metrics: found.metrics,
         metrics_every: found.metrics_every.unwrap_or(METRICS_EVERY),
         explained: explained_by(found),
+    };
+    let with = With {
+        drain: found.drain,
+        store,
+        runs,
+        wanted,
     };
     let status = serve_on(rt, rt, &site, relay, guard, outlets.as_slice(), with, out);
     ExitCode::from(explain_status(&rt, &rt, found, status))
@@ -149,120 +145,16 @@ fn start(rt: &HostRuntime, words: &[String], out: &mut HostOutputs) -> u8 {
     run(rt.alloc(), words, &HostFiles::new(rt), &mut reader, out)
 }
 
-// Tells why there are no devices, and answers the exit status.
-fn no_devices<E: Sink>(errors: &mut E, fault: OpenFault) -> u8 {
-    match fault {
-        OpenFault::Write => stop::write_failed(errors),
-        OpenFault::NoMemory => stop::out_of_memory(errors),
-    }
-}
-
-// The same for an action of a relay, with an explanation, where that is asked for.
-fn no_device(
-    host: HostRuntime,
-    site: &Site,
-    relay: u32,
-    with: &With<'_>,
-    why: NoDevice,
-    out: &mut HostOutputs,
-) -> u8 {
-    let status = no_devices(&mut out.errors, why.fault);
-    if let Some(name) = with.explained {
-        explain_no_device(&host, name, site, relay, why, &mut out.errors);
-    }
-    status
-}
-
-// The device of an action of this number, which notes in the log whether it fails.
-fn device_of(
-    host: HostRuntime,
-    alloc: Global,
-    outlet: Outlet<'_>,
-    signals: &Signals,
-    log: &Arc<Log>,
-    action: usize,
-) -> Result<HostDevice, NoDevice> {
-    let Ok(noted) = ActionLog::new(alloc, log, action) else {
-        return Err(NoDevice::without_memory(action));
-    };
-    let Ok(theirs) = noted.try_clone() else {
-        return Err(NoDevice::without_memory(action));
-    };
-    match taker(host, alloc, outlet, signals, theirs) {
-        Ok(taker) => Ok(HostDevice::new(taker, noted)),
-        Err(fault) => Err(NoDevice {
-            action,
-            fault,
-            reason: noted.take_reason(),
-        }),
-    }
-}
-
 // What the options of a relay that runs ask for.
 #[derive(Drop)]
 struct With<'a> {
     // for how many seconds it may empty before it stops
     drain: Option<u32>,
-    // the name of the file for frames that carry no message
-    unread: Option<&'a str>,
     // where what is left is kept
     store: LeftFiles,
     // the line that says which files it runs
     runs: Vec<u8>,
-    // the name of the file of the metrics, and after how many seconds it is written again
-    metrics: Option<&'a str>,
-    metrics_every: u32,
-    // the name of the site file, where a fault of the start is explained
-    explained: Option<&'a str>,
-}
-
-// The file for frames that carry no message of the relay of that name, if there is to be one.
-fn wanted_of<'a>(with: &With<'a>, relay: &'a [u8]) -> Option<UnreadWanted<'a>> {
-    let name = with.unread?;
-    Some(UnreadWanted {
-        name,
-        relay,
-        is_explained: with.explained.is_some(),
-    })
-}
-
-// What is watched of a relay, with its file, if there is to be one.
-fn watch_with(
-    host: HostRuntime,
-    alloc: Global,
-    site: &Site,
-    relay: u32,
-    log: &Log,
-    with: &With<'_>,
-) -> Result<Watch, AllocError>
-    requires { relay < length site.now.relays }
-{
-    let file = match with.metrics {
-        Some(name) => Some(MetricsFile::new(host, alloc, name, with.metrics_every)?),
-        None => None,
-    };
-    watch_of(alloc, site.name(relay), site.plan(relay), log, file)
-}
-
-// A device for each of a relay's actions, in their order.
-fn devices_of(
-    host: HostRuntime,
-    alloc: Global,
-    outlets: &[Outlet<'_>],
-    signals: &Signals,
-    log: &Arc<Log>,
-) -> Result<Vec<HostDevice>, NoDevice>
-    ensures { IfOk result (λ devices. length devices.items ≡ length outlets.now) }
-{
-    let mut devices = Vec::new(alloc);
-    for outlet in outlets {
-        let action = devices.len();
-        let device = device_of(host, alloc, *outlet, signals, log, action)?;
-        let Ok(()) = devices.push(device) else {
-            return Err(NoDevice::without_memory(action));
-        };
-    }
-    Ok(devices)
+    wanted: Wanted<'a>,
 }
 
 // Makes the devices of a relay's actions, and serves it with the process's own streams.
@@ -282,34 +174,35 @@ where
     requires exists { relay < length site.now.relays }
     requires guard { IfSome guard (λ pairs. MayGuard (plan_at site.now relay) pairs) }
     requires outlets { length outlets.now ≡ length (plan_at site.now relay).actions }
+    requires whole { KeepsWhole site.now relay (option_map (λ file. file.now) with.wanted.unread) }
 {
-    let alloc = host.alloc();
-    let Some(signals) = Signals::new(alloc) else {
-        return stop::out_of_memory(&mut out.errors);
-    };
-    let Ok(log) = Log::new(alloc, site.plan(relay), with.unread) else {
-        return stop::out_of_memory(&mut out.errors);
-    };
-    let Ok(watch) = watch_with(host, alloc, site, relay, &log, &with) else {
-        return stop::out_of_memory(&mut out.errors);
-    };
-    let devices = match devices_of(host, alloc, outlets, &signals, &log) {
-        Ok(devices) => devices,
-        Err(why) => return no_device(host, site, relay, &with, why, &mut out),
-    };
-    let wanted = wanted_of(&with, site.name(relay));
-    let unread = match unread_for(&host, wanted, &signals, &log, &mut out.errors) {
-        Ok(unread) => unread,
-        Err(status) => return status,
-    };
-    let Signals { is_ending, reopens } = signals;
     let With {
         drain,
         store,
         runs,
-        explained,
-        ..
+        wanted,
     } = with;
+    let Some(signals) = Signals::new(host.alloc()) else {
+        return stop::out_of_memory(&mut out.errors);
+    };
+    let Opened {
+        log,
+        watch,
+        devices,
+        unread,
+    } = match open_all(
+        host,
+        site,
+        relay,
+        outlets,
+        wanted,
+        &signals,
+        &mut out.errors,
+    ) {
+        Ok(opened) => opened,
+        Err(status) => return status,
+    };
+    let Signals { is_ending, reopens } = signals;
     let served = Served {
         site,
         relay,
@@ -325,7 +218,7 @@ where
         watch,
         unread,
     };
-    serve_devices(rt, host, served, store, reported, explained, out)
+    serve_devices(rt, host, served, store, reported, wanted.explained, out)
 }
 
 // Serves a relay with the process's own streams.

@@ -21,7 +21,8 @@ const CLASS: &str = "Draw what the messages of this class may reach, as auth.cri
 
 const LEFT: &str = "Write what the relay still holds at its end to this file, as frames";
 
-const UNREAD: &str = "Write each frame that carries no message to this file, as a frame";
+const UNREAD: &str =
+    "Write each frame that carries no message to this file, as a frame, where its input names no other";
 
 const DRAIN: &str =
     "Wait until the relay holds nothing, before it ends, but so many seconds at most: 0 to 86400";

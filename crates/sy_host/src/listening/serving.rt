@@ -34,8 +34,8 @@ pub struct Serving<E: Drop> {
     runs: Vec<u8>,
     log: Arc<Log>,
     watch: Watch,
-    // where frames go that carry no message, if they are kept
-    unread: Option<UnreadFile>,
+    // where frames go that carry no message, as the log has these files
+    unread: Vec<UnreadFile>,
     connections: Mutex<Connections>,
     // told when a connection or an accept loop has ended
     ended: Condvar,
@@ -52,7 +52,8 @@ pub struct Notices {
     pub runs: Vec<u8>,
     /// what is watched beside its totals and its log
     pub watch: Watch,
-    pub unread: Option<UnreadFile>,
+    /// its unread files, as the log has them
+    pub unread: Vec<UnreadFile>,
 }
 
 /// An input of a relay, by its number and its port.
@@ -127,9 +128,9 @@ impl<E: Sink + Drop> Serving<E> {
         }
     }
 
-    /// Where frames go that carry no message, if they are kept.
-    pub fn unread(&self) -> Option<&UnreadFile> {
-        self.unread.as_ref()
+    /// Where an input's frames go that carry no message, if they are kept.
+    pub fn unread_of(&self, input: u32) -> Option<&UnreadFile> {
+        self.unread.get(self.log.unread_of(input as usize)?)
     }
 
     /// What is watched of the relay beside its totals and its log.

@@ -1,8 +1,8 @@
-//! The file that frames go to that carry no message.
+//! The files that frames go to that carry no message.
 
 use crate::devices::opening::Signals;
 use crate::rotation::frames::open_cut;
-use crate::rotation::opened::Refusal;
+use crate::rotation::opened::{Node, Refusal, node_of_file};
 use crate::rotation::reopens::Reopens;
 use crate::rotation::rotated::{Form, Rotated, Writer};
 use std::alloc::{AllocError, Global};
@@ -35,7 +35,7 @@ pub struct UnreadFrame<'a> {
     pub text: &'a [u8],
 }
 
-// The unread file, as who writes to it has it.
+// An unread file, as who writes to it has it.
 #[derive(Drop)]
 struct Writing {
     alloc: Global,
@@ -143,11 +143,13 @@ impl Writing {
     }
 }
 
-/// The unread file of a relay, which its connections share. It is written to at its end, and opened anew as archives are.
+/// An unread file of a relay, which the connections of its inputs share. It is written to at its end, and opened anew as archives are.
 #[derive(Drop)]
 pub struct UnreadFile {
     writing: Mutex<Writing>,
     is_ending: Arc<AtomicBool>,
+    // which file it was when it was opened, where the host said that
+    node: Option<Node>,
 }
 
 impl UnreadFile {
@@ -162,12 +164,23 @@ impl UnreadFile {
         log: ActionLog,
     ) -> Result<(UnreadFile, u64), Refusal> {
         let (file, cut) = open_cut(&rt, alloc, name)?;
+        let node = node_of_file(&file);
         let made = Writing::new(rt, alloc, name, file, relay, &signals.reopens, log);
         let (Ok(writing), Ok(is_ending)) = (made, Arc::try_clone(&signals.is_ending)) else {
             return Err(Refusal::Host(Reason::NoMemory));
         };
         let writing = Mutex::new(writing);
-        Ok((UnreadFile { writing, is_ending }, cut))
+        let file = UnreadFile {
+            writing,
+            is_ending,
+            node,
+        };
+        Ok((file, cut))
+    }
+
+    /// Whether another was the same file when both were opened.
+    pub fn is_same(&self, other: &UnreadFile) -> bool {
+        self.node.is_some() && self.node == other.node
     }
 
     // Waits before a failed write is tried again; whether it is to be.

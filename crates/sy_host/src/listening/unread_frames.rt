@@ -38,7 +38,7 @@ impl<'a, E: Sink + Drop> Coming<'a, E> {
 
     /// Whether what is no message is kept.
     pub fn is_kept(&self) -> bool {
-        self.serving.unread().is_some()
+        self.serving.unread_of(self.at.input).is_some()
     }
 
     /// How many of its frames were too long.
@@ -46,9 +46,9 @@ impl<'a, E: Sink + Drop> Coming<'a, E> {
         self.long.load(Ordering::SeqCst)
     }
 
-    // Keeps what it sent in the relay's unread file, if there is one, and has the first of it told.
+    // Keeps what it sent in its input's unread file, if there is one, and has the first of it told.
     fn keep<R: Wait + Clock>(&self, rt: &R, frame: &UnreadFrame<'_>) -> Result<(), NotKept> {
-        if let Some(file) = self.serving.unread() {
+        if let Some(file) = self.serving.unread_of(self.at.input) {
             file.keep(rt, frame)?;
         }
         if !self.is_reported.swap(true, Ordering::SeqCst) {
@@ -65,7 +65,7 @@ impl<'a, E: Sink + Drop> Coming<'a, E> {
     }
 }
 
-/// Frames of a connection that carry no message: they are kept in the relay's unread file or, where it has none, dropped.
+/// Frames of a connection that carry no message: they are kept in the unread file of its input or, where it has none, dropped.
 #[derive(Drop)]
 pub struct UnreadFrames<'a, E: Drop> {
     pub coming: &'a Coming<'a, E>,
@@ -86,7 +86,7 @@ impl<E: Sink + Drop> UnreadSink for UnreadFrames<'_, E> {
     }
 }
 
-/// What a connection sends that is too long for a frame, or begins none, which the relay keeps in its unread file.
+/// What a connection sends that is too long for a frame, or begins none, which the relay keeps in the unread file of its input.
 #[derive(Drop)]
 pub struct LongFrames<'a, R, E: Drop> {
     pub rt: &'a R,

@@ -67,7 +67,7 @@ fn print_sending<R: Wait, E: Sink + Drop>(
     ) else {
         return;
     };
-    let file = serving.log().unread();
+    let file = serving.log().unread_at(number);
     serving.print(rt, sending_line(alloc, subject, &sending, others, file));
 }
 

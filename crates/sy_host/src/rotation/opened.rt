@@ -12,6 +12,10 @@ pub enum Refusal {
     NoFolder,
     /// A file is there that hasn't whole frames alone.
     NoFrames,
+    /// Its name isn't UTF-8.
+    NoName,
+    /// It is an unread file by another name too.
+    Twice,
     Host(Reason),
 }
 
@@ -29,6 +33,8 @@ impl Refusal {
         match self {
             Refusal::NoFolder => 0,
             Refusal::NoFrames => u64::MAX - 2,
+            Refusal::NoName => u64::MAX - 3,
+            Refusal::Twice => u64::MAX - 4,
             Refusal::Host(reason) => reason.code(),
         }
     }

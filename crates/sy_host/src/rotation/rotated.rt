@@ -1,4 +1,4 @@
-//! The file of an archive, or the unread file, as its device and who watches over it share it.
+//! The file of an archive, or an unread file, as its device and who watches over it share it.
 
 use crate::devices::file_writer::FileWriter;
 use crate::devices::frame_file::FrameFile;
@@ -59,7 +59,7 @@ pub struct Open {
     followed: u64,
 }
 
-/// The file of an archive, or the unread file. Its device writes to it under a lock. Who watches over it tries that lock and doesn't wait for it: so
+/// The file of an archive, or an unread file. Its device writes to it under a lock. Who watches over it tries that lock and doesn't wait for it: so
 /// an archive that isn't written to is opened anew by who watches, and one that is by its device.
 #[derive(Drop)]
 pub struct Rotated {

@@ -43,6 +43,14 @@ fn noted_of(subject: &Subject) -> Noted {
     }
 }
 
+// What is known of unread files, of which one more is this: of one that fails, where one does.
+fn worse(before: Option<Noted>, noted: Noted) -> Noted {
+    match before {
+        Some(before) if before.on > 0 => before,
+        _ => noted,
+    }
+}
+
 /// Notes the time at what of a log has changed since that was last noted.
 pub fn date<R: Clock>(rt: &R, log: &Log) {
     log.date(now(rt));
@@ -63,7 +71,7 @@ pub fn noted<R: Clock>(rt: &R, alloc: Global, log: &Log) -> Result<NotedLists, A
             Kind::Action => lists.actions.push(noted)?,
             Kind::Input => lists.inputs.push(noted)?,
             Kind::Queue => lists.queues.push(noted)?,
-            Kind::Unread => lists.unread = Some(noted),
+            Kind::Unread => lists.unread = Some(worse(lists.unread, noted)),
         }
     }
     Ok(lists)

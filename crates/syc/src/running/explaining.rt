@@ -108,8 +108,8 @@ pub fn print_found<W: Sink, E: Sink>(
     }
 }
 
-// The texts of the site of that name, which are read once more.
-fn texts_of<'a, F: Files>(
+/// The texts of the site of that name, which are read once more.
+pub fn texts_of<'a, F: Files>(
     alloc: Global,
     files: &F,
     name: &'a str,

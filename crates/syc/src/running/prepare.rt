@@ -1,14 +1,16 @@
 //! What a relay needs to run: its site and, where that was checked, its guard.
-ghost use Rattle.std.specs.Prelude.{◌≡◌, ◌<◌, ◌≤◌, ℕ, List, Some, IfErr, IfOk, length, map, string_bytes};
+ghost use Rattle.std.specs.Prelude.{◌≡◌, ◌<◌, ◌≤◌, ℕ, List, Some, IfErr, IfOk, length, map, option_map, string_bytes};
 ghost use Rattle.sy_site.specs.Sites.{relay_named};
 ghost use Rattle.sy_site.specs.Finding.{IsTrueRefusal};
 ghost use Rattle.syc.specs.Prepared.{HasGuard, IsGuardOf, IsPrepared};
 ghost use Rattle.sy_places.specs.SiteFiles.{IsSiteOf};
+ghost use Rattle.sy_host.specs.WholeEntries.{KeepsWhole};
 
 use crate::reading::read_for;
 use crate::running::explaining::{options_for, print_found, print_halt, print_words};
 use crate::running::identity::{Identity, identity_of};
 use crate::running::start_notes::no_relay_words;
+use crate::running::whole_entries::keep_whole;
 use crate::running::words::{RunWords, run_words};
 use crate::usage::refusal;
 use crate::wrong_words::refuse;
@@ -133,6 +135,7 @@ fn ready<F: Files, W: Sink, E: Sink>(
         IsSiteOf (F.bytes_of files.now) text found.0) }
     ensures relay { IfOk result (λ found. relay_named found.0.relays words.entry.relay.now ≡ Some found.1) }
     ensures guard { IfOk result (λ found. IsGuardOf words.entry.is_unchecked found.0 found.1 found.2) }
+    ensures whole { IfOk result (λ found. KeepsWhole found.0 found.1 (option_map (λ file. file.now) words.entry.unread)) }
     ensures status { IfErr result (λ status. status ≤ 4) }
 {
     let mut texts = SiteTexts::empty(alloc, words.site);
@@ -145,8 +148,19 @@ fn ready<F: Files, W: Sink, E: Sink>(
     } else {
         None
     };
-    match guard_if(alloc, explained, &site, relay, words.is_unchecked, out) {
-        Ok(guard) => Ok((site, relay, guard, identity)),
+    let guard = match guard_if(alloc, explained, &site, relay, words.is_unchecked, out) {
+        Ok(guard) => guard,
+        Err(status) => return Err(status),
+    };
+    match keep_whole(
+        alloc,
+        explained,
+        &site,
+        relay,
+        words.unread,
+        &mut out.errors,
+    ) {
+        Ok(()) => Ok((site, relay, guard, identity)),
         Err(status) => Err(status),
     }
 }
@@ -154,7 +168,7 @@ fn ready<F: Files, W: Sink, E: Sink>(
 /// What the command that runs a relay needs: the site that the words name, the number of its relay, the relay's guard,
 /// where the site is checked and sound, what the words say, and which files were read. With `--unchecked` among the words no check is made, and there is no guard. Else
 /// an exit status, and what is to be said of it is printed: 1 for a site that is refused, 2 for a faulty site, a relay that it doesn't have
-/// or other words (0 where they ask for help), 3 where memory runs out, and 4 where a read or write failed.
+/// or that has a whole entry whose frames without a message nothing keeps, or other words (0 where they ask for help), 3 where memory runs out, and 4 where a read or write failed.
 pub fn prepare<'a, F: Files, W: Sink, E: Sink>(
     alloc: Global,
     args: &'a [String],

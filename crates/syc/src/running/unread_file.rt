@@ -1,42 +1,73 @@
-//! The file for frames that carry no message, opened as a relay starts.
+//! The files for frames that carry no message, opened as a relay starts.
 
-use crate::running::explaining::print_words;
-use crate::running::start_notes::{lines_of, push_folder};
-use std::alloc::{AllocError, Global};
+use crate::running::explaining::{print_words, texts_of};
+use crate::running::start_notes::{lines_of, note_at, push_folder};
+use std::alloc::AllocError;
+use std::str;
 use std::sync::Arc;
 use sy_host::devices::opening::Signals;
 use sy_host::listening::unread_file::UnreadFile;
 use sy_host::rotation::lines::refusal_text;
 use sy_host::rotation::opened::Refusal;
 use sy_log::log::{ActionLog, Log};
+use sy_log::unread_names::UnreadNames;
+use sy_places::relay_file::places::Thing;
 use sy_report::outcome::report::report_texts;
 use sy_report::outcome::stop;
 use sy_report::reading::files::{Files, HostFiles};
 use sy_report::texts::note::Note;
 use sy_report::texts::parts::{Part, append_parts};
 use sy_report::texts::reason::Reason;
+use sy_site::Site;
 use sy_wire::Sink;
 
-/// An unread file that is to be opened, and for whom.
+/// The unread files that are to be opened, and for whom.
 #[derive(Clone, Copy)]
 pub struct UnreadWanted<'a> {
-    pub name: &'a str,
+    pub site: &'a Site,
+    pub relay: u32,
     /// the relay's name
-    pub relay: &'a [u8],
-    /// whether a fault of the start is explained
-    pub is_explained: bool,
+    pub name: &'a [u8],
+    pub files: &'a UnreadNames<'a>,
+    /// whether the first of them is given on the command line
+    pub is_given: bool,
+    /// the name of the site file, where a fault of the start is explained
+    pub explained: Option<&'a str>,
 }
 
-fn report<E: Sink>(errors: &mut E, name: &str, words: &[u8]) {
-    report_texts(
-        errors,
-        &[b"syc: unread file ", name.as_bytes(), b": ", words, b"\n"],
-    );
+impl UnreadWanted<'_> {
+    // Whether the file of this number is given on the command line.
+    fn is_of_command_line(&self, file: usize) -> bool {
+        self.is_given && file == 0
+    }
+
+    // The first input that names the file of this number.
+    fn input_of(&self, file: usize) -> u32 {
+        let mut number: u32 = 0;
+        for of_input in &self.files.of_inputs {
+            if *of_input == Some(file) {
+                return number;
+            }
+            number = number.saturating_add(1);
+        }
+        number
+    }
+}
+
+/// What a relay notes to, and what asks for its files to be opened anew.
+#[derive(Clone, Copy)]
+pub struct Noting<'a> {
+    pub log: &'a Arc<Log>,
+    pub signals: &'a Signals,
+}
+
+fn report<E: Sink>(errors: &mut E, name: &[u8], words: &[u8]) {
+    report_texts(errors, &[b"syc: unread file ", name, b": ", words, b"\n"]);
 }
 
 // Says how many bytes of a part of a record were cut off.
-fn report_cut<E: Sink>(alloc: Global, errors: &mut E, name: &str, cut: u64) {
-    let mut words = Vec::new(alloc);
+fn report_cut<E: Sink>(rt: &HostRuntime, errors: &mut E, name: &[u8], cut: u64) {
+    let mut words = Vec::new(rt.alloc());
     let parts = [
         Part::Text(b"cut off a part of a record at its end, "),
         Part::Number(cut),
@@ -48,93 +79,139 @@ fn report_cut<E: Sink>(alloc: Global, errors: &mut E, name: &str, cut: u64) {
     }
 }
 
-// What is to be changed where the file can't be opened.
+// What is to be changed where a file can't be opened.
 fn change_for(why: Refusal) -> &'static str {
     match why {
-        Refusal::NoFolder => "make that folder, or another name on the command line",
-        Refusal::NoFrames =>
-            "a file of its own on the command line: one that isn't there, or that --unread wrote",
+        Refusal::NoFolder => "make that folder, or another name",
+        Refusal::NoFrames => "the name of an unread file, or of one that isn't there,",
+        Refusal::NoName => "a name in UTF-8",
+        Refusal::Twice => "the same name for it everywhere, or another file",
         Refusal::Host(_) => {
-            "let the user that starts syc write it (StateDirectory= or ReadWritePaths= of a unit), or another name on the command line"
+            "let the user that starts syc write it (StateDirectory= or ReadWritePaths= of a unit), or another name"
         }
     }
 }
 
-// What is said of a file that can't be opened.
+// A note of where the file of this number is named, and where a change belongs.
+fn note_of(
+    rt: &HostRuntime,
+    wanted: UnreadWanted<'_>,
+    file: usize,
+    site_file: &str,
+    name: &[u8],
+) -> Result<(Note, &'static str), AllocError> {
+    let alloc = rt.alloc();
+    if wanted.is_of_command_line(file) {
+        let mut note = Note::new(alloc);
+        note.what.say("the command line: --unread ");
+        note.what.append(&[Part::Text(name)]);
+        return Ok((note, " on the command line"));
+    }
+    let texts = texts_of(alloc, &HostFiles::new(rt), site_file)?;
+    let input = Thing::Input(wanted.input_of(file));
+    let note = note_at(alloc, &texts, wanted.site, wanted.relay, input)?;
+    Ok((note, " in that line"))
+}
+
+// What is said of the file of this number that can't be opened.
 fn refused_words(
-    alloc: Global,
-    name: &str,
+    rt: &HostRuntime,
+    wanted: UnreadWanted<'_>,
+    file: usize,
+    site_file: &str,
     why: Refusal,
-    words: &[u8],
-    folder: Option<&str>,
 ) -> Result<Vec<u8>, AllocError> {
-    let mut note = Note::new(alloc);
-    note.what.say("the command line: --unread ");
-    note.what.say(name);
-    note.why.say(name);
-    note.why.append(&[Part::Text(b": "), Part::Text(words)]);
+    let alloc = rt.alloc();
+    let name: &[u8] = match wanted.files.names.get(file) {
+        Some(name) => name,
+        None => b"",
+    };
+    let (mut note, place) = note_of(rt, wanted, file, site_file, name)?;
+    let words = refusal_text(alloc, why)?;
+    note.why.append(&[
+        Part::Text(name),
+        Part::Text(b": "),
+        Part::Text(words.as_slice()),
+    ]);
     if let Refusal::NoFolder = why {
-        push_folder(&mut note.why, name.as_bytes(), folder);
+        if let Some(folder) = HostFiles::new(rt).folder() {
+            push_folder(&mut note.why, name, Some(folder.as_str()));
+        }
     }
     note.change.say(change_for(why));
+    note.change.say(place);
     lines_of(alloc, &note)
 }
 
-// Tells why the file can't be opened, explained where that is asked for, and answers the exit status.
-fn refuse<E: Sink>(rt: &HostRuntime, wanted: UnreadWanted<'_>, why: Refusal, errors: &mut E) -> u8 {
-    let alloc = rt.alloc();
+// Tells why the file of this number can't be opened, explained where that is asked for, and answers the exit status.
+fn refuse<E: Sink>(
+    rt: &HostRuntime,
+    wanted: UnreadWanted<'_>,
+    log: &Log,
+    file: usize,
+    why: Refusal,
+    errors: &mut E,
+) -> u8 {
     let (Ok(words), false) = (
-        refusal_text(alloc, why),
+        refusal_text(rt.alloc(), why),
         matches!(why, Refusal::Host(Reason::NoMemory)),
     ) else {
         return stop::out_of_memory(errors);
     };
-    report(errors, wanted.name, words.as_slice());
-    if wanted.is_explained {
-        let folder = HostFiles::new(rt).folder();
-        let folder = match &folder {
-            Some(folder) => Some(folder.as_str()),
-            None => None,
-        };
-        let said = refused_words(alloc, wanted.name, why, words.as_slice(), folder);
-        print_words(errors, said);
+    report(errors, log.unread_name(file), words.as_slice());
+    if let Some(site_file) = wanted.explained {
+        print_words(errors, refused_words(rt, wanted, file, site_file, why));
     }
     4
 }
 
-// Opens the file, which notes in the log whether it fails.
+// Opens the file of this number and name, which notes in the log whether it fails, unless it is one of those that are open.
 fn open(
     rt: &HostRuntime,
-    wanted: UnreadWanted<'_>,
-    signals: &Signals,
-    log: &Arc<Log>,
+    relay: &[u8],
+    noting: Noting<'_>,
+    file: usize,
+    name: &[u8],
+    opened: &[UnreadFile],
 ) -> Result<(UnreadFile, u64), Refusal> {
+    let Ok(name) = str::from_utf8(name) else {
+        return Err(Refusal::NoName);
+    };
     let alloc = rt.alloc();
-    let subject = log.unread_subject().unwrap_or(usize::MAX);
-    let Ok(noted) = ActionLog::new(alloc, log, subject) else {
+    let Ok(noted) = ActionLog::new(alloc, noting.log, noting.log.unread_subject(file)) else {
         return Err(Refusal::Host(Reason::NoMemory));
     };
-    UnreadFile::open(*rt, alloc, wanted.name, wanted.relay, signals, noted)
+    let (new, cut) = UnreadFile::open(*rt, alloc, name, relay, noting.signals, noted)?;
+    for other in opened {
+        if other.is_same(&new) {
+            return Err(Refusal::Twice);
+        }
+    }
+    Ok((new, cut))
 }
 
-/// The unread file, if there is to be one, or the exit status.
-pub fn unread_for<E: Sink>(
+/// The unread files that are wanted, or the exit status.
+pub fn unread_files<E: Sink>(
     rt: &HostRuntime,
-    wanted: Option<UnreadWanted<'_>>,
-    signals: &Signals,
-    log: &Arc<Log>,
+    wanted: UnreadWanted<'_>,
+    noting: Noting<'_>,
     errors: &mut E,
-) -> Result<Option<UnreadFile>, u8> {
-    let Some(wanted) = wanted else {
-        return Ok(None);
-    };
-    match open(rt, wanted, signals, log) {
-        Ok((file, cut)) => {
-            if cut > 0 {
-                report_cut(rt.alloc(), errors, wanted.name, cut);
+) -> Result<Vec<UnreadFile>, u8> {
+    let log = noting.log;
+    let mut files = Vec::new(rt.alloc());
+    for name in &wanted.files.names {
+        let number = files.len();
+        match open(rt, wanted.name, noting, number, name, files.as_slice()) {
+            Ok((file, cut)) => {
+                if cut > 0 {
+                    report_cut(rt, errors, log.unread_name(number), cut);
+                }
+                if files.push(file).is_err() {
+                    return Err(stop::out_of_memory(errors));
+                }
             }
-            Ok(Some(file))
+            Err(why) => return Err(refuse(rt, wanted, log, number, why, errors)),
         }
-        Err(why) => Err(refuse(rt, wanted, why, errors)),
     }
+    Ok(files)
 }

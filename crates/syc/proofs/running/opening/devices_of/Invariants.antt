@@ -1,5 +1,5 @@
 use Rattle.std.proofs.Common.{◌≡◌, length}
-use Rattle.syc.proofs.devices_of.Given as goal
+use Rattle.syc.proofs.running.opening.devices_of.Given as goal
 
 -- a device for each outlet so far
 abbrev pub invariant-loop-outlet : goal.invariant-loop-outlet
