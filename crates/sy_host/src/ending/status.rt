@@ -32,7 +32,7 @@ impl<E: Sink + Drop> Serving<E> {
             taken: standing.taken,
             lost: standing.lost,
             held: standing.held,
-            unread: reported_of(self.unread().is_some(), self.log().unread_frames()),
+            unread: reported_of(self.unread().is_some(), u128::from(standing.unread)),
             actions: standing.actions.as_slice(),
         };
         let mut text = Vec::new(alloc);

@@ -19,8 +19,8 @@ use sy_log::printing::Printing;
 use sy_report::texts::parts::{Part, append_parts};
 use sy_report::texts::reason::Reason;
 use sy_runtime::{ConnEnd, Finish, RunFault, Untaken};
-use sy_watched::watch::Watch;
 use sy_unread::skipping::Skipping;
+use sy_watched::watch::Watch;
 use sy_wire::{FrameFault, FromRead, Sink};
 
 /// What the threads of a relay that is served share.
@@ -342,13 +342,18 @@ fn read_all<R: Wait + Clock, C: Connector, E: Sink + Drop>(
     if !coming.is_kept() {
         return relay.connect(rt, alloc, at.input, &mut reader, &mut unread);
     }
-    let Ok(mut reader) = Skipping::new(alloc, reader, LongFrames { rt, coming }) else {
+    let Ok(mut reader) = Skipping::new(alloc, reader, LongFrames { rt, relay, coming }) else {
         let mut reader = FromRead::new(stream);
         return relay.connect(rt, alloc, at.input, &mut reader, &mut unread);
     };
-    let (mut end, untaken, mut answer) =
-        relay.connect(rt, alloc, at.input, &mut reader, &mut unread);
-    if end.add_unread(coming.long()).is_err() {
+    let (mut end, untaken, mut answer) = relay.connect(
+        rt,
+        alloc,
+        at.input,
+        &mut reader,
+        &mut unread,
+    );
+    if end.add_unread(coming.long()).is_err() || coming.is_full() {
         answer = Err(RunFault::TotalsFull);
     }
     if reader.is_within_long() && matches!(answer, Ok(Finish::Ended)) {
