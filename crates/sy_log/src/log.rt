@@ -134,22 +134,6 @@ impl Log {
         before.saturating_add(file)
     }
 
-    /// How many frames of all inputs carried no message.
-    pub fn unread_frames(&self) -> u128 {
-        let mut unread: u128 = 0;
-        for subject in &self.subjects {
-            unread = unread.saturating_add(u128::from(subject.unread()));
-        }
-        unread
-    }
-
-    /// So many frames more of an input carried no message.
-    pub fn count_unread(&self, input: u32, count: u64) {
-        if let Some(subject) = self.input(input) {
-            subject.take(0, count);
-        }
-    }
-
     /// A connection of an input begins to send what is no message.
     pub fn sends_no_message<R: Wait>(&self, rt: &R, input: u32, sending: Sending) {
         let Some(ended) = self.ended.get(input as usize) else {

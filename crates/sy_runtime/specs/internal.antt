@@ -1,6 +1,7 @@
 pub mod Held
 pub mod Gathering
 pub mod Keeping
+pub mod Counted
 pub mod Taking
 pub mod Halting
 pub mod Reading

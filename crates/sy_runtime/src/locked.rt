@@ -7,15 +7,14 @@ use crate::connection::halt::Halt;
 use crate::connection::taking::{Hand, has_hand};
 use crate::losing::Lost;
 use crate::standing::held_of;
-use sy_board::Board;
+use crate::tally::Tally;
 use sy_chain::Node;
 use sy_marks::Hold;
 
 /// What the lock of a relay holds. Who has the lock knows of the board what is known of every board.
 #[derive(Drop)]
 pub(crate) struct Locked {
-    // none once the relay has stopped
-    pub(crate) board: Option<Board>,
+    pub(crate) tally: Tally,
     pub(crate) is_closing: bool,
     // entries that have left the relay, whose memory may be used again
     pub(crate) used: Vec<Node>,
@@ -28,9 +27,9 @@ pub(crate) struct Locked {
 impl Locked {
     /// Whether the board holds nothing. One that is no longer here does so.
     pub(crate) fn is_empty(&self) -> bool
-        ensures { IsTrue result → IfSome self.now.board (λ board. held_by (account_of board) ≡ 0) }
+        ensures { IsTrue result → IfSome self.now.tally.board (λ board. held_by (account_of board) ≡ 0) }
     {
-        match &self.board {
+        match &self.tally.board {
             Some(board) => matches!(held_of(board.accounts()), Some(0)),
             None => true,
         }
@@ -41,7 +40,7 @@ impl Locked {
         if self.is_closing {
             return Hold::Clear;
         }
-        match &self.board {
+        match &self.tally.board {
             Some(board) => {
                 if has_hand(board, hand) {
                     board.gate(hand.input)
@@ -57,7 +56,7 @@ impl Locked {
     pub(crate) fn claim(&mut self, input: u32) -> Result<Hand, Halt>
         ensures { IfOk result (λ hand. (hand.input ≡ input) × (hand.number < 64)) }
     {
-        if self.is_closing || self.board.is_none() {
+        if self.is_closing || self.tally.board.is_none() {
             return Err(Halt::Closed);
         }
         let Some(hands) = self.hands.get_mut(input as usize) else {

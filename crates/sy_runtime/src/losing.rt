@@ -68,7 +68,7 @@ pub(crate) fn lost_since(board: &Board, before: Lost) -> Option<Lost> {
 impl Locked {
     /// How many messages were lost at inputs so far.
     pub(crate) fn lost_in(&self) -> u64 {
-        match &self.board {
+        match &self.tally.board {
             Some(board) => board.accounts().lost_in(),
             None => 0,
         }

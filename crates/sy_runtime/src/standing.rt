@@ -1,18 +1,25 @@
 //! The totals of a relay as they stand.
-ghost use Rattle.std.specs.Prelude.{◌≡◌, ◌+◌, IfOk, IfSome, map, sum_by};
+ghost use Rattle.std.specs.Prelude.{◌≡◌, ◌+◌, IfErr, IfOk, IfSome, map, sum_by};
 ghost use Rattle.sy_board.specs.relay.Boards.{counts_of};
 ghost use Rattle.sy_runtime.specs.Standing.{Stands, held_by};
+ghost use Rattle.sy_runtime.specs.internal.Counted.{TellsCounts};
 
-use crate::relay::Relay;
+use crate::connection_end::ConnEnd;
+use crate::fault::RunFault;
+use crate::relay::{Common, Relay};
 use crate::shared::Gate;
+use crate::tally::Tally;
 use std::alloc::{AllocError, Global};
 use std::sync::Wait;
 use sy_board::{Accounts, ActionCounts, Board};
 
-/// The totals of a relay as they stand: messages taken, losses, what it holds, how many entries wait in each queue, and what it counted of
+/// The totals of a relay as they stand: messages taken, frames that carried none, losses, what it holds, how many entries wait in each queue, and what it counted of
 /// each action. What it holds is each entry in a hand or in a queue, and of those that workers have all that is still to be done.
 #[derive(Drop)]
 pub struct Standing {
+    /// The frames that connections counted so far, and those of them that carried no message.
+    pub frames: u64,
+    pub unread: u64,
     pub taken: u64,
     pub lost: u128,
     pub held: u128,
@@ -54,9 +61,10 @@ fn copy_of(alloc: Global, actions: &[ActionCounts]) -> Result<Vec<ActionCounts>,
     Ok(copy)
 }
 
-// What a board counts and holds; none where there is no memory for it.
-fn standing_of(alloc: Global, board: &Board) -> Option<Standing>
-    ensures { IfSome result (λ s. Stands s.taken s.lost s.held s.queues.items (map counts_of s.actions.items)) }
+// What a board counts and holds, and connections counted of frames; none where there is no memory for it.
+fn standing_of(alloc: Global, board: &Board, counts: &ConnEnd) -> Option<Standing>
+    ensures stands { IfSome result (λ s. Stands s.taken s.lost s.held s.queues.items (map counts_of s.actions.items)) }
+    ensures tells { IfSome result (λ s. (s.frames ≡ counts.now.frames) × (s.unread ≡ counts.now.unread) × (s.taken ≡ board.now.totals.taken)) }
 {
     let accounts = board.accounts();
     let held = held_of(accounts)?;
@@ -67,6 +75,8 @@ fn standing_of(alloc: Global, board: &Board) -> Option<Standing>
         return None;
     };
     Some(Standing {
+        frames: counts.frames(),
+        unread: counts.unread(),
         taken: accounts.taken(),
         lost: accounts.lost(),
         held,
@@ -75,15 +85,38 @@ fn standing_of(alloc: Global, board: &Board) -> Option<Standing>
     })
 }
 
-impl<G: Gate> Relay<G> {
-    /// The totals as they stand, which it looks at once; none where there is no memory for them, or where the relay has stopped.
-    pub fn status<R: Wait>(&self, rt: &R, alloc: Global) -> Option<Standing>
-        ensures { IfSome result (λ s. Stands s.taken s.lost s.held s.queues.items (map counts_of s.actions.items)) }
+impl Tally {
+    // The totals as they stand; none where there is no memory for them, or where the board isn't here.
+    fn standing(&self, alloc: Global) -> Option<Standing>
+        ensures stands { IfSome result (λ s. Stands s.taken s.lost s.held s.queues.items (map counts_of s.actions.items)) }
+        ensures tells { IfSome result (λ s. TellsCounts s.frames s.unread s.taken self.now.counts) }
+        ensures counted { IfSome result (λ s. s.frames ≡ s.taken + s.unread) }
     {
-        let locked = self.common.shared.locked.lock(rt);
-        match &locked.board {
-            Some(board) => standing_of(alloc, board),
+        match &self.board {
+            Some(board) => standing_of(alloc, board, &self.counts),
             None => None,
         }
+    }
+}
+
+impl<G: Gate> Relay<G> {
+    /// The totals as they stand, which it looks at once; none where there is no memory for them, or where the relay has stopped. Each frame that connections
+    /// counted so far is a message that was taken, or carried none.
+    pub fn status<R: Wait>(&self, rt: &R, alloc: Global) -> Option<Standing>
+        ensures stands { IfSome result (λ s. Stands s.taken s.lost s.held s.queues.items (map counts_of s.actions.items)) }
+        ensures counted { IfSome result (λ s. s.frames ≡ s.taken + s.unread) }
+    {
+        self.common.shared.locked.lock(rt).tally.standing(alloc)
+    }
+
+    /// Counts so many frames of an input that carry no message and were kept, which no connection counts. Where a count would pass 2^64 - 1 nothing
+    /// has changed, and the answer is `TotalsFull`.
+    pub fn count_unread<R: Wait>(&self, rt: &R, input: u32, count: u64) -> Result<(), RunFault>
+        ensures { IfErr result (λ fault. fault ≡ RunFault.TotalsFull) }
+    {
+        let Common { shared, gate } = &*self.common;
+        shared.locked.lock(rt).tally.count_unread(count)?;
+        gate.takes(input, 0, count);
+        Ok(())
     }
 }

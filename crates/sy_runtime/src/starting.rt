@@ -8,6 +8,7 @@ use crate::locked::Locked;
 use crate::relay::{Common, Relay};
 use crate::shared::{BoxedDevice, Gate, Shared};
 use crate::stopping::Workers;
+use crate::tally::Tally;
 use crate::worker::work;
 use std::alloc::{AllocError, Global};
 use std::sync::{Arc, Condvar, Mutex, Wait};
@@ -67,7 +68,7 @@ pub(crate) fn share(
     let board = Board::new(alloc, plan, guard)?;
     Ok(Shared {
         locked: Mutex::new(Locked {
-            board: Some(board),
+            tally: Tally::new(board),
             is_closing: false,
             used: Vec::new(alloc),
             hands,

@@ -97,7 +97,7 @@ fn has_guard(board: &Board, guard: Option<&Guard>) -> bool
 
 // Takes the board out of its lock; none where it was taken before.
 fn take_board<R: Wait>(rt: &R, shared: &Shared) -> Option<Board> {
-    shared.locked.lock(rt).board.take()
+    shared.locked.lock(rt).tally.take_board()
 }
 
 // Takes the hatches out of their locks, into this room; none where one was taken before.

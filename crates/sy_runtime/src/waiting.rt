@@ -1,6 +1,6 @@
 //! How long connections and workers wait, and what they do where they waited long enough.
 
-use crate::connection::taking::{Hand, enter, has_hand};
+use crate::connection::taking::Hand;
 use crate::connection::used::keep;
 use crate::locked::Locked;
 use crate::losing::{Moved, report_lost, report_lost_at_queue, report_moved};
@@ -19,20 +19,14 @@ pub(crate) const MEMORY_WAIT: u64 = 100;
 // What is done with a message that waited long enough: the light-delay mark holds it no longer, and at a full queue
 // it is lost. The board refuses both where they aren't due any more.
 fn time_is_up(locked: &mut Locked, hand: Hand, hold: Hold, is_in_hand: &mut bool) {
-    let Some(board) = locked.board.as_mut() else {
-        return;
-    };
-    if !has_hand(board, hand) {
-        return;
-    }
     match hold {
         Hold::LightDelay => {
-            if enter(board, hand, true).is_ok() {
+            if locked.tally.enter(hand) {
                 *is_in_hand = false;
             }
         }
         Hold::Full => {
-            if let Ok(node) = board.expire(hand.input, hand.number) {
+            if let Some(node) = locked.tally.expire(hand) {
                 *is_in_hand = false;
                 keep(&mut locked.used, node);
             }
@@ -47,7 +41,7 @@ fn patience(locked: &Locked, hand: Hand, hold: Hold) -> Option<Duration> {
         Hold::FullDelay => None,
         Hold::LightDelay | Hold::Clear => Some(Duration::from_millis(LIGHT_DELAY)),
         Hold::Full => {
-            let board = locked.board.as_ref()?;
+            let board = locked.tally.board.as_ref()?;
             let input = board.plan().inputs().get(hand.input as usize)?;
             let queue = board.plan().queues().get(input.queue as usize)?;
             Some(Duration::from_millis(u64::from(queue.timeout_enqueue)))

@@ -1,5 +1,5 @@
 //! What serves the connections of a relay.
-ghost use Rattle.std.specs.Prelude.{IfSome, map};
+ghost use Rattle.std.specs.Prelude.{◌≡◌, ◌+◌, IfErr, IfSome, map};
 ghost use Rattle.sy_board.specs.relay.Boards.{counts_of};
 ghost use Rattle.sy_runtime.specs.Standing.{Stands};
 
@@ -25,7 +25,12 @@ pub trait Connector: Drop {
 
     /// The totals as they stand; none where there is no memory for them.
     fn status<R: Wait>(&self, rt: &R, alloc: Global) -> Option<Standing>
-        ensures { IfSome result (λ s. Stands s.taken s.lost s.held s.queues.items (map counts_of s.actions.items)) };
+        ensures stands { IfSome result (λ s. Stands s.taken s.lost s.held s.queues.items (map counts_of s.actions.items)) }
+        ensures counted { IfSome result (λ s. s.frames ≡ s.taken + s.unread) };
+
+    /// Counts frames of an input that carry no message and were kept, which no connection counts.
+    fn count_unread<R: Wait>(&self, rt: &R, input: u32, count: u64) -> Result<(), RunFault>
+        ensures { IfErr result (λ fault. fault ≡ RunFault.TotalsFull) };
 }
 
 impl Connector for Relay<LogGate> {
@@ -42,5 +47,9 @@ impl Connector for Relay<LogGate> {
 
     fn status<R: Wait>(&self, rt: &R, alloc: Global) -> Option<Standing> {
         Relay::status(self, rt, alloc)
+    }
+
+    fn count_unread<R: Wait>(&self, rt: &R, input: u32, count: u64) -> Result<(), RunFault> {
+        Relay::count_unread(self, rt, input, count)
     }
 }

@@ -343,7 +343,7 @@ fn read_all<R: Wait + Clock, C: Connector, E: Sink + Drop>(
     if !coming.is_kept() {
         return relay.connect(rt, alloc, at.input, &mut reader, &mut unread);
     }
-    let Ok(mut reader) = Skipping::new(alloc, reader, LongFrames { rt, coming }) else {
+    let Ok(mut reader) = Skipping::new(alloc, reader, LongFrames { rt, relay, coming }) else {
         let mut reader = FromRead::new(stream);
         return relay.connect(rt, alloc, at.input, &mut reader, &mut unread);
     };
@@ -354,7 +354,7 @@ fn read_all<R: Wait + Clock, C: Connector, E: Sink + Drop>(
         &mut reader,
         &mut unread,
     );
-    if end.add_unread(coming.long()).is_err() {
+    if end.add_unread(coming.long()).is_err() || coming.is_full() {
         answer = Err(RunFault::TotalsFull);
     }
     if reader.is_within_long() && matches!(answer, Ok(Finish::Ended)) {

@@ -1,5 +1,6 @@
 //! What a connection sends that is no message.
 
+use crate::listening::connector::Connector;
 use crate::listening::serving::{Port, Serving};
 use crate::listening::unread_file::UnreadFrame;
 use std::net::SocketAddr;
@@ -20,6 +21,8 @@ pub struct Coming<'a, E: Drop> {
     peer: SocketAddr,
     // how many of its frames were too long, of which its end counts none
     long: AtomicU64,
+    // whether the relay couldn't count one of these
+    is_full: AtomicBool,
     // whether it was told that it sends what is no message
     is_reported: AtomicBool,
 }
@@ -32,6 +35,7 @@ impl<'a, E: Sink + Drop> Coming<'a, E> {
             at,
             peer,
             long: AtomicU64::new(0),
+            is_full: AtomicBool::new(false),
             is_reported: AtomicBool::new(false),
         }
     }
@@ -44,6 +48,11 @@ impl<'a, E: Sink + Drop> Coming<'a, E> {
     /// How many of its frames were too long.
     pub fn long(&self) -> u64 {
         self.long.load(Ordering::SeqCst)
+    }
+
+    /// Whether the relay couldn't count one of these, since its totals are full.
+    pub fn is_full(&self) -> bool {
+        self.is_full.load(Ordering::SeqCst)
     }
 
     // Keeps what it sent in its input's unread file, if there is one, and has the first of it told.
@@ -88,12 +97,13 @@ impl<E: Sink + Drop> UnreadSink for UnreadFrames<'_, E> {
 
 /// What a connection sends that is too long for a frame, or begins none, which the relay keeps in the unread file of its input.
 #[derive(Drop)]
-pub struct LongFrames<'a, R, E: Drop> {
+pub struct LongFrames<'a, R, C, E: Drop> {
     pub rt: &'a R,
+    pub relay: &'a C,
     pub coming: &'a Coming<'a, E>,
 }
 
-impl<R: Wait + Clock, E: Sink + Drop> LongFrames<'_, R, E> {
+impl<R: Wait + Clock, C: Connector, E: Sink + Drop> LongFrames<'_, R, C, E> {
     // Keeps the first bytes of one, of which this is wrong.
     fn keep(
         &self,
@@ -117,15 +127,18 @@ impl<R: Wait + Clock, E: Sink + Drop> LongFrames<'_, R, E> {
     }
 }
 
-impl<R: Wait + Clock, E: Sink + Drop> LongSink for LongFrames<'_, R, E> {
+impl<R: Wait + Clock, C: Connector, E: Sink + Drop> LongSink for LongFrames<'_, R, C, E> {
     fn keep_long(&mut self, length: u64, text: &[u8]) -> Result<(), skipping::NotKept> {
         self.keep(NoMessage::Long, Some(length), text)?;
-        let _ = self.coming.long.fetch_add(1, Ordering::SeqCst);
-        self.coming
-            .serving
-            .log()
-            .count_unread(self.coming.at.input, 1);
-        Ok(())
+        let coming = self.coming;
+        let _ = coming.long.fetch_add(1, Ordering::SeqCst);
+        match self.relay.count_unread(self.rt, coming.at.input, 1) {
+            Ok(()) => Ok(()),
+            Err(_) => {
+                coming.is_full.store(true, Ordering::SeqCst);
+                Err(skipping::NotKept)
+            }
+        }
     }
 
     fn keep_unframed(&mut self, text: &[u8]) -> Result<(), skipping::NotKept> {

@@ -5,7 +5,7 @@ ghost use Rattle.sy_runtime.specs.internal.Held.{Holds};
 
 use crate::connection::halt::Halt;
 use crate::connection::keeping::keep_unread;
-use crate::connection::taking::{Hand, Pause, insert_some};
+use crate::connection::taking::{Hand, Pause};
 use crate::connection_end::{ConnEnd, UnreadSink};
 use crate::losing::{Moved, report_moved};
 use crate::shared::{Gate, Shared};
@@ -51,10 +51,9 @@ pub(crate) fn insert_batch<R: Wait + Clock, G: Gate, U: UnreadSink>(
             return Err(Halt::Closed);
         }
         let before = Moved::of(end, locked.lost_in());
-        let Some(board) = locked.board.as_mut() else {
+        let Some(insert_batch) = locked.tally.insert_some(hand, batch, end, is_in_hand, used) else {
             return Err(Halt::Closed);
         };
-        let insert_batch = insert_some(board, hand, batch, end, is_in_hand, used);
         let moved = Moved::of(end, locked.lost_in()).since(before);
         if let Err(Pause::Held(hold)) = insert_batch {
             shared.work.notify_all();
@@ -70,7 +69,7 @@ pub(crate) fn insert_batch<R: Wait + Clock, G: Gate, U: UnreadSink>(
         shared.work.notify_all();
         report_moved(gate, hand.input, moved);
         insert_batch.map_err(halt_at)?;
-        keep_unread(rt, gate, sink, hand.input, batch, end)?;
+        keep_unread(rt, shared, gate, sink, hand.input, batch, end)?;
         if batch.is_empty() {
             return Ok(());
         }

@@ -5,6 +5,7 @@ ghost use Rattle.sy_board.specs.relay.Plans.{input_at};
 ghost use Rattle.sy_board.specs.relay.Steps.{IsHand, IsOfInput};
 ghost use Rattle.sy_runtime.specs.Connections.{Kept as KeptTexts};
 ghost use Rattle.sy_runtime.specs.declared.untaken.Item.{Item as Kept};
+ghost use Rattle.sy_runtime.specs.internal.Counted.{RoseAlike};
 ghost use Rattle.sy_runtime.specs.internal.Held.{Holds};
 ghost use Rattle.sy_runtime.specs.internal.Taking.{Enters, HasMessage, IsLast, IsUpToUnread, ItemTaken, MayEnter, OneInsert, InsertIs, SomeInsert, TakenIs, Takes};
 
@@ -139,14 +140,15 @@ fn enter_left(board: &mut Board, hand: Hand, is_in_hand: &mut bool) -> Result<()
     }
 }
 
-// Takes one item, which has a message, and counts it then. The answer is whether its message stays in the hand; or why
+// Takes one item, which has a message, and counts it then, of its connection and of all. The answer is whether its message stays in the hand; or why
 // the item wasn't taken, and the item.
-#[tactic(auto, using(crate::proofs::Taken::took_one, crate::proofs::Taken::back))]
+#[tactic(auto, using(crate::proofs::Taken::took_one, crate::proofs::Taken::back, crate::proofs::Counted::took_alike, crate::proofs::Counted::none_alike))]
 fn take_item(
     board: &mut Board,
     hand: Hand,
     item: Item,
     end: &mut ConnEnd,
+    counts: &mut ConnEnd,
     used: &mut Vec<Node>,
 ) -> Result<bool, (Pause, Item)>
     requires hand { IsHand board.old.plan hand.input hand.number }
@@ -157,9 +159,10 @@ fn take_item(
     ensures last { IfErr result (λ e. IsLast e.0) }
     ensures err { OnErr result (board.new ≡ board.old) }
     ensures taken { board.new.totals.taken + end.old.took ≡ board.old.totals.taken + end.new.took }
+    ensures counted { RoseAlike counts.old counts.new end.old end.new }
     ensures plan { board.new.plan ≡ board.old.plan }
 {
-    if end.is_full() {
+    if end.is_full() || counts.is_full() {
         return Err((Pause::TotalsFull, item));
     }
     match item {
@@ -168,6 +171,7 @@ fn take_item(
         Item::Message(node) => match take(board, hand, node, used) {
             Ok(stays) => {
                 end.count_message();
+                counts.count_message();
                 Ok(stays)
             }
             Err((pause, node)) => Err((pause, Item::Message(node))),
@@ -181,6 +185,7 @@ fn insert_one(
     hand: Hand,
     item: Item,
     end: &mut ConnEnd,
+    counts: &mut ConnEnd,
     is_in_hand: &mut bool,
     used: &mut Vec<Node>,
 ) -> Result<(), (Pause, Option<Item>)>
@@ -190,9 +195,10 @@ fn insert_one(
         InsertIs result read end.new reported later left }
     ensures inserted { OneInsert result item board.old hand board.new }
     ensures taken { board.new.totals.taken + end.old.took ≡ board.old.totals.taken + end.new.took }
+    ensures counted { RoseAlike counts.old counts.new end.old end.new }
     ensures plan { board.new.plan ≡ board.old.plan }
 {
-    match take_item(board, hand, item, end, used) {
+    match take_item(board, hand, item, end, counts, used) {
         Ok(false) => return Ok(()),
         Ok(true) => {}
         Err((pause, item)) => return Err((pause, Some(item))),
@@ -207,8 +213,8 @@ fn insert_one(
     }
 }
 
-// An item that wasn't taken stands first again.
-fn push_front_if_any(batch: &mut VecDeque<Item>, item: Option<Item>)
+/// An item that wasn't taken stands first again.
+pub(crate) fn push_front_if_any(batch: &mut VecDeque<Item>, item: Option<Item>)
     requires { deque_len batch.old < deque_capacity batch.old }
     ensures { batch.new.items ≡ option_to_list item ++ batch.old.items }
 {
@@ -219,12 +225,13 @@ fn push_front_if_any(batch: &mut VecDeque<Item>, item: Option<Item>)
 
 /// Takes a batch, item after item, up to the first frame that carries no message, or to where the connection has to pause. `is_in_hand` says whether its last
 /// message is still in the hand, where it goes on from there.
-#[tactic(auto, using(crate::proofs::Inserts::some_insert, crate::proofs::Inserts::first_insert))]
+#[tactic(auto, using(crate::proofs::Inserts::some_insert, crate::proofs::Inserts::first_insert, crate::proofs::Counted::none_alike, crate::proofs::Counted::both_alike))]
 pub(crate) fn insert_some(
     board: &mut Board,
     hand: Hand,
     batch: &mut VecDeque<Item>,
     end: &mut ConnEnd,
+    counts: &mut ConnEnd,
     is_in_hand: &mut bool,
     used: &mut Vec<Node>,
 ) -> Result<(), Pause>
@@ -233,6 +240,7 @@ pub(crate) fn insert_some(
     ensures all { OnOk result (IsUpToUnread batch.new.items) }
     ensures inserted { SomeInsert result batch.old.items batch.new.items board.old hand board.new }
     ensures taken { board.new.totals.taken + end.old.took ≡ board.old.totals.taken + end.new.took }
+    ensures counted { RoseAlike counts.old counts.new end.old end.new }
     ensures plan { board.new.plan ≡ board.old.plan }
 {
     if !has_hand(board, hand) {
@@ -247,7 +255,7 @@ pub(crate) fn insert_some(
             push_front_if_any(batch, Some(item));
             return Ok(());
         }
-        match insert_one(board, hand, item, end, is_in_hand, used) {
+        match insert_one(board, hand, item, end, counts, is_in_hand, used) {
             Ok(()) => {}
             Err((pause, item)) => {
                 push_front_if_any(batch, item);

@@ -8,14 +8,13 @@ ghost use Rattle.sy_runtime.specs.internal.Finding.{WaitsAtMark};
 
 use crate::locked::Locked;
 use crate::losing::{Lost, lost_before, lost_since};
-use crate::worker::finding::{Next, find, has_worker};
-use crate::worker::posting::{PostOutcome, patience, post};
-use crate::worker::recording::{After, discard, record};
+use crate::worker::finding::{Next, has_worker};
+use crate::worker::posting::patience;
+use crate::worker::recording::After;
 use std::alloc::Global;
 use std::sync::Arc;
 use std::time::Duration;
 use sy_actions::{Failure, Receipts};
-use sy_board::PostCause;
 use sy_wire::Message;
 
 impl Locked {
@@ -30,17 +29,14 @@ impl Locked {
             return Next::Ends;
         }
         let before = self.lost_before(worker);
-        let next = match self.board.as_mut() {
-            Some(board) => find(alloc, board, worker, messages, &mut self.used),
-            None => Next::Ends,
-        };
+        let next = self.tally.find(alloc, worker, messages, &mut self.used);
         self.note_lost(before);
         next
     }
 
     // What was lost at queues before a worker's next step.
     fn lost_before(&self, worker: u32) -> Option<Lost> {
-        match &self.board {
+        match &self.tally.board {
             Some(board) => {
                 if has_worker(board, worker) {
                     Some(lost_before(board, worker))
@@ -57,7 +53,7 @@ impl Locked {
         let Some(before) = before else {
             return;
         };
-        if let Some(board) = &self.board {
+        if let Some(board) = &self.tally.board {
             self.lost = lost_since(board, before);
         }
     }
@@ -69,10 +65,7 @@ impl Locked {
         receipts: Receipts,
         failure: Option<Failure>,
     ) -> After {
-        match self.board.as_mut() {
-            Some(board) => record(board, worker, receipts, failure, &mut self.used),
-            None => discard(receipts, failure),
-        }
+        self.tally.record(worker, receipts, failure, &mut self.used)
     }
 
     /// Tries the post of a worker again, which is held; whether it still is. Nothing is once the relay closes.
@@ -81,13 +74,7 @@ impl Locked {
             return false;
         }
         let before = self.lost_before(worker);
-        let holds = match self.board.as_mut() {
-            Some(board) => {
-                has_worker(board, worker)
-                    && post(alloc, board, worker, &mut self.used) == PostOutcome::Held
-            }
-            None => false,
-        };
+        let holds = self.tally.holds_post(alloc, worker, &mut self.used);
         self.note_lost(before);
         holds
     }
@@ -95,23 +82,19 @@ impl Locked {
     /// Loses the post of a worker, unless its queue has room by now or a mark holds the post.
     pub(crate) fn lose_post(&mut self, worker: u32) {
         let before = self.lost_before(worker);
-        if let Some(board) = self.board.as_mut() {
-            if has_worker(board, worker) {
-                let _ = board.post_lost(worker, PostCause::Full);
-            }
-        }
+        self.tally.lose_post(worker);
         self.note_lost(before);
     }
 
     /// How long the post of a worker waits where it is held; none where it waits as long as it takes.
     pub(crate) fn patience(&self, worker: u32) -> Option<Duration>
-        ensures none { IfNone result (IfSome self.now.board (λ board. (list : ℕ) → IsJob board.plan board.state worker (occurrence.Post list)
+        ensures none { IfNone result (IfSome self.now.tally.board (λ board. (list : ℕ) → IsJob board.plan board.state worker (occurrence.Post list)
             → WaitsAtMark (parameters_at board.plan (queue_for board.plan list)))) }
-        ensures some { IfSome result (λ time. IfSome self.now.board (λ board. (list : ℕ) → worker < length board.plan.workers
+        ensures some { IfSome result (λ time. IfSome self.now.tally.board (λ board. (list : ℕ) → worker < length board.plan.workers
             → IsJob board.plan board.state worker (occurrence.Post list)
             → WaitsAtMark (parameters_at board.plan (queue_for board.plan list)) → ⊥)) }
     {
-        let time = match &self.board {
+        let time = match &self.tally.board {
             Some(board) => {
                 if has_worker(board, worker) {
                     patience(board, worker)?
