@@ -18,7 +18,6 @@ use Rattle.sy_marks.specs.contracts.queue.MarkQueue as Queue
 use Rattle.sy_rules.specs.contracts.plan.Plan as Plan
 use Rattle.sy_select.proofs.node.Node.TheLaws.TheKnot.{crosses as expressions}
 use Rattle.sy_runtime.specs.contracts.locked.Locked as Locked
-use Rattle.sy_runtime.specs.contracts.tally.Tally as Tally
 use Rattle.sy_runtime.specs.contracts.relay.Common as Common
 use Rattle.sy_runtime.specs.contracts.relay.Relay as Relay
 
@@ -46,11 +45,8 @@ queue_send = search (chain_send, sendable, crosses) depth 30 fits 2000
 board_send : IsSend Board.the_row
 board_send = search (plan_send, plan_sync, queue_send, chain_send, node_send, guard_send, sendable, crosses) depth 40 fits 2000
 
-tally_send : IsSend Tally.the_row
-tally_send = search (board_send, sendable, crosses) depth 20
-
 locked_send : IsSend Locked.the_row
-locked_send = search (tally_send, node_send, sendable, crosses) depth 20
+locked_send = search (board_send, node_send, sendable, crosses) depth 40 fits 2000
 
 guard_sync : IsSync Guard.the_row
 guard_sync = search (sendable, crosses) depth 30 fits 2000
