@@ -165,6 +165,29 @@ def stop_while_the_file_fails(room):
 
 
 @test
+def stop_at_a_long_frame_while_the_file_fails(room):
+    relay, port = hub(room, "/dev/full")
+    sender = Sender(port).send(message(0), b"x" * 70_000)
+    relay.says("syc: unread file /dev/full fails: no storage space")
+    room.holds("audit.log", messages(1))
+    same("totals", relay.stop(), done(1, 0))
+    told = [it for it in relay.lines() if it.startswith(f"syc: input {port} unread at the stop: 1 connections, ")]
+    same("it is told", [int(it.split(", ")[1].split()[0]) >= 65_542 for it in told], [True])
+    sender.close()
+
+
+@test
+def stop_within_a_long_frame(room):
+    relay, port = hub(room)
+    sender = Sender(port).send_bytes(frame(message(0)) + b"100000 " + b"y" * 30_000)
+    room.holds("audit.log", messages(1))
+    same("totals", relay.stop(), done(1, 0))
+    told = [it for it in relay.lines() if it.startswith(f"syc: input {port} unread at the stop: ")]
+    same("it is told", told, [f"syc: input {port} unread at the stop: 1 connections, 30007 bytes or more"])
+    sender.close()
+
+
+@test
 def file_is_opened_anew(room):
     relay, port = hub(room)
     sender = Sender(port).send(b"first")

@@ -91,6 +91,13 @@ impl<S: Source, K: LongSink> Skipping<S, K> {
         matches!(self.standing.place(), Place::WithinLong(_))
     }
 
+    /// The bytes that came and were neither handed on nor kept nor skipped, 65,546 at most.
+    pub fn held(&self) -> &[u8]
+        ensures { result.now ≡ self.now.standing.held }
+    {
+        self.standing.held()
+    }
+
     /// What keeps what isn't handed on.
     pub fn into_sink(self) -> K
     where

@@ -306,19 +306,42 @@ fn noted_end(peer: SocketAddr, end: &ConnEnd, answer: Result<Finish, RunFault>) 
     }
 }
 
-// What a connection leaves that ended so, where the relay ended it.
+// How a connection ended.
+#[derive(Drop)]
+struct Ending {
+    end: ConnEnd,
+    untaken: Untaken,
+    // how many bytes it had read beside those
+    held: u64,
+    answer: Result<Finish, RunFault>,
+}
+
+impl Ending {
+    // Of one of which no bytes wait for their frame to be whole.
+    fn new((end, untaken, answer): (ConnEnd, Untaken, Result<Finish, RunFault>)) -> Ending {
+        Ending {
+            end,
+            untaken,
+            held: 0,
+            answer,
+        }
+    }
+}
+
+// What a connection leaves that ended so, where the relay ended it; it had read so many bytes more.
 fn rest_of(
     alloc: Global,
     input: u32,
     untaken: Untaken,
+    held: u64,
     answer: Result<Finish, RunFault>,
     stream: &TcpStream,
 ) -> Option<Rest> {
     let unread = match answer {
-        Ok(Finish::Closed) => count_unread(alloc, stream),
+        Ok(Finish::Closed) => count_unread(alloc, stream).saturating_add(held),
         // (nothing was read of one that got no hand, of which there may be any number)
         Err(RunFault::Hands) if untaken.items.is_empty() => return None,
-        Err(RunFault::Hands | RunFault::NoMemory | RunFault::TotalsFull) => 0,
+        Err(RunFault::Hands | RunFault::NoMemory | RunFault::TotalsFull) => held,
         Ok(Finish::Ended) | Err(_) => return None,
     };
     Some(Rest {
@@ -337,15 +360,15 @@ fn read_all<R: Wait + Clock, C: Connector, E: Sink + Drop>(
     at: Port,
     stream: &TcpStream,
     coming: &Coming<'_, E>,
-) -> (ConnEnd, Untaken, Result<Finish, RunFault>) {
+) -> Ending {
     let mut unread = UnreadFrames { coming };
     let mut reader = FromRead::new(stream);
     if !coming.is_kept() {
-        return relay.connect(rt, alloc, at.input, &mut reader, &mut unread);
+        return Ending::new(relay.connect(rt, alloc, at.input, &mut reader, &mut unread));
     }
     let Ok(mut reader) = Skipping::new(alloc, reader, LongFrames { rt, relay, coming }) else {
         let mut reader = FromRead::new(stream);
-        return relay.connect(rt, alloc, at.input, &mut reader, &mut unread);
+        return Ending::new(relay.connect(rt, alloc, at.input, &mut reader, &mut unread));
     };
     let (mut end, untaken, mut answer) = relay.connect(
         rt,
@@ -360,7 +383,16 @@ fn read_all<R: Wait + Clock, C: Connector, E: Sink + Drop>(
     if reader.is_within_long() && matches!(answer, Ok(Finish::Ended)) {
         answer = Err(RunFault::Frame(FrameFault::Truncated));
     }
-    (end, untaken, answer)
+    if coming.is_refused() {
+        answer = Ok(Finish::Closed);
+    }
+    let held = reader.held().len() as u64;
+    Ending {
+        end,
+        untaken,
+        held,
+        answer,
+    }
 }
 
 /// Serves a connection until it ends.
@@ -381,9 +413,14 @@ pub fn serve_connection<R: Wait + Clock + Drop, C: Connector, E: Sink + Drop>(
     } = connection;
     serving.watch().connection_begins(at.input);
     let coming = Coming::new(&*serving, at, peer);
-    let (end, untaken, answer) = read_all(&rt, alloc, &*relay, at, &stream, &coming);
+    let Ending {
+        end,
+        untaken,
+        held,
+        answer,
+    } = read_all(&rt, alloc, &*relay, at, &stream, &coming);
     serving.watch().connection_ended(at.input);
-    let rest = rest_of(alloc, at.input, untaken, answer, &stream);
+    let rest = rest_of(alloc, at.input, untaken, held, answer, &stream);
     let noted = noted_end(peer, &end, answer);
     serving.end(&rt, at.input, place, end, rest, noted);
     ended.push(&rt, thread);

@@ -23,6 +23,8 @@ pub struct Coming<'a, E: Drop> {
     long: AtomicU64,
     // whether the relay couldn't count one of these
     is_full: AtomicBool,
+    // whether one of them, or bytes that begin none, couldn't be kept until the relay ended
+    is_refused: AtomicBool,
     // whether it was told that it sends what is no message
     is_reported: AtomicBool,
 }
@@ -36,6 +38,7 @@ impl<'a, E: Sink + Drop> Coming<'a, E> {
             peer,
             long: AtomicU64::new(0),
             is_full: AtomicBool::new(false),
+            is_refused: AtomicBool::new(false),
             is_reported: AtomicBool::new(false),
         }
     }
@@ -53,6 +56,11 @@ impl<'a, E: Sink + Drop> Coming<'a, E> {
     /// Whether the relay couldn't count one of these, since its totals are full.
     pub fn is_full(&self) -> bool {
         self.is_full.load(Ordering::SeqCst)
+    }
+
+    /// Whether the relay ended before one of these, or bytes that begin none, could be kept.
+    pub fn is_refused(&self) -> bool {
+        self.is_refused.load(Ordering::SeqCst)
     }
 
     // Keeps what it sent in its input's unread file, if there is one, and has the first of it told.
@@ -122,7 +130,10 @@ impl<R: Wait + Clock, C: Connector, E: Sink + Drop> LongFrames<'_, R, C, E> {
         };
         match coming.keep(self.rt, &frame) {
             Ok(()) => Ok(()),
-            Err(NotKept) => Err(skipping::NotKept),
+            Err(NotKept) => {
+                coming.is_refused.store(true, Ordering::SeqCst);
+                Err(skipping::NotKept)
+            }
         }
     }
 }
