@@ -1,5 +1,5 @@
 -- The inputs of a relay are looked through for a whole entry that no file keeps.
-use Rattle.std.proofs.Common.{◌≡◌, ◌<◌, ◌≤◌, ◌+◌, ◌×◌, ℕ, List, length, get_or, refl, sym, subst, ap, ◌∙◌, arith, inl, inr}
+use Rattle.std.proofs.Common.{◌≡◌, ◌<◌, ◌≤◌, ◌+◌, ℕ, List, length, get_or, refl, sym, subst, ap, ◌∙◌, arith, inl, inr}
 use Rattle.std.specs.Prelude.{Option, Some, None, true, slice_get}
 use Rattle.std.proofs.lemmas.Bool.{cases_eq}
 use Rattle.std.proofs.lemmas.Option.{slice_get-get_or, slice_get_within}
@@ -16,10 +16,11 @@ one_value e = cc
 pub begun : (site : Site) (relay : ℕ) (given : Option (List ℕ)) → NoneBefore site relay given 0
 begun site relay given before less is = omega (arith, less)
 
-module _ (site : Site) (relay : ℕ) (given : Option (List ℕ)) (number : ℕ) (input : Input) (within : number < length (plan_at site relay).inputs)
-    (is : input ≡ get_or (plan_at site relay).inputs number input) where
+module _ (site : Site) (relay : ℕ) (given : Option (List ℕ)) (number : ℕ) (input : Input) (inputs : List Input) (same : inputs ≡ (plan_at site relay).inputs)
+    (index : ℕ) (at : number ≡ index) (within : index < length inputs) (is : input ≡ get_or inputs index input) where
   at_it : slice_get (plan_at site relay).inputs number ≡ Some input
-  at_it = slice_get-get_or (plan_at site relay).inputs number input within ∙ ap Some (sym is)
+  at_it =
+      ap (λ xs. slice_get xs number) (sym same) ∙ ap (λ n. slice_get inputs n) at ∙ slice_get-get_or inputs index input within ∙ ap Some (sym is)
 
   -- the one that was found
   pub found : is_whole site (record { relay = relay; input = number }) ≡ true → unread_file given input ≡ None → NoneBefore site relay given number
@@ -41,7 +42,7 @@ module _ (site : Site) (relay : ℕ) (given : Option (List ℕ)) (number : ℕ) 
       ]
 
 -- all were looked at
-pub none_at_all : (site : Site) (relay : ℕ) (given : Option (List ℕ)) (number : ℕ) → length (plan_at site relay).inputs ≤ number
-    → NoneBefore site relay given number → KeepsWhole site relay given
-none_at_all site relay given number all none any unkept =
-    none any (let low = slice_get_within (plan_at site relay).inputs any unkept.input unkept.there in omega (arith, all, low)) unkept
+pub none_at_all : (site : Site) (relay : ℕ) (given : Option (List ℕ)) (number : ℕ) (inputs : List Input) → inputs ≡ (plan_at site relay).inputs
+    → length inputs ≤ number → NoneBefore site relay given number → KeepsWhole site relay given
+none_at_all site relay given number inputs same all none any unkept =
+    none any (let low = slice_get_within inputs any unkept.input (ap (λ xs. slice_get xs any) same ∙ unkept.there) in omega (arith, all, low)) unkept

@@ -23,8 +23,12 @@ IsFirstUnkept site relay given None = KeepsWhole site relay given
 IsFirstUnkept site relay given (Some found) =
     ((is : IsUnkept site relay given found.0) × (found.1 ≡ is.input.port)) × ((before : ℕ) → before < found.0 → IsUnkept site relay given before → ⊥)
 
+-- syc: input PORT WORDS
+abbrev pub input_line : ℕ → List ℕ → List ℕ
+input_line port words = joined (codes "syc: input " ∷ decimal port ∷ words ∷ (line_feed ∷ []) ∷ [])
+
 -- syc: input PORT is a whole entry of the site, ..
 abbrev pub unkept_line : ℕ → List ℕ
 unkept_line port =
-    joined (codes "syc: input " ∷ decimal port ∷ codes " is a whole entry of the site, and nothing keeps its frames without a message: give --unread FILE, or unreadFile= on the input"
-    ∷ (line_feed ∷ []) ∷ [])
+    input_line port
+    (codes " is a whole entry of the site, and nothing keeps its frames without a message: give --unread FILE, or unreadFile= on the input")

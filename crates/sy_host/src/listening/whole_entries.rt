@@ -15,8 +15,8 @@ use sy_wire::Sink;
 
 // Whether an input is a whole entry that no file keeps.
 fn is_unkept(site: &Site, at: SiteInput, input: &Input, given: Option<&[u8]>) -> bool
-    ensures yes { result ≡ true → (is_whole site.now at ≡ true) × (unread_file (option_map (λ name. name.now) given) input.now ≡ None) }
-    ensures no { result ≡ false → is_whole site.now at ≡ true → unread_file (option_map (λ name. name.now) given) input.now ≡ None → ⊥ }
+    ensures yes { result ≡ true → (is_whole site.now at ≡ true) × (unread_file (option_map (λ name. name.now) given.entry) input.now ≡ None) }
+    ensures no { result ≡ false → is_whole site.now at ≡ true → unread_file (option_map (λ name. name.now) given.entry) input.now ≡ None → ⊥ }
 {
     match unread_file(input, given) {
         Some(_) => false,
@@ -28,7 +28,7 @@ fn is_unkept(site: &Site, at: SiteInput, input: &Input, given: Option<&[u8]>) ->
 /// none is given for all.
 pub fn first_unkept(site: &Site, relay: u32, given: Option<&[u8]>) -> Option<(u32, u16)>
     requires exists { relay < length site.now.relays }
-    ensures { spec.IsFirstUnkept site.now relay (option_map (λ name. name.now) given) result }
+    ensures { spec.IsFirstUnkept site.now relay (option_map (λ name. name.now) given.entry) result }
 {
     let plan = site.plan(relay);
     plans_are_whole(plan);
@@ -46,22 +46,15 @@ pub fn first_unkept(site: &Site, relay: u32, given: Option<&[u8]>) -> Option<(u3
     None
 }
 
-// Tells that nothing keeps the frames without a message of the input of this port, which is a whole entry.
-fn report_unkept<E: Sink>(errors: &mut E, port: u16)
+// Prints a line about the input of this port.
+fn report_input<E: Sink>(errors: &mut E, port: u64, words: &[u8])
     ensures { Reported
         (seen E.contents E.is_flushed E.faults errors.old) (seen E.contents E.is_flushed E.faults errors.new)
-        (spec.unkept_line port) }
+        (spec.input_line port words.now) }
 {
     let mut digits = Buffer::new();
-    report_texts(
-        errors,
-        &[
-            b"syc: input ",
-            digits.format(u64::from(port)).as_bytes(),
-            b" is a whole entry of the site, and nothing keeps its frames without a message: give --unread FILE, or unreadFile= on the input",
-            b"\n",
-        ],
-    );
+    let port = digits.format(port).as_bytes();
+    report_texts(errors, &[b"syc: input ", port, words, b"\n"]);
 }
 
 /// The same, which is told, where there is one.
@@ -72,13 +65,17 @@ pub fn report_first_unkept<E: Sink>(
     errors: &mut E,
 ) -> Option<(u32, u16)>
     requires exists { relay < length site.now.relays }
-    ensures first { spec.IsFirstUnkept site.now relay (option_map (λ name. name.now) given) result }
+    ensures first { spec.IsFirstUnkept site.now relay (option_map (λ name. name.now) given.entry) result }
     ensures reported { IfSome result (λ found. Reported
         (seen E.contents E.is_flushed E.faults errors.old) (seen E.contents E.is_flushed E.faults errors.new)
         (spec.unkept_line found.1)) }
     ensures quiet { IfNone result (errors.new ≡ errors.old) }
 {
     let (input, port) = first_unkept(site, relay, given)?;
-    report_unkept(errors, port);
+    report_input(
+        errors,
+        u64::from(port),
+        b" is a whole entry of the site, and nothing keeps its frames without a message: give --unread FILE, or unreadFile= on the input",
+    );
     Some((input, port))
 }

@@ -46,9 +46,9 @@ pub fn keep_whole<E: Sink>(
     errors: &mut E,
 ) -> Result<(), u8>
     requires exists { relay < length site.now.relays }
-    ensures ok { IfOk result (λ _. KeepsWhole site.now relay (option_map (λ file. file.now) unread)) }
+    ensures ok { IfOk result (λ _. KeepsWhole site.now relay (option_map (λ file. file.now) unread.entry)) }
     ensures refused { IfErr result (λ status. (status ≡ 2)
-        × (found : ℕ × ℕ) × IsFirstUnkept site.now relay (option_map (λ file. file.now) unread) (Some found)) }
+        × (found : ℕ × ℕ) × IsFirstUnkept site.now relay (option_map (λ file. file.now) unread.entry) (Some found)) }
 {
     let given = match unread {
         Some(file) => Some(file.as_bytes()),
