@@ -32,10 +32,7 @@ impl<E: Sink + Drop> Serving<E> {
             taken: standing.taken,
             lost: standing.lost,
             held: standing.held,
-            unread: reported_of(
-                self.log().has_unread_files(),
-                u128::from(standing.unread),
-            ),
+            unread: reported_of(self.log().has_unread_files(), u128::from(standing.unread)),
             actions: standing.actions.as_slice(),
         };
         let mut text = Vec::new(alloc);
