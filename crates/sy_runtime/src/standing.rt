@@ -2,7 +2,7 @@
 ghost use Rattle.std.specs.Prelude.{◌≡◌, ◌+◌, IfErr, IfOk, IfSome, map, sum_by};
 ghost use Rattle.sy_board.specs.relay.Boards.{counts_of};
 ghost use Rattle.sy_runtime.specs.Standing.{Stands, held_by};
-ghost use Rattle.sy_runtime.specs.internal.Counted.{TellsCounts};
+ghost use Rattle.sy_runtime.specs.internal.Counted.{ReportsCounts};
 
 use crate::connection_end::ConnEnd;
 use crate::fault::RunFault;
@@ -64,7 +64,7 @@ fn copy_of(alloc: Global, actions: &[ActionCounts]) -> Result<Vec<ActionCounts>,
 // What a board counts and holds, and connections counted of frames; none where there is no memory for it.
 fn standing_of(alloc: Global, board: &Board, counts: &ConnEnd) -> Option<Standing>
     ensures stands { IfSome result (λ s. Stands s.taken s.lost s.held s.queues.items (map counts_of s.actions.items)) }
-    ensures tells { IfSome result (λ s. (s.frames ≡ counts.now.frames) × (s.unread ≡ counts.now.unread) × (s.taken ≡ board.now.totals.taken)) }
+    ensures reports { IfSome result (λ s. (s.frames ≡ counts.now.frames) × (s.unread ≡ counts.now.unread) × (s.taken ≡ board.now.totals.taken)) }
 {
     let accounts = board.accounts();
     let held = held_of(accounts)?;
@@ -89,7 +89,7 @@ impl Tally {
     // The totals as they stand; none where there is no memory for them, or where the board isn't here.
     fn standing(&self, alloc: Global) -> Option<Standing>
         ensures stands { IfSome result (λ s. Stands s.taken s.lost s.held s.queues.items (map counts_of s.actions.items)) }
-        ensures tells { IfSome result (λ s. TellsCounts s.frames s.unread s.taken self.now.counts) }
+        ensures reports { IfSome result (λ s. ReportsCounts s.frames s.unread s.taken self.now.counts) }
         ensures counted { IfSome result (λ s. s.frames ≡ s.taken + s.unread) }
     {
         match &self.board {

@@ -17,7 +17,7 @@ pub record RoseAlike (all all' end end' : Counts) : Type 0 where
   pub once : all'.frames + (all.took + all.unread) ≡ all.frames + (all'.took + all'.unread)
 
 -- What a relay tells of frames and messages is what its connections counted.
-pub record TellsCounts (frames unread taken : ℕ) (counts : Counts) : Type 0 where
+pub record ReportsCounts (frames unread taken : ℕ) (counts : Counts) : Type 0 where
   pub frames_are : frames ≡ counts.frames
   pub unread_are : unread ≡ counts.unread
   pub taken_are : taken ≡ counts.took
