@@ -128,12 +128,12 @@ fn devices_of(
 }
 
 /// The log of a relay, what is watched of it, and its files, which are opened; or the exit status.
-pub fn open_all<E: Sink>(
+pub fn open_all<'a, E: Sink>(
     host: HostRuntime,
-    site: &Site,
+    site: &'a Site,
     relay: u32,
     outlets: &[Outlet<'_>],
-    wanted: Wanted<'_>,
+    wanted: Wanted<'a>,
     signals: &Signals,
     errors: &mut E,
 ) -> Result<Opened, u8>
