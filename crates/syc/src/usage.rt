@@ -358,7 +358,7 @@ fn is_unpaired(words: &[&str]) -> bool {
     is_timed
 }
 
-// Why words are refused that clap reads as a command: `pass --`, an option before the command's word, a value behind `=`.
+// Why words are refused that clap reads as a command: `pass --`, an option before the word, a value behind `=`.
 fn unread(words: &[&str]) -> &'static str {
     let mut option = "";
     for word in words {
