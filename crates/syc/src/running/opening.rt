@@ -11,8 +11,9 @@ use sy_host::devices::outlets::Outlet;
 use sy_host::listening::unread_file::UnreadFile;
 use sy_host::watching::noted::watch_of;
 use sy_log::log::{ActionLog, Log};
-use sy_log::unread_names::unread_names;
+use sy_log::unread_names::{UnreadNames, unread_names};
 use sy_report::outcome::stop;
+use sy_rules::Plan;
 use sy_site::Site;
 use sy_watched::file::MetricsFile;
 use sy_watched::watch::Watch;
@@ -127,6 +128,19 @@ fn devices_of(
     Ok(devices)
 }
 
+// The unread files of a relay of this plan, where that one is given for all inputs that name none.
+fn names_of<'a>(
+    alloc: Global,
+    plan: &'a Plan,
+    given: Option<&'a str>,
+) -> Result<UnreadNames<'a>, AllocError> {
+    let given = match given {
+        Some(file) => Some(file.as_bytes()),
+        None => None,
+    };
+    unread_names(alloc, plan.inputs(), given)
+}
+
 /// The log of a relay, what is watched of it, and its files, which are opened; or the exit status.
 pub fn open_all<'a, E: Sink>(
     host: HostRuntime,
@@ -142,8 +156,7 @@ pub fn open_all<'a, E: Sink>(
 {
     let alloc = host.alloc();
     let plan = site.plan(relay);
-    let given = wanted.unread.map(|file| file.as_bytes());
-    let Ok(files) = unread_names(alloc, plan.inputs(), given) else {
+    let Ok(files) = names_of(alloc, plan, wanted.unread) else {
         return Err(stop::out_of_memory(errors));
     };
     let Ok(log) = Log::new(alloc, plan, &files) else {

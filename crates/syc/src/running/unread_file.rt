@@ -23,19 +23,19 @@ use sy_wire::Sink;
 
 /// The unread files that are to be opened, and for whom.
 #[derive(Clone, Copy)]
-pub struct UnreadWanted<'a> {
+pub struct UnreadWanted<'a, 'b> {
     pub site: &'a Site,
     pub relay: u32,
     /// the relay's name
     pub name: &'a [u8],
-    pub files: &'a UnreadNames<'a>,
+    pub files: &'b UnreadNames<'a>,
     /// whether the first of them is given on the command line
     pub is_given: bool,
     /// the name of the site file, where a fault of the start is explained
     pub explained: Option<&'a str>,
 }
 
-impl UnreadWanted<'_> {
+impl UnreadWanted<'_, '_> {
     // Whether the file of this number is given on the command line.
     fn is_of_command_line(&self, file: usize) -> bool {
         self.is_given && file == 0
@@ -95,7 +95,7 @@ fn change_for(why: Refusal) -> &'static str {
 // A note of where the file of this number is named, and where a change belongs.
 fn note_of(
     rt: &HostRuntime,
-    wanted: UnreadWanted<'_>,
+    wanted: UnreadWanted<'_, '_>,
     file: usize,
     site_file: &str,
     name: &[u8],
@@ -116,7 +116,7 @@ fn note_of(
 // What is said of the file of this number that can't be opened.
 fn refused_words(
     rt: &HostRuntime,
-    wanted: UnreadWanted<'_>,
+    wanted: UnreadWanted<'_, '_>,
     file: usize,
     site_file: &str,
     why: Refusal,
@@ -146,7 +146,7 @@ fn refused_words(
 // Tells why the file of this number can't be opened, explained where that is asked for, and answers the exit status.
 fn refuse<E: Sink>(
     rt: &HostRuntime,
-    wanted: UnreadWanted<'_>,
+    wanted: UnreadWanted<'_, '_>,
     log: &Log,
     file: usize,
     why: Refusal,
@@ -193,7 +193,7 @@ fn open(
 /// The unread files that are wanted, or the exit status.
 pub fn unread_files<E: Sink>(
     rt: &HostRuntime,
-    wanted: UnreadWanted<'_>,
+    wanted: UnreadWanted<'_, '_>,
     noting: Noting<'_>,
     errors: &mut E,
 ) -> Result<Vec<UnreadFile>, u8> {
