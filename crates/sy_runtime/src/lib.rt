@@ -16,7 +16,6 @@ pub mod shared;
 pub mod standing;
 pub mod starting;
 pub mod stopping;
-mod tally;
 pub mod untaken;
 mod waiting;
 mod worker;

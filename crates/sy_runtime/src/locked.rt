@@ -3,15 +3,17 @@ ghost use Rattle.std.specs.Prelude.{◌≡◌, ◌<◌, IfOk, IfSome, IsTrue};
 ghost use Rattle.sy_board.specs.relay.Boards.{account_of};
 ghost use Rattle.sy_runtime.specs.Standing.{held_by};
 
+pub(crate) mod tally;
+
 use crate::connection::halt::Halt;
 use crate::connection::taking::{Hand, has_hand};
+use crate::locked::tally::Tally;
 use crate::losing::Lost;
 use crate::standing::held_of;
-use crate::tally::Tally;
 use sy_chain::Node;
 use sy_marks::Hold;
 
-/// What the lock of a relay holds. Who has the lock knows of the board what is known of every board.
+/// What the lock of a relay holds. Who has the lock knows of the board what is known of every board, and what it and all connections counted.
 #[derive(Drop)]
 pub(crate) struct Locked {
     pub(crate) tally: Tally,

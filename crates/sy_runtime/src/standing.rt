@@ -6,14 +6,14 @@ ghost use Rattle.sy_runtime.specs.internal.Counted.{ReportsCounts};
 
 use crate::connection_end::ConnEnd;
 use crate::fault::RunFault;
+use crate::locked::tally::Tally;
 use crate::relay::{Common, Relay};
 use crate::shared::Gate;
-use crate::tally::Tally;
 use std::alloc::{AllocError, Global};
 use std::sync::Wait;
 use sy_board::{Accounts, ActionCounts, Board};
 
-/// The totals of a relay as they stand: messages taken, frames that carried none, losses, what it holds, how many entries wait in each queue, and what it counted of
+/// The totals of a relay as they stand: frames and messages, losses, what it holds, how many entries wait in each queue, and what it counted of
 /// each action. What it holds is each entry in a hand or in a queue, and of those that workers have all that is still to be done.
 #[derive(Drop)]
 pub struct Standing {

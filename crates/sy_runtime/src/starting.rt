@@ -5,10 +5,10 @@ ghost use Rattle.sy_board.specs.relay.Guards.{MayGuard};
 
 use crate::fault::RunFault;
 use crate::locked::Locked;
+use crate::locked::tally::Tally;
 use crate::relay::{Common, Relay};
 use crate::shared::{BoxedDevice, Gate, Shared};
 use crate::stopping::Workers;
-use crate::tally::Tally;
 use crate::worker::work;
 use std::alloc::{AllocError, Global};
 use std::sync::{Arc, Condvar, Mutex, Wait};

@@ -1,6 +1,6 @@
 use Rattle.std.proofs.Common.{rules}
 use Rattle.sy_runtime.proofs.Counted.{record_takes_none, still_counted}
-use Rattle.sy_runtime.proofs.tally.Tally.record.Goals as goal
+use Rattle.sy_runtime.proofs.locked.tally.Tally.record.Goals as goal
 
 pub invariant_of-self : goal.invariant_of-self
 invariant_of-self c = record {
