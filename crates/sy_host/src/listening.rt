@@ -5,6 +5,7 @@ ghost use Rattle.sy_host.specs.Listened.{at_of, ports_from};
 pub mod accepting;
 pub mod connections;
 pub mod connector;
+mod reading;
 pub mod served_threads;
 pub mod serving;
 pub mod unread_file;
