@@ -135,6 +135,19 @@ fn draw(alloc: Global, site: &Site, class: Option<Class>) -> Result<Vec<u8>, All
     words.finish()
 }
 
+// The site that the site file of this name describes, with the files that it names.
+fn site_for<F: Files>(alloc: Global, files: &F, name: &str) -> Result<Site, Halt>
+    ensures ok { IfOk result (λ site. (text : List ℕ) → F.bytes_of files.now name.now ≡ Some text →
+        IsSiteOf (F.bytes_of files.now) text site) }
+    ensures err { IfErr result (λ halt. (text : List ℕ) → F.bytes_of files.now name.now ≡ Some text →
+        IsNoSite (F.bytes_of files.now) text halt) }
+    ensures unread { IfErr result (λ halt. (text : List ℕ) → F.bytes_of files.now name.now ≡ Some text →
+        IsUnread (F.may_fail files.now) (name.now ∷ file_names text) halt) }
+{
+    let ReadSite { site, .. } = read_site(alloc, files, name);
+    site
+}
+
 // A drawing of the site that the file of this name describes.
 fn drawing_of<F: Files>(
     alloc: Global,
@@ -149,8 +162,7 @@ fn drawing_of<F: Files>(
     ensures err { IfErr result (λ halt. (text : List ℕ) → F.bytes_of files.now name.now ≡ Some text →
         IsNoSite (F.bytes_of files.now) text halt) }
 {
-    let ReadSite { site, .. } = read_site(alloc, files, name);
-    let site = site?;
+    let site = site_for(alloc, files, name)?;
     match draw(alloc, &site, class) {
         Ok(text) => Ok(Answer {
             text,

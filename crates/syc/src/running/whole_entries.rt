@@ -35,6 +35,16 @@ fn unkept_words(
     lines_of(alloc, &note)
 }
 
+// The bytes of the file that is given.
+fn bytes_of<'a>(unread: Option<&'a str>) -> Option<&'a [u8]>
+    ensures { option_map (λ name. name.now) result ≡ option_map (λ file. file.now) unread.entry }
+{
+    match unread {
+        Some(file) => Some(file.as_bytes()),
+        None => None,
+    }
+}
+
 /// Refuses a relay of which a whole entry has no file that keeps its frames without a message, where that one is given for all: the first is told,
 /// explained where its texts are given, and the exit status is answered.
 pub fn keep_whole<E: Sink>(
@@ -50,11 +60,7 @@ pub fn keep_whole<E: Sink>(
     ensures refused { IfErr result (λ status. (status ≡ 2)
         × (found : ℕ × ℕ) × IsFirstUnkept site.now relay (option_map (λ file. file.now) unread.entry) (Some found)) }
 {
-    let given = match unread {
-        Some(file) => Some(file.as_bytes()),
-        None => None,
-    };
-    let Some((input, port)) = report_first_unkept(site, relay, given, errors) else {
+    let Some((input, port)) = report_first_unkept(site, relay, bytes_of(unread), errors) else {
         return Ok(());
     };
     if let Some(texts) = explained {
