@@ -240,10 +240,14 @@ def idle_relay_does_nothing(room):
     relay, port = room.hub()
     senders = [Sender(port).send(message(it)) for it in range(10)]
     room.has("audit.log", 10)
-    relay.rests(port)
-    before = relay.threads()
-    relay.rests(port)
-    after = relay.threads()
+    # (beside other work a thread that began to wait may be woken once more)
+    for _ in range(5):
+        relay.rests(port)
+        before = relay.threads()
+        relay.rests(port)
+        after = relay.threads()
+        if after == before:
+            break
     same("what its threads did while it was idle", after, before)
     for it in senders:
         it.end()
