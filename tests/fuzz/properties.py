@@ -9,7 +9,7 @@ from program import hold
 ACCEPTED = re.compile(rb"accepted: \d+ protected classes\n")
 REFUSED = re.compile(rb"refused: [a-z0-9]+\.[a-z]+ at [A-Za-z0-9._-]+ \d+: \d+ [A-Z][A-Za-z]+( [A-Za-z0-9._-]+ [^\n]*)?\n(  [A-Za-z0-9._-]+ \d+ by \d+\n)*", re.DOTALL)
 WRONG_ROW = re.compile(rb"refused: certificate line \d+: (cert|class|reach|branch|rank|inner|path)\n")
-LOSS = re.compile(rb"loss line (\d+) message (\d+) at ([A-Za-z0-9._-]+) ([a-z0-9]+\.[a-z]+) (take|expire|grab|giveup|post|postlost)")
+LOSS = re.compile(rb"loss line (\d+) message (\d+) at ([A-Za-z0-9._-]+) ([a-z0-9]+\.[a-z]+) (take|expire|grab|giveup|post|postlost)( spare)?")
 EVENTS = re.compile(rb"events (\d+) messages (\d+) losses (\d+)")
 SEVERITIES = b"emerg alert crit err warning notice info debug".split()
 FACILITIES = b"kern user mail daemon auth syslog lpr news uucp cron authpriv ftp 12 13 14 15 local0 local1 local2 local3 local4 local5 local6 local7".split()
@@ -105,7 +105,7 @@ def protected(certificate):
 
 def of_events(runner, random, files, text):
     """Events over a site: the lines that are told are of the format and add up; where the site is accepted, no message of a
-    protected class that came in at an entry is lost."""
+    protected class that came in at an entry is lost, but at or after a spare action."""
     runner.put({**files, "fuzz.events": text})
     ended = runner.run("replay", "site", "fuzz.events")
     lines = text.split(b"\n")
@@ -125,5 +125,5 @@ def of_events(runner, random, files, text):
     if own.status == 0:
         classes, entries = protected(own.out)
         for it in losses:
-            hold(it[4] not in classes or tuple(brought[int(it[2])]) not in entries, f"an accepted site lost a protected message: {it[0]!r}")
+            hold(it[6] or it[4] not in classes or tuple(brought[int(it[2])]) not in entries, f"an accepted site lost a protected message: {it[0]!r}")
     return ended

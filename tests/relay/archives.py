@@ -266,8 +266,8 @@ def archive_is_a_pipe_that_nobody_reads(room):
         relay.stops_with(totals(5, 0, 0, ("audit", 5, 5, 0, 0)))
 
 
-def with_a_small_disk(room):
-    """Mounts a disk of 64 KiB, of which the archive has 4 KiB; answers a relay whose archive lies there, its port and the disk."""
+def with_a_small_disk(room, start):
+    """Mounts a disk of 64 KiB, of which 4 KiB are free, and starts a relay with files there; answers that, its port and the disk."""
     os.mkdir(room.path("disk"))
     mount = ["mount", "-t", "tmpfs", "-o", "size=64k", "tmpfs", room.path("disk")]
     if subprocess.run(mount, stdin=subprocess.DEVNULL, capture_output=True, check=False).returncode:
@@ -275,9 +275,7 @@ def with_a_small_disk(room):
     try:
         disk = f"/proc/{os.getpid()}/fd/{os.open(room.path('disk'), os.O_RDONLY)}"
         room.write("disk/other", b"x" * 61_440)
-        port = room.port()
-        room.site({"hub": module() + imtcp(port) + omfile("audit", "disk/audit.log", -1, 0)}, f"entry hub {port}", "protect auth.* hub audit")
-        return room.start("hub", port), port, disk
+        return *start(), disk
     finally:
         # (it lasts as long as its files are open)
         subprocess.run(["umount", "-l", room.path("disk")], stdin=subprocess.DEVNULL, check=False)
@@ -285,7 +283,11 @@ def with_a_small_disk(room):
 
 @test
 def archive_on_a_disk_that_is_full_for_a_while(room):
-    relay, port, disk = with_a_small_disk(room)
+    def start():
+        port = room.port()
+        room.site({"hub": module() + imtcp(port) + omfile("audit", "disk/audit.log", -1, 0)}, f"entry hub {port}", "protect auth.* hub audit")
+        return room.start("hub", port), port
+    relay, port, disk = with_a_small_disk(room, start)
     send_all(port, messages(500))
     # (the disk cuts a line)
     until("the disk is full", lambda: os.stat(f"{disk}/audit.log").st_size == 4096, came=lambda: os.stat(f"{disk}/audit.log").st_size)

@@ -228,7 +228,7 @@ def link_reset_while_idle_twenty_times(room):
 def target_that_is_no_relay(room):
     port, nobody = room.port(), room.port()
     receiver = Receiver(nobody)
-    room.site({"edge": module() + main_queue(size=100, dequeueBatchSize=1) + imtcp(port) + omfwd("up", "127.0.0.1", nobody, 2, 0)
+    room.site({"edge": module() + main_queue(size=100, dequeueBatchSize=1) + imtcp(port) + omfwd("up", "nowhere", nobody, 2, 0)
                + omfile("after", "after.log") + omfwd("never", "elsewhere", nobody)})
     relay = room.start_unchecked("edge", port)
     send_all(port, messages(3))

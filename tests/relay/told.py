@@ -5,6 +5,7 @@ import re
 import time
 
 from archives import lift, limited
+from control import asked
 from marks import INFO, held, stuck
 from peers import Receiver, Sender, frame, message, messages, send_all
 from room import FAULT, Failure, imtcp, main_queue, module, omfile, omfwd, same, test, totals, until
@@ -237,3 +238,20 @@ def standard_error_that_nobody_reads(room):
     hub.stops_with(totals(500, 0, 0, ("audit", 500, 500, 0, 0)))
     for it in outer, full:
         os.close(it)
+
+
+@test
+def names_of_actions_are_no_lines_of_their_own(room):
+    port = room.port()
+    named = "audit\\n" + "taken 9 lost 9 held 9" + "\\n\x1b[2K\x7fother"
+    printed = "audit\\x0ataken 9 lost 9 held 9\\x0a\\x1b[2K\\x7fother"
+    room.site({"hub": module() + imtcp(port) + omfile("audit", "audit.log") + omfile(named, "/dev/full", 1, 0)})
+    relay = room.start_unchecked("hub", port)
+    send_all(port, messages(1))
+    room.holds("audit.log", messages(1))
+    relay.rests(port)
+    relay.says(f"syc: action {printed} fails: no storage space")
+    wanted = totals(1, 0, 0, ("audit", 1, 1, 0, 0), (printed, 1, 0, 1, 0))
+    same("the totals", asked(relay, 1, 3), [wanted])
+    relay.stops_with(wanted)
+    same("control characters on standard error", [it for it in relay.errors() if it < " " and it != "\n" or it == "\x7f"], [])

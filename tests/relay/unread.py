@@ -3,7 +3,7 @@
 import os
 import re
 
-from archives import lift, limited
+from archives import lift, limited, with_a_small_disk
 from rotation import answer, asks
 from faults import MESSAGE_FAULTS
 from metrics import document
@@ -151,6 +151,46 @@ def full_disk_holds_the_connection(room):
 
 
 @test
+def write_that_fails_at_each_place(room):
+    # (places in the first record, between two frames, in both records of a long frame, between them, and behind all)
+    texts, long = (b"x" * 5_000, b"y" * 70_000, b"z"), b"y" * 65_536
+    for place in (4_000, 5_099, 5_100, 5_250, 5_300, 20_000, 38_000, 38_100, 38_150, 70_000, 70_900, 70_990, 71_100):
+        name = f"unread{place}"
+        relay, port = hub(room, name, limits=limited(place))
+        sender = Sender(port).send(*texts, message(0))
+        peer = address(sender)
+        units = [[record(port, peer, 1, "1 Pri", 0, texts[0])], parts_of(port, peer, 2, long, 70_000), [record(port, peer, 3, "1 Pri", 0, texts[2])]]
+        sizes = [sum(len(frame(it)) for it in unit) for unit in units]
+        whole = sum(sum(sizes[:count + 1]) <= place for count in range(3))
+        if whole < 3:
+            relay.says(f"syc: unread file {name} fails: file too large")
+            has(room, sum(units[:whole], []), name)
+            asked(relay, f"taken 0 lost 0 held 0\nunread {whole}\n")
+            lift(relay)
+        has(room, sum(units, []), name)
+        room.holds("audit.log", messages(1))
+        sender.end()
+        same("totals", relay.stop(), done(1, 3))
+        os.remove(room.path("audit.log"))
+
+
+@test
+def file_on_a_disk_that_is_full_for_a_while(room):
+    relay, port, disk = with_a_small_disk(room, lambda: hub(room, "disk/unread"))
+    sender = Sender(port).send(b"x" * 3_000, b"y" * 3_000, message(0))
+    relay.says("syc: unread file disk/unread fails: no storage space")
+    wanted = [record(port, address(sender), number + 1, "1 Pri", 0, it * 3_000) for number, it in enumerate((b"x", b"y"))]
+    asked(relay, "taken 0 lost 0 held 0\nunread 1\n")
+    read = lambda: open(f"{disk}/unread", "rb").read()
+    same("the file", read(), frames(wanted[:1]))
+    os.unlink(f"{disk}/other")
+    until("both are kept", lambda: read() == frames(wanted), came=lambda: len(read()))
+    room.holds("audit.log", messages(1))
+    sender.end()
+    same("totals", relay.stop(), done(1, 2))
+
+
+@test
 def stop_while_the_file_fails(room):
     relay, port = hub(room, "/dev/full", words=["--left", "left"])
     sender = Sender(port).send(message(0), b"x", message(1))
@@ -173,6 +213,21 @@ def stop_at_a_long_frame_while_the_file_fails(room):
     same("totals", relay.stop(), done(1, 0))
     told = [it for it in relay.lines() if it.startswith(f"syc: input {port} unread at the stop: 1 connections, ")]
     same("it is told", [int(it.split(", ")[1].split()[0]) >= 65_542 for it in told], [True])
+    same("and which it is", f"syc: input {port} peer {address(sender)} not kept at the stop: 12 TooLong at 0 in frame 2, 70000 bytes" in relay.lines(), True)
+    sender.close()
+
+
+@test
+def stop_at_bytes_without_a_frame_while_the_file_fails(room):
+    relay, port = hub(room, "/dev/full")
+    sender = Sender(port).send_bytes(frame(message(0)) + b"<34>Oct 11 22:14:15 host su: x\n")
+    relay.says("syc: unread file /dev/full fails: no storage space")
+    room.holds("audit.log", messages(1))
+    same("totals", relay.stop(), done(1, 0))
+    lines = relay.lines()
+    said = f"syc: input {port} peer {address(sender)} not kept at the stop: 11 BadLength at 0 in frame 2, which begins like RFC 3164"
+    same("it is told", said in lines, True)
+    same("its bytes", f"syc: input {port} unread at the stop: 1 connections, 31 bytes or more" in lines, True)
     sender.close()
 
 
@@ -228,10 +283,10 @@ def many_connections_share_the_file(room):
     same("of each connection, in its order", of, {peer: [b"x%d" % number for number in range(50)] for peer in peers})
 
 
-def parts_of(port, peer, text, length):
+def parts_of(port, peer, number, text, length):
     """The two records of a frame that is too long."""
     halves = (text[:32768], "1/2"), (text[32768:65536], "2/2")
-    return [record(port, peer, 0, "12 TooLong", 0, it, f' length="{length}" part="{part}"') for it, part in halves]
+    return [record(port, peer, number, "12 TooLong", 0, it, f' length="{length}" part="{part}"') for it, part in halves]
 
 
 @test
@@ -241,10 +296,31 @@ def frame_that_is_too_long_is_skipped(room):
     sender = Sender(port).send(message(0), text, message(1), b"x", text[:65537], message(2))
     room.holds("audit.log", messages(3))
     peer = address(sender)
-    has(room, [*parts_of(port, peer, text, len(text)), record(port, peer, 4, "1 Pri", 0, b"x"), *parts_of(port, peer, text[:65536], 65537)])
+    has(room, [*parts_of(port, peer, 2, text, len(text)), record(port, peer, 4, "1 Pri", 0, b"x"), *parts_of(port, peer, 5, text[:65536], 65537)])
+    relay.says(f"syc: input {port} peer {peer} sends what is no message: 12 TooLong at 0 in frame 2; kept in unread")
     asked(relay, "taken 3 lost 0 held 0\nunread 3\n")
     sender.end()
+    # (its end tells of the first of them too)
+    relay.says(f"syc: 3 unread at {port}: 12 TooLong at 0 in frame 2")
     same("totals", relay.stop(), done(3, 3))
+
+
+@test
+def frames_behind_one_that_is_too_long_are_told(room):
+    relay, port = hub(room)
+    sender = Sender(port).send(b"y" * 70_000)
+    peer = address(sender)
+    relay.says(f"syc: input {port} peer {peer} sends what is no message: 12 TooLong at 0 in frame 1; kept in unread")
+    sender.end()
+    relay.says(f"syc: 1 unread at {port}: 12 TooLong at 0 in frame 1")
+    # (the first of a connection is the first of whatever kind)
+    other = Sender(port).send(message(0), b"x", b"y" * 70_000, b"z")
+    room.holds("audit.log", messages(1))
+    has(room, [*parts_of(port, peer, 1, b"y" * 65536, 70_000), record(port, address(other), 2, "1 Pri", 0, b"x"),
+               *parts_of(port, address(other), 3, b"y" * 65536, 70_000), record(port, address(other), 4, "1 Pri", 0, b"z")])
+    other.end()
+    relay.says(f"syc: 3 unread at {port}: 1 Pri at 0 in frame 2")
+    same("totals", relay.stop(), done(1, 4))
 
 
 @test
@@ -252,9 +328,27 @@ def frame_that_is_too_long_is_cut(room):
     relay, port = hub(room)
     sender = Sender(port).send_bytes(frame(message(0)) + b"100000 " + b"y" * 70_000)
     sender.half_close().is_ended()
-    has(room, parts_of(port, address(sender), b"y" * 65536, 100_000))
+    has(room, parts_of(port, address(sender), 2, b"y" * 65536, 100_000))
     same("totals", relay.stop(), done(1, 1))
     same("it is told", f"syc: 13 Truncated at {port}" in relay.lines(), True)
+
+
+@test
+def long_frames_cut_at_each_place(room):
+    relay, port = hub(room)
+    wanted = []
+    for number, tail in enumerate((b"7000", b"70000 ", b"70000 y", b"70000 " + b"y" * 65_535, b"70000 " + b"y" * 65_536, b"70000 " + b"y" * 69_999)):
+        sender = Sender(port).send_bytes(frame(message(number)) + frame(b"x") + tail)
+        peer = address(sender)
+        sender.half_close().is_ended()
+        wanted += [record(port, peer, 2, "1 Pri", 0, b"x"), *(parts_of(port, peer, 3, b"y" * 65_536, 70_000) if len(tail) > 65_541 else [])]
+        has(room, wanted)
+    room.holds("audit.log", messages(6))
+    # (of one that is too long less came than is kept, so that it isn't: 12)
+    for fault in ("12 TooLong", "13 Truncated"):
+        often = lambda: sum(1 + int(it or 0) for it in re.findall(rf"(?m)^syc: {fault} at {port}(?:, and (\d+) others)?$", relay.errors()))
+        until(f"{fault} is told three times", lambda: often() == 3, came=often)
+    same("totals", relay.stop(), done(6, 8))
 
 
 @test
@@ -265,8 +359,25 @@ def what_is_not_framed_is_kept(room):
         before = room.size("unread")
         sender = Sender(port).send_bytes(text)
         sender.is_ended()
-        wanted = frame(record(port, address(sender), 0, "11 BadLength", 0, text))
+        wanted = frame(record(port, address(sender), 1, "11 BadLength", 0, text))
         until("it is kept", lambda: room.size("unread") == before + len(wanted), came=lambda: room.read("unread")[before:])
         same("its record", room.read("unread")[before:], wanted)
-        until("it is told", lambda: f"11 BadLength at 0 in frame 0, which {hint}; kept in unread" in relay.errors(), came=relay.errors)
+        until("it is told", lambda: f"11 BadLength at 0 in frame 1, which {hint}; kept in unread" in relay.errors(), came=relay.errors)
     same("totals", relay.stop(), done(0, 0))
+
+
+@test
+def what_is_not_framed_has_the_fault_that_ends_it(room):
+    relay, port = hub(room)
+    for text, fault, place in ((b"0 x", "11 BadLength", 0), (b"12a", "11 BadLength", 2), (b"65536,", "11 BadLength", 5),
+                               (b"65537,", "12 TooLong", 4), (b"1234567890 x", "12 TooLong", 5), (b"9" * 2000, "12 TooLong", 4)):
+        before = room.size("unread")
+        sender = Sender(port).send_bytes(frame(message(0)) + frame(b"x") + text)
+        sender.is_ended()
+        kept = record(port, address(sender), 2, "1 Pri", 0, b"x"), record(port, address(sender), 3, fault, place, text[:1024])
+        wanted = frames(kept)
+        until("they are kept", lambda: room.size("unread") == before + len(wanted), came=lambda: room.read("unread")[before:])
+        same("the records", room.read("unread")[before:], wanted)
+        until("the end is told", lambda: re.search(rf"^syc: {fault} at {port}(, and \d+ others)?$", relay.errors(), re.M), came=relay.errors)
+    room.holds("audit.log", [message(0)] * 6)
+    same("totals", relay.stop(), done(6, 6))

@@ -153,8 +153,7 @@ def goes_on_after_long_ones(room):
         Sender(port).send(b"x" * 70_000, b"<34>1 - - - - - -").half_close().is_ended()
     except OSError:  # (it was reset)
         pass
-    relay.stop()
-    return room.size("other.log") > 0
+    return relay.stop().startswith("taken 1 ")
 
 
 def has_unread(program):

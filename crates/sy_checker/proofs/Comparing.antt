@@ -88,11 +88,12 @@ module _ (site : Site) (part : List Wanted) (rows : List Row) (relay : ℕ) wher
   pub below_there : (rank place : ℕ) → IsBelow site part rows relay rank → IsBelowAt site part rows relay rank place
   below_there rank place all below e = all below (stands_by place below (slice_get part place) (slice_get rows place) refl refl e)
 
-  pub below_all : (rank most : ℕ) → length part ≤ most → ((place : ℕ) → place < most → IsBelowAt site part rows relay rank place)
-      → IsBelow site part rows relay rank
-  below_all rank most all each below has =
-      let low = slice_get_within part has.place (wanted.Rank relay) has.is_wanted in
-      each has.place (omega (arith, low, all)) below (rank_stands below has)
+  -- its row is wanted there alone
+  pub below_one : (rank place : ℕ) → ((other : ℕ) → slice_get part other ≡ Some (wanted.Rank relay) → other ≡ place)
+      → IsBelowAt site part rows relay rank place → IsBelow site part rows relay rank
+  below_one rank place only at below has =
+      at below (subst (λ p. rank_at site relay (slice_get part p) (slice_get rows p) ≡ Some below) (only has.place has.is_wanted)
+      (rank_stands below has))
 
 -- ---- one after another
 

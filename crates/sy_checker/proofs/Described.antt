@@ -164,6 +164,7 @@ names_are (AreLines.shaped {it = Line.Entry it} s is later) = names_are later
 names_are (AreLines.shaped {it = Line.Protect it} s is later) = names_are later
 names_are (AreLines.shaped {it = Line.Policy} s is later) = names_are later
 names_are (AreLines.shaped {it = Line.Spare it} s is later) = names_are later
+names_are (AreLines.shaped {it = Line.Outside it} s is later) = names_are later
 
 actions_are : {texts : List (List (List ℕ))} {lines : List Line} → AreLines texts lines → EachLine texts → EachAction (protect_lines lines)
 actions_are AreLines.none each = tt
@@ -172,6 +173,7 @@ actions_are (AreLines.shaped {it = Line.Relay it} s is later) each = actions_are
 actions_are (AreLines.shaped {it = Line.Entry it} s is later) each = actions_are later each.1
 actions_are (AreLines.shaped {it = Line.Policy} s is later) each = actions_are later each.1
 actions_are (AreLines.shaped {it = Line.Spare it} s is later) each = actions_are later each.1
+actions_are (AreLines.shaped {it = Line.Outside it} s is later) each = actions_are later each.1
 actions_are (AreLines.shaped {it = Line.Protect it} s is later) each = ((subst AreWords is.whole each.0).1.1.1.0, actions_are later each.1)
 
 -- ---- what the site names

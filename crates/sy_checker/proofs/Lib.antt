@@ -2,6 +2,7 @@ pub mod PathsLead
 pub mod FitIsSound
 pub mod Found
 pub mod There
+pub mod Marked
 pub mod Rooted
 pub mod Flowing
 pub mod Firmness
@@ -18,6 +19,7 @@ pub mod Sorted
 pub mod Standing
 pub mod InnerLists
 pub mod Led
+pub mod MarkedLists
 pub mod InnersSorted
 pub mod LeadsDecided
 pub mod InnersDecided
@@ -29,6 +31,7 @@ pub mod Joined
 pub mod Feeding
 pub mod Risky
 pub mod Comparing
+pub mod RanksStanding
 pub mod Judged
 pub mod Meant
 pub mod Numbered
@@ -50,7 +53,6 @@ pub mod Listing
 pub mod Leading
 pub mod Complete
 pub mod Fitting
-pub mod MadeRight
 pub mod Alike
 pub mod Shared
 pub mod Grouping

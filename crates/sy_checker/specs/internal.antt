@@ -12,6 +12,7 @@ pub mod Judging
 pub mod Leads
 pub mod Loops
 pub mod Made
+pub mod Marks
 pub mod Met
 pub mod Ranked
 pub mod Risks

@@ -11,7 +11,6 @@ ghost use Rattle.sy_site.specs.machine.Steps.{Runs, SiteEvent};
 ghost use Rattle.sy_checker.specs.Acceptance.{IsOf};
 ghost use Rattle.sy_checker.specs.internal.Checking.{AreReached};
 ghost use Rattle.sy_checker.specs.Claims.{RanksStayFalling, StayConfined, StayWrittenOrHead};
-ghost use Rattle.sy_checker.specs.internal.Certifying.{AreRowsOf};
 ghost use Rattle.sy_checker.specs.Checking as spec;
 ghost use Rattle.sy_checker.specs.internal.Checking as inside;
 ghost use Rattle.sy_site.specs.Finding.{IsTrueRefusal};
@@ -28,9 +27,7 @@ use crate::flows::course::{Course, course_for};
 use crate::flows::firm::{SiteFirm, firm_of};
 use crate::laws::claims_of_sound_sites;
 use crate::rows::wanted::archives;
-use crate::verifying::{Judged, judge};
 use std::alloc::{AllocError, Global};
-use sy_cert::Row;
 use sy_site::finding::Refusal;
 use sy_site::laws::one_site;
 use sy_site::machine::{sound_sites_are_safe, sound_sites_have_no_finding};
@@ -46,26 +43,7 @@ pub enum CheckFault {
     Refused(Refusal),
 }
 
-// Judges rows that were made as they are wanted, as those of a certificate are: each is right.
-fn judge_made(
-    alloc: Global,
-    site: &Site,
-    class: Class,
-    course: &Course,
-    rows: &[Row],
-) -> Result<(), AllocError>
-    requires course { IsCourse site.now class course.now }
-    requires rows { AreRowsOf site.now class rows.now }
-    ensures { OnOk result (IsSoundFor site.now class) }
-{
-    let (firm, every) = (course.found.inputs.as_slice(), course.every.as_slice());
-    match judge(alloc, site, class, &course.flows, firm, every, rows)? {
-        Judged::Right(_) => Ok(()),
-        Judged::Wrong(_, _) => unreachable!(),
-    }
-}
-
-// Makes the rows of a class and judges them. They aren't kept.
+// Makes the rows of a class. Each is right as it is made, so they aren't judged again, nor kept.
 fn check_rows(alloc: Global, site: &Site, class: Class, course: &Course) -> Result<(), Refusal>
     requires protected { sites.is_protected site.now class ≡ true }
     requires course { IsCourse site.now class course.now }
@@ -73,8 +51,7 @@ fn check_rows(alloc: Global, site: &Site, class: Class, course: &Course) -> Resu
     ensures sound { OnOk result (IsSoundFor site.now class) }
     ensures err { IfErr result (λ why. IsTrueRefusal site.now why) }
 {
-    let rows = rows_of_class(alloc, site, class, course)?;
-    judge_made(alloc, site, class, course, rows.as_slice())?;
+    let _ = rows_of_class(alloc, site, class, course)?;
     Ok(())
 }
 
@@ -195,8 +172,8 @@ fn accepted(alloc: Global, site: &Site) -> Result<Accepted, Refusal>
     Ok(accepted)
 }
 
-/// What is kept of a site whose certificate's rows are made and then judged, class by class, but for classes of which
-/// they would say the same again; or what is found in it, as making the certificate finds it. Where it is accepted, no
+/// What is kept of a site whose certificate's rows are made class by class, but for classes of which they would say the
+/// same again; or what is found in it, as making the certificate finds it. Where it is accepted, no
 /// message of a protected class is lost in any run of the site, but at or after a spare action; a sound site is refused
 /// for want of memory alone.
 pub fn check_site(alloc: Global, site: &Site) -> Result<Accepted, Refusal>

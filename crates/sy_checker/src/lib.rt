@@ -10,6 +10,7 @@ mod flows;
 mod kinds;
 pub mod laws;
 mod lists;
+mod marks;
 mod reach;
 mod rows;
 mod site_numbers;

@@ -1,6 +1,6 @@
 //! The inputs that are found by following occurrences, and those that messages of a class reach.
 
-ghost use Rattle.std.specs.Prelude.{◌≡◌, ◌<◌, ◌↔◌, [], Contains, IfOk, List, OnOk, Some, length, slice_get};
+ghost use Rattle.std.specs.Prelude.{◌≡◌, ◌<◌, ◌↔◌, ◌++◌, ◌∷◌, [], Contains, IfOk, List, OnOk, Some, length, slice_get};
 ghost use Rattle.std.specs.List.{list_any};
 ghost use Rattle.sy_wire.specs.declared.class.Class.{Class as AnyClass};
 ghost use Rattle.sy_site.specs.Sites.{Site as AnySite};
@@ -12,6 +12,7 @@ ghost use Rattle.sy_checker.specs.declared.flows.executed.Executed.{Executed as 
 ghost use Rattle.sy_checker.specs.declared.flows.executed.Executed.TheVariants as executed;
 ghost use Rattle.sy_checker.specs.internal.Hops.{AreFlows, AreSiteHops};
 ghost use Rattle.sy_checker.specs.internal.Found.{Adds, same_input};
+ghost use Rattle.sy_checker.specs.internal.Marks.{AreMarked, place_of};
 ghost use Rattle.sy_checker.specs.internal.Search.{IsOrigin, IsSpread, KeepsRoots, LeadsOn};
 
 pub mod height;
@@ -25,6 +26,7 @@ pub mod way;
 use crate::flows::executed::Executed;
 use crate::flows::hops::hops_at;
 use crate::flows::{ClassFlows, SiteHops};
+use crate::marks::{is_marked, mark};
 use std::alloc::{AllocError, Global};
 use sy_site::finding::WayRow;
 use sy_site::{Site, SiteInput};
@@ -53,30 +55,70 @@ pub fn is_among(inputs: &[SiteInput], input: SiteInput) -> bool
         .any(|i| input.relay == i.relay && input.input == i.input)
 }
 
+// The place of an input among marks.
+fn place_of(input: SiteInput) -> usize
+    ensures { result ≡ place_of input }
+{
+    64 * input.relay as usize + input.input as usize
+}
+
+// Whether an input was found, of which the marks tell.
+fn is_found(found: &Found, marks: &[bool], input: SiteInput) -> bool
+    requires marked { AreMarked found.now.inputs.items marks.now }
+    ensures { result ≡ list_any (same_input input) found.now.inputs.items }
+{
+    if input.input >= 64 {
+        return is_among(found.inputs.as_slice(), input);
+    }
+    is_marked(marks, place_of(input))
+}
+
+// Marks an input more.
+fn mark_input(marks: &mut Vec<bool>, input: SiteInput) -> Result<(), AllocError>
+    ensures { OnOk result ((before : List AnyInput) → AreMarked before marks.old.items
+        → AreMarked (before ++ input ∷ []) marks.new.items) }
+{
+    if input.input >= 64 {
+        return Ok(());
+    }
+    mark(marks, place_of(input))?;
+    Ok(())
+}
+
 // Puts an input behind the others, with where it was found from, where it isn't one of them.
-fn add(found: &mut Found, input: SiteInput, origin: Option<Origin>) -> Result<(), AllocError>
+fn add(
+    found: &mut Found,
+    marks: &mut Vec<bool>,
+    input: SiteInput,
+    origin: Option<Origin>,
+) -> Result<(), AllocError>
+    requires marked { AreMarked found.old.inputs.items marks.old.items }
+    ensures marked { OnOk result (AreMarked found.new.inputs.items marks.new.items) }
     ensures inputs { OnOk result (Adds (λ x. x ≡ input) found.old.inputs.items found.new.inputs.items) }
     ensures roots { (site : AnySite) (class : AnyClass) (which : AnyExecuted) (start : List AnyInput)
         → IsOrigin site class which start found.old.inputs.items (length found.old.inputs.items) input origin
         → OnOk result (KeepsRoots site class which start found.old.inputs.items found.old.origins.items
         found.new.inputs.items found.new.origins.items) }
 {
-    if is_among(found.inputs.as_slice(), input) {
+    if is_found(found, marks.as_slice(), input) {
         return Ok(());
     }
+    mark_input(marks, input)?;
     found.inputs.push(input)?;
     found.origins.push(origin)?;
     Ok(())
 }
 
-fn add_all(start: &[SiteInput], found: &mut Found) -> Result<(), AllocError>
+fn add_all(start: &[SiteInput], found: &mut Found, marks: &mut Vec<bool>) -> Result<(), AllocError>
+    requires marked { AreMarked found.old.inputs.items marks.old.items }
+    ensures marked { OnOk result (AreMarked found.new.inputs.items marks.new.items) }
     ensures inputs { OnOk result (Adds (Contains start.now) found.old.inputs.items found.new.inputs.items) }
     ensures roots { (site : AnySite) (class : AnyClass) (which : AnyExecuted)
         → OnOk result (KeepsRoots site class which start.now found.old.inputs.items found.old.origins.items
         found.new.inputs.items found.new.origins.items) }
 {
     for input in start {
-        add(found, *input, None)?;
+        add(found, marks, *input, None)?;
     }
     Ok(())
 }
@@ -90,9 +132,12 @@ fn add_targets(
     from: SiteInput,
     place: usize,
     found: &mut Found,
+    marks: &mut Vec<bool>,
 ) -> Result<(), AllocError>
     requires there { IsInput site.now from }
     requires hops { AreSiteHops site.now class which hops.now }
+    requires marked { AreMarked found.old.inputs.items marks.old.items }
+    ensures marked { OnOk result (AreMarked found.new.inputs.items marks.new.items) }
     ensures inputs { OnOk result
         (Adds (LeadsOn site.now class which from) found.old.inputs.items found.new.inputs.items) }
     ensures roots { (start : List AnyInput) → slice_get found.old.inputs.items place ≡ Some from
@@ -105,7 +150,7 @@ fn add_targets(
             input: from,
             number: hop.number,
         };
-        add(found, hop.to, Some(Origin { place, row }))?;
+        add(found, marks, hop.to, Some(Origin { place, row }))?;
     }
     Ok(())
 }
@@ -137,11 +182,12 @@ pub fn spread(
 {
     site.is_lawful();
     let mut found = nothing_found(alloc);
-    add_all(start, &mut found)?;
+    let mut marks = Vec::new(alloc);
+    add_all(start, &mut found, &mut marks)?;
     let mut done = 0;
     while done < found.inputs.len() {
         let from = found.inputs[done];
-        add_targets(site, class, hops, which, from, done, &mut found)?;
+        add_targets(site, class, hops, which, from, done, &mut found, &mut marks)?;
         done += 1;
     }
     Ok(found)

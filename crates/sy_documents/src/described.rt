@@ -3,15 +3,16 @@
 use crate::json_objects::{Elements, Members};
 use memchr::memchr;
 use std::alloc::{AllocError, Global};
-use sy_checker::Group;
 use sy_findings::notes::explanation::note_of_finding;
+use sy_findings::notes::instances::{finding_of as finding_of_instance, note_of_instance};
+use sy_findings::verdicts::instances::Instance;
 use sy_findings::warnings::Warning;
 use sy_places::site_file::texts::SiteTexts;
 use sy_places::ways::followed_lists::circle;
 use sy_places::ways::relay_parts::{name_of_list, spot_at};
 use sy_report::texts::note::{Note, Place};
 use sy_report::texts::parts::{Part, action_name, append_parts, port_of, relay_name};
-use sy_script::Items;
+use sy_rules::{Occurrence, Plan};
 use sy_site::finding::{Finding, Kind, WayRow};
 use sy_site::{Site, SiteAction, SiteInput};
 use sy_wire::Class;
@@ -151,15 +152,14 @@ fn insert_circle(
     Ok(())
 }
 
-// A finding of these classes.
+// A finding of these classes, with its note.
 fn finding_of(
     alloc: Global,
-    texts: &SiteTexts<'_>,
     site: &Site,
     finding: &Finding,
+    note: &Note,
     classes: &[Class],
 ) -> Result<Members, AllocError> {
-    let note = note_of_finding(alloc, texts, site, finding)?;
     let names = class_names(alloc, classes)?;
     let mut members = Members::new(alloc);
     insert_kind(&mut members, finding.kind.words().as_bytes());
@@ -168,7 +168,7 @@ fn finding_of(
     insert_archive(alloc, &mut members, site, finding.kind);
     members.array("way", way_of(alloc, site, finding.way.as_slice()));
     insert_circle(alloc, &mut members, site, finding)?;
-    insert_note(alloc, &mut members, &note);
+    insert_note(alloc, &mut members, note);
     Ok(members)
 }
 
@@ -179,22 +179,39 @@ pub fn first_finding(
     site: &Site,
     finding: &Finding,
 ) -> Result<Elements, AllocError> {
-    let members = finding_of(alloc, texts, site, finding, &[finding.class])?;
+    let note = note_of_finding(alloc, texts, site, finding)?;
+    let members = finding_of(alloc, site, finding, &note, &[finding.class])?;
     let mut found = Elements::new(alloc);
     found.object(members);
     Ok(found)
 }
 
-// A group as a finding of its first class, without a way.
-fn finding_of_group(alloc: Global, group: &Group) -> Option<Finding> {
-    match group.classes.as_slice() {
-        [class, ..] => Some(Finding {
-            class: *class,
-            input: group.input,
-            way: Items::new(alloc),
-            kind: group.kind,
-        }),
-        [] => None,
+// A list that is posted to, by its relay and the ruleset; where it is an action's own, that action.
+fn posted_to(alloc: Global, site: &Site, relay: u32, plan: &Plan, list: u32) -> Members {
+    if let Some(action) = plan.own_action(list) {
+        return action_of(alloc, site, SiteAction { relay, action });
+    }
+    let mut members = Members::new(alloc);
+    members.text("relay", relay_name(site, relay));
+    members.text("ruleset", name_of_list(plan, list));
+    members
+}
+
+// Puts what a faulty occurrence runs or posts to.
+fn insert_occurrence(alloc: Global, members: &mut Members, site: &Site, instance: &Instance) {
+    let relay = instance.input.relay;
+    match instance.occurrence {
+        Some(Occurrence::Run(action)) => {
+            let found = action_of(alloc, site, SiteAction { relay, action });
+            members.object("occurrence", found);
+        }
+        Some(Occurrence::Post(list)) if relay < site.relays() => {
+            members.object(
+                "occurrence",
+                posted_to(alloc, site, relay, site.plan(relay), list),
+            );
+        }
+        _ => members.null("occurrence"),
     }
 }
 
@@ -203,13 +220,15 @@ pub fn all_findings(
     alloc: Global,
     texts: &SiteTexts<'_>,
     site: &Site,
-    groups: &[Group],
+    instances: &[Instance],
 ) -> Result<Elements, AllocError> {
     let mut found = Elements::new(alloc);
-    for group in groups {
-        if let Some(finding) = finding_of_group(alloc, group) {
-            let classes = group.classes.as_slice();
-            let members = finding_of(alloc, texts, site, &finding, classes)?;
+    for instance in instances {
+        if let Some(finding) = finding_of_instance(alloc, instance) {
+            let note = note_of_instance(alloc, texts, site, instance)?;
+            let classes = instance.classes.as_slice();
+            let mut members = finding_of(alloc, site, &finding, &note, classes)?;
+            insert_occurrence(alloc, &mut members, site, instance);
             found.object(members);
         }
     }

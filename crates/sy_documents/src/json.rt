@@ -8,6 +8,7 @@ use crate::reported::{Replayed, fault_element, losses_in, with_others};
 use std::alloc::{AllocError, Global};
 use sy_checker::survey;
 use sy_faults::all_faults::other_faults;
+use sy_findings::verdicts::instances::instances_of;
 use sy_findings::verdicts::verdict::WrongRow;
 use sy_findings::warnings::warnings_of;
 use sy_places::site_file::texts::SiteTexts;
@@ -114,7 +115,8 @@ fn findings_of(
 ) -> Result<Elements, AllocError> {
     if options.all {
         let groups = survey(alloc, site)?;
-        return all_findings(alloc, texts, site, groups.as_slice());
+        let instances = instances_of(alloc, site, groups.as_slice())?;
+        return all_findings(alloc, texts, site, instances.as_slice());
     }
     first_finding(alloc, texts, site, finding)
 }

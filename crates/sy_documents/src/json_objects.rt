@@ -2,6 +2,23 @@
 
 use serde_json::{Map, Value};
 use std::alloc::{AllocError, Global};
+use std::str;
+use sy_report::texts::json::append_character;
+use sy_report::texts::printed::is_plain;
+
+// A document whose texts have no character that a terminal would take for more: such a one is written as `\u009b`.
+fn escaped(alloc: Global, document: Vec<u8>) -> Result<Vec<u8>, AllocError> {
+    if is_plain(document.as_slice()) {
+        return Ok(document);
+    }
+    let mut text = Vec::new(alloc);
+    if let Ok(characters) = str::from_utf8(document.as_slice()) {
+        for character in characters.chars() {
+            append_character(&mut text, character)?;
+        }
+    }
+    Ok(text)
+}
 
 /// An object that is built member by member. Where memory runs out what follows is left out, which the end tells.
 #[derive(Drop)]
@@ -95,7 +112,7 @@ impl Members {
         if is_cut {
             return Err(AllocError);
         }
-        let mut text = Value::Object(map).to_vec(alloc)?;
+        let mut text = escaped(alloc, Value::Object(map).to_vec(alloc)?)?;
         text.push(b'\n')?;
         Ok(text)
     }

@@ -3,7 +3,9 @@
 
 pub mod arrow;
 pub mod class;
+pub mod foot;
 pub mod node;
+pub mod overview;
 pub mod reach;
 pub mod relay;
 pub mod text;

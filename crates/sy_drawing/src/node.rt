@@ -3,9 +3,12 @@
 use crate::reach::Reach;
 use crate::text::{GREY, RED_NODE};
 use std::alloc::{AllocError, Global};
+use sy_checker::survey;
+use sy_findings::notes::instances::finding_of;
 use sy_findings::notes::object_meant::last_of;
+use sy_findings::verdicts::instances::{Instance, instances_of};
 use sy_places::ways::followed_lists::circle;
-use sy_places::ways::relay_parts::{Spot, action_by, occurrence_meant, queue_for, spot_at};
+use sy_places::ways::relay_parts::{Spot, action_by, queue_for, spot_at};
 use sy_report::texts::parts::Part;
 use sy_report::texts::words::Words;
 use sy_rules::Occurrence;
@@ -32,11 +35,11 @@ pub struct Node {
     pub thing: Thing,
 }
 
-/// The nodes that a finding is about, and its kind.
-#[derive(Drop)]
+/// A node that a finding is about, and the kind of that.
+#[derive(Clone, Copy, PartialEq, Eq)]
 pub struct Mark {
-    pub nodes: Vec<Node>,
-    pub kind: &'static str,
+    pub node: Node,
+    pub kind: Kind,
 }
 
 /// What is drawn.
@@ -49,7 +52,8 @@ pub struct Drawing<'a> {
     pub classes: usize,
     /// Whether it is of one class that was asked for.
     pub is_one: bool,
-    pub mark: &'a Mark,
+    /// What is found, by the nodes that it is about.
+    pub marks: &'a [Mark],
 }
 
 /// Puts the name of a node.
@@ -77,16 +81,25 @@ pub fn begin_node(words: &mut Words, node: Node) {
     words.say(" [label=\"");
 }
 
-/// Whether the finding is about a node.
+/// Whether a finding is about a node.
 pub fn is_marked(drawing: Drawing<'_>, node: Node) -> bool {
-    drawing.mark.nodes.contains(&node)
+    drawing.marks.iter().any(|m| m.node == node)
 }
 
-/// Puts what stands after a node's label: red where the finding is about it, grey where no message comes.
+// Puts the kinds of what is found at a node, each in a line.
+fn push_kinds(words: &mut Words, drawing: Drawing<'_>, node: Node) {
+    for mark in drawing.marks {
+        if mark.node == node {
+            words.say("\\n");
+            words.say(mark.kind.words());
+        }
+    }
+}
+
+/// Puts what stands after a node's label: red where a finding is about it, grey where no message comes.
 pub fn end_node(words: &mut Words, drawing: Drawing<'_>, node: Node, is_reached: bool) {
     if is_marked(drawing, node) {
-        words.say("\\n");
-        words.say(drawing.mark.kind);
+        push_kinds(words, drawing, node);
         words.say(RED_NODE);
     } else if is_reached {
         words.say("\"");
@@ -96,7 +109,25 @@ pub fn end_node(words: &mut Words, drawing: Drawing<'_>, node: Node, is_reached:
     words.say("];\n");
 }
 
-// ---- what a finding is about
+// ---- what findings are about
+
+// Marks a node with a kind, once.
+fn push_mark(
+    marks: &mut Vec<Mark>,
+    relay: u32,
+    thing: Thing,
+    kind: Kind,
+) -> Result<(), AllocError> {
+    let mark = Mark {
+        node: Node { relay, thing },
+        kind,
+    };
+    if marks.contains(&mark) {
+        return Ok(());
+    }
+    marks.push(mark)?;
+    Ok(())
+}
 
 // The queue that is posted to, or the action.
 fn thing_executed(spot: Spot<'_>, occurrence: Occurrence) -> Thing {
@@ -106,32 +137,21 @@ fn thing_executed(spot: Spot<'_>, occurrence: Occurrence) -> Thing {
     }
 }
 
-// The one node that a finding is about, where it is neither a loop nor a circle.
-fn thing_at(
-    alloc: Global,
-    site: &Site,
-    spot: Spot<'_>,
-    finding: &Finding,
-) -> Result<Option<Thing>, AllocError> {
-    match finding.kind {
-        Kind::MarkOff | Kind::MarkAboveSize | Kind::Discards => {
-            Ok(Some(Thing::Queue(spot.input.queue)))
+// The one node that a kind is about at an input, where it isn't a circle: what a faulty occurrence executes, where there is
+// one.
+fn thing_at(spot: Spot<'_>, input: u32, kind: Kind, occurrence: Option<Occurrence>) -> Thing {
+    match (kind, occurrence) {
+        (Kind::MarkOff | Kind::MarkAboveSize | Kind::Discards, _) => Thing::Queue(spot.input.queue),
+        (Kind::InnerQueue | Kind::GivesUp | Kind::NoTarget, Some(occurrence)) => {
+            thing_executed(spot, occurrence)
         }
-        Kind::InnerQueue | Kind::GivesUp | Kind::NoTarget => {
-            match occurrence_meant(alloc, site, spot, finding)? {
-                Some(occurrence) => Ok(Some(thing_executed(spot, occurrence))),
-                None => Ok(None),
-            }
-        }
-        Kind::NotFull | Kind::Loop | Kind::InnerLoop | Kind::Unmet(_) => {
-            Ok(Some(Thing::Input(finding.input.input)))
-        }
+        _ => Thing::Input(input),
     }
 }
 
 // Of a loop the last forward.
 fn push_forward(
-    mark: &mut Mark,
+    marks: &mut Vec<Mark>,
     alloc: Global,
     site: &Site,
     finding: &Finding,
@@ -139,18 +159,15 @@ fn push_forward(
     let Some(row) = last_of(finding.way.as_slice()) else {
         return Ok(());
     };
-    if let Some(action) = action_by(alloc, site, finding.class, row, finding.input)? {
-        mark.nodes.push(Node {
-            relay: row.input.relay,
-            thing: Thing::Action(action),
-        })?;
+    match action_by(alloc, site, finding.class, row, finding.input)? {
+        Some(action) => push_mark(marks, row.input.relay, Thing::Action(action), finding.kind),
+        None => Ok(()),
     }
-    Ok(())
 }
 
 // Of a circle of posts its lists and their queues.
 fn append_circle(
-    mark: &mut Mark,
+    marks: &mut Vec<Mark>,
     alloc: Global,
     site: &Site,
     spot: Spot<'_>,
@@ -162,68 +179,76 @@ fn append_circle(
         return Ok(());
     };
     for list in lists.as_slice() {
-        mark.nodes.push(Node {
-            relay,
-            thing: Thing::List(*list),
-        })?;
-        mark.nodes.push(Node {
-            relay,
-            thing: Thing::Queue(queue_for(spot.plan, *list)),
-        })?;
+        push_mark(marks, relay, Thing::List(*list), finding.kind)?;
+        let queue = Thing::Queue(queue_for(spot.plan, *list));
+        push_mark(marks, relay, queue, finding.kind)?;
     }
     Ok(())
 }
 
-// What a finding is about at its input.
+// What is found at an input, by an occurrence where it is of one.
 fn push_at_input(
-    mark: &mut Mark,
-    alloc: Global,
-    site: &Site,
+    marks: &mut Vec<Mark>,
     spot: Spot<'_>,
     finding: &Finding,
+    occurrence: Option<Occurrence>,
 ) -> Result<(), AllocError> {
-    if let Some(thing) = thing_at(alloc, site, spot, finding)? {
-        mark.nodes.push(Node {
-            relay: finding.input.relay,
-            thing,
-        })?;
+    let (relay, kind) = (finding.input.relay, finding.kind);
+    let thing = thing_at(spot, finding.input.input, kind, occurrence);
+    push_mark(marks, relay, thing, kind)?;
+    match kind {
+        Kind::Unmet(archive) => push_mark(marks, archive.relay, Thing::File(archive.action), kind),
+        _ => Ok(()),
     }
-    if let Kind::Unmet(archive) = finding.kind {
-        mark.nodes.push(Node {
-            relay: archive.relay,
-            thing: Thing::File(archive.action),
-        })?;
-    }
-    Ok(())
 }
 
-fn push_found(
-    mark: &mut Mark,
+fn push_instance(
+    marks: &mut Vec<Mark>,
     alloc: Global,
     site: &Site,
-    finding: &Finding,
+    instance: &Instance,
 ) -> Result<(), AllocError> {
+    let Some(finding) = finding_of(alloc, instance) else {
+        return Ok(());
+    };
     let Some(spot) = spot_at(site, finding.input) else {
         return Ok(());
     };
     match finding.kind {
-        Kind::Loop => push_forward(mark, alloc, site, finding),
-        Kind::InnerLoop => append_circle(mark, alloc, site, spot, finding),
-        _ => push_at_input(mark, alloc, site, spot, finding),
+        Kind::InnerLoop => append_circle(marks, alloc, site, spot, &finding),
+        _ => push_at_input(marks, spot, &finding, instance.occurrence),
     }
 }
 
-/// The nodes that what was found is about.
-pub fn mark_of(alloc: Global, site: &Site, found: &Option<Finding>) -> Result<Mark, AllocError> {
-    let mut mark = Mark {
-        nodes: Vec::new(alloc),
-        kind: "",
+// Whether an instance is a loop that what was found first tells with its way.
+fn is_told(instance: &Instance, first: &Finding) -> bool {
+    matches!(instance.kind, Kind::Loop)
+        && matches!(first.kind, Kind::Loop)
+        && instance.input == first.input
+}
+
+/// The nodes that all that is found in a site is about. Of the loop that is found first that is its last forward, of another
+/// its input.
+pub fn marks_of(
+    alloc: Global,
+    site: &Site,
+    found: &Option<Finding>,
+) -> Result<Vec<Mark>, AllocError> {
+    let mut marks = Vec::new(alloc);
+    let Some(first) = found else {
+        return Ok(marks);
     };
-    if let Some(finding) = found {
-        mark.kind = finding.kind.words();
-        push_found(&mut mark, alloc, site, finding)?;
+    if matches!(first.kind, Kind::Loop) {
+        push_forward(&mut marks, alloc, site, first)?;
     }
-    Ok(mark)
+    let groups = survey(alloc, site)?;
+    let instances = instances_of(alloc, site, groups.as_slice())?;
+    for instance in instances.as_slice() {
+        if !is_told(instance, first) {
+            push_instance(&mut marks, alloc, site, instance)?;
+        }
+    }
+    Ok(marks)
 }
 
 /// Whether an input is an entry.

@@ -333,7 +333,7 @@ pub fn push_relay(
         Part::Text(b"  subgraph cluster_"),
         Part::Number(u64::from(relay)),
         Part::Text(b" {\n    graph [label=\""),
-        Part::Text(relay_name(drawing.site, relay)),
+        Part::Name(relay_name(drawing.site, relay)),
     ]);
     words.say(style::BOX);
     append_inputs(words, drawing, relay, plan);

@@ -2,36 +2,33 @@
 
 use crate::reach::How;
 use std::alloc::{AllocError, Global};
-use std::str;
 use sy_findings::verdicts::tally::append_classes;
 use sy_report::texts::parts::Part;
-use sy_report::texts::words::{DIGITS, Words};
+use sy_report::texts::printed::first_piece;
+use sy_report::texts::words::Words;
 use sy_wire::Class;
 
 /// The most bytes of names of classes at an arrow.
 const LONGEST: usize = 40;
 
-// Puts a byte of a name. A label gives a meaning to quotes, backslashes, and what begins an entity.
-fn push_byte(words: &mut Words, byte: u8, is_text: bool) {
+// Puts a byte of what is printed of a name. A label gives a meaning to quotes, backslashes, and what begins an entity.
+fn push_byte(words: &mut Words, byte: u8) {
     match byte {
         b'"' => words.say("\\\""),
         b'\\' => words.say("\\\\"),
         b'&' => words.say("&amp;"),
-        b' '..=b'~' => words.append(&[Part::Text(&[byte])]),
-        128.. if is_text => words.append(&[Part::Text(&[byte])]),
-        _ => {
-            words.say("\\\\x");
-            words.say(DIGITS[(byte / 16) as usize]);
-            words.say(DIGITS[(byte % 16) as usize]);
-        }
+        _ => words.append(&[Part::Text(&[byte])]),
     }
 }
 
-/// Puts a name into a label: escaped, and bytes that aren't printed, or are no UTF-8, as `\x0a`.
+/// Puts a name into a label: as it is printed, and escaped.
 pub fn push_name(words: &mut Words, name: &[u8]) {
-    let is_text = str::from_utf8(name).is_ok();
-    for byte in name {
-        push_byte(words, *byte, is_text);
+    let mut rest = name;
+    while let Some((piece, behind)) = first_piece(rest) {
+        for byte in piece.as_slice() {
+            push_byte(words, *byte);
+        }
+        rest = behind;
     }
 }
 
@@ -79,9 +76,15 @@ pub const LEGEND: &str =
 pub const LEGEND_OF_ONE: &str =
     "solid: each message that comes so far goes there; dashed: some may; dotted: none does";
 
-/// What the colours mean.
+/// What the colours mean; in an overview, what a box is.
 pub const MARKS: &str =
-    "\\nblue: an entry; green: an archive of a protect line; dashed box: a spare action\",
+    "\\nblue: an entry; green: an archive of a protect line; dashed box: a spare action";
+
+pub const BOXES: &str =
+    "\\na box: a relay, with its ports and the archives of protect lines there; red: something is found there; syc graph --full draws what is in it";
+
+/// What ends what is said below a drawing.
+pub const BELOW: &str = "\",
     labelloc=b, fontsize=12, fontcolor=black, penwidth=0];
 ";
 
@@ -92,6 +95,12 @@ pub const RED_NODE: &str =
     "\", color=\"#d93025\", fontcolor=\"#b3261e\", penwidth=2, fillcolor=\"#fce8e6\"";
 
 pub const GREY: &str = "\", color=\"#bdc1c6\", fontcolor=\"#80868b\"";
+
+/// The style of the boxes of an overview, and of what isn't of the site there.
+pub const BOXED: &str =
+    "    node [shape=box, margin=\"0.12,0.06\", style=\"rounded,filled\", fillcolor=\"#f8f9fa\"];\n";
+
+pub const WAY_OUT: &str = "out [shape=plaintext, style=\"\", label=\"";
 
 /// The styles of a relay's box and of its nodes.
 pub const BOX: &str =

@@ -3,3 +3,4 @@
 pub mod legacy;
 pub mod notes;
 pub mod opened;
+mod slips;

@@ -2,5 +2,6 @@
 
 pub mod files;
 pub mod lines;
+mod reach;
 pub(crate) mod reference;
 pub mod spare;

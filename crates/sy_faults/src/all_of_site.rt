@@ -159,7 +159,10 @@ fn most_of(word: &[u8]) -> usize {
 }
 
 fn is_known(word: &[u8]) -> bool {
-    matches!(word, b"relay" | b"entry" | b"protect" | b"spare")
+    matches!(
+        word,
+        b"relay" | b"entry" | b"protect" | b"spare" | b"outside"
+    )
 }
 
 // Takes away what is at the head of a text before its first line, and answers whether that is all that is wrong there.

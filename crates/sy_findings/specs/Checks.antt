@@ -1,8 +1,11 @@
 -- What is said of a site that is judged: that it is accepted, its certificate, a finding, all that is found (this profile's own).
-use Rattle.std.specs.Prelude.{◌≡◌, ℕ, Bool, true, false, ◌⊎◌, List, [], ◌∷◌, ◌++◌, codes, flat_map, length}
+use Rattle.std.specs.Prelude.{◌≡◌, ℕ, Bool, true, false, ◌⊎◌, List, [], ◌∷◌, ◌++◌, Option, Some, None, codes, flat_map, length}
 use Rattle.std.specs.Fmt.{decimal}
 use Rattle.sy_wire.specs.declared.class.Class.{Class}
-use Rattle.sy_site.specs.Sites.{Site}
+use Rattle.sy_rules.specs.Whole.{name_at, owner_at}
+use Rattle.sy_rules.specs.declared.lists.occurrence.Occurrence.{Occurrence}
+use Rattle.sy_rules.specs.declared.lists.occurrence.Occurrence.TheVariants as occurrence
+use Rattle.sy_site.specs.Sites.{Site, plan_at}
 use Rattle.sy_site.specs.machine.Safety.{AreSafe}
 use Rattle.sy_site.specs.machine.Soundness.{IsSound}
 use Rattle.sy_site.specs.machine.States.{SiteState}
@@ -18,6 +21,9 @@ use Rattle.sy_cert.specs.Rows.{IsCertificate, text}
 use Rattle.sy_checker.specs.Claims.{RanksStayFalling, StayConfined, StayWrittenOrHead}
 use Rattle.sy_checker.specs.Fit.{AreProtected, IsFitFor}
 use Rattle.sy_checker.specs.declared.kinds.groups.Group.{Group}
+use Rattle.sy_findings.specs.declared.verdicts.instances.Instance.{Instance}
+use Rattle.sy_findings.specs.Instances.{AreInstances}
+use Rattle.sy_report.specs.Printed.{printed}
 use Rattle.sy_report.specs.Reports.{line_feed}
 use Rattle.sy_report.specs.Texts.{class_text, input_text}
 
@@ -29,7 +35,7 @@ accepted_line count = codes "accepted: " ++ decimal count ++ codes " protected c
 
 -- behind the number and the name of an archive that isn't led to: RELAY ACTION
 abbrev pub archive_text : Site → Kind → List ℕ
-archive_text site (kind.Unmet archive) = codes " " ++ name_of site archive.relay ++ codes " " ++ action_name site archive
+archive_text site (kind.Unmet archive) = codes " " ++ printed (name_of site archive.relay) ++ codes " " ++ printed (action_name site archive)
 archive_text site _ = []
 
 -- K KIND
@@ -41,25 +47,42 @@ abbrev pub finding_line : Site → Finding → List ℕ
 finding_line site found =
     codes "refused: " ++ class_text found.class ++ codes " at " ++ input_text site found.input ++ codes ": " ++ kind_text site found.kind ++ line_feed ∷ []
 
--- behind the classes of a group: at RELAY PORT: K KIND
-abbrev pub group_text : Site → Group → List ℕ
-group_text site group = codes " at " ++ input_text site group.input ++ codes ": " ++ kind_text site group.kind ++ line_feed ∷ []
+-- the word for what a list is of
+abbrev pub owner_word : Option ℕ → List ℕ
+owner_word (Some action) = codes " action "
+owner_word None = codes " ruleset "
+
+-- what an occurrence runs or posts to: action ACTION, or ruleset RULESET; of a post to an action's own queue that action
+abbrev pub executed_text : Site → ℕ → Occurrence → List ℕ
+executed_text site relay (occurrence.Run action) = codes " action " ++ printed (action_name site (record { relay = relay; action = action }))
+executed_text site relay (occurrence.Post list) = owner_word (owner_at (plan_at site relay) list) ++ printed (name_at (plan_at site relay) list)
+
+-- behind a kind, where an occurrence is faulty
+abbrev pub occurrence_text : Site → ℕ → Option Occurrence → List ℕ
+occurrence_text site relay (Some is) = executed_text site relay is
+occurrence_text site relay None = []
+
+-- behind the classes of an instance: at RELAY PORT: K KIND, and the occurrence
+abbrev pub instance_text : Site → Instance → List ℕ
+instance_text site instance =
+    codes " at " ++ input_text site instance.input ++ codes ": " ++ kind_text site instance.kind
+    ++ occurrence_text site instance.input.relay instance.occurrence ++ line_feed ∷ []
 
 -- such a line is put behind a text
-abbrev pub AppendsLine : Site → Group → List ℕ → List ℕ → Type 0
-AppendsLine site group old new = (names : List ℕ) × (new ≡ old ++ names ++ group_text site group)
+abbrev pub AppendsLine : Site → Instance → List ℕ → List ℕ → Type 0
+AppendsLine site instance old new = (names : List ℕ) × (new ≡ old ++ names ++ instance_text site instance)
 
--- a line for each group, which begins with words for its classes, of which nothing is said
-abbrev pub AreLines : Site → List Group → List ℕ → Type 0
+-- a line for each instance, which begins with words for its classes, of which nothing is said
+abbrev pub AreLines : Site → List Instance → List ℕ → Type 0
 AreLines site [] text = text ≡ []
-AreLines site (group ∷ groups) text =
-    (names : List ℕ) × (rest : List ℕ) × (text ≡ names ++ group_text site group ++ rest) × AreLines site groups rest
+AreLines site (instance ∷ instances) text =
+    (names : List ℕ) × (rest : List ℕ) × (text ≡ names ++ instance_text site instance ++ rest) × AreLines site instances rest
 
 -- the same with words for people behind each line, of which nothing is said
-abbrev pub AreLinesInWords : Site → List Group → List ℕ → Type 0
+abbrev pub AreLinesInWords : Site → List Instance → List ℕ → Type 0
 AreLinesInWords site [] text = text ≡ []
-AreLinesInWords site (group ∷ groups) text =
-    (names words rest : List ℕ) × (text ≡ names ++ group_text site group ++ words ++ rest) × AreLinesInWords site groups rest
+AreLinesInWords site (instance ∷ instances) text =
+    (names words rest : List ℕ) × (text ≡ names ++ instance_text site instance ++ words ++ rest) × AreLinesInWords site instances rest
 
 --   RELAY PORT by N
 abbrev pub way_line : Site → WayRow → List ℕ
@@ -90,19 +113,30 @@ pub record SaysFound (site : Site) (text : List ℕ) (is_accepted : Bool) : Type
   pub text_is : text ≡ finding_text site found
   pub refused : is_accepted ≡ false
 
--- words, and then a line for each group
-pub record IsTally (site : Site) (groups : List Group) (text : List ℕ) : Type 0 where
+-- words, and then a line for each instance
+pub record AreTold (site : Site) (instances : List Instance) (text : List ℕ) : Type 0 where
   pub head : List ℕ
   pub lines : List ℕ
   pub text_is : text ≡ head ++ lines
-  pub are_lines : AreLines site groups lines
+  pub are_lines : AreLines site instances lines
 
--- words, and then a line for each group, with words behind it
-pub record IsTallyInWords (site : Site) (groups : List Group) (text : List ℕ) : Type 0 where
+-- words, and then a line for each instance, with words behind it
+pub record AreToldInWords (site : Site) (instances : List Instance) (text : List ℕ) : Type 0 where
   pub head : List ℕ
   pub lines : List ℕ
   pub text_is : text ≡ head ++ lines
-  pub are_lines : AreLinesInWords site groups lines
+  pub are_lines : AreLinesInWords site instances lines
+
+-- so are the instances of the groups
+pub record IsTally (site : Site) (groups : List Group) (text : List ℕ) : Type 0 where
+  pub instances : List Instance
+  pub are_instances : AreInstances groups instances
+  pub are_told : AreTold site instances text
+
+pub record IsTallyInWords (site : Site) (groups : List Group) (text : List ℕ) : Type 0 where
+  pub instances : List Instance
+  pub are_instances : AreInstances groups instances
+  pub are_told : AreToldInWords site instances text
 
 -- that it keeps all
 pub record SaysKept (site : Site) (text : List ℕ) (is_accepted : Bool) : Type 0 where

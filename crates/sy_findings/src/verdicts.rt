@@ -3,5 +3,6 @@
 pub mod check;
 pub mod explained_tally;
 pub mod findings;
+pub mod instances;
 pub mod tally;
 pub mod verdict;

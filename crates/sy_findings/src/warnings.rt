@@ -1,10 +1,21 @@
 //! Warnings: what is lawful in a site and unwise. They change no verdict.
 ghost use Rattle.std.specs.Prelude.{◌≡◌, ◌++◌, ℕ, List, IfErr, IfOk};
 
+pub mod audit;
+mod bottleneck;
 pub mod cautions;
+mod coming;
+pub mod endpoints;
+mod following;
+pub mod holders;
+mod holding;
+mod holdups;
 pub mod unwise;
 
+use crate::warnings::audit::warn_of_audit;
 use crate::warnings::cautions::unreached_relay;
+use crate::warnings::endpoints::{warn_of_endpoint, warn_of_item_by_outlet};
+use crate::warnings::holders::{Holder, holders_of};
 use crate::warnings::unwise::warn_of_item;
 use std::alloc::{AllocError, Global};
 use sy_places::relay_file::contents::{Item, items_of};
@@ -40,6 +51,20 @@ pub enum Caution {
     AfterStop,
     /// Two archives of one relay are one file, or an archive and what keeps the unread frames of an input.
     SameFile,
+    /// An input can be reached where one of an earlier relay can.
+    SameEndpoint,
+    /// A forward leads to an input of its own relay, though the site has it lead elsewhere.
+    OwnEndpoint,
+    /// A forward connects to an address that is no host's.
+    NoEndpoint,
+    /// Nobody is where a forward leads.
+    NobodyThere,
+    /// Facility 4 is protected, and facility 13, log audit, isn't.
+    AuditFacility,
+    /// An action that may wait without end shares a worker with what protected messages need, and they don't need it.
+    SharedWorker,
+    /// A spare action without a queue of its own stands before what protected messages need.
+    Bottleneck,
 }
 
 impl Caution {
@@ -54,6 +79,13 @@ impl Caution {
             Caution::MarkAboveSize => "MarkAboveSize",
             Caution::AfterStop => "AfterStop",
             Caution::SameFile => "SameFile",
+            Caution::SameEndpoint => "SameEndpoint",
+            Caution::OwnEndpoint => "OwnEndpoint",
+            Caution::NoEndpoint => "NoEndpoint",
+            Caution::NobodyThere => "NobodyThere",
+            Caution::AuditFacility => "AuditFacility",
+            Caution::SharedWorker => "SharedWorker",
+            Caution::Bottleneck => "Bottleneck",
         }
     }
 }
@@ -81,6 +113,8 @@ pub struct Looked<'a> {
     pub reached: &'a [SiteInput],
     /// Those that messages of protected classes come to.
     pub protected: &'a [SiteInput],
+    /// The actions that hold up protected messages.
+    pub holders: &'a [Holder],
 }
 
 /// The most warnings of a site; what is unwise beyond them isn't told.
@@ -118,11 +152,12 @@ impl Warnings {
     }
 }
 
-// The inputs that messages of entries come to.
+// The inputs that messages of entries come to, and the actions that hold up those of protected classes.
 #[derive(Drop)]
 struct Reached {
     of_any_class: Vec<SiteInput>,
     of_protected: Vec<SiteInput>,
+    holders: Vec<Holder>,
 }
 
 fn reached_of(alloc: Global, site: &Site) -> Result<Reached, AllocError> {
@@ -130,9 +165,11 @@ fn reached_of(alloc: Global, site: &Site) -> Result<Reached, AllocError> {
     let protected = protected_classes(alloc, site)?;
     let of_any_class = reached_inputs(alloc, site, classes.as_slice())?;
     let of_protected = reached_inputs(alloc, site, protected.as_slice())?;
+    let holders = holders_of(alloc, site)?;
     Ok(Reached {
         of_any_class,
         of_protected,
+        holders,
     })
 }
 
@@ -161,6 +198,7 @@ fn warn_of_script(
     site: &Site,
     relay: u32,
     reached: &Reached,
+    texts: &SiteTexts<'_>,
     file: &RelayFile<'_>,
     script: &Script,
 ) -> Result<(), AllocError> {
@@ -184,9 +222,11 @@ fn warn_of_script(
         kept: &kept,
         reached: reached.of_any_class.as_slice(),
         protected,
+        holders: reached.holders.as_slice(),
     };
     for item in items.as_slice() {
         warn_of_item(warnings, looked, *item);
+        warn_of_item_by_outlet(warnings, texts, looked, *item)?;
     }
     Ok(())
 }
@@ -219,7 +259,7 @@ fn warn_of_file(
 ) -> Result<(), AllocError> {
     match relay_file(warnings.alloc, texts.relay_text(relay))? {
         Some(file) => match &file.script {
-            Some(script) => warn_of_script(warnings, site, relay, reached, &file, script),
+            Some(script) => warn_of_script(warnings, site, relay, reached, texts, &file, script),
             None => Ok(()),
         },
         None => Ok(()),
@@ -233,11 +273,13 @@ fn warn_of_site(
     text: &[u8],
 ) -> Result<(), AllocError> {
     let reached = reached_of(warnings.alloc, site)?;
+    warn_of_audit(warnings, site, texts.name, text);
     for relay in 0..site.relays() {
         if warnings.is_full() {
             return Ok(());
         }
         warn_of_relay(warnings, site, relay, &reached, texts.name, text);
+        warn_of_endpoint(warnings, texts, site, relay)?;
         warn_of_file(warnings, texts, site, relay, &reached)?;
     }
     Ok(())
@@ -281,8 +323,12 @@ fn append_warnings(words: &mut Words, warnings: &[Warning]) {
     }
 }
 
-// The lines of the warnings of a site with these texts.
-fn lines_of(alloc: Global, texts: &SiteTexts<'_>, site: &Site) -> Result<Vec<u8>, AllocError> {
+/// The lines of the warnings of a site with these texts: none where it has none.
+pub fn warning_lines(
+    alloc: Global,
+    texts: &SiteTexts<'_>,
+    site: &Site,
+) -> Result<Vec<u8>, AllocError> {
     let warnings = warnings_of(alloc, texts, site)?;
     let mut words = Words::new(alloc);
     append_warnings(&mut words, warnings.as_slice());
@@ -312,7 +358,7 @@ fn with_lines_of(
     ensures same { IfOk result (λ a. a.is_accepted ≡ answer.is_accepted) }
     ensures more { IfOk result (λ a. (more : List ℕ) × (a.text.items ≡ answer.text.items ++ more)) }
 {
-    let lines = lines_of(alloc, texts, site)?;
+    let lines = warning_lines(alloc, texts, site)?;
     with_lines(answer, lines.as_slice())
 }
 

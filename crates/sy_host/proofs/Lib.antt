@@ -1,7 +1,6 @@
 pub mod Counted
 pub mod Cutting
 pub mod LeftFrames
-pub mod Named
 pub mod Offers
 pub mod Sent
 pub mod Unkept

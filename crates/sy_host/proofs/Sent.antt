@@ -2,13 +2,15 @@
 use denote.RattleType.{RattleType}
 use denote.Param.Object.{Ghosts, table_of}
 use denote.Param.Sent.{Sends}
-use denote.Param.Send.{IsSend, IsSync, sendable}
+use denote.Param.Send.{IsSend, IsSync, recorded_send, recorded_sync, sendable, struct_send}
+use denote.Struct.Declared.{shape}
 use Rattle.std.proofs.Crossing.{crosses}
 use Rattle.sy_chain.specs.contracts.node.Node as Node
 use Rattle.sy_runtime.specs.contracts.relay.Relay as Relay
 use Rattle.sy_runtime.specs.contracts.untaken.Item as Item
 use Rattle.sy_runtime.specs.contracts.untaken.Untaken as Untaken
 use Rattle.sy_host.specs.contracts.ending.remaining.Rest as Rest
+use Rattle.sy_host.specs.contracts.ending.remaining.Unkept as Unkept
 use Rattle.sy_runtime.proofs.Sent.{relay_send, relay_sync}
 use Rattle.sy_host.specs.contracts.devices.file_writer.FileWriter as FileWriter
 use Rattle.sy_host.specs.contracts.devices.frame_file.FrameFile as FrameFile
@@ -40,8 +42,11 @@ item_send = search (node_send, sendable, crosses) depth 30 fits 2000
 untaken_send : IsSend Untaken.the_row
 untaken_send = search (item_send, sendable, crosses) depth 30 fits 2000
 
+unkept_send : IsSend Unkept.the_row
+unkept_send = search (sendable, crosses) depth 40 fits 8000
+
 rest_send : IsSend Rest.the_row
-rest_send = search (node_send, item_send, untaken_send, sendable, crosses) depth 40 fits 8000
+rest_send = search (node_send, item_send, untaken_send, unkept_send, sendable, crosses) depth 40 fits 8000
 
 connections_send : IsSend Connections.the_row
 connections_send = search (node_send, item_send, untaken_send, rest_send, sendable, crosses) depth 60 fits 20000
@@ -68,13 +73,14 @@ file_form_send : IsSend FileForm.the_row
 file_form_send = search (file_writer_send, frame_file_send, sendable, crosses) depth 80 fits 20000
 
 open_file_send : IsSend Open.the_row
-open_file_send = search (file_form_send, sendable, crosses) depth 80 fits 20000
+open_file_send = recorded_send Open.the_field.row _ _ Open.the_type.to_one (search (file_form_send, sendable, crosses) depth 80 fits 20000)
 
 rotated_send : IsSend Rotated.the_row
-rotated_send = search (open_file_send, noted_send, noted_sync, sendable, crosses) depth 80 fits 20000
+rotated_send =
+    recorded_send Rotated.the_field.row _ _ Rotated.the_type.to_one (struct_send (shape Rotated.the_type) (search (open_file_send, noted_send, noted_sync, sendable, crosses) depth 80 fits 20000, (search (open_file_send, noted_send, noted_sync, sendable, crosses) depth 80 fits 20000, (search (open_file_send, noted_send, noted_sync, sendable, crosses) depth 80 fits 20000, (search (open_file_send, noted_send, noted_sync, sendable, crosses) depth 80 fits 20000, (search (open_file_send, noted_send, noted_sync, sendable, crosses) depth 80 fits 20000, (search (open_file_send, noted_send, noted_sync, sendable, crosses) depth 80 fits 20000, (search (open_file_send, noted_send, noted_sync, sendable, crosses) depth 80 fits 20000, (search (open_file_send, noted_send, noted_sync, sendable, crosses) depth 80 fits 20000, tt)))))))))
 
 rotated_sync : IsSync Rotated.the_row
-rotated_sync = search (open_file_send, noted_send, noted_sync, sendable, crosses) depth 80 fits 20000
+rotated_sync = recorded_sync Rotated.the_field.row _ _ Rotated.the_type.to_one (search (open_file_send, noted_send, noted_sync, sendable, crosses) depth 80 fits 20000)
 
 reopens_send : IsSend Reopens.the_row
 reopens_send = search (rotated_send, rotated_sync, sendable, crosses) depth 80 fits 20000
@@ -83,7 +89,8 @@ reopens_sync : IsSync Reopens.the_row
 reopens_sync = search (rotated_send, rotated_sync, sendable, crosses) depth 80 fits 20000
 
 writing_send : IsSend Writing.the_row
-writing_send = search (rotated_send, rotated_sync, reopens_send, reopens_sync, noted_send, sendable, crosses) depth 80 fits 20000
+writing_send =
+    recorded_send Writing.the_field.row _ _ Writing.the_type.to_one (struct_send (shape Writing.the_type) (search (rotated_send, rotated_sync, reopens_send, reopens_sync, noted_send, sendable, crosses) depth 80 fits 20000, (search (rotated_send, rotated_sync, reopens_send, reopens_sync, noted_send, sendable, crosses) depth 80 fits 20000, (search (rotated_send, rotated_sync, reopens_send, reopens_sync, noted_send, sendable, crosses) depth 80 fits 20000, (search (rotated_send, rotated_sync, reopens_send, reopens_sync, noted_send, sendable, crosses) depth 80 fits 20000, (search (rotated_send, rotated_sync, reopens_send, reopens_sync, noted_send, sendable, crosses) depth 80 fits 20000, (search (rotated_send, rotated_sync, reopens_send, reopens_sync, noted_send, sendable, crosses) depth 80 fits 20000, tt)))))))
 
 unread_file_send : IsSend UnreadFile.the_row
 unread_file_send = search (writing_send, sendable, crosses) depth 40 fits 5000
@@ -94,20 +101,7 @@ unread_file_sync = search (writing_send, sendable, crosses) depth 40 fits 5000
 module _ (E : RattleType) where
   pub serving_send : IsSend E → IsSend (Serving.the_row E)
   serving_send a =
-      search (
-        printer_send,
-        printing_send,
-        printing_sync,
-        connections_send,
-        log_send,
-        log_sync,
-        watch_send,
-        watch_sync,
-        unread_file_send,
-        unread_file_sync,
-        sendable,
-        crosses,
-      ) depth 40 fits 5000
+      recorded_send (Serving.the_field E).row _ _ (Serving.the_type E).to_one (struct_send (shape (Serving.the_type E)) (search (printer_send, printing_send, printing_sync, connections_send, log_send, log_sync, watch_send, watch_sync, unread_file_send, unread_file_sync, sendable, crosses) depth 40 fits 5000, (search (printer_send, printing_send, printing_sync, connections_send, log_send, log_sync, watch_send, watch_sync, unread_file_send, unread_file_sync, sendable, crosses) depth 40 fits 5000, (search (printer_send, printing_send, printing_sync, connections_send, log_send, log_sync, watch_send, watch_sync, unread_file_send, unread_file_sync, sendable, crosses) depth 40 fits 5000, (search (printer_send, printing_send, printing_sync, connections_send, log_send, log_sync, watch_send, watch_sync, unread_file_send, unread_file_sync, sendable, crosses) depth 40 fits 5000, (search (printer_send, printing_send, printing_sync, connections_send, log_send, log_sync, watch_send, watch_sync, unread_file_send, unread_file_sync, sendable, crosses) depth 40 fits 5000, (search (printer_send, printing_send, printing_sync, connections_send, log_send, log_sync, watch_send, watch_sync, unread_file_send, unread_file_sync, sendable, crosses) depth 40 fits 5000, (search (printer_send, printing_send, printing_sync, connections_send, log_send, log_sync, watch_send, watch_sync, unread_file_send, unread_file_sync, sendable, crosses) depth 40 fits 5000, (search (printer_send, printing_send, printing_sync, connections_send, log_send, log_sync, watch_send, watch_sync, unread_file_send, unread_file_sync, sendable, crosses) depth 40 fits 5000, (search (printer_send, printing_send, printing_sync, connections_send, log_send, log_sync, watch_send, watch_sync, unread_file_send, unread_file_sync, sendable, crosses) depth 40 fits 5000, (search (printer_send, printing_send, printing_sync, connections_send, log_send, log_sync, watch_send, watch_sync, unread_file_send, unread_file_sync, sendable, crosses) depth 40 fits 5000, (search (printer_send, printing_send, printing_sync, connections_send, log_send, log_sync, watch_send, watch_sync, unread_file_send, unread_file_sync, sendable, crosses) depth 40 fits 5000, tt))))))))))))
 
   pub serving_sync : IsSend E → IsSync (Serving.the_row E)
   serving_sync a =

@@ -1,4 +1,3 @@
-pub mod Outlets
 pub mod Totals
 pub mod WholeEntries
 pub mod Left

@@ -10,6 +10,7 @@ use Rattle.sy_board.specs.relay.Totals.{Counts, GuardState, Totals}
 use Rattle.sy_runtime.specs.Connections as connections
 use Rattle.sy_runtime.specs.Stopping.{Stops}
 use Rattle.sy_runtime.specs.declared.untaken.Untaken.{Untaken}
+use Rattle.sy_report.specs.Printed.{printed}
 use Rattle.sy_report.specs.Reports.{line_feed}
 use Rattle.sy_host.specs.Left.{Keeps}
 
@@ -29,7 +30,7 @@ counts_text due done given_up left =
     ++ codes " left " ++ decimal left ++ line_feed ∷ []
 
 abbrev pub line_with : List ℕ → ℕ → ℕ → ℕ → ℕ → List ℕ
-line_with name due done given_up left = name ++ counts_text due done given_up left
+line_with name due done given_up left = printed name ++ counts_text due done given_up left
 
 -- those are left that became due and were neither done nor given up
 abbrev pub action_line : List ℕ → Counts → List ℕ

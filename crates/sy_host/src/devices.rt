@@ -7,4 +7,3 @@ pub mod host_device;
 pub mod link;
 pub mod link_writer;
 pub mod opening;
-pub mod outlets;

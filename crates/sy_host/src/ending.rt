@@ -10,9 +10,8 @@ pub mod totals;
 pub mod unfinished;
 
 use crate::listening::serving::Serving;
-use crate::listening::socket_address;
 use std::alloc::{AllocError, Global};
-use std::net::{Ipv4Addr, Net, Shutdown, TcpListener, TcpStream};
+use std::net::{IpAddr, Ipv4Addr, Ipv6Addr, Net, Shutdown, SocketAddr, TcpListener, TcpStream};
 use std::sync::atomic::{AtomicBool, Ordering};
 use std::sync::{Arc, Wait};
 use std::thread;
@@ -33,14 +32,24 @@ const LOOP_WAIT: u64 = 100;
 
 const LOOP_TRIES: u32 = 50;
 
+// An address of this host at which what listens there is reached.
+fn near_address(listens: Option<IpAddr>) -> IpAddr {
+    match listens {
+        Some(address) if !address.is_unspecified() => address,
+        Some(IpAddr::V6(_)) => IpAddr::V6(Ipv6Addr::LOCALHOST),
+        _ => IpAddr::V4(Ipv4Addr::LOCALHOST),
+    }
+}
+
 // Connects once to each port, so that what accepts there wakes up.
 fn wake_loops<R: Net<Listener = TcpListener, Stream = TcpStream>>(
     rt: &R,
-    address: Ipv4Addr,
+    listens: Option<IpAddr>,
     inputs: &[Input],
 ) {
+    let near = near_address(listens);
     for input in inputs {
-        let address = socket_address(address, input.port);
+        let address = SocketAddr::new(near, input.port);
         let _ = TcpStream::connect_timeout(rt, &address, Duration::from_millis(LOOP_WAIT));
     }
 }
@@ -49,12 +58,12 @@ fn wake_loops<R: Net<Listener = TcpListener, Stream = TcpStream>>(
 pub fn end_loops<R: Wait + Clock + Net<Listener = TcpListener, Stream = TcpStream>, E: Sink + Drop>(
     rt: &R,
     serving: &Serving<E>,
-    address: Ipv4Addr,
+    listens: Option<IpAddr>,
     inputs: &[Input],
 ) {
     serving.set_stopping();
     for _ in 0..LOOP_TRIES {
-        wake_loops(rt, address, inputs);
+        wake_loops(rt, listens, inputs);
         if serving.wait_for_loops(rt, Duration::from_millis(LOOP_WAIT)) {
             return;
         }

@@ -14,9 +14,13 @@ pub mod whole_entries;
 
 use crate::listening::serving::Port;
 use std::alloc::Global;
-use std::net::{Ipv4Addr, Net, SocketAddr, SocketAddrV4, TcpListener, TcpStream};
+use std::io;
+use std::net::{IpAddr, Ipv4Addr, Ipv6Addr, Net, SocketAddr, TcpListener, TcpStream};
 use sy_report::texts::reason::Reason;
 use sy_rules::Input;
+
+// The host's number of an error: it has no addresses of that family (Linux, errno.h).
+const NO_FAMILY: i32 = 97;
 
 /// An input and what listens at its port.
 #[derive(Drop)]
@@ -33,30 +37,52 @@ pub enum ListenFault {
     NoMemory,
 }
 
-/// That port of that address.
-pub fn socket_address(address: Ipv4Addr, port: u16) -> SocketAddr {
-    SocketAddr::V4(SocketAddrV4::new(address, port))
+// Listens at that port of all addresses: those of IPv6 and IPv4, or of IPv4 where the host has no other.
+fn bind_all<R: Net<Listener = TcpListener, Stream = TcpStream>>(
+    rt: &R,
+    port: u16,
+) -> io::Result<TcpListener> {
+    let all = SocketAddr::new(IpAddr::V6(Ipv6Addr::UNSPECIFIED), port);
+    match TcpListener::bind(rt, all) {
+        Ok(listener) => Ok(listener),
+        Err(error) if error.raw_os_error() == Some(NO_FAMILY) => {
+            TcpListener::bind(rt, SocketAddr::new(IpAddr::V4(Ipv4Addr::UNSPECIFIED), port))
+        }
+        Err(error) => Err(error),
+    }
+}
+
+// Listens at that port of an address, or of all.
+fn bind<R: Net<Listener = TcpListener, Stream = TcpStream>>(
+    rt: &R,
+    address: Option<IpAddr>,
+    port: u16,
+) -> io::Result<TcpListener> {
+    match address {
+        Some(address) => TcpListener::bind(rt, SocketAddr::new(address, port)),
+        None => bind_all(rt, port),
+    }
 }
 
 // Listens at the port of an input.
 fn listen<R: Net<Listener = TcpListener, Stream = TcpStream>>(
     rt: &R,
-    address: Ipv4Addr,
+    address: Option<IpAddr>,
     at: Port,
 ) -> Result<Listening, ListenFault>
     ensures { IfOk result (λ listening. listening.at ≡ at) }
 {
-    match TcpListener::bind(rt, socket_address(address, at.port)) {
+    match bind(rt, address, at.port) {
         Ok(listener) => Ok(Listening { at, listener }),
         Err(error) => Err(ListenFault::Bind(at.port, Reason::of(&error))),
     }
 }
 
-/// Listens at the ports of all inputs, or at none.
+/// Listens at the ports of all inputs, of an address or of all, or at none.
 pub fn listen_all<R: Net<Listener = TcpListener, Stream = TcpStream>>(
     rt: &R,
     alloc: Global,
-    address: Ipv4Addr,
+    address: Option<IpAddr>,
     inputs: &[Input],
 ) -> Result<Vec<Listening>, ListenFault>
     requires { length inputs.now ≤ 64 }

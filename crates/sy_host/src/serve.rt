@@ -194,7 +194,7 @@ where
         (T.wanted store.old) (KeepsFile T.begun T.kept) (plan_at served.entry.site.now served.entry.relay).inputs store.old store.new }
 {
     let plan = &**served.site.plan(served.relay);
-    let address = served.site.address(served.relay);
+    let address = served.site.listens_at(served.relay);
     let (actions, reopens) = (plan.actions(), &served.reopens);
     let lines = start_lines(alloc, address, plan.inputs(), serving.runs());
     serving.print(&rt, lines);
@@ -306,7 +306,7 @@ pub fn serve<
 {
     let plan = served.site.plan(served.relay);
     plans_are_whole(plan);
-    let address = served.site.address(served.relay);
+    let address = served.site.listens_at(served.relay);
     if start_printing(rt, serving).is_err() {
         let status = out_of_memory(&rt, serving);
         end_printing(&rt, serving);

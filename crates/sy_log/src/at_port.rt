@@ -2,9 +2,10 @@
 ghost use Rattle.std.specs.Prelude.{◌≡◌, ◌++◌, OnOk};
 ghost use Rattle.sy_log.specs.Ports as spec;
 
+use crate::peers::FirstUnread;
 use std::alloc::AllocError;
 use sy_report::texts::parts::{Part, append_parts};
-use sy_runtime::{RunFault, Unread};
+use sy_runtime::RunFault;
 
 /// Appends the line that says what happened at a port.
 pub fn append_at_port(text: &mut Vec<u8>, words: &[u8], port: u16) -> Result<(), AllocError>
@@ -59,11 +60,11 @@ pub fn append_unread(
     text: &mut Vec<u8>,
     count: u64,
     port: u16,
-    first: Unread,
+    first: FirstUnread,
 ) -> Result<(), AllocError>
     ensures { OnOk result (text.new.items ≡ text.old.items ++ spec.unread_line count port first) }
 {
-    let why = first.fault.code.words();
+    let why = first.what.words();
     let parts = [
         Part::Text(b"syc: "),
         Part::Number(count),
@@ -72,7 +73,7 @@ pub fn append_unread(
         Part::Text(b": "),
         Part::Text(why.as_bytes()),
         Part::Text(b" at "),
-        Part::Number(first.fault.offset as u64),
+        Part::Number(first.what.offset()),
         Part::Text(b" in frame "),
         Part::Number(first.frame),
         Part::Text(b"\n"),
@@ -85,7 +86,7 @@ pub fn append_unread_often(
     text: &mut Vec<u8>,
     count: u64,
     port: u16,
-    first: Unread,
+    first: FirstUnread,
     more: u64,
     others: u64,
 ) -> Result<(), AllocError>
@@ -97,9 +98,9 @@ pub fn append_unread_often(
         Part::Text(b" unread at "),
         Part::Number(u64::from(port)),
         Part::Text(b": "),
-        Part::Text(first.fault.code.words().as_bytes()),
+        Part::Text(first.what.words().as_bytes()),
         Part::Text(b" at "),
-        Part::Number(first.fault.offset as u64),
+        Part::Number(first.what.offset()),
         Part::Text(b" in frame "),
         Part::Number(first.frame),
         Part::Text(b", and "),

@@ -2,7 +2,7 @@
 
 use crate::log::MARK;
 use crate::notices::Line;
-use crate::peers::{PeerEnd, Sending};
+use crate::peers::{FirstUnread, PeerEnd, Sending};
 use crate::subject::Subject;
 use std::alloc::{AllocError, Global};
 use sy_report::texts::parts::{Part, append_parts};
@@ -65,7 +65,7 @@ pub fn subject_line(alloc: Global, subject: &Subject, line: Line) -> Result<Vec<
     let mut text = Vec::new(alloc);
     append_parts(
         &mut text,
-        &[Part::Text(b"syc: "), Part::Text(subject.name.as_slice())],
+        &[Part::Text(b"syc: "), Part::Name(subject.name.as_slice())],
     )?;
     append_line(alloc, &mut text, subject, line)?;
     append(&mut text, "\n")?;
@@ -90,9 +90,9 @@ fn append_unread_frames(text: &mut Vec<u8>, end: &PeerEnd) -> Result<(), AllocEr
     };
     let parts = [
         Part::Text(b", the first "),
-        Part::Text(first.fault.code.words().as_bytes()),
+        Part::Text(first.what.words().as_bytes()),
         Part::Text(b" at "),
-        Part::Number(first.fault.offset as u64),
+        Part::Number(first.what.offset()),
         Part::Text(b" in frame "),
         Part::Number(first.frame),
     ];
@@ -119,7 +119,7 @@ fn append_peer<'a>(
 ) -> Result<(), AllocError> {
     let parts = [
         Part::Text(b"syc: "),
-        Part::Text(name),
+        Part::Name(name),
         Part::Text(b" peer "),
         Part::Text(peer),
         Part::Text(words),
@@ -150,17 +150,17 @@ pub fn peer_line(
     Ok(text)
 }
 
-// What a connection sends that is no message.
-fn append_first(text: &mut Vec<u8>, sending: &Sending) -> Result<(), AllocError> {
+/// Appends what a connection sent first that is no message, and where.
+pub fn append_first(text: &mut Vec<u8>, first: FirstUnread) -> Result<(), AllocError> {
     let parts = [
-        Part::Text(sending.what.words().as_bytes()),
+        Part::Text(first.what.words().as_bytes()),
         Part::Text(b" at "),
-        Part::Number(sending.what.offset()),
+        Part::Number(first.what.offset()),
         Part::Text(b" in frame "),
-        Part::Number(sending.frame),
+        Part::Number(first.frame),
     ];
     append_parts(text, &parts)?;
-    let hint = sending.what.hint();
+    let hint = first.what.hint();
     if hint.is_empty() {
         return Ok(());
     }
@@ -193,7 +193,7 @@ pub fn sending_line(
         peer.as_str().as_bytes(),
         b" sends what is no message: ",
     )?;
-    append_first(&mut text, sending)?;
+    append_first(&mut text, sending.first)?;
     append_others(&mut text, others)?;
     append_kept(&mut text, file)?;
     append(&mut text, "\n")?;

@@ -1,18 +1,21 @@
 //! What is noted of an input's connections: how they ended, and which send what is no message.
 
+ghost use Rattle.std.specs.Prelude.{◌≡◌};
+ghost use Rattle.sy_log.specs.Ports as spec;
+
 use crate::unreported::Unreported;
 use std::alloc::{AllocError, Global};
 use std::net::SocketAddr;
-use sy_runtime::{RunFault, Unread};
-use sy_unread::Hint;
+use sy_runtime::RunFault;
+use sy_unread::Unframed;
 use sy_wire::{FrameFault, MsgFault};
 
-/// How a connection ended: with frames that carried no message, or with a fault, or both.
+/// How a connection ended: with frames that carried no message, of which this was the first, or with a fault, or both.
 #[derive(Clone, Copy)]
 pub struct PeerEnd {
     pub peer: SocketAddr,
     pub unread: u64,
-    pub first: Option<Unread>,
+    pub first: Option<FirstUnread>,
     pub fault: Option<RunFault>,
 }
 
@@ -23,43 +26,54 @@ pub enum NoMessage {
     Text(MsgFault),
     /// A frame that is too long.
     Long,
-    /// What begins no frame, but begins like this.
-    Unframed(Hint),
+    /// What begins no frame.
+    Unframed(Unframed),
 }
 
 impl NoMessage {
     /// The number and the name of its fault, as `5 AppName`.
-    pub fn words(self) -> &'static str {
+    pub fn words(self) -> &'static str
+        ensures { result.now ≡ spec.no_message_words self }
+    {
         match self {
             NoMessage::Text(fault) => fault.code.words(),
             NoMessage::Long => FrameFault::TooLong.words(),
-            NoMessage::Unframed(_) => FrameFault::BadLength.words(),
+            NoMessage::Unframed(bytes) => bytes.fault.words(),
         }
     }
 
     /// What its bytes begin like, where that is told; nothing where it isn't.
     pub fn hint(self) -> &'static str {
         match self {
-            NoMessage::Unframed(hint) => hint.words(),
+            NoMessage::Unframed(bytes) => bytes.hint.words(),
             NoMessage::Text(_) | NoMessage::Long => "",
         }
     }
 
     /// Where that is shown, in bytes from the first.
-    pub fn offset(self) -> u64 {
+    pub fn offset(self) -> u64
+        ensures { result ≡ spec.no_message_offset self }
+    {
         match self {
             NoMessage::Text(fault) => fault.offset as u64,
-            NoMessage::Long | NoMessage::Unframed(_) => 0,
+            NoMessage::Long => 0,
+            NoMessage::Unframed(bytes) => bytes.at as u64,
         }
     }
 }
 
-/// A connection that begins to send what is no message, and in which of its frames, from 1.
+/// What a connection sent first that is no message, and in which of its frames, from 1.
+#[derive(Clone, Copy)]
+pub struct FirstUnread {
+    pub what: NoMessage,
+    pub frame: u64,
+}
+
+/// A connection that begins to send what is no message.
 #[derive(Clone, Copy)]
 pub struct Sending {
     pub peer: SocketAddr,
-    pub what: NoMessage,
-    pub frame: u64,
+    pub first: FirstUnread,
 }
 
 /// How the first of the connections ended that ended so and weren't told yet, and how many others there are; and with what

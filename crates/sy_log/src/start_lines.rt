@@ -3,7 +3,7 @@ ghost use Rattle.std.specs.Prelude.{◌≡◌, ◌++◌, OnOk};
 ghost use Rattle.sy_log.specs.Ports as spec;
 
 use std::alloc::{AllocError, Global};
-use std::net::Ipv4Addr;
+use std::net::IpAddr;
 use sy_report::texts::parts::{Part, append_parts};
 use sy_rules::Input;
 
@@ -32,7 +32,7 @@ pub fn append_runs<'a>(
 {
     let parts = [
         Part::Text(b"syc: relay "),
-        Part::Text(name),
+        Part::Name(name),
         Part::Text(b" runs: site "),
         Part::Text(sum),
         Part::Text(b", "),
@@ -43,14 +43,22 @@ pub fn append_runs<'a>(
     append_parts(text, &parts)
 }
 
-/// The lines of a relay whose inputs all listen at this address, and the one that says which files it runs.
+// The words of an address, or of all.
+fn address_text(alloc: Global, address: Option<IpAddr>) -> Result<String, AllocError> {
+    match address {
+        Some(address) => address.to_string(alloc),
+        None => String::from_str(alloc, "all addresses"),
+    }
+}
+
+/// The lines of a relay whose inputs all listen at this address, or at all, and the one that says which files it runs.
 pub fn start_lines(
     alloc: Global,
-    address: Ipv4Addr,
+    address: Option<IpAddr>,
     inputs: &[Input],
     runs: &[u8],
 ) -> Result<Vec<u8>, AllocError> {
-    let address = address.to_string(alloc)?;
+    let address = address_text(alloc, address)?;
     let mut text = Vec::new(alloc);
     for input in inputs {
         append_listening(&mut text, input.port, address.as_str().as_bytes())?;

@@ -51,14 +51,14 @@ fn push_queues(alloc: Global, subjects: &mut Vec<Subject>, plan: &Plan) -> Resul
     Ok(())
 }
 
-// The name of a file as lines have it: control characters stand there as `\x0a`.
+// The name of a file as it is printed.
 fn name_in_line(alloc: Global, name: &[u8]) -> Result<Vec<u8>, AllocError> {
     let mut words = Words::new(alloc);
     words.append_in_line(name);
     words.finish()
 }
 
-/// The names of files as lines have them.
+/// The names of files as they are printed.
 pub fn names_in_lines(alloc: Global, names: &[&[u8]]) -> Result<Vec<Vec<u8>>, AllocError> {
     let mut all = Vec::new(alloc);
     for name in names {

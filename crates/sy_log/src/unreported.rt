@@ -1,9 +1,9 @@
 //! With what connections of an input ended that wasn't printed yet.
 
-use crate::peers::PeerEnd;
+use crate::peers::{FirstUnread, PeerEnd};
 use std::alloc::{AllocError, Global};
 use std::collections::VecDeque;
-use sy_runtime::{RunFault, Unread};
+use sy_runtime::RunFault;
 
 /// How many faults there may be.
 pub const FAULTS: usize = 10;
@@ -12,7 +12,7 @@ pub const FAULTS: usize = 10;
 #[derive(Clone, Copy)]
 pub struct UnreadFrames {
     pub count: u64,
-    pub first: Unread,
+    pub first: FirstUnread,
     /// frames of the others
     pub more: u64,
     pub others: u64,
@@ -41,7 +41,7 @@ impl Unreported {
         })
     }
 
-    fn add_unread(&mut self, count: u64, first: Unread) {
+    fn add_unread(&mut self, count: u64, first: FirstUnread) {
         self.unread = match self.unread {
             Some(frames) => Some(UnreadFrames {
                 more: frames.more.saturating_add(count),

@@ -1,7 +1,6 @@
 -- What a board's answers mean for an event: the step is made.
 use Rattle.std.proofs.Common.{◌≡◌, ℕ, ◌<◌, ◌≤◌, Bool, true, false, if◌then◌else◌, List, [], ◌∷◌, ◌++◌, length, map, min, inl, inr, refl, sym, ap, subst, arith, ◌∙◌, append-nil, append_assoc, get_or}
 use Rattle.std.specs.Prelude.{slice_set, Result, Ok, Err, OnOk, OnErr, IfErr}
-use Rattle.std.specs.Global.{Vec}
 use Rattle.std.proofs.lemmas.List.{get_or-map, map-append, map-set, set-get_or}
 use Rattle.std.proofs.lemmas.Bool.Decides.{nat_tests}
 use Rattle.sy_wire.specs.Messages.{Said}
@@ -28,7 +27,7 @@ use Rattle.sy_replay.specs.Events.{loss_of, losses_of}
 use Rattle.sy_replay.specs.internal.Events.{Goes, IsIllegal}
 use Rattle.sy_replay.specs.internal.Jobs.{Answer, Answers, Comes, IsPostJob, IsRunJob, event_of, is_taken, losses_by, outs_of, with_tag}
 use Rattle.sy_replay.specs.Parts.{tags_at}
-use Rattle.sy_replay.specs.internal.Parts.{Makes, MakesInside, items_of, lost_by, part, passed_by}
+use Rattle.sy_replay.specs.internal.Parts.{Makes, MakesInside, Tags, items_of, lost_by, part, passed_by}
 use Rattle.sy_replay.proofs.Refused.{nothing_grabbed, one_list}
 
 abbrev the_loss : ℕ → ℕ → ℕ → Cause → states.Loss
@@ -242,17 +241,17 @@ comes_made answer relay took old new w action list tag passed passed_after after
 
 -- ---- an action's list among those of a relay
 
-pub item_at : (xs : List (Vec ℕ)) (k : ℕ) (x : Vec ℕ) → k < length xs → x ≡ get_or xs k x → tags_at (items_of xs) k ≡ x.items
-item_at xs k x l e = get_or-map (λ (v : Vec ℕ). v.items) xs k x [] l ∙ ap (λ (v : Vec ℕ). v.items) (sym e)
+pub item_at : (xs : List Tags) (k : ℕ) (x : Tags) → k < length xs → x ≡ get_or xs k x → tags_at (items_of xs) k ≡ x.items
+item_at xs k x l e = get_or-map (λ (q : Tags). q.items) xs k x [] l ∙ ap (λ (q : Tags). q.items) (sym e)
 
-pub items_set : (xs : List (Vec ℕ)) (k : ℕ) (v : Vec ℕ) → items_of (slice_set xs k v) ≡ slice_set (items_of xs) k v.items
-items_set xs k v = map-set (λ (v : Vec ℕ). v.items) xs k v
+pub items_set : (xs : List Tags) (k : ℕ) (v : Tags) → items_of (slice_set xs k v) ≡ slice_set (items_of xs) k v.items
+items_set xs k v = map-set (λ (q : Tags). q.items) xs k v
 
-pub items_stay : (xs : List (Vec ℕ)) (k : ℕ) (x v : Vec ℕ) → k < length xs → x ≡ get_or xs k x → v.items ≡ x.items → items_of (slice_set xs k v) ≡ items_of xs
+pub items_stay : (xs : List Tags) (k : ℕ) (x v : Tags) → k < length xs → x ≡ get_or xs k x → v.items ≡ x.items → items_of (slice_set xs k v) ≡ items_of xs
 items_stay xs k x v l e same =
     items_set xs k v ∙ ap (slice_set (items_of xs) k) (same ∙ sym (item_at xs k x l e)) ∙ set-get_or (items_of xs) k []
 
-pub read_comes : (answer : Answer) (took : Bool) (old new : BoardState) (w action list tag : ℕ) (xs : List (Vec ℕ)) (x : Vec ℕ) (after : List ℕ) → action < length xs
+pub read_comes : (answer : Answer) (took : Bool) (old new : BoardState) (w action list tag : ℕ) (xs : List Tags) (x : Tags) (after : List ℕ) → action < length xs
     → x ≡ get_or xs action x → Comes answer took old x.items w action list tag new after → Comes answer took old (tags_at (items_of xs) action) w action list tag new after
 read_comes answer took old new w action list tag xs x after l e comes = subst (λ z. Comes answer took old z w action list tag new after) (sym (item_at xs action x l e)) comes
 
@@ -268,7 +267,7 @@ pub if_err : {T E : Type 0} (P Q : E → Type 0) (r : Result T E) → ((e : E) �
 if_err P Q (Ok x) f a = tt
 if_err P Q (Err e) f a = f e a
 
-pub given_up_made : (relay : ℕ) (took : Bool) (old new : BoardState) (w action list tag : ℕ) (xs : List (Vec ℕ)) (x v : Vec ℕ) (losses now : List Loss) → action < length xs
+pub given_up_made : (relay : ℕ) (took : Bool) (old new : BoardState) (w action list tag : ℕ) (xs : List Tags) (x v : Tags) (losses now : List Loss) → action < length xs
     → x ≡ get_or xs action x → Comes Answer.GiveUp took old x.items w action list tag new v.items
     → now ≡ losses ++ record { copy = tag; relay = relay; list = list; cause = lost_by_cause.GiveUp action } ∷ []
     → Makes relay (part old (items_of xs)) (losses_of losses) (Event.GiveUp w took) (part new (items_of (slice_set xs action v))) (losses_of now)

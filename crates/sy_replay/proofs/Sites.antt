@@ -1,7 +1,6 @@
 -- A step that a relay makes is the site's.
 use Rattle.std.proofs.Common.{◌≡◌, ℕ, ◌<◌, ◌==◌, Bool, true, false, if◌then◌else◌, List, [], ◌∷◌, ◌++◌, length, map, Some, None, refl, sym, ap, subst, arith, ◌∙◌, append-nil, append_assoc}
 use Rattle.std.specs.Prelude.{slice_get, slice_set, ◌&&◌, Result, Ok, Err, OnOk, OnErr}
-use Rattle.std.specs.Global.{Vec}
 use Rattle.std.proofs.Math.Path.{fun_ext}
 use Rattle.std.proofs.Math.ListN.{set}
 use Rattle.std.proofs.lemmas.List.{get_or-set_same, get_or-set_other, length-map, length-set}
@@ -24,7 +23,7 @@ use Rattle.sy_replay.specs.declared.event.RelayEvent.TheVariants as event
 use Rattle.sy_replay.specs.Events.{step_of}
 use Rattle.sy_replay.specs.internal.Events.{IsIllegal}
 use Rattle.sy_replay.specs.Parts.{PartState, tags_at}
-use Rattle.sy_replay.specs.internal.Parts.{Makes, TakesMessage, items_of, lost_by, part, passed_by}
+use Rattle.sy_replay.specs.internal.Parts.{Makes, Tags, TakesMessage, items_of, lost_by, part, passed_by}
 use Rattle.sy_replay.specs.States.{Applies, IsIllegalAt, board_of, boards_of, holding, passed_in, passed_of, relays_of, site_state, state_of, with_board}
 use Rattle.sy_replay.specs.internal.States.{AreOf, HasLists, HaveSamePlans, plan_of}
 use Rattle.sy_replay.proofs.Refused.{run_there}
@@ -276,14 +275,14 @@ pub lists_kept : (k : ℕ) (old new : PartState) (event : Event) (before after :
 lists_kept k old new event before after lists makes =
     ap length makes.passed ∙ passed_length makes.outs old.passed ∙ lists ∙ ap (λ (b : BoardState). length b.plan.actions) (sym makes.goes.1)
 
-pub lists_after : {T E : Type 0} (C : Type 0) (r : Result T E) (k : ℕ) (old new : BoardState) (xs ys : List (Vec ℕ)) (event : Event) (before after : List Loss)
+pub lists_after : {T E : Type 0} (C : Type 0) (r : Result T E) (k : ℕ) (old new : BoardState) (xs ys : List Tags) (event : Event) (before after : List Loss)
     → length xs ≡ length old.plan.actions → OnOk r (Makes k (part old (items_of xs)) before event (part new (items_of ys)) after)
     → OnErr r ((new ≡ old) × (items_of ys ≡ items_of xs) × C) → length ys ≡ length new.plan.actions
 lists_after C (Ok x) k old new xs ys event before after lists makes same =
-    sym (length-map ys (λ (v : Vec ℕ). v.items))
-    ∙ lists_kept k (part old (items_of xs)) (part new (items_of ys)) event before after (length-map xs (λ (v : Vec ℕ). v.items) ∙ lists) makes
+    sym (length-map ys (λ (q : Tags). q.items))
+    ∙ lists_kept k (part old (items_of xs)) (part new (items_of ys)) event before after (length-map xs (λ (q : Tags). q.items) ∙ lists) makes
 lists_after C (Err e) k old new xs ys event before after lists makes same =
-    sym (length-map ys (λ (v : Vec ℕ). v.items)) ∙ ap length same.1 ∙ length-map xs (λ (v : Vec ℕ). v.items) ∙ lists
+    sym (length-map ys (λ (q : Tags). q.items)) ∙ ap length same.1 ∙ length-map xs (λ (q : Tags). q.items) ∙ lists
     ∙ ap (λ (b : BoardState). length b.plan.actions) (sym same.0)
 
 pub plan_after : {T E : Type 0} (C : Type 0) (r : Result T E) (k : ℕ) (old new : BoardState) (before after : List Loss) (i h : ℕ) (m : Said) (t : ℕ)

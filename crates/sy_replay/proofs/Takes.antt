@@ -1,7 +1,8 @@
 -- Takes: what a relay's board does with an entry, and what a link loses, make a step of the site.
 use Rattle.std.proofs.Common.{◌≡◌, ℕ, ◌<◌, ◌+◌, ◌==◌, Bool, true, false, if◌then◌else◌, List, [], ◌∷◌, ◌++◌, length, Some, None, refl, sym, ap, subst, arith, ◌∙◌, append-nil, drop, get_or, take}
-use Rattle.std.specs.Prelude.{slice_get, slice_set, ◌&&◌, Result, Ok, Err, OnErr, OnOk}
-use Rattle.std.specs.Global.{Vec}
+use Rattle.std.specs.Prelude.{◌↔◌, slice_get, slice_set, ◌&&◌, Option, IsSome, OnSome, Result, Ok, Err, OnErr, OnOk}
+use Rattle.std.specs.List.{remove}
+use Rattle.std.specs.VecDeque.{deque_len}
 use Rattle.std.proofs.Math.Path.{fun_ext}
 use Rattle.std.proofs.lemmas.List.{get_or-set_same, get_or-set_other, length-map}
 use Rattle.std.proofs.lemmas.Bool.{eqb-true}
@@ -19,7 +20,7 @@ use Rattle.sy_site.specs.machine.Steps.{SiteEvent, TakesCopy, TakesFrom}
 use Rattle.sy_replay.specs.declared.event.Illegal.{Illegal}
 use Rattle.sy_replay.specs.declared.event.Illegal.TheVariants as illegal
 use Rattle.sy_replay.specs.Parts.{PartState, tags_at}
-use Rattle.sy_replay.specs.internal.Parts.{IsNoTake, Makes, TakesMessageAt, items_of, lost_by, passed_by}
+use Rattle.sy_replay.specs.internal.Parts.{IsNoTake, Makes, Tags, TakesMessageAt, items_of, lost_by, passed_by}
 use Rattle.sy_replay.specs.States.{Applies, Contents, IsIllegalAt, board_of, boards_of, holding, passed_in, passed_of, relays_of, site_state, state_in, state_of}
 use Rattle.sy_replay.specs.internal.States.{AreOf, plan_of}
 use Rattle.sy_replay.specs.internal.Takes.{IsNoEntry, IsOnLink, IsOnNoLink, Leaves, TakesEntry, without}
@@ -98,8 +99,18 @@ tags_there [] k n l = absurd (omega (arith, l))
 tags_there (x ∷ xs) ℕ.zero n l = omega (arith)
 tags_there (x ∷ xs) (ℕ.suc k) n l = let m = tags_there xs k n l in omega (arith, m)
 
-pub items_there : (xs : List (Vec ℕ)) (k n : ℕ) → n < length (tags_at (items_of xs) k) → k < length xs
-items_there xs k n l = let m = tags_there (items_of xs) k n l in let same = length-map xs (λ (v : Vec ℕ). v.items) in omega (arith, m, same)
+pub items_there : (xs : List Tags) (k n : ℕ) → n < length (tags_at (items_of xs) k) → k < length xs
+items_there xs k n l = let m = tags_there (items_of xs) k n l in let same = length-map xs (λ (q : Tags). q.items) in omega (arith, m, same)
+
+no_tag : IsSome {T = ℕ} None → ⊥
+no_tag some = cc
+
+-- what stands at a place is gone from a queue that has it
+pub gone_from : (taken : Option ℕ) (old new : Tags) (place : ℕ) → IsSome taken ↔ (place < deque_len old) → place < length old.items
+    → OnSome taken (new.items ≡ remove old.items place) → new.items ≡ without old.items place
+gone_from None old new place is there gone = let same = old.ok.0 in absurd (no_tag (is.1 (omega (arith, there, same))))
+gone_from (Some tag) old new place is there gone =
+    let same : ℕ.suc place ≡ place + 1 = omega arith in gone ∙ ap (λ n. take place old.items ++ drop n old.items) same
 
 pub relay_there : (parts : List PartState) (link : SiteAction) (place : ℕ) → place < length (passed_of parts link) → link.relay < length parts
 relay_there parts link place l = go parts link.relay l

@@ -15,6 +15,7 @@ ghost use Rattle.sy_replay.specs.internal.Takes.{IsNoEntry, Leaves, TakesEntry, 
 use crate::event::{Illegal, Loss, RelayEvent};
 use crate::steps::{hands, jobs, posts};
 use std::alloc::{AllocError, Global};
+use std::collections::VecDeque;
 use std::marker::Model;
 use std::sync::Arc;
 use sy_board::Board;
@@ -27,7 +28,7 @@ use sy_wire::Message;
 #[derive(Drop)]
 pub(crate) struct Part {
     board: Board,
-    passed: Vec<Vec<u64>>,
+    passed: Vec<VecDeque<u64>>,
 }
 
 impl Model for Part {
@@ -47,12 +48,12 @@ impl Model for Part {
 }
 
 // As many empty lists.
-fn empty_lists(alloc: Global, count: usize) -> Result<Vec<Vec<u64>>, AllocError>
+fn empty_lists(alloc: Global, count: usize) -> Result<Vec<VecDeque<u64>>, AllocError>
     ensures { IfOk result (λ lists. items_of lists.items ≡ replicate count []) }
 {
     let mut lists = Vec::with_capacity(alloc, count)?;
     for _ in 0..count {
-        lists.push(Vec::new(alloc))?;
+        lists.push(VecDeque::new(alloc))?;
     }
     Ok(lists)
 }
@@ -189,7 +190,7 @@ pub(crate) fn tag_at(parts: &[Part], link: SiteAction, place: u64) -> Option<u64
     parts.get(link.relay as usize)?.tag_at(link.action, place)
 }
 
-// Takes away what stands there. The cost is that of moving what stands behind it.
+// Takes away what stands there. The cost is that of moving what stands before it, or what stands behind it: the fewer.
 pub(crate) fn unlink(parts: &mut Vec<Part>, link: SiteAction, place: u64)
     requires { place < length (passed_of parts.old.items link) }
     ensures gone { Leaves parts.old.items link place parts.new.items }
@@ -202,7 +203,7 @@ pub(crate) fn unlink(parts: &mut Vec<Part>, link: SiteAction, place: u64)
 pub(crate) fn step(
     alloc: Global,
     board: &mut Board,
-    passed: &mut Vec<Vec<u64>>,
+    passed: &mut Vec<VecDeque<u64>>,
     losses: &mut Vec<Loss>,
     relay: u32,
     event: RelayEvent,

@@ -245,8 +245,8 @@ impl<'a> Replay<'a> {
     /// Makes the step of an event; or says why not, and changes nothing. The totals of the relay's board are then those
     /// that its step gives; where one of them would pass 64 bits, the step isn't made.
     ///
-    /// Its cost is that of the step. A take from a link also moves what stands behind the copy there, and copies the
-    /// numbers of the relays that took the copy.
+    /// Its cost is that of the step. A take from a link also moves what stands before the copy there, or what stands
+    /// behind it, whichever is less; and it copies the numbers of the relays that took the copy.
     pub fn apply(&mut self, event: &Event) -> Result<(), Illegal>
         ensures ok { OnOk result (Applies self.old.site self.old.contents (site_event event.now) self.new.contents) }
         ensures err { IfErr result (λ why. IsIllegalAt why self.old.site self.old.contents (site_event event.now)) }

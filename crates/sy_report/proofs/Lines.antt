@@ -1,5 +1,5 @@
 -- Lines that are written in parts.
-use Rattle.std.proofs.Common.{◌≡◌, ℕ, zero, suc, ◌+◌, ◌/◌, ◌%◌, ◌^◌, ◌<◌, ◌≤◌, List, [], ◌∷◌, ◌++◌, get_or, length, map, take, drop, refl, sym, ap, ◌∙◌, arith}
+use Rattle.std.proofs.Common.{◌≡◌, ℕ, zero, suc, ◌+◌, ◌/◌, ◌%◌, ◌^◌, ◌<◌, ◌≤◌, List, [], ◌∷◌, ◌++◌, get_or, length, map, take, drop, refl, sym, ap, subst, ◌∙◌, arith}
 use Rattle.std.specs.Prelude.{Option, Some, None}
 use Rattle.std.specs.Fmt.{decimal}
 use Rattle.std.proofs.lemmas.Fmt.{decimal_digit, decimal_step}
@@ -73,3 +73,19 @@ torn_text a b c f xs i d low wrote t =
     rw (texts_cut f xs i d low)
     (torn_second a b c (joined (map f (take i xs))) (f (get_or xs i d) ++ joined (map f (drop (suc i) xs))) wrote
     (torn_first b c (f (get_or xs i d)) (joined (map f (drop (suc i) xs))) t))
+
+-- ---- a name in pieces
+
+pub torn_piece : (a b c : Option (List ℕ)) (whole front rest piece behind written : List ℕ) → Appends a b front → whole ≡ front ++ rest → rest ≡ piece ++ behind
+    → written ≡ piece → Torn b c written → Torn a c whole
+torn_piece a b c whole front rest piece behind written wrote is begins same t =
+    rw (is, begins) (torn_second a b c front (piece ++ behind) wrote (torn_first b c piece behind (subst (Torn b c) same t)))
+
+-- the next piece was written
+pub piece_more : (a b c : Option (List ℕ)) (whole front rest piece behind written : List ℕ) → Appends a b front → whole ≡ front ++ rest → rest ≡ piece ++ behind
+    → written ≡ piece → Appends b c written → (more : List ℕ) × Appends a c more × (whole ≡ more ++ behind)
+piece_more a b c whole front rest piece behind written wrote is begins same more = (
+  front ++ piece,
+  Appends-trans a b c front piece wrote (subst (Appends b c) same more),
+  rw (is, begins) (sym (append_assoc front piece behind)),
+)

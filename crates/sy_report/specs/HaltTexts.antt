@@ -9,6 +9,7 @@ use Rattle.sy_site.specs.declared.fault.SiteFault.{SiteFault}
 use Rattle.sy_site.specs.declared.fault.SiteFault.TheVariants as site_fault
 use Rattle.sy_site.specs.texts.Faults as site
 use Rattle.sy_cert.specs.Faults as certificate
+use Rattle.sy_report.specs.Printed.{printed}
 use Rattle.sy_report.specs.Reports.{joined, line_feed, said}
 use Rattle.sy_report.specs.declared.outcome.halt.Halt.{Halt}
 use Rattle.sy_report.specs.declared.outcome.halt.Halt.TheVariants as halt
@@ -20,7 +21,7 @@ in_line words line = joined (codes "syc: " ∷ words ∷ codes " in line " ∷ d
 -- a fault of a relay's script, at a line and column in digits
 abbrev pub at_place : List ℕ → List ℕ → List ℕ → List ℕ → List ℕ
 at_place words line column relay =
-    joined (codes "syc: " ∷ words ∷ codes " at " ∷ line ∷ codes ":" ∷ column ∷ codes " of " ∷ relay ∷ (line_feed ∷ []) ∷ [])
+    joined (codes "syc: " ∷ words ∷ codes " at " ∷ line ∷ codes ":" ∷ column ∷ codes " of " ∷ printed relay ∷ (line_feed ∷ []) ∷ [])
 
 -- a control character (%d0-31, %d127)
 abbrev pub is_control : ℕ → Bool
@@ -35,7 +36,9 @@ first_line word = up_to (position is_control word) where
 
 -- a fault of a relay's plan, with its word
 abbrev pub with_word : List ℕ → List ℕ → List ℕ → List ℕ
-with_word words relay word = joined (codes "syc: " ∷ words ∷ codes " of " ∷ relay ∷ codes ": " ∷ first_line word ∷ (line_feed ∷ []) ∷ [])
+with_word words relay word =
+    joined (codes "syc: " ∷ words ∷ codes " of " ∷ printed relay ∷ codes ": " ∷ printed (first_line word)
+    ∷ (line_feed ∷ []) ∷ [])
 
 abbrev pub relay_report : List ℕ → RelayFault → List ℕ
 relay_report relay (why.Script f) = at_place (script.words f.code) (decimal f.line) (decimal f.column) relay

@@ -1,10 +1,14 @@
+pub mod Printed
 pub mod HaltTexts
 pub mod Memory
 pub mod Outcomes
 pub mod Reports
+pub mod LineTexts
 pub mod Texts
 pub mod Words
+pub mod AnyFile
 pub mod Commands
 pub mod Halts
 pub mod Parts
+pub mod Pieces
 pub mod internal

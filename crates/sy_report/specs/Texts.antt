@@ -6,6 +6,7 @@ use Rattle.sy_select.specs.Names.{facility_text, severity_text}
 use Rattle.sy_site.specs.Sites.{Site}
 use Rattle.sy_site.specs.declared.site.SiteInput.{SiteInput}
 use Rattle.sy_site.specs.Names.{name_of, port_of}
+use Rattle.sy_report.specs.Printed.{printed}
 
 -- FACILITY.SEVERITY, each by its first name
 abbrev pub class_text : Class → List ℕ
@@ -13,4 +14,4 @@ class_text class = facility_text class.facility ++ codes "." ++ severity_text cl
 
 -- RELAY PORT
 abbrev pub input_text : Site → SiteInput → List ℕ
-input_text site input = name_of site input.relay ++ codes " " ++ decimal (port_of site input)
+input_text site input = printed (name_of site input.relay) ++ codes " " ++ decimal (port_of site input)

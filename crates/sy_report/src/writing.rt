@@ -1,5 +1,6 @@
 //! Writing to the streams of the program, and to memory.
 
 pub mod kept_text;
+pub mod line;
 pub mod output;
 pub mod outputs;

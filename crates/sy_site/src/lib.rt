@@ -11,6 +11,7 @@ mod site;
 mod texts;
 
 pub use fault::{RelayFault, SiteFault};
+pub use site::host::{Host, Outside};
 pub use site::{Protection, Site, SiteAction, SiteInput};
 pub use texts::files::bytes_of;
 pub use texts::lines::without_return;

@@ -4,22 +4,23 @@ ghost use Rattle.std.specs.Prelude.{◌≡◌, ◌==◌, ◌&&◌, ◌<◌, ℕ,
 ghost use Rattle.std.specs.List.{list_any};
 ghost use Rattle.std.specs.Option.{option_copied};
 ghost use Rattle.std.specs.Arc.{arc_value};
-ghost use Rattle.std.specs.Net.Addr.{ipv4_octets};
 ghost use Rattle.sy_rules.specs.Whole.{IsWhole};
 ghost use Rattle.sy_site.specs.Sites as spec;
 ghost use Rattle.sy_site.specs.machine.Lawful.{IsLawful};
 ghost use Rattle.sy_site.specs.texts.Describes.{IsDescribed};
 
+pub mod host;
 pub mod lookup;
 mod protected;
 mod read;
 pub mod relay;
 mod targets;
 
+use host::{Host, Outside, outside_named};
 use lookup::relay_named;
 use relay::Relay;
 use std::marker::Model;
-use std::net::Ipv4Addr;
+use std::net::IpAddr;
 use std::sync::Arc;
 use sy_rules::Plan;
 use sy_select::Selector;
@@ -60,8 +61,8 @@ fn is_input_among(inputs: &[SiteInput], input: SiteInput) -> bool
     inputs.iter().any(|entry| entry.relay == input.relay && entry.input == input.input)
 }
 
-/// The relays of a site, the inputs that messages of its policy enter by, what of them is to come to which archive, and
-/// which actions are spare: what is lost at or after one of these is no loss.
+/// The relays of a site, the inputs that messages of its policy enter by, what of them is to come to which archive,
+/// which actions are spare (what is lost at or after one of these is no loss), and the receivers that aren't Syc's.
 ///
 /// Each plan is whole, each entry, each archive and each spare action is there, no archive that is named is spare, and
 /// there are at most 64 relays. Some texts describe it.
@@ -75,6 +76,7 @@ pub struct Site {
     whole_entries: Vec<SiteInput>,
     protections: Vec<Protection>,
     spares: Vec<SiteAction>,
+    outsides: Vec<Outside>,
     // what each action of each relay leads to
     targets: Vec<Targets>,
 }
@@ -132,12 +134,20 @@ impl Site {
         self.relays[relay as usize].name.as_slice()
     }
 
-    /// The address that a relay listens at, 127.0.0.1 where its line gives none.
-    pub fn address(&self, relay: u32) -> Ipv4Addr
+    /// Where others connect to a relay: 127.0.0.1 where its line doesn't say it.
+    pub fn host(&self, relay: u32) -> &Host
         requires exists { relay < length self.now.relays }
-        ensures { Some (ipv4_octets result) ≡ option_map (λ r. r.address) (slice_get self.now.relays relay) }
+        ensures { Some result.now ≡ option_map (λ r. r.host) (slice_get self.now.relays relay) }
     {
-        self.relays[relay as usize].address
+        &self.relays[relay as usize].host
+    }
+
+    /// The address that a relay listens at; without one it listens at all of them.
+    pub fn listens_at(&self, relay: u32) -> Option<IpAddr>
+        requires exists { relay < length self.now.relays }
+        ensures { Some result ≡ option_map (λ r. r.listens) (slice_get self.now.relays relay) }
+    {
+        self.relays[relay as usize].listens
     }
 
     /// The plan of a relay.
@@ -188,6 +198,20 @@ impl Site {
         ensures { result ≡ spec.is_spare self.now (record { relay = relay; action = action }) }
     {
         is_among(self.spares.as_slice(), relay, action)
+    }
+
+    /// The receivers that aren't Syc's, in the order of the file.
+    pub fn outsides(&self) -> &[Outside]
+        ensures { result.now ≡ self.now.outsides }
+    {
+        self.outsides.as_slice()
+    }
+
+    /// Where the receiver of a name and a port is reached, of those that aren't Syc's.
+    pub fn outside_named(&self, name: &[u8], port: u16) -> Option<&Host>
+        ensures { option_copied result ≡ spec.outside_named self.now.outsides name.now port }
+    {
+        outside_named(self.outsides.as_slice(), name, port)
     }
 
     /// The input that an action of a relay forwards to: of the relay that it names, the one at its port. None for an

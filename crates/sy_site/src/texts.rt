@@ -1,8 +1,10 @@
 //! The text of a site file.
 
 pub mod files;
+pub mod hosts;
 pub mod lines;
 pub mod names;
+pub mod outsides;
 pub mod reading;
 pub mod references;
 pub mod relays;

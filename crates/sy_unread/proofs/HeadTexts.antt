@@ -6,7 +6,7 @@ use Rattle.sy_unread.specs.internal.{IsTimed}
 abbrev pub fields_text : (pri t h a p m : List ℕ) → List ℕ
 fields_text pri t h a p m = pri ++ 49 ∷ 32 ∷ (t ++ 32 ∷ (h ++ 32 ∷ (a ++ 32 ∷ (p ++ 32 ∷ (m ++ 32 ∷ [])))))
 
-joined : (pri t h a p m x : List ℕ)
+pub joined : (pri t h a p m x : List ℕ)
     → pri ++ 49 ∷ 32 ∷ (t ++ 32 ∷ (h ++ 32 ∷ (a ++ 32 ∷ (p ++ 32 ∷ (m ++ 32 ∷ x))))) ≡ fields_text pri t h a p m ++ x
 joined pri t h a p m x = simp append_assoc
 

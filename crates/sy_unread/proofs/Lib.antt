@@ -5,6 +5,7 @@ pub mod Carried
 pub mod Fronts
 pub mod Goings
 pub mod Skipped
+pub mod Strays
 pub mod Turns
 pub mod Again
 pub mod Messages
@@ -12,3 +13,9 @@ pub mod Repairing
 pub mod Causes
 pub mod Classes
 pub mod HeadTexts
+pub mod FieldTexts
+pub mod FieldLaws
+pub mod OldHeads
+pub mod Drafts
+pub mod Times
+pub mod NewHeads

@@ -11,7 +11,7 @@ use Rattle.sy_wire.specs.Messages.{IsHostname}
 use Rattle.sy_wire.proofs.Priorities.{digits_from_all}
 use Rattle.sy_unread.specs.Records as spec
 
-abbrev is_escaped : ℕ → Bool
+abbrev pub is_escaped : ℕ → Bool
 is_escaped b = nat_eq b 34 || (nat_eq b 92 || nat_eq b 93)
 
 one_of : (p q r : Bool) → (p || (q || r)) ≡ true → (p ≡ true) ⊎ ((q ≡ true) ⊎ (r ≡ true))
@@ -20,7 +20,7 @@ one_of false true r e = inr (inl refl)
 one_of false false true e = inr (inr refl)
 one_of false false false e = cc
 
-none_of : (p q r : Bool) → (p || (q || r)) ≡ false → (p ≡ false) × ((q ≡ false) × (r ≡ false))
+pub none_of : (p q r : Bool) → (p || (q || r)) ≡ false → (p ≡ false) × ((q ≡ false) × (r ≡ false))
 none_of true q r e = cc
 none_of false true r e = cc
 none_of false false true e = cc

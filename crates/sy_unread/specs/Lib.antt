@@ -1,9 +1,11 @@
 pub mod Texts
+pub mod Words
 pub mod Records
 pub mod Reading
 pub mod Shown
 pub mod Hints
 pub mod Skipping
 pub mod Skipped
+pub mod Strays
 pub mod Repairs
 pub mod internal

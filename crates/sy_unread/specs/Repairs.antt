@@ -1,9 +1,11 @@
 -- What a repair makes of a frame's bytes.
-use Rattle.std.specs.Prelude.{◌≡◌, ℕ, ◌≤◌, ◌<◌, ◌+◌, ◌*◌, ◌⊎◌, List, [], ◌∷◌, ◌++◌, codes, drop, length, map, take, if◌then◌else◌}
-use Rattle.std.specs.List.{concat}
+use Rattle.std.specs.Prelude.{◌≡◌, ℕ, ◌≤◌, ◌<◌, ◌+◌, ◌*◌, ◌⊎◌, ◌&&◌, Bool, List, [], ◌∷◌, ◌++◌, Option, Some, None, codes, drop, leb, length, map, nat_eq, slice_index, take, if◌then◌else◌}
+use Rattle.std.specs.List.{AllByRecursion, concat}
 use Rattle.sy_wire.specs.Frames.{MAX_FRAME}
 use Rattle.sy_wire.specs.Messages.{IsMessage, IsPri, Said}
-use Rattle.sy_unread.specs.Hints.{hint_of}
+use Rattle.sy_wire.specs.Timestamps.{IsTimestamp}
+use Rattle.sy_unread.specs.Hints.{hint_of, is_digit}
+use Rattle.sy_unread.specs.Words.{IsWord, word_at}
 use Rattle.sy_unread.specs.declared.hint.Hint.{Hint}
 use Rattle.sy_unread.specs.declared.hint.Hint.TheVariants.{Http, Tls}
 use Rattle.sy_unread.specs.Records.{is_print_us_ascii, nil_value}
@@ -85,3 +87,55 @@ pub record IsHeadAnew (bytes raw : List ℕ) : Type 0 where
   pub timestamp : List ℕ
   pub same_time : (timestamp ≡ head.timestamp) ⊎ (timestamp ≡ nil_value)
   pub anew : BeginsWith (head_text (fitted (record head { timestamp = timestamp }))) raw
+
+-- The bytes are a head of RFC 5424 and the rest: a priority, version 1 and five words, whatever these are, each with a space after it (section 6).
+pub record IsHead5424 (bytes : List ℕ) (head : HeadFields) (rest : List ℕ) : Type 0 where
+  pub number : ℕ
+  pub is_pri : IsPri head.pri number
+  pub words : AllByRecursion IsWord (head.timestamp ∷ head.hostname ∷ head.app_name ∷ head.procid ∷ head.msgid ∷ [])
+  pub whole : bytes ≡ head_text head ++ rest
+
+-- a TIMESTAMP stays, and NILVALUE stands for what is none
+abbrev pub IsTimeAnew : List ℕ → List ℕ → Type 0
+IsTimeAnew came time = (IsTimestamp came × (time ≡ came)) ⊎ (¬ IsTimestamp came × (time ≡ nil_value))
+
+-- a head with this time and names that fit, no structured data, and the rest as text
+abbrev pub text_anew : HeadFields → List ℕ → List ℕ → List ℕ
+text_anew head time rest = head_text (fitted (record head { timestamp = time })) ++ (codes "- " ++ rest)
+
+-- Whatever head of RFC 5424 they begin with, a frame can't carry it anew with the rest as text.
+abbrev pub IsTooLongAnew : List ℕ → Type 0
+IsTooLongAnew bytes =
+    (head : HeadFields) (time rest : List ℕ) → IsHead5424 bytes head rest → IsTimeAnew head.timestamp time
+    → MAX_FRAME < length (text_anew head time rest)
+
+-- A date of RFC 3164 and a space, as `Oct  1 22:14:15 ` (section 4.1.2): its letters, spaces and colons, and the last digit of its day.
+abbrev pub is_dated : List ℕ → Bool
+is_dated bytes =
+    (leb 65 (slice_index bytes 0) && (leb 97 (slice_index bytes 1) && leb 97 (slice_index bytes 2)))
+    && ((nat_eq (slice_index bytes 3) 32 && (nat_eq (slice_index bytes 6) 32 && nat_eq (slice_index bytes 15) 32))
+    && ((nat_eq (slice_index bytes 9) 58 && nat_eq (slice_index bytes 12) 58) && is_digit (slice_index bytes 5)))
+
+-- a digit, and a `T` ten bytes behind it, as in a time of RFC 3339
+abbrev pub is_stamped : List ℕ → Bool
+is_stamped bytes = is_digit (slice_index bytes 0) && nat_eq (slice_index bytes 10) 84
+
+-- A time and the bytes behind its space. A date is no TIMESTAMP.
+abbrev pub time_at : List ℕ → Option (List ℕ × List ℕ)
+time_at bytes = if is_dated bytes then Some (nil_value, drop 16 bytes) else if is_stamped bytes then word_at bytes else None
+
+-- the bytes begin with a head of RFC 3164: a priority, a time and a word for the host (section 4.1)
+pub record IsHead3164 (bytes : List ℕ) : Type 0 where
+  pub pri : List ℕ
+  pub number : ℕ
+  pub is_pri : IsPri pri number
+  pub rest : List ℕ
+  pub whole : bytes ≡ pri ++ rest
+  pub time : List ℕ × List ℕ
+  pub is_time : time_at rest ≡ Some time
+  pub host : List ℕ × List ℕ
+  pub is_host : word_at time.1 ≡ Some host
+
+-- how many bytes may have such a head, so that those with the longest head anew fit a frame
+abbrev pub MOST_3164 : ℕ
+MOST_3164 = 65521

@@ -29,10 +29,10 @@ IsCut bytes =
     ((n : ℕ) × IsNumbered n × (bytes ≡ decimal n))
     ⊎ ((n : ℕ) × (text : List ℕ) × IsLong n × (bytes ≡ decimal n ++ space ∷ text) × (length text < MAX_FRAME))
 
--- what is kept: of a long frame its length and its first 65,536 bytes, or bytes that no frame begins with
+-- what is kept: of a long frame its number, its length and its first 65,536 bytes; or bytes that no frame begins with, and which frame should
 pub data Kept : Type 0 where
-  long : ℕ → List ℕ → Kept
-  unframed : List ℕ → Kept
+  long : ℕ → ℕ → List ℕ → Kept
+  unframed : ℕ → List ℕ → Kept
 
 -- what keeps these had kept that first, and this more now, where that is known
 abbrev pub KeepsMore : Option (List Kept) → Option (List Kept) → List Kept → Type 0
@@ -55,57 +55,63 @@ abbrev pub is_within_long : Place → Bool
 is_within_long (WithinLong n) = true
 is_within_long _ = false
 
--- From a place on, of these bytes those were handed on, those kept, and from another place on those are left. A stream that is over has no
--- more bytes than these.
-pub data Goes (is_over : Bool) : Place → List ℕ → List ℕ → List Kept → Place → List ℕ → Type 0 where
-  rests : {place : Place} {bytes : List ℕ} → Goes is_over place bytes [] [] place bytes
+-- the number of the frame behind so many, from 1, which counts no further than 2^64 - 1
+abbrev pub next_number : ℕ → ℕ
+next_number frames = count_after frames 1
+
+-- From a place on, before which so many frames had begun, of these bytes those were handed on, those kept, and from another place on, before which so many
+-- had, those are left. A stream that is over has no more bytes than these.
+pub data Goes (is_over : Bool) : ℕ → Place → List ℕ → List ℕ → List Kept → ℕ → Place → List ℕ → Type 0 where
+  rests : {k : ℕ} {place : Place} {bytes : List ℕ} → Goes is_over k place bytes [] [] k place bytes
   -- a frame that a framer takes begins
   frame :
-      {bytes out left : List ℕ} {kept : List Kept} {place : Place} (n : ℕ) (rest : List ℕ)
+      {k k' : ℕ} {bytes out left : List ℕ} {kept : List Kept} {place : Place} (n : ℕ) (rest : List ℕ)
       → IsSize n → bytes ≡ decimal n ++ space ∷ rest
-      → Goes is_over (Within (length (decimal n) + 1 + n)) bytes out kept place left → Goes is_over (Within 0) bytes out kept place left
+      → Goes is_over (next_number k) (Within (length (decimal n) + 1 + n)) bytes out kept k' place left → Goes is_over k (Within 0) bytes out kept k' place left
   -- bytes of it are handed on
   passes :
-      {n : ℕ} {bytes all left : List ℕ} {kept : List Kept} {place : Place} (text rest out : List ℕ)
+      {k k' n : ℕ} {bytes all left : List ℕ} {kept : List Kept} {place : Place} (text rest out : List ℕ)
       → length text ≤ n → bytes ≡ text ++ rest → all ≡ text ++ out
-      → Goes is_over (Within (n - length text)) rest out kept place left → Goes is_over (Within n) bytes all kept place left
+      → Goes is_over k (Within (n - length text)) rest out kept k' place left → Goes is_over k (Within n) bytes all kept k' place left
   -- a long frame begins, of which so much is kept
   keeps :
-      {bytes out left : List ℕ} {kept : List Kept} {place : Place} (n : ℕ) (text rest : List ℕ)
+      {k k' : ℕ} {bytes out left : List ℕ} {kept : List Kept} {place : Place} (n : ℕ) (text rest : List ℕ)
       → IsLong n → length text ≡ MAX_FRAME → bytes ≡ decimal n ++ space ∷ (text ++ rest)
-      → Goes is_over (past_long (n - MAX_FRAME)) rest out kept place left → Goes is_over (Within 0) bytes out (long n text ∷ kept) place left
+      → Goes is_over (next_number k) (past_long (n - MAX_FRAME)) rest out kept k' place left
+      → Goes is_over k (Within 0) bytes out (long (next_number k) n text ∷ kept) k' place left
   -- bytes of it are skipped
   skips :
-      {n : ℕ} {bytes out left : List ℕ} {kept : List Kept} {place : Place} (text rest : List ℕ)
+      {k k' n : ℕ} {bytes out left : List ℕ} {kept : List Kept} {place : Place} (text rest : List ℕ)
       → length text ≤ n → bytes ≡ text ++ rest
-      → Goes is_over (past_long (n - length text)) rest out kept place left → Goes is_over (WithinLong n) bytes out kept place left
+      → Goes is_over k (past_long (n - length text)) rest out kept k' place left → Goes is_over k (WithinLong n) bytes out kept k' place left
   -- no frame begins with the bytes that came, of which 1,024 are kept at most
   strays :
-      {bytes out left : List ℕ} {kept : List Kept} {place : Place} (came rest : List ℕ)
+      {k k' : ℕ} {bytes out left : List ℕ} {kept : List Kept} {place : Place} (came rest : List ℕ)
       → IsUnframed came → bytes ≡ came ++ rest
-      → Goes is_over Unframed bytes out kept place left → Goes is_over (Within 0) bytes out (unframed (take 1024 came) ∷ kept) place left
+      → Goes is_over k Unframed bytes out kept k' place left → Goes is_over k (Within 0) bytes out (unframed (next_number k) (take 1024 came) ∷ kept) k' place left
   -- the stream is over, and was cut there
   ends :
-      {bytes out left : List ℕ} {kept : List Kept} {place : Place}
+      {k k' : ℕ} {bytes out left : List ℕ} {kept : List Kept} {place : Place}
       → is_over ≡ true → IsCut bytes
-      → Goes is_over Unframed bytes out kept place left → Goes is_over (Within 0) bytes out kept place left
+      → Goes is_over k Unframed bytes out kept k' place left → Goes is_over k (Within 0) bytes out kept k' place left
   -- bytes are handed on as they come
   follows :
-      {bytes all left : List ℕ} {kept : List Kept} {place : Place} (text rest out : List ℕ)
+      {k k' : ℕ} {bytes all left : List ℕ} {kept : List Kept} {place : Place} (text rest out : List ℕ)
       → bytes ≡ text ++ rest → all ≡ text ++ out
-      → Goes is_over Unframed rest out kept place left → Goes is_over Unframed bytes all kept place left
+      → Goes is_over k Unframed rest out kept k' place left → Goes is_over k Unframed bytes all kept k' place left
 
--- where in the stream it is, and what came and was neither handed on nor kept nor skipped
+-- where in the stream it is, how many frames had begun before, and what came and was neither handed on nor kept nor skipped
 pub record At : Type 0 where
   pub place : Place
+  pub frames : ℕ
   pub held : List ℕ
 
 -- Where no frame begins, the first 1,024 of all bytes that are there are what is kept last; unless it stood there before, and nothing came.
 abbrev pub KeepsStray : At → At → List Kept → Type 0
 KeepsStray old new kept =
     new.place ≡ Unframed
-    → ((old.place ≡ Unframed) × (kept ≡ []) × (new.held ≡ old.held))
-    ⊎ ((before : List Kept) × (kept ≡ before ++ unframed (take 1024 new.held) ∷ []))
+    → ((old.place ≡ Unframed) × (kept ≡ []) × (new.held ≡ old.held) × (new.frames ≡ old.frames))
+    ⊎ ((before : List Kept) × (kept ≡ before ++ unframed (next_number new.frames) (take 1024 new.held) ∷ []))
 
 -- bytes came, and nothing of them was handed on; what was kept of them
 pub record SetsAside (old new : At) (ahead ahead' : Option (List ℕ)) (before after : Option (List Kept)) : Type 0 where
@@ -113,7 +119,7 @@ pub record SetsAside (old new : At) (ahead ahead' : Option (List ℕ)) (before a
   pub consumed : Consumes ahead ahead' came
   pub kept : List Kept
   pub keeps : KeepsMore before after kept
-  pub goes : Goes false old.place (old.held ++ came) [] kept new.place new.held
+  pub goes : Goes false old.frames old.place (old.held ++ came) [] kept new.frames new.place new.held
   pub stray : KeepsStray old new kept
 
 -- bytes came, and those were handed on; nothing was kept
@@ -122,7 +128,7 @@ pub record HandsOn (old new : At) (ahead ahead' : Option (List ℕ)) (out : List
   pub consumed : Consumes ahead ahead' came
   pub is_over : Bool
   pub over : is_over ≡ true → IsAtEnd ahead'
-  pub goes : Goes is_over old.place (old.held ++ came) out [] new.place new.held
+  pub goes : Goes is_over old.frames old.place (old.held ++ came) out [] new.frames new.place new.held
 
 -- A read: first what had to be kept was kept, and then those bytes were handed on.
 pub record Reads (old new : At) (ahead ahead' : Option (List ℕ)) (before after : Option (List Kept)) (out : List ℕ) : Type 0 where

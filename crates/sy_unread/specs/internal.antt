@@ -1,14 +1,20 @@
 -- What the parts of the head of a record are.
 pub mod Fronts
-use Rattle.std.specs.Prelude.{◌≡◌, ◌⊎◌, ℕ, ◌<◌, ◌^◌, List, [], ◌∷◌, Some, codes}
+pub mod Fields
+use Rattle.std.specs.Prelude.{◌≡◌, ◌≢◌, ◌⊎◌, ℕ, ◌<◌, ◌^◌, true, List, [], ◌∷◌, ◌++◌, Some, codes, drop}
 use Rattle.std.specs.List.{concat}
 use Rattle.std.specs.Fmt.{decimal}
-use Rattle.sy_unread.specs.Repairs.{HeadFields}
+use Rattle.sy_wire.specs.Characters.{dash, space}
+use Rattle.sy_wire.specs.Messages.{IsPri}
+use Rattle.sy_wire.specs.Timestamps.{IsTimestamp}
+use Rattle.sy_unread.specs.Repairs.{HeadFields, fitted, head_text}
 use Rattle.sy_unread.specs.declared.heads.Head.{Head}
 use Rattle.sy_unread.specs.Records.{hostname_of, length_text, nil_value, value_of}
 use Rattle.sy_unread.specs.declared.parts.Part.{Part}
 use Rattle.sy_unread.specs.declared.parts.Part.TheVariants as part
 use Rattle.sy_unread.specs.declared.record.About.{About}
+use Rattle.sy_unread.specs.declared.repair.Draft.{Draft}
+use Rattle.sy_unread.specs.declared.repaired.Repair.TheVariants.{Whole}
 
 abbrev pub part_text : Part → List ℕ
 part_text (part.Text words) = words.now
@@ -43,3 +49,23 @@ fields_of head = record {
 pub record IsTimed (head timed : HeadFields) : Type 0 where
   pub same : timed ≡ record head { timestamp = timed.timestamp }
   pub time : (timed.timestamp ≡ head.timestamp) ⊎ (timed.timestamp ≡ nil_value)
+
+-- what was read of a head is this head, and the rest is behind it
+abbrev pub IsReadAs : List ℕ → Head → HeadFields → List ℕ → Type 0
+IsReadAs bytes read head rest = (fields_of read ≡ head) × (drop read.end bytes ≡ rest)
+
+-- the message of a draft whose rest is text
+abbrev pub anew_text : Draft → List ℕ
+anew_text draft = head_text (fitted (fields_of draft.head)) ++ dash ∷ space ∷ draft.rest.now
+
+-- the rest of a draft is text: its priority and its rest are those of the bytes, and its time is a TIMESTAMP
+pub record IsTextDraft (draft : Draft) (bytes : List ℕ) : Type 0 where
+  pub is_text : draft.is_text ≡ true
+  pub number : ℕ
+  pub is_pri : IsPri draft.head.pri.now number
+  pub more : List ℕ
+  pub begins : bytes ≡ draft.head.pri.now ++ more
+  pub is_time : IsTimestamp draft.head.timestamp.now
+  pub front : List ℕ
+  pub behind : bytes ≡ front ++ draft.rest.now
+  pub in_part : draft.how ≢ Whole

@@ -16,7 +16,9 @@ pub mod repair;
 pub mod repaired;
 pub mod skipping;
 pub mod summary;
+pub mod unframed;
 
 pub use hint::Hint;
 pub use reading::{Found, Share, are_parts, read_record};
 pub use record::{About, append_records};
+pub use unframed::Unframed;

@@ -1,6 +1,7 @@
 //! Records that are read again.
-ghost use Rattle.std.specs.Prelude.{◌≡◌, ◌≤◌, ◌++◌, Decides, IfOk, IfSome, IsTrue, drop, length};
+ghost use Rattle.std.specs.Prelude.{◌≡◌, ◌≤◌, ◌++◌, ℕ, List, Decides, IfNone, IfOk, IfSome, IsTrue, drop, length};
 ghost use Rattle.sy_unread.specs.Reading as spec;
+ghost use Rattle.sy_unread.specs.internal.Fields.{IsFoundOf, IsNoRecordOf, given_fields};
 
 use crate::fields::{Fields, read_fields, unescaped};
 use crate::record::{About, head};
@@ -63,7 +64,9 @@ impl Found {
 }
 
 // What the fields say, unescaped.
-fn of_fields(alloc: Global, fields: Fields<'_>) -> Result<Found, AllocError> {
+fn of_fields(alloc: Global, fields: Fields<'_>) -> Result<Found, AllocError>
+    ensures { IfOk result (λ found. IsFoundOf (given_fields fields.entry) found) }
+{
     let mut relay = Vec::new(alloc);
     relay.extend_from_slice(fields.relay)?;
     let peer = unescaped(alloc, fields.peer)?;
@@ -85,13 +88,15 @@ fn of_fields(alloc: Global, fields: Fields<'_>) -> Result<Found, AllocError> {
 pub(crate) fn begins_with(bytes: &[u8], front: &[u8]) -> bool
     ensures within { IsTrue result → length front.now ≤ length bytes.now }
     ensures whole { IsTrue result → bytes.now ≡ front.now ++ drop (length front.now) bytes.now }
+    ensures only { (rest : List ℕ) → bytes.now ≡ front.now ++ rest → IsTrue result }
 {
     bytes.starts_with(front)
 }
 
 // The record with the place after its head, where the message begins with that.
 fn checked(alloc: Global, raw: &[u8], mut found: Found) -> Result<Option<Found>, AllocError>
-    ensures { IfOk result (λ found. IfSome found (λ found. spec.IsRecord raw.now found)) }
+    ensures some { IfOk result (λ read. IfSome read (λ read. spec.IsRecord raw.now read)) }
+    ensures none { IfOk result (λ read. IfNone read (IsNoRecordOf found raw.now)) }
 {
     let front = head(alloc, &found.about(), found.share.text())?;
     if !begins_with(raw, &front) {
@@ -103,7 +108,8 @@ fn checked(alloc: Global, raw: &[u8], mut found: Found) -> Result<Option<Found>,
 
 /// Reads the message of a record, as `append_records` writes it; none where the message is another.
 pub fn read_record(alloc: Global, raw: &[u8]) -> Result<Option<Found>, AllocError>
-    ensures { IfOk result (λ found. IfSome found (λ found. spec.IsRecord raw.now found)) }
+    ensures some { IfOk result (λ found. IfSome found (λ found. spec.IsRecord raw.now found)) }
+    ensures none { IfOk result (λ found. IfNone found (spec.IsNoRecord raw.now)) }
 {
     match read_fields(raw) {
         Some(fields) => checked(alloc, raw, of_fields(alloc, fields)?),

@@ -1,9 +1,13 @@
 //! Repairs of frames that carry no message.
-ghost use Rattle.std.specs.Prelude.{◌≡◌, ◌<◌, ◌++◌, Decides, IfNone, IfOk, IfSome, OnOk, codes, length, take};
+ghost use Rattle.std.specs.Prelude.{◌≡◌, ◌<◌, ◌++◌, Decides, IfNone, IfOk, IfSome, OnOk, codes, drop, false, length, take, true};
 ghost use Rattle.sy_unread.specs.Repairs as spec;
 ghost use Rattle.sy_unread.specs.Hints.{hint_of, pri_length};
-ghost use Rattle.sy_unread.specs.declared.repaired.Repair.TheVariants.{Cut};
-ghost use Rattle.sy_unread.specs.internal.{IsTimed, fields_of, whole_text};
+ghost use Rattle.sy_unread.specs.declared.repaired.Repair.TheVariants.{Cut, Rfc3164};
+ghost use Rattle.sy_unread.specs.internal.{IsTextDraft, IsTimed, anew_text, fields_of, whole_text};
+ghost use Rattle.sy_unread.specs.Records.{nil_value};
+ghost use Rattle.sy_unread.specs.Words.{IsWord};
+ghost use Rattle.sy_wire.specs.Frames.{MAX_FRAME};
+ghost use Rattle.sy_wire.specs.Timestamps.{IsTimestamp};
 
 use crate::heads::{Head, from, head_3164, head_5424};
 use crate::hint::{Hint, pri_length};
@@ -25,7 +29,10 @@ struct Draft<'a> {
 }
 
 // Whether a field is a TIMESTAMP of RFC 5424.
-fn is_timestamp(alloc: Global, field: &[u8]) -> Result<bool, AllocError> {
+fn is_timestamp(alloc: Global, field: &[u8]) -> Result<bool, AllocError>
+    ensures yes { IfOk result (λ is. is ≡ true → IsWord field.now → IsTimestamp field.now) }
+    ensures no { IfOk result (λ is. is ≡ false → IsTimestamp field.now → ⊥) }
+{
     let mut text = Vec::new(alloc);
     text.extend_from_slice(b"<13>1 ")?;
     text.extend_from_slice(field)?;
@@ -76,13 +83,16 @@ fn headed(alloc: Global, head: &Head<'_>) -> Result<Vec<u8>, AllocError>
 }
 
 // What is between the head of a draft and its rest.
-fn between(draft: &Draft<'_>) -> &'static [u8] {
+fn between(draft: &Draft<'_>) -> &'static [u8]
+    ensures { draft.now.is_text ≡ true → result.now ≡ codes "- " }
+{
     if draft.is_text { b"- " } else { b"" }
 }
 
 // A draft without the original of its head.
 fn plain(alloc: Global, draft: &Draft<'_>) -> Result<Vec<u8>, AllocError>
-    ensures { IfOk result (λ text. spec.BeginsWith (spec.head_text (spec.fitted (fields_of draft.now.head))) text.items) }
+    ensures text { IfOk result (λ text. draft.now.is_text ≡ true → text.items ≡ anew_text draft.now) }
+    ensures head { IfOk result (λ text. spec.BeginsWith (spec.head_text (spec.fitted (fields_of draft.now.head))) text.items) }
 {
     let mut text = headed(alloc, &draft.head)?;
     text.extend_from_slice(between(draft))?;
@@ -135,6 +145,7 @@ fn pri_number(alloc: Global, bytes: &[u8]) -> Result<u8, AllocError>
 
 // The message of a draft: with the original of its head where a frame has room for it.
 fn drafted(alloc: Global, draft: &Draft<'_>, bytes: &[u8]) -> Result<Option<Repaired>, AllocError>
+    ensures none { IfOk result (λ made. IfNone made (IsTextDraft draft.now bytes.now → MAX_FRAME < length (anew_text draft.now))) }
     ensures repair { IfOk result (λ made. IfSome made (λ repaired. spec.IsRepair bytes.now repaired)) }
     ensures head { IfOk result (λ made. IfSome made (λ repaired. spec.BeginsWith (spec.head_text (spec.fitted (fields_of draft.now.head))) repaired.message.raw)) }
 {
@@ -163,7 +174,9 @@ pub fn cut(alloc: Global, bytes: &[u8]) -> Result<Option<Repaired>, AllocError>
 
 // The head with NILVALUE for a TIMESTAMP that is none, and what is changed then.
 fn with_time<'a>(alloc: Global, head: Head<'a>) -> Result<(Repair, Head<'a>), AllocError>
-    ensures { IfOk result (λ r. IsTimed (fields_of head.entry) (fields_of r.1)) }
+    ensures head { IfOk result (λ r. IsTimed (fields_of head.entry) (fields_of r.1)) }
+    ensures time { IfOk result (λ r. IsWord head.entry.timestamp.now → spec.IsTimeAnew head.entry.timestamp.now r.1.timestamp.now) }
+    ensures end { IfOk result (λ r. r.1.end ≡ head.entry.end) }
 {
     if is_timestamp(alloc, head.timestamp)? {
         return Ok((Repair::Names, head));
@@ -178,10 +191,11 @@ fn with_time<'a>(alloc: Global, head: Head<'a>) -> Result<(Repair, Head<'a>), Al
 }
 
 /// A head of RFC 5424 with names that fit their fields, and NILVALUE for a TIMESTAMP that is none. Where what is after
-/// it is no structured data it becomes text.
+/// it is no structured data it becomes text. None where there is no such head, or a frame can't carry it with that text.
 pub fn fields(alloc: Global, bytes: &[u8]) -> Result<Option<Repaired>, AllocError>
     ensures repair { IfOk result (λ made. IfSome made (λ repaired. spec.IsRepair bytes.now repaired)) }
     ensures head { IfOk result (λ made. IfSome made (λ repaired. spec.IsHeadAnew bytes.now repaired.message.raw)) }
+    ensures none { IfOk result (λ made. IfNone made (spec.IsTooLongAnew bytes.now)) }
 {
     let Some(came) = head_5424(bytes) else {
         return Ok(None);
@@ -210,24 +224,50 @@ pub fn fields(alloc: Global, bytes: &[u8]) -> Result<Option<Repaired>, AllocErro
     }
 }
 
-/// A head of RFC 3164 as one of RFC 5424: NILVALUE where nothing is known.
-pub fn rfc_3164(alloc: Global, bytes: &[u8]) -> Result<Option<Repaired>, AllocError>
-    ensures { IfOk result (λ made. IfSome made (λ repaired. spec.IsRepair bytes.now repaired)) }
+// The draft of a head of RFC 3164 and of what is after it.
+fn anew<'a>(head: Head<'a>, bytes: &'a [u8]) -> Draft<'a>
+    ensures head { result.head ≡ head.entry }
+    ensures rest { result.rest.now ≡ drop head.entry.end bytes.now }
+    ensures text { (result.is_text ≡ true) × (result.how ≡ Rfc3164) }
 {
-    let Some(mut head) = head_3164(bytes) else {
-        return Ok(None);
-    };
-    if !is_timestamp(alloc, head.timestamp)? {
-        head.timestamp = b"-";
-    }
-    let rest = from(bytes, head.end);
-    let anew = Draft {
+    Draft {
         how: Repair::Rfc3164,
         head,
         is_text: true,
-        rest,
+        rest: from(bytes, head.end),
+    }
+}
+
+// The same without a TIMESTAMP.
+fn untimed<'a>(head: Head<'a>, bytes: &'a [u8]) -> Draft<'a>
+    ensures time { result.head.timestamp.now ≡ nil_value }
+    ensures head { IsTimed (fields_of head.entry) (fields_of result.head) }
+    ensures rest { result.rest.now ≡ drop head.entry.end bytes.now }
+    ensures text { (result.is_text ≡ true) × (result.how ≡ Rfc3164) }
+{
+    anew(
+        Head {
+            timestamp: b"-",
+            ..head
+        },
+        bytes,
+    )
+}
+
+/// A head of RFC 3164 as one of RFC 5424: NILVALUE where nothing is known. None where there is no such head, or more than
+/// 65,521 bytes.
+pub fn rfc_3164(alloc: Global, bytes: &[u8]) -> Result<Option<Repaired>, AllocError>
+    ensures some { IfOk result (λ made. IfSome made (λ repaired. spec.IsRepair bytes.now repaired)) }
+    ensures none { IfOk result (λ made. IfNone made (spec.IsHead3164 bytes.now → spec.MOST_3164 < length bytes.now)) }
+{
+    let Some(head) = head_3164(bytes) else {
+        return Ok(None);
     };
-    drafted(alloc, &anew, bytes)
+    match drafted(alloc, &anew(head, bytes), bytes)? {
+        Some(made) => return Ok(Some(made)),
+        None => {}
+    }
+    drafted(alloc, &untimed(head, bytes), bytes)
 }
 
 // All of the bytes as text behind a priority.

@@ -37,16 +37,17 @@ pub trait LongSink {
     // how often it refused to keep what it was given, where that is known
     ghost refused: { Self → Option ℕ } = { λ _. None };
 
-    /// Keeps the first 65,536 bytes of a frame of that length, however long that takes; or doesn't, where nothing more is taken.
-    fn keep_long(&mut self, length: u64, text: &[u8]) -> Result<(), NotKept>
-        ensures ok { OnOk result (KeepsMore (kept self.old) (kept self.new) (long length text.now ∷ [])) }
+    /// Keeps the first 65,536 bytes of a frame of that length, however long that takes; or doesn't, where nothing more is taken. It is the frame
+    /// of that number of the stream, from 1.
+    fn keep_long(&mut self, frame: u64, length: u64, text: &[u8]) -> Result<(), NotKept>
+        ensures ok { OnOk result (KeepsMore (kept self.old) (kept self.new) (long frame length text.now ∷ [])) }
         ensures err { OnErr result (kept self.new ≡ kept self.old) }
         ensures no_refusal { OnOk result (refused self.new ≡ refused self.old) }
         ensures refusal { OnErr result (Refuses (refused self.old) (refused self.new)) };
 
-    /// Keeps bytes that stand where a frame should begin, and begin none; at most 1,024 of them.
-    fn keep_unframed(&mut self, text: &[u8]) -> Result<(), NotKept>
-        ensures ok { OnOk result (KeepsMore (kept self.old) (kept self.new) (unframed text.now ∷ [])) }
+    /// Keeps bytes that stand where the frame of that number should begin, and begin none; at most 1,024 of them.
+    fn keep_unframed(&mut self, frame: u64, text: &[u8]) -> Result<(), NotKept>
+        ensures ok { OnOk result (KeepsMore (kept self.old) (kept self.new) (unframed frame text.now ∷ [])) }
         ensures err { OnErr result (kept self.new ≡ kept self.old) }
         ensures no_refusal { OnOk result (refused self.new ≡ refused self.old) }
         ensures refusal { OnErr result (Refuses (refused self.old) (refused self.new)) };
@@ -71,7 +72,7 @@ impl<S: Source, K: LongSink> Skipping<S, K> {
         K: Drop,
         ensures source { IfOk result (λ s. s.source ≡ source) }
         ensures sink { IfOk result (λ s. s.sink ≡ sink) }
-        ensures standing { IfOk result (λ s. s.standing ≡ record { place = Within 0; held = [] }) }
+        ensures standing { IfOk result (λ s. s.standing ≡ record { place = Within 0; frames = 0; held = [] }) }
         ensures counts { IfOk result (λ s. (s.faults ≡ 0) × (s.calls ≡ 0)) }
     {
         let standing = Standing::new(alloc)?;
@@ -120,11 +121,13 @@ impl<S: Source, K: LongSink> Skipping<S, K> {
             (S.calls self.old.source) (S.calls self.new.source) (K.refused self.old.sink) (K.refused self.new.sink) }
         ensures source { self.new.source ≡ self.old.source }
     {
+        let frame = self.standing.next_number();
         let text = &self.standing.held()[from..from + MAX_FRAME];
-        let Ok(()) = self.sink.keep_long(size as u64, text) else {
+        let Ok(()) = self.sink.keep_long(frame, size as u64, text) else {
             return Turn::Fails;
         };
         self.standing.drop_front(from + MAX_FRAME);
+        self.standing.set_frames(frame);
         self.standing.set_place(past_long(size - MAX_FRAME));
         Turn::GoesOn
     }
@@ -139,8 +142,10 @@ impl<S: Source, K: LongSink> Skipping<S, K> {
             (S.calls self.old.source) (S.calls self.new.source) (K.refused self.old.sink) (K.refused self.new.sink) }
         ensures source { self.new.source ≡ self.old.source }
     {
+        let frame = self.standing.next_number();
         let held = self.standing.held();
-        let Ok(()) = self.sink.keep_unframed(&held[..held.len().min(UNFRAMED)]) else {
+        let text = &held[..held.len().min(UNFRAMED)];
+        let Ok(()) = self.sink.keep_unframed(frame, text) else {
             return Turn::Fails;
         };
         self.standing.set_place(Place::Unframed);

@@ -4,27 +4,26 @@ use crate::numbers::{ACTION_NUMBERS, INPUT_NUMBERS, QUEUE_NUMBERS, RELAY_NUMBERS
 use crate::text::{append, append_number};
 use crate::watched::{Watched, WatchedAction, WatchedInput, WatchedQueue};
 use std::alloc::{AllocError, Global};
+use std::str;
+use sy_report::texts::json::append_character;
 
-/// The hexadecimal digits.
-const DIGITS: &[u8; 16] = b"0123456789abcdef";
-
-// Appends a control character, of which there are 32.
-fn append_control(text: &mut Vec<u8>, byte: u8) -> Result<(), AllocError> {
-    append(text, if byte < 16 { "\\u000" } else { "\\u001" })?;
-    text.push(DIGITS[(byte % 16) as usize])?;
+// Appends the characters of a text. What a terminal would take for more is written as `\u009b`.
+fn append_characters(text: &mut Vec<u8>, value: &str) -> Result<(), AllocError> {
+    for character in value.chars() {
+        match character {
+            '\\' => append(text, "\\\\")?,
+            '"' => append(text, "\\\"")?,
+            character => append_character(text, character)?,
+        }
+    }
     Ok(())
 }
 
-// Appends a text in quotes.
+// Appends a text in quotes, which is UTF-8.
 fn append_text(text: &mut Vec<u8>, value: &[u8]) -> Result<(), AllocError> {
     append(text, "\"")?;
-    for byte in value {
-        match *byte {
-            b'\\' => append(text, "\\\\")?,
-            b'"' => append(text, "\\\"")?,
-            byte if byte < b' ' => append_control(text, byte)?,
-            byte => text.push(byte)?,
-        }
+    if let Ok(value) = str::from_utf8(value) {
+        append_characters(text, value)?;
     }
     append(text, "\"")
 }

@@ -64,6 +64,7 @@ no_protection words (Line.Relay r) lines is other = refl
 no_protection words (Line.Entry e) lines is other = refl
 no_protection words (Line.Protect p) lines is other = absurd (other (ap second_letter is.whole))
 no_protection words (Line.Spare s) lines is other = refl
+no_protection words (Line.Outside o) lines is other = refl
 
 a_protection : (words : List (List ℕ)) (it : Line) (lines : List Line) → IsLine words it → second_letter words ≡ 114
     → (p : ProtectLine) × IsProtectLine words p × (protect_lines (it ∷ lines) ≡ p ∷ protect_lines lines)
@@ -72,6 +73,7 @@ a_protection words (Line.Relay r) lines is letter = let e : 114 ≡ 101 = sym le
 a_protection words (Line.Entry e) lines is letter = let e : 114 ≡ 110 = sym letter ∙ ap second_letter is.whole in absurd (omega (arith, e))
 a_protection words (Line.Protect p) lines is letter = (p, is, refl)
 a_protection words (Line.Spare s) lines is letter = let e : 114 ≡ 112 = sym letter ∙ ap second_letter is in absurd (omega (arith, e))
+a_protection words (Line.Outside o) lines is letter = let e : 114 ≡ 117 = sym letter ∙ ap second_letter is.whole in absurd (omega (arith, e))
 
 no_lines : {lines : List Line} → AreLines [] lines → lines ≡ []
 no_lines AreLines.none = refl

@@ -18,7 +18,8 @@ use Rattle.sy_checker.specs.Survey.{IsSurvey}
 use Rattle.sy_site.specs.declared.finding.Finding.{Finding}
 use Rattle.sy_checker.specs.declared.kinds.groups.Group.{Group}
 use Rattle.syc.specs.Checks.{AskedInWordsIs, BeginsInWords, SaysBy, SaysCertifiedInWords}
-use Rattle.sy_findings.specs.Checks.{AreLinesInWords, IsTally, IsTallyInWords, KeepsAll, accepted_line, finding_text, group_text}
+use Rattle.sy_findings.specs.declared.verdicts.instances.Instance.{Instance}
+use Rattle.sy_findings.specs.Checks.{AreLinesInWords, IsTally, IsTallyInWords, KeepsAll, accepted_line, finding_text, instance_text}
 use Rattle.syc.specs.Examples.{IsAccepted, IsCertified, IsReplayed, IsTheSite, IsVerified, Printed, bytes_of}
 use Rattle.syc.specs.Graphs.{GraphIs, IsClass, ReportsNoClass}
 use Rattle.sy_drawing.specs.Graphs.{IsNoClass}
@@ -158,11 +159,11 @@ all_reported_in_words : (site : Site) (text : List ℕ) → SaysBy true true sit
 all_reported_in_words site text (inl kept) = absurd (true_or_false kept.accepted refl)
 all_reported_in_words site text (inr found) = (found.groups, found.is_survey, found.is_tally)
 
--- a line for one group, with words behind it
-one_in_words : (site : Site) (group : Group) (text : List ℕ) → AreLinesInWords site (group ∷ []) text
-    → (names words : List ℕ) × (text ≡ names ++ group_text site group ++ words)
-one_in_words site group text (names, words, rest, is, none) =
-    (names, words, is ∙ ap (λ r. names ++ group_text site group ++ words ++ r) none ∙ append-nil (names ++ group_text site group ++ words))
+-- a line for one instance, with words behind it
+one_in_words : (site : Site) (instance : Instance) (text : List ℕ) → AreLinesInWords site (instance ∷ []) text
+    → (names words : List ℕ) × (text ≡ names ++ instance_text site instance ++ words)
+one_in_words site instance text (names, words, rest, is, none) =
+    (names, words, is ∙ ap (λ r. names ++ instance_text site instance ++ words ++ r) none ∙ append-nil (names ++ instance_text site instance ++ words))
 
 -- one finding is told that is true, with nothing but words behind it
 abbrev IsReportedOf : Site → List ℕ → Type 0

@@ -19,6 +19,7 @@ use Rattle.syc.specs.Pass.{READS}
 use Rattle.syc.specs.Reports.{HasReportedBy, HasReportedFirst}
 use Rattle.syc.specs.Words.{is_any}
 use Rattle.sy_report.specs.declared.command_line.options.Options.{Options}
+use Rattle.sy_report.specs.Printed.{printed}
 use Rattle.sy_report.specs.Reports.{SinkState, Streams, HasReported, line_feed, said}
 use Rattle.syc.specs.SiteFiles.{HasNoAnswer}
 use Rattle.sy_places.specs.SiteFiles.{IsSiteOf}
@@ -56,7 +57,7 @@ spare_word false = []
 --  at RELAY CLASS CAUSE
 abbrev pub loss_place : Site → SiteState → Loss → List ℕ
 loss_place site state loss =
-    codes " at " ++ name_of site loss.relay ++ codes " " ++ copy_class (slice_get state.copies loss.copy) ++ codes " " ++ cause_word loss.cause
+    codes " at " ++ printed (name_of site loss.relay) ++ codes " " ++ copy_class (slice_get state.copies loss.copy) ++ codes " " ++ cause_word loss.cause
 
 -- a loss, of the event in this line
 abbrev pub loss_line : Site → SiteState → ℕ → Loss → List ℕ

@@ -14,7 +14,7 @@ ghost use Rattle.syc.specs.Requests.{IsRequest, options_of, over, over_of};
 ghost use Rattle.sy_report.specs.Commands.{IsGiven};
 
 use crate::check::question::ask;
-use crate::graph::graph;
+use crate::graph::{Extent, graph};
 use crate::replay::replay;
 use crate::verify::verify;
 use std::alloc::Global;
@@ -195,7 +195,9 @@ pub fn report<W: Sink, E: Sink, F: Files>(
 {
     match request {
         Request::OfSite(options, command) => over_site(alloc, options, command, files, out),
-        Request::Graph(site) => graph(alloc, files, site, None, out),
-        Request::GraphOfClass(site, class) => graph(alloc, files, site, Some(class), out),
+        Request::Graph(site) => graph(alloc, files, site, None, Extent::Fitting, out),
+        Request::GraphOfClass(site, class) => {
+            graph(alloc, files, site, Some(class), Extent::Fitting, out)
+        }
     }
 }

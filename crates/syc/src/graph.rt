@@ -10,14 +10,20 @@ ghost use Rattle.sy_report.specs.Reports.{HasReported, said};
 ghost use Rattle.sy_places.specs.SiteFiles.{IsSiteOf};
 ghost use Rattle.sy_places.specs.Halts.{IsNoSite, IsUnread};
 
+use crate::running::identity::{Identity, identity_of};
+use hex::encode;
 use std::alloc::{AllocError, Global};
 use sy_checker::check_site;
 use sy_drawing::arrow::push_outside;
 use sy_drawing::class::{class_named, one_of};
-use sy_drawing::node::{Drawing, mark_of};
+use sy_drawing::foot::append_foot;
+use sy_drawing::node::{Drawing, marks_of};
+use sy_drawing::overview::{MOST_IN_FULL, push_box, push_links};
 use sy_drawing::reach::reach_of;
 use sy_drawing::relay::push_relay;
-use sy_drawing::text::{AROUND, HEAD, LEGEND, LEGEND_OF_ONE, MARKS, push_name};
+use sy_drawing::text::{
+    AROUND, BELOW, BOXED, BOXES, HEAD, LEGEND, LEGEND_OF_ONE, MARKS, push_name,
+};
 use sy_places::site_file::site::{ReadSite, read_site};
 use sy_places::ways::executed::protected_classes;
 use sy_report::outcome::answer::{Answer, print};
@@ -31,6 +37,25 @@ use sy_report::writing::outputs::Outputs;
 use sy_site::Site;
 use sy_site::finding::{Finding, Kind, Refusal};
 use sy_wire::{Class, Sink};
+
+/// How much of a site is drawn.
+#[derive(Clone, Copy)]
+pub enum Extent {
+    /// Each relay in full, where the site has at most 12 of them; else an overview.
+    Fitting,
+    /// Each relay in full, and below them the name of the site file, the date by the days since the first of 1970, where
+    /// that is known, and the SHA-256 over the site's files.
+    Full(Option<u64>),
+}
+
+impl Extent {
+    fn is_full(self, site: &Site) -> bool {
+        match self {
+            Extent::Fitting => site.relays() <= MOST_IN_FULL,
+            Extent::Full(_) => true,
+        }
+    }
+}
 
 // ---- the title
 
@@ -46,7 +71,7 @@ fn append_finding(words: &mut Words, site: &Site, finding: &Finding) {
     if let Kind::Unmet(archive) = finding.kind {
         words.append(&[
             Part::Text(b" "),
-            Part::Text(relay_name(site, archive.relay)),
+            Part::Name(relay_name(site, archive.relay)),
             Part::Text(b" "),
         ]);
         push_name(words, action_name(site, archive));
@@ -89,14 +114,30 @@ fn append_title(
     });
 }
 
-// What the lines and the colours mean.
-fn append_legend(words: &mut Words, is_one: bool) {
+// What is said below a drawing: what the lines and the colours mean, and what is given.
+fn append_below(words: &mut Words, drawing: Drawing<'_>, is_full: bool, foot: &[u8]) {
     words.say(AROUND);
-    words.say(if is_one { LEGEND_OF_ONE } else { LEGEND });
-    words.say(MARKS);
+    words.say(if drawing.is_one {
+        LEGEND_OF_ONE
+    } else {
+        LEGEND
+    });
+    words.say(if is_full { MARKS } else { BOXES });
+    words.append(&[Part::Text(foot)]);
+    words.say(BELOW);
 }
 
 // ---- the drawing
+
+fn append_overview(words: &mut Words, drawing: Drawing<'_>) {
+    words.say(BOXED);
+    for relay in 0..drawing.site.relays() {
+        push_box(words, drawing, relay, drawing.site.plan(relay));
+    }
+    for relay in 0..drawing.site.relays() {
+        push_links(words, drawing, relay, drawing.site.plan(relay));
+    }
+}
 
 fn append_all(words: &mut Words, drawing: Drawing<'_>) -> Result<(), AllocError> {
     for relay in 0..drawing.site.relays() {
@@ -108,7 +149,22 @@ fn append_all(words: &mut Words, drawing: Drawing<'_>) -> Result<(), AllocError>
     Ok(())
 }
 
-fn draw(alloc: Global, site: &Site, class: Option<Class>) -> Result<Vec<u8>, AllocError> {
+// Puts the relays and their arrows.
+fn append_relays(words: &mut Words, drawing: Drawing<'_>, is_full: bool) -> Result<(), AllocError> {
+    if is_full {
+        return append_all(words, drawing);
+    }
+    append_overview(words, drawing);
+    Ok(())
+}
+
+fn draw(
+    alloc: Global,
+    site: &Site,
+    class: Option<Class>,
+    extent: Extent,
+    foot: &[u8],
+) -> Result<Vec<u8>, AllocError> {
     let found = found(alloc, site)?;
     let protected = protected_classes(alloc, site)?;
     let one = one_of(alloc, class)?;
@@ -117,35 +173,70 @@ fn draw(alloc: Global, site: &Site, class: Option<Class>) -> Result<Vec<u8>, All
         None => protected.as_slice(),
     };
     let reach = reach_of(alloc, site, classes)?;
-    let mark = mark_of(alloc, site, &found)?;
+    let marks = marks_of(alloc, site, &found)?;
     let drawing = Drawing {
         alloc,
         site,
         reach: &reach,
         classes: classes.len(),
         is_one: class.is_some(),
-        mark: &mark,
+        marks: marks.as_slice(),
     };
+    let is_full = extent.is_full(site);
     let mut words = Words::new(alloc);
     words.say(HEAD);
     append_title(&mut words, site, &found, protected.len(), class);
-    append_legend(&mut words, drawing.is_one);
-    append_all(&mut words, drawing)?;
+    append_below(&mut words, drawing, is_full, foot);
+    append_relays(&mut words, drawing, is_full)?;
     words.say("  }\n}\n");
     words.finish()
 }
 
 // The site that the site file of this name describes, with the files that it names.
-fn site_for<F: Files>(alloc: Global, files: &F, name: &str) -> Result<Site, Halt>
-    ensures ok { IfOk result (λ site. (text : List ℕ) → F.bytes_of files.now name.now ≡ Some text →
-        IsSiteOf (F.bytes_of files.now) text site) }
+fn site_for<F: Files>(
+    alloc: Global,
+    files: &F,
+    name: &str,
+) -> Result<(Site, Option<Identity>), Halt>
+    ensures ok { IfOk result (λ read. (text : List ℕ) → F.bytes_of files.now name.now ≡ Some text →
+        IsSiteOf (F.bytes_of files.now) text read.0) }
     ensures err { IfErr result (λ halt. (text : List ℕ) → F.bytes_of files.now name.now ≡ Some text →
         IsNoSite (F.bytes_of files.now) text halt) }
     ensures unread { IfErr result (λ halt. (text : List ℕ) → F.bytes_of files.now name.now ≡ Some text →
         IsUnread (F.may_fail files.now) (name.now ∷ file_names text) halt) }
 {
-    let ReadSite { site, .. } = read_site(alloc, files, name);
-    site
+    let ReadSite { site, texts } = read_site(alloc, files, name);
+    match site {
+        Ok(site) => Ok((site, identity_of(alloc, &texts))),
+        Err(halt) => Err(halt),
+    }
+}
+
+// What is below a drawing of this extent.
+fn foot_of(
+    alloc: Global,
+    name: &str,
+    extent: Extent,
+    identity: Option<Identity>,
+) -> Result<Vec<u8>, AllocError> {
+    let mut words = Words::new(alloc);
+    if let (Extent::Full(days), Some(identity)) = (extent, identity) {
+        let digits = encode(alloc, identity.sum.as_slice())?;
+        append_foot(&mut words, name, days, digits.as_str());
+    }
+    words.finish()
+}
+
+// The drawing with what is below it.
+fn drawn(
+    alloc: Global,
+    name: &str,
+    read: &(Site, Option<Identity>),
+    class: Option<Class>,
+    extent: Extent,
+) -> Result<Vec<u8>, AllocError> {
+    let foot = foot_of(alloc, name, extent, read.1)?;
+    draw(alloc, &read.0, class, extent, foot.as_slice())
 }
 
 // A drawing of the site that the file of this name describes.
@@ -154,6 +245,7 @@ fn drawing_of<F: Files>(
     files: &F,
     name: &str,
     class: Option<Class>,
+    extent: Extent,
 ) -> Result<Answer, Halt>
     ensures ok { IfOk result (λ a. (text : List ℕ) → F.bytes_of files.now name.now ≡ Some text →
         (site : AnySite) × IsSiteOf (F.bytes_of files.now) text site × (a.is_accepted ≡ true)) }
@@ -162,8 +254,8 @@ fn drawing_of<F: Files>(
     ensures err { IfErr result (λ halt. (text : List ℕ) → F.bytes_of files.now name.now ≡ Some text →
         IsNoSite (F.bytes_of files.now) text halt) }
 {
-    let site = site_for(alloc, files, name)?;
-    match draw(alloc, &site, class) {
+    let read = site_for(alloc, files, name)?;
+    match drawn(alloc, name, &read, class, extent) {
         Ok(text) => Ok(Answer {
             text,
             is_accepted: true,
@@ -178,6 +270,7 @@ fn print_drawing<F: Files, W: Sink, E: Sink>(
     files: &F,
     site: &str,
     class: Option<Class>,
+    extent: Extent,
     out: &mut Outputs<W, E>,
 ) -> u8
     ensures draws { (text : List ℕ) → F.bytes_of files.now site.now ≡ Some text →
@@ -188,7 +281,7 @@ fn print_drawing<F: Files, W: Sink, E: Sink>(
     ensures none_failed { result ≢ 4 → out.new.output.faults ≡ out.old.output.faults }
     ensures quiet { result ≡ 0 → Keeps out.old.errors.contents out.new.errors.contents }
 {
-    print(drawing_of(alloc, files, site, class), out)
+    print(drawing_of(alloc, files, site, class, extent), out)
 }
 
 // A word as it is told, without control characters.
@@ -228,6 +321,7 @@ pub fn graph<F: Files, W: Sink, E: Sink>(
     files: &F,
     site: &str,
     class: Option<&str>,
+    extent: Extent,
     out: &mut Outputs<W, E>,
 ) -> u8
     ensures draws { (text : List ℕ) → F.bytes_of files.now site.now ≡ Some text →
@@ -239,10 +333,10 @@ pub fn graph<F: Files, W: Sink, E: Sink>(
     ensures quiet { result ≡ 0 → Keeps out.old.errors.contents out.new.errors.contents }
 {
     let Some(word) = class else {
-        return print_drawing(alloc, files, site, None, out);
+        return print_drawing(alloc, files, site, None, extent, out);
     };
     match class_named(alloc, word) {
-        Ok(Some(class)) => print_drawing(alloc, files, site, Some(class), out),
+        Ok(Some(class)) => print_drawing(alloc, files, site, Some(class), extent, out),
         Ok(None) => no_class(alloc, out, word),
         Err(_) => out_of_memory(&mut out.errors),
     }

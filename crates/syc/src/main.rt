@@ -9,6 +9,7 @@ ghost use Rattle.sy_host.specs.WholeEntries.{KeepsWhole};
 mod check;
 mod commands;
 mod examples;
+mod full;
 mod graph;
 mod laws;
 mod pass;
@@ -17,11 +18,15 @@ mod replay;
 mod reporting;
 mod run;
 mod running;
+mod strict;
+mod taking;
 mod unread;
 mod usage;
 mod verify;
+mod wanted_row;
 mod wrong_words;
 
+use full::{draw_in_full, take_full};
 use run::run;
 use running::explaining::{explain_no_memory, explain_refused, explain_status, explained_by};
 use running::identity::runs_line;
@@ -39,18 +44,21 @@ use std::sync::atomic::{AtomicBool, AtomicU64};
 use std::sync::{Arc, Wait};
 use std::thread::Threads;
 use std::time::Clock;
+use strict::{refuse_warnings, run_strictly, take_strict};
 use sy_board::Guard;
+use sy_endpoints::outlets::{Outlet, outlets};
 use sy_host::devices::opening::Signals;
-use sy_host::devices::outlets::{Outlet, outlets};
 use sy_host::ending::left_file::LeftFiles;
 use sy_host::listening::serving::{Notices, Serving};
 use sy_host::serve::{Served, serve};
+use sy_report::command_line::any_file::take_any_file;
 use sy_report::outcome::stop;
-use sy_report::reading::files::HostFiles;
+use sy_report::reading::files::{HostFiles, Kinds};
 use sy_report::writing::outputs::Outputs;
 use sy_site::Site;
 use sy_wire::{Buffered, FromRead, FromWrite, Sink, Source};
 use unread::{is_unread, unread};
+use wanted_row::explain_unfit;
 
 /// How many bytes of lines are held back until the next read.
 const OUTPUT_BUFFER: usize = 65536;
@@ -58,43 +66,81 @@ const OUTPUT_BUFFER: usize = 65536;
 /// After how many seconds the metrics are written again, where that isn't given.
 const METRICS_EVERY: u32 = 10;
 
+const SECONDS_OF_A_DAY: u64 = 86_400;
+
 /// Room for the longest line on standard error, so that it is written at once.
 const ERROR_BUFFER: usize = 512;
 
 type HostOutputs = Outputs<Buffered<FromWrite<Stdout>>, FromWrite<BufWriter<Stderr>>>;
 
 fn main(rt: HostRuntime) -> ExitCode {
-    let (words, mut out) = match begin(&rt) {
+    let (mut words, kinds, mut out) = match begin(&rt) {
         Ok(begun) => begun,
         Err(status) => return ExitCode::from(status),
     };
     if is_unread(words.as_slice()) {
         return ExitCode::from(unread(&rt, words.as_slice(), &mut out));
     }
-    if !is_run(words.as_slice()) {
-        return ExitCode::from(start(&rt, words.as_slice(), &mut out));
+    if take_full(&mut words) {
+        return ExitCode::from(draw(&rt, words.as_slice(), kinds, &mut out));
     }
-    let alloc = rt.alloc();
+    let is_strict = take_strict(&mut words);
+    if !is_run(words.as_slice()) {
+        return ExitCode::from(start(&rt, words.as_slice(), is_strict, kinds, &mut out));
+    }
+    ExitCode::from(run_relay(rt, rt, words.as_slice(), is_strict, kinds, out))
+}
+
+// Draws a site in full, with the date.
+fn draw(rt: &HostRuntime, words: &[String], kinds: Kinds, out: &mut HostOutputs) -> u8 {
+    let days = match rt.since_1970() {
+        Ok(time) => Some(time.as_secs() / SECONDS_OF_A_DAY),
+        Err(_) => None,
+    };
+    draw_in_full(rt.alloc(), words, &HostFiles::new(rt, kinds), days, out)
+}
+
+// Runs a relay.
+fn run_relay<R>(
+    rt: R,
+    host: HostRuntime,
+    words: &[String],
+    is_strict: bool,
+    kinds: Kinds,
+    mut out: HostOutputs,
+) -> u8
+where
+    R: Threads + Wait + Clock + Copy + Send + 'static,
+    R: Net<Listener = TcpListener, Stream = TcpStream>,
+{
+    let alloc = host.alloc();
     let (site, relay, guard, found, identity) = match prepare(
         alloc,
-        words.as_slice(),
-        &HostFiles::new(&rt),
+        words,
+        &HostFiles::new(&host, kinds),
         &mut out,
     ) {
         Ok(prepared) => prepared,
-        Err(status) => return ExitCode::from(status),
+        Err(status) => return status,
     };
-    let _taken = take_closed_streams(&rt);
-    report_input(&rt, &mut out.errors);
+    if is_strict {
+        let files = HostFiles::new(&host, kinds);
+        let status = refuse_warnings(alloc, &files, found.site, false, &mut out);
+        if status != 0 {
+            return status;
+        }
+    }
+    let _taken = take_closed_streams(&host);
+    report_input(&host, &mut out.errors);
     let Ok(outlets) = outlets(alloc, &site, relay) else {
-        return no_memory(&rt, found, &mut out);
+        return no_memory(&host, found, &mut out);
     };
-    let store = match store_of(&rt, found, &mut out.errors) {
+    let store = match store_of(&host, found, &mut out.errors) {
         Ok(store) => store,
-        Err(status) => return ExitCode::from(status),
+        Err(status) => return status,
     };
     let Ok(runs) = runs_line(alloc, found.relay.as_bytes(), identity) else {
-        return no_memory(&rt, found, &mut out);
+        return no_memory(&host, found, &mut out);
     };
     let wanted = Wanted {
         unread: found.unread,
@@ -108,12 +154,12 @@ fn main(rt: HostRuntime) -> ExitCode {
         runs,
         wanted,
     };
-    let status = serve_on(rt, rt, &site, relay, guard, outlets.as_slice(), with, out);
-    ExitCode::from(explain_status(&rt, &rt, found, status))
+    let status = serve_on(rt, host, &site, relay, guard, outlets.as_slice(), with, out);
+    explain_status(&rt, &host, found, status)
 }
 
-// The process's own words and streams, or the exit status where memory ran out.
-fn begin(rt: &HostRuntime) -> Result<(Vec<String>, HostOutputs), u8> {
+// The process's own words, which files they let it read, and its streams; or the exit status where memory ran out.
+fn begin(rt: &HostRuntime) -> Result<(Vec<String>, Kinds, HostOutputs), u8> {
     let alloc = rt.alloc();
     let Ok(errors) = BufWriter::with_capacity(alloc, ERROR_BUFFER, rt.stderr()) else {
         return Err(stop::out_of_memory(&mut FromWrite::new(rt.stderr())));
@@ -122,27 +168,45 @@ fn begin(rt: &HostRuntime) -> Result<(Vec<String>, HostOutputs), u8> {
     let Ok(args) = env::args(rt) else {
         return Err(stop::out_of_memory(&mut errors));
     };
-    let Ok(words) = args.skip(1).collect::<Vec<String>>(alloc) else {
+    let Ok(mut words) = args.skip(1).collect::<Vec<String>>(alloc) else {
         return Err(stop::out_of_memory(&mut errors));
+    };
+    let kinds = if take_any_file(&mut words) {
+        Kinds::Any
+    } else {
+        Kinds::Regular
     };
     let stdout = FromWrite::new(rt.stdout());
     let Ok(writer) = Buffered::with_capacity(alloc, OUTPUT_BUFFER, stdout) else {
         return Err(stop::out_of_memory(&mut errors));
     };
-    Ok((words, Outputs { writer, errors }))
+    Ok((words, kinds, Outputs { writer, errors }))
 }
 
 // Tells that a relay that was to run found no memory, explained where the words ask for that, and answers the exit status.
-fn no_memory(rt: &HostRuntime, words: RunWords<'_>, out: &mut HostOutputs) -> ExitCode {
+fn no_memory(rt: &HostRuntime, words: RunWords<'_>, out: &mut HostOutputs) -> u8 {
     let status = stop::out_of_memory(&mut out.errors);
     explain_no_memory(rt, words);
-    ExitCode::from(status)
+    status
 }
 
 // Runs the commands other than `run` on the process's own words and streams.
-fn start(rt: &HostRuntime, words: &[String], out: &mut HostOutputs) -> u8 {
+fn start(
+    rt: &HostRuntime,
+    words: &[String],
+    is_strict: bool,
+    kinds: Kinds,
+    out: &mut HostOutputs,
+) -> u8 {
     let mut reader = FromRead::new(rt.stdin());
-    run(rt.alloc(), words, &HostFiles::new(rt), &mut reader, out)
+    let files = HostFiles::new(rt, kinds);
+    if is_strict {
+        return run_strictly(rt.alloc(), words, &files, &mut reader, out);
+    }
+    match run(rt.alloc(), words, &files, &mut reader, out) {
+        1 => explain_unfit(rt.alloc(), words, &files, out),
+        status => status,
+    }
 }
 
 // What the options of a relay that runs ask for.

@@ -17,6 +17,7 @@ ghost use Rattle.syc.specs.Words as spec;
 
 pub mod events;
 pub mod losses;
+pub mod possible_steps;
 
 use crate::commands::is_any;
 use crate::reading::read_for;

@@ -11,6 +11,7 @@ ghost use Rattle.syc.specs.Optioned.{DocumentEnds, HaltEnds, StopsBy};
 ghost use Rattle.syc.specs.Words as spec;
 
 use crate::commands::is_any;
+use crate::replay::possible_steps::step_words;
 use std::alloc::{AllocError, Global};
 use sy_documents::json::fault_document;
 use sy_fault_notes::fault_notes::fault_words;
@@ -46,6 +47,14 @@ fn report_with<E: Sink>(alloc: Global, errors: &mut E, halt: &Halt, words: &[u8]
     }
 }
 
+// The words on a fault and, where it is an illegal event, on which step could be made in its place.
+fn explained(alloc: Global, texts: &SiteTexts<'_>, halt: &Halt) -> Result<Vec<u8>, AllocError> {
+    let mut words = fault_words(alloc, texts, halt)?;
+    let steps = step_words(alloc, texts, halt)?;
+    words.extend_from_slice(steps.as_slice())?;
+    Ok(words)
+}
+
 // The words after the first line on standard error.
 fn words_after(
     alloc: Global,
@@ -57,7 +66,7 @@ fn words_after(
         return all_fault_words(alloc, texts, options.explain, halt);
     }
     if options.explain {
-        return fault_words(alloc, texts, halt);
+        return explained(alloc, texts, halt);
     }
     Ok(Vec::new(alloc))
 }

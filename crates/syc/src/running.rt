@@ -1,6 +1,7 @@
 //! What the command that runs a relay is given, and what it needs.
 
 mod archive_note;
+pub mod endpoints;
 pub mod explaining;
 pub mod identity;
 pub mod left_store;

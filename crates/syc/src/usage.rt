@@ -1,8 +1,10 @@
 //! What clap says of the program and of each command: a help, the version, and what is wrong with other words.
 
-use crate::running::words::{period, seconds};
+mod misread;
+
 use clap::error::ErrorKind;
 use clap::{Arg, ArgAction, Command as Parser, Error};
+use misread::misread_reason;
 use std::alloc::{AllocError, Global};
 use sy_report::command_line::command::is_word;
 
@@ -16,6 +18,8 @@ const EXPLAIN: &str =
 
 const ALL: &str =
     "List every finding, with the classes that it affects, and every fault, in place of the first";
+
+const STRICT: &str = "Refuse a site that has warnings too, and print them";
 
 const CLASS: &str = "Draw what the messages of this class may reach, as auth.crit";
 
@@ -35,6 +39,12 @@ const METRICS_EVERY: &str =
 
 const JSON: &str = "Print one JSON document in place of the text";
 
+const ANY_FILE: &str = "Read FIFOs and devices too, not regular files alone";
+
+const EVENTS: &str = "The events, one a line; - is standard input";
+
+const CERT: &str = "The certificate, as certify prints it; - is standard input";
+
 const PASS_BEHIND: &str = "Exit status:
   0  all messages were written
   2  the input is faulty, or the command line is
@@ -46,7 +56,7 @@ Example:
 
 const CHECK_BEHIND: &str = "Exit status, with any of these options:
   0  accepted: no message of a protected class is lost, but at or behind a spare action
-  1  refused: something is found
+  1  refused: something is found, or with --strict something is warned of
   2  a file is faulty, or the command line is
   3  out of memory
   4  a read or a write failed
@@ -86,7 +96,7 @@ Example:
 
 const RUN_BEHIND: &str = "Exit status:
   0  the relay ran until standard input ended
-  1  the site is refused
+  1  the site is refused, or with --strict it has warnings
   2  a file is faulty, the site has no such relay, or the command line is faulty
   3  out of memory
   4  a read or a write failed, or a port or a file can't be opened
@@ -107,6 +117,9 @@ const UNREAD_BEHIND: &str = "Exit status:
 
 Example:
   syc unread --repair unread | nc -N localhost 6514";
+
+const FULL: &str =
+    "Draw each relay in full, with the site file's name, the date and the SHA-256 of its files below; else more than 12 relays are drawn as an overview";
 
 const GRAPH_BEHIND: &str = "Exit status:
   0  the graph was printed
@@ -130,7 +143,12 @@ static COMMANDS: [(&str, &str, &[(&str, &str)], &[(&str, &str)], &str); 8] = [
         "check",
         "Say whether a site keeps the messages of its protected classes",
         &[("SITE", SITE)],
-        &[("explain", EXPLAIN), ("all", ALL), ("json", JSON)],
+        &[
+            ("explain", EXPLAIN),
+            ("all", ALL),
+            ("json", JSON),
+            ("strict", STRICT),
+        ],
         CHECK_BEHIND,
     ),
     (
@@ -143,17 +161,14 @@ static COMMANDS: [(&str, &str, &[(&str, &str)], &[(&str, &str)], &str); 8] = [
     (
         "verify",
         "Say whether a certificate shows that a site keeps the messages of its protected classes",
-        &[
-            ("SITE", SITE),
-            ("CERT", "The certificate, as certify prints it"),
-        ],
+        &[("SITE", SITE), ("CERT", CERT)],
         &[("explain", EXPLAIN), ("json", JSON)],
         VERIFY_BEHIND,
     ),
     (
         "replay",
         "Make the events of a file at the site of a site file, and print each loss",
-        &[("SITE", SITE), ("EVENTS", "The events, one a line")],
+        &[("SITE", SITE), ("EVENTS", EVENTS)],
         &[("explain", EXPLAIN), ("json", JSON)],
         REPLAY_BEHIND,
     ),
@@ -167,6 +182,7 @@ static COMMANDS: [(&str, &str, &[(&str, &str)], &[(&str, &str)], &str); 8] = [
         &[
             ("unchecked", "Run it without a check"),
             ("explain", EXPLAIN),
+            ("strict", STRICT),
         ],
         RUN_BEHIND,
     ),
@@ -184,7 +200,7 @@ static COMMANDS: [(&str, &str, &[(&str, &str)], &[(&str, &str)], &str); 8] = [
         "graph",
         "Print a site as a graph, for Graphviz",
         &[("SITE", SITE)],
-        &[],
+        &[("full", FULL)],
         GRAPH_BEHIND,
     ),
 ];
@@ -298,7 +314,11 @@ fn parser_of<'a>(
     let parser = Ok(Parser::new(alloc, word).about(about).after_help(behind));
     let parser = with_names(alloc, parser, names);
     let parser = with_options(alloc, parser, options);
-    with_values(alloc, parser, word)
+    let parser = with_values(alloc, parser, word);
+    if is_word(word, "pass") || is_word(word, "unread") {
+        return parser;
+    }
+    with_option(alloc, parser, "any-file", ANY_FILE)
 }
 
 // A parser with one command more.
@@ -333,55 +353,12 @@ fn whole_parser<'a>(alloc: Global) -> Result<Parser<'a>, AllocError> {
     parser
 }
 
-// What is wrong with a word behind an option that takes a time, if anything is.
-fn wrong_time(option: &str, word: &str) -> Option<&'static str> {
-    if is_word(option, "--drain") && seconds(word.as_bytes()).is_none() {
-        return Some("--drain takes decimal digits: 86400 seconds at most");
-    }
-    if is_word(option, "--metrics-every") && period(word.as_bytes()).is_none() {
-        return Some("--metrics-every takes decimal digits: 1 to 86400 seconds");
-    }
-    None
-}
-
-// Whether a time between two files of metrics stands among words without their name.
-fn is_unpaired(words: &[&str]) -> bool {
-    let mut is_timed = false;
-    for word in words {
-        if is_word(word, "--metrics") {
-            return false;
-        }
-        if is_word(word, "--metrics-every") {
-            is_timed = true;
-        }
-    }
-    is_timed
-}
-
-// Why words are refused that clap reads as a command: `pass --`, an option before the word, a value behind `=`.
-fn unread(words: &[&str]) -> &'static str {
-    let mut option = "";
-    for word in words {
-        if is_word(word, "--") {
-            return "unexpected argument '--' found: write the command's word, its options and its names, without '--'";
-        }
-        if let Some(why) = wrong_time(option, word) {
-            return why;
-        }
-        option = word;
-    }
-    if is_unpaired(words) {
-        return "--metrics-every stands beside --metrics alone: name its file too";
-    }
-    "these words are read in no other order or form: write the command's word first, and an option as syc --help has it"
-}
-
 // What clap answers for words that are no command: a call for help or the version, or what is wrong with them.
 fn ask_clap<'a>(parser: &mut Parser<'a>, words: &'a [&'a str]) -> Error {
     if let Err(error) = parser.try_get_matches_from_mut(words) {
         return error;
     }
-    match parser.error(ErrorKind::UnknownArgument, unread(words)) {
+    match parser.error(ErrorKind::UnknownArgument, misread_reason(words)) {
         Ok(error) => error,
         Err(why) => Error::from(why),
     }

@@ -58,7 +58,7 @@ fn read_certificate<'a, F: Files>(
         internal.IsNoCertificate bytes why)) }
     ensures unread { IfErr result (IsUnread (F.may_fail files.now) (name.now ∷ [])) }
 {
-    match files.read(name) {
+    match files.read_beside(name) {
         Ok(bytes) => {
             let read = certificate_of(alloc, bytes.as_slice());
             texts.set_second(name, Some(bytes));

@@ -1,10 +1,10 @@
 //! Sites and their relays.
 
 use std::alloc::Global;
-use std::net::Ipv4Addr;
+use std::net::IpAddr;
 use std::sync::Arc;
 use sy_rules::Plan;
-use sy_site::Site;
+use sy_site::{Host, Site};
 
 const TEXT: &[u8] = b"relay hub hub.conf\nentry hub 6515\nprotect auth.* hub audit\n";
 
@@ -22,11 +22,15 @@ pub(crate) fn site_of_a_relay(alloc: Global) -> Option<Site> {
 }
 
 /// What a site says of its first relay.
-pub fn first_relay(alloc: Global) -> Option<(usize, Ipv4Addr, Arc<Plan>)> {
+pub fn first_relay(alloc: Global) -> Option<(usize, Option<IpAddr>, Arc<Plan>)> {
     let site = site_of_a_relay(alloc)?;
     if site.relays() == 0 {
         return None;
     }
     let plan = Arc::try_clone(Site::plan(&site, 0)).ok()?;
-    Some((Site::name(&site, 0).len(), Site::address(&site, 0), plan))
+    let listens = match Site::host(&site, 0) {
+        Host::Address(_) => Site::listens_at(&site, 0),
+        Host::Name(_) => None,
+    };
+    Some((Site::name(&site, 0).len(), listens, plan))
 }

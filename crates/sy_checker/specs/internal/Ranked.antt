@@ -34,6 +34,19 @@ rank_at site relay None r = None
 rank_at site relay (Some is) None = None
 rank_at site relay (Some is) (Some r) = if is_rank_of relay is then rank_in site relay r else None
 
+-- In the order of a class's rows this one stands before the rank row of the relay.
+abbrev pub IsBeforeRank : ℕ → Wanted → Type 0
+IsBeforeRank relay (wanted.Class class) = Unit {0}
+IsBeforeRank relay (wanted.Reach input) = Unit {0}
+IsBeforeRank relay (wanted.Branch input) = Unit {0}
+IsBeforeRank relay (wanted.Rank of) = of < relay
+IsBeforeRank relay (wanted.Inner inner) = ⊥
+IsBeforeRank relay (wanted.Path entry archive) = ⊥
+
+abbrev pub IsBeforeRankAt : ℕ → Option Wanted → Type 0
+IsBeforeRankAt relay None = ⊥
+IsBeforeRankAt relay (Some is) = IsBeforeRank relay is
+
 -- the relay's rank is below, where its row stands at this place
 abbrev pub IsBelowAt : Site → List Wanted → List Row → ℕ → ℕ → ℕ → Type 0
 IsBelowAt site part rows relay rank place = (below : ℕ) → rank_at site relay (slice_get part place) (slice_get rows place) ≡ Some below → below < rank

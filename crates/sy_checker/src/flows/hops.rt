@@ -1,7 +1,7 @@
 //! Where the occurrences of lists lead messages of a class: to the input that a forward leads to, and of a post to all that
 //! its list leads to.
 
-ghost use Rattle.std.specs.Prelude.{◌≡◌, ◌<◌, ◌≤◌, ◌==◌, ◌&&◌, [], true, ℕ, Contains, Decides, IfOk, OnOk, Some, length};
+ghost use Rattle.std.specs.Prelude.{◌≡◌, ◌<◌, ◌≤◌, ◌==◌, ◌&&◌, ◌++◌, ◌∷◌, [], true, ℕ, Contains, Decides, IfOk, OnOk, Some, length};
 ghost use Rattle.std.specs.List.{list_any};
 ghost use Rattle.sy_site.specs.Sites.{plan_at};
 ghost use Rattle.sy_site.specs.machine.Lawful.{IsInput};
@@ -9,12 +9,14 @@ ghost use Rattle.sy_site.specs.machine.Reach.{list_of, occurrence_at};
 ghost use Rattle.sy_rules.specs.declared.lists.occurrence.Occurrence.{Occurrence as AnyOccurrence};
 ghost use Rattle.sy_checker.specs.internal.Flows.{AreSiteFlows, Does, is_used};
 ghost use Rattle.sy_checker.specs.internal.Hops as spec;
+ghost use Rattle.sy_checker.specs.internal.Marks.{AreListed};
 ghost use Rattle.sy_checker.specs.declared.flows.executed.Executed.TheVariants as executed;
 
 use crate::flows::executed::Executed;
 use crate::flows::{
     ClassFlows, Hop, ListHops, RelayHops, SiteFlows, SiteHops, is_input_list, set_at,
 };
+use crate::marks::{is_marked, mark};
 use crate::reach::inputs::{list_at, next_in};
 use std::alloc::{AllocError, Global};
 use sy_rules::Occurrence;
@@ -27,6 +29,8 @@ use sy_wire::Class;
 struct Walked {
     hops: Vec<Hop>,
     lists: Vec<u32>,
+    // of each list whether it is one of them
+    marks: Vec<bool>,
 }
 
 // Whether one of these leads to an input.
@@ -38,10 +42,22 @@ fn is_there(hops: &[Hop], to: SiteInput) -> bool
 }
 
 // Whether a list was gone through.
-fn is_walked(lists: &[u32], list: u32) -> bool
-    ensures { Decides result (Contains lists.now list) }
+fn is_walked(found: &Walked, list: u32) -> bool
+    requires listed { AreListed found.now.lists.items found.now.marks.items }
+    ensures { Decides result (Contains found.now.lists.items list) }
 {
-    lists.contains(&list)
+    is_marked(found.marks.as_slice(), list as usize)
+}
+
+// Puts a list behind those that were gone through, and marks it.
+fn push_list(lists: &mut Vec<u32>, marks: &mut Vec<bool>, list: u32) -> Result<(), AllocError>
+    requires listed { AreListed lists.old.items marks.old.items }
+    ensures items { OnOk result (lists.new.items ≡ lists.old.items ++ list ∷ []) }
+    ensures listed { OnOk result (AreListed lists.new.items marks.new.items) }
+{
+    mark(marks, list as usize)?;
+    lists.push(list)?;
+    Ok(())
 }
 
 // Puts that an occurrence leads to an input behind the others, where none of these leads there.
@@ -108,6 +124,7 @@ fn walk(
     requires used { is_used (plan_at site.now relay) list ≡ true }
     requires flows { AreSiteFlows site.now class flows.now }
     requires apart { spec.AreApart (length (plan_at site.now relay).lists) found.old.lists.items }
+    requires listed { AreListed found.old.lists.items found.old.marks.items }
     ensures grows { OnOk result (spec.WalksOn site.now class which relay found.old.hops.items found.old.lists.items
         found.new.hops.items found.new.lists.items) }
     ensures sound { (first : ℕ) → ((at : ℕ) → spec.LeadsAsWell site.now class which relay list at first number)
@@ -117,11 +134,12 @@ fn walk(
     ensures done { OnOk result (Contains found.new.lists.items list) }
     ensures apart { OnOk result (spec.AreApart (length (plan_at site.now relay).lists) found.new.lists.items) }
     ensures longer { OnOk result (length found.old.lists.items ≤ length found.new.lists.items) }
+    ensures listed { OnOk result (AreListed found.new.lists.items found.new.marks.items) }
 {
-    if is_walked(found.lists.as_slice(), list) {
+    if is_walked(found, list) {
         return Ok(());
     }
-    found.lists.push(list)?;
+    push_list(&mut found.lists, &mut found.marks, list)?;
     let set = set_at(site, class, flows, which, relay, list);
     let mut next = 0;
     while let Some(at) = next_in(set, next) {
@@ -151,6 +169,7 @@ fn follow(
         → Does site.now class which relay list at is }
     requires flows { AreSiteFlows site.now class flows.now }
     requires apart { spec.AreApart (length (plan_at site.now relay).lists) found.old.lists.items }
+    requires listed { AreListed found.old.lists.items found.old.marks.items }
     ensures grows { OnOk result (spec.WalksOn site.now class which relay found.old.hops.items found.old.lists.items
         found.new.hops.items found.new.lists.items) }
     ensures sound { (first : ℕ) → spec.LeadsAsWell site.now class which relay list at first number
@@ -161,6 +180,7 @@ fn follow(
         → OnOk result (spec.IsFollowed site.now which relay found.new.hops.items found.new.lists.items is) }
     ensures apart { OnOk result (spec.AreApart (length (plan_at site.now relay).lists) found.new.lists.items) }
     ensures longer { OnOk result (length found.old.lists.items ≤ length found.new.lists.items) }
+    ensures listed { OnOk result (AreListed found.new.lists.items found.new.marks.items) }
 {
     match occurrence_at(site, relay, list, at) {
         Some(it) => follow_one(
@@ -189,6 +209,7 @@ fn follow_one(
     requires does { Does site.now class which relay list at is }
     requires flows { AreSiteFlows site.now class flows.now }
     requires apart { spec.AreApart (length (plan_at site.now relay).lists) found.old.lists.items }
+    requires listed { AreListed found.old.lists.items found.old.marks.items }
     ensures grows { OnOk result (spec.WalksOn site.now class which relay found.old.hops.items found.old.lists.items
         found.new.hops.items found.new.lists.items) }
     ensures sound { (first : ℕ) → spec.LeadsAsWell site.now class which relay list at first number
@@ -199,6 +220,7 @@ fn follow_one(
         (spec.IsFollowed site.now which relay found.new.hops.items found.new.lists.items is) }
     ensures apart { OnOk result (spec.AreApart (length (plan_at site.now relay).lists) found.new.lists.items) }
     ensures longer { OnOk result (length found.old.lists.items ≤ length found.new.lists.items) }
+    ensures listed { OnOk result (AreListed found.new.lists.items found.new.marks.items) }
 {
     site.is_lawful();
     let _ = list;
@@ -217,10 +239,12 @@ fn follow_one(
 fn nothing_walked(alloc: Global) -> Walked
     ensures hops { result.hops.items ≡ [] }
     ensures lists { result.lists.items ≡ [] }
+    ensures listed { AreListed result.lists.items result.marks.items }
 {
     Walked {
         hops: Vec::new(alloc),
         lists: Vec::new(alloc),
+        marks: Vec::new(alloc),
     }
 }
 

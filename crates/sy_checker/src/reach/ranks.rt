@@ -1,6 +1,6 @@
 //! Ranks: whether that of a relay is above those of the relays that messages of a class reach from there.
 
-ghost use Rattle.std.specs.Prelude.{◌≡◌, ◌<◌, Contains, Decides, IfSome, Some, length, slice_get, true};
+ghost use Rattle.std.specs.Prelude.{◌≡◌, ◌<◌, ℕ, Contains, Decides, IfSome, Some, length, slice_get, true};
 ghost use Rattle.std.specs.Str.{bytes_eq};
 ghost use Rattle.sy_site.specs.machine.Lawful.{IsInput};
 ghost use Rattle.sy_checker.specs.Fit.{AreWanted, IsAbove};
@@ -8,6 +8,7 @@ ghost use Rattle.sy_site.specs.Names.{name_of};
 ghost use Rattle.sy_checker.specs.internal.Ranked as spec;
 ghost use Rattle.sy_checker.specs.internal.Hops.{AreFlows};
 ghost use Rattle.sy_checker.specs.declared.flows.Hop.{Hop as AnyHop};
+ghost use Rattle.sy_checker.specs.declared.rows.wanted.Wanted.TheVariants as wanted;
 
 use crate::flows::executed::Executed;
 use crate::flows::hops::hops_at;
@@ -90,17 +91,56 @@ fn is_below_at(
     }
 }
 
+// Whether a wanted row stands before the rank row of a relay.
+fn is_before(is: Wanted, relay: u32) -> bool
+    ensures { Decides result (spec.IsBeforeRank relay is) }
+{
+    match is {
+        Wanted::Class(_) | Wanted::Reach(_) | Wanted::Branch(_) => true,
+        Wanted::Rank(of) => of < relay,
+        Wanted::Inner(_) | Wanted::Path(_, _) => false,
+    }
+}
+
+// Whether a row is wanted at a place, and stands before the rank row of a relay.
+fn is_before_at(part: &[Wanted], place: usize, relay: u32) -> bool
+    ensures { Decides result (spec.IsBeforeRankAt relay (slice_get part.now place)) }
+{
+    match part.get(place) {
+        Some(is) => is_before(*is, relay),
+        None => false,
+    }
+}
+
+// The one place where the rank row of a relay may be wanted, found by halving: the first behind the rows that stand before
+// it.
+fn place_of(site: &Site, class: Class, part: &[Wanted], relay: u32) -> usize
+    requires wanted { AreWanted site.now class part.now }
+    ensures { (place : ℕ) → slice_get part.now place ≡ Some (wanted.Rank relay) → place ≡ result }
+{
+    let _ = site;
+    let _ = class;
+    let mut low = 0;
+    let mut high = part.len();
+    while low < high {
+        let middle = low + (high - low) / 2;
+        if is_before_at(part, middle, relay) {
+            low = middle + 1;
+        } else {
+            high = middle;
+        }
+    }
+    low
+}
+
 // Whether the rank of a relay is below a rank, where its row stands.
-fn is_below(site: &Site, part: &[Wanted], rows: &[Row], relay: u32, rank: u32) -> bool
+fn is_below(site: &Site, class: Class, part: &[Wanted], rows: &[Row], relay: u32, rank: u32) -> bool
+    requires wanted { AreWanted site.now class part.now }
     requires there { relay < length site.now.relays }
     ensures { Decides result (spec.IsBelow site.now part.now rows.now relay rank) }
 {
-    for place in 0..part.len() {
-        if !is_below_at(site, part, rows, place, relay, rank) {
-            return false;
-        }
-    }
-    true
+    let place = place_of(site, class, part, relay);
+    is_below_at(site, part, rows, place, relay, rank)
 }
 
 fn is_known(known: Option<u32>, relay: u32) -> bool
@@ -113,12 +153,14 @@ fn is_known(known: Option<u32>, relay: u32) -> bool
 // the same.
 fn is_below_known(
     site: &Site,
+    class: Class,
     part: &[Wanted],
     rows: &[Row],
     relay: u32,
     rank: u32,
     known: &mut Option<u32>,
 ) -> bool
+    requires wanted { AreWanted site.now class part.now }
     requires there { relay < length site.now.relays }
     requires known { IfSome known.old (λ relay. spec.IsBelow site.now part.now rows.now relay rank) }
     ensures below { Decides result (spec.IsBelow site.now part.now rows.now relay rank) }
@@ -128,18 +170,26 @@ fn is_below_known(
         return true;
     }
     *known = Some(relay);
-    is_below(site, part, rows, relay, rank)
+    is_below(site, class, part, rows, relay, rank)
 }
 
 // Whether all of some hops go to relays of ranks below.
-fn falls_by(site: &Site, hops: &[Hop], part: &[Wanted], rows: &[Row], rank: u32) -> bool
+fn falls_by(
+    site: &Site,
+    class: Class,
+    hops: &[Hop],
+    part: &[Wanted],
+    rows: &[Row],
+    rank: u32,
+) -> bool
+    requires wanted { AreWanted site.now class part.now }
     requires there { (hop : AnyHop) → Contains hops.now hop → hop.to.relay < length site.now.relays }
     ensures { Decides result ((hop : AnyHop) → Contains hops.now hop
         → spec.IsBelow site.now part.now rows.now hop.to.relay rank) }
 {
     let mut known = None;
     for hop in hops {
-        if !is_below_known(site, part, rows, hop.to.relay, rank, &mut known) {
+        if !is_below_known(site, class, part, rows, hop.to.relay, rank, &mut known) {
             return false;
         }
     }
@@ -156,13 +206,14 @@ fn falls_from(
     rows: &[Row],
     rank: u32,
 ) -> bool
+    requires wanted { AreWanted site.now class part.now }
     requires there { IsInput site.now from }
     requires flows { AreFlows site.now class flows.now }
     ensures { Decides result (spec.FallsFrom site.now class part.now rows.now rank from) }
 {
     site.is_lawful();
     let hops = hops_at(site, class, &flows.every, Executed::Every, from);
-    falls_by(site, hops, part, rows, rank)
+    falls_by(site, class, hops, part, rows, rank)
 }
 
 // The same of the input of a wanted row, where it is one of this relay.
@@ -176,6 +227,7 @@ fn falls_at(
     relay: u32,
     rank: u32,
 ) -> bool
+    requires wanted { AreWanted site.now class part.now }
     requires there { spec.IsInputThere site.now is }
     requires flows { AreFlows site.now class flows.now }
     ensures { Decides result (spec.FallsAt site.now class part.now rows.now relay rank is) }

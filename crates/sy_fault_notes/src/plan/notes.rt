@@ -1,6 +1,7 @@
 //! Notes of the faults of a relay's plan: a script that is read, and says nothing that a relay can do.
 
 use crate::file_line::is_same_number;
+use crate::plan::left_out::lost_without;
 use crate::plan::parameter_rows::{names_of, push_list, push_parameter, row_of};
 use crate::plan::tests::{
     push_facility, push_operator, push_severity, push_shape, push_unknown_property,
@@ -134,11 +135,16 @@ fn push_unknown_parameter(
     note.why
         .append(&[Part::Text(b" has no parameter "), Part::Text(name)]);
     let names = names_of(alloc, object)?;
+    if let Some(words) = lost_without(name) {
+        note.change.say(words);
+        return Ok(());
+    }
     match nearest(name, names.as_slice()) {
         Some(near) => note.change.append(&[Part::Text(near)]),
-        None => note.change.say(
-            "leave it out: this profile has no such parameter (docs/MIGRATING.md)",
-        ),
+        None => {
+            note.change.say("leave it out: what may stand there is ");
+            push_list(&mut note.change, names.as_slice());
+        }
     }
     Ok(())
 }

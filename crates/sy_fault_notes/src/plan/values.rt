@@ -1,5 +1,6 @@
 //! Notes of values that a parameter doesn't take.
 
+use crate::plan::left_out::lost_without_module;
 use crate::plan::notes::param_at;
 use crate::plan::parameter_rows::{append_values, push_list, push_parameter, row_of};
 use sy_places::relay_file::outline::Object;
@@ -82,13 +83,11 @@ fn push_no_number(note: &mut Note, name: &[u8], value: &[u8]) {
 // Of a module that isn't one of this profile's.
 fn push_module(note: &mut Note, value: &[u8]) {
     note.why.say(": this profile has imtcp, builtin:omfile and builtin:omfwd");
-    match value {
-        b"imudp" | b"imptcp" | b"imrelp" => note.change.say(
-            "module(load=\"imtcp\"), and senders that speak octet-counted TCP (docs/MIGRATING.md)",
+    match lost_without_module(value) {
+        Some(words) => note.change.say(words),
+        None => note.change.say(
+            "without it, what needs it isn't done here: a program behind a forward of this relay may do it, as an rsyslogd",
         ),
-        _ => note
-            .change
-            .say("leave it out, with what needs it (docs/MIGRATING.md)"),
     }
 }
 

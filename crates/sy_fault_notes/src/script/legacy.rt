@@ -1,5 +1,6 @@
 //! Lines of rsyslog's older formats, and statements that are left out: what to write instead.
 
+use crate::plan::left_out::{lost_without, lost_without_module};
 use sy_places::site_file::source::{behind, between, find, word_in};
 use sy_report::texts::note::Note;
 use sy_report::texts::parts::Part;
@@ -137,18 +138,18 @@ fn push_directive(note: &mut Note, word: &[u8], value: &[u8]) {
     } else if word.eq_ignore_ascii_case(b"$ModLoad") {
         match value {
             b"imtcp" | b"imtcp.so" => push_with(note, "module(load=\"", b"imtcp"),
-            b"imudp" | b"imudp.so" => note.change.say(
-                "module(load=\"imtcp\"), and senders that speak octet-counted TCP",
-            ),
-            _ => note.change.say(
-                "leave it out: this profile has imtcp, builtin:omfile and builtin:omfwd",
-            ),
+            _ => note.change.say(match lost_without_module(value) {
+                Some(words) => words,
+                None => "leave it out: this profile has imtcp, builtin:omfile and builtin:omfwd",
+            }),
         }
     } else if word.eq_ignore_ascii_case(b"$InputTCPServerRun") {
         push_with(note, "input(type=\"imtcp\" port=\"", value);
     } else {
-        note.change
-            .say("leave it out, or write the parameter that stands for it");
+        note.change.say(match lost_without(word) {
+            Some(words) => words,
+            None => "leave it out, or write the parameter that stands for it",
+        });
     }
 }
 

@@ -3,6 +3,7 @@
 use crate::encoding::push_encoding;
 use crate::script::legacy::{push_filter_line, push_left_out, push_selector_line, selector_line};
 use crate::script::opened::{Open, Opening, is_word_byte, open_at};
+use crate::script::slips::push_slip;
 use std::alloc::Global;
 use sy_places::site_file::source::{behind, between, find, place_of_line, point_at};
 use sy_report::texts::near::nearest;
@@ -269,6 +270,17 @@ fn push_by_code(note: &mut Note, file: &[u8], text: &[u8], place: usize, fault: 
     }
 }
 
+// Puts what stands at the place of a fault: a whole letter, where it isn't of ASCII.
+fn push_token(note: &mut Note, text: &[u8], place: usize, code: FaultCode) {
+    if matches!(code, FaultCode::TooLarge) {
+        return;
+    }
+    match behind(text, place) {
+        [0xE2, second, third, ..] => note.what.append(&[Part::Text(&[0xE2, *second, *third])]),
+        _ => push_found(&mut note.what, token_at(text, place)),
+    }
+}
+
 /// Says of a fault of a script where it stands, why it is one, and what to write.
 pub fn push_script_fault(
     alloc: Global,
@@ -292,8 +304,10 @@ pub fn push_script_fault(
             push_selector_line(note, line);
         }
         _ => {
-            if !matches!(fault.code, FaultCode::TooLarge) {
-                push_found(&mut note.what, token_at(text, place));
+            push_token(note, text, place, fault.code);
+            let may_slip = matches!(fault.code, FaultCode::Byte | FaultCode::Unexpected);
+            if may_slip && push_slip(note, text, place) {
+                return;
             }
             push_by_code(note, file.as_bytes(), text, place, fault);
         }

@@ -41,6 +41,13 @@ fn push_reason(note: &mut Note, unread: &Unread, where_it_is: &str) {
             note.change.say("the name of a file ");
             note.change.say(where_it_is);
         }
+        Reason::Irregular => {
+            note.why.say(" is no regular file");
+            note.change.say("the name of a regular file ");
+            note.change.say(where_it_is);
+            note.change
+                .say(", or --any-file, by which FIFOs and devices are read too");
+        }
         Reason::Other => {
             note.why.say(" can't be read");
             note.change.say("another file, or another disk");

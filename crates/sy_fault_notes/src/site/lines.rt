@@ -4,9 +4,10 @@ use crate::encoding::push_encoding;
 use crate::file_line::{FileLine, stands_at_word};
 use crate::plan::parameter_rows::push_list;
 use crate::plan::tests::{push_facility, push_severity, push_shape};
+use crate::site::reach::{push_outside_line, push_relay_line};
 use crate::site::spare::{push_policy_line, push_spare_line};
 use std::alloc::{AllocError, Global};
-use sy_places::site_file::source::{find, line_at, word_in};
+use sy_places::site_file::source::{line_at, word_in};
 use sy_report::texts::near::nearest;
 use sy_report::texts::note::{Note, Point};
 use sy_report::texts::parts::Part;
@@ -15,7 +16,9 @@ use sy_site::without_return;
 use sy_wire::numbers::is_numeral;
 
 /// The words that a line begins with.
-static FIRST_WORDS: [&[u8]; 5] = [b"relay", b"entry", b"protect", b"policy", b"spare"];
+static FIRST_WORDS: [&[u8]; 6] = [
+    b"relay", b"entry", b"protect", b"policy", b"spare", b"outside",
+];
 
 /// The most bytes of a site file.
 const MOST: usize = 1_048_576;
@@ -46,12 +49,6 @@ pub fn relay_names(alloc: Global, text: &[u8]) -> Result<Vec<&[u8]>, AllocError>
     Ok(names)
 }
 
-fn is_name(word: &[u8]) -> bool {
-    !word.is_empty()
-        && word.len() <= 64
-        && word.iter().all(|b| b.is_ascii_alphanumeric() || *b == b'-' || *b == b'_' || *b == b'.')
-}
-
 fn is_port(word: &[u8]) -> bool {
     word.len() <= 10 && word.first() != Some(&b'0') && is_numeral(word)
 }
@@ -70,7 +67,7 @@ pub fn words_in(line: &[u8]) -> usize {
 // Says that a line begins with no word that a line begins with.
 fn push_first_word(alloc: Global, note: &mut Note, at: FileLine<'_>, word: &[u8]) {
     stands_at_word(alloc, note, at, 0);
-    note.why.say("a line begins with relay, entry, protect, policy or spare");
+    note.why.say("a line begins with relay, entry, protect, policy, spare or outside");
     match nearest(word, &FIRST_WORDS) {
         Some(near) => note.change.append(&[Part::Text(near)]),
         None => note
@@ -85,32 +82,6 @@ pub fn push_words(alloc: Global, note: &mut Note, at: FileLine<'_>, number: usiz
     note.why.say("the words of such a line are ");
     note.why.say(shape);
     note.change.say(shape);
-}
-
-fn push_relay_line(alloc: Global, note: &mut Note, at: FileLine<'_>) {
-    let name: &[u8] = match word_in(at.line, 1) {
-        Some((_, name)) => name,
-        None => &[],
-    };
-    let count = words_in(at.line);
-    if count < 3 || count > 4 {
-        push_words(alloc, note, at, count.min(4), "relay NAME FILE [ADDRESS]");
-    } else if !is_name(name) {
-        stands_at_word(alloc, note, at, 1);
-        note.why
-            .say("a relay's name has 1 to 64 letters, digits, -, _ and .");
-        note.change.say("such a name");
-    } else if count == 4 {
-        stands_at_word(alloc, note, at, 3);
-        note.why.say(
-            "an address is four numbers of 0 to 255 without leading zeros, with dots between them",
-        );
-        note.change.say("127.0.0.1, or no address");
-    } else {
-        stands_at_word(alloc, note, at, 0);
-        note.why.say("a site has 64 relays at most, and the name of a file is UTF-8");
-        note.change.say("fewer relay lines, or another name");
-    }
 }
 
 /// Says that no relay line has the name that a line gives, where that is so, and answers whether it is.
@@ -232,6 +203,19 @@ fn push_protect_line(alloc: Global, note: &mut Note, at: FileLine<'_>) -> Result
     Ok(())
 }
 
+// Says that a comment stands behind other words of a line, where one does, and answers whether it does.
+fn push_comment(alloc: Global, note: &mut Note, at: FileLine<'_>) -> bool {
+    for number in 1..words_in(at.line) {
+        if let Some((_, [b'#', ..])) = word_in(at.line, number) {
+            stands_at_word(alloc, note, at, number);
+            note.why.say("a comment of a site file is a line of its own, which begins with #");
+            note.change.say("that comment in the line before");
+            return true;
+        }
+    }
+    false
+}
+
 /// Says of a line that is none of a site file which of its causes it is.
 pub fn push_faulty_line(
     alloc: Global,
@@ -258,6 +242,9 @@ pub fn push_faulty_line(
             return Ok(());
         }
     }
+    if push_comment(alloc, note, at) {
+        return Ok(());
+    }
     match word_in(at.line, 0) {
         Some((_, b"relay")) => {
             push_relay_line(alloc, note, at);
@@ -270,6 +257,10 @@ pub fn push_faulty_line(
             Ok(())
         }
         Some((_, b"spare")) => push_spare_line(alloc, note, at),
+        Some((_, b"outside")) => {
+            push_outside_line(alloc, note, at);
+            Ok(())
+        }
         Some((_, word)) => {
             push_first_word(alloc, note, at, word);
             Ok(())
@@ -278,21 +269,46 @@ pub fn push_faulty_line(
     }
 }
 
-// The number of the first line whose words begin like these, before another line.
-fn earlier(at: FileLine<'_>, word: &[u8], is_relay: bool) -> Option<u64> {
+// Whether two lines have the same word of a number.
+fn same_word(line: &[u8], other: &[u8], number: usize) -> bool {
+    match (word_in(line, number), word_in(other, number)) {
+        (Some((_, a)), Some((_, b))) => a == b,
+        _ => false,
+    }
+}
+
+// Whether the first word of a line is this one.
+fn begins_with(line: &[u8], word: &[u8]) -> bool {
+    matches!(word_in(line, 0), Some((_, first)) if first == word)
+}
+
+// Whether two lines may not give one name: relay lines, and a relay line and an outside line.
+fn give_names(line: &[u8], other: &[u8]) -> bool {
+    let are_relays = begins_with(line, b"relay") && begins_with(other, b"relay");
+    let is_before = begins_with(line, b"relay") && begins_with(other, b"outside");
+    are_relays || is_before || (begins_with(line, b"outside") && begins_with(other, b"relay"))
+}
+
+// Whether a line gives again what an earlier one gave.
+fn gives_again(earlier: &[u8], line: &[u8]) -> bool {
+    if give_names(earlier, line) {
+        return same_word(earlier, line, 1);
+    }
+    if begins_with(earlier, b"outside") && begins_with(line, b"outside") {
+        return same_word(earlier, line, 1) && same_word(earlier, line, 3);
+    }
+    same_words(earlier, line, identifying_words(line))
+}
+
+// The number of the first line that gives what a later one gives again.
+fn earlier(at: FileLine<'_>) -> Option<u64> {
     let mut number: u64 = 1;
     for line in at.text.split(|b| *b == b'\n') {
         let line = without_return(line);
         if number >= at.number {
             return None;
         }
-        let is_same = match word_in(line, 1) {
-            Some((_, name)) if is_relay => {
-                name == word && word_in(line, 0) == word_in(at.line, 0)
-            }
-            _ => !is_relay && same_words(line, at.line, identifying_words(at.line)),
-        };
-        if is_same {
+        if gives_again(line, at.line) {
             return Some(number);
         }
         number = number.saturating_add(1);
@@ -331,29 +347,37 @@ fn is_said_so(at: FileLine<'_>, number: Option<u64>) -> bool {
     }
 }
 
+// Whether a line gives a name that the line of a number has, or may be taken to have.
+fn gives_name(at: FileLine<'_>, number: Option<u64>) -> bool {
+    let Some(number) = number else {
+        return begins_with(at.line, b"relay");
+    };
+    match line_at(at.text, number) {
+        Some(line) => give_names(without_return(line), at.line),
+        None => false,
+    }
+}
+
 /// Says of a line that repeats another which one that is.
 pub fn push_duplicate_line(alloc: Global, note: &mut Note, at: FileLine<'_>) {
-    let is_relay = find(at.line, b"relay").is_some()
-        && matches!(word_in(at.line, 0), Some((_, b"relay")));
-    stands_at_word(alloc, note, at, if is_relay { 1 } else { 0 });
-    let word: &[u8] = match word_in(at.line, 1) {
-        Some((_, word)) => word,
-        None => &[],
-    };
-    let found = earlier(at, word, is_relay);
+    let found = earlier(at);
+    let is_name = gives_name(at, found);
+    stands_at_word(alloc, note, at, if is_name { 1 } else { 0 });
     if let Some(number) = found {
         note.why
             .append(&[Part::Text(b"line "), Part::Number(number)]);
     } else {
         note.why.say("an earlier line");
     }
-    if is_relay {
+    if is_name {
         note.why.say(" has this name");
         note.change.say("another name");
         return;
     }
     note.why.say(if is_said_so(at, found) {
         " says the same"
+    } else if begins_with(at.line, b"outside") {
+        " is of this name and port"
     } else {
         " is of this relay and port"
     });

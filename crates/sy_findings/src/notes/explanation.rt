@@ -23,7 +23,7 @@ use sy_places::ways::relay_parts::{
 use sy_report::texts::note::{Note, append_note};
 use sy_report::texts::parts::Part;
 use sy_report::texts::words::Words;
-use sy_rules::QueueParameters;
+use sy_rules::{Occurrence, QueueParameters};
 use sy_site::Site;
 use sy_site::finding::{Finding, Kind};
 
@@ -42,6 +42,7 @@ fn subject_of<'a>(
     site: &'a Site,
     places: Option<Places<'a>>,
     finding: &Finding,
+    given: Option<Occurrence>,
 ) -> Result<Option<Subject<'a>>, AllocError> {
     let Some(spot) = spot_at(site, finding.input) else {
         return Ok(None);
@@ -51,7 +52,7 @@ fn subject_of<'a>(
             thing,
             queue: number,
         },
-    ) = find_meant(alloc, site, spot, finding)?
+    ) = find_meant(alloc, site, spot, finding, given)?
     else {
         return Ok(None);
     };
@@ -185,6 +186,7 @@ fn push_finding(
     site: &Site,
     note: &mut Note,
     finding: &Finding,
+    given: Option<Occurrence>,
 ) -> Result<(), AllocError> {
     let relay = relay_meant(finding);
     let file = relay_file(alloc, texts.relay_text(relay))?;
@@ -194,7 +196,7 @@ fn push_finding(
         Some(text) => text,
         None => &[],
     };
-    match subject_of(alloc, site, places, finding)? {
+    match subject_of(alloc, site, places, finding, given)? {
         Some(subject) => {
             stands_at(alloc, note, site, relay, places, subject.thing);
             push_reason(alloc, note, site, text, subject, finding)?;
@@ -204,19 +206,31 @@ fn push_finding(
     }
 }
 
-/// The note of a finding. A loop that is found without a way is one of its input.
+/// The note of a finding by an occurrence; where none is given, by the first. A loop that is found without a way is one of
+/// its input.
+pub fn note_of_occurrence(
+    alloc: Global,
+    texts: &SiteTexts<'_>,
+    site: &Site,
+    finding: &Finding,
+    given: Option<Occurrence>,
+) -> Result<Note, AllocError> {
+    let mut note = Note::new(alloc);
+    match finding.kind {
+        Kind::Unmet(archive) => push_unmet(alloc, texts, site, &mut note, finding, archive),
+        _ => push_finding(alloc, texts, site, &mut note, finding, given),
+    }?;
+    note.finish()
+}
+
+/// The note of a finding.
 pub fn note_of_finding(
     alloc: Global,
     texts: &SiteTexts<'_>,
     site: &Site,
     finding: &Finding,
 ) -> Result<Note, AllocError> {
-    let mut note = Note::new(alloc);
-    match finding.kind {
-        Kind::Unmet(archive) => push_unmet(alloc, texts, site, &mut note, finding, archive),
-        _ => push_finding(alloc, texts, site, &mut note, finding),
-    }?;
-    note.finish()
+    note_of_occurrence(alloc, texts, site, finding, None)
 }
 
 // The classes of which the same is found at the same input, where they are several.

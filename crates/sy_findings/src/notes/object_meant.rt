@@ -100,12 +100,27 @@ fn forwarding(
     }
 }
 
-/// The object, and the queue.
+// The occurrence that a finding is of; where none is given, the first.
+fn occurrence_for(
+    alloc: Global,
+    site: &Site,
+    spot: Spot<'_>,
+    finding: &Finding,
+    given: Option<Occurrence>,
+) -> Result<Option<Occurrence>, AllocError> {
+    match given {
+        Some(occurrence) => Ok(Some(occurrence)),
+        None => occurrence_meant(alloc, site, spot, finding),
+    }
+}
+
+/// The object, and the queue, of a finding by an occurrence, where one is given.
 pub fn find_meant(
     alloc: Global,
     site: &Site,
     spot: Spot<'_>,
     finding: &Finding,
+    given: Option<Occurrence>,
 ) -> Result<Option<Meant>, AllocError> {
     match finding.kind {
         Kind::NotFull | Kind::Unmet(_) => Ok(of_input(spot, Thing::Input(finding.input.input))),
@@ -113,7 +128,7 @@ pub fn find_meant(
             Ok(of_input(spot, owner_of(spot.plan, spot.input.list)))
         }
         Kind::InnerQueue | Kind::GivesUp | Kind::NoTarget => {
-            let occurrence = occurrence_meant(alloc, site, spot, finding)?;
+            let occurrence = occurrence_for(alloc, site, spot, finding, given)?;
             Ok(executed(spot, occurrence))
         }
         Kind::Loop => forwarding(alloc, site, spot, finding),

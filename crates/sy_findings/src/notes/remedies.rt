@@ -181,6 +181,28 @@ fn append_targets(
     }
 }
 
+// Whether a target is a receiver that is no relay.
+fn is_outside(site: &Site, target: &[u8], port: u16) -> bool {
+    site.relay_named(target).is_none() && site.outside_named(target, port).is_some()
+}
+
+// Where a forward leads that leads to no input of the site.
+fn push_where(words: &mut Words, site: &Site, target: &[u8], port: u16) {
+    if is_outside(site, target, port) {
+        words.append(&[
+            Part::Text(b"it leads to the outside receiver "),
+            Part::Text(target),
+            Part::Text(b", which is no relay of the site: only a spare action may lead there"),
+        ]);
+        return;
+    }
+    words.append(&[
+        Part::Text(b"it forwards to "),
+        Part::Input(target, u64::from(port)),
+        Part::Text(b", which is no input of the site, so that no archive of the site gets it"),
+    ]);
+}
+
 /// Of a forward that leads to no input of the site.
 pub fn push_no_target(
     alloc: Global,
@@ -197,13 +219,7 @@ pub fn push_no_target(
     match &action.destination {
         Destination::Archive(_) => Ok(()),
         Destination::Forward(target, port) => {
-            note.why.append(&[
-                Part::Text(b"it forwards to "),
-                Part::Input(target.as_slice(), u64::from(*port)),
-                Part::Text(
-                    b", which is no input of the site, so that no archive of the site gets it",
-                ),
-            ]);
+            push_where(&mut note.why, site, target.as_slice(), *port);
             append_targets(
                 alloc,
                 &mut note.change,
@@ -211,7 +227,11 @@ pub fn push_no_target(
                 site_text,
                 own,
                 target.as_slice(),
-            )
+            )?;
+            if is_outside(site, target.as_slice(), *port) {
+                push_spare(note, site, own, thing);
+            }
+            Ok(())
         }
     }
 }

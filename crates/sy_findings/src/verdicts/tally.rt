@@ -1,8 +1,9 @@
-//! All that is found in a site, as a text: how much it is, and a line for each group of classes.
+//! All that is found in a site, as a text: how much it is, and a line for each instance.
 ghost use Rattle.std.specs.Prelude.{◌≡◌, ◌++◌, IfOk, OnOk};
 ghost use Rattle.sy_findings.specs.Checks as spec;
 
-use crate::verdicts::findings::push_kind;
+use crate::verdicts::findings::{push_kind, push_occurrence};
+use crate::verdicts::instances::{Instance, instances_of};
 use std::alloc::{AllocError, Global};
 use sy_checker::Group;
 use sy_report::texts::parts::{Part, append_parts, input_part};
@@ -158,78 +159,84 @@ pub fn names_of(alloc: Global, classes: &[Class]) -> Result<Vec<u8>, AllocError>
     words.finish()
 }
 
-// Puts the line of a group behind a text, which begins with these names.
-fn push_line(text: &mut Vec<u8>, site: &Site, group: &Group, names: &[u8]) -> Result<(), AllocError>
-    ensures { OnOk result (text.new.items ≡ text.old.items ++ names.now ++ spec.group_text site.now group.now) }
+// Puts the line of an instance behind a text, which begins with these names.
+fn push_line(
+    text: &mut Vec<u8>,
+    site: &Site,
+    instance: &Instance,
+    names: &[u8],
+) -> Result<(), AllocError>
+    ensures { OnOk result (text.new.items ≡ text.old.items ++ names.now ++ spec.instance_text site.now instance.now) }
 {
     text.extend_from_slice(names)?;
     let parts = [
         Part::Text(b" at "),
-        input_part(site, group.input),
+        input_part(site, instance.input),
         Part::Text(b": "),
     ];
     append_parts(text, &parts)?;
-    push_kind(text, site, group.kind)?;
+    push_kind(text, site, instance.kind)?;
+    push_occurrence(text, site, instance.input.relay, instance.occurrence)?;
     text.extend_from_slice(b"\n")
 }
 
-/// Puts the line of a group with the names of its classes behind a text.
-pub fn push_group(
+/// Puts the line of an instance with the names of its classes behind a text.
+pub fn push_instance(
     alloc: Global,
     text: &mut Vec<u8>,
     site: &Site,
-    group: &Group,
+    instance: &Instance,
 ) -> Result<(), AllocError>
-    ensures { OnOk result (spec.AppendsLine site.now group.now text.old.items text.new.items) }
+    ensures { OnOk result (spec.AppendsLine site.now instance.now text.old.items text.new.items) }
 {
-    let names = names_of(alloc, group.classes.as_slice())?;
-    push_line(text, site, group, names.as_slice())?;
+    let names = names_of(alloc, instance.classes.as_slice())?;
+    push_line(text, site, instance, names.as_slice())?;
     Ok(())
 }
 
-// A line for each group.
-fn lines_of(alloc: Global, site: &Site, groups: &[Group]) -> Result<Vec<u8>, AllocError>
-    ensures { IfOk result (λ text. spec.AreLines site.now groups.now text.items) }
+// A line for each instance.
+fn lines_of(alloc: Global, site: &Site, instances: &[Instance]) -> Result<Vec<u8>, AllocError>
+    ensures { IfOk result (λ text. spec.AreLines site.now instances.now text.items) }
 {
     let mut text = Vec::new(alloc);
-    for group in groups {
-        push_group(alloc, &mut text, site, group)?;
+    for instance in instances {
+        push_instance(alloc, &mut text, site, instance)?;
     }
     Ok(text)
 }
 
-// Whether some group names a class.
-fn is_named(groups: &[Group], facility: u8, severity: u8) -> bool {
-    groups
+// Whether some instance names a class.
+fn is_named(instances: &[Instance], facility: u8, severity: u8) -> bool {
+    instances
         .iter()
-        .any(|g| is_among(g.classes.as_slice(), facility, severity))
+        .any(|i| is_among(i.classes.as_slice(), facility, severity))
 }
 
-// How many classes of a facility are named by groups.
-fn named_of(groups: &[Group], facility: u8) -> u32 {
+// How many classes of a facility are named by instances.
+fn named_of(instances: &[Instance], facility: u8) -> u32 {
     let mut set: u8 = 0;
     for severity in 0..SEVERITIES {
-        if is_named(groups, facility, severity) {
+        if is_named(instances, facility, severity) {
             set |= 1 << severity;
         }
     }
     set.count_ones()
 }
 
-// How many classes are named by groups.
-fn named(groups: &[Group]) -> u32 {
+// How many classes are named by instances.
+fn named(instances: &[Instance]) -> u32 {
     let mut count: u32 = 0;
     for facility in 0..FACILITIES {
-        count = count.saturating_add(named_of(groups, facility));
+        count = count.saturating_add(named_of(instances, facility));
     }
     count
 }
 
 /// How much is found.
-pub fn head_of(alloc: Global, groups: &[Group]) -> Result<Vec<u8>, AllocError> {
+pub fn head_of(alloc: Global, instances: &[Instance]) -> Result<Vec<u8>, AllocError> {
     let mut words = Words::new(alloc);
-    let findings = groups.len() as u64;
-    let classes = u64::from(named(groups));
+    let findings = instances.len() as u64;
+    let classes = u64::from(named(instances));
     words.append(&[
         Part::Text(b"refused: "),
         Part::Number(findings),
@@ -241,12 +248,22 @@ pub fn head_of(alloc: Global, groups: &[Group]) -> Result<Vec<u8>, AllocError> {
     words.finish()
 }
 
-/// How much is found, and a line for each group: its classes, with the input and the kind.
+// How much is found, and a line for each instance.
+fn tally_of(alloc: Global, site: &Site, instances: &[Instance]) -> Result<Vec<u8>, AllocError>
+    ensures { IfOk result (λ text. spec.AreTold site.now instances.now text.items) }
+{
+    let mut text = head_of(alloc, instances)?;
+    let lines = lines_of(alloc, site, instances)?;
+    text.extend_from_slice(lines.as_slice())?;
+    Ok(text)
+}
+
+/// How much is found, and a line for each instance of each group: its classes, with the input, the kind and the occurrence.
 pub fn tally(alloc: Global, site: &Site, groups: &[Group]) -> Result<Vec<u8>, AllocError>
     ensures { IfOk result (λ text. spec.IsTally site.now groups.now text.items) }
 {
-    let mut text = head_of(alloc, groups)?;
-    let lines = lines_of(alloc, site, groups)?;
-    text.extend_from_slice(lines.as_slice())?;
-    Ok(text)
+    match instances_of(alloc, site, groups) {
+        Ok(instances) => tally_of(alloc, site, instances.as_slice()),
+        Err(why) => Err(why),
+    }
 }

@@ -31,8 +31,8 @@ fn parts_of<'a>(looked: Looked<'a>, what: What<'a>) -> [Part<'a>; 2] {
     }
 }
 
-// A note of an object or a statement.
-fn note_of(alloc: Global, looked: Looked<'_>, item: Item<'_>) -> Note {
+/// A note of an object or a statement.
+pub fn note_of(alloc: Global, looked: Looked<'_>, item: Item<'_>) -> Note {
     let mut note = Note::new(alloc);
     let point = point_at(looked.text, item.place);
     note.stands_at(alloc, looked.file.as_bytes(), Some(point));
@@ -217,8 +217,8 @@ fn point_of_action(looked: Looked<'_>, action: u32) -> Option<Point> {
     None
 }
 
-// Puts an action by its name and where it stands.
-fn push_action(note: &mut Note, looked: Looked<'_>, action: u32) {
+/// Puts an action by its name and where it stands.
+pub fn push_action(note: &mut Note, looked: Looked<'_>, action: u32) {
     note.why.append(&[action_part(looked.plan, action)]);
     if let Some(point) = point_of_action(looked, action) {
         note.why.append(&[

@@ -4,6 +4,7 @@ use crate::warnings::cautions::{
     after_stop, mark_above_size, no_effect, no_post, no_queue, outside_input, same_file,
     uncalled_ruleset, unreached_action, unread_in_archive,
 };
+use crate::warnings::holdups::warn_of_holders;
 use crate::warnings::{Caution, Looked, Warnings};
 use sy_places::relay_file::contents::{Item, What};
 use sy_places::ways::relay_parts::{name_of_list, occurrences_of, queue_for};
@@ -333,7 +334,10 @@ pub fn warn_of_item(warnings: &mut Warnings, looked: Looked<'_>, item: Item<'_>)
             warn_of_outside(warnings, looked, item, number);
             warn_of_unread(warnings, looked, item, number);
         }
-        What::Action(number) => warn_of_action(warnings, looked, item, number),
+        What::Action(number) => {
+            warn_of_action(warnings, looked, item, number);
+            warn_of_holders(warnings, looked, item, number);
+        }
         What::Call(_) => {
             if let Some(stop) = item.stop {
                 warn_behind_stop(warnings, looked, item, stop);

@@ -4,9 +4,9 @@ ghost use Rattle.std.specs.Prelude.{◌≡◌, ◌≢◌, ◌<◌, length, IfErr
 use crate::devices::link_writer::{LinkWriter, end, is_open};
 use std::alloc::{AllocError, Global};
 use std::io;
-use std::net::{SocketAddr, TcpStream};
+use std::net::{SocketAddr, TcpStream, ToSocketAddrs};
 use std::sync::Arc;
-use std::sync::atomic::AtomicBool;
+use std::sync::atomic::{AtomicBool, Ordering};
 use std::time::Duration;
 use sy_actions::{Device, DeviceFault, FrameSink};
 use sy_log::log::ActionLog;
@@ -16,8 +16,19 @@ use sy_wire::Message;
 /// In how many milliseconds a link has to come about.
 const CONNECT_WAIT: u64 = 2000;
 
+/// How many addresses of a name are tried.
+const MOST_ADDRESSES: usize = 4;
+
 /// How many milliseconds a write waits before it is looked at whether it is still of use.
 const WRITE_WAIT: u64 = 1000;
+
+/// The far end of a link.
+#[derive(Drop)]
+pub enum Far {
+    Address(SocketAddr),
+    /// A host by its name, which is resolved at each connect, and its port.
+    Name(String, u16),
+}
 
 // A link that is there.
 struct Connected {
@@ -42,7 +53,7 @@ impl Drop for Connected {
 pub struct Link {
     rt: HostRuntime,
     alloc: Global,
-    address: SocketAddr,
+    far: Far,
     is_ending: Arc<AtomicBool>,
     log: ActionLog,
     link: Option<Connected>,
@@ -54,6 +65,46 @@ fn stream_to(rt: &HostRuntime, address: &SocketAddr) -> io::Result<TcpStream> {
     stream.set_write_timeout(Some(Duration::from_millis(WRITE_WAIT)))?;
     stream.set_nodelay(true)?;
     Ok(stream)
+}
+
+// A stream to a host of that name, which is resolved: to the first of a few of its addresses to which one comes about, or why there is none to
+// the last that was tried.
+fn stream_to_name(
+    rt: &HostRuntime,
+    name: &str,
+    port: u16,
+    is_ending: &AtomicBool,
+) -> Result<TcpStream, Reason> {
+    let Ok(addresses) = (name, port).to_socket_addrs(rt) else {
+        return Err(Reason::NoName);
+    };
+    let mut last = Reason::NoName;
+    let mut left = MOST_ADDRESSES;
+    for address in addresses {
+        if left == 0 {
+            return Err(last);
+        }
+        if is_ending.load(Ordering::SeqCst) {
+            return Err(Reason::Ending);
+        }
+        left -= 1;
+        match stream_to(rt, &address) {
+            Ok(stream) => return Ok(stream),
+            Err(error) => last = Reason::of(&error),
+        }
+    }
+    Err(last)
+}
+
+// A stream to the far end.
+fn stream_to_far(rt: &HostRuntime, far: &Far, is_ending: &AtomicBool) -> Result<TcpStream, Reason> {
+    match far {
+        Far::Address(address) => match stream_to(rt, address) {
+            Ok(stream) => Ok(stream),
+            Err(error) => Err(Reason::of(&error)),
+        },
+        Far::Name(name, port) => stream_to_name(rt, name.as_str(), *port, is_ending),
+    }
 }
 
 // A link of this stream.
@@ -72,18 +123,15 @@ fn link_of(
     Ok(Connected { stream, sink })
 }
 
-// A new link to that address, or why there is none.
+// A new link to the far end, or why there is none.
 fn connect(
     rt: &HostRuntime,
     alloc: Global,
-    address: &SocketAddr,
+    far: &Far,
     is_ending: &Arc<AtomicBool>,
     log: &ActionLog,
 ) -> Result<Connected, Reason> {
-    let stream = match stream_to(rt, address) {
-        Ok(stream) => stream,
-        Err(error) => return Err(Reason::of(&error)),
-    };
+    let stream = stream_to_far(rt, far, is_ending)?;
     match link_of(alloc, stream, is_ending, log) {
         Ok(link) => Ok(link),
         Err(_) => Err(Reason::NoMemory),
@@ -91,18 +139,18 @@ fn connect(
 }
 
 impl Link {
-    /// A link to this address, which isn't connected yet. Once the flag is set, none of its writes waits.
+    /// A link to this far end, which isn't connected yet. Once the flag is set, none of its writes waits.
     pub fn new(
         rt: HostRuntime,
         alloc: Global,
-        address: SocketAddr,
+        far: Far,
         is_ending: Arc<AtomicBool>,
         log: ActionLog,
     ) -> Link {
         Link {
             rt,
             alloc,
-            address,
+            far,
             is_ending,
             log,
             link: None,
@@ -117,13 +165,7 @@ impl Link {
             }
         }
         if self.link.is_none() {
-            match connect(
-                &self.rt,
-                self.alloc,
-                &self.address,
-                &self.is_ending,
-                &self.log,
-            ) {
+            match connect(&self.rt, self.alloc, &self.far, &self.is_ending, &self.log) {
                 Ok(link) => self.link = Some(link),
                 Err(reason) => self.log.because(reason),
             }

@@ -2,15 +2,15 @@
 
 use crate::devices::archive::Archive;
 use crate::devices::host_device::Taker;
-use crate::devices::link::Link;
-use crate::devices::outlets::Outlet;
-use crate::listening::socket_address;
+use crate::devices::link::{Far, Link};
 use crate::rotation::reopens::Reopens;
 use std::alloc::Global;
 use std::net::SocketAddr;
 use std::str;
 use std::sync::Arc;
 use std::sync::atomic::AtomicBool;
+use sy_endpoints::hosts::Peer;
+use sy_endpoints::outlets::{Outlet, connection};
 use sy_log::log::ActionLog;
 
 /// What devices look at.
@@ -61,15 +61,29 @@ fn archive(
     }
 }
 
+// The far end of a link to that host and port; none where there is no memory for a name.
+fn far(alloc: Global, peer: Peer<'_>, port: u16) -> Option<Far> {
+    match peer {
+        Peer::Address(address) => Some(Far::Address(SocketAddr::new(address, port))),
+        Peer::Name(name) => {
+            let name = String::from_str(alloc, str::from_utf8(name).ok()?).ok()?;
+            Some(Far::Name(name, port))
+        }
+    }
+}
+
 fn link(
     rt: HostRuntime,
     alloc: Global,
-    address: SocketAddr,
+    (peer, port): (Peer<'_>, u16),
     is_ending: &Arc<AtomicBool>,
     log: ActionLog,
 ) -> Result<Taker, OpenFault> {
+    let Some(far) = far(alloc, peer, port) else {
+        return Err(OpenFault::NoMemory);
+    };
     match Arc::try_clone(is_ending) {
-        Ok(is_ending) => Ok(Taker::Link(Link::new(rt, alloc, address, is_ending, log))),
+        Ok(is_ending) => Ok(Taker::Link(Link::new(rt, alloc, far, is_ending, log))),
         Err(_) => Err(OpenFault::NoMemory),
     }
 }
@@ -83,12 +97,11 @@ pub fn taker(
     signals: &Signals,
     log: ActionLog,
 ) -> Result<Taker, OpenFault> {
-    match outlet {
-        Outlet::File(name) => archive(rt, alloc, name, &signals.reopens, log),
-        Outlet::Forward { address, port } => {
-            let address = socket_address(address, port);
-            link(rt, alloc, address, &signals.is_ending, log)
-        }
-        Outlet::Nowhere => Ok(Taker::Nothing),
+    if let Outlet::File(name) = outlet {
+        return archive(rt, alloc, name, &signals.reopens, log);
+    }
+    match connection(outlet) {
+        Some(to) => link(rt, alloc, to, &signals.is_ending, log),
+        None => Ok(Taker::Nothing),
     }
 }

@@ -148,6 +148,6 @@ pub(crate) fn sum_up<R: Wait, E: Sink + Drop>(
 ) -> Option<VecDeque<VecDeque<Untaken>>> {
     let rests = serving.take_rests(rt, alloc);
     let sorted = sort(alloc, inputs.len(), rests).ok()?;
-    report_unfinished(rt, alloc, serving, inputs, sorted.counted.as_slice());
+    report_unfinished(rt, alloc, serving, inputs, &sorted);
     Some(sorted.untaken)
 }

@@ -7,6 +7,7 @@ ghost use Rattle.sy_host.specs.Totals as spec;
 use std::alloc::{AllocError, Global};
 use sy_board::{Accounts, ActionCounts};
 use sy_report::texts::parts::{Part, append_parts};
+use sy_report::texts::printed::append_printed;
 use sy_report::writing::output::send;
 use sy_rules::Action;
 use sy_runtime::ConnEnd;
@@ -129,7 +130,7 @@ fn append_line(
     ensures { OnOk result (text.new.items
         ≡ text.old.items ++ spec.line_with name.now due counts.done counts.given_up counts.left) }
 {
-    text.extend_from_slice(name)?;
+    append_printed(text, name)?;
     append_counts(text, due, counts)
 }
 

@@ -1,9 +1,10 @@
 //! The lines of what connections had sent and the relay didn't take when it stopped.
 
-use crate::ending::remaining::Counted;
+use crate::ending::remaining::{Counted, Sorted, Unkept};
 use crate::listening::serving::Serving;
 use std::alloc::{AllocError, Global};
 use std::sync::Wait;
+use sy_log::lines::append_first;
 use sy_report::texts::parts::{Part, append_parts};
 use sy_rules::Input;
 use sy_wire::Sink;
@@ -40,6 +41,31 @@ fn unread_line(alloc: Global, port: u16, counted: Counted) -> Result<Vec<u8>, Al
     Ok(line)
 }
 
+// What a connection of an input had sent that couldn't be kept.
+fn unkept_line(alloc: Global, port: u16, unkept: &Unkept) -> Result<Vec<u8>, AllocError> {
+    let peer = unkept.peer.to_string(alloc)?;
+    let mut line = Vec::new(alloc);
+    let parts = [
+        Part::Text(b"syc: input "),
+        Part::Number(u64::from(port)),
+        Part::Text(b" peer "),
+        Part::Text(peer.as_str().as_bytes()),
+        Part::Text(b" not kept at the stop: "),
+    ];
+    append_parts(&mut line, &parts)?;
+    append_first(&mut line, unkept.first)?;
+    if let Some(length) = unkept.length {
+        let parts = [
+            Part::Text(b", "),
+            Part::Number(length),
+            Part::Text(b" bytes"),
+        ];
+        append_parts(&mut line, &parts)?;
+    }
+    line.extend_from_slice(b"\n")?;
+    Ok(line)
+}
+
 fn report<R: Wait, E: Sink + Drop>(
     rt: &R,
     serving: &Serving<E>,
@@ -57,9 +83,14 @@ pub fn report_unfinished<R: Wait, E: Sink + Drop>(
     alloc: Global,
     serving: &Serving<E>,
     inputs: &[Input],
-    counted: &[Counted],
+    sorted: &Sorted,
 ) {
-    for (input, counted) in inputs.iter().zip(counted) {
+    for (number, unkept) in &sorted.unkept {
+        if let Some(input) = inputs.get(*number as usize) {
+            report(rt, serving, unkept_line(alloc, input.port, unkept));
+        }
+    }
+    for (input, counted) in inputs.iter().zip(&sorted.counted) {
         if counted.frames > 0 || counted.parts > 0 {
             report(rt, serving, untaken_line(alloc, input.port, *counted));
         }

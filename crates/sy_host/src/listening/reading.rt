@@ -1,6 +1,6 @@
 //! A connection that is read to its end, and what it leaves.
 
-use crate::ending::remaining::{Rest, count_unread};
+use crate::ending::remaining::{Rest, Unkept, count_unread};
 use crate::listening::connector::Connector;
 use crate::listening::serving::Port;
 use crate::listening::unread_frames::{Coming, LongFrames, UnreadFrames};
@@ -12,13 +12,20 @@ use sy_runtime::{ConnEnd, Finish, RunFault, Untaken};
 use sy_unread::skipping::Skipping;
 use sy_wire::{FrameFault, FromRead, Sink};
 
+/// What a connection had read and not taken when it ended.
+#[derive(Drop)]
+pub(crate) struct Leaving {
+    untaken: Untaken,
+    // how many bytes it had read beside those, and what they begin with that couldn't be kept
+    held: u64,
+    unkept: Option<Unkept>,
+}
+
 /// How a connection ended.
 #[derive(Drop)]
 pub(crate) struct Ending {
     pub(crate) end: ConnEnd,
-    pub(crate) untaken: Untaken,
-    // how many bytes it had read beside those
-    pub(crate) held: u64,
+    pub(crate) leaving: Leaving,
     pub(crate) answer: Result<Finish, RunFault>,
 }
 
@@ -27,22 +34,29 @@ impl Ending {
     fn new((end, untaken, answer): (ConnEnd, Untaken, Result<Finish, RunFault>)) -> Ending {
         Ending {
             end,
-            untaken,
-            held: 0,
+            leaving: Leaving {
+                untaken,
+                held: 0,
+                unkept: None,
+            },
             answer,
         }
     }
 }
 
-/// What a connection leaves that ended so, where the relay ended it; it had read so many bytes more.
+/// What a connection of an input leaves that ended so, where the relay ended it.
 pub(crate) fn rest_of(
     alloc: Global,
     input: u32,
-    untaken: Untaken,
-    held: u64,
+    leaving: Leaving,
     answer: Result<Finish, RunFault>,
     stream: &TcpStream,
 ) -> Option<Rest> {
+    let Leaving {
+        untaken,
+        held,
+        unkept,
+    } = leaving;
     let unread = match answer {
         Ok(Finish::Closed) => count_unread(alloc, stream).saturating_add(held),
         // (nothing was read of one that got no hand, of which there may be any number)
@@ -54,6 +68,7 @@ pub(crate) fn rest_of(
         input,
         untaken,
         unread,
+        unkept,
     })
 }
 
@@ -89,14 +104,19 @@ pub(crate) fn read_all<R: Wait + Clock, C: Connector, E: Sink + Drop>(
     if reader.is_within_long() && matches!(answer, Ok(Finish::Ended)) {
         answer = Err(RunFault::Frame(FrameFault::Truncated));
     }
-    if coming.is_refused() {
+    let unkept = coming.unkept();
+    if unkept.is_some() {
         answer = Ok(Finish::Closed);
     }
     let held = reader.held().len() as u64;
-    Ending {
-        end,
+    let leaving = Leaving {
         untaken,
         held,
+        unkept,
+    };
+    Ending {
+        end,
+        leaving,
         answer,
     }
 }

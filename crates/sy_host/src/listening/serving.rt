@@ -14,7 +14,7 @@ use std::sync::{Arc, Condvar, CondvarTimeouts, Mutex, Wait};
 use std::time::{Clock, Duration};
 use sy_log::at_port::append_at_port;
 use sy_log::log::Log;
-use sy_log::peers::PeerEnd;
+use sy_log::peers::{FirstUnread, PeerEnd};
 use sy_log::printer::Printer;
 use sy_log::printing::Printing;
 use sy_report::texts::parts::{Part, append_parts};
@@ -296,12 +296,18 @@ pub struct Connection<C: Drop, E: Drop> {
     pub ended: Arc<EndedThreads>,
 }
 
-// How a connection ended.
-fn noted_end(peer: SocketAddr, end: &ConnEnd, answer: Result<Finish, RunFault>) -> PeerEnd {
+// How a connection ended that counted so many frames without a message, of which that was the first.
+fn noted_end(
+    peer: SocketAddr,
+    unread: u64,
+    first: Option<FirstUnread>,
+    answer: Result<Finish, RunFault>,
+) -> PeerEnd {
+    let first = if unread > 0 { first } else { None };
     PeerEnd {
         peer,
-        unread: end.unread(),
-        first: end.first_unread(),
+        unread,
+        first,
         fault: answer.err(),
     }
 }
@@ -326,13 +332,12 @@ pub fn serve_connection<R: Wait + Clock + Drop, C: Connector, E: Sink + Drop>(
     let coming = Coming::new(&*serving, at, peer);
     let Ending {
         end,
-        untaken,
-        held,
+        leaving,
         answer,
     } = read_all(&rt, alloc, &*relay, at, &stream, &coming);
     serving.watch().connection_ended(at.input);
-    let rest = rest_of(alloc, at.input, untaken, held, answer, &stream);
-    let noted = noted_end(peer, &end, answer);
+    let rest = rest_of(alloc, at.input, leaving, answer, &stream);
+    let noted = noted_end(peer, end.unread(), coming.first(), answer);
     serving.end(&rt, at.input, place, end, rest, noted);
     ended.push(&rt, thread);
 }

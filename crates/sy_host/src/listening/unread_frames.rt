@@ -1,15 +1,17 @@
 //! What a connection sends that is no message.
 
+use crate::ending::remaining::Unkept;
 use crate::listening::connector::Connector;
 use crate::listening::serving::{Port, Serving};
 use crate::listening::unread_file::UnreadFrame;
+use std::cell::Cell;
 use std::net::SocketAddr;
 use std::sync::Wait;
 use std::sync::atomic::{AtomicBool, AtomicU64, Ordering};
 use std::time::Clock;
-use sy_log::peers::{NoMessage, Sending};
+use sy_log::peers::{FirstUnread, NoMessage, Sending};
 use sy_runtime::{NotKept, Unread, UnreadSink};
-use sy_unread::Hint;
+use sy_unread::Unframed;
 use sy_unread::skipping::{self, LongSink};
 use sy_wire::Sink;
 
@@ -23,8 +25,10 @@ pub struct Coming<'a, E: Drop> {
     long: AtomicU64,
     // whether the relay couldn't count one of these
     is_full: AtomicBool,
-    // whether one of them, or bytes that begin none, couldn't be kept until the relay ended
-    is_refused: AtomicBool,
+    // one of them, or bytes that begin none, that couldn't be kept until the relay ended
+    unkept: Cell<Option<Unkept>>,
+    // the first of its frames that carried no message, which was kept or dropped
+    first: Cell<Option<FirstUnread>>,
     // whether it was told that it sends what is no message
     is_reported: AtomicBool,
 }
@@ -38,7 +42,8 @@ impl<'a, E: Sink + Drop> Coming<'a, E> {
             peer,
             long: AtomicU64::new(0),
             is_full: AtomicBool::new(false),
-            is_refused: AtomicBool::new(false),
+            unkept: Cell::new(None),
+            first: Cell::new(None),
             is_reported: AtomicBool::new(false),
         }
     }
@@ -58,9 +63,14 @@ impl<'a, E: Sink + Drop> Coming<'a, E> {
         self.is_full.load(Ordering::SeqCst)
     }
 
-    /// Whether the relay ended before one of these, or bytes that begin none, could be kept.
-    pub fn is_refused(&self) -> bool {
-        self.is_refused.load(Ordering::SeqCst)
+    /// One of these, or bytes that begin none, where the relay ended before they could be kept.
+    pub fn unkept(&self) -> Option<Unkept> {
+        self.unkept.get()
+    }
+
+    /// The first of its frames that carried no message, where there was one.
+    pub fn first(&self) -> Option<FirstUnread> {
+        self.first.get()
     }
 
     // Keeps what it sent in its input's unread file, if there is one, and has the first of it told.
@@ -68,11 +78,17 @@ impl<'a, E: Sink + Drop> Coming<'a, E> {
         if let Some(file) = self.serving.unread_of(self.at.input) {
             file.keep(rt, frame)?;
         }
+        let first = FirstUnread {
+            what: frame.what,
+            frame: frame.frame,
+        };
+        if self.first.get().is_none() && !matches!(frame.what, NoMessage::Unframed(_)) {
+            self.first.set(Some(first));
+        }
         if !self.is_reported.swap(true, Ordering::SeqCst) {
             let sending = Sending {
                 peer: self.peer,
-                what: frame.what,
-                frame: frame.frame,
+                first,
             };
             self.serving
                 .log()
@@ -115,23 +131,28 @@ impl<R: Wait + Clock, C: Connector, E: Sink + Drop> LongFrames<'_, R, C, E> {
     // Keeps the first bytes of one, of which this is wrong.
     fn keep(
         &self,
+        frame: u64,
         what: NoMessage,
         length: Option<u64>,
         text: &[u8],
     ) -> Result<(), skipping::NotKept> {
         let coming = self.coming;
-        let frame = UnreadFrame {
+        let unread = UnreadFrame {
             port: coming.at.port,
             peer: coming.peer,
-            frame: 0,
+            frame,
             what,
             length,
             text,
         };
-        match coming.keep(self.rt, &frame) {
+        match coming.keep(self.rt, &unread) {
             Ok(()) => Ok(()),
             Err(NotKept) => {
-                coming.is_refused.store(true, Ordering::SeqCst);
+                coming.unkept.set(Some(Unkept {
+                    peer: coming.peer,
+                    first: FirstUnread { what, frame },
+                    length,
+                }));
                 Err(skipping::NotKept)
             }
         }
@@ -139,8 +160,8 @@ impl<R: Wait + Clock, C: Connector, E: Sink + Drop> LongFrames<'_, R, C, E> {
 }
 
 impl<R: Wait + Clock, C: Connector, E: Sink + Drop> LongSink for LongFrames<'_, R, C, E> {
-    fn keep_long(&mut self, length: u64, text: &[u8]) -> Result<(), skipping::NotKept> {
-        self.keep(NoMessage::Long, Some(length), text)?;
+    fn keep_long(&mut self, frame: u64, length: u64, text: &[u8]) -> Result<(), skipping::NotKept> {
+        self.keep(frame, NoMessage::Long, Some(length), text)?;
         let coming = self.coming;
         let _ = coming.long.fetch_add(1, Ordering::SeqCst);
         match self.relay.count_unread(self.rt, coming.at.input, 1) {
@@ -152,7 +173,8 @@ impl<R: Wait + Clock, C: Connector, E: Sink + Drop> LongSink for LongFrames<'_, 
         }
     }
 
-    fn keep_unframed(&mut self, text: &[u8]) -> Result<(), skipping::NotKept> {
-        self.keep(NoMessage::Unframed(Hint::of(text)), None, text)
+    fn keep_unframed(&mut self, frame: u64, text: &[u8]) -> Result<(), skipping::NotKept> {
+        let what = NoMessage::Unframed(Unframed::of(text));
+        self.keep(frame, what, None, text)
     }
 }

@@ -57,8 +57,8 @@ fn say_notice(
     Ok(())
 }
 
-/// A line about the file of an archive, of the action of this name (`action audit`). Control characters of the path stand
-/// there as `\x0a`.
+/// A line about the file of an archive, of the action of this name (`action audit`). Names stand there as they are
+/// printed.
 pub fn notice_line(
     alloc: Global,
     action: &[u8],
@@ -67,7 +67,7 @@ pub fn notice_line(
 ) -> Result<Vec<u8>, AllocError> {
     let mut words = Words::new(alloc);
     words.say("syc: ");
-    words.append(&[Part::Text(action)]);
+    words.append(&[Part::Name(action)]);
     say_notice(alloc, &mut words, path, notice)?;
     words.say("\n");
     words.finish()

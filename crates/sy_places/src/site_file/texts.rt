@@ -5,7 +5,7 @@
 use crate::relay_file::places::{file_name_in, is_relay_line};
 use crate::site_file::source::text_of;
 use std::alloc::{AllocError, Global};
-use sy_report::reading::files::{Files, Reason};
+use sy_report::reading::files::{FileFault, Files, Reason, is_standard_input};
 use sy_script::tree::Script;
 use sy_script::{FaultCode, read_script};
 use sy_site::without_return;
@@ -263,14 +263,26 @@ pub fn read_rest<F: Files>(
     }
 }
 
-/// Reads the file beside a site's, or notes why it can't be read.
+// The bytes of the file beside a site's, where it can be read.
+fn second_of<F: Files>(files: &F, name: &str) -> Result<Option<Vec<u8>>, AllocError> {
+    match files.read_beside(name) {
+        Ok(bytes) => Ok(Some(bytes)),
+        Err(FileFault::Read) => Ok(None),
+        Err(FileFault::NoMemory) => Err(AllocError),
+    }
+}
+
+/// Reads the file beside a site's anew, or notes why it can't be read. Standard input can't be read twice.
 pub fn read_second<'a, F: Files>(
     alloc: Global,
     files: &F,
     texts: &mut SiteTexts<'a>,
     name: &'a str,
 ) -> Result<(), AllocError> {
-    let text = text_of(files, name)?;
+    if is_standard_input(name) {
+        return Ok(());
+    }
+    let text = second_of(files, name)?;
     if text.is_none() {
         note_unread(alloc, files, name, &mut texts.unread)?;
     }

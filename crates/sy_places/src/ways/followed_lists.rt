@@ -16,13 +16,31 @@ pub struct Followed {
     pub from: usize,
 }
 
-fn is_there(lists: &[Followed], list: u32) -> bool {
-    lists.iter().any(|it| it.list == list)
+// Marks a list as met, and answers whether it is for the first time.
+fn is_new(met: &mut [bool], list: u32) -> bool {
+    match met.get_mut(list as usize) {
+        Some(mark) => {
+            let is_new = !*mark;
+            *mark = true;
+            is_new
+        }
+        None => false,
+    }
+}
+
+// Of each list of a plan that it isn't met yet.
+fn none_met(alloc: Global, plan: &Plan) -> Result<Vec<bool>, AllocError> {
+    let mut met = Vec::new(alloc);
+    for _ in plan.list_names() {
+        met.push(false)?;
+    }
+    Ok(met)
 }
 
 // Puts the lists that the one at a place posts to behind the others, those left out that are there.
 fn append_posted(
     lists: &mut Vec<Followed>,
+    met: &mut [bool],
     site: &Site,
     relay: u32,
     plan: &Plan,
@@ -34,7 +52,7 @@ fn append_posted(
     for occurrence in occurrences_of(plan, list) {
         if let Occurrence::Post(inner) = occurrence {
             let asked = left % 2 == 1 && !is_spare(site, relay, plan, *occurrence);
-            if asked && !is_there(lists.as_slice(), *inner) {
+            if asked && is_new(met, *inner) {
                 lists.push(Followed { list: *inner, from })?;
             }
         }
@@ -54,12 +72,23 @@ pub fn lists_followed(
     class: Class,
 ) -> Result<Vec<Followed>, AllocError> {
     let mut lists = Vec::new(alloc);
+    let mut met = none_met(alloc, plan)?;
+    is_new(met.as_mut_slice(), list);
     lists.push(Followed { list, from: 0 })?;
     for next in 0..LISTS {
         let Some(here) = lists.get(next).copied() else {
             return Ok(lists);
         };
-        append_posted(&mut lists, site, relay, plan, class, next, here.list)?;
+        append_posted(
+            &mut lists,
+            met.as_mut_slice(),
+            site,
+            relay,
+            plan,
+            class,
+            next,
+            here.list,
+        )?;
     }
     Ok(lists)
 }

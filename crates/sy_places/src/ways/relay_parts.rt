@@ -183,8 +183,8 @@ pub fn is_spare(site: &Site, relay: u32, plan: &Plan, occurrence: Occurrence) ->
     }
 }
 
-// Whether a finding is about an occurrence. None is about a spare one.
-fn is_about(site: &Site, plan: &Plan, finding: &Finding, occurrence: Occurrence) -> bool {
+/// Whether a finding is about an occurrence of a list that messages of its class follow. None is about a spare one.
+pub fn is_about(site: &Site, plan: &Plan, finding: &Finding, occurrence: Occurrence) -> bool {
     let relay = finding.input.relay;
     if is_spare(site, relay, plan, occurrence) {
         return false;

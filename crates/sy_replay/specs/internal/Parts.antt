@@ -1,6 +1,7 @@
 -- What the steps of a replay make of a relay's part.
 use Rattle.std.specs.Prelude.{◌≡◌, ℕ, List, [], ◌∷◌, ◌++◌, map, slice_set}
-use Rattle.std.specs.Global.{Vec}
+use Rattle.std.specs.Global.{Global}
+use Rattle.std_alloc.specs.declared.vec.deque.VecDeque.{VecDeque}
 use Rattle.sy_wire.specs.Messages.{Said}
 use Rattle.sy_chain.specs.Entries.{Entry}
 use Rattle.sy_board.specs.relay.Boards.{BoardState}
@@ -23,8 +24,12 @@ lost_by relay [] = []
 lost_by relay (Out.Passed action e ∷ outs) = lost_by relay outs
 lost_by relay (Out.Lost cause e ∷ outs) = record { copy = e.tag; relay = relay; list = e.list; cause = cause } ∷ lost_by relay outs
 
-abbrev pub items_of : List (Vec ℕ) → List (List ℕ)
-items_of vecs = map (λ (v : Vec ℕ). v.items) vecs
+-- copies by number, in a queue
+abbrev pub Tags : Type 0
+Tags = VecDeque ℕ Global
+
+abbrev pub items_of : List Tags → List (List ℕ)
+items_of queues = map (λ (q : Tags). q.items) queues
 
 -- The relay of this number makes the step: its links and files, and the losses, are longer by what it lets out.
 pub record Makes (relay : ℕ) (old : PartState) (before : List Loss) (event : Event) (new : PartState) (after : List Loss) : Type 0 where

@@ -14,6 +14,7 @@ ghost use Rattle.sy_replay.specs.internal.Parts.{Makes, items_of, part};
 
 use crate::event::{Cause, Illegal, Loss};
 use crate::making::{Run, failure_of, has_worker, illegal_of, receipt_of, run_of};
+use std::collections::VecDeque;
 use sy_board::{Board, Retry};
 use sy_rules::laws::plans_are_whole;
 
@@ -88,7 +89,12 @@ fn fail_last(board: &mut Board, worker: u32, run: Run) -> Result<(), Illegal>
 }
 
 // Done, whose copy comes to the end of what the device took.
-fn settle_into(board: &mut Board, tags: &mut Vec<u64>, worker: u32, run: Run) -> Result<(), Illegal>
+fn settle_into(
+    board: &mut Board,
+    tags: &mut VecDeque<u64>,
+    worker: u32,
+    run: Run,
+) -> Result<(), Illegal>
     requires there { worker < length board.old.plan.workers }
     requires job { IsRunJob board.old worker run.action run.followed (arc_value run.message) run.tag }
     ensures ok { OnOk result (Comes Answer.Done true board.old tags.old.items worker run.action run.followed run.tag
@@ -103,14 +109,14 @@ fn settle_into(board: &mut Board, tags: &mut Vec<u64>, worker: u32, run: Run) ->
     if let Err(why) = settle(board, worker, run) {
         return Err(why);
     }
-    tags.push_reserved(tag);
+    tags.push_back_reserved(tag);
     Ok(())
 }
 
 // Fail, whose copy comes to the end of what the device took where it took it all the same.
 fn fail_into(
     board: &mut Board,
-    tags: &mut Vec<u64>,
+    tags: &mut VecDeque<u64>,
     worker: u32,
     run: Run,
     took: bool,
@@ -131,7 +137,7 @@ fn fail_into(
         return Err(why);
     }
     if took {
-        tags.push_reserved(tag);
+        tags.push_back_reserved(tag);
     }
     Ok(())
 }
@@ -139,7 +145,7 @@ fn fail_into(
 // Give up, in the same way.
 fn give_up_into(
     board: &mut Board,
-    tags: &mut Vec<u64>,
+    tags: &mut VecDeque<u64>,
     worker: u32,
     run: Run,
     took: bool,
@@ -160,7 +166,7 @@ fn give_up_into(
         return Err(why);
     }
     if took {
-        tags.push_reserved(tag);
+        tags.push_back_reserved(tag);
     }
     Ok(())
 }
@@ -168,7 +174,7 @@ fn give_up_into(
 // Done: the device took the message of the worker's job.
 pub(crate) fn done(
     board: &mut Board,
-    passed: &mut Vec<Vec<u64>>,
+    passed: &mut Vec<VecDeque<u64>>,
     relay: u32,
     worker: u32,
 ) -> Result<(), Illegal>
@@ -194,7 +200,7 @@ pub(crate) fn done(
 // Fail: the device answered with a fault, and the job may be tried again.
 pub(crate) fn fail(
     board: &mut Board,
-    passed: &mut Vec<Vec<u64>>,
+    passed: &mut Vec<VecDeque<u64>>,
     relay: u32,
     worker: u32,
     took: bool,
@@ -224,7 +230,7 @@ pub(crate) fn fail(
 // Give up: it failed once more than it may be tried again.
 pub(crate) fn give_up(
     board: &mut Board,
-    passed: &mut Vec<Vec<u64>>,
+    passed: &mut Vec<VecDeque<u64>>,
     losses: &mut Vec<Loss>,
     relay: u32,
     worker: u32,

@@ -29,7 +29,7 @@ pub struct GivenWords<'a> {
     pub options: Option<Options>,
 }
 
-fn is_same(word: &str, wanted: &str) -> bool
+pub(crate) fn is_same(word: &str, wanted: &str) -> bool
     ensures { result ≡ bytes_eq word.now wanted.now }
 {
     word == wanted
@@ -90,7 +90,7 @@ fn once(was_there: bool, comes: bool) -> Option<bool>
 }
 
 // Whether an option is among the words; nothing where it is there twice.
-fn is_given(args: &[String], option: &str) -> Option<bool>
+pub(crate) fn is_given(args: &[String], option: &str) -> Option<bool>
     ensures some { IfSome result (λ b. times option.now (map string_bytes args.now) ≡ once_if b) }
     ensures none { IfNone result (1 < times option.now (map string_bytes args.now)) }
 {

@@ -4,7 +4,8 @@ ghost use Rattle.sy_report.specs.HaltTexts.{at_place, first_line, halt_report, i
 ghost use Rattle.sy_report.specs.Reports.{Reported, seen};
 ghost use Rattle.sy_report.specs.Halts as spec;
 
-use crate::outcome::report::{report_text, report_texts};
+use crate::outcome::report::{report_line, report_text, report_texts};
+use crate::writing::line::LineText;
 use itoa::Buffer;
 use sy_cert::TextFault;
 use sy_script::ScriptFault;
@@ -55,10 +56,18 @@ fn report_at_place<'a, E: Sink>(
         (seen E.contents E.is_flushed E.faults errors.old) (seen E.contents E.is_flushed E.faults errors.new)
         (at_place words.now line.now column.now relay.now) }
 {
-    report_texts(
+    report_line(
         errors,
         &[
-            b"syc: ", words, b" at ", line, b":", column, b" of ", relay, b"\n",
+            LineText::Plain(b"syc: "),
+            LineText::Plain(words),
+            LineText::Plain(b" at "),
+            LineText::Plain(line),
+            LineText::Plain(b":"),
+            LineText::Plain(column),
+            LineText::Plain(b" of "),
+            LineText::Name(relay),
+            LineText::Plain(b"\n"),
         ],
     );
 }
@@ -109,16 +118,16 @@ fn report_with_word<'a, E: Sink>(errors: &mut E, words: &'a [u8], relay: &'a [u8
         (seen E.contents E.is_flushed E.faults errors.old) (seen E.contents E.is_flushed E.faults errors.new)
         (with_word words.now relay.now word.now) }
 {
-    report_texts(
+    report_line(
         errors,
         &[
-            b"syc: ",
-            words,
-            b" of ",
-            relay,
-            b": ",
-            first_line(word),
-            b"\n",
+            LineText::Plain(b"syc: "),
+            LineText::Plain(words),
+            LineText::Plain(b" of "),
+            LineText::Name(relay),
+            LineText::Plain(b": "),
+            LineText::Name(first_line(word)),
+            LineText::Plain(b"\n"),
         ],
     );
 }

@@ -2,8 +2,10 @@
 ghost use Rattle.std.specs.Prelude.{◌≡◌, OnErr, OnOk, map, true};
 ghost use Rattle.std.specs.Io.KnownBytes.{Appends};
 ghost use Rattle.sy_wire.specs.Streams.{Rose};
+ghost use Rattle.sy_report.specs.LineTexts.{line_of};
 ghost use Rattle.sy_report.specs.Reports.{Reported, Torn, joined, said, seen};
 
+use crate::writing::line::{LineText, write_line};
 use crate::writing::output::write_texts;
 use sy_wire::{Sink, WriteFault};
 
@@ -27,6 +29,27 @@ pub fn report_texts<E: Sink>(errors: &mut E, texts: &[&[u8]])
         (joined (map (λ text. text.now) texts.now)) }
 {
     let _ = send_texts(errors, texts);
+}
+
+// Writes a line, and hands it on.
+fn send_line<E: Sink>(errors: &mut E, texts: &[LineText<'_>]) -> Result<(), WriteFault>
+    ensures ok { OnOk result (Appends (E.contents errors.old) (E.contents errors.new) (line_of texts.now)) }
+    ensures flushed { OnOk result (E.is_flushed errors.new ≡ true) }
+    ensures same { OnOk result (E.faults errors.new ≡ E.faults errors.old) }
+    ensures torn { OnErr result (Torn (E.contents errors.old) (E.contents errors.new) (line_of texts.now)) }
+    ensures err { OnErr result (Rose (E.faults errors.old) (E.faults errors.new)) }
+{
+    write_line(errors, texts)?;
+    errors.flush()
+}
+
+/// Prints a line with names in it, as far as that can be done, without memory.
+pub fn report_line<E: Sink>(errors: &mut E, texts: &[LineText<'_>])
+    ensures { Reported
+        (seen E.contents E.is_flushed E.faults errors.old) (seen E.contents E.is_flushed E.faults errors.new)
+        (line_of texts.now) }
+{
+    let _ = send_line(errors, texts);
 }
 
 /// Prints a line that says this.

@@ -4,7 +4,9 @@ ghost use Rattle.std.specs.Fmt.{decimal};
 ghost use Rattle.sy_site.specs.Names.{action_name, name_of, port_of};
 ghost use Rattle.sy_report.specs.Texts.{class_text, input_text};
 ghost use Rattle.sy_report.specs.Parts.{part_text};
+ghost use Rattle.sy_report.specs.Printed.{printed};
 
+use crate::texts::printed::append_printed;
 use itoa::Buffer;
 use std::alloc::AllocError;
 use sy_select::{facility_text, severity_text};
@@ -15,6 +17,8 @@ use sy_wire::Class;
 #[derive(Clone, Copy)]
 pub enum Part<'a> {
     Text(&'a [u8]),
+    /// A name, a word or a path of a file, as it is printed.
+    Name(&'a [u8]),
     /// In decimal digits.
     Number(u64),
     /// In decimal digits.
@@ -52,9 +56,9 @@ fn append_class(text: &mut Vec<u8>, class: Class) -> Result<(), AllocError>
 
 // Puts an input behind a text.
 fn append_input(text: &mut Vec<u8>, relay: &[u8], port: u64) -> Result<(), AllocError>
-    ensures { OnOk result (text.new.items ≡ text.old.items ++ relay.now ++ codes " " ++ decimal port) }
+    ensures { OnOk result (text.new.items ≡ text.old.items ++ printed relay.now ++ codes " " ++ decimal port) }
 {
-    text.extend_from_slice(relay)?;
+    append_printed(text, relay)?;
     text.extend_from_slice(b" ")?;
     append_number(text, port)
 }
@@ -64,6 +68,7 @@ fn append_part(text: &mut Vec<u8>, part: Part<'_>) -> Result<(), AllocError>
 {
     match part {
         Part::Text(words) => text.extend_from_slice(words),
+        Part::Name(name) => append_printed(text, name),
         Part::Number(number) => append_number(text, number),
         Part::Sum(sum) => append_sum(text, sum),
         Part::Class(class) => append_class(text, class),

@@ -19,6 +19,8 @@ pub enum Reason {
     Write,
     /// The relay ends, and waits for no link.
     Ending,
+    /// The name of the receiver's host can't be resolved.
+    NoName,
 }
 
 /// What stands above the numbers of the host.
@@ -50,6 +52,7 @@ impl Reason {
             Reason::NoTarget => OTHERS + 4,
             Reason::Ending => OTHERS + 5,
             Reason::Write => OTHERS + 6,
+            Reason::NoName => OTHERS + 7,
         }
     }
 
@@ -64,6 +67,7 @@ impl Reason {
             3 => Reason::NoMemory,
             4 => Reason::NoTarget,
             5 => Reason::Ending,
+            7 => Reason::NoName,
             _ => Reason::Write,
         }
     }
@@ -76,6 +80,7 @@ impl Reason {
             Reason::NoMemory => "out of memory",
             Reason::NoTarget => "its target is no relay",
             Reason::Ending => "the relay ends",
+            Reason::NoName => "its host's name can't be resolved",
             Reason::Write | Reason::Os(_) => "write failed",
         }
     }

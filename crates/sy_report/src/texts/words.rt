@@ -3,16 +3,6 @@
 use crate::texts::parts::{Part, append_parts};
 use std::alloc::{AllocError, Global};
 
-/// The digits of numbers to the base 16.
-pub const DIGITS: [&str; 16] = [
-    "0", "1", "2", "3", "4", "5", "6", "7", "8", "9", "a", "b", "c", "d", "e", "f",
-];
-
-// Whether a byte would end a line, or tell a terminal something.
-fn is_control(byte: u8) -> bool {
-    (byte < b' ' && byte != b'\t') || byte == 0x7f
-}
-
 /// Words that are put one behind the other. Where memory runs out the rest is left out, which the end tells.
 #[derive(Drop)]
 pub struct Words {
@@ -42,17 +32,9 @@ impl Words {
         self.append(&[Part::Text(words.as_bytes())]);
     }
 
-    /// Puts words that are of a file, in one line: control characters stand there as `\x0a`.
+    /// Puts words that are of a file, as they are printed: in one line, a line feed as `\x0a`.
     pub fn append_in_line(&mut self, words: &[u8]) {
-        for byte in words {
-            if is_control(*byte) {
-                self.say("\\x");
-                self.say(DIGITS[(*byte / 16) as usize]);
-                self.say(DIGITS[(*byte % 16) as usize]);
-            } else {
-                self.append(&[Part::Text(&[*byte])]);
-            }
-        }
+        self.append(&[Part::Name(words)]);
     }
 
     /// Those that are there so far.

@@ -7,6 +7,7 @@ pub mod Once
 pub mod Again
 pub mod Kinds
 pub mod Placed
+pub mod Hosts
 pub mod Found
 pub mod Described
 pub mod FaultsFound

@@ -1,5 +1,6 @@
 -- The lines of a text that were read so far, and why reading stops at one (this profile's own).
-use Rattle.std.specs.Prelude.{◌≡◌, ℕ, ◌<◌, ◌≤◌, ◌⊎◌, true, false, List, [], ◌∷◌, ◌++◌, length, map, filter, codes}
+use Rattle.std.specs.Prelude.{◌≡◌, ℕ, Bool, ◌||◌, ◌<◌, ◌≤◌, ◌⊎◌, true, false, List, [], ◌∷◌, ◌++◌, length, map, filter, codes}
+use Rattle.std.specs.Str.{bytes_eq}
 use Rattle.sy_site.specs.declared.texts.reading.Given.{Given}
 use Rattle.sy_site.specs.declared.texts.reading.Halt.{Halt}
 use Rattle.sy_site.specs.declared.texts.reading.Halt.TheVariants as halt
@@ -9,7 +10,7 @@ use Rattle.sy_site.specs.internal.Lines.{line_of}
 use Rattle.sy_site.specs.texts.Lines.{is_kind, is_skipped, word_lines, words}
 use Rattle.sy_site.specs.texts.Shapes.{Line, IsLine}
 use Rattle.sy_site.specs.texts.Files.{RELAYS}
-use Rattle.sy_site.specs.texts.Describes.{ENTRIES, PROTECTIONS, SPARES, IsDuplicate, IsMisplaced, policy_of}
+use Rattle.sy_site.specs.texts.Describes.{ENTRIES, OUTSIDES, PROTECTIONS, SPARES, IsDuplicate, IsMisplaced, policy_of}
 use Rattle.sy_site.specs.texts.HasFault.{IsLimit, Stands, number}
 
 -- the first word of a line
@@ -19,6 +20,7 @@ kind (Line.Relay it) = codes "relay"
 kind (Line.Entry it) = codes "entry"
 kind (Line.Protect it) = codes "protect"
 kind (Line.Spare it) = codes "spare"
+kind (Line.Outside it) = codes "outside"
 
 -- the most lines of its kind
 abbrev pub most : Line → ℕ
@@ -27,6 +29,7 @@ most (Line.Relay it) = RELAYS
 most (Line.Entry it) = ENTRIES
 most (Line.Protect it) = PROTECTIONS
 most (Line.Spare it) = SPARES
+most (Line.Outside it) = OUTSIDES
 
 abbrev pub line_given : Given → Line
 line_given given = line_of given.line
@@ -42,6 +45,19 @@ pub data BeginAlike : List (List ℕ) → List (List ℕ) → Type 0 where
 -- both have two first words, and these are the same
 pub data BeginAlikeTwice : List (List ℕ) → List (List ℕ) → Type 0 where
   alike_twice : (word next : List ℕ) (first second : List (List ℕ)) → BeginAlikeTwice (word ∷ next ∷ first) (word ∷ next ∷ second)
+
+-- a line that begins with this word gives a name that no line of the other such kind gives
+abbrev pub is_naming : List ℕ → Bool
+is_naming word = bytes_eq word (codes "relay") || bytes_eq word (codes "outside")
+
+-- both have a second word, and it is the same
+pub data SecondAlike : List (List ℕ) → List (List ℕ) → Type 0 where
+  second_alike : (x y word : List ℕ) (first second : List (List ℕ)) → SecondAlike (x ∷ word ∷ first) (y ∷ word ∷ second)
+
+-- both have three first words, of which the first and the third are the same
+pub data NameOneReceiver : List (List ℕ) → List (List ℕ) → Type 0 where
+  one_receiver : (name host other port : List ℕ) (first second : List (List ℕ))
+      → NameOneReceiver (name ∷ host ∷ port ∷ first) (name ∷ other ∷ port ∷ second)
 
 -- This is what was read of the line of this number and these words.
 pub record IsGiven (given : Given) (place : ℕ) (line : List (List ℕ)) : Type 0 where

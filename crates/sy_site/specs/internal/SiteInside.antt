@@ -1,7 +1,6 @@
 -- What the code keeps of a site (this profile's own).
 use Rattle.std.specs.Prelude.{◌≡◌, ℕ, List, [], map, Option, Some, None, slice_get}
 use Rattle.std.specs.Arc.{arc_value}
-use Rattle.std.specs.Net.Addr.{ipv4_octets}
 use Rattle.sy_site.specs.declared.site.relay.Relay.{Relay as Kept}
 use Rattle.sy_site.specs.declared.site.Site.TheInside.{Inside}
 use Rattle.sy_site.specs.declared.site.targets.Targets.{Targets}
@@ -10,7 +9,7 @@ use Rattle.sy_site.specs.machine.Lawful.{IsLawful}
 use Rattle.sy_site.specs.texts.Describes.{IsDescribed}
 
 abbrev pub relay_of : Kept → Relay
-relay_of r = record { name = r.name; address = ipv4_octets r.address; plan = arc_value r.plan }
+relay_of r = record { name = r.name; host = r.host; listens = r.listens; plan = arc_value r.plan }
 
 abbrev pub site_of : Inside → Site
 site_of s = record {
@@ -20,11 +19,12 @@ site_of s = record {
   whole_entries = s.whole_entries.items;
   protections = s.protections.items;
   spares = s.spares.items;
+  outsides = s.outsides.items;
 }
 
--- these relays without entries, protect lines and spare actions
+-- these relays without entries, protect lines, spare actions and other receivers
 abbrev pub site_with : List Kept → Site
-site_with relays = record { policy = 1; relays = map relay_of relays; entries = []; whole_entries = []; protections = []; spares = [] }
+site_with relays = record { policy = 1; relays = map relay_of relays; entries = []; whole_entries = []; protections = []; spares = []; outsides = [] }
 
 -- ---- what actions lead to, looked up once
 

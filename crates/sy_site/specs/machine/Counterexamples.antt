@@ -295,6 +295,7 @@ stray_site = record {
   whole_entries = [];
   protections = [];
   spares = [];
+  outsides = [];
 }
 
 -- ---- a post into a queue that waits is lost, and its message heads for its archive all the same

@@ -8,7 +8,8 @@ use Rattle.sy_rules.specs.declared.parameters.settings.QueueParameters.{QueuePar
 use Rattle.sy_rules.specs.lists.Body.{Body}
 use Rattle.sy_rules.specs.PlanValue.{Plan}
 use Rattle.sy_board.specs.relay.Steps.{Event}
-use Rattle.sy_site.specs.Sites.{Relay, Site, SiteInput, SiteAction}
+use Rattle.sy_site.specs.declared.site.host.Host.TheVariants as host
+use Rattle.sy_site.specs.Sites.{Relay, Site, SiteInput, SiteAction, loopback}
 use Rattle.sy_site.specs.machine.Steps.{SiteEvent}
 
 -- a message of a class
@@ -123,9 +124,9 @@ audit = record { relay = 1; action = 0 }
 abbrev pub copying : SiteAction
 copying = record { relay = 1; action = 1 }
 
--- a relay that listens at 127.0.0.1
+-- a relay that is reached and listens at 127.0.0.1
 abbrev pub relay_of : List ℕ → Plan → Relay
-relay_of name plan = record { name = name; address = 127 ∷ 0 ∷ 0 ∷ 1 ∷ []; plan = plan }
+relay_of name plan = record { name = name; host = host.Address loopback; listens = Some loopback; plan = plan }
 
 -- edge and hub with these plans: messages of facility auth enter at edge and are to come to the archive of hub
 abbrev pub site_of_two : Plan → Plan → Site
@@ -139,6 +140,7 @@ site_of_two edge hub = record {
     archive = audit;
   } ∷ [];
   spares = [];
+  outsides = [];
 }
 
 -- edge has a queue that waits besides, mirror is the third relay, and hub's forward to it is spare
@@ -147,6 +149,7 @@ example_site = record (site_of_two edge_plan copying_plan) {
   policy = 2;
   relays = relay_of (codes "edge") waiting_plan ∷ relay_of (codes "hub") copying_plan ∷ relay_of (codes "mirror") mirror_plan ∷ [];
   spares = copying ∷ [];
+  outsides = [];
 }
 
 -- It comes to a hand of edge, into the queue, to the worker, into the action's queue, to its worker; the link fails, but took it all the same, and takes it
@@ -196,6 +199,7 @@ narrow_site = record {
   whole_entries = [];
   protections = [];
   spares = [];
+  outsides = [];
 }
 
 -- The second message finds the first queue full, the third the second one; the first one is given up after two failures.

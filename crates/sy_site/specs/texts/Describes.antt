@@ -8,7 +8,7 @@ use Rattle.sy_script.specs.Grammar.{IsScript}
 use Rattle.sy_rules.specs.declared.parameters.objects.Destination.{Destination}
 use Rattle.sy_rules.specs.declared.parameters.objects.Destination.TheVariants as destination
 use Rattle.sy_rules.specs.PlanValue.{IsPlan}
-use Rattle.sy_site.specs.Sites.{Site, Relay, SiteInput, SiteAction, Protection, input_at_port, is_protected, plan_at, relay_named}
+use Rattle.sy_site.specs.Sites.{Site, Relay, SiteInput, SiteAction, Outside, Protection, input_at_port, is_protected, plan_at, relay_named}
 use Rattle.sy_site.specs.texts.Lines.{is_skipped, word_lines}
 use Rattle.sy_site.specs.texts.Shapes.{Line, RelayLine, EntryLine, ProtectLine, SpareLine, IsLine, policy_line}
 use Rattle.sy_site.specs.texts.Files.{BYTES, RELAYS}
@@ -24,6 +24,10 @@ PROTECTIONS = 256
 -- the most spare lines
 abbrev pub SPARES : ℕ
 SPARES = 256
+
+-- the most outside lines
+abbrev pub OUTSIDES : ℕ
+OUTSIDES = 256
 
 -- ---- the lines of a text
 
@@ -60,6 +64,11 @@ spare_lines [] = []
 spare_lines (Line.Spare it ∷ later) = it ∷ spare_lines later
 spare_lines (_ ∷ later) = spare_lines later
 
+abbrev pub outside_lines : List Line → List Outside
+outside_lines [] = []
+outside_lines (Line.Outside it ∷ later) = it ∷ outside_lines later
+outside_lines (_ ∷ later) = outside_lines later
+
 -- the policy that these lines set: 2 where the first one is `policy 2`, else 1
 abbrev pub policy_of : List Line → ℕ
 policy_of (Line.Policy ∷ later) = 2
@@ -75,12 +84,17 @@ pub data IsMisplaced (before : List (List (List ℕ))) : List (List ℕ) → Typ
   policy_behind : (first : List (List ℕ)) (words : List (List ℕ)) → first_line before ≡ Some first → IsMisplaced before (codes "policy" ∷ words)
   spare_without : (words : List (List ℕ)) → (first_line before ≡ Some policy_line → ⊥) → IsMisplaced before (codes "spare" ∷ words)
 
--- One line gives again what another gave: a relay's name, an entry's relay and port, or a protect or spare line word for word.
+-- One line gives again what another gave: a name of relay and outside lines, but for two outside lines with two ports; an entry's relay and port; or a
+-- protect or spare line word for word.
 pub data Repeats : List (List ℕ) → List (List ℕ) → Type 0 where
   same_name : (name : List ℕ) (first second : List (List ℕ)) → Repeats (codes "relay" ∷ name ∷ first) (codes "relay" ∷ name ∷ second)
   same_entry : (relay port : List ℕ) (first second : List (List ℕ)) → Repeats (codes "entry" ∷ relay ∷ port ∷ first) (codes "entry" ∷ relay ∷ port ∷ second)
   same_protection : (words : List (List ℕ)) → Repeats (codes "protect" ∷ words) (codes "protect" ∷ words)
   same_spare : (words : List (List ℕ)) → Repeats (codes "spare" ∷ words) (codes "spare" ∷ words)
+  same_receiver : (name host other port : List ℕ) (first second : List (List ℕ))
+      → Repeats (codes "outside" ∷ name ∷ host ∷ port ∷ first) (codes "outside" ∷ name ∷ other ∷ port ∷ second)
+  outside_relay : (name : List ℕ) (first second : List (List ℕ)) → Repeats (codes "relay" ∷ name ∷ first) (codes "outside" ∷ name ∷ second)
+  relay_outside : (name : List ℕ) (first second : List (List ℕ)) → Repeats (codes "outside" ∷ name ∷ first) (codes "relay" ∷ name ∷ second)
 
 -- a line behind these lines gives again what one of them gave
 abbrev pub IsDuplicate : List (List (List ℕ)) → List (List ℕ) → Type 0
@@ -105,7 +119,8 @@ pub record IsRelay (files : List File) (line : RelayLine) (relay : Relay) : Type
   pub is_script : IsScript bytes script
   pub is_plan : IsPlan script relay.plan
   pub name : relay.name ≡ line.name
-  pub address : relay.address ≡ line.address
+  pub host : relay.host ≡ line.host
+  pub listens : relay.listens ≡ line.listens
 
 -- ---- entries, archives and spare actions
 
@@ -176,12 +191,14 @@ pub record Describes (text : List ℕ) (files : List File) (site : Site) : Type 
   pub few_entries : length (entry_lines lines) ≤ ENTRIES
   pub few_protections : length (protect_lines lines) ≤ PROTECTIONS
   pub few_spares : length (spare_lines lines) ≤ SPARES
+  pub few_outsides : length (outside_lines lines) ≤ OUTSIDES
   pub policy : site.policy ≡ policy_of lines
   pub relays : AllPaired (IsRelay files) (relay_lines lines) site.relays
   pub entries : AllPaired (IsEntry site) (entry_lines lines) site.entries
   pub whole_entries : AllPaired (IsEntry site) (whole_lines lines) site.whole_entries
   pub protections : AllPaired (IsProtection site) (protect_lines lines) site.protections
   pub spares : AllPaired (IsSpare site) (spare_lines lines) site.spares
+  pub outsides : site.outsides ≡ outside_lines lines
   -- no archive that is named is spare
   pub apart : (protect : ProtectLine) (spare : SpareLine) → Contains (protect_lines lines) protect → Contains (spare_lines lines) spare
       → NameOne protect spare → ⊥

@@ -17,7 +17,7 @@ use Rattle.sy_site.specs.declared.fault.SiteFault.TheVariants as fault
 use Rattle.sy_site.specs.texts.Lines.{is_kind, is_skipped, word_lines}
 use Rattle.sy_site.specs.texts.Shapes.{Line, RelayLine, EntryLine, ProtectLine, SpareLine, IsLine, IsEntryLine, IsProtectLine, IsRelayLine, IsSpareLine}
 use Rattle.sy_site.specs.texts.Files.{BYTES, RELAYS}
-use Rattle.sy_site.specs.texts.Describes.{ENTRIES, PROTECTIONS, SPARES, File, IsDuplicate, IsMisplaced, NameOne, file_named, is_archive}
+use Rattle.sy_site.specs.texts.Describes.{ENTRIES, OUTSIDES, PROTECTIONS, SPARES, File, IsDuplicate, IsMisplaced, NameOne, file_named, is_archive}
 
 -- these lines stand before this one
 abbrev pub Stands : List ℕ → List (List (List ℕ)) → List (List ℕ) → Type 0
@@ -32,6 +32,7 @@ pub data IsLimit : List ℕ → ℕ → Type 0 where
   entries : IsLimit (codes "entry") ENTRIES
   protections : IsLimit (codes "protect") PROTECTIONS
   spares : IsLimit (codes "spare") SPARES
+  outsides : IsLimit (codes "outside") OUTSIDES
 
 -- a relay line of the text has this name
 pub record Names (text name : List ℕ) (it : RelayLine) : Type 0 where
@@ -68,7 +69,7 @@ IsFileFault bytes (why.Plan f) = (s : Script) × IsScript bytes s × plan.HasFau
 pub data HasFault (text : List ℕ) (files : List File) : SiteFault → Type 0 where
   -- 51: the text is too long
   too_long : BYTES < length text → HasFault text files (fault.Line 1)
-  -- a line has none of the five shapes
+  -- a line has none of the six shapes
   no_shape : (before : List (List (List ℕ))) (line : List (List ℕ)) → Stands text before line → is_skipped line ≡ false → ((it : Line)
       → IsLine line it → ⊥)
       → HasFault text files (fault.Line (number before))

@@ -9,6 +9,7 @@ use super::Site;
 use super::protected::protects;
 use super::targets::targets_of;
 use crate::fault::SiteFault;
+use crate::texts::outsides::outsides;
 use crate::texts::reading::{policy, read_lines};
 use crate::texts::references::{entries, protections, spares, whole_entries};
 use crate::texts::relays::relays;
@@ -28,6 +29,7 @@ impl Site {
         let policy = policy(found.as_slice());
         // Their faults are told behind those of the protect lines, which use up what was read.
         let named = spares(alloc, found.as_slice(), relays.as_slice());
+        let outsides = outsides(alloc, found.as_slice())?;
         let protections = protections(alloc, found, relays.as_slice())?;
         let spares = named?;
         if entries.is_empty() || !protects(protections.as_slice()) {
@@ -43,6 +45,7 @@ impl Site {
             whole_entries,
             protections,
             spares,
+            outsides,
             targets,
         })
     }

@@ -1,14 +1,17 @@
 //! A relay of a site.
 
-use std::net::Ipv4Addr;
+use super::host::Host;
+use std::net::IpAddr;
 use std::sync::Arc;
 use sy_rules::Plan;
 use sy_script::Items;
 
-/// A relay: its name, the address that it listens and is reached at, and its plan.
+/// A relay: its name, where others connect to it, the address that it listens at (all addresses where there is none),
+/// and its plan.
 #[derive(Drop)]
 pub struct Relay {
     pub name: Items<u8>,
-    pub address: Ipv4Addr,
+    pub host: Host,
+    pub listens: Option<IpAddr>,
     pub plan: Arc<Plan>,
 }

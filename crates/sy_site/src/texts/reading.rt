@@ -6,7 +6,7 @@ ghost use Rattle.sy_site.specs.internal.Lines.{line_of};
 ghost use Rattle.sy_site.specs.internal.Reading as spec;
 ghost use Rattle.sy_site.specs.internal.Reading.{line_given, words_given};
 ghost use Rattle.sy_site.specs.texts.Describes.{AreLines, ENTRIES, File, IsDuplicate, IsMisplaced, PROTECTIONS, Repeats};
-ghost use Rattle.sy_site.specs.texts.Describes.{SPARES, entry_lines, policy_of, protect_lines, relay_lines, spare_lines};
+ghost use Rattle.sy_site.specs.texts.Describes.{OUTSIDES, SPARES, entry_lines, outside_lines, policy_of, protect_lines, relay_lines, spare_lines};
 ghost use Rattle.sy_site.specs.texts.Files.{BYTES, RELAYS};
 ghost use Rattle.sy_site.specs.texts.HasFault.{HasFault};
 ghost use Rattle.sy_site.specs.texts.Lines.{is_kind, is_skipped as skips, word_lines, words};
@@ -27,7 +27,10 @@ const MOST_PROTECTIONS: usize = 256;
 /// The most spare lines.
 const MOST_SPARES: usize = 256;
 
-/// A line of one of the five shapes, its number in the text, counted from 1, and the text behind its first word.
+/// The most outside lines.
+const MOST_OUTSIDES: usize = 256;
+
+/// A line of one of the six shapes, its number in the text, counted from 1, and the text behind its first word.
 #[derive(Drop)]
 pub struct Given<'t> {
     pub number: usize,
@@ -52,6 +55,7 @@ fn kind(line: &Line<'_>) -> &'static [u8]
         Line::Entry(_) => b"entry",
         Line::Protect(_) => b"protect",
         Line::Spare(_) => b"spare",
+        Line::Outside(_) => b"outside",
     }
 }
 
@@ -65,6 +69,7 @@ fn most(line: &Line<'_>) -> usize
         Line::Entry(_) => MOST_ENTRIES,
         Line::Protect(_) => MOST_PROTECTIONS,
         Line::Spare(_) => MOST_SPARES,
+        Line::Outside(_) => MOST_OUTSIDES,
     }
 }
 
@@ -113,18 +118,72 @@ fn same_two_words(a: &[u8], b: &[u8]) -> bool
     }
 }
 
+// Whether two texts have a second word, and it is the same.
+#[tactic(auto, using(crate::proofs::lemmas::texts::Again::second_behind, crate::proofs::lemmas::texts::Again::second_apart, crate::proofs::lemmas::texts::Again::second_none, crate::proofs::lemmas::texts::Again::second_missing))]
+fn same_second_word(a: &[u8], b: &[u8]) -> bool
+    ensures same { result ≡ true → spec.SecondAlike (words a.now) (words b.now) }
+    ensures apart { result ≡ false → spec.SecondAlike (words a.now) (words b.now) → ⊥ }
+{
+    match next_word(a) {
+        Some((_, left)) => match next_word(b) {
+            Some((_, right)) => same_first_word(left, right),
+            None => false,
+        },
+        None => false,
+    }
+}
+
+// Whether an outside line gives again the name and the port of an earlier one, of the texts behind their first words.
+#[tactic(auto, using(crate::proofs::lemmas::texts::Again::receiver_twice, crate::proofs::lemmas::texts::Again::receiver_behind, crate::proofs::lemmas::texts::Again::receiver_apart, crate::proofs::lemmas::texts::Again::receiver_none))]
+fn same_receiver(a: &[u8], b: &[u8]) -> bool
+    ensures same { result ≡ true → spec.NameOneReceiver (words a.now) (words b.now) }
+    ensures apart { result ≡ false → spec.NameOneReceiver (words a.now) (words b.now) → ⊥ }
+{
+    match next_word(a) {
+        Some((word, behind)) => match behind_word(b, word) {
+            Some(rest) => same_second_word(behind, rest),
+            None => false,
+        },
+        None => false,
+    }
+}
+
+// Whether a line that begins with this word gives a name that no line of the other such kind gives.
+fn is_naming(word: &[u8]) -> bool
+    ensures { result ≡ spec.is_naming word.now }
+{
+    word == b"relay".as_slice() || word == b"outside".as_slice()
+}
+
+// Whether two lines of two kinds give one name: a relay line and an outside line.
+fn shares_name(earlier: &Given<'_>, line: &Given<'_>) -> bool
+    ensures again { result ≡ true → (spec.kind (line_given earlier.now) ≡ spec.kind (line_given line.now) → ⊥)
+        → Repeats (words_given earlier.now) (words_given line.now) }
+    ensures apart { result ≡ false → (spec.kind (line_given earlier.now) ≡ spec.kind (line_given line.now) → ⊥)
+        → Repeats (words_given earlier.now) (words_given line.now) → ⊥ }
+{
+    if !is_naming(kind(&earlier.line)) {
+        return false;
+    }
+    if !is_naming(kind(&line.line)) {
+        return false;
+    }
+    same_first_word(earlier.behind, line.behind)
+}
+
 // Whether a line gives again what an earlier one gave.
 fn gives_again(earlier: &Given<'_>, line: &Given<'_>) -> bool
     ensures again { result ≡ true → Repeats (words_given earlier.now) (words_given line.now) }
     ensures apart { result ≡ false → Repeats (words_given earlier.now) (words_given line.now) → ⊥ }
 {
     if kind(&earlier.line) != kind(&line.line) {
-        return false;
+        return shares_name(earlier, line);
     }
     match &line.line {
         Line::Policy => false,
         Line::Relay(_) => same_first_word(earlier.behind, line.behind),
         Line::Entry(_) => same_two_words(earlier.behind, line.behind),
+        Line::Outside(_) => same_receiver(earlier.behind, line.behind),
         _ => same_words(earlier.behind, line.behind),
     }
 }
@@ -242,9 +301,9 @@ fn note<'t>(
 }
 
 /// The lines of a text that are not skipped, in their order. Refuses a text that is too long, and a line that has none
-/// of the five shapes, or else has no place or is one more than the most of its kind (51), or else gives again what an
+/// of the six shapes, or else has no place or is one more than the most of its kind (51), or else gives again what an
 /// earlier one gave (52); the first such line is answered. It takes time linear in the text, and for each line a look
-/// at the lines before it, of which there are 833 at most.
+/// at the lines before it, of which there are 1089 at most.
 pub fn read_lines(alloc: Global, text: &[u8]) -> Result<Vec<Given<'_>>, SiteFault>
     ensures small { OnOk result (length text.now ≤ BYTES) }
     ensures lines { IfOk result (λ found. AreLines (word_lines text.now) (map line_given found.items)) }
@@ -258,6 +317,7 @@ pub fn read_lines(alloc: Global, text: &[u8]) -> Result<Vec<Given<'_>>, SiteFaul
     ensures few_protections { IfOk result (λ found. length (protect_lines (map line_given found.items))
         ≤ PROTECTIONS) }
     ensures few_spares { IfOk result (λ found. length (spare_lines (map line_given found.items)) ≤ SPARES) }
+    ensures few_outsides { IfOk result (λ found. length (outside_lines (map line_given found.items)) ≤ OUTSIDES) }
     ensures err { IfErr result (λ fault. (fault ≡ SiteFault.NoMemory)
         ⊎ ((files : List File) → HasFault text.now files fault)) }
     ensures first { IfErr result (λ fault. spec.IsFirst text.now fault) }

@@ -4,7 +4,7 @@ ghost use Rattle.std.specs.Prelude.{◌≡◌, ◌⊎◌, ◌∷◌, ◌++◌, [
 ghost use Rattle.std.specs.Arc.{arc_value};
 ghost use Rattle.sy_site.specs.internal.Given.{IsRefused};
 ghost use Rattle.sy_site.specs.texts.Describes.{file, File, file_named, relay_lines};
-ghost use Rattle.sy_site.specs.internal.Lines.{relay_line_of};
+ghost use Rattle.sy_site.specs.internal.Lines.{host_of, relay_line_of};
 ghost use Rattle.sy_site.specs.internal.Reading.{IsFound, line_given};
 ghost use Rattle.sy_site.specs.internal.Relays.{HasMore, IsRefusedRelay, IsWholeRelay};
 ghost use Rattle.sy_site.specs.texts.HasFault.{HasFault};
@@ -12,6 +12,7 @@ ghost use Rattle.sy_site.specs.texts.HasFault.{HasFault};
 use crate::fault::SiteFault;
 use crate::site::relay::Relay;
 use crate::texts::files::{Refusal, bytes_of, plan_of};
+use crate::texts::hosts::kept_host;
 use crate::texts::reading::Given;
 use crate::texts::shapes::{Line, RelayLine};
 use std::alloc::{AllocError, Global};
@@ -49,12 +50,14 @@ fn fault_of(alloc: Global, line: &RelayLine<'_>, number: usize, refusal: Refusal
 // The relay of a line, with this plan.
 fn relay_with(alloc: Global, line: &RelayLine<'_>, plan: Plan) -> Result<Relay, AllocError>
     ensures name { IfOk result (λ r. r.name ≡ line.now.name.now) }
-    ensures address { IfOk result (λ r. r.address ≡ line.now.address) }
+    ensures host { IfOk result (λ r. r.host ≡ host_of line.now.host) }
+    ensures listens { IfOk result (λ r. r.listens ≡ line.now.listens) }
     ensures plan { IfOk result (λ r. arc_value r.plan ≡ plan) }
 {
     Ok(Relay {
         name: Items::from_slice(alloc, line.name)?,
-        address: line.address,
+        host: kept_host(alloc, line.host)?,
+        listens: line.listens,
         plan: Arc::new(alloc, plan)?,
     })
 }

@@ -2,16 +2,17 @@
 
 ghost use Rattle.std.specs.Prelude.{◌≡◌, ◌==◌, ◌∷◌, [], ℕ, Bool, List, IfSome, IfNone, codes};
 ghost use Rattle.std.specs.List.{list_all, slice_index};
-ghost use Rattle.std.specs.Net.Addr.{ipv4_octets};
 ghost use Rattle.sy_select.specs.Selectors.{IsSetOf};
+ghost use Rattle.sy_site.specs.declared.site.host.Outside.{Outside as Receiver};
 ghost use Rattle.sy_site.specs.texts.Lines as lines;
 ghost use Rattle.sy_site.specs.texts.Lines.{words};
 ghost use Rattle.sy_site.specs.texts.Shapes as spec;
-ghost use Rattle.sy_site.specs.internal.Lines.{entry_line_of, line_of, protect_line_of, relay_line_of, spare_line_of};
+ghost use Rattle.sy_site.specs.internal.Lines.{entry_line_of, line_of, outside_of, protect_line_of, relay_line_of, spare_line_of};
 
+use crate::texts::hosts::{HostWord, read_host, read_reach};
 use crate::texts::lines::{behind_word, next_word};
 use std::alloc::Global;
-use std::net::Ipv4Addr;
+use std::net::IpAddr;
 use std::str;
 use sy_select::Selector;
 use sy_wire::numbers::number_up_to;
@@ -30,7 +31,8 @@ const LARGEST_PORT: u64 = 9_999_999_999;
 pub struct RelayLine<'t> {
     pub name: &'t [u8],
     pub file: &'t str,
-    pub address: Ipv4Addr,
+    pub host: HostWord<'t>,
+    pub listens: Option<IpAddr>,
 }
 
 /// What an entry line says.
@@ -57,7 +59,15 @@ pub struct SpareLine<'t> {
     pub action: &'t [u8],
 }
 
-/// A line of one of the five shapes. A policy line says that the policy is 2.
+/// What an outside line says.
+#[derive(Clone, Copy)]
+pub struct OutsideLine<'t> {
+    pub name: &'t [u8],
+    pub host: HostWord<'t>,
+    pub port: u16,
+}
+
+/// A line of one of the six shapes. A policy line says that the policy is 2.
 #[derive(Drop)]
 pub enum Line<'t> {
     Policy,
@@ -65,6 +75,7 @@ pub enum Line<'t> {
     Entry(EntryLine<'t>),
     Protect(ProtectLine<'t>),
     Spare(SpareLine<'t>),
+    Outside(OutsideLine<'t>),
 }
 
 fn is_name_byte(byte: u8) -> bool
@@ -86,23 +97,6 @@ fn is_name(word: &[u8]) -> bool
     !word.is_empty() && word.len() <= NAME_BYTES && all_name_bytes(word)
 }
 
-// The address that the words behind a relay's file give.
-fn address(behind: &[u8]) -> Option<Ipv4Addr>
-    ensures some { IfSome result (λ a. spec.IsAddress (words behind.now) (ipv4_octets a)) }
-    ensures none { IfNone result ((a : List ℕ) → spec.IsAddress (words behind.now) a → ⊥) }
-{
-    match next_word(behind) {
-        Some((word, rest)) => match next_word(rest) {
-            Some(_) => None,
-            None => match Ipv4Addr::parse_ascii(word) {
-                Ok(address) => Some(address),
-                Err(_) => None,
-            },
-        },
-        None => Some(Ipv4Addr::LOCALHOST),
-    }
-}
-
 /// What a relay line says, of the text behind its first word.
 pub fn relay_line(behind: &[u8]) -> Option<RelayLine<'_>>
     ensures some { IfSome result (λ it. spec.IsRelayLine (codes "relay" ∷ words behind.now) (relay_line_of it)) }
@@ -111,13 +105,14 @@ pub fn relay_line(behind: &[u8]) -> Option<RelayLine<'_>>
 {
     let (name, behind) = next_word(behind)?;
     let (file, behind) = next_word(behind)?;
-    let address = address(behind)?;
+    let reach = read_reach(behind)?;
     let file = str::from_utf8(file).ok()?;
     if is_name(name) {
         Some(RelayLine {
             name,
             file,
-            address,
+            host: reach.host,
+            listens: reach.listens,
         })
     } else {
         None
@@ -232,6 +227,35 @@ pub fn spare_line(behind: &[u8]) -> Option<SpareLine<'_>>
     Some(SpareLine { relay, action })
 }
 
+// The port of a receiver, which a word writes.
+fn outside_port(word: &[u8]) -> Option<u16>
+    ensures some { IfSome result (λ it. spec.IsPort word.now it) }
+    ensures none { IfNone result ((it : ℕ) → spec.IsPort word.now it → ⊥) }
+{
+    let port = port(word)?;
+    if port <= 65_535 {
+        Some(port as u16)
+    } else {
+        None
+    }
+}
+
+/// What an outside line says, of the text behind its first word.
+pub fn outside_line(behind: &[u8]) -> Option<OutsideLine<'_>>
+    ensures some { IfSome result (λ it. spec.IsOutsideLine (codes "outside" ∷ words behind.now) (outside_of it)) }
+    ensures none { IfNone result ((it : Receiver) → spec.IsOutsideLine (codes "outside" ∷ words behind.now) it → ⊥) }
+{
+    let (name, behind) = next_word(behind)?;
+    let (first, second) = two_words(behind)?;
+    let host = read_host(first)?;
+    let port = outside_port(second)?;
+    if is_name(name) {
+        Some(OutsideLine { name, host, port })
+    } else {
+        None
+    }
+}
+
 // The line that begins with `policy`: its other word is the one policy that a line can set.
 fn policy(behind: &[u8]) -> Option<Line<'_>>
     ensures some { IfSome result (λ it. spec.IsLine (codes "policy" ∷ words behind.now) (line_of it)) }
@@ -288,6 +312,17 @@ fn spare(behind: &[u8]) -> Option<Line<'_>>
     }
 }
 
+// The line that begins with `outside`.
+fn outside(behind: &[u8]) -> Option<Line<'_>>
+    ensures some { IfSome result (λ it. spec.IsLine (codes "outside" ∷ words behind.now) (line_of it)) }
+    ensures none { IfNone result ((it : spec.Line) → spec.IsLine (codes "outside" ∷ words behind.now) it → ⊥) }
+{
+    match outside_line(behind) {
+        Some(it) => Some(Line::Outside(it)),
+        None => None,
+    }
+}
+
 /// Whether a line is skipped: it has no words, or is a comment.
 pub fn is_skipped(line: &[u8]) -> bool
     ensures { result ≡ lines.is_skipped (words line.now) }
@@ -298,7 +333,7 @@ pub fn is_skipped(line: &[u8]) -> bool
     }
 }
 
-/// The line of one of the five shapes that a text is.
+/// The line of one of the six shapes that a text is.
 pub fn read_line(alloc: Global, line: &[u8]) -> Option<Line<'_>>
     ensures some { IfSome result (λ it. spec.IsLine (words line.now) (line_of it)) }
     ensures none { IfNone result ((it : spec.Line) → spec.IsLine (words line.now) it → ⊥) }
@@ -314,6 +349,9 @@ pub fn read_line(alloc: Global, line: &[u8]) -> Option<Line<'_>>
     }
     if let Some(behind) = behind_word(line, b"spare") {
         return spare(behind);
+    }
+    if let Some(behind) = behind_word(line, b"outside") {
+        return outside(behind);
     }
     match behind_word(line, b"policy") {
         Some(behind) => policy(behind),

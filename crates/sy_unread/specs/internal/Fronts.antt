@@ -1,11 +1,11 @@
 -- What bytes begin with, where frames may be long, and what the steps of a read say.
-use Rattle.std.specs.Prelude.{◌≡◌, ◌⊎◌, ℕ, ◌+◌, ◌*◌, ◌<◌, ◌≤◌, false, List, [], ◌∷◌, ◌++◌, Option, length, take, drop}
+use Rattle.std.specs.Prelude.{◌≡◌, ◌⊎◌, ℕ, zero, suc, ◌+◌, ◌*◌, ◌<◌, ◌≤◌, false, List, [], ◌∷◌, ◌++◌, Option, length, take, drop}
 use Rattle.std.specs.Fmt.{decimal}
 use Rattle.std.specs.Io.KnownBytes.{IsAtEnd}
 use Rattle.sy_wire.specs.Characters.{space}
 use Rattle.sy_wire.specs.Frames.{IsSize}
 use Rattle.sy_wire.specs.Streams.{Rose, count_after}
-use Rattle.sy_unread.specs.Skipping.{At, Goes, HandsOn, IsLong, IsNumbered, IsUnframed, Kept, Refuses, SetsAside}
+use Rattle.sy_unread.specs.Skipping.{At, Goes, HandsOn, IsLong, IsNumbered, IsUnframed, Kept, Refuses, SetsAside, next_number}
 use Rattle.sy_unread.specs.declared.skipping.place.Place.{Place}
 use Rattle.sy_unread.specs.declared.skipping.place.Place.TheVariants.{Within, WithinLong, Unframed}
 use Rattle.sy_unread.specs.declared.skipping.front.Front.{Front}
@@ -26,9 +26,14 @@ FrontIs bytes (front.Long n from) = IsLong n × HasHead bytes n from
 FrontIs bytes front.Open = (length bytes < 10) × ((bytes ≡ []) ⊎ ((n : ℕ) × IsNumbered n × (bytes ≡ decimal n)))
 FrontIs bytes front.Unframed = IsUnframed bytes
 
--- so many of the bytes are handed on, from within a frame to within another
-abbrev pub Passes : ℕ → List ℕ → ℕ → ℕ → Type 0
-Passes within bytes count within' = Goes false (Within within) bytes (take count bytes) [] (Within within') (drop count bytes)
+-- so many of the bytes are handed on, from within a frame to within another, and so many frames had begun before and after
+abbrev pub Passes : ℕ → ℕ → List ℕ → ℕ → ℕ → ℕ → Type 0
+Passes frames within bytes count frames' within' = Goes false frames (Within within) bytes (take count bytes) [] frames' (Within within') (drop count bytes)
+
+-- how many frames have begun after the next byte, of which so many bytes of a frame were to come
+abbrev pub begun : ℕ → ℕ → ℕ
+begun zero frames = next_number frames
+begun (suc within) frames = frames
 
 -- the same from within a frame, or at the head of one, of which so many bytes are to come
 abbrev pub Starts : ℕ → List ℕ → ℕ → Type 0

@@ -1,7 +1,7 @@
 //! Where in a stream its next byte stands, and bytes that came and wait.
 ghost use Rattle.std.specs.Prelude.{◌≡◌, ◌+◌, ◌≤◌, ◌++◌, ℕ, [], drop, length, min, take, IfOk};
 ghost use Rattle.std.specs.Vec.{vec_capacity};
-ghost use Rattle.sy_unread.specs.Skipping.{At};
+ghost use Rattle.sy_unread.specs.Skipping.{At, next_number};
 ghost use Rattle.sy_unread.specs.declared.skipping.place.Place.TheVariants.{Within};
 
 use super::place::Place;
@@ -17,6 +17,8 @@ pub(crate) const ROOM: usize = MAX_FRAME + 10;
 pub(crate) struct Standing {
     place: Place,
     bytes: Vec<u8>,
+    // how many frames have begun before it, of whatever length
+    frames: u64,
 }
 
 impl Model for Standing {
@@ -26,7 +28,7 @@ impl Model for Standing {
 
     ghost Value = { At };
 
-    ghost view = { λ s. record { place = s.place; held = s.bytes.items } };
+    ghost view = { λ s. record { place = s.place; frames = s.frames; held = s.bytes.items } };
 
     ghost invariant = { λ s. 65546 ≤ vec_capacity s.bytes };
 }
@@ -53,12 +55,13 @@ fn copy_front(bytes: &[u8], buffer: &mut [u8], most: usize) -> usize
 
 impl Standing {
     pub(crate) fn new(alloc: Global) -> Result<Standing, AllocError>
-        ensures { IfOk result (λ s. s ≡ record { place = Within 0; held = [] }) }
+        ensures { IfOk result (λ s. s ≡ record { place = Within 0; frames = 0; held = [] }) }
     {
         let bytes = Vec::with_capacity(alloc, ROOM)?;
         Ok(Standing {
             place: Place::Within(0),
             bytes,
+            frames: 0,
         })
     }
 
@@ -72,6 +75,27 @@ impl Standing {
         ensures { result.now ≡ self.now.held }
     {
         self.bytes.as_slice()
+    }
+
+    // How many frames have begun before its next byte.
+    pub(crate) fn frames(&self) -> u64
+        ensures { result ≡ self.now.frames }
+    {
+        self.frames
+    }
+
+    // The number of the frame that begins next.
+    pub(crate) fn next_number(&self) -> u64
+        ensures { result ≡ next_number self.now.frames }
+    {
+        self.frames.saturating_add(1)
+    }
+
+    // So many frames have begun.
+    pub(crate) fn set_frames(&mut self, frames: u64)
+        ensures { self.new ≡ record self.old { frames = frames } }
+    {
+        self.frames = frames;
     }
 
     pub(crate) fn set_place(&mut self, place: Place)
@@ -103,6 +127,7 @@ impl Standing {
         ensures count { result ≡ min most (min (length self.old.held) (length buffer.old)) }
         ensures whole { self.old.held ≡ take result buffer.new ++ self.new.held }
         ensures place { self.new.place ≡ self.old.place }
+        ensures frames { self.new.frames ≡ self.old.frames }
     {
         let count = copy_front(self.bytes.as_slice(), buffer, most);
         drop_front(&mut self.bytes, count);

@@ -39,7 +39,7 @@ pub(crate) fn read_frames<S: Source>(
     buffer: &mut [u8],
     within: usize,
 ) -> Turn
-    requires at { standing.old ≡ record { place = Within within; held = [] } }
+    requires at { standing.old ≡ record { place = Within within; frames = standing.old.frames; held = [] } }
     requires room { 0 < length buffer.old }
     ensures turn { (kept : Option (List Kept)) → TurnIs result standing.old standing.new (S.remaining source.old) (S.remaining source.new) kept kept buffer.new }
     ensures cause { (refused : Option ℕ) → CauseIs result standing.old standing.new (S.faults source.old) (S.faults source.new)
@@ -52,9 +52,11 @@ pub(crate) fn read_frames<S: Source>(
         return Turn::Gives(0);
     }
     let came = &buffer[..count];
-    let (passes, left) = scan(came, within);
+    let passed = scan(came, within, standing.frames());
+    let passes = passed.count;
     standing.append(&came[passes..]);
-    standing.set_place(Place::Within(left));
+    standing.set_frames(passed.frames);
+    standing.set_place(Place::Within(passed.left));
     if passes == 0 {
         return Turn::GoesOn;
     }
@@ -68,7 +70,7 @@ pub(crate) fn skip<S: Source>(
     buffer: &mut [u8],
     left: usize,
 ) -> Turn
-    requires at { standing.old ≡ record { place = WithinLong left; held = [] } }
+    requires at { standing.old ≡ record { place = WithinLong left; frames = standing.old.frames; held = [] } }
     requires room { 0 < length buffer.old }
     ensures turn { (kept : Option (List Kept)) → TurnIs result standing.old standing.new (S.remaining source.old) (S.remaining source.new) kept kept buffer.new }
     ensures cause { (refused : Option ℕ) → CauseIs result standing.old standing.new (S.faults source.old) (S.faults source.new)
@@ -95,7 +97,7 @@ pub(crate) fn read_unframed<S: Source>(
     source: &mut S,
     buffer: &mut [u8],
 ) -> Turn
-    requires at { standing.old ≡ record { place = Unframed; held = [] } }
+    requires at { standing.old ≡ record { place = Unframed; frames = standing.old.frames; held = [] } }
     requires room { 0 < length buffer.old }
     ensures turn { (kept : Option (List Kept)) → TurnIs result standing.old standing.new (S.remaining source.old) (S.remaining source.new) kept kept buffer.new }
     ensures cause { (refused : Option ℕ) → CauseIs result standing.old standing.new (S.faults source.old) (S.faults source.new)
@@ -183,6 +185,7 @@ pub(crate) fn begin_frame(
     ensures { (kept : Option (List Kept)) (ahead : Option (List ℕ)) → TurnIs (turn.Gives result) standing.old standing.new ahead ahead kept kept buffer.new }
 {
     let count = standing.hand_on(buffer, from + size);
+    standing.set_frames(standing.next_number());
     standing.set_place(Place::Within(from + size - count));
     count
 }

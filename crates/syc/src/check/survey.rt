@@ -57,7 +57,7 @@ fn say_found(alloc: Global, site: &Site, why: Refusal) -> Result<Answer, Halt>
 }
 
 /// What a check that tells all says of a site: how many protected classes it keeps, or all that is found in it, in a line
-/// for all classes of which the same is found at the same input.
+/// for all classes of which the same is found at the same input by the same occurrence.
 pub fn say_all(alloc: Global, site: &Site) -> Result<Answer, Halt>
     ensures ok { IfOk result (λ a. spec.SaysAll site.now a.text.items a.is_accepted) }
     ensures verdict { IfOk result (λ a. spec.IsVerdict asked.Check site.now a.is_accepted) }

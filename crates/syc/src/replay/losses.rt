@@ -65,7 +65,7 @@ fn append_loss(
         Part::Text(b" message "),
         Part::Number(message_number(replay, loss.copy)),
         Part::Text(b" at "),
-        Part::Text(relay_name(site, loss.relay)),
+        Part::Name(relay_name(site, loss.relay)),
         Part::Text(b" "),
         class_part(replay, loss.copy),
         Part::Text(b" "),

@@ -19,7 +19,7 @@ use sy_report::command_line::options::Options;
 use sy_report::outcome::answer::print;
 use sy_report::outcome::halt::Halt;
 use sy_report::outcome::report::report_texts;
-use sy_report::reading::files::{Files, HostFiles};
+use sy_report::reading::files::{Files, HostFiles, Kinds};
 use sy_report::texts::reason::Reason;
 use sy_report::writing::outputs::Outputs;
 use sy_site::Site;
@@ -151,7 +151,7 @@ pub fn explain_no_device<E: Sink>(
     errors: &mut E,
 ) {
     if let OpenFault::Write = why.fault {
-        let files = HostFiles::new(rt);
+        let files = HostFiles::new(rt, Kinds::Regular);
         print_words(errors, unopened(rt.alloc(), &files, name, site, relay, why));
     }
 }
@@ -177,7 +177,7 @@ pub fn explain_refused(
     relay: u32,
     refusal: (u16, Reason),
 ) {
-    let files = HostFiles::new(rt);
+    let files = HostFiles::new(rt, Kinds::Regular);
     let words = refused(rt.alloc(), &files, name, site, relay, refusal);
     print_words(&mut FromWrite::new(rt.stderr()), words);
 }

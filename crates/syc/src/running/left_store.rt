@@ -7,7 +7,7 @@ use std::alloc::{AllocError, Global};
 use sy_host::ending::left_file::{LeftFault, LeftFiles};
 use sy_report::outcome::report::report_texts;
 use sy_report::outcome::stop;
-use sy_report::reading::files::{Files, HostFiles};
+use sy_report::reading::files::{Files, HostFiles, Kinds};
 use sy_report::texts::note::Note;
 use sy_wire::Sink;
 
@@ -68,7 +68,7 @@ fn left_words(
 
 // Explains the same.
 fn explain_left<E: Sink>(rt: &HostRuntime, name: &str, fault: LeftFault, errors: &mut E) {
-    let folder = HostFiles::new(rt).folder();
+    let folder = HostFiles::new(rt, Kinds::Regular).folder();
     let folder = match &folder {
         Some(folder) => Some(folder.as_str()),
         None => None,

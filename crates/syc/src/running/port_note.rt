@@ -29,6 +29,18 @@ fn input_at(site: &Site, relay: u32, port: u16) -> u32 {
     0
 }
 
+// The address that a relay line has its relay listen at, with its place there, where it gives one.
+fn listened_in(line: &[u8]) -> Option<(usize, &[u8])> {
+    let (place, first) = word_in(line, 3)?;
+    if first == b"listen".as_slice() {
+        return word_in(line, 4);
+    }
+    match word_in(line, 4) {
+        Some(_) => word_in(line, 5),
+        None => Some((place, first)),
+    }
+}
+
 // Says that something stands in the line of a relay: its address, where it gives one.
 fn stands_at_address(
     alloc: Global,
@@ -46,7 +58,7 @@ fn stands_at_address(
         note.what.append(&[Part::Text(b"relay "), Part::Text(name)]);
         return;
     };
-    let column = match word_in(words, 3) {
+    let column = match listened_in(words) {
         Some((place, word)) => {
             note.what.append(&[Part::Text(word)]);
             (place as u64).saturating_add(1)
@@ -116,7 +128,10 @@ pub fn port_words(
     if relay >= site.relays() {
         return Ok(Vec::new(alloc));
     }
-    let address = site.address(relay).to_string(alloc)?;
+    let address = match site.listens_at(relay) {
+        Some(address) => address.to_string(alloc)?,
+        None => String::from_str(alloc, "all addresses")?,
+    };
     if kind_of(Some(reason)) == ErrorKind::AddrNotAvailable {
         let mut note = Note::new(alloc);
         stands_at_address(alloc, &mut note, texts, site, relay);

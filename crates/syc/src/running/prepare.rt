@@ -4,9 +4,11 @@ ghost use Rattle.sy_site.specs.Sites.{relay_named};
 ghost use Rattle.sy_site.specs.Finding.{IsTrueRefusal};
 ghost use Rattle.syc.specs.Prepared.{HasGuard, IsGuardOf, IsPrepared};
 ghost use Rattle.sy_places.specs.SiteFiles.{IsSiteOf};
+ghost use Rattle.sy_endpoints.specs.Endpoints.{AreEndpoints};
 ghost use Rattle.sy_host.specs.WholeEntries.{KeepsWhole};
 
 use crate::reading::read_for;
+use crate::running::endpoints::tell_apart;
 use crate::running::explaining::{options_for, print_found, print_halt, print_words};
 use crate::running::identity::{Identity, identity_of};
 use crate::running::start_notes::no_relay_words;
@@ -124,7 +126,7 @@ fn guard_if<W: Sink, E: Sink>(
 }
 
 // What the words name.
-#[tactic(auto, using(sy_host::proofs::Named::is_there))]
+#[tactic(auto, using(sy_endpoints::proofs::Named::is_there))]
 fn ready<F: Files, W: Sink, E: Sink>(
     alloc: Global,
     words: RunWords<'_>,
@@ -135,6 +137,7 @@ fn ready<F: Files, W: Sink, E: Sink>(
         IsSiteOf (F.bytes_of files.now) text found.0) }
     ensures relay { IfOk result (λ found. relay_named found.0.relays words.entry.relay.now ≡ Some found.1) }
     ensures guard { IfOk result (λ found. IsGuardOf words.entry.is_unchecked found.0 found.1 found.2) }
+    ensures endpoints { IfOk result (λ found. AreEndpoints found.0 found.1) }
     ensures whole { IfOk result (λ found. KeepsWhole found.0 found.1 (option_map (λ file. file.now) words.entry.unread)) }
     ensures status { IfErr result (λ status. status ≤ 4) }
 {
@@ -143,6 +146,18 @@ fn ready<F: Files, W: Sink, E: Sink>(
         Ok(found) => found,
         Err(status) => return Err(status),
     };
+    let is_explained = words.is_explained;
+    if let Err(status) = tell_apart(
+        alloc,
+        files,
+        &mut texts,
+        is_explained,
+        &site,
+        relay,
+        &mut out.errors,
+    ) {
+        return Err(status);
+    }
     let explained = if words.is_explained {
         Some(&texts)
     } else {
@@ -168,7 +183,7 @@ fn ready<F: Files, W: Sink, E: Sink>(
 /// What the command that runs a relay needs: the site that the words name, the number of its relay, the relay's guard,
 /// where the site is checked and sound, what the words say, and which files were read. With `--unchecked` among the words no check is made, and there is no guard. Else
 /// an exit status, and what is to be said of it is printed: 1 for a site that is refused, 2 for a faulty site, a relay that it doesn't have
-/// or that has a whole entry whose frames without a message nothing keeps, or other words (0 where they ask for help), 3 where memory runs out, and 4 where a read or write failed.
+/// or that has a whole entry whose frames without a message nothing keeps, endpoints that aren't told apart, or other words (0 where they ask for help), 3 where memory runs out, and 4 where a read or write failed.
 pub fn prepare<'a, F: Files, W: Sink, E: Sink>(
     alloc: Global,
     args: &'a [String],

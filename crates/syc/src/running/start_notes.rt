@@ -7,7 +7,7 @@ use sy_findings::notes::objects::stands_at;
 use sy_places::relay_file::places::{Thing, objects_of, places_of};
 use sy_places::site_file::texts::{SiteTexts, relay_file};
 use sy_report::texts::near::nearest;
-use sy_report::texts::note::{Note, append_note};
+use sy_report::texts::note::{Note, Point, append_note};
 use sy_report::texts::parts::Part;
 use sy_report::texts::reason::Reason;
 use sy_report::texts::words::Words;
@@ -34,6 +34,26 @@ pub fn note_at(
     let places = places_of(&file, objects.as_slice());
     stands_at(alloc, &mut note, site, relay, places, thing);
     Ok(note)
+}
+
+/// Where an object of a relay stands: the name of its file, and the point; none where that isn't known.
+pub fn point_of(
+    alloc: Global,
+    texts: &SiteTexts<'_>,
+    relay: u32,
+    thing: Thing,
+) -> Result<Option<(Vec<u8>, Point)>, AllocError> {
+    let file = relay_file(alloc, texts.relay_text(relay))?;
+    let objects = objects_of(alloc, &file)?;
+    let Some(places) = places_of(&file, objects.as_slice()) else {
+        return Ok(None);
+    };
+    let Some(point) = places.point(thing) else {
+        return Ok(None);
+    };
+    let mut name = Vec::new(alloc);
+    name.extend_from_slice(places.file.as_bytes())?;
+    Ok(Some((name, point)))
 }
 
 /// What sort of failure a reason is.

@@ -14,7 +14,7 @@ use sy_log::unread_names::UnreadNames;
 use sy_places::relay_file::places::Thing;
 use sy_report::outcome::report::report_texts;
 use sy_report::outcome::stop;
-use sy_report::reading::files::{Files, HostFiles};
+use sy_report::reading::files::{Files, HostFiles, Kinds};
 use sy_report::texts::note::Note;
 use sy_report::texts::parts::{Part, append_parts};
 use sy_report::texts::reason::Reason;
@@ -107,7 +107,7 @@ fn note_of(
         note.what.append(&[Part::Text(name)]);
         return Ok((note, " on the command line"));
     }
-    let texts = texts_of(alloc, &HostFiles::new(rt), site_file)?;
+    let texts = texts_of(alloc, &HostFiles::new(rt, Kinds::Regular), site_file)?;
     let input = Thing::Input(wanted.input_of(file));
     let note = note_at(alloc, &texts, wanted.site, wanted.relay, input)?;
     Ok((note, " in that line"))
@@ -134,7 +134,7 @@ fn refused_words(
         Part::Text(words.as_slice()),
     ]);
     if let Refusal::NoFolder = why {
-        if let Some(folder) = HostFiles::new(rt).folder() {
+        if let Some(folder) = HostFiles::new(rt, Kinds::Regular).folder() {
             push_folder(&mut note.why, name, Some(folder.as_str()));
         }
     }

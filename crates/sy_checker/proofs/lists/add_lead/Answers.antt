@@ -8,6 +8,7 @@ pub add-requires : goal.add-requires
 add-requires c =
     let leads = it_leads c.args.site.now c.args.class c.args.from c.args.number c.requires.does c.in-Some.to (sym c.lead_of.ensures ∙ c.in-Some.is) in
     record {
+      marked = c.requires.marked;
       found = c.requires.found;
       there = lead_there c.args.site.now c.is_lawful.ensures c.args.from c.args.number c.in-Some.to (sym c.lead_of.ensures ∙ c.in-Some.is);
       origin = (

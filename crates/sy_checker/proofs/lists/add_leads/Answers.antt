@@ -4,6 +4,7 @@ use Rattle.sy_checker.proofs.lists.add_leads.Goals as goal
 
 pub loop-number-init : goal.loop-number-init
 loop-number-init c = record {
+  marked = c.requires.marked;
   found = c.requires.found;
   more = nothing_more c.args.found.now.lists.items;
   led = λ k to low lead. absurd (omega (arith, low));
@@ -11,6 +12,7 @@ loop-number-init c = record {
 
 pub add_lead-requires : goal.add_lead-requires
 add_lead-requires c = record {
+  marked = c.loop-number.invariant.marked;
   found = c.loop-number.invariant.found;
   stands = stands_more c.args.found.now.lists.items c.loop-number.found.lists.items c.loop-number.invariant.more c.args.place c.args.from
       c.requires.stands;
@@ -21,6 +23,7 @@ add_lead-requires c = record {
 
 pub loop-number-preserved : goal.loop-number-preserved
 loop-number-preserved c = record {
+  marked = c.in_ok-add_lead.ensures.marked;
   found = c.in_ok-add_lead.ensures.found;
   more = more_behind c.args.found.now.lists.items c.loop-number.found.lists.items c.add_lead.new.found.lists.items c.loop-number.invariant.more
       c.in_ok-add_lead.ensures.more;

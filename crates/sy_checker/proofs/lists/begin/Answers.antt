@@ -3,10 +3,13 @@ use Rattle.sy_checker.specs.internal.Leads.{AreFound}
 use Rattle.sy_checker.proofs.Led.{found_first}
 use Rattle.sy_checker.proofs.lists.begin.Goals as goal
 
-pub returns : goal.returns
-returns c =
+pub returns-clause-found : goal.returns-clause-found
+returns-clause-found c =
     let lists = c.in_ok-push.ensures.items ∙ ap (λ l. l ++ c.args.start ∷ []) c.new-lists.ensures.items in
     let origins = c.in_ok-push-2.ensures.items ∙ ap (λ l. l ++ None ∷ []) c.new-origins.ensures.items in
     subst (λ l. AreFound c.args.site.now c.args.class c.args.start l c.push-2.new.self.items) (sym lists)
     (subst (AreFound c.args.site.now c.args.class c.args.start (c.args.start ∷ [])) (sym origins)
     (found_first c.args.site.now c.args.class c.args.start c.requires.there))
+
+pub returns-clause-lists : goal.returns-clause-lists
+returns-clause-lists c = c.in_ok-push.ensures.items ∙ ap (λ l. l ++ c.args.start ∷ []) c.new-lists.ensures.items

@@ -1,12 +1,16 @@
-use Rattle.std.proofs.Common.{◌≡◌, ◌<◌, ◌≤◌, ◌+◌, ◌-◌, Some, arith, length, refl, sym}
+use Rattle.std.proofs.Common.{◌≡◌, ◌<◌, ◌≤◌, ◌+◌, ◌-◌, [], Some, arith, length, refl, subst, sym}
 use Rattle.std.specs.Prelude.{slice_get}
 use Rattle.std.proofs.lemmas.Option.{slice_get_read}
+use Rattle.sy_checker.specs.internal.Marks.{AreListsMarked}
+use Rattle.sy_checker.proofs.MarkedLists.{no_lists_marked}
 use Rattle.sy_checker.proofs.Led.{all_led, few_lists, more_led, none_led}
 use Rattle.sy_checker.proofs.lists.lists_from.Goals as goal
 
 pub loop-done-init : goal.loop-done-init
 loop-done-init c = record {
-  found = c.in_ok-found.ensures;
+  marked = subst (λ l. AreListsMarked l c.mark_list.new.marks.items) (sym c.in_ok-found.ensures.lists)
+      (c.in_ok-mark_list.ensures [] (subst (AreListsMarked []) (sym c.new-marks.ensures.items) no_lists_marked));
+  found = c.in_ok-found.ensures.found;
   led = none_led c.args.site.now c.args.class c.in_ok-found.found.lists.items;
 }
 
@@ -14,6 +18,7 @@ pub add_leads-requires : goal.add_leads-requires
 add_leads-requires c =
     let low : c.loop-done.done < length c.loop-done.found.lists.items = omega (arith, c.loop-done-test.true, c.len.ensures) in
     record {
+      marked = c.loop-done.invariant.marked;
       found = c.loop-done.invariant.found;
       stands = slice_get_read c.loop-done.found.lists.items (length c.loop-done.found.lists.items) c.loop-done.done c.index-from.result.now refl low
           c.index-from.ensures;
@@ -25,6 +30,7 @@ pub loop-done-preserved : goal.loop-done-preserved
 loop-done-preserved c =
     let low : c.loop-done.done < length c.loop-done.found.lists.items = omega (arith, c.loop-done-test.true, c.len.ensures) in
     record {
+      marked = c.in_ok-add_leads.ensures.marked;
       found = c.in_ok-add_leads.ensures.found;
       led = more_led c.args.site.now c.args.class c.loop-done.found.lists.items c.add_leads.new.found.lists.items c.loop-done.done
           c.index-from.result.now

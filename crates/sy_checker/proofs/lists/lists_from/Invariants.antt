@@ -1,10 +1,12 @@
 use Rattle.std.proofs.Common.{◌-◌}
 use Rattle.sy_checker.specs.internal.Leads.{AreFound}
+use Rattle.sy_checker.specs.internal.Marks.{AreListsMarked}
 use Rattle.sy_checker.proofs.Led.{AreLed}
 use Rattle.sy_checker.proofs.lists.lists_from.Given as goal
 
 abbrev pub invariant-loop-done : goal.invariant-loop-done
 invariant-loop-done l = record {
+  marked : AreListsMarked l.found.lists.items l.marks.items;
   found : AreFound l.site l.class l.start l.found.lists.items l.found.origins.items;
   led : AreLed l.site l.class l.found.lists.items l.done;
 }

@@ -9,4 +9,5 @@ loop-input-preserved c = (
   λ site class which rooted. c.in_ok-add.ensures.roots site class which c.args.start.now
       (Contains-get_or c.args.start.now c.loop-input.input-index (record { relay = 0; input = 0 }) c.loop-input-test.true)
       (c.loop-input.invariant.1 site class which rooted),
+  c.in_ok-add.ensures.marked,
 )

@@ -17,6 +17,7 @@ loop-hop-preserved c =
           (Contains-get_or own k (record { number = 0; to = record { relay = 0; input = 0 } }) c.loop-hop-test.true)
           (stands_still (HasHop (take k own)) c.args.found.now.inputs.items c.loop-hop.found.inputs.items c.loop-hop.invariant.0 c.args.place c.args.from here))
           (c.loop-hop.invariant.1 start here rooted),
+      c.in_ok-add.ensures.marked,
     )
 
 pub returns-clause-inputs : goal.returns-clause-inputs

@@ -3,13 +3,15 @@ use Rattle.std.proofs.Common.{◌≡◌, ℕ, suc, ◌<◌, true, false, List, [
 use Rattle.std.specs.Prelude.{All, Contains, OnOk}
 use Rattle.std.proofs.lemmas.List.{drop_all, drop_more}
 use Rattle.std.proofs.lemmas.List.Elements.{All-append, All-cons, filter-append}
-use Rattle.sy_site.specs.texts.Describes.{AllPaired, entry_lines, protect_lines, relay_lines, spare_lines, whole_lines}
+use Rattle.sy_site.specs.texts.Describes.{AllPaired, entry_lines, outside_lines, protect_lines, relay_lines, spare_lines, whole_lines}
+use Rattle.sy_site.specs.Sites.{Outside}
 use Rattle.sy_site.specs.texts.Shapes.{Line, EntryLine}
 use Rattle.sy_site.specs.declared.texts.reading.Given.{Given}
 use Rattle.sy_site.specs.declared.texts.shapes.RelayLine.{RelayLine as ReadRelay}
 use Rattle.sy_site.specs.declared.texts.shapes.EntryLine.{EntryLine as ReadEntry}
 use Rattle.sy_site.specs.declared.texts.shapes.ProtectLine.{ProtectLine as ReadProtect}
 use Rattle.sy_site.specs.declared.texts.shapes.SpareLine.{SpareLine as ReadSpare}
+use Rattle.sy_site.specs.declared.texts.shapes.OutsideLine.{OutsideLine as ReadOutside}
 use Rattle.sy_site.specs.declared.texts.shapes.Line.{Line as Read}
 use Rattle.sy_site.specs.declared.texts.shapes.Line.TheVariants as read
 use Rattle.sy_site.specs.internal.Lines.{line_of}
@@ -78,6 +80,7 @@ relay_first (Line.Relay it) lines = refl
 relay_first (Line.Entry it) lines = refl
 relay_first (Line.Protect it) lines = refl
 relay_first (Line.Spare it) lines = refl
+relay_first (Line.Outside it) lines = refl
 
 pub entry_first : (line : Line) (lines : List Line) → entry_lines (line ∷ lines) ≡ entry_lines (line ∷ []) ++ entry_lines lines
 entry_first Line.Policy lines = refl
@@ -85,6 +88,7 @@ entry_first (Line.Relay it) lines = refl
 entry_first (Line.Entry it) lines = refl
 entry_first (Line.Protect it) lines = refl
 entry_first (Line.Spare it) lines = refl
+entry_first (Line.Outside it) lines = refl
 
 pub whole_first : (line : Line) (lines : List Line) → whole_lines (line ∷ lines) ≡ whole_lines (line ∷ []) ++ whole_lines lines
 whole_first line lines =
@@ -96,6 +100,7 @@ protect_first (Line.Relay it) lines = refl
 protect_first (Line.Entry it) lines = refl
 protect_first (Line.Protect it) lines = refl
 protect_first (Line.Spare it) lines = refl
+protect_first (Line.Outside it) lines = refl
 
 pub spare_first : (line : Line) (lines : List Line) → spare_lines (line ∷ lines) ≡ spare_lines (line ∷ []) ++ spare_lines lines
 spare_first Line.Policy lines = refl
@@ -103,6 +108,15 @@ spare_first (Line.Relay it) lines = refl
 spare_first (Line.Entry it) lines = refl
 spare_first (Line.Protect it) lines = refl
 spare_first (Line.Spare it) lines = refl
+spare_first (Line.Outside it) lines = refl
+
+pub outside_first : (line : Line) (lines : List Line) → outside_lines (line ∷ lines) ≡ outside_lines (line ∷ []) ++ outside_lines lines
+outside_first Line.Policy lines = refl
+outside_first (Line.Relay it) lines = refl
+outside_first (Line.Entry it) lines = refl
+outside_first (Line.Protect it) lines = refl
+outside_first (Line.Spare it) lines = refl
+outside_first (Line.Outside it) lines = refl
 
 -- ---- lines that were read, one after the other
 
@@ -142,6 +156,7 @@ not_relay (read.Relay it) never = absurd (never it refl)
 not_relay (read.Entry it) never = refl
 not_relay (read.Protect it) never = refl
 not_relay (read.Spare it) never = refl
+not_relay (read.Outside it) never = refl
 
 pub not_entry : (line : Read) → ((it : ReadEntry) → line ≡ read.Entry it → ⊥) → entry_lines (line_of line ∷ []) ≡ []
 not_entry read.Policy never = refl
@@ -149,6 +164,7 @@ not_entry (read.Relay it) never = refl
 not_entry (read.Entry it) never = absurd (never it refl)
 not_entry (read.Protect it) never = refl
 not_entry (read.Spare it) never = refl
+not_entry (read.Outside it) never = refl
 
 pub not_whole : (line : Read) → ((it : ReadEntry) → line ≡ read.Entry it → ⊥) → whole_lines (line_of line ∷ []) ≡ []
 not_whole line never = ap (filter (λ it. it.is_whole)) (not_entry line never)
@@ -166,6 +182,7 @@ not_protect (read.Relay it) never = refl
 not_protect (read.Entry it) never = refl
 not_protect (read.Protect it) never = absurd (never it refl)
 not_protect (read.Spare it) never = refl
+not_protect (read.Outside it) never = refl
 
 pub not_spare : (line : Read) → ((it : ReadSpare) → line ≡ read.Spare it → ⊥) → spare_lines (line_of line ∷ []) ≡ []
 not_spare read.Policy never = refl
@@ -173,6 +190,38 @@ not_spare (read.Relay it) never = refl
 not_spare (read.Entry it) never = refl
 not_spare (read.Protect it) never = refl
 not_spare (read.Spare it) never = absurd (never it refl)
+not_spare (read.Outside it) never = refl
+
+pub not_outside : (line : Read) → ((it : ReadOutside) → line ≡ read.Outside it → ⊥) → outside_lines (line_of line ∷ []) ≡ []
+not_outside read.Policy never = refl
+not_outside (read.Relay it) never = refl
+not_outside (read.Entry it) never = refl
+not_outside (read.Protect it) never = refl
+not_outside (read.Spare it) never = refl
+not_outside (read.Outside it) never = absurd (never it refl)
+
+-- the receivers of the lines that were read, up to a place and from there on
+pub outsides_at : (found : List Given) (i : ℕ) (next : Given) (old new : List Outside) → i < length found → next ≡ get_or found i next
+    → new ≡ old ++ outside_lines (line_given next ∷ []) → old ++ outside_lines (map line_given (drop i found)) ≡ outside_lines (map line_given found)
+    → new ++ outside_lines (map line_given (drop (i + 1) found)) ≡ outside_lines (map line_given found)
+outsides_at found i next old new within is more so_far =
+    ap (λ l. l ++ later) more ∙ append_assoc old (outside_lines (line_given next ∷ [])) later
+    ∙ ap (λ l. old ++ l) (sym (outside_first (line_given next) (map line_given (drop (i + 1) found))) ∙ ap (λ l. outside_lines (map line_given l)) (sym cut))
+    ∙ so_far
+  where
+    later : List Outside
+    later = outside_lines (map line_given (drop (i + 1) found))
+
+    cut : drop i found ≡ next ∷ drop (i + 1) found
+    cut = drop_more found i next within ∙ ap (λ g. g ∷ drop (i + 1) found) (sym is)
+
+pub outsides_end : (found : List Given) (i : ℕ) (old : List Outside) → length found ≤ i
+    → old ++ outside_lines (map line_given (drop i found)) ≡ outside_lines (map line_given found) → old ≡ outside_lines (map line_given found)
+outsides_end found i old past so_far =
+    sym (append-nil old) ∙ ap (λ l. old ++ outside_lines (map line_given l)) (sym (drop_all i found past)) ∙ so_far
+
+pub none_outside : (old more : List Outside) → more ≡ [] → old ≡ old ++ more
+none_outside old more none = sym (append-nil old) ∙ ap (λ l. old ++ l) (sym none)
 
 pub none_of : {X B : Type 0} (P : X → B → Type 0) (lines : List X) (old : List B) → lines ≡ [] → HasMore P lines old old
 none_of P lines old none = subst (λ l. HasMore P l old old) (sym none) (more_none P old)

@@ -11,6 +11,7 @@ use Rattle.std.proofs.lemmas.Option.{option_and_then_some, slice_get-get_or}
 use Rattle.std.proofs.lemmas.Slice.Eq.{bytes_eq-Decides}
 use Rattle.sy_rules.specs.declared.parameters.objects.Destination.TheVariants as destination
 use Rattle.sy_rules.specs.declared.parts.Action.{Action}
+use Rattle.sy_site.specs.declared.site.host.Host.TheVariants as host
 use Rattle.sy_site.specs.Sites.{Site, Relay, SiteAction, Protection, actions_at, is_spare, no_plan, plan_at, relay_named}
 use Rattle.sy_site.specs.texts.Shapes.{ProtectLine, SpareLine}
 use Rattle.sy_site.specs.texts.Describes.{AllPaired, IsProtection, IsSpare, NameOne, action_at, archive_at, is_archive}
@@ -54,7 +55,7 @@ of_relay spares relay action e =
 -- ---- names
 
 nobody : Relay
-nobody = record { name = []; address = []; plan = no_plan }
+nobody = record { name = []; host = host.Name []; listens = None; plan = no_plan }
 
 pub nothing : Action
 nothing = record { name = []; destination = destination.Archive []; retry = None; resume_interval = 0 }

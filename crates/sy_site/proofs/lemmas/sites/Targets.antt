@@ -8,7 +8,7 @@ use Rattle.sy_rules.specs.declared.parameters.objects.Destination.TheVariants as
 use Rattle.sy_rules.specs.declared.parts.Action.{Action}
 use Rattle.sy_site.specs.declared.site.relay.Relay.{Relay as Kept}
 use Rattle.sy_site.specs.declared.site.targets.Targets.{Targets}
-use Rattle.sy_site.specs.Sites.{Protection, Site, SiteAction, SiteInput, plan_in, target, target_of}
+use Rattle.sy_site.specs.Sites.{Outside, Protection, Site, SiteAction, SiteInput, plan_in, target, target_of}
 use Rattle.sy_site.specs.internal.SiteInside.{in_action, in_relay, inputs_of, looked_up, relay_of, site_with, targets_in}
 
 -- one more of what is made of each
@@ -26,9 +26,10 @@ as_inputs : (of : Option Targets) (action : ℕ) → in_relay of action ≡ in_i
 as_inputs None action = refl
 as_inputs (Some targets) action = refl
 
-module _ (policy : ℕ) (relays : List Kept) (entries whole_entries : List SiteInput) (protections : List Protection) (spares : List SiteAction) where
+module _ (policy : ℕ) (relays : List Kept) (entries whole_entries : List SiteInput) (protections : List Protection) (spares : List SiteAction)
+    (outsides : List Outside) where
   abbrev pub site : Site
-  site = record { policy = policy; relays = map relay_of relays; entries = entries; whole_entries = whole_entries; protections = protections; spares = spares }
+  site = record { policy = policy; relays = map relay_of relays; entries = entries; whole_entries = whole_entries; protections = protections; spares = spares; outsides = outsides }
 
   -- where a forward leads hangs on the relays alone
   leads : (d : Destination) (name : List ℕ) (retry : Option ℕ) (resume_interval : ℕ)

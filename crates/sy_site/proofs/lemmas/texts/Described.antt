@@ -7,6 +7,7 @@ use Rattle.std.proofs.lemmas.List.Elements.{Contains-get_or}
 use Rattle.std.proofs.lemmas.List.Quantifiers.{position-Some}
 use Rattle.std.proofs.lemmas.Option.{slice_get-get_or}
 use Rattle.std.proofs.lemmas.Slice.Eq.{bytes_eq-Decides}
+use Rattle.sy_site.specs.declared.site.host.Host.TheVariants as host
 use Rattle.sy_site.specs.declared.site.relay.Relay.{Relay as Kept}
 use Rattle.sy_site.specs.Sites.{Relay, Site, plan_at, plan_in, relay_named}
 use Rattle.sy_site.specs.texts.Lines.{is_kind, is_skipped, word_lines}
@@ -31,6 +32,7 @@ no_skip line (Line.Relay it) skipped shape = false≢true (sym (ap is_skipped sh
 no_skip line (Line.Entry it) skipped shape = false≢true (sym (ap is_skipped shape.whole) ∙ skipped)
 no_skip line (Line.Protect it) skipped shape = false≢true (sym (ap is_skipped shape.whole) ∙ skipped)
 no_skip line (Line.Spare it) skipped shape = false≢true (sym (ap is_skipped shape) ∙ skipped)
+no_skip line (Line.Outside it) skipped shape = false≢true (sym (ap is_skipped shape.whole) ∙ skipped)
 
 there_later : {A : Type 0} (y x : A) (xs : List A) → Contains xs x → Contains (y ∷ xs) x
 there_later y x xs (k, l, is) = (suc k, omega (arith, l), is)
@@ -64,6 +66,7 @@ relay_there (Line.Entry other ∷ lines) it (ℕ.suc k, l, is) = relay_there lin
 relay_there (Line.Protect other ∷ lines) it (ℕ.suc k, l, is) = relay_there lines it (k, omega (arith, l), is)
 relay_there (Line.Policy ∷ lines) it (ℕ.suc k, l, is) = relay_there lines it (k, omega (arith, l), is)
 relay_there (Line.Spare other ∷ lines) it (ℕ.suc k, l, is) = relay_there lines it (k, omega (arith, l), is)
+relay_there (Line.Outside other ∷ lines) it (ℕ.suc k, l, is) = relay_there lines it (k, omega (arith, l), is)
 
 pub there_relay : (lines : List Line) (it : RelayLine) → Contains (relay_lines lines) it → Contains lines (Line.Relay it)
 there_relay [] it (k, l, is) = absurd (omega (arith, l))
@@ -73,6 +76,7 @@ there_relay (Line.Entry other ∷ lines) it there = there_later _ _ _ (there_rel
 there_relay (Line.Protect other ∷ lines) it there = there_later _ _ _ (there_relay lines it there)
 there_relay (Line.Policy ∷ lines) it there = there_later _ _ _ (there_relay lines it there)
 there_relay (Line.Spare other ∷ lines) it there = there_later _ _ _ (there_relay lines it there)
+there_relay (Line.Outside other ∷ lines) it there = there_later _ _ _ (there_relay lines it there)
 
 pub protect_there : (lines : List Line) (it : ProtectLine) → Contains lines (Line.Protect it) → Contains (protect_lines lines) it
 protect_there [] it (k, l, is) = absurd (omega (arith, l))
@@ -82,6 +86,7 @@ protect_there (Line.Entry other ∷ lines) it (ℕ.suc k, l, is) = protect_there
 protect_there (Line.Relay other ∷ lines) it (ℕ.suc k, l, is) = protect_there lines it (k, omega (arith, l), is)
 protect_there (Line.Policy ∷ lines) it (ℕ.suc k, l, is) = protect_there lines it (k, omega (arith, l), is)
 protect_there (Line.Spare other ∷ lines) it (ℕ.suc k, l, is) = protect_there lines it (k, omega (arith, l), is)
+protect_there (Line.Outside other ∷ lines) it (ℕ.suc k, l, is) = protect_there lines it (k, omega (arith, l), is)
 
 pub entry_there : (lines : List Line) (it : EntryLine) → Contains lines (Line.Entry it) → Contains (entry_lines lines) it
 entry_there [] it (k, l, is) = absurd (omega (arith, l))
@@ -91,6 +96,7 @@ entry_there (Line.Protect other ∷ lines) it (ℕ.suc k, l, is) = entry_there l
 entry_there (Line.Relay other ∷ lines) it (ℕ.suc k, l, is) = entry_there lines it (k, omega (arith, l), is)
 entry_there (Line.Policy ∷ lines) it (ℕ.suc k, l, is) = entry_there lines it (k, omega (arith, l), is)
 entry_there (Line.Spare other ∷ lines) it (ℕ.suc k, l, is) = entry_there lines it (k, omega (arith, l), is)
+entry_there (Line.Outside other ∷ lines) it (ℕ.suc k, l, is) = entry_there lines it (k, omega (arith, l), is)
 
 pub spare_there : (lines : List Line) (it : SpareLine) → Contains lines (Line.Spare it) → Contains (spare_lines lines) it
 spare_there [] it (k, l, is) = absurd (omega (arith, l))
@@ -100,6 +106,7 @@ spare_there (Line.Policy ∷ lines) it (ℕ.suc k, l, is) = spare_there lines it
 spare_there (Line.Relay other ∷ lines) it (ℕ.suc k, l, is) = spare_there lines it (k, omega (arith, l), is)
 spare_there (Line.Entry other ∷ lines) it (ℕ.suc k, l, is) = spare_there lines it (k, omega (arith, l), is)
 spare_there (Line.Protect other ∷ lines) it (ℕ.suc k, l, is) = spare_there lines it (k, omega (arith, l), is)
+spare_there (Line.Outside other ∷ lines) it (ℕ.suc k, l, is) = spare_there lines it (k, omega (arith, l), is)
 
 -- ---- relays by name
 
@@ -123,7 +130,7 @@ pub has_plan : (text : List ℕ) (files : List File) {relays : _} → (r : AreRe
     → relay_named (map relay_of relays) name ≡ Some number → HasPlan text files name (plan_at (site_with relays) number)
 has_plan text files {relays} r name number is =
     let all : List Relay = map relay_of relays in
-    let none : Relay = record { name = []; address = []; plan = plan_in None } in
+    let none : Relay = record { name = []; host = host.Name []; listens = None; plan = plan_in None } in
     let at = position-Some (λ x. bytes_eq x.name name) all number none is in
     let it : Relay = get_or all number none in
     let mate = partner_back (IsRelay files) r.paired it (Contains-get_or all number none at.0) in
@@ -173,9 +180,11 @@ no_entry_line (AreLines.shaped {it = Line.Relay it} e shape h) none line (ℕ.ze
 no_entry_line (AreLines.shaped {it = Line.Protect it} e shape h) none line (ℕ.zero, l, is) = ap (is_kind (codes "entry")) (sym is ∙ shape.whole)
 no_entry_line (AreLines.shaped {it = Line.Policy} e shape h) none line (ℕ.zero, l, is) = ap (is_kind (codes "entry")) (sym is ∙ shape)
 no_entry_line (AreLines.shaped {it = Line.Spare it} e shape h) none line (ℕ.zero, l, is) = ap (is_kind (codes "entry")) (sym is ∙ shape)
+no_entry_line (AreLines.shaped {it = Line.Outside it} e shape h) none line (ℕ.zero, l, is) = ap (is_kind (codes "entry")) (sym is ∙ shape.whole)
 no_entry_line (AreLines.shaped {it = Line.Entry it} e shape h) none line there = absurd (some_first none)
 no_entry_line (AreLines.shaped {it = Line.Policy} e shape h) none line (ℕ.suc k, l, is) = no_entry_line h none line (k, omega (arith, l), is)
 no_entry_line (AreLines.shaped {it = Line.Spare it} e shape h) none line (ℕ.suc k, l, is) = no_entry_line h none line (k, omega (arith, l), is)
+no_entry_line (AreLines.shaped {it = Line.Outside it} e shape h) none line (ℕ.suc k, l, is) = no_entry_line h none line (k, omega (arith, l), is)
 no_entry_line (AreLines.shaped {it = Line.Relay it} e shape h) none line (ℕ.suc k, l, is) = no_entry_line h none line (k, omega (arith, l), is)
 no_entry_line (AreLines.shaped {it = Line.Protect it} e shape h) none line (ℕ.suc k, l, is) = no_entry_line h none line (k, omega (arith, l), is)
 

@@ -88,6 +88,7 @@ named_by Line.Policy spare e = absurd (false≢true e)
 named_by (Line.Relay it) spare e = absurd (false≢true e)
 named_by (Line.Entry it) spare e = absurd (false≢true e)
 named_by (Line.Spare it) spare e = absurd (false≢true e)
+named_by (Line.Outside it) spare e = absurd (false≢true e)
 named_by (Line.Protect it) spare e = (
   it,
   refl,
@@ -125,6 +126,7 @@ read_first given found protect Line.Policy is there later = read_later given fou
 read_first given found protect (Line.Relay it) is there later = read_later given found protect (later there)
 read_first given found protect (Line.Entry it) is there later = read_later given found protect (later there)
 read_first given found protect (Line.Spare it) is there later = read_later given found protect (later there)
+read_first given found protect (Line.Outside it) is there later = read_later given found protect (later there)
 read_first given found protect (Line.Protect it) is there later =
     elim (among_cases it (protect_lines (map line_given found)) protect there) [
       | inl same ↦ (given, among_first given found, is ∙ ap Line.Protect same)

@@ -18,7 +18,7 @@ use Rattle.sy_site.specs.internal.Reading.{kind, most, line_given, words_given, 
 use Rattle.sy_site.specs.texts.Lines.{is_kind, is_skipped, words, word_lines}
 use Rattle.sy_site.specs.texts.Shapes.{Line, RelayLine, EntryLine, ProtectLine, SpareLine, IsLine, policy_line}
 use Rattle.sy_site.specs.texts.Files.{RELAYS}
-use Rattle.sy_site.specs.texts.Describes.{ENTRIES, PROTECTIONS, SPARES, AreLines, File, IsDuplicate, IsMisplaced, Repeats, entry_lines, first_line, policy_of, protect_lines, relay_lines, spare_lines}
+use Rattle.sy_site.specs.texts.Describes.{ENTRIES, OUTSIDES, PROTECTIONS, SPARES, AreLines, File, IsDuplicate, IsMisplaced, Repeats, entry_lines, first_line, outside_lines, policy_of, protect_lines, relay_lines, spare_lines}
 use Rattle.sy_site.specs.texts.HasFault.{HasFault, IsLimit}
 use Rattle.sy_site.proofs.lemmas.texts.Shaped.{behind_first, first_same}
 use Rattle.sy_site.proofs.lemmas.texts.Noted.{Words, one_behind, no_words, split, within}
@@ -308,6 +308,7 @@ count_relays (given ∷ found) = one (line_given given) (words given.behind.now)
   one (Line.Protect it) behind same = same
   one Line.Policy behind same = same
   one (Line.Spare it) behind same = same
+  one (Line.Outside it) behind same = same
 
 count_entries : (found : List Given) → length (entry_lines (map line_given found)) ≡ length (filter (is_kind (codes "entry")) (map words_given found))
 count_entries [] = refl
@@ -320,6 +321,7 @@ count_entries (given ∷ found) = one (line_given given) (words given.behind.now
   one (Line.Protect it) behind same = same
   one Line.Policy behind same = same
   one (Line.Spare it) behind same = same
+  one (Line.Outside it) behind same = same
 
 count_protections : (found : List Given)
     → length (protect_lines (map line_given found)) ≡ length (filter (is_kind (codes "protect")) (map words_given found))
@@ -333,6 +335,7 @@ count_protections (given ∷ found) = one (line_given given) (words given.behind
   one (Line.Protect it) behind same = omega (arith, same)
   one Line.Policy behind same = same
   one (Line.Spare it) behind same = same
+  one (Line.Outside it) behind same = same
 
 count_spares : (found : List Given) → length (spare_lines (map line_given found)) ≡ length (filter (is_kind (codes "spare")) (map words_given found))
 count_spares [] = refl
@@ -345,6 +348,20 @@ count_spares (given ∷ found) = one (line_given given) (words given.behind.now)
   one (Line.Entry it) behind same = same
   one (Line.Protect it) behind same = same
   one (Line.Spare it) behind same = omega (arith, same)
+  one (Line.Outside it) behind same = same
+
+count_outsides : (found : List Given) → length (outside_lines (map line_given found)) ≡ length (filter (is_kind (codes "outside")) (map words_given found))
+count_outsides [] = refl
+count_outsides (given ∷ found) = one (line_given given) (words given.behind.now) (count_outsides found) where
+  one : (it : Line) (behind : Words)
+      → length (outside_lines (map line_given found)) ≡ length (filter (is_kind (codes "outside")) (map words_given found))
+      → length (outside_lines (it ∷ map line_given found)) ≡ length (filter (is_kind (codes "outside")) ((kind it ∷ behind) ∷ map words_given found))
+  one Line.Policy behind same = same
+  one (Line.Relay it) behind same = same
+  one (Line.Entry it) behind same = same
+  one (Line.Protect it) behind same = same
+  one (Line.Spare it) behind same = same
+  one (Line.Outside it) behind same = omega (arith, same)
 
 module _ {text rest : List ℕ} {found : List Given} {place : ℕ} (so_far : Found text rest found place) where
   pub few_relays : length (relay_lines (map line_given found)) ≤ RELAYS
@@ -358,3 +375,6 @@ module _ {text rest : List ℕ} {found : List Given} {place : ℕ} (so_far : Fou
 
   pub few_spares : length (spare_lines (map line_given found)) ≤ SPARES
   few_spares = omega (arith, count_spares found, so_far.few (codes "spare") SPARES IsLimit.spares)
+
+  pub few_outsides : length (outside_lines (map line_given found)) ≤ OUTSIDES
+  few_outsides = omega (arith, count_outsides found, so_far.few (codes "outside") OUTSIDES IsLimit.outsides)

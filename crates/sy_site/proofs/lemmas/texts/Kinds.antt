@@ -13,12 +13,14 @@ use Rattle.sy_site.specs.declared.texts.reading.Given.{Given}
 use Rattle.sy_site.specs.declared.texts.shapes.Line.{Line as Read}
 use Rattle.sy_site.specs.declared.texts.shapes.Line.TheVariants as read
 use Rattle.sy_site.specs.declared.texts.shapes.RelayLine.{RelayLine as ReadRelay}
+use Rattle.sy_site.specs.Sites.{Outside}
+use Rattle.sy_site.specs.declared.site.host.Host.TheVariants as host
 use Rattle.sy_site.specs.internal.Lines.{line_of}
 use Rattle.sy_site.specs.internal.Reading.{kind, most, line_given, words_given, BeginAlike, HasNoPlace, HasRoom, IsAdded, IsAgain, IsPlaced, IsShapeless, IsTooMany, IsUnplaced, IsWrong, IsWrongAt, NoneBefore}
 use Rattle.sy_site.specs.texts.Lines.{is_kind, is_skipped, words, word_lines}
 use Rattle.sy_site.specs.texts.Shapes.{Line, RelayLine, EntryLine, ProtectLine, SpareLine, IsLine, policy_line, whole_words}
 use Rattle.sy_site.specs.texts.Files.{RELAYS}
-use Rattle.sy_site.specs.texts.Describes.{ENTRIES, PROTECTIONS, SPARES, AreLines, File, IsDuplicate, IsMisplaced, Repeats, entry_lines, first_line, policy_of, protect_lines, relay_lines, spare_lines}
+use Rattle.sy_site.specs.texts.Describes.{ENTRIES, OUTSIDES, PROTECTIONS, SPARES, AreLines, File, IsDuplicate, IsMisplaced, Repeats, entry_lines, first_line, policy_of, protect_lines, relay_lines, spare_lines}
 use Rattle.sy_site.specs.texts.HasFault.{HasFault, IsLimit}
 use Rattle.sy_site.proofs.lemmas.texts.Shaped.{behind_first, first_same}
 use Rattle.sy_site.proofs.lemmas.texts.Noted.{Words, one_behind, no_words, split, within}
@@ -33,6 +35,7 @@ given_words line (Line.Relay it) word behind e h = let k : word ≡ codes "relay
 given_words line (Line.Entry it) word behind e h = let k : word ≡ codes "entry" = first_same (sym e ∙ h.whole) in rw (e, k) refl
 given_words line (Line.Protect it) word behind e h = let k : word ≡ codes "protect" = first_same (sym e ∙ h.whole) in rw (e, k) refl
 given_words line (Line.Spare it) word behind e h = let k : word ≡ codes "spare" = first_same (sym e ∙ h) in rw (e, k) refl
+given_words line (Line.Outside it) word behind e h = let k : word ≡ codes "outside" = first_same (sym e ∙ h.whole) in rw (e, k) refl
 
 pub nothing_shaped : (line : Words) → line ≡ [] → (it : Line) → IsLine line it → ⊥
 nothing_shaped line e Line.Policy h = let f : [] ≡ policy_line = sym e ∙ h in cc
@@ -40,6 +43,7 @@ nothing_shaped line e (Line.Relay it) h = let f : [] ≡ codes "relay" ∷ it.na
 nothing_shaped line e (Line.Entry it) h = let f : [] ≡ codes "entry" ∷ it.relay ∷ h.port_word ∷ whole_words it.is_whole = sym e ∙ h.whole in cc
 nothing_shaped line e (Line.Protect it) h = let f : [] ≡ codes "protect" ∷ h.selector_word ∷ it.relay ∷ it.action ∷ [] = sym e ∙ h.whole in cc
 nothing_shaped line e (Line.Spare it) h = let f : [] ≡ codes "spare" ∷ it.relay ∷ it.action ∷ [] = sym e ∙ h in cc
+nothing_shaped line e (Line.Outside it) h = let f : [] ≡ codes "outside" ∷ it.name ∷ h.host_word ∷ h.port_word ∷ [] = sym e ∙ h.whole in cc
 
 pub of_kind : (line : Words) (it : Line) → IsLine line it → (behind : Words) × (line ≡ kind it ∷ behind)
 of_kind line Line.Policy h = (codes "2" ∷ [], h)
@@ -47,6 +51,7 @@ of_kind line (Line.Relay it) h = (it.name ∷ it.file ∷ h.behind, h.whole)
 of_kind line (Line.Entry it) h = (it.relay ∷ h.port_word ∷ whole_words it.is_whole, h.whole)
 of_kind line (Line.Protect it) h = (h.selector_word ∷ it.relay ∷ it.action ∷ [], h.whole)
 of_kind line (Line.Spare it) h = (it.relay ∷ it.action ∷ [], h)
+of_kind line (Line.Outside it) h = (it.name ∷ h.host_word ∷ h.port_word ∷ [], h.whole)
 
 pub begins : (word : List ℕ) (line : Words) (it : Line) → IsLine line it → is_kind word line ≡ bytes_eq (kind it) word
 begins word line it is = ap (is_kind word) (of_kind line it is).1
@@ -58,6 +63,7 @@ most_of word =
     else if bytes_eq word (codes "entry") then ENTRIES
     else if bytes_eq word (codes "protect") then PROTECTIONS
     else if bytes_eq word (codes "spare") then SPARES
+    else if bytes_eq word (codes "outside") then OUTSIDES
     else 1
 
 pub most_is : (it : Line) → most it ≡ most_of (kind it)
@@ -66,15 +72,17 @@ most_is (Line.Relay it) = refl
 most_is (Line.Entry it) = refl
 most_is (Line.Protect it) = refl
 most_is (Line.Spare it) = refl
+most_is (Line.Outside it) = refl
 
 pub limit_is : (word : List ℕ) (limit : ℕ) → IsLimit word limit → limit ≡ most_of word
 limit_is word limit IsLimit.relays = refl
 limit_is word limit IsLimit.entries = refl
 limit_is word limit IsLimit.protections = refl
 limit_is word limit IsLimit.spares = refl
+limit_is word limit IsLimit.outsides = refl
 
 pub no_relay : RelayLine
-no_relay = record { name = []; file = []; address = [] }
+no_relay = record { name = []; file = []; host = host.Name []; listens = None }
 
 pub no_entry : EntryLine
 no_entry = record { relay = []; port = 0; is_whole = false }
@@ -85,12 +93,16 @@ no_protect = record { selector = []; relay = []; action = [] }
 pub no_spare : SpareLine
 no_spare = record { relay = []; action = [] }
 
+pub no_outside : Outside
+no_outside = record { name = []; host = host.Name []; port = 0 }
+
 -- a line of a kind that has a limit
 pub limited : (word : List ℕ) (limit : ℕ) → IsLimit word limit → (it : Line) × (kind it ≡ word)
 limited word limit IsLimit.relays = (Line.Relay no_relay, refl)
 limited word limit IsLimit.entries = (Line.Entry no_entry, refl)
 limited word limit IsLimit.protections = (Line.Protect no_protect, refl)
 limited word limit IsLimit.spares = (Line.Spare no_spare, refl)
+limited word limit IsLimit.outsides = (Line.Outside no_outside, refl)
 
 -- a line of a kind with room is not one too many
 pub room_left : (before : List Words) (line : Words) (it : Line) → IsLine line it → HasRoom before it → IsTooMany before line → ⊥
@@ -119,6 +131,7 @@ too_many (Line.Relay it) behind found placed many = too_many_of (Line.Relay it) 
 too_many (Line.Entry it) behind found placed many = too_many_of (Line.Entry it) behind (map words_given found) IsLimit.entries many
 too_many (Line.Protect it) behind found placed many = too_many_of (Line.Protect it) behind (map words_given found) IsLimit.protections many
 too_many (Line.Spare it) behind found placed many = too_many_of (Line.Spare it) behind (map words_given found) IsLimit.spares many
+too_many (Line.Outside it) behind found placed many = too_many_of (Line.Outside it) behind (map words_given found) IsLimit.outsides many
 
 -- ---- lines that are skipped
 
@@ -130,6 +143,9 @@ again_kept o w (Repeats.same_name name first second) = (refl, refl)
 again_kept o w (Repeats.same_entry relay port first second) = (refl, refl)
 again_kept o w (Repeats.same_protection ws) = (refl, refl)
 again_kept o w (Repeats.same_spare ws) = (refl, refl)
+again_kept o w (Repeats.same_receiver name host other port first second) = (refl, refl)
+again_kept o w (Repeats.outside_relay name first second) = (refl, refl)
+again_kept o w (Repeats.relay_outside name first second) = (refl, refl)
 
 pub misplaced_kept : (before : List Words) (w : Words) → IsMisplaced before w → is_skipped w ≡ false
 misplaced_kept before w (IsMisplaced.policy_behind first words e) = refl
@@ -143,6 +159,7 @@ skipped_kind (Line.Relay it) ((b ∷ word) ∷ later) h = let e : b ≡ 35 = eqb
 skipped_kind (Line.Entry it) ((b ∷ word) ∷ later) h = let e : b ≡ 35 = eqb-true b 35 h in rw e refl
 skipped_kind (Line.Protect it) ((b ∷ word) ∷ later) h = let e : b ≡ 35 = eqb-true b 35 h in rw e refl
 skipped_kind (Line.Spare it) ((b ∷ word) ∷ later) h = let e : b ≡ 35 = eqb-true b 35 h in rw e refl
+skipped_kind (Line.Outside it) ((b ∷ word) ∷ later) h = let e : b ≡ 35 = eqb-true b 35 h in rw e refl
 
 pub filter_yes : {A : Type 0} (p : A → Bool) (x : A) (xs : List A) → p x ≡ true → filter p (x ∷ xs) ≡ x ∷ filter p xs
 filter_yes p x xs e = rw e refl

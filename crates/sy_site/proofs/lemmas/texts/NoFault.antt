@@ -17,14 +17,15 @@ use Rattle.sy_select.specs.Selectors.{holds}
 use Rattle.sy_site.specs.declared.fault.RelayFault.{RelayFault}
 use Rattle.sy_site.specs.declared.fault.RelayFault.TheVariants as why
 use Rattle.sy_site.specs.declared.fault.SiteFault.{SiteFault}
+use Rattle.sy_site.specs.declared.site.host.Host.TheVariants as host
 use Rattle.sy_site.specs.internal.Reading.{kind}
 use Rattle.sy_site.specs.Sites.{Site, Relay, SiteInput, SiteAction, Protection, asks_for, input_at_port, no_plan, plan_at, plan_in, relay_named}
 use Rattle.sy_site.specs.texts.Lines.{is_kind, is_skipped, word_lines}
 use Rattle.sy_site.specs.texts.Shapes.{Line, RelayLine, EntryLine, ProtectLine, SpareLine, IsLine, IsRelayLine, IsEntryLine, IsProtectLine, IsSpareLine}
-use Rattle.sy_site.specs.texts.Describes.{AllPaired, AreLines, Describes, File, IsProtection, IsRelay, Repeats, action_at, action_of, archive_at, archive_of, entry_lines, entry_of, file_named, is_archive, protect_lines, relay_lines, spare_lines}
+use Rattle.sy_site.specs.texts.Describes.{AllPaired, AreLines, Describes, File, IsProtection, IsRelay, Repeats, action_at, action_of, archive_at, archive_of, entry_lines, entry_of, file_named, is_archive, outside_lines, protect_lines, relay_lines, spare_lines}
 use Rattle.sy_site.specs.texts.HasFault.{HasFault, HasPlan, IsEmpty, IsFileFault, IsLimit, IsOf, Names}
 use Rattle.sy_site.proofs.lemmas.texts.Again.{again_first, again_later, among_cases, among_first, among_later, none_in, split_at}
-use Rattle.sy_site.proofs.lemmas.texts.Kinds.{begins, no_entry, no_protect, no_relay, no_spare, of_kind, skipped_kind}
+use Rattle.sy_site.proofs.lemmas.texts.Kinds.{begins, no_entry, no_outside, no_protect, no_relay, no_spare, of_kind, skipped_kind}
 use Rattle.sy_site.proofs.lemmas.texts.Found.{Single, count_no, count_yes, counted_in, line_there, stands_among}
 use Rattle.sy_site.proofs.lemmas.texts.Noted.{Words}
 use Rattle.sy_site.proofs.lemmas.texts.OneLine.{one_line, one_relay_line, one_value}
@@ -38,6 +39,7 @@ kind_kept (Line.Relay it) behind = refl
 kind_kept (Line.Entry it) behind = refl
 kind_kept (Line.Protect it) behind = refl
 kind_kept (Line.Spare it) behind = refl
+kind_kept (Line.Outside it) behind = refl
 
 shaped_kept : (line : Words) (it : Line) → IsLine line it → is_skipped line ≡ false
 shaped_kept line it h = let k = of_kind line it h in ap is_skipped k.1 ∙ kind_kept it k.0
@@ -101,6 +103,11 @@ to_relays (Line.Spare x ∷ found) it c =
       | inl same ↦ cc
       | inr behind ↦ to_relays found it behind
     ]
+to_relays (Line.Outside x ∷ found) it c =
+    elim (among_cases (Line.Outside x) found (Line.Relay it) c) [
+      | inl same ↦ cc
+      | inr behind ↦ to_relays found it behind
+    ]
 
 to_entries : (found : List Line) (it : EntryLine) → Contains found (Line.Entry it) → Contains (entry_lines found) it
 to_entries [] it c = absurd (none_in (Line.Entry it) c)
@@ -126,6 +133,11 @@ to_entries (Line.Policy ∷ found) it c =
     ]
 to_entries (Line.Spare x ∷ found) it c =
     elim (among_cases (Line.Spare x) found (Line.Entry it) c) [
+      | inl same ↦ cc
+      | inr behind ↦ to_entries found it behind
+    ]
+to_entries (Line.Outside x ∷ found) it c =
+    elim (among_cases (Line.Outside x) found (Line.Entry it) c) [
       | inl same ↦ cc
       | inr behind ↦ to_entries found it behind
     ]
@@ -157,6 +169,11 @@ to_protections (Line.Spare x ∷ found) it c =
       | inl same ↦ cc
       | inr behind ↦ to_protections found it behind
     ]
+to_protections (Line.Outside x ∷ found) it c =
+    elim (among_cases (Line.Outside x) found (Line.Protect it) c) [
+      | inl same ↦ cc
+      | inr behind ↦ to_protections found it behind
+    ]
 
 to_spares : (found : List Line) (it : SpareLine) → Contains found (Line.Spare it) → Contains (spare_lines found) it
 to_spares [] it c = absurd (none_in (Line.Spare it) c)
@@ -185,6 +202,11 @@ to_spares (Line.Protect x ∷ found) it c =
       | inl same ↦ cc
       | inr behind ↦ to_spares found it behind
     ]
+to_spares (Line.Outside x ∷ found) it c =
+    elim (among_cases (Line.Outside x) found (Line.Spare it) c) [
+      | inl same ↦ cc
+      | inr behind ↦ to_spares found it behind
+    ]
 
 of_relays : (found : List Line) (it : RelayLine) → Contains (relay_lines found) it → Contains found (Line.Relay it)
 of_relays [] it c = absurd (none_in it c)
@@ -197,6 +219,7 @@ of_relays (Line.Entry x ∷ found) it c = among_later (Line.Entry x) found (Line
 of_relays (Line.Protect x ∷ found) it c = among_later (Line.Protect x) found (Line.Relay it) (of_relays found it c)
 of_relays (Line.Policy ∷ found) it c = among_later Line.Policy found (Line.Relay it) (of_relays found it c)
 of_relays (Line.Spare x ∷ found) it c = among_later (Line.Spare x) found (Line.Relay it) (of_relays found it c)
+of_relays (Line.Outside x ∷ found) it c = among_later (Line.Outside x) found (Line.Relay it) (of_relays found it c)
 
 of_entries : (found : List Line) (it : EntryLine) → Contains (entry_lines found) it → Contains found (Line.Entry it)
 of_entries [] it c = absurd (none_in it c)
@@ -209,6 +232,7 @@ of_entries (Line.Relay x ∷ found) it c = among_later (Line.Relay x) found (Lin
 of_entries (Line.Protect x ∷ found) it c = among_later (Line.Protect x) found (Line.Entry it) (of_entries found it c)
 of_entries (Line.Policy ∷ found) it c = among_later Line.Policy found (Line.Entry it) (of_entries found it c)
 of_entries (Line.Spare x ∷ found) it c = among_later (Line.Spare x) found (Line.Entry it) (of_entries found it c)
+of_entries (Line.Outside x ∷ found) it c = among_later (Line.Outside x) found (Line.Entry it) (of_entries found it c)
 
 of_protections : (found : List Line) (it : ProtectLine) → Contains (protect_lines found) it → Contains found (Line.Protect it)
 of_protections [] it c = absurd (none_in it c)
@@ -221,6 +245,7 @@ of_protections (Line.Relay x ∷ found) it c = among_later (Line.Relay x) found 
 of_protections (Line.Entry x ∷ found) it c = among_later (Line.Entry x) found (Line.Protect it) (of_protections found it c)
 of_protections (Line.Policy ∷ found) it c = among_later Line.Policy found (Line.Protect it) (of_protections found it c)
 of_protections (Line.Spare x ∷ found) it c = among_later (Line.Spare x) found (Line.Protect it) (of_protections found it c)
+of_protections (Line.Outside x ∷ found) it c = among_later (Line.Outside x) found (Line.Protect it) (of_protections found it c)
 
 count_relays : {all : List Words} {found : List Line} → AreLines all found → length (filter (is_kind (codes "relay")) all) ≡ length (relay_lines found)
 count_relays AreLines.none = refl
@@ -236,6 +261,8 @@ count_relays (AreLines.shaped {words = w} {later = ws} {it = Line.Policy} e is h
     count_no (is_kind (codes "relay")) w ws (begins (codes "relay") w Line.Policy is) ∙ count_relays h
 count_relays (AreLines.shaped {words = w} {later = ws} {it = Line.Spare x} e is h) =
     count_no (is_kind (codes "relay")) w ws (begins (codes "relay") w (Line.Spare x) is) ∙ count_relays h
+count_relays (AreLines.shaped {words = w} {later = ws} {it = Line.Outside x} e is h) =
+    count_no (is_kind (codes "relay")) w ws (begins (codes "relay") w (Line.Outside x) is) ∙ count_relays h
 
 count_entries : {all : List Words} {found : List Line} → AreLines all found → length (filter (is_kind (codes "entry")) all) ≡ length (entry_lines found)
 count_entries AreLines.none = refl
@@ -251,6 +278,8 @@ count_entries (AreLines.shaped {words = w} {later = ws} {it = Line.Policy} e is 
     count_no (is_kind (codes "entry")) w ws (begins (codes "entry") w Line.Policy is) ∙ count_entries h
 count_entries (AreLines.shaped {words = w} {later = ws} {it = Line.Spare x} e is h) =
     count_no (is_kind (codes "entry")) w ws (begins (codes "entry") w (Line.Spare x) is) ∙ count_entries h
+count_entries (AreLines.shaped {words = w} {later = ws} {it = Line.Outside x} e is h) =
+    count_no (is_kind (codes "entry")) w ws (begins (codes "entry") w (Line.Outside x) is) ∙ count_entries h
 
 count_protections : {all : List Words} {found : List Line} → AreLines all found
     → length (filter (is_kind (codes "protect")) all) ≡ length (protect_lines found)
@@ -267,6 +296,8 @@ count_protections (AreLines.shaped {words = w} {later = ws} {it = Line.Policy} e
     count_no (is_kind (codes "protect")) w ws (begins (codes "protect") w Line.Policy is) ∙ count_protections h
 count_protections (AreLines.shaped {words = w} {later = ws} {it = Line.Spare x} e is h) =
     count_no (is_kind (codes "protect")) w ws (begins (codes "protect") w (Line.Spare x) is) ∙ count_protections h
+count_protections (AreLines.shaped {words = w} {later = ws} {it = Line.Outside x} e is h) =
+    count_no (is_kind (codes "protect")) w ws (begins (codes "protect") w (Line.Outside x) is) ∙ count_protections h
 
 count_spares : {all : List Words} {found : List Line} → AreLines all found → length (filter (is_kind (codes "spare")) all) ≡ length (spare_lines found)
 count_spares AreLines.none = refl
@@ -282,6 +313,26 @@ count_spares (AreLines.shaped {words = w} {later = ws} {it = Line.Entry x} e is 
     count_no (is_kind (codes "spare")) w ws (begins (codes "spare") w (Line.Entry x) is) ∙ count_spares h
 count_spares (AreLines.shaped {words = w} {later = ws} {it = Line.Protect x} e is h) =
     count_no (is_kind (codes "spare")) w ws (begins (codes "spare") w (Line.Protect x) is) ∙ count_spares h
+count_spares (AreLines.shaped {words = w} {later = ws} {it = Line.Outside x} e is h) =
+    count_no (is_kind (codes "spare")) w ws (begins (codes "spare") w (Line.Outside x) is) ∙ count_spares h
+
+count_outsides : {all : List Words} {found : List Line} → AreLines all found
+    → length (filter (is_kind (codes "outside")) all) ≡ length (outside_lines found)
+count_outsides AreLines.none = refl
+count_outsides (AreLines.skip {words = w} {later = ws} e h) =
+    count_no (is_kind (codes "outside")) w ws (skipped_kind (Line.Outside no_outside) w e) ∙ count_outsides h
+count_outsides (AreLines.shaped {words = w} {later = ws} {it = Line.Outside x} e is h) =
+    let one = count_yes (is_kind (codes "outside")) w ws (begins (codes "outside") w (Line.Outside x) is) in omega (arith, one, count_outsides h)
+count_outsides (AreLines.shaped {words = w} {later = ws} {it = Line.Policy} e is h) =
+    count_no (is_kind (codes "outside")) w ws (begins (codes "outside") w Line.Policy is) ∙ count_outsides h
+count_outsides (AreLines.shaped {words = w} {later = ws} {it = Line.Relay x} e is h) =
+    count_no (is_kind (codes "outside")) w ws (begins (codes "outside") w (Line.Relay x) is) ∙ count_outsides h
+count_outsides (AreLines.shaped {words = w} {later = ws} {it = Line.Entry x} e is h) =
+    count_no (is_kind (codes "outside")) w ws (begins (codes "outside") w (Line.Entry x) is) ∙ count_outsides h
+count_outsides (AreLines.shaped {words = w} {later = ws} {it = Line.Protect x} e is h) =
+    count_no (is_kind (codes "outside")) w ws (begins (codes "outside") w (Line.Protect x) is) ∙ count_outsides h
+count_outsides (AreLines.shaped {words = w} {later = ws} {it = Line.Spare x} e is h) =
+    count_no (is_kind (codes "outside")) w ws (begins (codes "outside") w (Line.Spare x) is) ∙ count_outsides h
 
 -- ---- lists side by side
 
@@ -363,7 +414,7 @@ get_or_any (x ∷ xs) (suc place) d e within = get_or_any xs place d e (omega (a
 -- ---- a site
 
 nobody : Relay
-nobody = record { name = []; address = []; plan = no_plan }
+nobody = record { name = []; host = host.Name []; listens = None; plan = no_plan }
 
 -- the relay of a name, and its line
 record NamedRelay (text : List ℕ) (files : List File) (site : Site) (name : List ℕ) (place : ℕ) : Type 0 where
@@ -414,10 +465,10 @@ module _ {text : List ℕ} {files : List File} {site : Site} (d : Describes text
       same = same_relay (word_lines text) r.line h.names.words r.it h.line d.once r.there h.names.there r.shaped h.names.line (r.name_is ∙ sym h.names.name_is)
 
       other : Relay
-      other = record { name = h.line.name; address = h.line.address; plan = p }
+      other = record { name = h.line.name; host = h.line.host; listens = h.line.listens; plan = p }
 
       is_other : IsRelay files h.line other
-      is_other = record { bytes = h.bytes; given = h.given; script = h.script; is_script = h.is_script; is_plan = h.is_plan; name = refl; address = refl }
+      is_other = record { bytes = h.bytes; given = h.given; script = h.script; is_script = h.is_script; is_plan = h.is_plan; name = refl; host = refl; listens = refl }
 
   entry_there : (line : Words) (it : EntryLine) → Contains (word_lines text) line → IsEntryLine line it → (e : SiteInput) × (entry_of site it ≡ Some e)
   entry_there line it c is =
@@ -475,6 +526,7 @@ module _ {text : List ℕ} {files : List File} {site : Site} (d : Describes text
   few word limit IsLimit.entries = omega (arith, count_entries d.are_lines, d.few_entries)
   few word limit IsLimit.protections = omega (arith, count_protections d.are_lines, d.few_protections)
   few word limit IsLimit.spares = omega (arith, count_spares d.are_lines, d.few_spares)
+  few word limit IsLimit.outsides = omega (arith, count_outsides d.are_lines, d.few_outsides)
 
   input_there : (line : Words) (it : EntryLine) (p : Plan) → Contains (word_lines text) line → IsEntryLine line it → HasPlan text files it.relay p
       → position (λ i. i.port == it.port) p.inputs ≡ None → ⊥

@@ -5,7 +5,7 @@ use Rattle.sy_rules.proofs.lemmas.parts.OnePlan.{one_plan}
 use Rattle.sy_site.proofs.lemmas.texts.OneLine.{one_lines, one_value}
 use Rattle.sy_site.specs.Sites.{Site, Relay, Protection}
 use Rattle.sy_site.specs.texts.Shapes.{RelayLine, EntryLine, ProtectLine, SpareLine}
-use Rattle.sy_site.specs.texts.Describes.{AllPaired, Describes, File, IsEntry, IsProtection, IsRelay, IsSpare, action_of, archive_of, entry_of, policy_of}
+use Rattle.sy_site.specs.texts.Describes.{AllPaired, Describes, File, IsEntry, IsProtection, IsRelay, IsSpare, action_of, archive_of, entry_of, outside_lines, policy_of}
 
 one_pairing : {A B : Type 0} {P Q : A → B → Type 0} → ((x : A) (y z : B) → P x y → Q x z → y ≡ z) → {xs : List A} {ys zs : List B}
     → AllPaired P xs ys → AllPaired Q xs zs → ys ≡ zs
@@ -14,13 +14,16 @@ one_pairing single (AllPaired.more p ps) (AllPaired.more q qs) =
     let first = single _ _ _ p q in let later = one_pairing single ps qs in λ i. first i ∷ later i
 
 pub one_relay : (files : List File) (line : RelayLine) (a b : Relay) → IsRelay files line a → IsRelay files line b → a ≡ b
-one_relay files it a b is_a is_b = λ i. record { name = name i; address = address i; plan = plan i }
+one_relay files it a b is_a is_b = λ i. record { name = name i; host = host i; listens = listens i; plan = plan i }
   where
     name : a.name ≡ b.name
     name = is_a.name ∙ sym is_b.name
 
-    address : a.address ≡ b.address
-    address = is_a.address ∙ sym is_b.address
+    host : a.host ≡ b.host
+    host = is_a.host ∙ sym is_b.host
+
+    listens : a.listens ≡ b.listens
+    listens = is_a.listens ∙ sym is_b.listens
 
     bytes : is_a.bytes ≡ is_b.bytes
     bytes = one_value is_a.given is_b.given
@@ -32,13 +35,13 @@ one_relay files it a b is_a is_b = λ i. record { name = name i; address = addre
     plan = one_plan is_a.script a.plan b.plan is_a.is_plan (rw tree is_b.is_plan)
 
 same_entries : (a b : Site) → a.relays ≡ b.relays → (it : EntryLine) → entry_of a it ≡ entry_of b it
-same_entries a b same it = ap (λ rs. entry_of (record { policy = 1; relays = rs; entries = []; whole_entries = []; protections = []; spares = [] }) it) same
+same_entries a b same it = ap (λ rs. entry_of (record { policy = 1; relays = rs; entries = []; whole_entries = []; protections = []; spares = []; outsides = [] }) it) same
 
 pub same_archives : (a b : Site) → a.relays ≡ b.relays → (it : ProtectLine) → archive_of a it ≡ archive_of b it
-same_archives a b same it = ap (λ rs. archive_of (record { policy = 1; relays = rs; entries = []; whole_entries = []; protections = []; spares = [] }) it) same
+same_archives a b same it = ap (λ rs. archive_of (record { policy = 1; relays = rs; entries = []; whole_entries = []; protections = []; spares = []; outsides = [] }) it) same
 
 pub same_actions : (a b : Site) → a.relays ≡ b.relays → (it : SpareLine) → action_of a it ≡ action_of b it
-same_actions a b same it = ap (λ rs. action_of (record { policy = 1; relays = rs; entries = []; whole_entries = []; protections = []; spares = [] }) it) same
+same_actions a b same it = ap (λ rs. action_of (record { policy = 1; relays = rs; entries = []; whole_entries = []; protections = []; spares = []; outsides = [] }) it) same
 
 pub one_site : (text : List ℕ) (files : List File) (a b : Site) → Describes text files a → Describes text files b → a ≡ b
 one_site text files a b is_a is_b = λ i. record {
@@ -48,6 +51,7 @@ one_site text files a b is_a is_b = λ i. record {
   whole_entries = whole_entries i;
   protections = protections i;
   spares = spares i;
+  outsides = outsides i;
 }
   where
     same_lines : is_a.lines ≡ is_b.lines
@@ -82,3 +86,6 @@ one_site text files a b is_a is_b = λ i. record {
     spares =
         one_pairing {P = IsSpare a} {Q = IsSpare b} (λ it e f is_e is_f. one_value is_e (same_actions a b relays it
         ∙ is_f)) is_a.spares (rw same_lines is_b.spares)
+
+    outsides : a.outsides ≡ b.outsides
+    outsides = is_a.outsides ∙ ap outside_lines same_lines ∙ sym is_b.outsides

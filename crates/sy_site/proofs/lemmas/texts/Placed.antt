@@ -79,6 +79,7 @@ no_policy first (Line.Relay it ∷ lines) is never = refl
 no_policy first (Line.Entry it ∷ lines) is never = refl
 no_policy first (Line.Protect it ∷ lines) is never = refl
 no_policy first (Line.Spare it ∷ lines) is never = refl
+no_policy first (Line.Outside it ∷ lines) is never = refl
 
 not_empty : {A : Type 0} {x : A} {xs : List A} → x ∷ xs ≡ [] → ⊥
 not_empty e = cc
@@ -99,6 +100,7 @@ misplaced_of {done} {lines} are w (Line.Spare it) is unplaced =
 misplaced_of are w (Line.Relay it) is unplaced = absurd unplaced
 misplaced_of are w (Line.Entry it) is unplaced = absurd unplaced
 misplaced_of are w (Line.Protect it) is unplaced = absurd unplaced
+misplaced_of are w (Line.Outside it) is unplaced = absurd unplaced
 
 pub unplaced_of : {done : List Words} {lines : List Line} → AreLines done lines → (w : Words) (it : Line) → IsLine w it → IsMisplaced done w → HasNoPlace lines it
 unplaced_of {done} {lines} are w Line.Policy is (IsMisplaced.policy_behind first words e) =
@@ -118,3 +120,7 @@ unplaced_of are w (Line.Protect it) is (IsMisplaced.policy_behind first words e)
     let h : 111 ≡ 114 = ap letter (first_same is.whole) in absurd (omega (arith, h))
 unplaced_of are w (Line.Protect it) is (IsMisplaced.spare_without words never) =
     let h : 112 ≡ 114 = ap letter (first_same is.whole) in absurd (omega (arith, h))
+unplaced_of are w (Line.Outside it) is (IsMisplaced.policy_behind first words e) =
+    let h : 111 ≡ 117 = ap letter (first_same is.whole) in absurd (omega (arith, h))
+unplaced_of are w (Line.Outside it) is (IsMisplaced.spare_without words never) =
+    let h : 112 ≡ 117 = ap letter (first_same is.whole) in absurd (omega (arith, h))

@@ -23,6 +23,7 @@ no_spares (AreLines.shaped {words = w} {later = ws} {it = Line.Policy} e is h) f
 no_spares (AreLines.shaped {words = w} {later = ws} {it = Line.Relay it} e is h) free = no_spares h (free_later w ws free)
 no_spares (AreLines.shaped {words = w} {later = ws} {it = Line.Entry it} e is h) free = no_spares h (free_later w ws free)
 no_spares (AreLines.shaped {words = w} {later = ws} {it = Line.Protect it} e is h) free = no_spares h (free_later w ws free)
+no_spares (AreLines.shaped {words = w} {later = ws} {it = Line.Outside it} e is h) free = no_spares h (free_later w ws free)
 no_spares (AreLines.shaped {words = w} {later = ws} {it = Line.Spare it} e is h) free =
     absurd (free (it.relay ∷ it.action ∷ []) (subst (λ x. Contains (w ∷ ws) x) is (among_first w ws)))
 
@@ -74,6 +75,8 @@ by_policy (AreLines.shaped {words = w} {later = ws} {it = Line.Protect it} e is 
     inl (refl, no_spares (AreLines.shaped {it = Line.Protect it} e is h) (free_of w ws (Line.Protect it) e is (λ f. cc) placed))
 by_policy (AreLines.shaped {words = w} {later = ws} {it = Line.Spare it} e is h) placed =
     inl (refl, no_spares (AreLines.shaped {it = Line.Spare it} e is h) (free_of w ws (Line.Spare it) e is (λ f. cc) placed))
+by_policy (AreLines.shaped {words = w} {later = ws} {it = Line.Outside it} e is h) placed =
+    inl (refl, no_spares (AreLines.shaped {it = Line.Outside it} e is h) (free_of w ws (Line.Outside it) e is (λ f. cc) placed))
 
 -- ---- a site of these lines
 

@@ -1,16 +1,8 @@
 -- Words of lines, and words that are no part of a line.
 use Rattle.std.proofs.Common.{◌≡◌, ℕ, List, [], ◌∷◌, sym, ◌∙◌}
-use Rattle.std.specs.declared.net.ipv4_addr.Ipv4Addr.{Ipv4Addr}
-use Rattle.std.specs.Net.Grammar.{IsIpv4Text, IsDotted}
 use Rattle.std.specs.Prelude.{codes}
 use Rattle.sy_select.specs.Selectors.{IsSetOf}
-use Rattle.sy_site.specs.texts.Shapes.{IsAddress, IsProtectLine, ProtectLine}
-
-pub no_address : (behind : List (List ℕ)) (word : List ℕ) → behind ≡ word ∷ [] → ((a : Ipv4Addr) → IsIpv4Text word a → ⊥) → (octets : List ℕ)
-    → IsAddress behind octets → ⊥
-no_address behind word one never octets h =
-    let dotted : IsDotted word octets = rw one at h in
-    never (record { octets = octets }) dotted
+use Rattle.sy_site.specs.texts.Shapes.{IsProtectLine, ProtectLine}
 
 pub behind_first : {x y : List ℕ} {xs ys : List (List ℕ)} → x ∷ xs ≡ y ∷ ys → xs ≡ ys
 behind_first e = cc

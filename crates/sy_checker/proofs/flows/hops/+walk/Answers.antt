@@ -21,25 +21,24 @@ pub walk-loop-at-init : goal.walk-loop-at-init
 walk-loop-at-init t c =
     let many = length (plan_at c.args.site.now c.args.relay).lists in
     let lists = c.args.found.now.lists.items in
-    let fresh : Contains lists c.args.list → ⊥ =
-    λ there. false≢true (sym c.if-is_walked.false ∙ c.is_walked.ensures.1 (subst (λ l. Contains l c.args.list) (sym c.as_slice.ensures.value) there)) in
+    let fresh : Contains lists c.args.list → ⊥ = λ there. false≢true (sym c.if-is_walked.false ∙ c.is_walked.ensures.1 there) in
     record {
-      apart = subst (AreApart many) (sym c.in_ok-push.ensures.items) (more_apart many lists c.args.list c.requires.apart fresh c.requires.there);
+      apart = subst (AreApart many) (sym c.in_ok-push_list.ensures.items) (more_apart many lists c.args.list c.requires.apart fresh c.requires.there);
       longer = omega arith;
-      grows = stays_there c.args.site.now c.args.class c.args.which c.args.relay c.args.found.now.hops.items c.push.new.self.items;
+      grows = stays_there c.args.site.now c.args.class c.args.which c.args.relay c.args.found.now.hops.items c.push_list.new.lists.items;
       sound = λ first leads hop is. inl is;
       posted = λ to is. inl is;
-      below = none_walked c.args.site.now c.args.class c.args.which c.args.relay c.args.found.now.hops.items c.push.new.self.items c.args.list;
+      below = none_walked c.args.site.now c.args.class c.args.which c.args.relay c.args.found.now.hops.items c.push_list.new.lists.items c.args.list;
+      listed = c.in_ok-push_list.ensures.listed;
     }
 
 pub walk-follow-requires : goal.walk-follow-requires
 walk-follow-requires t c =
     let many = length (plan_at c.args.site.now c.args.relay).lists in
     let lists = c.args.found.now.lists.items in
-    let fresh : Contains lists c.args.list → ⊥ =
-    λ there. false≢true (sym c.if-is_walked.false ∙ c.is_walked.ensures.1 (subst (λ l. Contains l c.args.list) (sym c.as_slice.ensures.value) there)) in
+    let fresh : Contains lists c.args.list → ⊥ = λ there. false≢true (sym c.if-is_walked.false ∙ c.is_walked.ensures.1 there) in
     let room : length lists < many = apart_room many lists c.args.list c.requires.apart fresh c.requires.there in
-    let one : length c.push.new.self.items ≡ length lists + 1 = ap length c.in_ok-push.ensures.items ∙ length_push lists c.args.list in
+    let one : length c.push_list.new.lists.items ≡ length lists + 1 = ap length c.in_ok-push_list.ensures.items ∙ length_push lists c.args.list in
     let longer = c.loop-at.invariant.longer in
     let falls : 3 * (length (plan_at c.args.site.now c.args.relay).lists - length c.loop-at.found.lists.items) + 3
     < 3 * (length (plan_at c.args.site.now c.args.relay).lists - length c.args.found.now.lists.items) + 1 = omega (arith, room, one, longer) in
@@ -47,7 +46,8 @@ walk-follow-requires t c =
     → Does c.args.site.now c.args.class c.args.which c.args.relay c.args.list c.in-Some.at is =
     λ is here. c.set_at-set.ensures.sound c.in-Some.at is c.in-Some.ensures.some.member here in
     let apart = c.loop-at.invariant.apart in
-    search (rules, falls, does, apart)
+    let listed = c.loop-at.invariant.listed in
+    search (rules, falls, does, apart, listed)
 
 pub walk-loop-at-preserved : goal.walk-loop-at-preserved
 walk-loop-at-preserved t c =
@@ -59,14 +59,15 @@ walk-loop-at-preserved t c =
       apart = c.in_ok-follow.ensures.apart;
       longer = omega (arith, long, more);
       grows = walks_on c.args.site.now c.args.class c.args.which c.args.relay c.args.found.now.hops.items before.hops.items after.hops.items
-          c.push.new.self.items before.lists.items after.lists.items c.loop-at.invariant.grows c.in_ok-follow.ensures.grows;
+          c.push_list.new.lists.items before.lists.items after.lists.items c.loop-at.invariant.grows c.in_ok-follow.ensures.grows;
       sound = λ first leads. leads_added c.args.site.now c.args.class c.args.which c.args.relay first c.args.number c.args.found.now.hops.items
           before.hops.items after.hops.items (c.loop-at.invariant.sound first leads) (c.in_ok-follow.ensures.sound first (leads c.in-Some.at));
-      posted = lists_added c.args.site.now c.args.class c.args.which c.args.relay c.args.list c.push.new.self.items before.lists.items
+      posted = lists_added c.args.site.now c.args.class c.args.which c.args.relay c.args.list c.push_list.new.lists.items before.lists.items
           after.lists.items c.loop-at.invariant.posted c.in_ok-follow.ensures.posted;
       below = more_walked c.args.site.now c.args.class c.args.which c.args.relay c.args.list c.set_at-set.result c.loop-at.next c.in-Some.at
           before.hops.items after.hops.items before.lists.items after.lists.items c.set_at-set.ensures c.in-Some.ensures.some
           c.in_ok-follow.ensures.grows.hops_kept c.in_ok-follow.ensures.grows.lists_kept c.loop-at.invariant.below c.in_ok-follow.ensures.followed;
+      listed = c.in_ok-follow.ensures.listed;
     }
 
 pub walk-returns-clause-grows : goal.walk-returns-clause-grows
@@ -75,19 +76,19 @@ walk-returns-clause-grows t c =
     list_done c.args.site.now c.args.class c.args.which c.args.relay c.args.list c.args.found.now.hops.items found.hops.items c.args.found.now.lists.items
     found.lists.items
     (subst (λ l. WalksOn c.args.site.now c.args.class c.args.which c.args.relay c.args.found.now.hops.items l found.hops.items found.lists.items)
-    c.in_ok-push.ensures.items c.loop-at.invariant.grows)
+    c.in_ok-push_list.ensures.items c.loop-at.invariant.grows)
     (all_walked c.args.site.now c.args.class c.args.which c.args.relay c.args.list c.set_at-set.result c.loop-at.next found.hops.items found.lists.items
     c.set_at-set.ensures c.in_default.ensures.none c.loop-at.invariant.below)
 
 pub walk-returns-clause-posted : goal.walk-returns-clause-posted
 walk-returns-clause-posted t c = λ to is.
-    lists_of c.args.site.now c.args.class c.args.which c.args.relay c.args.list c.args.found.now.lists.items c.push.new.self.items
-    c.loop-at.found.lists.items c.in_ok-push.ensures.items c.loop-at.invariant.posted to is
+    lists_of c.args.site.now c.args.class c.args.which c.args.relay c.args.list c.args.found.now.lists.items c.push_list.new.lists.items
+    c.loop-at.found.lists.items c.in_ok-push_list.ensures.items c.loop-at.invariant.posted to is
 
 pub walk-returns-clause-done : goal.walk-returns-clause-done
 walk-returns-clause-done t c =
     c.loop-at.invariant.grows.lists_kept c.args.list
-    (subst (λ l. Contains l c.args.list) (sym c.in_ok-push.ensures.items) (Contains-push c.args.found.now.lists.items c.args.list))
+    (subst (λ l. Contains l c.args.list) (sym c.in_ok-push_list.ensures.items) (Contains-push c.args.found.now.lists.items c.args.list))
 
 -- ---- an occurrence
 

@@ -1,6 +1,7 @@
 use Rattle.std.proofs.Common.{◌≡◌, ℕ, ◌≤◌, ◌+◌, ◌*◌, ◌-◌, length}
 use Rattle.sy_site.specs.Sites.{plan_at}
 use Rattle.sy_checker.specs.internal.Hops.{AddsLeads, AddsPosted, AreApart, IsWalkedBelow, LeadsAsWell, WalksOn}
+use Rattle.sy_checker.specs.internal.Marks.{AreListed}
 use Rattle.sy_checker.proofs.flows.hops.+walk.Given as goal
 
 -- the lists that weren't gone through
@@ -22,6 +23,7 @@ invariant-walk-loop-at l = record {
       → AddsLeads l.site l.class l.which l.relay first l.number l.initial.found.hops.items l.found.hops.items;
   posted : AddsPosted l.site l.class l.which l.relay l.list l.initial.found.lists.items l.found.lists.items;
   below : IsWalkedBelow l.site l.class l.which l.relay l.found.hops.items l.found.lists.items l.list l.next;
+  listed : AreListed l.found.lists.items l.found.marks.items;
 }
 
 abbrev pub decreases-walk-loop-at : goal.decreases-walk-loop-at

@@ -5,6 +5,7 @@ use Rattle.sy_checker.proofs.reach.ranks.falls_at.Goals as goal
 
 pub falls_from-requires : goal.falls_from-requires
 falls_from-requires c = record {
+  wanted = c.requires.wanted;
   flows = c.requires.flows;
   there = c.requires.there c.in-Reach.from (is_about c.args.is c.in-Reach.from c.in-Reach.is);
 }

@@ -6,6 +6,7 @@ use Rattle.sy_checker.proofs.reach.ranks.falls_from.Goals as goal
 
 pub falls_by-requires : goal.falls_by-requires
 falls_by-requires c = record {
+  wanted = c.requires.wanted;
   there = λ hop there.
       relay_there c.args.site.now hop.to
       (reaches_there c.args.site.now c.args.class Scope.Every c.args.from.relay (list_of c.args.site.now c.args.from) hop.number hop.to

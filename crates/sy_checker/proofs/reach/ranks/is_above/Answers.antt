@@ -21,6 +21,7 @@ loop-is-preserved c = λ k is low there.
 
 pub falls_at-requires : goal.falls_at-requires
 falls_at-requires c = record {
+  wanted = c.requires.wanted;
   flows = c.requires.flows;
   there = input_there c.args.site.now c.args.class c.args.part.now c.requires.wanted c.is_lawful.ensures c.is-item.result
       (c.loop-is.is-index, c.loop-is-test.true, sym c.is-item.is);

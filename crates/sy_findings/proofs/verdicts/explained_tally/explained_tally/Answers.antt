@@ -1,10 +1,10 @@
-use Rattle.std.proofs.Common.{◌++◌, ap, ◌∙◌}
+use Rattle.sy_places.proofs.Promised.{if_ok}
 use Rattle.sy_findings.proofs.verdicts.explained_tally.explained_tally.Goals as goal
 
-pub returns : goal.returns
-returns c = record {
-  head = c.in_ok-text.text.items;
-  lines = c.in_ok-lines.lines.items;
-  text_is = c.in_ok-extend_from_slice.ensures.items ∙ ap (λ l. c.in_ok-text.text.items ++ l) c.as_slice.ensures.value;
-  are_lines = c.in_ok-lines.ensures;
-}
+pub returns-in-Ok : goal.returns-in-Ok
+returns-in-Ok c =
+    if_ok c.tally_of.result c.tally_of.ensures (λ text told. record {
+      instances = c.in-Ok.instances.items;
+      are_instances = c.in-Ok.ensures;
+      are_told = rw (← c.as_slice.ensures.value) told;
+    })

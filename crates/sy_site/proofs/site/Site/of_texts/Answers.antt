@@ -27,12 +27,12 @@ whole_entries-requires c =
 pub protections-requires : goal.protections-requires
 protections-requires c =
     let relays = rw c.as_slice.ensures.value at c.in_ok-relays.ensures.relays in
-    record { few = rw c.as_slice-9.ensures.value (few_relays _ _ c.in_ok-relays.relays.items relays c.in_ok-found.ensures.few_relays) }
+    record { few = rw c.as_slice-10.ensures.value (few_relays _ _ c.in_ok-relays.relays.items relays c.in_ok-found.ensures.few_relays) }
 
 pub targets_of-requires : goal.targets_of-requires
 targets_of-requires c =
     let relays = rw c.as_slice.ensures.value at c.in_ok-relays.ensures.relays in
-    record { few = rw c.as_slice-10.ensures.value (few_relays _ _ c.in_ok-relays.relays.items relays c.in_ok-found.ensures.few_relays) }
+    record { few = rw c.as_slice-11.ensures.value (few_relays _ _ c.in_ok-relays.relays.items relays c.in_ok-found.ensures.few_relays) }
 
 pub returns-in_err-relays-clause-err : goal.returns-in_err-relays-clause-err
 returns-in_err-relays-clause-err c =
@@ -63,7 +63,7 @@ returns-in_err-protections-clause-err c =
     let files = map (λ f. file f.0.now f.1.now) c.args.files.now in
     let relays = rw c.as_slice.ensures.value at c.in_ok-relays.ensures.relays in
     let are = are_relays c.args.text.now files (map line_given c.in_ok-found.found.items) c.in_ok-relays.relays.items c.in_ok-found.ensures.lines relays in
-    let refused = rw c.as_slice-9.ensures.value at c.in_err-protections.ensures.err in
+    let refused = rw c.as_slice-10.ensures.value at c.in_err-protections.ensures.err in
     let err = refused c.args.text.now files (all_found c.args.text.now c.in_ok-found.found.items c.in_ok-found.ensures.placed) are in
     search rules
 
@@ -91,8 +91,9 @@ returns-then-is_empty-clause-err c =
       whole_entries = c.in_ok-whole_entries.whole_entries.items;
       protections = c.in_ok-protections.protections.items;
       spares = c.in_ok-spares.spares.items;
+      outsides = c.in_ok-outsides.outsides.items;
     } in
-    let protections = protections_of (site_with c.in_ok-relays.relays.items) site refl _ c.in_ok-protections.protections.items (rw c.as_slice-9.ensures.value at c.in_ok-protections.ensures.protections) in
+    let protections = protections_of (site_with c.in_ok-relays.relays.items) site refl _ c.in_ok-protections.protections.items (rw c.as_slice-10.ensures.value at c.in_ok-protections.ensures.protections) in
     elim c.then-is_empty.branch [
       | then-is_empty-via-then-is_empty w ↦
           let none : length c.in_ok-entries.entries.items ≡ 0 = omega (arith, eqb-true _ _ (sym w.if-is_empty.ensures), c.in_ok-entries.entries.ok) in
@@ -111,6 +112,7 @@ returns-clause-site c =
       whole_entries = c.in_ok-whole_entries.whole_entries;
       protections = c.in_ok-protections.protections;
       spares = c.in_ok-spares.spares;
+      outsides = c.in_ok-outsides.outsides;
       targets = c.in-Ok.targets;
     }) in
     let relays = rw c.as_slice.ensures.value at c.in_ok-relays.ensures.relays in
@@ -127,12 +129,14 @@ returns-clause-site c =
       few_entries = c.in_ok-found.ensures.few_entries;
       few_protections = c.in_ok-found.ensures.few_protections;
       few_spares = c.in_ok-found.ensures.few_spares;
+      few_outsides = c.in_ok-found.ensures.few_outsides;
       policy = rw c.as_slice-6.ensures.value at c.policy-policy.ensures;
       relays = paired_relays files (relay_lines (map line_given c.in_ok-found.found.items)) c.in_ok-relays.relays.items relays;
       entries = all_paired (IsEntry site) _ c.in_ok-entries.entries.items entries;
       whole_entries = all_paired (IsEntry site) _ c.in_ok-whole_entries.whole_entries.items whole_entries;
-      protections = protections_of (site_with c.in_ok-relays.relays.items) site refl _ c.in_ok-protections.protections.items (rw c.as_slice-9.ensures.value at c.in_ok-protections.ensures.protections);
+      protections = protections_of (site_with c.in_ok-relays.relays.items) site refl _ c.in_ok-protections.protections.items (rw c.as_slice-10.ensures.value at c.in_ok-protections.ensures.protections);
       spares = spares_of (site_with c.in_ok-relays.relays.items) site refl _ c.in_ok-spares.spares.items (rw (c.as_slice-7.ensures.value, c.as_slice-8.ensures.value) at c.in_ok-spares.ensures.spares);
+      outsides = rw c.as_slice-9.ensures.value at c.in_ok-outsides.ensures.outsides;
       apart =
           none_named c.in_ok-found.found.items (spare_lines (map line_given c.in_ok-found.found.items)) (rw c.as_slice-7.ensures.value at c.in_ok-spares.ensures.apart);
       entered = grind (arith, common_steps);
@@ -150,6 +154,7 @@ invariant_of-result c =
       whole_entries = c.in_ok-whole_entries.whole_entries;
       protections = c.in_ok-protections.protections;
       spares = c.in_ok-spares.spares;
+      outsides = c.in_ok-outsides.outsides;
       targets = c.in-Ok.targets;
     }) in
     let files = map (λ f. file f.0.now f.1.now) c.args.files.now in
@@ -167,6 +172,6 @@ invariant_of-result c =
         apart = described.apart;
       }),
       (c.args.text.now, files, described),
-      subst (λ l. map inputs_of c.in-Ok.targets.items ≡ map (λ relay. targets_in (site_with l) (relay_of relay)) l) c.as_slice-10.ensures.value
+      subst (λ l. map inputs_of c.in-Ok.targets.items ≡ map (λ relay. targets_in (site_with l) (relay_of relay)) l) c.as_slice-11.ensures.value
           c.in-Ok.ensures,
     )

@@ -8,6 +8,6 @@ pub returns : goal.returns
 returns c =
     subst (λ site. c.target_in.result ≡ target site (record { relay = c.args.relay; action = c.args.action })) c.self.view_is
     (subst (λ targets. c.target_in.result ≡ looked_up targets c.args.relay c.args.action) c.as_slice.ensures.value c.target_in.ensures
-    ∙ by_table c.self.inside.policy c.self.inside.relays.items c.self.inside.entries.items c.self.inside.whole_entries.items c.self.inside.protections.items c.self.inside.spares.items
+    ∙ by_table c.self.inside.policy c.self.inside.relays.items c.self.inside.entries.items c.self.inside.whole_entries.items c.self.inside.protections.items c.self.inside.spares.items c.self.inside.outsides.items
     c.self.inside.targets.items
     c.self.invariant.2 c.args.relay c.args.action)

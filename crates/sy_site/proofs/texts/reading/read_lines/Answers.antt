@@ -2,7 +2,7 @@ use Rattle.std.proofs.Common.{arith, inl, inr}
 use Rattle.std.proofs.lemmas.Bool.{cases_Bool}
 use Rattle.sy_site.specs.texts.HasFault.{HasFault}
 use Rattle.sy_site.specs.texts.Lines.{is_skipped, words}
-use Rattle.sy_site.proofs.lemmas.texts.Found.{duplicate_fault, few_entries, few_protections, few_relays, few_spares, found_in_place, found_lines, found_more, found_single, found_skip, found_start, line_fault, long_first, none_before, not_wrong}
+use Rattle.sy_site.proofs.lemmas.texts.Found.{duplicate_fault, few_entries, few_outsides, few_protections, few_relays, few_spares, found_in_place, found_lines, found_more, found_single, found_skip, found_start, line_fault, long_first, none_before, not_wrong}
 use Rattle.sy_site.proofs.texts.reading.read_lines.Goals as goal
 
 pub returns-then-text-gt-MOST_BYTES-clause-err : goal.returns-then-text-gt-MOST_BYTES-clause-err
@@ -66,3 +66,6 @@ returns-clause-in_place c = found_in_place c.loop-line.invariant.0 c.in_default.
 
 pub returns-clause-few_spares : goal.returns-clause-few_spares
 returns-clause-few_spares c = few_spares c.loop-line.invariant.0
+
+pub returns-clause-few_outsides : goal.returns-clause-few_outsides
+returns-clause-few_outsides c = few_outsides c.loop-line.invariant.0

@@ -9,4 +9,4 @@ pub returns-clause-turn : goal.returns-clause-turn
 returns-clause-turn g c ahead buffer =
     let first : take c.min.result c.held-held.result.now ≡ take 1024 c.args.self.now.standing.held =
     ap (λ k. take k c.held-held.result.now) c.min.ensures ∙ take_least c.held-held.result.now 1024 ∙ ap (take 1024) c.held-held.ensures in
-    rw c.set_place.ensures (sets_stray c.args.self.now.standing _ ahead _ _ c.requires.place c.requires.front first c.in-Ok.ensures.ok)
+    rw c.set_place.ensures (sets_stray c.args.self.now.standing _ ahead _ _ c.requires.place c.requires.front first (rw (← c.next_number-frame.ensures) c.in-Ok.ensures.ok))

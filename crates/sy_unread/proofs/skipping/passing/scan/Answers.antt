@@ -15,5 +15,5 @@ loop-at-preserved c =
     let size = length-drop c.loop-at.at c.args.bytes.now in
     record {
       within = omega (arith, count, size, c.loop-at.invariant.within);
-      passes = passes_more _ _ _ _ _ _ c.loop-at.invariant.passes c.loop-at.invariant.within count starts;
+      passes = rw c.begun-frames.ensures (passes_more _ _ _ _ _ _ _ _ c.loop-at.invariant.passes c.loop-at.invariant.within count starts);
     }

@@ -13,7 +13,8 @@ returns-then-count-eq0-clause-turn g c kept =
     let same_size = ap length same_held in
     let held_some : 0 < length c.args.standing.now.held = not_nil _ c.requires.held in
     let place = c.hand_on.ensures.place ∙ ap (λ (a : At). a.place) c.set_place.ensures in
-    let handed = hands_cut c.args.standing.now c.hand_on.new.self c.hand_on.result c.hand_on.new.buffer _ _ c.requires.place place c.requires.cut read.consumed (read.at_end refl)
+    let frames = c.hand_on.ensures.frames ∙ ap (λ (a : At). a.frames) c.set_place.ensures in
+    let handed = hands_cut c.args.standing.now c.hand_on.new.self c.hand_on.result c.hand_on.new.buffer _ _ c.requires.place place frames c.requires.cut read.consumed (read.at_end refl)
     (sym same_held ∙ c.hand_on.ensures.whole) in
     (omega (arith, c.hand_on.ensures.count), handed, refl, λ none. absurd (omega (arith, none, c.hand_on.ensures.count, same_size, c.requires.room, held_some)))
 

@@ -1,0 +1,3 @@
+mod Meetings
+pub mod Named
+mod Searches

@@ -1,0 +1,23 @@
+use Rattle.std.proofs.Common.{arith, sym, subst, ap, ◌∙◌, ℕ}
+use Rattle.std.specs.Prelude.{slice_get}
+use Rattle.std.proofs.lemmas.Option.{slice_get-get_or}
+use Rattle.sy_rules.specs.declared.parts.Action.{Action}
+use Rattle.sy_endpoints.specs.Endpoints.{IsHomeward, LeadsHome}
+use Rattle.sy_endpoints.proofs.Searches.{at_all, one_more, same_there, there_below}
+use Rattle.sy_endpoints.proofs.own.first_homeward.Goals as goal
+
+pub loop-number-preserved : goal.loop-number-preserved
+loop-number-preserved c =
+    let are = c.actions_of-actions.ensures.are in
+    let at = slice_get-get_or c.actions_of-actions.result.now c.loop-number.number c.index-actions-number.result c.loop-number-test.true in
+    let here = ap (λ xs. slice_get xs c.loop-number.number) (sym are) ∙ at in
+    one_more (λ number. (input : ℕ) × IsHomeward c.args.site.now c.args.relay number input) c.loop-number.number c.loop-number.invariant
+    (λ is. c.in_default.ensures.none is.0
+    (subst (λ (a : Action). LeadsHome c.args.site.now c.args.relay a.destination is.0) (same_there is.1.there here) is.1.leads))
+
+pub returns-clause-none : goal.returns-clause-none
+returns-clause-none c action input is =
+    let are = c.actions_of-actions.ensures.are in
+    at_all (λ number. (input : ℕ) × IsHomeward c.args.site.now c.args.relay number input) c.loop-number.number c.loop-number.invariant action
+    (there_below c.actions_of-actions.result.now action is.is c.loop-number.number (ap (λ xs. slice_get xs action) are ∙ is.there)
+    (omega (arith, c.loop-number-test.false))) (input, is)

@@ -1,0 +1,4 @@
+pub mod Hosts
+pub mod Outlets
+pub mod Endpoints
+pub mod internal
