@@ -142,6 +142,12 @@ pub turned : (site : Site) (one other : Class) → AreAlike site one other → A
 turned site one other same which relay list number is used =
     let both = same which relay list number is used in (both.1, both.0)
 
+pub through : (site : Site) (one other third : Class) → AreAlike site one other → AreAlike site other third → AreAlike site one third
+through site one other third first second which relay list number is used =
+    let a = first which relay list number is used in
+    let b = second which relay list number is used in
+    (λ does. b.0 (a.0 does), λ does. a.1 (b.1 does))
+
 list_used : (site : Site) (x : SiteInput) → IsInput site x → is_used (plan_at site x.relay) (list_of site x) ≡ true
 list_used site x is = input_used (plan_at site x.relay) (list_of site x) (input_list site x is)
 
@@ -207,7 +213,7 @@ module _ (site : Site) (law : IsLawful site) (one other : Class) (same : AreAlik
   }
 
 module _ (site : Site) (law : IsLawful site) (one other : Class) (same : AreAlike site one other) where
-  site_hops_to : (which : Executed) (hops : SiteHops) → AreAlike site other one → AreSiteHops site one which hops → AreSiteHops site other which hops
+  pub site_hops_to : (which : Executed) (hops : SiteHops) → AreAlike site other one → AreSiteHops site one which hops → AreSiteHops site other which hops
   site_hops_to which hops back are = record {
     length_is = are.length_is;
     each = λ relay lists at.
@@ -291,6 +297,7 @@ course_as site law one other course flows is are same =
       many = is.many;
       numbers = numbers_to site law one other both (number_at course.numbers.items) is.numbers;
       leads = leads_as site one other both course.leads.items is.leads;
+      clean = λ third like low. is.clean third (through site one other third both like) low;
     }
 
 -- ---- the courses so far

@@ -57,3 +57,7 @@ pub mod Alike
 pub mod Shared
 pub mod Grouping
 pub mod Reporting
+pub mod Walked
+pub mod Mild
+pub mod Cleaner
+pub mod Raised

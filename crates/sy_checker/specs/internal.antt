@@ -3,6 +3,8 @@ pub mod Answer
 pub mod Certifying
 pub mod Checking
 pub mod Course
+pub mod Walks
+pub mod Discarding
 pub mod Flows
 pub mod Found
 pub mod Hops

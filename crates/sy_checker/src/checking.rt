@@ -101,7 +101,7 @@ fn push_reached(
 }
 
 // Shows that the site is sound for a class. Its course is worked out once for all classes with the same flows, and its
-// rows are made and judged only where it has an archive that wasn't met for such a class before. Each input that it
+// rows are made only where it has an archive that wasn't met for such a class before. Each input that it
 // reaches is put with it behind the pairs of the classes before.
 fn check_class(
     alloc: Global,

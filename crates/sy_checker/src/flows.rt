@@ -9,6 +9,7 @@ pub mod course;
 pub mod executed;
 pub mod firm;
 pub mod hops;
+pub mod walk;
 
 use crate::flows::executed::Executed;
 use crate::flows::firm::SiteFirm;

@@ -14,6 +14,7 @@ ghost use Rattle.sy_checker.specs.internal.Risks as spec;
 ghost use Rattle.sy_checker.specs.internal.Flows.{AreSiteFlows, is_used};
 ghost use Rattle.sy_checker.specs.internal.Hops.{AreFlows};
 
+pub mod discarding;
 pub mod groups;
 pub mod reported;
 pub mod search;

@@ -16,22 +16,22 @@ ghost use Rattle.sy_checker.specs.Fit.{AreProtected};
 ghost use Rattle.sy_checker.specs.internal.Flows.{AreFirm};
 ghost use Rattle.sy_checker.specs.internal.Hops.{AreFlows};
 ghost use Rattle.sy_checker.specs.internal.Loops.{HasNoRanks};
+ghost use Rattle.sy_checker.specs.internal.Walks.{AreWalks, IsWalk};
 ghost use Rattle.sy_checker.specs.Survey as spec;
 ghost use Rattle.sy_checker.specs.internal.Survey as inside;
 ghost use Rattle.sy_site.specs.declared.finding.Kind.TheVariants as kinds;
 
-use crate::archives::lead::{lead, leads_of};
+use crate::archives::lead::lead;
 use crate::classes::protected_classes;
+use crate::flows::ClassFlows;
 use crate::flows::firm::{SiteFirm, firm_of};
-use crate::flows::hops::class_flows;
-use crate::flows::{ClassFlows, flows_of};
+use crate::flows::walk::{Walk, walk_for};
 use crate::kinds::groups::{Gathered, Group, nothing_gathered, push_found};
 use crate::kinds::reported::{push_inner_loops, push_inputs};
 use crate::laws::sites_without_a_finding_are_sound;
 use crate::lists::FoundLists;
 use crate::reach::loops::{Unranked, ranks_of};
 use crate::reach::order::sorted;
-use crate::reach::{reached, reached_by_every};
 use crate::rows::wanted::archives;
 use std::alloc::{AllocError, Global};
 use sy_site::finding::Kind;
@@ -186,23 +186,22 @@ fn push_all_unmet(
     alloc: Global,
     site: &Site,
     class: Class,
-    flows: &ClassFlows,
+    walk: &Walk,
     found: &mut Gathered,
 ) -> Result<(), AllocError>
     requires protected { sites.is_protected site.now class ≡ true }
-    requires flows { AreFlows site.now class flows.now }
+    requires walk { IsWalk site.now class walk.now }
     ensures { OnOk result (inside.Reports site.now class (λ i j. inside.Among site.now.entries (λ entry.
         inside.Among (sites.archives site.now class) (λ archive. inside.IsUnmetBy site.now class entry archive i j)))
         found.old.groups.items found.new.groups.items) }
 {
-    let leads = leads_of(alloc, site, class, flows)?;
     let named = archives(alloc, site, class)?;
     push_entries(
         alloc,
         site,
         class,
-        flows,
-        leads.as_slice(),
+        &walk.flows,
+        walk.leads.as_slice(),
         site.entries(),
         named.as_slice(),
         found,
@@ -216,11 +215,11 @@ fn push_reached(
     alloc: Global,
     site: &Site,
     class: Class,
-    flows: &ClassFlows,
+    walk: &Walk,
     found: &mut Gathered,
 ) -> Result<(), AllocError>
     requires protected { sites.is_protected site.now class ≡ true }
-    requires flows { AreFlows site.now class flows.now }
+    requires walk { IsWalk site.now class walk.now }
     ensures reports { OnOk result (inside.Reports site.now class
         (λ i j. Reach site.now class Scope.Firm i × HoldsAt site.now class i (kind_of j))
         found.old.groups.items found.new.groups.items) }
@@ -228,12 +227,17 @@ fn push_reached(
         ⊎ ((input : AnyInput) × spec.Names found.new.groups.items class input kinds.Loop)) }
 {
     site.is_lawful();
-    let reached = reached(alloc, site, class, flows)?;
-    let inputs = sorted(alloc, site, reached.inputs.as_slice())?;
-    push_inputs(alloc, site, class, flows, inputs.as_slice(), found)?;
-    let every = reached_by_every(alloc, site, class, flows, reached.inputs.as_slice())?;
-    push_loop(alloc, site, class, flows, every.as_slice(), found)?;
-    push_inner_loops(alloc, site, class, flows, inputs.as_slice(), found)?;
+    let inputs = sorted(alloc, site, walk.firm.as_slice())?;
+    push_inputs(alloc, site, class, &walk.flows, inputs.as_slice(), found)?;
+    push_loop(
+        alloc,
+        site,
+        class,
+        &walk.flows,
+        walk.every.as_slice(),
+        found,
+    )?;
+    push_inner_loops(alloc, site, class, &walk.flows, inputs.as_slice(), found)?;
     Ok(())
 }
 
@@ -242,19 +246,40 @@ fn push_all(
     alloc: Global,
     site: &Site,
     class: Class,
-    firm: &SiteFirm,
+    walk: &Walk,
     found: &mut Gathered,
 ) -> Result<(), AllocError>
     requires protected { sites.is_protected site.now class ≡ true }
-    requires firm { AreFirm site.now firm.now }
+    requires walk { IsWalk site.now class walk.now }
     ensures reports { OnOk result (inside.Reports site.now class inside.IsNothing
         found.old.groups.items found.new.groups.items) }
     ensures reported { OnOk result (spec.IsReportedOf site.now class found.new.groups.items) }
 {
-    let lists = flows_of(alloc, site, class, firm)?;
-    let flows = class_flows(alloc, site, class, lists)?;
-    push_reached(alloc, site, class, &flows, found)?;
-    push_all_unmet(alloc, site, class, &flows, found)?;
+    push_reached(alloc, site, class, walk, found)?;
+    push_all_unmet(alloc, site, class, walk, found)?;
+    Ok(())
+}
+
+// The same, with what the class executes and reaches, which is worked out once for all classes that execute the same.
+fn push_next(
+    alloc: Global,
+    site: &Site,
+    class: Class,
+    firm: &SiteFirm,
+    walks: &mut Vec<Walk>,
+    found: &mut Gathered,
+) -> Result<(), AllocError>
+    requires protected { sites.is_protected site.now class ≡ true }
+    requires firm { AreFirm site.now firm.now }
+    requires walks { AreWalks site.now walks.old.items }
+    ensures walks { OnOk result (AreWalks site.now walks.new.items) }
+    ensures reports { OnOk result (inside.Reports site.now class inside.IsNothing
+        found.old.groups.items found.new.groups.items) }
+    ensures reported { OnOk result (spec.IsReportedOf site.now class found.new.groups.items) }
+{
+    let place = walk_for(alloc, site, class, firm, walks)?;
+    let walk = &walks[place];
+    push_all(alloc, site, class, walk, found)?;
     Ok(())
 }
 
@@ -265,9 +290,10 @@ fn survey_of(alloc: Global, site: &Site, classes: &[Class]) -> Result<Vec<Group>
     ensures { IfOk result (λ groups. spec.IsSurveyOf site.now (Contains classes.now) groups.items) }
 {
     let firm = firm_of(alloc, site)?;
+    let mut walks = Vec::new(alloc);
     let mut found = nothing_gathered(alloc);
     for class in classes {
-        push_all(alloc, site, *class, &firm, &mut found)?;
+        push_next(alloc, site, *class, &firm, &mut walks, &mut found)?;
     }
     Ok(found.groups)
 }

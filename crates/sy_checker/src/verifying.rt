@@ -15,17 +15,17 @@ ghost use Rattle.sy_checker.specs.Claims.{RanksStayFalling, StayConfined, StayWr
 ghost use Rattle.sy_checker.specs.Fit.{AreFit, IsFit, IsFitFor, IsWrongIn};
 ghost use Rattle.sy_checker.specs.internal.Flows.{AreFirm};
 ghost use Rattle.sy_checker.specs.internal.Hops.{AreFlows};
+ghost use Rattle.sy_checker.specs.internal.Walks.{AreWalks};
 ghost use Rattle.sy_checker.specs.Verifying as spec;
 ghost use Rattle.sy_checker.specs.internal.Verifying as inside;
 ghost use Rattle.sy_checker.specs.declared.verifying.CertFault.TheVariants as faults;
 
 use crate::accepted::{Accepted, push_pairs};
 use crate::classes::protected_classes;
+use crate::flows::ClassFlows;
 use crate::flows::firm::{SiteFirm, firm_of};
-use crate::flows::hops::class_flows;
-use crate::flows::{ClassFlows, flows_of};
+use crate::flows::walk::{Walk, walk_for};
 use crate::laws::{claims_of_sound_sites, fit_is_safe, fit_is_sound};
-use crate::reach::{reached, reached_by_every};
 use crate::rows::part::{first_wrong, row_kind};
 use crate::rows::wanted::{RowKind, wanted_rows};
 use std::alloc::{AllocError, Global};
@@ -96,32 +96,32 @@ fn judge_class(
     judge(alloc, site, class, flows, firm, every, rows)
 }
 
-// The same, with what the class executes and reaches worked out for it.
+// The same, with what the class executes and reaches, which is worked out once for all classes that execute the same.
 fn judge_next(
     alloc: Global,
     site: &Site,
     class: Class,
     firm: &SiteFirm,
+    walks: &mut Vec<Walk>,
     rows: &[Row],
     pairs: &mut Vec<(SiteInput, Class)>,
 ) -> Result<Judged, AllocError>
     requires firm { AreFirm site.now firm.now }
+    requires walks { AreWalks site.now walks.old.items }
+    ensures walks { OnOk result (AreWalks site.now walks.new.items) }
     ensures judged { IfOk result (λ judged. inside.IsJudged site.now class rows.now judged) }
     ensures pairs { OnOk result ((before : List AnyClass) → AreReached site.now before pairs.old.items
         → AreReached site.now (before ++ class ∷ []) pairs.new.items) }
 {
-    let lists = flows_of(alloc, site, class, firm)?;
-    let flows = class_flows(alloc, site, class, lists)?;
-    let found = reached(alloc, site, class, &flows)?;
-    let inputs = found.inputs.as_slice();
-    let every = reached_by_every(alloc, site, class, &flows, inputs)?;
+    let place = walk_for(alloc, site, class, firm, walks)?;
+    let walk = &walks[place];
     judge_class(
         alloc,
         site,
         class,
-        &flows,
-        inputs,
-        every.as_slice(),
+        &walk.flows,
+        walk.firm.as_slice(),
+        walk.every.as_slice(),
         rows,
         pairs,
     )
@@ -134,10 +134,12 @@ fn check_rows(
     site: &Site,
     firm: &SiteFirm,
     classes: &[Class],
+    walks: &mut Vec<Walk>,
     rows: &[Row],
     pairs: &mut Vec<(SiteInput, Class)>,
 ) -> Result<(), CertFault>
     requires firm { AreFirm site.now firm.now }
+    requires walks { AreWalks site.now walks.old.items }
     requires none { pairs.old.items ≡ [] }
     ensures ok { OnOk result (AreFit site.now classes.now rows.now) }
     ensures pairs { OnOk result (AreReached site.now classes.now pairs.new.items) }
@@ -145,7 +147,7 @@ fn check_rows(
 {
     let mut done = 0;
     for class in classes {
-        let Ok(judged) = judge_next(alloc, site, *class, firm, &rows[done..], pairs) else {
+        let Ok(judged) = judge_next(alloc, site, *class, firm, walks, &rows[done..], pairs) else {
             return Err(CertFault::NoMemory);
         };
         match judged {
@@ -180,7 +182,16 @@ fn verify_rows(alloc: Global, site: &Site, rows: &[Row]) -> Result<Accepted, Cer
         return Err(CertFault::NoMemory);
     };
     let mut pairs = Vec::new(alloc);
-    if let Err(fault) = check_rows(alloc, site, &firm, classes.as_slice(), rows, &mut pairs) {
+    let mut walks = Vec::new(alloc);
+    if let Err(fault) = check_rows(
+        alloc,
+        site,
+        &firm,
+        classes.as_slice(),
+        &mut walks,
+        rows,
+        &mut pairs,
+    ) {
         return Err(fault);
     }
     let Ok(accepted) = Accepted::new(alloc, site, classes, pairs) else {

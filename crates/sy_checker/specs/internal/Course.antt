@@ -1,6 +1,6 @@
 -- The course of a class through a site: what it executes, which inputs it reaches without spare occurrences and with them, how
 -- the relays rank by that, how many posts follow one another, and where its entries lead. Classes that execute the same have the same one.
-use Rattle.std.specs.Prelude.{◌≡◌, ℕ, ◌↔◌, Contains, List, Some, length, slice_get, true}
+use Rattle.std.specs.Prelude.{◌≡◌, ℕ, ◌≤◌, ◌↔◌, Contains, List, Some, length, slice_get, true}
 use Rattle.sy_wire.specs.declared.class.Class.{Class}
 use Rattle.sy_rules.specs.declared.lists.occurrence.Occurrence.{Occurrence}
 use Rattle.sy_board.specs.relay.Spares.{Scope}
@@ -32,6 +32,10 @@ abbrev pub AreAlike : Site → Class → Class → Type 0
 AreAlike site one other = (which : Executed) (relay list number : ℕ) (is : Occurrence) → is_used (plan_at site relay) list ≡ true
     → Does site one which relay list number is ↔ Does site other which relay list number is
 
+-- none of the kinds 1 to 7 is found of the class
+abbrev pub AreClean : Site → Class → Type 0
+AreClean site class = (x : SiteInput) → Reach site class Scope.Firm x → IsClean site class x
+
 -- It is that of the class.
 pub record IsCourse (site : Site) (class : Class) (course : Course) : Type 0 where
   pub flows : AreFlows site class course.flows
@@ -42,6 +46,7 @@ pub record IsCourse (site : Site) (class : Class) (course : Course) : Type 0 whe
   pub many : length course.ranks.items ≡ length site.relays
   pub numbers : AreNumbers site class (number_at course.numbers.items)
   pub leads : AreLeads site class course.leads.items
+  pub clean : (other : Class) → AreAlike site class other → other.severity ≤ course.severity → AreClean site other
 
 -- each is that of some class
 abbrev pub AreCourses : Site → List Course → Type 0
@@ -67,6 +72,8 @@ pub record IsCourseAt (site : Site) (class : Class) (courses : List Course) (pla
 abbrev pub AreKept : Site → List Course → List Course → Type 0
 AreKept site old new = (class : Class) (place : ℕ) → IsCourseAt site class old place → IsCourseAt site class new place
 
--- none of the kinds 1 to 7 is found of the class
-abbrev pub AreClean : Site → Class → Type 0
-AreClean site class = (x : SiteInput) → Reach site class Scope.Firm x → IsClean site class x
+-- One of them has this severity now.
+pub record IsRaised (old new : List Course) (place severity : ℕ) : Type 0 where
+  pub many : length new ≡ length old
+  pub here : (course : Course) → slice_get old place ≡ Some course → slice_get new place ≡ Some (record course { severity = severity })
+  pub others : (at : ℕ) → (at ≡ place → ⊥) → slice_get new at ≡ slice_get old at

@@ -1,6 +1,6 @@
 //! The course of a class through a site, which classes share that execute the same of each list.
 
-ghost use Rattle.std.specs.Prelude.{◌≡◌, ◌↔◌, ◌++◌, ◌∷◌, [], Contains, Decides, IfErr, IfNone, IfOk, IfSome, OnOk, length, true};
+ghost use Rattle.std.specs.Prelude.{◌≡◌, ◌↔◌, ◌++◌, ◌∷◌, [], ◌<◌, Contains, Decides, IfErr, IfNone, IfOk, IfSome, OnOk, Some, length, slice_get, true};
 ghost use Rattle.sy_site.specs.Sites as sites;
 ghost use Rattle.sy_site.specs.declared.site.SiteInput.{SiteInput as AnyInput};
 ghost use Rattle.sy_board.specs.relay.Spares.{Scope};
@@ -10,6 +10,7 @@ ghost use Rattle.sy_checker.specs.internal.Course as spec;
 ghost use Rattle.sy_checker.specs.internal.Search.{IsSpread};
 ghost use Rattle.sy_checker.specs.declared.flows.executed.Executed.TheVariants as executed;
 ghost use Rattle.sy_site.specs.Finding.{IsTrueRefusal};
+ghost use Rattle.sy_checker.specs.internal.Discarding.{IsCleanUpTo};
 ghost use Rattle.sy_checker.specs.internal.Flows.{AreFirm, AreSiteFlows};
 ghost use Rattle.sy_checker.specs.internal.Hops.{AreFlows};
 ghost use Rattle.sy_checker.specs.internal.Inner.{AreNumbers, HasNoNumbers, number_at};
@@ -19,6 +20,7 @@ use crate::archives::lead::leads_of;
 use crate::flows::firm::SiteFirm;
 use crate::flows::hops::class_flows;
 use crate::flows::{ClassFlows, ListFlows, SiteFlows, flows_of};
+use crate::kinds::discarding::is_discarding;
 use crate::kinds::search::{finding_at, searched};
 use crate::lists::FoundLists;
 use crate::lists::inner::{RelayNumbers, Unnumbered};
@@ -45,6 +47,8 @@ pub struct Course {
     pub numbers: Vec<RelayNumbers>,
     /// the lists that posts and forwards lead to which its messages must execute and that aren't spare, from each entry
     pub leads: Vec<FoundLists>,
+    /// the greatest severity, by its number, up to which the reached inputs of classes with this course are clean
+    pub severity: u8,
 }
 
 fn is_same(one: ListFlows, other: ListFlows) -> bool
@@ -68,8 +72,8 @@ fn same_lists(one: &[ListFlows], other: &[ListFlows]) -> bool
     true
 }
 
-// Whether they are at each relay.
-fn same_flows(one: &SiteFlows, other: &SiteFlows) -> bool
+/// Whether the flows of each list are the same at each relay.
+pub(crate) fn same_flows(one: &SiteFlows, other: &SiteFlows) -> bool
     ensures { Decides result (spec.AreSame one.now other.now) }
 {
     if one.relays.len() != other.relays.len() {
@@ -161,6 +165,17 @@ fn numbers_for(
     }
 }
 
+// The greatest severity for which what was found clean for a class is clean: its own, or all where no queue discards.
+fn clean_up_to(site: &Site, class: Class) -> u8
+    ensures { IsCleanUpTo site.now class result }
+{
+    if is_discarding(site) {
+        class.severity
+    } else {
+        7
+    }
+}
+
 // The course of a class with these flows, or what is found of it: first at the inputs that it reaches, then a loop of
 // relays, then one of lists.
 fn new_course(alloc: Global, site: &Site, class: Class, lists: SiteFlows) -> Result<Course, Refusal>
@@ -170,6 +185,7 @@ fn new_course(alloc: Global, site: &Site, class: Class, lists: SiteFlows) -> Res
     ensures clean { OnOk result (spec.AreClean site.now class) }
     ensures err { IfErr result (λ why. IsTrueRefusal site.now why) }
 {
+    site.is_lawful();
     let flows = class_flows(alloc, site, class, lists)?;
     let found = reached(alloc, site, class, &flows)?;
     searched(alloc, site, class, &flows, &found)?;
@@ -184,6 +200,7 @@ fn new_course(alloc: Global, site: &Site, class: Class, lists: SiteFlows) -> Res
         ranks,
         numbers,
         leads,
+        severity: clean_up_to(site, class),
     })
 }
 
@@ -200,22 +217,72 @@ fn same_at(courses: &[Course], flows: &SiteFlows) -> Option<usize>
     None
 }
 
-// The place of a course that is the class's too; or what is found of the class at the inputs that it reaches.
-fn same_course(
+fn set_severity(courses: &mut [Course], place: usize, severity: u8)
+    requires there { place < length courses.old }
+    ensures { spec.IsRaised courses.old courses.new place severity }
+{
+    courses[place].severity = severity;
+}
+
+// One of the courses has this severity now.
+fn raise(courses: &mut Vec<Course>, place: usize, severity: u8)
+    requires there { place < length courses.old.items }
+    ensures { spec.IsRaised courses.old.items courses.new.items place severity }
+{
+    set_severity(courses.as_mut_slice(), place, severity);
+}
+
+// What is found of a class at the inputs of its course.
+fn search_course(
     alloc: Global,
     site: &Site,
     class: Class,
     courses: &[Course],
     place: usize,
-) -> Result<usize, Refusal>
+) -> Result<(), Refusal>
     requires protected { sites.is_protected site.now class ≡ true }
     requires course { spec.IsCourseAt site.now class courses.now place }
-    ensures at { IfOk result (λ at. spec.IsCourseAt site.now class courses.now at) }
     ensures clean { OnOk result (spec.AreClean site.now class) }
     ensures err { IfErr result (λ why. IsTrueRefusal site.now why) }
 {
     let course = &courses[place];
     searched(alloc, site, class, &course.flows, &course.found)?;
+    Ok(())
+}
+
+// The severity up to which classes with the course at a place are clean.
+fn severity_at(courses: &[Course], place: usize) -> u8
+    requires there { place < length courses.now }
+    ensures { (course : Course) → slice_get courses.now place ≡ Some course → result ≡ course.severity }
+{
+    let course = &courses[place];
+    course.severity
+}
+
+// The place of a course that is the class's too; or what is found of the class at the inputs that it reaches, where no
+// class with this course and such a severity was clean before.
+fn same_course(
+    alloc: Global,
+    site: &Site,
+    class: Class,
+    courses: &mut Vec<Course>,
+    place: usize,
+) -> Result<usize, Refusal>
+    requires protected { sites.is_protected site.now class ≡ true }
+    requires courses { spec.AreCourses site.now courses.old.items }
+    requires course { spec.IsCourseAt site.now class courses.old.items place }
+    ensures courses { OnOk result (spec.AreCourses site.now courses.new.items) }
+    ensures kept { OnOk result (spec.AreKept site.now courses.old.items courses.new.items) }
+    ensures at { IfOk result (λ at. spec.IsCourseAt site.now class courses.new.items at) }
+    ensures clean { OnOk result (spec.AreClean site.now class) }
+    ensures err { IfErr result (λ why. IsTrueRefusal site.now why) }
+{
+    site.is_lawful();
+    if class.severity <= severity_at(courses.as_slice(), place) {
+        return Ok(place);
+    }
+    search_course(alloc, site, class, courses.as_slice(), place)?;
+    raise(courses, place, class.severity);
     Ok(place)
 }
 
@@ -273,7 +340,7 @@ pub fn course_for(
     site.is_lawful();
     let lists = flows_of(alloc, site, class, firm)?;
     match same_at(courses.as_slice(), &lists) {
-        Some(place) => same_course(alloc, site, class, courses.as_slice(), place),
+        Some(place) => same_course(alloc, site, class, courses, place),
         None => more_course(alloc, site, class, lists, courses),
     }
 }

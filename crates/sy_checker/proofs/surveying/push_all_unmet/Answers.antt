@@ -7,8 +7,8 @@ use Rattle.sy_checker.proofs.surveying.push_all_unmet.Goals as goal
 pub push_entries-requires : goal.push_entries-requires
 push_entries-requires c = record {
   protected = c.requires.protected;
-  flows = c.requires.flows;
-  leads = subst (AreLeads c.args.site.now c.args.class) (sym c.as_slice.ensures.value) c.in_ok-leads.ensures;
+  flows = c.requires.walk.flows;
+  leads = subst (AreLeads c.args.site.now c.args.class) (sym c.as_slice.ensures.value) c.requires.walk.leads;
   entries = λ x is. subst (λ l. Contains l x) c.entries.ensures is;
   named = λ a is. subst (λ l. Contains l a) (c.as_slice-2.ensures.value ∙ c.in_ok-named.ensures) is;
 }

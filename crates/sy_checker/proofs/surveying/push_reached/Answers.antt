@@ -15,42 +15,35 @@ use Rattle.sy_checker.proofs.surveying.push_reached.Goals as goal
 pub sorted-requires : goal.sorted-requires
 sorted-requires c = record {
   there = λ x there. reach_there c.args.site.now c.is_lawful.ensures c.args.class Scope.Firm x
-      ((c.in_ok-reached.ensures.reached x).0 (subst (λ l. Contains l x) c.as_slice.ensures.value there));
+      ((c.requires.walk.firm x).0 (subst (λ l. Contains l x) c.as_slice.ensures.value there));
 }
 
 pub push_inputs-requires : goal.push_inputs-requires
 push_inputs-requires c =
-    let reach : (x : SiteInput) → Contains c.as_slice-2.result.now x → Reach c.args.site.now c.args.class Scope.Firm x = λ x there. (c.in_ok-reached.ensures.reached x).0 (subst (λ l. Contains l x) c.as_slice.ensures.value
+    let reach : (x : SiteInput) → Contains c.as_slice-2.result.now x → Reach c.args.site.now c.args.class Scope.Firm x = λ x there. (c.requires.walk.firm x).0 (subst (λ l. Contains l x) c.as_slice.ensures.value
     ((c.in_ok-inputs.ensures.member x).0 (subst (λ l. Contains l x) c.as_slice-2.ensures.value there))) in
     record {
       protected = c.requires.protected;
-      flows = c.requires.flows;
+      flows = c.requires.walk.flows;
       there = λ x there. reach_there c.args.site.now c.is_lawful.ensures c.args.class Scope.Firm x (reach x there);
       reached = reach;
     }
 
-pub reached_by_every-requires : goal.reached_by_every-requires
-reached_by_every-requires c = record {
-  flows = c.requires.flows;
-  firm = subst (λ l. (x : SiteInput) → Contains l x ↔ Reach c.args.site.now c.args.class Scope.Firm x) (sym c.as_slice-3.ensures.value)
-      c.in_ok-reached.ensures.reached;
-}
-
 pub push_loop-requires : goal.push_loop-requires
 push_loop-requires c = record {
   protected = c.requires.protected;
-  flows = c.requires.flows;
-  reached = subst (λ l. (x : SiteInput) → Contains l x ↔ Reach c.args.site.now c.args.class Scope.Every x) (sym c.as_slice-4.ensures.value)
-      c.in_ok-every.ensures;
+  flows = c.requires.walk.flows;
+  reached = subst (λ l. (x : SiteInput) → Contains l x ↔ Reach c.args.site.now c.args.class Scope.Every x) (sym c.as_slice-3.ensures.value)
+      c.requires.walk.every;
 }
 
 pub push_inner_loops-requires : goal.push_inner_loops-requires
 push_inner_loops-requires c =
-    let reach : (x : SiteInput) → Contains c.as_slice-5.result.now x → Reach c.args.site.now c.args.class Scope.Firm x = λ x there. (c.in_ok-reached.ensures.reached x).0 (subst (λ l. Contains l x) c.as_slice.ensures.value
-    ((c.in_ok-inputs.ensures.member x).0 (subst (λ l. Contains l x) c.as_slice-5.ensures.value there))) in
+    let reach : (x : SiteInput) → Contains c.as_slice-4.result.now x → Reach c.args.site.now c.args.class Scope.Firm x = λ x there. (c.requires.walk.firm x).0 (subst (λ l. Contains l x) c.as_slice.ensures.value
+    ((c.in_ok-inputs.ensures.member x).0 (subst (λ l. Contains l x) c.as_slice-4.ensures.value there))) in
     record {
       protected = c.requires.protected;
-      flows = c.requires.flows;
+      flows = c.requires.walk.flows;
       there = λ x there. reach_there c.args.site.now c.is_lawful.ensures c.args.class Scope.Firm x (reach x there);
       reached = reach;
     }
@@ -60,7 +53,7 @@ returns-clause-reports c =
     let site = c.args.site.now in
     let class = c.args.class in
     let inputs = c.as_slice-2.result.now in
-    let again = c.as_slice-5.result.now in
+    let again = c.as_slice-4.result.now in
     let old = c.args.found.now.groups.items in
     let mid = c.push_inputs.new.found.groups.items in
     let next = c.push_loop.new.found.groups.items in
@@ -72,10 +65,10 @@ returns-clause-reports c =
     both_reported site class Held Looped (λ i j. Reach site class Scope.Firm i × HoldsAt site class i (kind_of j)) old next new first
     c.in_ok-push_inner_loops.ensures
     (λ i j p.
-    let found = (c.in_ok-inputs.ensures.member i).1 (subst (λ l. Contains l i) (sym c.as_slice.ensures.value) ((c.in_ok-reached.ensures.reached i).1 p.0)) in
+    let found = (c.in_ok-inputs.ensures.member i).1 (subst (λ l. Contains l i) (sym c.as_slice.ensures.value) ((c.requires.walk.firm i).1 p.0)) in
     elim (held_or_looped site class i j p.1) [
       | inl held ↦ inl (i, subst (λ l. Contains l i) (sym c.as_slice-2.ensures.value) found, held)
-      | inr looped ↦ inr (i, subst (λ l. Contains l i) (sym c.as_slice-5.ensures.value) found, looped)
+      | inr looped ↦ inr (i, subst (λ l. Contains l i) (sym c.as_slice-4.ensures.value) found, looped)
     ])
 
 pub returns-clause-ranked : goal.returns-clause-ranked

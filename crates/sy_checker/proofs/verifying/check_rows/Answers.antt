@@ -22,6 +22,7 @@ loop-class-preserved c =
       subst (λ l. AreReached site l c.judge_next.new.pairs.items)
           (take_next c.args.classes.now c.loop-class.class-index c.class-item.result c.loop-class-test.true c.class-item.is)
           (c.in-Ok.ensures.pairs (take c.loop-class.class-index c.args.classes.now) c.loop-class.invariant.1),
+      c.in-Ok.ensures.walks,
     )
 
 pub returns-in-Some-clause-err : goal.returns-in-Some-clause-err
