@@ -1,9 +1,9 @@
 //! Log audit that is left out of what is protected.
 
 ghost use Rattle.std.specs.Prelude.{◌≡◌, ◌<◌, Decides};
-ghost use Rattle.sy_site.specs.Sites.{is_protected};
 ghost use Rattle.sy_findings.specs.Audit as spec;
 
+use crate::warnings::coming::is_protected;
 use crate::warnings::{Caution, Warnings};
 use sy_places::site_file::source::word_in;
 use sy_report::texts::note::{Note, Point};
@@ -15,13 +15,6 @@ pub const SECURITY: u8 = 4;
 
 /// Facility 13: log audit.
 pub const AUDIT: u8 = 13;
-
-// Whether a class is protected.
-fn is_protected(site: &Site, class: Class) -> bool
-    ensures { result ≡ is_protected site.now class }
-{
-    site.protections().iter().any(|p| p.selector.matches(class))
-}
 
 // Whether some class of a facility is protected.
 fn protects_of(site: &Site, facility: u8) -> bool

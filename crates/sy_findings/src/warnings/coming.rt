@@ -285,7 +285,8 @@ fn starts_of(alloc: Global, site: &Site, by: Following) -> Result<Vec<SiteInput>
 
 // ---- class by class
 
-fn is_protected(site: &Site, class: Class) -> bool
+/// Whether a class is protected.
+pub fn is_protected(site: &Site, class: Class) -> bool
     ensures { result ≡ is_protected site.now class }
 {
     site.protections().iter().any(|p| p.selector.matches(class))
