@@ -47,15 +47,16 @@ fn find_unread(
 fn find_in_text(
     alloc: Global,
     reported: &mut Vec<ReportedFault>,
+    left: &mut usize,
     spot: FileSpot<'_>,
     read: &RelayText,
 ) -> Result<Option<Vec<u8>>, AllocError> {
     let text = Vec::from_slice(alloc, read.text.as_slice())?;
-    let (found, left) = all_of_file(alloc, spot, text)?;
+    let (found, mended) = all_of_file(alloc, spot, text, left)?;
     for fault in found {
         reported.push(fault)?;
     }
-    Ok(left)
+    Ok(mended)
 }
 
 // The same where it could be read; else that is found.
@@ -76,7 +77,7 @@ fn find_in_file(
         relay,
     };
     match read {
-        Ok(read) => find_in_text(alloc, &mut hunt.found, spot, read),
+        Ok(read) => find_in_text(alloc, &mut hunt.found, &mut hunt.left, spot, read),
         Err(why) => {
             let unread = find_unread(alloc, hunt.name, spot, why)?;
             hunt.found.push(unread)?;

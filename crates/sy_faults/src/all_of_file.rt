@@ -24,6 +24,9 @@ pub const MOST_FAULTS: usize = 64;
 /// How often a file is read at most.
 const MOST_READS: usize = 128;
 
+/// The most bytes of all relays' files that are read again, after the first reading of each.
+pub const MOST_REREAD: usize = 8_388_608;
+
 /// A file: its number, counted from 1, its name, and the site file's first line that names it, with the relay's name there.
 #[derive(Clone, Copy)]
 pub struct FileSpot<'a> {
@@ -277,15 +280,27 @@ fn judge_once(alloc: Global, hunt: &mut Hunt<'_>) -> Result<Step, AllocError> {
     }
 }
 
+// Takes bytes off those that may still be read again, and answers whether there were so many.
+fn may_reread(left: &mut usize, size: usize) -> bool {
+    match left.checked_sub(size) {
+        Some(rest) => {
+            *left = rest;
+            true
+        }
+        None => false,
+    }
+}
+
 // Goes from fault to fault, and answers whether the file is a plan then.
-fn go(alloc: Global, hunt: &mut Hunt<'_>) -> Result<bool, AllocError> {
+fn go(alloc: Global, hunt: &mut Hunt<'_>, left: &mut usize) -> Result<bool, AllocError> {
     for _ in 0..MOST_READS {
         match judge_once(alloc, hunt)? {
             Step::Clean => return Ok(true),
             Step::End => return Ok(false),
             Step::GoOn => {}
         }
-        if hunt.found.len() >= MOST_FAULTS {
+        let is_full = hunt.found.len() >= MOST_FAULTS;
+        if is_full || !may_reread(left, hunt.mended.draft.text().len()) {
             return Ok(false);
         }
     }
@@ -293,11 +308,12 @@ fn go(alloc: Global, hunt: &mut Hunt<'_>) -> Result<bool, AllocError> {
 }
 
 /// The faults of a relay's file in the order in which they are met; and the text without them, where all of that is known that
-/// another file may speak of.
+/// another file may speak of. What is read again is taken off the bytes that are left for that.
 pub fn all_of_file(
     alloc: Global,
     spot: FileSpot<'_>,
     text: Vec<u8>,
+    left: &mut usize,
 ) -> Result<(Vec<ReportedFault>, Option<Vec<u8>>), AllocError> {
     let mut hunt = Hunt {
         spot,
@@ -311,7 +327,7 @@ pub fn all_of_file(
         found: Vec::new(alloc),
         last: None,
     };
-    let is_plan = go(alloc, &mut hunt)?;
+    let is_plan = go(alloc, &mut hunt, left)?;
     let Hunt { mended, found, .. } = hunt;
     if !is_plan || !mended.is_firm {
         return Ok((found, None));

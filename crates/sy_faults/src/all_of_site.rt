@@ -1,5 +1,6 @@
 //! All faults of the lines of a site file that can be found without guessing.
 
+use crate::all_of_file::MOST_REREAD;
 use crate::faults_with_notes::ReportedFault;
 use crate::mending::mended_text::Draft;
 use std::alloc::{AllocError, Global};
@@ -28,6 +29,8 @@ pub struct SiteHunt<'a> {
     pub name: &'a str,
     pub draft: Draft,
     pub found: Vec<ReportedFault>,
+    /// the bytes of relays' files that may be read again
+    pub left: usize,
     // whether a fault was told that leaves open which policy the site has
     is_policy_open: bool,
 }
@@ -39,6 +42,7 @@ impl<'a> SiteHunt<'a> {
             name,
             draft: Draft::new(alloc, text)?,
             found: Vec::new(alloc),
+            left: MOST_REREAD,
             is_policy_open: false,
         })
     }
