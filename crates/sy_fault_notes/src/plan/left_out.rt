@@ -115,3 +115,19 @@ pub fn lost_without_module(name: &[u8]) -> Option<&'static str> {
     }
     None
 }
+
+/// The same of a parameter's value.
+pub fn lost_without_value(name: &[u8], value: &[u8]) -> Option<&'static str> {
+    if name.eq_ignore_ascii_case(b"type") {
+        return lost_without_module(value);
+    }
+    if name.eq_ignore_ascii_case(b"queue.type") && value.eq_ignore_ascii_case(b"disk") {
+        return Some(words_on(Lost::DiskQueue));
+    }
+    None
+}
+
+/// Whether a parameter's value is by its name a module of rsyslog's that writes, sends or changes messages.
+pub fn is_other_module(name: &[u8], value: &[u8]) -> bool {
+    name.eq_ignore_ascii_case(b"type") && (begins(value, b"om") || begins(value, b"mm"))
+}

@@ -1,6 +1,6 @@
 //! Notes of values that a parameter doesn't take.
 
-use crate::plan::left_out::lost_without_module;
+use crate::plan::left_out::{is_other_module, lost_without_module, lost_without_value};
 use crate::plan::notes::param_at;
 use crate::plan::parameter_rows::{append_values, push_list, push_parameter, row_of};
 use sy_places::relay_file::outline::Object;
@@ -80,31 +80,43 @@ fn push_no_number(note: &mut Note, name: &[u8], value: &[u8]) {
     }
 }
 
+// What is left of a module that has no words of its own.
+const DONE_BEHIND: &str =
+    "without it, what needs it isn't done here: a program behind a forward of this relay may do it, as an rsyslogd";
+
 // Of a module that isn't one of this profile's.
 fn push_module(note: &mut Note, value: &[u8]) {
     note.why.say(": this profile has imtcp, builtin:omfile and builtin:omfwd");
     match lost_without_module(value) {
         Some(words) => note.change.say(words),
-        None => note.change.say(
-            "without it, what needs it isn't done here: a program behind a forward of this relay may do it, as an rsyslogd",
-        ),
+        None => note.change.say(DONE_BEHIND),
+    }
+}
+
+// Of a parameter one of whose values is to be written in place of one that is none.
+fn push_allowed(note: &mut Note, name: &[u8], allowed: &[&[u8]]) {
+    match allowed {
+        [only] => push_parameter(&mut note.change, name, only),
+        _ => {
+            note.change.say("one of them, as ");
+            if let Some(first) = allowed.first() {
+                push_parameter(&mut note.change, name, first);
+            }
+        }
     }
 }
 
 fn push_no_word(note: &mut Note, name: &[u8], value: &[u8], allowed: &[&[u8]]) {
     note.why.say(" is none of its values: ");
     push_list(&mut note.why, allowed);
+    if let Some(words) = lost_without_value(name, value) {
+        note.change.say(words);
+        return;
+    }
     match nearest(value, allowed) {
         Some(near) => push_parameter(&mut note.change, name, near),
-        None => match allowed {
-            [only] => push_parameter(&mut note.change, name, only),
-            _ => {
-                note.change.say("one of them, as ");
-                if let Some(first) = allowed.first() {
-                    push_parameter(&mut note.change, name, first);
-                }
-            }
-        },
+        None if is_other_module(name, value) => note.change.say(DONE_BEHIND),
+        None => push_allowed(note, name, allowed),
     }
 }
 
