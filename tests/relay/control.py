@@ -150,7 +150,7 @@ def drain_with_a_receiver_that_is_down(room):
     send_all(port, messages(20))
     begun = time.monotonic()
     relay.process.stdin.close()
-    same("status", relay.ends(12), 0)
+    same("status", relay.ends(), 0)
     took = time.monotonic() - begun
     if took < 2:
         raise Failure(f"it ended within {took:.3f} s, and not after two seconds")
@@ -169,7 +169,7 @@ def drain_takes_what_senders_had_sent(room):
     relay.process.stdin.close()
     until("the port is free", lambda: is_free(port))
     receiver = Receiver(inner)
-    same("status", relay.ends(40), 0)
+    same("status", relay.ends(80), 0)
     same("totals", relay.output(), totals(20, 0, 0, ("up", 20, 20, 0, 0)))
     receiver.has(messages(20))
     sender.is_ended()
@@ -185,7 +185,7 @@ def drain_with_a_sender_that_goes_on(room):
     room.has("audit.log", 100)
     begun = time.monotonic()
     relay.process.stdin.close()
-    same("status", relay.ends(20), 0)
+    same("status", relay.ends(), 0)
     if time.monotonic() - begun < 3:
         raise Failure("it ended before its time was over")
     taken, lost, held, done, given_up = balanced("totals", relay.output())

@@ -44,17 +44,17 @@ def over_two_relays(room, size, connections):
                           f"wanted {lists[it][at:at + 1]}, came {came[it][at:at + 1]}")
 
 
-@test(limit=80)
+@test(limit=240)
 def two_hops_over_one_connection(room):
     over_two_relays(room, 50_000, 1)
 
 
-@test(limit=80)
+@test(limit=240)
 def two_hops_over_eight_connections(room):
     over_two_relays(room, 50_000, 8)
 
 
-@test(limit=80)
+@test(limit=240)
 def two_hops_through_a_short_queue(room):
     over_two_relays(room, 100, 2)
 
@@ -176,7 +176,7 @@ def hub_stopped_in_order_and_restarted(room):
     hub.stops_with(totals(0, 0, 0, ("audit", 0, 0, 0, 0)))
 
 
-@test(limit=80)
+@test(limit=240)
 def hub_restarted_in_order_under_load(room):
     edge, hub, port = two_relays(room, 1000, 0)
     inner = int(room.read("edge.conf").split(b'target="hub" port="')[1].split(b'"')[0])

@@ -326,7 +326,7 @@ def stopped_under_load(room, drain, size, is_stuck):
     relay.process.stdin.close()
     same("status", relay.ends(90), 0)
     for it in senders:
-        it.thread.join(20)
+        it.thread.join(60)
     return relay, port, senders, receiver
 
 
@@ -343,7 +343,7 @@ def senders_that_look_lose_nothing(room):
     same("what arrived or is left", {it: sorted(found) for it, found in places(receiver.messages() + kept).items()}, wanted)
 
 
-@test(limit=120)
+@test(limit=240)
 def what_is_told_adds_up(room):
     relay, port, senders, receiver = stopped_under_load(room, "1", 100, True)
     taken, lost, held = counts(relay)

@@ -11,7 +11,7 @@ INFO, CRIT = 38, 34  # auth.info, auth.crit
 def stuck(room, flow, pri=CRIT, interval=30, more_inputs="", **queue):
     """A relay whose only worker holds one message, which it can't forward; its queue is empty then.
 
-    The message is written to an archive before, so that it shows that the worker holds it."""
+    The message is written to an archive before, and it is told that the forward fails, so that nothing is told of that later."""
     port, inner = room.port(), room.port()
     parameters = {"size": 10, "dequeueBatchSize": 1, "fullDelayMark": 0, "lightDelayMark": 0, "discardMark": 0} | queue
     room.site({"edge": module() + main_queue(**parameters) + imtcp(port, flow) + more_inputs
@@ -20,6 +20,7 @@ def stuck(room, flow, pri=CRIT, interval=30, more_inputs="", **queue):
     relay = room.start_unchecked("edge", port)
     send_all(port, [message("first", pri=pri)])
     room.holds("first.log", [message("first", pri=pri)])
+    until("its forward fails", lambda: "syc: action up fails: connection refused" in relay.lines(), came=relay.lines)
     return relay, port, inner
 
 
@@ -43,8 +44,8 @@ def time_to_enqueue_runs_out(room):
     begun = time.monotonic()
     send_all(port, messages(7))
     took = time.monotonic() - begun
-    if not 0.9 <= took < 10:
-        raise Failure(f"three messages that found a full queue waited {took:.3f} s in place of 0.9 s")
+    if took < 0.9:
+        raise Failure(f"three messages that found a full queue waited {took:.3f} s, less than 0.9 s")
     relay.stops_with(totals(8, 3, 5, *held()))
 
 
@@ -116,8 +117,8 @@ def light_delay_takes_a_second(room):
     send_all(port, messages(3))
     send_all(port, messages(2, 3))
     took = time.monotonic() - begun
-    if not 2 <= took < 10:
-        raise Failure(f"two messages above the mark of light delay took {took:.3f} s in place of 2 s")
+    if took < 2:
+        raise Failure(f"two messages above the mark of light delay took {took:.3f} s, less than 2 s")
     relay.stops_with(totals(6, 0, 6, *held()))
 
 
@@ -129,7 +130,7 @@ def light_delay_ends_below_the_mark(room):
     begun = time.monotonic()
     receiver.has([message("first"), *messages(43)])
     sender.end()
-    if time.monotonic() - begun > 20:
+    if time.monotonic() - begun >= 40:
         raise Failure("40 messages above the mark of light delay waited for a second each, while the queue was emptied")
     relay.stops_with(totals(44, 0, 0, ("first", 44, 44, 0, 0), ("up", 44, 44, 0, 0)))
 

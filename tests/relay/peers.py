@@ -7,7 +7,7 @@ import time
 
 from room import TURN, Failure, same, until
 
-PAUSE = 20  # seconds that a peer waits for the other side at most
+PAUSE = 60  # seconds that a peer waits for the other side at most
 
 
 def message(number, text="", pri=34, connection=0):

@@ -35,7 +35,7 @@ def settles(relay, before):
     until("no descriptor and no thread is left", lambda: left(relay) == before, came=lambda: f"{left(relay)} after {before}")
 
 
-@test(limit=80)
+@test(limit=240)
 def many_short_connections(room):
     relay, port = room.hub()
     before = left_at_first(room, relay, port)
@@ -265,7 +265,7 @@ def took(relay):
 
 def takes_next_to_nothing(relay, *ports):
     """Whether it takes 1 ms of processor time a second at most while it has nothing to do but to wait for its peers."""
-    for _ in range(5):
+    for _ in range(10):
         relay.rests(*ports)
         begun, before = time.monotonic(), took(relay)
         # (long enough for what is done once a second)

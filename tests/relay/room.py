@@ -12,7 +12,7 @@ import time
 # Ports of tests lie below those that the host gives to outgoing connections; each test has PORTS of them.
 FIRST_PORT, LAST_PORT, PORTS = 12000, 32000, 80
 TURN = 0.005  # seconds between two looks at a condition
-STOP = 6  # seconds in which a relay has to end after its standard input
+STOP = 40  # seconds in which a relay has to end after its standard input, beside whatever else the host does
 TESTS = []
 
 # A line on standard error that is a fault, or a connection's count of frames that are no messages.
@@ -37,7 +37,7 @@ class Test:
         self.name, self.group = body.__name__, body.__module__
 
 
-def test(body=None, limit=45):
+def test(body=None, limit=120):
     """Marks a function of a room as a test that takes at most so many seconds."""
     if body is None:
         return lambda it: test(it, limit)
@@ -58,7 +58,7 @@ def same(what, came, wanted):
         raise Failure(f"{what}: wanted {shown(wanted)!r}, came {shown(came)!r}")
 
 
-def until(what, holds, seconds=30, came=None):
+def until(what, holds, seconds=60, came=None):
     """Waits until a condition holds, and answers its value."""
     end = time.monotonic() + seconds
     while True:

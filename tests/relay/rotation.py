@@ -327,7 +327,7 @@ def files_that_are_none_keep_their_names(room):
     same("what it said", relay.lines(), [answer(2)])
 
 
-@test(limit=120)
+@test(limit=240)
 def what_lasts_is_told_each_minute(room):
     os.mkdir(room.path("logs"))
     port = room.port()

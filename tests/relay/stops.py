@@ -168,7 +168,7 @@ def of_a_relay_with_sixty_four_inputs(room):
         it.is_ended()
 
 
-@test(limit=200)
+@test(limit=240)
 def under_load_at_any_moment(room):
     relay, port = room.hub()
     for turn in range(5):

@@ -78,7 +78,7 @@ def archive_by(room, retries, error, when, failures, wanted):
     same(f"writes that answered {error} ({when})", answered(room), failures)
 
 
-@test(limit=80)
+@test(limit=240)
 def archive_whose_writes_fail_with_endless_retries(room):
     needs_strace(room)
     for error in OF_FILES:
@@ -87,7 +87,7 @@ def archive_whose_writes_fail_with_endless_retries(room):
         archive_by(room, -1, error, "1+2", COUNT, messages(COUNT))
 
 
-@test(limit=80)
+@test(limit=240)
 def archive_whose_writes_fail_without_retries(room):
     needs_strace(room)
     for error in OF_FILES:
@@ -166,7 +166,7 @@ def link_by(room, retries, error, when, failures, *wanted):
     same(f"writes that answered {error} ({when})", answered(room), failures)
 
 
-@test(limit=80)
+@test(limit=240)
 def link_whose_writes_fail_with_endless_retries(room):
     needs_strace(room)
     for error in OF_LINKS:
@@ -176,7 +176,7 @@ def link_whose_writes_fail_with_endless_retries(room):
         link_by(room, -1, error, "1+2", COUNT, [], *([message(it)] for it in range(COUNT)))
 
 
-@test(limit=80)
+@test(limit=240)
 def link_whose_writes_fail_without_retries(room):
     needs_strace(room)
     for error in OF_LINKS:
@@ -237,7 +237,7 @@ def left_by(room, calls, error, when):
     return status, relay.faults(), found
 
 
-@test(limit=80)
+@test(limit=240)
 def left_whose_calls_fail_one_by_one(room):
     needs_strace(room)
     # it is made, written in blocks of 64 KiB, opened to be synced, and gets its name; what is whole stays, under the name that it has
@@ -321,7 +321,7 @@ def limit(relay, size):
     resource.prlimit(relay.pid, resource.RLIMIT_FSIZE, (size, resource.RLIM_INFINITY))
 
 
-@test(limit=80)
+@test(limit=240)
 def lines_cut_at_each_byte_with_endless_retries(room):
     relay, port = cut_archive(room, -1)
     size, line = room.size("audit.log"), len(message(100)) + 1
@@ -337,7 +337,7 @@ def lines_cut_at_each_byte_with_endless_retries(room):
     same("the archive", room.lines("audit.log")[1:], messages(2 * turns, 100))
 
 
-@test(limit=80)
+@test(limit=240)
 def lines_cut_at_each_byte_without_retries(room):
     relay, port = cut_archive(room, 0)
     size, line, wanted, done = room.size("audit.log"), len(message(100)) + 1, [], 0
