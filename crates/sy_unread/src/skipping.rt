@@ -10,14 +10,14 @@ mod front;
 pub mod laws;
 mod passing;
 pub mod place;
-mod standing;
+pub mod standing;
 mod steps;
 mod turn;
 
 use front::{Front, front_of};
 pub use place::Place;
 use place::past_long;
-use standing::Standing;
+pub use standing::{Mark, Standing};
 use std::alloc::{AllocError, Global};
 use steps::{begin_frame, drop_long, hand_on_frames, hand_on_unframed, read_more, read_on};
 use sy_wire::{MAX_FRAME, ReadFault, Source};
@@ -76,13 +76,34 @@ impl<S: Source, K: LongSink> Skipping<S, K> {
         ensures counts { IfOk result (λ s. (s.faults ≡ 0) × (s.calls ≡ 0)) }
     {
         let standing = Standing::new(alloc)?;
-        Ok(Skipping {
+        Ok(Skipping::resume(standing, source, sink))
+    }
+
+    /// The source from where a stream stands, and what keeps what isn't handed on.
+    pub fn resume(standing: Standing, source: S, sink: K) -> Skipping<S, K>
+        ensures source { result.source ≡ source }
+        ensures sink { result.sink ≡ sink }
+        ensures standing { result.standing ≡ standing }
+        ensures counts { (result.faults ≡ 0) × (result.calls ≡ 0) }
+    {
+        Skipping {
             source,
             sink,
             standing,
             faults: 0,
             calls: 0,
-        })
+        }
+    }
+
+    /// Where the stream stands.
+    pub fn into_standing(self) -> Standing
+    where
+        S: Drop,
+        K: Drop,
+        ensures { result ≡ self.standing }
+    {
+        let Skipping { standing, .. } = self;
+        standing
     }
 
     /// Whether the next byte of the inner source is one of a long frame, which is skipped: where that source has ended, the frame was cut.

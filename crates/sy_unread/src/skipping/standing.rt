@@ -1,5 +1,5 @@
 //! Where in a stream its next byte stands, and bytes that came and wait.
-ghost use Rattle.std.specs.Prelude.{◌≡◌, ◌+◌, ◌≤◌, ◌++◌, ℕ, [], drop, length, min, take, IfOk};
+ghost use Rattle.std.specs.Prelude.{◌≡◌, ◌≢◌, ◌+◌, ◌≤◌, ◌++◌, ℕ, [], drop, length, min, take, IfNone, IfOk, IfSome};
 ghost use Rattle.std.specs.Vec.{vec_capacity};
 ghost use Rattle.sy_unread.specs.Skipping.{At, next_number};
 ghost use Rattle.sy_unread.specs.declared.skipping.place.Place.TheVariants.{Within};
@@ -12,9 +12,16 @@ use sy_wire::MAX_FRAME;
 // The longest head of a long frame, and as much of its text as is kept.
 pub(crate) const ROOM: usize = MAX_FRAME + 10;
 
-// Where in a stream its next byte stands, and bytes that came and wait.
+/// Where in a stream its next byte stands, where none waits: the place, and how many frames have begun before it, of whatever length.
+#[derive(Clone, Copy)]
+pub struct Mark {
+    pub place: Place,
+    pub frames: u64,
+}
+
+/// Where in a stream its next byte stands, and bytes that came and wait, 65,546 at most, for which it has room.
 #[derive(Drop)]
-pub(crate) struct Standing {
+pub struct Standing {
     place: Place,
     bytes: Vec<u8>,
     // how many frames have begun before it, of whatever length
@@ -53,8 +60,21 @@ fn copy_front(bytes: &[u8], buffer: &mut [u8], most: usize) -> usize
     count
 }
 
+impl Mark {
+    /// The beginning of a stream.
+    pub fn first() -> Mark
+        ensures { result ≡ record { place = Within 0; frames = 0 } }
+    {
+        Mark {
+            place: Place::Within(0),
+            frames: 0,
+        }
+    }
+}
+
 impl Standing {
-    pub(crate) fn new(alloc: Global) -> Result<Standing, AllocError>
+    /// The beginning of a stream.
+    pub fn new(alloc: Global) -> Result<Standing, AllocError>
         ensures { IfOk result (λ s. s ≡ record { place = Within 0; frames = 0; held = [] }) }
     {
         let bytes = Vec::with_capacity(alloc, ROOM)?;
@@ -65,13 +85,35 @@ impl Standing {
         })
     }
 
+    /// Where it stands, if no byte waits.
+    pub fn mark(&self) -> Option<Mark>
+        ensures some { IfSome result (λ mark. self.now ≡ record { place = mark.place; frames = mark.frames; held = [] }) }
+        ensures none { IfNone result (self.now.held ≢ []) }
+    {
+        if self.bytes.is_empty() {
+            let (place, frames) = (self.place, self.frames);
+            return Some(Mark { place, frames });
+        }
+        None
+    }
+
+    /// Goes there, with no byte that waits.
+    pub fn set_mark(&mut self, mark: Mark)
+        ensures { self.new ≡ record { place = mark.place; frames = mark.frames; held = [] } }
+    {
+        self.place = mark.place;
+        self.frames = mark.frames;
+        self.bytes.clear();
+    }
+
     pub(crate) fn place(&self) -> Place
         ensures { result ≡ self.now.place }
     {
         self.place
     }
 
-    pub(crate) fn held(&self) -> &[u8]
+    /// The bytes that came and wait.
+    pub fn held(&self) -> &[u8]
         ensures { result.now ≡ self.now.held }
     {
         self.bytes.as_slice()
