@@ -1,17 +1,17 @@
 -- What a turn of a connection does to what it holds.
 use Rattle.std.proofs.Common.{◌≡◌, ℕ, List, [], append-nil, refl, sym, ap, ◌∙◌, subst, true≢false}
-use Rattle.std.specs.Prelude.{Option, None, Some, Result, Ok, Err, Bool, false, ⊤, OnOk, IfSome}
+use Rattle.std.specs.Prelude.{Option, None, Some, Result, Ok, Err, Bool, false, ⊤, OnOk}
 use Rattle.std.proofs.KnownBytes.{Consumes-nil}
 use Rattle.sy_runtime.specs.declared.untaken.Item.{Item}
 use Rattle.sy_wire.specs.Frames.{Held}
+use Rattle.sy_wire.specs.Streams.{Rose}
 use Rattle.sy_wire.specs.declared.framer.FrameFault.{FrameFault}
 use Rattle.sy_wire.specs.declared.framer.FrameFault.TheVariants as frame
-use Rattle.sy_runtime.specs.Connections.{Begins, Connects, Counts, EndsWith, GoesOnWith, KeepsMore, Kept, Sorted, rest_of, since}
-use Rattle.sy_runtime.specs.internal.Turning.{nothing_counted, Goes, IsEarly, RoundIs, TurnIs, Turns, round_of}
+use Rattle.sy_runtime.specs.Connections.{Begins, Between, Connects, Counts, EndsWith, GoesOnWith, KeepsMore, Kept, Serves, Sorted, nothing_counted, rest_of, since}
+use Rattle.sy_runtime.specs.internal.Turning.{CameIs, Goes, IsEarly, MayGoOn, came_from, RoundIs, RoundsAre, round_of}
 use Rattle.sy_runtime.specs.internal.Gathering.{GatherIs, IsAtFront}
 use Rattle.sy_runtime.specs.internal.Halting.{halted, halted_at}
 use Rattle.sy_runtime.specs.internal.Held.{Holds}
-use Rattle.sy_runtime.specs.internal.Reading.{MayGoOn, Serves}
 use Rattle.sy_runtime.specs.declared.connection_end.Finish.{Finish}
 use Rattle.sy_runtime.specs.declared.connection_end.Finish.TheVariants as finish
 use Rattle.sy_runtime.specs.declared.fault.RunFault.{RunFault}
@@ -20,8 +20,10 @@ use Rattle.sy_runtime.specs.declared.connection.gathering.Gathered.{Gathered}
 use Rattle.sy_runtime.specs.declared.connection.gathering.Gathered.TheVariants as gathered
 use Rattle.sy_runtime.specs.declared.connection.halt.Halt.{Halt}
 use Rattle.sy_runtime.specs.declared.connection.halt.Halt.TheVariants as halt
+use Rattle.sy_runtime.specs.declared.connection.turns.Came.TheVariants as came
 use Rattle.sy_runtime.specs.declared.connection.turns.Round.{Round}
-use Rattle.sy_runtime.proofs.Taken.{begins, settled}
+use Rattle.sy_runtime.specs.declared.connection.turns.Round.TheVariants as round
+use Rattle.sy_runtime.proofs.Taken.{begins, settled, unsettled}
 
 halted_early : (h : Halt) (rest : List ℕ) → IsEarly (halted h) rest
 halted_early halt.Closed rest = tt
@@ -93,114 +95,98 @@ ends_early (Err fault.Hands) rest ahead failed failed' e = tt
 ends_early (Err fault.NoMemory) rest ahead failed failed' e = tt
 ends_early (Err fault.TotalsFull) rest ahead failed failed' e = tt
 
--- a connection that never began
-pub refused : (answer : Result Finish RunFault) (h : Halt) (end : Counts) (kept : Kept) (items : List Item) (held : Held) (ahead : Option (List ℕ)) (failed : ℕ)
-    → KeepsMore kept.before kept.after [] → answer ≡ halted h → end ≡ nothing_counted → items ≡ [] → held ≡ record { left = []; has_failed = false }
-    → Connects answer end kept (rest_of items held.left) ahead ahead failed failed
-refused answer h end kept items held ahead failed keeps is new none empty =
-    bare (λ rest. Connects answer end kept rest ahead ahead failed failed) items held.left none
-    (subst (λ x. Connects answer end kept x.left ahead ahead failed failed) (sym empty)
-    (subst (λ e. Connects answer e kept [] ahead ahead failed failed) (sym new)
-    (subst (λ a. Connects a nothing_counted kept [] ahead ahead failed failed) (sym is) (record {
-      read = [];
-      consumed = Consumes-nil ahead;
-      begins = record { frames = []; unread = []; whole = refl; count = refl; none = refl; sorted = Sorted.nothing; keeps = keeps };
-      ends = ends_early (halted h) [] ahead failed failed (halted_early h []);
-    }))))
+-- whatever stands in a framer, it may have been read so
+some_begins : (left : List ℕ) → Begins left nothing_counted (since None None) left
+some_begins left = record { frames = []; unread = []; whole = refl; count = refl; none = refl; sorted = Sorted.nothing; keeps = tt }
 
--- before the first turn
-pub first : (ahead : Option (List ℕ)) (failed : ℕ) (end : Counts) (kept : Kept) (held : Held) (is_over : Bool) (batch : List Item)
-    → KeepsMore kept.before kept.after [] → end ≡ nothing_counted → held ≡ record { left = []; has_failed = false } → batch ≡ [] → is_over ≡ false → Turns ahead ahead failed failed end kept held is_over batch
-first ahead failed end kept held is_over batch keeps is new empty not_over = record {
-  goes = record {
-    serves = record {
-      read = [];
-      consumed = Consumes-nil ahead;
-      begins = subst (λ e. Begins [] e kept held.left) (sym is)
-          (subst (λ h. Begins [] nothing_counted kept h.left) (sym new) (record { frames = []; unread = []; whole = refl; count = refl; none = refl; sorted = Sorted.nothing; keeps = keeps }));
-    };
-    good = ap (λ h. h.has_failed) new;
-    same = refl;
-    over = λ yes. absurd (true≢false (sym yes ∙ not_over));
-  };
-  empty = empty;
-}
+may_go : (stop : Gathered) (inserted : Result ⊤ Halt) (read : List ℕ) (end : Counts) (kept : Kept) (batch batch' : List Item) (held : Held) (in_hand : Bool)
+    → GatherIs stop read end kept batch held → OnOk inserted (batch' ≡ []) → OnOk inserted (in_hand ≡ false) → MayGoOn (round_of stop inserted) held batch' in_hand
+may_go stop (Err h) read end kept batch batch' held in_hand g none free = tt
+may_go gathered.Open (Ok _) read end kept batch batch' held in_hand g none free = (g.1, none, g.2, free)
+may_go gathered.Full (Ok _) read end kept batch batch' held in_hand g none free = (g.1, none)
+may_go gathered.NoMemory (Ok _) read end kept batch batch' held in_hand g none free = (g.1, none)
+may_go (gathered.Fault f) (Ok _) read end kept batch batch' held in_hand g none free = tt
 
--- a batch that ended it
-pub over_early : (ahead ahead' : Option (List ℕ)) (failed failed' : ℕ) (end : Counts) (kept : Kept) (end' : Counts) (kept' : Kept) (held : Held) (is_over : Bool) (batch : List Item)
-    (answer : Result Finish RunFault) (rest : List ℕ) → Turns ahead ahead' failed failed' end kept held is_over batch
-    → ((read : List ℕ) → Begins read end kept held.left → Begins read end' kept' rest × IsEarly answer rest) → Connects answer end' kept' rest ahead ahead' failed failed'
-over_early ahead ahead' failed failed' end kept end' kept' held is_over batch answer rest t next =
-    let s = t.goes.serves in
-    let r = next s.read s.begins in
-    record { read = s.read; consumed = s.consumed; begins = r.0; ends = ends_early answer rest ahead' failed failed' r.1 }
-
--- a batch after which it goes on
-pub goes_on : (ahead ahead' : Option (List ℕ)) (failed failed' : ℕ) (end : Counts) (kept : Kept) (end' : Counts) (kept' : Kept) (held held' : Held) (is_over is_over' : Bool)
-    (batch batch' : List Item) → Turns ahead ahead' failed failed' end kept held is_over batch → is_over' ≡ is_over
-    → ((read : List ℕ) → Begins read end kept held.left → Goes read end' kept' held' batch') → Turns ahead ahead' failed failed' end' kept' held' is_over' batch'
-goes_on ahead ahead' failed failed' end kept end' kept' held held' is_over is_over' batch batch' t same next =
-    let m = t.goes in
-    let s = m.serves in
-    let r = next s.read s.begins in
-    record {
-      goes = record {
-        serves = record { read = s.read; consumed = s.consumed; begins = r.begins };
-        good = r.good;
-        same = m.same;
-        over = λ yes. m.over (sym same ∙ yes);
-      };
-      empty = r.empty;
-    }
-
--- a read after which it goes on
-pub reads_on : (ahead a a' : Option (List ℕ)) (failed f f' : ℕ) (end : Counts) (kept : Kept) (held held' : Held) (is_over is_over' : Bool) (batch : List Item)
-    → Turns ahead a failed f end kept held is_over batch
-    → ((ahead : Option (List ℕ)) (end : Counts) (kept : Kept) → Serves ahead a end kept held.left → MayGoOn ahead a' f f' end kept held' is_over')
-    → Turns ahead a' failed f' end kept held' is_over' batch
-reads_on ahead a a' failed f f' end kept held held' is_over is_over' batch t next = record {
-  goes = subst (λ x. MayGoOn ahead a' x f' end kept held' is_over') t.goes.same (next ahead end kept t.goes.serves);
-  empty = t.empty;
-}
-
--- a read that ended it
-pub over_read : (ahead a a' : Option (List ℕ)) (failed f f' : ℕ) (end : Counts) (kept : Kept) (held held' : Held) (is_over : Bool) (batch : List Item)
-    (answer : Result Finish RunFault) → Turns ahead a failed f end kept held is_over batch
-    → ((ahead : Option (List ℕ)) (end : Counts) (kept : Kept) → Serves ahead a end kept held.left → Connects answer end kept held'.left ahead a' f f')
-    → Connects answer end kept (rest_of batch held'.left) ahead a' failed f'
-over_read ahead a a' failed f f' end kept held held' is_over batch answer t next =
-    bare (λ rest. Connects answer end kept rest ahead a' failed f') batch held'.left t.empty
-    (subst (λ x. Connects answer end kept held'.left ahead a' x f') t.goes.same (next ahead end kept t.goes.serves))
-
--- it goes on, but the relay closes
-gives_up : (ahead ahead' : Option (List ℕ)) (failed failed' : ℕ) (end : Counts) (kept : Kept) (held : Held) (is_over : Bool) (batch : List Item)
-    → Turns ahead ahead' failed failed' end kept held is_over batch → Connects (Err fault.NoMemory) end kept (rest_of batch held.left) ahead ahead' failed failed'
-gives_up ahead ahead' failed failed' end kept held is_over batch t =
-    let s = t.goes.serves in
-    bare (λ rest. Connects (Err fault.NoMemory) end kept rest ahead ahead' failed failed') batch held.left t.empty
-    (record { read = s.read; consumed = s.consumed; begins = s.begins; ends = tt })
-
--- after a wait for memory
-pub waits : (answer : Option (Result Finish RunFault)) (ahead ahead' : Option (List ℕ)) (failed failed' : ℕ) (end : Counts) (kept : Kept) (held : Held) (is_over : Bool)
-    (batch : List Item) → IfSome answer (λ a. a ≡ Err fault.NoMemory) → Turns ahead ahead' failed failed' end kept held is_over batch
-    → TurnIs answer ahead ahead' failed failed' end kept held is_over batch
-waits None ahead ahead' failed failed' end kept held is_over batch is t = t
-waits (Some answer) ahead ahead' failed failed' end kept held is_over batch is t =
-    subst (λ a. Connects a end kept (rest_of batch held.left) ahead ahead' failed failed') (sym is)
-    (gives_up ahead ahead' failed failed' end kept held is_over batch t)
+-- whatever was read before
+pub may_go_on : (made : Round) (stop : Gathered) (inserted : Result ⊤ Halt) (before batch batch' : List Item) (left : List ℕ) (held : Held) (in_hand : Bool) → made ≡ round_of stop inserted → before ≡ []
+    → ((read : List ℕ) (end : Counts) (kept : Kept) → Holds read end kept before left → GatherIs stop read end kept batch held) → OnOk inserted (batch' ≡ []) → OnOk inserted (in_hand ≡ false)
+    → MayGoOn made held batch' in_hand
+may_go_on made stop inserted before batch batch' left held in_hand is empty gathers none free =
+    subst (λ r. MayGoOn r held batch' in_hand) (sym is)
+    (may_go stop inserted left nothing_counted (since None None) batch batch' held in_hand
+    (gathers left nothing_counted (since None None) (unsettled left nothing_counted (since None None) before left empty (some_begins left))) none free)
 
 -- nothing was kept since
 pub keeps_none : (kept : Option (List (List ℕ))) → KeepsMore kept kept []
 keeps_none None = tt
 keeps_none (Some texts) = sym (append-nil texts)
 
--- at the beginning
-pub refused_at : (answer : Result Finish RunFault) (h : Halt) (end : Counts) (kept : Option (List (List ℕ))) (items : List Item) (held : Held)
-    (ahead : Option (List ℕ)) (failed : ℕ) → answer ≡ halted h → end ≡ nothing_counted → items ≡ [] → held ≡ record { left = []; has_failed = false }
-    → Connects answer end (since kept kept) (rest_of items held.left) ahead ahead failed failed
-refused_at answer h end kept items held ahead failed = refused answer h end (since kept kept) items held ahead failed (keeps_none kept)
+-- before the first turn
+pub first : (ahead : Option (List ℕ)) (kept : Option (List (List ℕ))) → Serves ahead ahead nothing_counted (since kept kept) []
+first ahead kept = record {
+  read = [];
+  consumed = Consumes-nil ahead;
+  begins = record { frames = []; unread = []; whole = refl; count = refl; none = refl; sorted = Sorted.nothing; keeps = keeps_none kept };
+}
 
-pub first_at : (ahead : Option (List ℕ)) (failed : ℕ) (end : Counts) (kept : Option (List (List ℕ))) (held : Held) (is_over : Bool) (batch : List Item)
-    → end ≡ nothing_counted → held ≡ record { left = []; has_failed = false } → batch ≡ [] → is_over ≡ false
-    → Turns ahead ahead failed failed end (since kept kept) held is_over batch
-first_at ahead failed end kept held is_over batch = first ahead failed end (since kept kept) held is_over batch (keeps_none kept)
+-- where it waited for memory in vain
+pub gave_up : (answer : Result Finish RunFault) (read : List ℕ) (end : Counts) (kept : Kept) (held : Held) (batch : List Item) → answer ≡ Err fault.NoMemory
+    → Goes read end kept held batch → RoundsAre (Some answer) read end kept held batch
+gave_up answer read end kept held batch is g =
+    (bare (Begins read end kept) batch held.left g.empty g.begins, subst (λ a. IsEarly a (rest_of batch held.left)) (sym is) tt)
+
+-- taking in that ended it
+pub over : (ahead ahead' : Option (List ℕ)) (end : Counts) (kept : Kept) (end' : Counts) (kept' : Kept) (left : List ℕ) (held : Held) (batch : List Item) (answer : Result Finish RunFault)
+    → Serves ahead ahead' end kept left → ((read : List ℕ) → Begins read end kept left → RoundsAre (Some answer) read end' kept' held batch)
+    → CameIs (came.Over answer) ahead ahead' end' kept' held batch
+over ahead ahead' end kept end' kept' left held batch answer s next failed failed' =
+    let r = next s.read s.begins in
+    record { read = s.read; consumed = s.consumed; begins = r.0; ends = ends_early answer (rest_of batch held.left) ahead' failed failed' r.1 }
+
+-- taking in after which it goes on
+pub goes_on : (ahead ahead' : Option (List ℕ)) (end : Counts) (kept : Kept) (end' : Counts) (kept' : Kept) (left : List ℕ) (held : Held) (batch : List Item)
+    → Serves ahead ahead' end kept left → ((read : List ℕ) → Begins read end kept left → RoundsAre None read end' kept' held batch)
+    → Serves ahead ahead' end' kept' held.left
+goes_on ahead ahead' end kept end' kept' left held batch s next = record { read = s.read; consumed = s.consumed; begins = (next s.read s.begins).0.begins }
+
+-- taking in, by how it ended, if it did
+pub taken_so : (answer : Option (Result Finish RunFault)) (ahead ahead' : Option (List ℕ)) (end : Counts) (kept : Kept) (end' : Counts) (kept' : Kept) (left : List ℕ) (held : Held) (batch : List Item)
+    → Serves ahead ahead' end kept left → ((read : List ℕ) → Begins read end kept left → RoundsAre answer read end' kept' held batch)
+    → CameIs (came_from answer) ahead ahead' end' kept' held batch
+taken_so None ahead ahead' end kept end' kept' left held batch s next = goes_on ahead ahead' end kept end' kept' left held batch s next
+taken_so (Some answer) ahead ahead' end kept end' kept' left held batch s next = over ahead ahead' end kept end' kept' left held batch answer s next
+
+-- the source has ended, and all whole frames were taken
+pub taken_last : (ahead ahead' : Option (List ℕ)) (end : Counts) (kept : Kept) (held : Held) (batch : List Item) (answer : Result Finish RunFault) → batch ≡ []
+    → ((failed failed' : ℕ) → Connects answer end kept held.left ahead ahead' failed failed') → CameIs (came.Over answer) ahead ahead' end kept held batch
+taken_last ahead ahead' end kept held batch answer none connects failed failed' =
+    bare (λ rest. Connects answer end kept rest ahead ahead' failed failed') batch held.left none (connects failed failed')
+
+-- a wait for memory in vain, where nothing was read
+pub waited : (answer : Result Finish RunFault) (ahead ahead' : Option (List ℕ)) (end : Counts) (kept : Kept) (held : Held) (batch : List Item)
+    → answer ≡ Err fault.NoMemory → batch ≡ [] → Serves ahead ahead' end kept held.left → CameIs (came.Over answer) ahead ahead' end kept held batch
+waited answer ahead ahead' end kept held batch is none s =
+    taken_last ahead ahead' end kept held batch answer none
+    (λ failed failed'. record { read = s.read; consumed = s.consumed; begins = s.begins; ends = subst (λ a. EndsWith a held.left ahead' failed failed') (sym is) tt })
+
+-- a read that failed, where the connection ends at it
+pub not_read : (answer : Result Finish RunFault) (end end' : Counts) (kept : Kept) (items : List Item) (left left' : List ℕ) (ahead ahead' : Option (List ℕ)) (failed before after : ℕ)
+    → answer ≡ Err fault.Read → end' ≡ end → items ≡ [] → left' ≡ left → Serves ahead ahead' end kept left → before ≡ failed → Rose before after
+    → Connects answer end' kept (rest_of items left') ahead ahead' failed after
+not_read answer end end' kept items left left' ahead ahead' failed before after is same none as_left s as_failed rose =
+    bare (λ rest. Connects answer end' kept rest ahead ahead' failed after) items left' none
+    (subst (λ l. Connects answer end' kept l ahead ahead' failed after) (sym as_left)
+    (subst (λ e. Connects answer e kept left ahead ahead' failed after) (sym same)
+    (subst (λ a. Connects a end kept left ahead ahead' failed after) (sym is)
+    (record { read = s.read; consumed = s.consumed; begins = s.begins; ends = subst (λ f. Rose f after) as_failed rose }))))
+
+-- a connection that had no turn
+pub never_began : (answer made : Result Finish RunFault) (connection : Between) (end : Counts) (kept : Option (List (List ℕ))) (items : List Item) (left : List ℕ) (ahead : Option (List ℕ)) (failed : ℕ)
+    → IsEarly made [] → answer ≡ made → connection ≡ record { end = nothing_counted; left = [] } → end ≡ connection.end → items ≡ [] → left ≡ connection.left
+    → Connects answer end (since kept kept) (rest_of items left) ahead ahead failed failed
+never_began answer made connection end kept items left ahead failed early is new same none as_left =
+    let s = first ahead kept in
+    bare (λ rest. Connects answer end (since kept kept) rest ahead ahead failed failed) items left none
+    (subst (λ l. Connects answer end (since kept kept) l ahead ahead failed failed) (sym (as_left ∙ ap (λ (b : Between). b.left) new))
+    (subst (λ e. Connects answer e (since kept kept) [] ahead ahead failed failed) (sym (same ∙ ap (λ (b : Between). b.end) new))
+    (record { read = s.read; consumed = s.consumed; begins = s.begins; ends = subst (λ a. EndsWith a [] ahead failed failed) (sym is) (ends_early made [] ahead failed failed early) })))

@@ -1,5 +1,5 @@
 -- What a connection reads, what it counts of that, and how it ends.
-use Rattle.std.specs.Prelude.{◌≡◌, ◌≢◌, ◌≤◌, ◌^◌, ◌⊎◌, ℕ, ◌+◌, List, [], ◌∷◌, ◌++◌, length, map, Option, None, Some, Result, Ok, Err}
+use Rattle.std.specs.Prelude.{◌≡◌, ◌≢◌, ◌≤◌, ◌^◌, ◌⊎◌, ℕ, ◌+◌, Bool, List, [], ◌∷◌, ◌++◌, length, map, Option, None, Some, Result, Ok, Err}
 use Rattle.std.specs.Io.KnownBytes.{Consumes, IsAtEnd}
 use Rattle.sy_wire.specs.Frames.{IsBadLength, IsOpen, IsSize, IsTooLong, stream}
 use Rattle.sy_wire.specs.Messages.{IsFault, IsMessage, Said}
@@ -19,6 +19,10 @@ pub record Counts : Type 0 where
   pub frames : ℕ
   pub unread : ℕ
   pub took : ℕ
+
+-- what a connection counts before its first frame
+abbrev pub nothing_counted : Counts
+nothing_counted = record { frames = 0; unread = 0; took = 0 }
 
 -- what two connections counted together
 abbrev pub counted_both : Counts → Counts → Counts
@@ -115,3 +119,19 @@ pub record Connects (answer : Result Finish RunFault) (end : Counts) (kept : Kep
   pub consumed : Consumes ahead ahead' read
   pub begins : Begins read end kept rest
   pub ends : EndsWith answer rest ahead' failed failed'
+
+-- What a connection is between two reads: what it counted, and the bytes of the frame that is under way.
+pub record Between : Type 0 where
+  pub end : Counts
+  pub left : List ℕ
+
+-- What is known of a reader: the number of its input, and whether a message is in its hand.
+pub record ReaderState : Type 0 where
+  pub input : ℕ
+  pub has_message : Bool
+
+-- What was read of what its source gives is the frames that were counted, of which those that carry no message were kept, and then what is left.
+pub record Serves (ahead ahead' : Option (List ℕ)) (end : Counts) (kept : Kept) (left : List ℕ) : Type 0 where
+  pub read : List ℕ
+  pub consumed : Consumes ahead ahead' read
+  pub begins : Begins read end kept left

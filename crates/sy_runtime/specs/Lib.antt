@@ -1,5 +1,6 @@
 pub mod Faults
 pub mod Connections
+pub mod Turns
 pub mod Standing
 pub mod Stopping
 pub mod internal

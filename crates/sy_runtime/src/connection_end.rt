@@ -1,7 +1,6 @@
 //! What a connection counts, and how it ends.
 ghost use Rattle.std.specs.Prelude.{◌≡◌, ◌+◌, ◌<◌, ◌^◌, ◌∷◌, [], ℕ, List, None, Option, false, IfErr, OnErr, OnOk};
-ghost use Rattle.sy_runtime.specs.Connections.{KeepsMore, Overflows, all_unread, counted_both};
-ghost use Rattle.sy_runtime.specs.internal.Turning.{nothing_counted};
+ghost use Rattle.sy_runtime.specs.Connections.{KeepsMore, Overflows, all_unread, counted_both, nothing_counted};
 
 use crate::fault::RunFault;
 use std::marker::Model;

@@ -4,6 +4,7 @@
 //! Whatever decides is a function over values, a reader and `&mut Board`; the threads' part is thin around it.
 #![tactic(auto)]
 
+pub mod between;
 mod connection;
 pub mod connection_end;
 mod draining;
@@ -11,6 +12,7 @@ pub mod fault;
 pub mod laws;
 mod locked;
 mod losing;
+pub mod reader;
 pub mod relay;
 pub mod shared;
 pub mod standing;
@@ -20,8 +22,10 @@ pub mod untaken;
 mod waiting;
 mod worker;
 
+pub use between::{Connection, Turn};
 pub use connection_end::{ConnEnd, Finish, NotKept, Unread, UnreadSink};
 pub use fault::RunFault;
+pub use reader::{NoHand, Reader};
 pub use relay::Relay;
 pub use shared::{BoxedDevice, Gate};
 pub use standing::Standing;

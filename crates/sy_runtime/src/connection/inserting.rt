@@ -1,5 +1,5 @@
 //! A batch goes into the board under the lock.
-ghost use Rattle.std.specs.Prelude.{◌≡◌, [], ℕ, List, Option, OnOk};
+ghost use Rattle.std.specs.Prelude.{◌≡◌, [], ℕ, List, Option, false, OnOk};
 ghost use Rattle.sy_runtime.specs.Connections.{since};
 ghost use Rattle.sy_runtime.specs.internal.Held.{Holds};
 
@@ -44,6 +44,7 @@ pub(crate) fn insert_batch<R: Wait + Clock, G: Gate, U: UnreadSink>(
         Holds read end.old (since before (U.kept sink.old)) batch.old.items left →
         Holds read end.new (since before (U.kept sink.new)) batch.new.items left }
     ensures all { OnOk result (batch.new.items ≡ []) }
+    ensures free { OnOk result (is_in_hand.new ≡ false) }
 {
     let mut locked = shared.locked.lock(rt);
     for _ in rt.forever() {
@@ -68,7 +69,9 @@ pub(crate) fn insert_batch<R: Wait + Clock, G: Gate, U: UnreadSink>(
         drop(locked);
         shared.work.notify_all();
         report_moved(gate, hand.input, moved);
-        insert_batch.map_err(halt_at)?;
+        if let Err(pause) = insert_batch {
+            return Err(halt_at(pause));
+        }
         keep_unread(rt, shared, gate, sink, hand.input, batch, end)?;
         if batch.is_empty() {
             return Ok(());

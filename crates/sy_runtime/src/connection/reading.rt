@@ -1,9 +1,10 @@
 //! What a connection does once no whole frame is left.
-ghost use Rattle.std.specs.Prelude.{◌≡◌, ℕ, List, Option, false, true};
+ghost use Rattle.std.specs.Prelude.{◌≡◌, ◌≢◌, ℕ, List, Option, false};
 ghost use Rattle.std.specs.Io.KnownBytes.{IsAtEnd};
 ghost use Rattle.sy_wire.specs.Frames.{IsOpen};
-ghost use Rattle.sy_runtime.specs.Connections.{Counts, Kept};
-ghost use Rattle.sy_runtime.specs.internal.Reading.{Serves, StepIs};
+ghost use Rattle.sy_wire.specs.Streams.{Rose};
+ghost use Rattle.sy_runtime.specs.Connections.{Connects, Counts, Kept, Serves};
+ghost use Rattle.sy_runtime.specs.internal.Reading.{StepIs};
 
 use crate::connection_end::Finish;
 use crate::fault::RunFault;
@@ -12,34 +13,46 @@ use sy_wire::{FillFault, FrameFault, Framer, Source};
 /// What came of a read.
 #[derive(Clone, Copy)]
 pub(crate) enum Step {
-    GoesOn,
+    Read,
+    // its source has ended
+    Ends,
+    // its source failed, or had nothing yet
+    NotRead,
     NoMemory,
-    Over(Result<Finish, RunFault>),
 }
 
-/// Reads once more, or ends where the reader has ended.
-#[tactic(auto, using(crate::proofs::Answering::ended, crate::proofs::Answering::truncated, crate::proofs::Answering::failed_read, crate::proofs::Answering::filled, crate::proofs::Answering::stays))]
-pub(crate) fn read_more<S: Source>(reader: &mut S, framer: &mut Framer, is_over: &mut bool) -> Step
+/// Reads once.
+#[tactic(auto, using(crate::proofs::Answering::stepped, crate::proofs::Answering::stepped_end, crate::proofs::Answering::stayed, crate::proofs::Answering::untouched))]
+pub(crate) fn read_once<S: Source>(source: &mut S, framer: &mut Framer) -> Step
     requires good { framer.old.has_failed ≡ false }
-    requires is_open { IsOpen framer.old.left }
-    requires over { is_over.old ≡ true → IsAtEnd (S.remaining reader.old) }
-    ensures kept { (ahead : Option (List ℕ)) (end : Counts) (reported : Kept) →
-        Serves ahead (S.remaining reader.old) end reported framer.old.left →
-        StepIs result ahead (S.remaining reader.new) (S.faults reader.old) (S.faults reader.new) end reported framer.new is_over.new }
+    ensures kept { (ahead : Option (List ℕ)) (end : Counts) (kept : Kept) →
+        Serves ahead (S.remaining source.old) end kept framer.old.left →
+        StepIs result ahead (S.remaining source.new) end kept framer.new }
+    ensures good { framer.new.has_failed ≡ false }
+    ensures same { result ≢ Step.Read → framer.new ≡ framer.old }
+    ensures succeeded { result ≢ Step.NotRead → S.faults source.new ≡ S.faults source.old }
+    ensures failed { result ≡ Step.NotRead → Rose (S.faults source.old) (S.faults source.new) }
 {
-    if *is_over {
-        return match framer.end() {
-            Ok(()) => Step::Over(Ok(Finish::Ended)),
-            Err(_) => Step::Over(Err(RunFault::Frame(FrameFault::Truncated))),
-        };
-    }
-    match framer.fill(reader) {
-        Ok(count) => {
-            *is_over = count == 0;
-            Step::GoesOn
-        }
-        Err(FillFault::ReadFailed) => Step::Over(Err(RunFault::Read)),
+    match framer.fill(source) {
+        Ok(0) => Step::Ends,
+        Ok(_) => Step::Read,
+        Err(FillFault::ReadFailed) => Step::NotRead,
         Err(FillFault::NoMemory) => Step::NoMemory,
         Err(FillFault::Failed) => unreachable!(),
+    }
+}
+
+/// How a connection ends whose source has ended, once no whole frame is left.
+#[tactic(auto, using(crate::proofs::Answering::ended, crate::proofs::Answering::truncated))]
+pub(crate) fn end_of(framer: &mut Framer) -> Result<Finish, RunFault>
+    requires good { framer.old.has_failed ≡ false }
+    requires is_open { IsOpen framer.old.left }
+    ensures { (ahead ahead' : Option (List ℕ)) (failed failed' : ℕ) (end : Counts) (kept : Kept) →
+        Serves ahead ahead' end kept framer.old.left → IsAtEnd ahead' →
+        Connects result end kept framer.new.left ahead ahead' failed failed' }
+{
+    match framer.end() {
+        Ok(()) => Ok(Finish::Ended),
+        Err(_) => Err(RunFault::Frame(FrameFault::Truncated)),
     }
 }

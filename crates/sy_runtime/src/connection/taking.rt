@@ -1,5 +1,5 @@
 //! What a connection does with the board: messages come to a hand of its input, and go into the queue.
-ghost use Rattle.std.specs.Prelude.{◌≡◌, ◌+◌, ◌<◌, ◌∷◌, ◌++◌, [], ℕ, List, length, option_to_list, IfErr, IfOk, IsTrue, OnErr, OnOk};
+ghost use Rattle.std.specs.Prelude.{◌≡◌, ◌+◌, ◌<◌, ◌∷◌, ◌++◌, [], ℕ, List, false, length, option_to_list, IfErr, IfOk, IsTrue, OnErr, OnOk};
 ghost use Rattle.std.specs.VecDeque.{deque_capacity, deque_len};
 ghost use Rattle.sy_board.specs.relay.Plans.{input_at};
 ghost use Rattle.sy_board.specs.relay.Steps.{IsHand, IsOfInput};
@@ -124,6 +124,7 @@ pub(crate) fn enter(board: &mut Board, hand: Hand, has_waited: bool) -> Result<(
 fn enter_left(board: &mut Board, hand: Hand, is_in_hand: &mut bool) -> Result<(), Pause>
     requires { IsHand board.old.plan hand.input hand.number }
     ensures ok { OnOk result (MayEnter board.old hand board.new) }
+    ensures free { OnOk result (is_in_hand.new ≡ false) }
     ensures err { OnErr result (board.new ≡ board.old) }
     ensures taken { board.new.totals.taken ≡ board.old.totals.taken }
     ensures plan { board.new.plan ≡ board.old.plan }
@@ -194,6 +195,7 @@ fn insert_one(
     ensures kept { (read left : List ℕ) (reported : KeptTexts) (later : List Kept) → Holds read end.old reported (item ∷ later) left →
         InsertIs result read end.new reported later left }
     ensures inserted { OneInsert result item board.old hand board.new }
+    ensures free { OnOk result (is_in_hand.old ≡ false → is_in_hand.new ≡ false) }
     ensures taken { board.new.totals.taken + end.old.took ≡ board.old.totals.taken + end.new.took }
     ensures counted { RoseAlike counts.old counts.new end.old end.new }
     ensures plan { board.new.plan ≡ board.old.plan }
@@ -239,6 +241,7 @@ pub(crate) fn insert_some(
         Holds read end.new reported batch.new.items left }
     ensures all { OnOk result (IsUpToUnread batch.new.items) }
     ensures inserted { SomeInsert result batch.old.items batch.new.items board.old hand board.new }
+    ensures free { OnOk result (is_in_hand.new ≡ false) }
     ensures taken { board.new.totals.taken + end.old.took ≡ board.old.totals.taken + end.new.took }
     ensures counted { RoseAlike counts.old counts.new end.old end.new }
     ensures plan { board.new.plan ≡ board.old.plan }

@@ -1,21 +1,25 @@
-//! The turns of a connection: a batch, and a read where no whole frame is left.
-ghost use Rattle.std.specs.Prelude.{◌≡◌, [], ℕ, List, Option, Err, IfSome, false};
-ghost use Rattle.sy_runtime.specs.Connections.{Begins, Connects, rest_of, since};
-ghost use Rattle.sy_runtime.specs.internal.Turning.{nothing_counted, RoundIs, TurnIs, Turns, round_of};
+//! A turn of a connection: a read, and batches until no whole frame is left.
+ghost use Rattle.std.specs.Prelude.{◌≡◌, [], ℕ, List, Option, Err, IfNone, IfSome, false};
+ghost use Rattle.std.specs.Io.KnownBytes.{IsAtEnd};
+ghost use Rattle.sy_wire.specs.Frames.{IsOpen};
+ghost use Rattle.sy_runtime.specs.Connections.{Begins, Serves, since};
+ghost use Rattle.sy_runtime.specs.Turns.{FailsAt, HandIs, TurnIs};
+ghost use Rattle.sy_runtime.specs.internal.Turning.{CameFails, CameIs, IsOn, came_from, MayGoOn, RoundIs, RoundsAre, round_of};
 
+use crate::between::{Connection, Turn};
 use crate::connection::gathering::{Gathered, gather};
 use crate::connection::halt::{Halt, answer_at};
 use crate::connection::inserting::insert_batch;
-use crate::connection::makings::Makings;
-use crate::connection::reading::{Step, read_more};
-use crate::connection::taking::Hand;
+use crate::connection::reading::{Step, end_of, read_once};
 use crate::connection_end::{ConnEnd, Finish, UnreadSink};
 use crate::fault::RunFault;
+use crate::reader::{Intake, Reader};
+use crate::relay::Common;
 use crate::shared::{Gate, Shared};
 use crate::untaken::{Item, Untaken};
 use crate::waiting::wait_for_memory;
-use std::alloc::Global;
 use std::collections::VecDeque;
+use std::mem;
 use std::sync::Wait;
 use std::time::Clock;
 use sy_wire::{Framer, Source};
@@ -31,37 +35,6 @@ pub(crate) enum Round {
     Again,
     NoMemory,
     Over(Result<Finish, RunFault>),
-}
-
-/// What a connection works with.
-#[derive(Drop)]
-struct Intake {
-    framer: Framer,
-    // the text of a frame on its way into an entry
-    raw: Vec<u8>,
-    makings: Makings,
-    batch: VecDeque<Item>,
-    // whether the reader has ended
-    is_over: bool,
-    // whether a message is in the connection's hand
-    is_in_hand: bool,
-}
-
-impl Intake {
-    fn new(alloc: Global) -> Intake
-        ensures framer { result.framer ≡ record { left = []; has_failed = false } }
-        ensures batch { result.batch.items ≡ [] }
-        ensures is_over { result.is_over ≡ false }
-    {
-        Intake {
-            framer: Framer::new(alloc),
-            raw: Vec::new(alloc),
-            makings: Makings::new(alloc),
-            batch: VecDeque::new(alloc),
-            is_over: false,
-            is_in_hand: false,
-        }
-    }
 }
 
 // What comes of a batch whose gathering ended so, and which was put so.
@@ -82,36 +55,36 @@ fn sum_up(stop: Gathered, insert_batch: Result<(), Halt>) -> Round
 // Takes in whatever whole frames the framer holds, up to a batch.
 fn take_in<R: Wait + Clock, G: Gate, U: UnreadSink>(
     rt: &R,
-    alloc: Global,
-    shared: &Shared,
-    gate: &G,
+    common: &Common<G>,
     sink: &mut U,
-    hand: Hand,
     intake: &mut Intake,
+    framer: &mut Framer,
     end: &mut ConnEnd,
 ) -> Round
-    requires good { intake.old.framer.has_failed ≡ false }
+    requires good { framer.old.has_failed ≡ false }
     requires empty { intake.old.batch.items ≡ [] }
     ensures kept { (read : List ℕ) (before : Option (List (List ℕ))) →
-        Begins read end.old (since before (U.kept sink.old)) intake.old.framer.left →
-        RoundIs result read end.new (since before (U.kept sink.new)) intake.new.framer intake.new.batch.items }
-    ensures same { intake.new.is_over ≡ intake.old.is_over }
+        Begins read end.old (since before (U.kept sink.old)) framer.old.left →
+        RoundIs result read end.new (since before (U.kept sink.new)) framer.new intake.new.batch.items }
+    ensures on { MayGoOn result framer.new intake.new.batch.items intake.new.is_in_hand }
+    ensures same { intake.new.hand ≡ intake.old.hand }
 {
+    let Common { shared, gate } = common;
     let Intake {
-        framer,
+        alloc,
+        hand,
         raw,
         makings,
         batch,
         is_in_hand,
-        ..
     } = intake;
-    let stop = gather(alloc, framer, raw, makings, batch, BATCH);
+    let stop = gather(*alloc, framer, raw, makings, batch, BATCH);
     let insert_batch = insert_batch(
         rt,
         shared,
         gate,
         sink,
-        hand,
+        *hand,
         batch,
         end,
         is_in_hand,
@@ -131,74 +104,152 @@ fn wait<R: Wait + Clock>(rt: &R, shared: &Shared) -> Option<Result<Finish, RunFa
     }
 }
 
-// A batch, and a read where no whole frame is left; the answer where it is over.
-fn turn<R: Wait + Clock, G: Gate, U: UnreadSink, S: Source>(
+// Takes in all whole frames that the framer holds; the answer where that ends the connection.
+fn take_all<R: Wait + Clock, G: Gate, U: UnreadSink>(
     rt: &R,
-    alloc: Global,
-    shared: &Shared,
-    gate: &G,
+    common: &Common<G>,
     sink: &mut U,
-    hand: Hand,
-    reader: &mut S,
     intake: &mut Intake,
+    framer: &mut Framer,
     end: &mut ConnEnd,
 ) -> Option<Result<Finish, RunFault>>
-    requires turns { (ahead : Option (List ℕ)) × (failed : ℕ) × (before : Option (List (List ℕ))) ×
-        Turns ahead (S.remaining reader.old) failed (S.faults reader.old) end.old (since before (U.kept sink.old)) intake.old.framer intake.old.is_over intake.old.batch.items }
-    ensures kept { (ahead : Option (List ℕ)) (failed : ℕ) (before : Option (List (List ℕ))) →
-        Turns ahead (S.remaining reader.old) failed (S.faults reader.old) end.old (since before (U.kept sink.old)) intake.old.framer intake.old.is_over intake.old.batch.items →
-        TurnIs result ahead (S.remaining reader.new) failed (S.faults reader.new) end.new (since before (U.kept sink.new)) intake.new.framer intake.new.is_over intake.new.batch.items }
+    requires good { framer.old.has_failed ≡ false }
+    requires empty { intake.old.batch.items ≡ [] }
+    ensures kept { (read : List ℕ) (before : Option (List (List ℕ))) →
+        Begins read end.old (since before (U.kept sink.old)) framer.old.left →
+        RoundsAre result read end.new (since before (U.kept sink.new)) framer.new intake.new.batch.items }
+    ensures on { IfNone result (MayGoOn Round.Reads framer.new intake.new.batch.items intake.new.is_in_hand) }
+    ensures same { intake.new.hand ≡ intake.old.hand }
 {
-    match take_in(rt, alloc, shared, gate, sink, hand, intake, end) {
-        Round::Over(answer) => Some(answer),
-        Round::Again => None,
-        Round::NoMemory => wait(rt, shared),
-        Round::Reads => match read_more(reader, &mut intake.framer, &mut intake.is_over) {
-            Step::Over(answer) => Some(answer),
-            Step::GoesOn => None,
-            Step::NoMemory => wait(rt, shared),
-        },
-    }
-}
-
-/// Serves a connection that has a hand, which is given back with nothing in it, or kept with a message. The answer is what it read and didn't
-/// take, and how it ended.
-pub(crate) fn serve<R: Wait + Clock, G: Gate, U: UnreadSink, S: Source>(
-    rt: &R,
-    alloc: Global,
-    shared: &Shared,
-    gate: &G,
-    sink: &mut U,
-    hand: Hand,
-    reader: &mut S,
-    end: &mut ConnEnd,
-) -> (Untaken, Result<Finish, RunFault>)
-    requires { end.old ≡ nothing_counted }
-    ensures { Connects result.1 end.new (since (U.kept sink.old) (U.kept sink.new)) (rest_of result.0.items.items result.0.framer.left) (S.remaining reader.old) (S.remaining reader.new) (S.faults reader.old) (S.faults reader.new) }
-{
-    let mut intake = Intake::new(alloc);
     for _ in rt.forever() {
-        if let Some(answer) = turn(
-            rt,
-            alloc,
-            shared,
-            gate,
-            sink,
-            hand,
-            reader,
-            &mut intake,
-            end,
-        ) {
-            if !intake.is_in_hand {
-                shared.locked.lock(rt).give_back(hand);
+        match take_in(rt, common, sink, intake, framer, end) {
+            Round::Over(answer) => return Some(answer),
+            Round::Reads => return None,
+            Round::Again => {}
+            Round::NoMemory => {
+                if let Some(answer) = wait(rt, &common.shared) {
+                    return Some(answer);
+                }
             }
-            let Intake { batch, framer, .. } = intake;
-            let untaken = Untaken {
-                items: batch,
-                framer,
-            };
-            return (untaken, answer);
         }
     }
     unreachable!()
+}
+
+/// What came of a turn.
+#[derive(Clone, Copy)]
+pub(crate) enum Came {
+    GoesOn,
+    // its source failed, or had nothing yet
+    NotRead,
+    Over(Result<Finish, RunFault>),
+}
+
+// The same, by how it ended, if it did.
+fn came_of(answer: Option<Result<Finish, RunFault>>) -> Came
+    ensures { result ≡ came_from answer }
+{
+    match answer {
+        Some(answer) => Came::Over(answer),
+        None => Came::GoesOn,
+    }
+}
+
+// Takes in all whole frames that stand there once the source has ended, and ends.
+fn take_last<R: Wait + Clock, G: Gate, U: UnreadSink>(
+    rt: &R,
+    common: &Common<G>,
+    sink: &mut U,
+    intake: &mut Intake,
+    framer: &mut Framer,
+    end: &mut ConnEnd,
+) -> Result<Finish, RunFault>
+    requires good { framer.old.has_failed ≡ false }
+    requires empty { intake.old.batch.items ≡ [] }
+    ensures kept { (ahead ahead' : Option (List ℕ)) (before : Option (List (List ℕ))) →
+        Serves ahead ahead' end.old (since before (U.kept sink.old)) framer.old.left → IsAtEnd ahead' →
+        CameIs (Came.Over result) ahead ahead' end.new (since before (U.kept sink.new)) framer.new intake.new.batch.items }
+    ensures same { intake.new.hand ≡ intake.old.hand }
+{
+    match take_all(rt, common, sink, intake, framer, end) {
+        Some(answer) => answer,
+        None => end_of(framer),
+    }
+}
+
+// Reads once, and takes in all whole frames that stand there then.
+fn read_and_take<R: Wait + Clock, G: Gate, U: UnreadSink, S: Source>(
+    rt: &R,
+    common: &Common<G>,
+    sink: &mut U,
+    intake: &mut Intake,
+    source: &mut S,
+    framer: &mut Framer,
+    end: &mut ConnEnd,
+) -> Came
+    requires good { framer.old.has_failed ≡ false }
+    requires empty { intake.old.batch.items ≡ [] }
+    requires is_open { IsOpen framer.old.left }
+    ensures kept { (ahead : Option (List ℕ)) (before : Option (List (List ℕ))) →
+        Serves ahead (S.remaining source.old) end.old (since before (U.kept sink.old)) framer.old.left →
+        CameIs result ahead (S.remaining source.new) end.new (since before (U.kept sink.new)) framer.new intake.new.batch.items }
+    ensures on { IsOn result framer.new intake.new.batch.items intake.old.is_in_hand intake.new.is_in_hand }
+    ensures fails { CameFails result (S.faults source.old) (S.faults source.new) }
+    ensures same { intake.new.hand ≡ intake.old.hand }
+{
+    match read_once(source, framer) {
+        Step::NotRead => Came::NotRead,
+        Step::NoMemory => match wait(rt, &common.shared) {
+            Some(answer) => Came::Over(answer),
+            None => came_of(take_all(rt, common, sink, intake, framer, end)),
+        },
+        Step::Read => came_of(take_all(rt, common, sink, intake, framer, end)),
+        Step::Ends => Came::Over(take_last(rt, common, sink, intake, framer, end)),
+    }
+}
+
+// The frames that were gathered and not taken, which are the reader's no more. An empty batch keeps its memory.
+fn take_batch(intake: &mut Intake) -> VecDeque<Item>
+    ensures items { result.items ≡ intake.old.batch.items }
+    ensures batch { intake.new.batch.items ≡ [] }
+    ensures hand { intake.new.hand ≡ intake.old.hand }
+{
+    if intake.batch.is_empty() {
+        return VecDeque::new(intake.alloc);
+    }
+    mem::replace(&mut intake.batch, VecDeque::new(intake.alloc))
+}
+
+/// A turn of a connection: reads once from its source, and takes in all whole frames that have come then.
+pub(crate) fn turn<R: Wait + Clock, G: Gate, U: UnreadSink, S: Source>(
+    rt: &R,
+    common: &Common<G>,
+    sink: &mut U,
+    reader: &mut Reader,
+    source: &mut S,
+    connection: Connection,
+) -> Turn
+    ensures kept { (ahead : Option (List ℕ)) (before : Option (List (List ℕ))) →
+        Serves ahead (S.remaining source.old) connection.end (since before (U.kept sink.old)) connection.left →
+        TurnIs result ahead (S.remaining source.new) (since before (U.kept sink.new)) }
+    ensures fails { FailsAt result (S.faults source.old) (S.faults source.new) }
+    ensures hand { HandIs result reader.old reader.new }
+    ensures input { reader.new.input ≡ reader.old.input }
+{
+    let Connection {
+        mut framer,
+        mut end,
+    } = connection;
+    reader.swap_room(&mut framer);
+    let intake = &mut reader.intake;
+    match read_and_take(rt, common, sink, intake, source, &mut framer, &mut end) {
+        Came::GoesOn => Turn::GoesOn(Connection { framer, end }),
+        Came::NotRead => Turn::NotRead(Connection { framer, end }),
+        Came::Over(answer) => {
+            // (what it leaves takes no more memory than it needs)
+            framer.shrink_to_fit();
+            let items = take_batch(intake);
+            Turn::Over(end, Untaken { items, framer }, answer)
+        }
+    }
 }

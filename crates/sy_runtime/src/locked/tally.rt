@@ -1,11 +1,10 @@
 //! The board of a relay, with what all its connections counted.
-ghost use Rattle.std.specs.Prelude.{◌≡◌, ℕ, List, IfErr, IfSome, OnErr, OnOk};
+ghost use Rattle.std.specs.Prelude.{◌≡◌, ℕ, List, IfErr, IfSome, OnErr, OnOk, false};
 ghost use Rattle.std.proofs.Props.{props};
-ghost use Rattle.sy_runtime.specs.Connections.{Kept, Overflows, all_unread, counted_both};
+ghost use Rattle.sy_runtime.specs.Connections.{Kept, Overflows, all_unread, counted_both, nothing_counted};
 ghost use Rattle.sy_runtime.specs.internal.Counted.{IsCounted, RoseAlike};
 ghost use Rattle.sy_runtime.specs.internal.Held.{Holds};
 ghost use Rattle.sy_runtime.specs.internal.Taking.{IsUpToUnread};
-ghost use Rattle.sy_runtime.specs.internal.Turning.{nothing_counted};
 
 use crate::connection::taking::{Hand, Pause, enter, has_hand, insert_some};
 use crate::connection_end::ConnEnd;
@@ -56,6 +55,7 @@ impl Tally {
         ensures kept { (read left : List ℕ) (reported : Kept) → Holds read end.old reported batch.old.items left →
             Holds read end.new reported batch.new.items left }
         ensures all { IfSome result (λ inserted. OnOk inserted (IsUpToUnread batch.new.items)) }
+        ensures free { IfSome result (λ inserted. OnOk inserted (is_in_hand.new ≡ false)) }
         ensures counted { RoseAlike self.old.counts self.new.counts end.old end.new }
     {
         let board = self.board.as_mut()?;

@@ -10,6 +10,7 @@ loop-item-init c = record {
   taken = search rules;
   counted = none_alike _ _;
   plan = search rules;
+  free = search rules;
   inserted = first_insert _ _ _ _ (search rules);
 }
 
@@ -20,6 +21,7 @@ loop-item-preserved c = record {
   taken = search rules;
   counted = both_alike _ _ _ _ _ _ c.loop-item.invariant.counted c.in-Ok-insert_one.ensures.counted;
   plan = search rules;
+  free = search rules;
   inserted = next_insert _ _ _ _ _ _ _ _ (search rules) c.loop-item.invariant.inserted c.in-Ok-insert_one.ensures.inserted;
 }
 

@@ -1,4 +1,4 @@
-use Rattle.std.proofs.Common.{◌≡◌, ◌+◌, List, ℕ, length}
+use Rattle.std.proofs.Common.{◌≡◌, ◌+◌, List, ℕ, false, length}
 use Rattle.sy_board.specs.relay.Steps.{IsHand}
 use Rattle.sy_runtime.specs.Connections.{Kept}
 use Rattle.sy_runtime.specs.internal.Counted.{RoseAlike}
@@ -13,6 +13,7 @@ invariant-loop-item l = record {
   taken : l.board.totals.taken + l.fn.end.took ≡ l.fn.board.totals.taken + l.end.took;
   counted : RoseAlike l.fn.counts l.counts l.fn.end l.end;
   plan : l.board.plan ≡ l.fn.board.plan;
+  free : l.is_in_hand ≡ false;
   inserted : BatchInsert l.fn.batch.items l.batch.items l.fn.board l.hand l.board;
 }
 

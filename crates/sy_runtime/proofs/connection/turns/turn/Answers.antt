@@ -1,50 +1,28 @@
-use Rattle.std.proofs.Common.{sym, ◌∙◌}
-use Rattle.sy_runtime.proofs.Turning.{over_early, goes_on, reads_on, over_read, waits}
+use Rattle.std.proofs.Common.{ℕ, sym, ap, subst, ◌≡◌, ◌∙◌}
+use Rattle.sy_wire.specs.Frames.{Held}
+use Rattle.sy_runtime.specs.Connections.{Between, Connects, Serves, rest_of, since}
+use Rattle.sy_runtime.specs.Turns.{TurnIs}
 use Rattle.sy_runtime.proofs.connection.turns.turn.Goals as goal
+use Rattle.sy_runtime.proofs.connection.turns.turn.Goals.{in-GoesOn, in-NotRead, in-Over}
 
-pub returns-in-Over : goal.returns-in-Over
-returns-in-Over g c = record { kept = λ ahead failed before t. over_early ahead _ failed _ _ _ _ _ _ _ _ _ _ t (λ read. c.in-Over.ensures.kept read before) }
-
-pub returns-in-Again : goal.returns-in-Again
-returns-in-Again g c = record {
-  kept = λ ahead failed before t. goes_on ahead _ failed _ _ _ _ _ _ _ _ _ _ _ t c.in-Again.ensures.same (λ read. c.in-Again.ensures.kept read before);
-}
-
-pub returns-in-NoMemory : goal.returns-in-NoMemory
-returns-in-NoMemory g c = record {
-  kept = λ ahead failed before t.
-      waits _ ahead _ failed _ _ _ _ _ _ c.wait.ensures
-      (goes_on ahead _ failed _ _ _ _ _ _ _ _ _ _ _ t c.in-NoMemory.ensures.same (λ read. c.in-NoMemory.ensures.kept read before));
-}
-
-pub read_more-requires-clause-good : goal.read_more-requires-clause-good
-read_more-requires-clause-good g c =
-    let s = c.requires.turns.3.goes.serves in (c.in-Reads.ensures.kept s.read c.requires.turns.2 s.begins).0.good
-
-pub read_more-requires-clause-is_open : goal.read_more-requires-clause-is_open
-read_more-requires-clause-is_open g c = let s = c.requires.turns.3.goes.serves in (c.in-Reads.ensures.kept s.read c.requires.turns.2 s.begins).1
-
-pub read_more-requires-clause-over : goal.read_more-requires-clause-over
-read_more-requires-clause-over g c = λ yes. c.requires.turns.3.goes.over (sym c.in-Reads.ensures.same ∙ yes)
-
-pub returns-in-Over-read_more : goal.returns-in-Over-read_more
-returns-in-Over-read_more g c = record {
-  kept = λ ahead failed before t.
-      over_read ahead _ _ failed _ _ _ _ _ c.read_more.new.framer _ _ _ (goes_on ahead _ failed _ _ _ _ _ _ _ _ _ _ _ t c.in-Reads.ensures.same (λ read begun. (c.in-Reads.ensures.kept read before begun).0))
-      c.in-Over-read_more.ensures.kept;
-}
-
-pub returns-in-GoesOn : goal.returns-in-GoesOn
-returns-in-GoesOn g c = record {
-  kept = λ ahead failed before t.
-      reads_on ahead _ _ failed _ _ _ _ _ _ _ _ _ (goes_on ahead _ failed _ _ _ _ _ _ _ _ _ _ _ t c.in-Reads.ensures.same (λ read begun. (c.in-Reads.ensures.kept read before begun).0))
-      c.in-GoesOn.ensures.kept;
-}
-
-pub returns-in-NoMemory-read_more : goal.returns-in-NoMemory-read_more
-returns-in-NoMemory-read_more g c = record {
-  kept = λ ahead failed before t.
-      waits _ ahead _ failed _ _ _ _ _ _ c.wait-in-NoMemory-read_more.ensures
-      (reads_on ahead _ _ failed _ _ _ _ _ _ _ _ _ (goes_on ahead _ failed _ _ _ _ _ _ _ _ _ _ _ t c.in-Reads.ensures.same (λ read begun. (c.in-Reads.ensures.kept read before begun).0))
-      c.in-NoMemory-read_more.ensures.kept);
-}
+pub returns-clause-kept : goal.returns-clause-kept
+returns-clause-kept g c = λ ahead before s.
+    let end_is : c.args.connection.end ≡ c.connection.inside.end = sym (ap (λ (b : Between). b.end) c.connection.view_is) in
+    let left_is : c.args.connection.left ≡ c.swap_room.new.framer.left = sym (ap (λ (b : Between). b.left) c.connection.view_is) ∙ sym (ap (λ (h : Held). h.left) c.swap_room.ensures.framer) in
+    let begun = subst (λ l. Serves ahead (g.S.Source.remaining c.args.source.now) c.connection.inside.end (since before (g.U.UnreadSink.kept c.args.sink.now)) l) left_is
+    (subst (λ e. Serves ahead (g.S.Source.remaining c.args.source.now) e (since before (g.U.UnreadSink.kept c.args.sink.now)) c.args.connection.left) end_is s) in
+    elim c.match-read_and_take.branch [
+      | in-GoesOn w ↦ subst (λ t. TurnIs t ahead (g.S.Source.remaining c.read_and_take.new.source) (since before (g.U.UnreadSink.kept c.read_and_take.new.sink))) (sym w.result-is)
+          (w.in-GoesOn.ensures.kept ahead before begun)
+      | in-NotRead w ↦ subst (λ t. TurnIs t ahead (g.S.Source.remaining c.read_and_take.new.source) (since before (g.U.UnreadSink.kept c.read_and_take.new.sink))) (sym w.result-is)
+          (w.in-NotRead.ensures.kept ahead before begun)
+      | in-Over w ↦
+          let same = w.take_batch-items.ensures.items in
+          subst (λ t. TurnIs t ahead (g.S.Source.remaining c.read_and_take.new.source) (since before (g.U.UnreadSink.kept c.read_and_take.new.sink))) (sym w.result-is)
+          (subst
+          (λ items. (failed failed' : ℕ) → Connects w.in-Over.answer c.read_and_take.new.end (since before (g.U.UnreadSink.kept c.read_and_take.new.sink)) (rest_of items w.shrink_to_fit.new.self.left) ahead (g.S.Source.remaining c.read_and_take.new.source) failed failed')
+          (sym same)
+          (subst
+          (λ (h : Held). (failed failed' : ℕ) → Connects w.in-Over.answer c.read_and_take.new.end (since before (g.U.UnreadSink.kept c.read_and_take.new.sink)) (rest_of c.read_and_take.new.intake.batch.items h.left) ahead (g.S.Source.remaining c.read_and_take.new.source) failed failed')
+          (sym w.shrink_to_fit.ensures) (w.in-Over.ensures.kept ahead before begun)))
+    ]
