@@ -6,6 +6,8 @@ use denote.Param.Send.{IsSend, IsSync, recorded_send, recorded_sync, sendable, s
 use denote.Struct.Declared.{shape}
 use Rattle.std.proofs.Crossing.{crosses}
 use Rattle.sy_chain.specs.contracts.node.Node as Node
+use Rattle.sy_runtime.specs.contracts.between.Connection as Connection
+use Rattle.sy_runtime.specs.contracts.reader.Reader as Reader
 use Rattle.sy_runtime.specs.contracts.relay.Relay as Relay
 use Rattle.sy_runtime.specs.contracts.untaken.Item as Item
 use Rattle.sy_runtime.specs.contracts.untaken.Untaken as Untaken
@@ -22,8 +24,15 @@ use Rattle.sy_host.specs.contracts.listening.unread_file.UnreadFile as UnreadFil
 use Rattle.sy_host.specs.contracts.listening.unread_file.Writing as Writing
 use Rattle.sy_host.specs.contracts.listening.accepting.Acceptor as Acceptor
 use Rattle.sy_host.specs.contracts.listening.connections.Connections as Connections
-use Rattle.sy_host.specs.contracts.listening.served_threads.EndedThreads as EndedThreads
-use Rattle.sy_host.specs.contracts.listening.serving.Connection as Connection
+use Rattle.sy_host.specs.contracts.listening.incoming.Incoming as Incoming
+use Rattle.sy_host.specs.contracts.listening.pool.Inside as Inside
+use Rattle.sy_host.specs.contracts.listening.pool.Pool as Pool
+use Rattle.sy_host.specs.contracts.listening.pool.Waiter as Waiter
+use Rattle.sy_host.specs.contracts.listening.reading.Shared as Shared
+use Rattle.sy_host.specs.contracts.listening.reading.Starting as Starting
+use Rattle.sy_host.specs.contracts.listening.table.Row as Row
+use Rattle.sy_host.specs.contracts.listening.table.Table as Table
+use Rattle.sy_host.specs.contracts.listening.sessions.Sessions as Sessions
 use Rattle.sy_host.specs.contracts.listening.serving.Serving as Serving
 use Rattle.sy_host.specs.contracts.reporting.printing_thread.Printed as Printed
 use Rattle.sy_host.specs.contracts.reporting.Reporter as Reporter
@@ -51,11 +60,38 @@ rest_send = search (node_send, item_send, untaken_send, unkept_send, sendable, c
 connections_send : IsSend Connections.the_row
 connections_send = search (node_send, item_send, untaken_send, rest_send, sendable, crosses) depth 60 fits 20000
 
-ended_send : IsSend EndedThreads.the_row
-ended_send = search (sendable, crosses) depth 40 fits 5000
+reader_send : IsSend Reader.the_row
+reader_send = search (node_send, item_send, sendable, crosses) depth 60 fits 20000
 
-ended_sync : IsSync EndedThreads.the_row
-ended_sync = search (sendable, crosses) depth 40 fits 5000
+connection_send : IsSend Connection.the_row
+connection_send = search (sendable, crosses) depth 40 fits 5000
+
+incoming_send : IsSend Incoming.the_row
+incoming_send = search (connection_send, unkept_send, sendable, crosses) depth 60 fits 20000
+
+row_send : IsSend Row.the_row
+row_send = search (incoming_send, sendable, crosses) depth 60 fits 20000
+
+table_send : IsSend Table.the_row
+table_send = search (row_send, sendable, crosses) depth 60 fits 20000
+
+inside_send : IsSend Inside.the_row
+inside_send = search (table_send, sendable, crosses) depth 60 fits 20000
+
+waiter_send : IsSend Waiter.the_row
+waiter_send = search (sendable, crosses) depth 60 fits 20000
+
+pool_send : IsSend Pool.the_row
+pool_send = search (inside_send, waiter_send, sendable, crosses) depth 60 fits 20000
+
+pool_sync : IsSync Pool.the_row
+pool_sync = search (inside_send, waiter_send, sendable, crosses) depth 60 fits 20000
+
+sessions_send : IsSend Sessions.the_row
+sessions_send = search (sendable, crosses) depth 40 fits 5000
+
+sessions_sync : IsSync Sessions.the_row
+sessions_sync = search (sendable, crosses) depth 40 fits 5000
 
 noted_send : IsSend ActionLog.the_row
 noted_send = search (log_send, log_sync, sendable, crosses) depth 30
@@ -128,15 +164,21 @@ module _ (E : RattleType) where
   pub printed_send : IsSend E → IsSend (Printed.the_row E)
   printed_send a = search (serving_send, serving_sync, sendable, crosses) depth 30 fits 5000
 
+module _ (E : RattleType) where
+  pub acceptor_send : IsSend E → IsSend (Acceptor.the_row E)
+  acceptor_send d = search (pool_send, pool_sync, sessions_send, sessions_sync, serving_send, serving_sync, sendable, crosses) depth 30 fits 5000
+
 module _ (C E : RattleType) where
   pub writer_send : IsSend C → IsSync C → IsSend E → IsSend (Writer.the_row C E)
   writer_send a b d = search (file_send, serving_send, serving_sync, sendable, crosses) depth 30 fits 5000
 
-  pub connection_send : IsSend C → IsSync C → IsSend E → IsSend (Connection.the_row C E)
-  connection_send a b d = search (ended_send, ended_sync, serving_send, serving_sync, sendable, crosses) depth 30 fits 5000
+  pub shared_send : IsSend C → IsSync C → IsSend E → IsSend (Shared.the_row C E)
+  shared_send a b d =
+      recorded_send (Shared.the_field C E).row _ _ (Shared.the_type C E).to_one (struct_send (shape (Shared.the_type C E)) (search (pool_send, pool_sync, sessions_send, sessions_sync, serving_send, serving_sync, sendable, crosses) depth 40 fits 5000, (search (pool_send, pool_sync, sessions_send, sessions_sync, serving_send, serving_sync, sendable, crosses) depth 40 fits 5000, (search (pool_send, pool_sync, sessions_send, sessions_sync, serving_send, serving_sync, sendable, crosses) depth 40 fits 5000, (search (pool_send, pool_sync, sessions_send, sessions_sync, serving_send, serving_sync, sendable, crosses) depth 40 fits 5000, (search (pool_send, pool_sync, sessions_send, sessions_sync, serving_send, serving_sync, sendable, crosses) depth 40 fits 5000, tt))))))
 
-  pub acceptor_send : IsSend C → IsSync C → IsSend E → IsSend (Acceptor.the_row C E)
-  acceptor_send a b d = search (ended_send, ended_sync, serving_send, serving_sync, sendable, crosses) depth 30 fits 5000
+  pub starting_send : IsSend C → IsSync C → IsSend E → IsSend (Starting.the_row C E)
+  starting_send a b d =
+      recorded_send (Starting.the_field C E).row _ _ (Starting.the_type C E).to_one (struct_send (shape (Starting.the_type C E)) (search (pool_send, pool_sync, sessions_send, sessions_sync, serving_send, serving_sync, sendable, crosses) depth 40 fits 5000, (search (pool_send, pool_sync, sessions_send, sessions_sync, serving_send, serving_sync, sendable, crosses) depth 40 fits 5000, (search (pool_send, pool_sync, sessions_send, sessions_sync, serving_send, serving_sync, sendable, crosses) depth 40 fits 5000, (search (pool_send, pool_sync, sessions_send, sessions_sync, serving_send, serving_sync, sendable, crosses) depth 40 fits 5000, (search (pool_send, pool_sync, sessions_send, sessions_sync, serving_send, serving_sync, sendable, crosses) depth 40 fits 5000, (search (reader_send, sendable, crosses) depth 40 fits 5000, tt)))))))
 
 module _ (T : RattleType) (g : Ghosts T.Denot) (s : Sends (table_of T.Denot g)) (t : IsSend T) where
   pub open_send : IsSend (Relay.the_row Gate.the_row T g)

@@ -9,9 +9,10 @@ pub mod status;
 pub mod totals;
 pub mod unfinished;
 
+use crate::listening::connections::Side;
 use crate::listening::serving::Serving;
 use std::alloc::{AllocError, Global};
-use std::net::{IpAddr, Ipv4Addr, Ipv6Addr, Net, Shutdown, SocketAddr, TcpListener, TcpStream};
+use std::net::{IpAddr, Ipv4Addr, Ipv6Addr, Net, SocketAddr, TcpListener, TcpStream};
 use std::sync::atomic::{AtomicBool, Ordering};
 use std::sync::{Arc, Wait};
 use std::thread;
@@ -103,7 +104,7 @@ pub fn half_close<R: Wait + Clock, E: Sink + Drop>(
     serving: &Serving<E>,
     drain: Option<u32>,
 ) -> Duration {
-    serving.shut_down(rt, Shutdown::Write);
+    serving.shut_down(rt, Side::Write);
     let Some(seconds) = drain else {
         serving.wait_for_connections(rt, Duration::from_millis(CONNECTIONS_WAIT));
         return Duration::ZERO;
@@ -121,7 +122,7 @@ pub fn end_connections<R: Threads + Wait + Clock + Copy + Send + 'static, E: Sin
     serving: &Serving<E>,
     is_ending: &Arc<AtomicBool>,
 ) -> Vec<ConnEnd> {
-    serving.shut_down(&rt, Shutdown::Read);
+    serving.shut_down(&rt, Side::Read);
     if start_ending_links(rt, is_ending).is_err() {
         end_links(&rt, is_ending);
     }

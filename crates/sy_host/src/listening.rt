@@ -3,24 +3,34 @@ ghost use Rattle.std.specs.Prelude.{◌≡◌, ◌≤◌, IfOk, length, map};
 ghost use Rattle.sy_host.specs.Listened.{at_of, ports_from};
 
 pub mod accepting;
+mod arriving;
 pub mod connections;
 pub mod connector;
+mod incoming;
+mod keep_alive;
+mod pool;
 mod reading;
-pub mod served_threads;
 pub mod serving;
+pub mod sessions;
+mod table;
 pub mod unread_file;
 pub mod unread_frames;
 pub mod whole_entries;
 
 use crate::listening::serving::Port;
+use libc::net as c;
 use std::alloc::Global;
 use std::io;
 use std::net::{IpAddr, Ipv4Addr, Ipv6Addr, Net, SocketAddr, TcpListener, TcpStream};
+use std::os::fd::AsRawFd;
 use sy_report::texts::reason::Reason;
 use sy_rules::Input;
 
 // The host's number of an error: it has no addresses of that family (Linux, errno.h).
 const NO_FAMILY: i32 = 97;
+
+// How many connections may wait to be accepted; the host cuts it to its own limit.
+const BACKLOG: i32 = 4096;
 
 /// An input and what listens at its port.
 #[derive(Drop)]
@@ -73,7 +83,11 @@ fn listen<R: Net<Listener = TcpListener, Stream = TcpStream>>(
     ensures { IfOk result (λ listening. listening.at ≡ at) }
 {
     match bind(rt, address, at.port) {
-        Ok(listener) => Ok(Listening { at, listener }),
+        Ok(listener) => {
+            // (a host that can't have so many wait has fewer)
+            let _ = c::listen(listener.as_raw_fd(), BACKLOG);
+            Ok(Listening { at, listener })
+        }
         Err(error) => Err(ListenFault::Bind(at.port, Reason::of(&error))),
     }
 }

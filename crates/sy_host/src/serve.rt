@@ -72,7 +72,13 @@ fn listen_failed<R: Wait, E: Sink + Drop>(rt: &R, serving: &Serving<E>, fault: L
 
 // Has each input's connections accepted.
 fn accept_at_all<
-    R: Threads + Wait + Clock + Copy + Send + 'static,
+    R: Threads
+        + Wait
+        + Clock
+        + Net<Listener = TcpListener, Stream = TcpStream>
+        + Copy
+        + Send
+        + 'static,
     C: Connector + Send + Sync + 'static,
     E: Sink + Drop + Send + 'static,
 >(
@@ -118,7 +124,13 @@ fn start<R: Threads + Wait + Clock + Copy + Send + 'static>(
 
 // Has a relay's connections accepted until there is nothing more to read. Where they can't be, it answers so at once.
 fn accept_to_end<
-    R: Threads + Wait + Clock + Copy + Send + 'static,
+    R: Threads
+        + Wait
+        + Clock
+        + Net<Listener = TcpListener, Stream = TcpStream>
+        + Copy
+        + Send
+        + 'static,
     C: Connector + Send + Sync + 'static,
     S: Source,
     E: Sink + Drop + Send + 'static,
@@ -156,7 +168,13 @@ fn accept_to_end<
 
 // The same, for a relay.
 fn accept_for<
-    R: Threads + Wait + Clock + Copy + Send + 'static,
+    R: Threads
+        + Wait
+        + Clock
+        + Net<Listener = TcpListener, Stream = TcpStream>
+        + Copy
+        + Send
+        + 'static,
     S: Source,
     E: Sink + Drop + Send + 'static,
 >(

@@ -78,7 +78,7 @@ fn words_on(lost: Lost) -> &'static str {
         Lost::Template =>
             "without it a line is the message as it came, in one file: programs that read the file make other forms, and a ruleset with an input of its own gives its senders a file",
         Lost::Sessions =>
-            "without it each input serves up to 64 connections at once, and others wait: more inputs serve more",
+            "without it each input serves up to 10,000 connections at once, and others wait: more inputs serve more",
         Lost::Size =>
             "without it a message has up to 65,536 bytes, which is the most there is here",
     }

@@ -2,145 +2,146 @@
 
 use crate::listening::Listening;
 use crate::listening::connector::Connector;
-use crate::listening::served_threads::{EndedThreads, ServedThreads};
-use crate::listening::serving::{Connection, Port, Serving, serve_connection};
+use crate::listening::incoming::Accepted;
+use crate::listening::keep_alive::keep_alive;
+use crate::listening::pool::Pool;
+use crate::listening::reading::{Shared, start_readers};
+use crate::listening::serving::{Port, Serving};
+use crate::listening::sessions::{MAX_SESSIONS, Sessions};
 use std::alloc::{AllocError, Global};
-use std::net::{SocketAddr, TcpListener, TcpStream};
+use std::net::{Net, TcpListener, TcpStream};
+use std::os::fd::AsRawFd;
 use std::sync::{Arc, Wait};
 use std::thread;
 use std::thread::Threads;
-use std::time::{Clock, Duration};
+use std::time::{Clock, Duration, Instant};
 use sy_wire::Sink;
 
-/// How many milliseconds a failed accept waits before it is tried again.
+/// How many milliseconds a failed accept waits before it is tried again, and whoever waits for a connection to end before it looks whether the relay stops.
 const ACCEPT_PAUSE: u64 = 100;
 
 /// For how many connections there is room before one is accepted: one for each accept loop that there may be.
 const ROOM: usize = 64;
 
+/// For how many seconds nothing more is told of what kept connections waiting.
+const QUIET: u64 = 10;
+
 // What accepts the connections of an input.
 #[derive(Drop)]
-struct Acceptor<C: Drop, E: Drop> {
-    relay: Arc<C>,
+struct Acceptor<E: Drop> {
     serving: Arc<Serving<E>>,
+    pool: Arc<Pool>,
+    sessions: Arc<Sessions>,
     at: Port,
-    // where threads that served a connection say that they end
-    ended: Arc<EndedThreads>,
     listener: TcpListener,
 }
 
-// A connection that was accepted, with its place.
-fn connection_of<R: Wait, C: Connector, E: Sink + Drop>(
+// Accepts the next connection; none where the relay stops. Whatever memory it takes it has before.
+fn accept<R: Wait, E: Sink + Drop>(
     rt: &R,
-    alloc: Global,
-    of: &Acceptor<C, E>,
-    thread: usize,
-    peer: SocketAddr,
-    stream: TcpStream,
-) -> Result<Connection<C, E>, AllocError> {
-    let stream = Arc::new(alloc, stream)?;
-    let written = Arc::try_clone(&stream)?;
-    let relay = Arc::try_clone(&of.relay)?;
-    let serving = Arc::try_clone(&of.serving)?;
-    let ended = Arc::try_clone(&of.ended)?;
-    let place = of.serving.enter(rt, written)?;
-    Ok(Connection {
-        relay,
-        serving,
-        at: of.at,
-        peer,
-        stream,
-        place,
-        thread,
-        ended,
-    })
-}
-
-// Has the thread of this number serve a connection.
-fn start_connection<
-    R: Threads + Wait + Clock + Copy + Send + 'static,
-    C: Connector + Send + Sync + 'static,
-    E: Sink + Drop + Send + 'static,
->(
-    rt: R,
-    alloc: Global,
-    of: &Acceptor<C, E>,
-    threads: &mut ServedThreads,
-    number: usize,
-    peer: SocketAddr,
-    stream: TcpStream,
-) -> Result<(), AllocError> {
-    let connection = connection_of(&rt, alloc, of, number, peer, stream)?;
-    let place = connection.place;
-    match thread::spawn(&rt, move || serve_connection(rt, alloc, connection)) {
-        Ok(handle) => {
-            threads.insert(number, handle);
-            Ok(())
-        }
-        Err(_) => {
-            of.serving.leave(&rt, place);
-            Err(AllocError)
-        }
-    }
-}
-
-// Accepts the next connection, which the thread of this number serves.
-fn accept<
-    R: Threads + Wait + Clock + Copy + Send + 'static,
-    C: Connector + Send + Sync + 'static,
-    E: Sink + Drop + Send + 'static,
->(
-    rt: R,
-    alloc: Global,
-    of: &Acceptor<C, E>,
-    threads: &mut ServedThreads,
-    number: usize,
-) -> Result<(), AllocError> {
-    of.serving.make_room(&rt, ROOM)?;
-    threads.make_room()?;
+    of: &Acceptor<E>,
+) -> Result<Option<Accepted>, AllocError> {
+    of.serving.make_room(rt, ROOM)?;
+    of.pool.make_room(rt)?;
     let Ok((stream, peer)) = of.listener.accept() else {
         return Err(AllocError);
     };
     if of.serving.is_stopping() {
-        return Ok(());
+        return Ok(None);
     }
-    start_connection(rt, alloc, of, threads, number, peer, stream)
+    keep_alive(&stream);
+    let Ok(()) = stream.set_nonblocking(true) else {
+        return Err(AllocError);
+    };
+    let place = of.serving.enter(rt, stream.as_raw_fd())?;
+    of.sessions.begin();
+    of.serving.watch().connection_begins(of.at.input);
+    Ok(Some(Accepted {
+        peer,
+        stream,
+        place,
+    }))
 }
 
-// Accepts connections until nothing new is to be accepted, each once there may be one thread more. An accept that fails is
-// tried again, and said once until one succeeds.
-fn accept_all<
-    R: Threads + Wait + Clock + Copy + Send + 'static,
-    C: Connector + Send + Sync + 'static,
-    E: Sink + Drop + Send + 'static,
->(rt: R, alloc: Global, of: &Acceptor<C, E>, threads: &mut ServedThreads) {
-    let pause = Duration::from_millis(ACCEPT_PAUSE);
-    let mut has_failed = false;
-    for _ in rt.forever() {
-        if of.serving.is_stopping() {
+// What is told while connections have to wait.
+#[derive(Drop)]
+struct Told {
+    // whether it was told that they wait
+    is_told: bool,
+    // when it was told last
+    at: Option<Instant>,
+}
+
+impl Told {
+    // Whether it was told less than some seconds ago.
+    fn is_recent<R: Clock>(&self, rt: &R) -> bool {
+        match self.at.map(|it| it.elapsed(rt)) {
+            Some(Ok(spent)) => spent < Duration::from_secs(QUIET),
+            _ => false,
+        }
+    }
+
+    // Tells why they wait, once until they don't, and not again too soon.
+    fn begin<R: Wait + Clock, E: Sink + Drop>(
+        &mut self,
+        rt: &R,
+        serving: &Serving<E>,
+        port: u16,
+        why: &[u8],
+    ) {
+        if self.is_told || self.is_recent(rt) {
             return;
         }
-        if let Some(number) = threads.free_number(&rt, &of.ended, pause) {
-            let has_accepted = accept(rt, alloc, of, threads, number).is_ok();
-            if !has_accepted {
-                if !has_failed {
-                    of.serving.report_at_port(&rt, b"accept failed", of.at.port);
-                }
-                thread::sleep(&rt, pause);
+        serving.report_at_port(rt, why, port);
+        self.is_told = true;
+        self.at = Instant::now(rt).ok();
+    }
+
+    // Tells that they are accepted again, where the other was told.
+    fn end<R: Wait, E: Sink + Drop>(&mut self, rt: &R, serving: &Serving<E>, port: u16) {
+        if self.is_told {
+            serving.report_at_port(rt, b"connections are accepted again", port);
+            self.is_told = false;
+        }
+    }
+}
+
+// Accepts connections until nothing new is to be accepted. Where as many are open as may be it waits until one ends, and the next ones wait with their
+// host; an accept that fails is tried again.
+fn accept_all<R: Wait + Clock, E: Sink + Drop>(rt: &R, alloc: Global, of: &Acceptor<E>) {
+    let pause = Duration::from_millis(ACCEPT_PAUSE);
+    let (serving, port) = (&*of.serving, of.at.port);
+    let mut told = Told {
+        is_told: false,
+        at: None,
+    };
+    for _ in rt.forever() {
+        if serving.is_stopping() {
+            return;
+        }
+        if of.sessions.is_full() {
+            told.begin(rt, serving, port, b"as many connections are open as may be");
+            of.sessions.wait(rt, pause);
+            continue;
+        }
+        match accept(rt, of) {
+            Ok(Some(accepted)) => {
+                of.pool.insert(rt, alloc, accepted);
+                told.end(rt, serving, port);
             }
-            has_failed = !has_accepted;
+            Ok(None) => return,
+            Err(_) => {
+                told.begin(rt, serving, port, b"accept failed");
+                thread::sleep(rt, pause);
+            }
         }
     }
 }
 
 // Accepts connections, and listens no more once that ends.
-fn accept_and_close<
-    R: Threads + Wait + Clock + Copy + Send + 'static,
-    C: Connector + Send + Sync + 'static,
-    E: Sink + Drop + Send + 'static,
->(rt: R, alloc: Global, of: Acceptor<C, E>) {
-    let mut threads = ServedThreads::new(alloc);
-    accept_all(rt, alloc, &of, &mut threads);
+fn accept_and_close<R: Wait + Clock + Drop, E: Sink + Drop>(rt: R, alloc: Global, of: Acceptor<E>) {
+    accept_all(&rt, alloc, &of);
+    of.pool.close(&rt);
     let Acceptor {
         serving,
         listener,
@@ -150,9 +151,35 @@ fn accept_and_close<
     serving.end_loop(&rt);
 }
 
-/// Has a thread of its own accept the connections of an input, until nothing new is to be accepted.
-pub fn start_accepting<
+// How many readers an input is to have: as many as there are processors.
+fn wanted_readers<R: Threads>(rt: &R) -> usize {
+    match thread::available_parallelism(rt) {
+        Ok(processors) => processors.get(),
+        Err(_) => 1,
+    }
+}
+
+// Has a thread of its own start the readers of an input.
+fn start_reading<
     R: Threads + Wait + Clock + Copy + Send + 'static,
+    C: Connector + Send + Sync + 'static,
+    E: Sink + Drop + Send + 'static,
+>(rt: R, alloc: Global, shared: Shared<C, E>) -> Result<(), AllocError> {
+    match thread::spawn(&rt, move || start_readers(rt, alloc, shared)) {
+        Ok(_thread) => Ok(()),
+        Err(_) => Err(AllocError),
+    }
+}
+
+/// Has threads of their own accept the connections of an input and read them, until nothing new is to be accepted and none is left.
+pub fn start_accepting<
+    R: Threads
+        + Wait
+        + Clock
+        + Net<Listener = TcpListener, Stream = TcpStream>
+        + Copy
+        + Send
+        + 'static,
     C: Connector + Send + Sync + 'static,
     E: Sink + Drop + Send + 'static,
 >(
@@ -163,13 +190,23 @@ pub fn start_accepting<
     listening: Listening,
 ) -> Result<(), AllocError> {
     let Listening { at, listener } = listening;
+    let pool = Arc::new(alloc, Pool::new(&rt, alloc, wanted_readers(&rt))?)?;
+    let sessions = Arc::new(alloc, Sessions::new(MAX_SESSIONS))?;
     let acceptor = Acceptor {
-        relay: Arc::try_clone(relay)?,
         serving: Arc::try_clone(serving)?,
+        pool: Arc::try_clone(&pool)?,
+        sessions: Arc::try_clone(&sessions)?,
         at,
-        ended: Arc::new(alloc, EndedThreads::new(alloc)?)?,
         listener,
     };
+    let shared = Shared {
+        relay: Arc::try_clone(relay)?,
+        serving: Arc::try_clone(serving)?,
+        pool,
+        sessions,
+        at,
+    };
+    start_reading(rt, alloc, shared)?;
     serving.begin_loop(&rt);
     match thread::spawn(&rt, move || accept_and_close(rt, alloc, acceptor)) {
         Ok(_thread) => Ok(()),

@@ -1,18 +1,35 @@
 //! The connections that a relay serves.
-ghost use Rattle.std.specs.Prelude.{◌<◌, IfOk};
-ghost use Rattle.std.specs.Vec.{vec_len};
 
 use crate::ending::remaining::Rest;
+use libc::net as c;
 use std::alloc::{AllocError, Global};
-use std::net::{Shutdown, TcpStream};
-use std::sync::Arc;
+use std::os::fd::RawFd;
 use sy_runtime::ConnEnd;
+
+/// What is shut down of a connection.
+#[derive(Clone, Copy)]
+pub enum Side {
+    Read,
+    Write,
+}
+
+impl Side {
+    // The host's number for it.
+    fn number(self) -> i32 {
+        match self {
+            Side::Read => c::SHUT_RD,
+            Side::Write => c::SHUT_WR,
+        }
+    }
+}
 
 /// The connections that a relay serves, and what those that ended counted.
 #[derive(Drop)]
 pub struct Connections {
-    // of each open connection its stream, at the place that it got; free places are used again
-    streams: Vec<Option<Arc<TcpStream>>>,
+    // of each open connection its stream's descriptor, at the place that it got, which it leaves before that is closed
+    streams: Vec<Option<RawFd>>,
+    // the places that are free
+    free: Vec<usize>,
     open: usize,
     ends: Vec<ConnEnd>,
     // what those leave that the relay ended
@@ -26,6 +43,7 @@ impl Connections {
     pub fn new(alloc: Global) -> Connections {
         Connections {
             streams: Vec::new(alloc),
+            free: Vec::new(alloc),
             open: 0,
             ends: Vec::new(alloc),
             rests: Vec::new(alloc),
@@ -56,36 +74,34 @@ impl Connections {
     /// Makes room for so many more connections, and for the ends of all that are open then.
     pub fn make_room(&mut self, more: usize) -> Result<(), AllocError> {
         self.streams.reserve(more)?;
+        self.free.reserve(self.streams.len().saturating_add(more))?;
         let ends = self.open.saturating_add(more);
         self.rests.reserve(ends)?;
         self.ends.reserve(ends)
     }
 
-    // A place that no connection has.
-    fn free_place(&mut self) -> Result<usize, AllocError>
-        ensures { IfOk result (λ place. place < vec_len self.new.streams) }
-    {
-        for place in 0..self.streams.len() {
-            if self.streams[place].is_none() {
-                return Ok(place);
-            }
-        }
-        self.streams.push(None)?;
-        Ok(self.streams.len() - 1)
-    }
-
     /// A place for a connection, which is open from then on.
-    pub fn enter(&mut self, stream: Arc<TcpStream>) -> Result<usize, AllocError> {
-        let place = self.free_place()?;
-        self.streams[place] = Some(stream);
+    pub fn enter(&mut self, stream: RawFd) -> Result<usize, AllocError> {
+        let place = match self.free.pop() {
+            Some(place) => place,
+            None => {
+                self.streams.push(None)?;
+                self.streams.len().saturating_sub(1)
+            }
+        };
+        if let Some(at) = self.streams.get_mut(place) {
+            *at = Some(stream);
+        }
         self.open = self.open.saturating_add(1);
         Ok(place)
     }
 
     /// Frees the place of a connection that is no longer open.
     pub fn leave(&mut self, place: usize) {
-        if place < self.streams.len() {
-            self.streams[place] = None;
+        if let Some(at) = self.streams.get_mut(place) {
+            *at = None;
+            // (the room that `make_room` made is there)
+            let _ = self.free.push(place);
         }
         self.open = self.open.saturating_sub(1);
     }
@@ -112,10 +128,10 @@ impl Connections {
     }
 
     /// Shuts this side down of each connection that is open.
-    pub fn shut_down(&self, how: Shutdown) {
+    pub fn shut_down(&self, how: Side) {
         for stream in &self.streams {
             if let Some(stream) = stream {
-                let _ = stream.shutdown(how);
+                let _ = c::shutdown(*stream, how.number());
             }
         }
     }

@@ -7,21 +7,27 @@ use std::alloc::Global;
 use std::sync::Wait;
 use std::time::Clock;
 use sy_log::log::LogGate;
-use sy_runtime::{ConnEnd, Finish, Relay, RunFault, Standing, UnreadSink, Untaken};
+use sy_runtime::{Connection, NoHand, Reader, Relay, RunFault, Standing, Turn, UnreadSink};
 use sy_wire::Source;
 
-/// What serves connections, on the thread of each, and tells its totals: a relay. (Behind it stand boxed devices, which a function's contract
+/// What serves connections, by the readers of its inputs, and tells its totals: a relay. (Behind it stand boxed devices, which a function's contract
 /// can't have beside what it makes itself, as a thread.)
 pub trait Connector: Drop {
-    /// Serves a connection of an input, to the end of its reader.
-    fn connect<R: Wait + Clock, S: Source, U: UnreadSink>(
+    /// A reader more of an input.
+    fn reader<R: Wait>(&self, rt: &R, alloc: Global, input: u32) -> Result<Reader, NoHand>;
+
+    /// Gives a reader back.
+    fn give_back<R: Wait>(&self, rt: &R, reader: Reader);
+
+    /// A turn of a connection of a reader's input.
+    fn turn<R: Wait + Clock, S: Source, U: UnreadSink>(
         &self,
         rt: &R,
-        alloc: Global,
-        input: u32,
-        reader: &mut S,
+        reader: &mut Reader,
+        connection: Connection,
+        source: &mut S,
         unread: &mut U,
-    ) -> (ConnEnd, Untaken, Result<Finish, RunFault>);
+    ) -> Turn;
 
     /// The totals as they stand; none where there is no memory for them.
     fn status<R: Wait>(&self, rt: &R, alloc: Global) -> Option<Standing>
@@ -34,15 +40,23 @@ pub trait Connector: Drop {
 }
 
 impl Connector for Relay<LogGate> {
-    fn connect<R: Wait + Clock, S: Source, U: UnreadSink>(
+    fn reader<R: Wait>(&self, rt: &R, alloc: Global, input: u32) -> Result<Reader, NoHand> {
+        Relay::reader(self, rt, alloc, input)
+    }
+
+    fn give_back<R: Wait>(&self, rt: &R, reader: Reader) {
+        Relay::give_back(self, rt, reader);
+    }
+
+    fn turn<R: Wait + Clock, S: Source, U: UnreadSink>(
         &self,
         rt: &R,
-        alloc: Global,
-        input: u32,
-        reader: &mut S,
+        reader: &mut Reader,
+        connection: Connection,
+        source: &mut S,
         unread: &mut U,
-    ) -> (ConnEnd, Untaken, Result<Finish, RunFault>) {
-        Relay::connect(self, rt, alloc, input, reader, unread)
+    ) -> Turn {
+        Relay::turn(self, rt, reader, connection, source, unread)
     }
 
     fn status<R: Wait>(&self, rt: &R, alloc: Global) -> Option<Standing> {

@@ -1,122 +1,144 @@
-//! A connection that is read to its end, and what it leaves.
+//! A reader of an input: it gives the input's connections their turns, each as it has something.
 
-use crate::ending::remaining::{Rest, Unkept, count_unread};
 use crate::listening::connector::Connector;
-use crate::listening::serving::Port;
-use crate::listening::unread_frames::{Coming, LongFrames, UnreadFrames};
-use std::alloc::Global;
-use std::net::TcpStream;
-use std::sync::Wait;
-use std::time::Clock;
-use sy_runtime::{ConnEnd, Finish, RunFault, Untaken};
-use sy_unread::skipping::Skipping;
-use sy_wire::{FrameFault, FromRead, Sink};
+use crate::listening::incoming::{Ending, Incoming, Next, Turning};
+use crate::listening::pool::{PAUSE, Pool, Task};
+use crate::listening::serving::{Port, Serving};
+use crate::listening::sessions::Sessions;
+use std::alloc::{AllocError, Global};
+use std::sync::{Arc, Wait};
+use std::thread;
+use std::thread::Threads;
+use std::time::{Clock, Duration};
+use sy_runtime::Reader;
+use sy_wire::Sink;
 
-/// What a connection had read and not taken when it ended.
+/// What the readers of an input share.
 #[derive(Drop)]
-pub(crate) struct Leaving {
-    untaken: Untaken,
-    // how many bytes it had read beside those, and what they begin with that couldn't be kept
-    held: u64,
-    unkept: Option<Unkept>,
+pub struct Shared<C: Drop, E: Drop> {
+    pub relay: Arc<C>,
+    pub serving: Arc<Serving<E>>,
+    pub pool: Arc<Pool>,
+    pub sessions: Arc<Sessions>,
+    pub at: Port,
 }
 
-/// How a connection ended.
+/// A reader that starts.
 #[derive(Drop)]
-pub(crate) struct Ending {
-    pub(crate) end: ConnEnd,
-    pub(crate) leaving: Leaving,
-    pub(crate) answer: Result<Finish, RunFault>,
+struct Starting<C: Drop, E: Drop> {
+    relay: Arc<C>,
+    serving: Arc<Serving<E>>,
+    pool: Arc<Pool>,
+    sessions: Arc<Sessions>,
+    at: Port,
+    reader: Reader,
 }
 
-impl Ending {
-    // Of one of which no bytes wait for their frame to be whole.
-    fn new((end, untaken, answer): (ConnEnd, Untaken, Result<Finish, RunFault>)) -> Ending {
-        Ending {
-            end,
-            leaving: Leaving {
-                untaken,
-                held: 0,
-                unkept: None,
-            },
-            answer,
-        }
-    }
+// A connection has ended: its place is free before its stream is closed.
+fn end<R: Wait, C: Connector, E: Sink + Drop>(
+    rt: &R,
+    of: &Shared<C, E>,
+    number: usize,
+    incoming: Incoming,
+    ending: Ending,
+) {
+    let (place, input) = (incoming.place, of.at.input);
+    of.serving.watch().connection_ended(input);
+    of.serving.end(rt, input, place, ending);
+    drop(incoming);
+    of.pool.remove(rt, number);
+    of.sessions.end();
 }
 
-/// What a connection of an input leaves that ended so, where the relay ended it.
-pub(crate) fn rest_of(
-    alloc: Global,
-    input: u32,
-    leaving: Leaving,
-    answer: Result<Finish, RunFault>,
-    stream: &TcpStream,
-) -> Option<Rest> {
-    let Leaving {
-        untaken,
-        held,
-        unkept,
-    } = leaving;
-    let unread = match answer {
-        Ok(Finish::Closed) => count_unread(alloc, stream).saturating_add(held),
-        // (nothing was read of one that got no hand, of which there may be any number)
-        Err(RunFault::Hands) if untaken.items.is_empty() => return None,
-        Err(RunFault::Hands | RunFault::NoMemory | RunFault::TotalsFull) => held,
-        Ok(Finish::Ended) | Err(_) => return None,
-    };
-    Some(Rest {
-        input,
-        untaken,
-        unread,
-        unkept,
-    })
-}
-
-/// Reads a connection to its end. Where frames that carry no message are kept, those that are too long are as well, and the connection goes on after
-/// them; without memory for that, it ends at one, as it does where none are kept.
-pub(crate) fn read_all<R: Wait + Clock, C: Connector, E: Sink + Drop>(
+// The turn of a connection.
+fn turn<R: Wait + Clock, C: Connector, E: Sink + Drop>(
     rt: &R,
     alloc: Global,
-    relay: &C,
-    at: Port,
-    stream: &TcpStream,
-    coming: &Coming<'_, E>,
-) -> Ending {
-    let mut unread = UnreadFrames { coming };
-    let mut reader = FromRead::new(stream);
-    if !coming.is_kept() {
-        return Ending::new(relay.connect(rt, alloc, at.input, &mut reader, &mut unread));
+    of: &Shared<C, E>,
+    with: &mut Turning,
+    number: usize,
+    mut incoming: Incoming,
+) {
+    match incoming.turn(rt, alloc, of, with) {
+        Next::Again => of.pool.give_back(rt, number, incoming, true),
+        Next::Waits => of.pool.give_back(rt, number, incoming, false),
+        Next::NoMemory => {
+            of.pool.give_back(rt, number, incoming, true);
+            thread::sleep(rt, Duration::from_millis(PAUSE));
+        }
+        Next::Ended(ending) => end(rt, of, number, incoming, ending),
     }
-    let Ok(mut reader) = Skipping::new(alloc, reader, LongFrames { rt, relay, coming }) else {
-        let mut reader = FromRead::new(stream);
-        return Ending::new(relay.connect(rt, alloc, at.input, &mut reader, &mut unread));
+}
+
+// Gives connections their turns until none is left and none comes.
+fn read_all<R: Wait + Clock + Drop, C: Connector, E: Sink + Drop>(
+    rt: R,
+    alloc: Global,
+    starting: Starting<C, E>,
+) {
+    let Starting {
+        relay,
+        serving,
+        pool,
+        sessions,
+        at,
+        reader,
+    } = starting;
+    let of = Shared {
+        relay,
+        serving,
+        pool,
+        sessions,
+        at,
     };
-    let (mut end, untaken, mut answer) = relay.connect(
-        rt,
-        alloc,
-        at.input,
-        &mut reader,
-        &mut unread,
-    );
-    if end.add_unread(coming.long()).is_err() || coming.is_full() {
-        answer = Err(RunFault::TotalsFull);
+    let mut with = Turning { reader, room: None };
+    for _ in rt.forever() {
+        match of.pool.next(&rt) {
+            Task::Turn(number, incoming) => turn(&rt, alloc, &of, &mut with, number, incoming),
+            Task::Wait(patience) => of.pool.wait(&rt, patience),
+            Task::End => break,
+        }
     }
-    if reader.is_within_long() && matches!(answer, Ok(Finish::Ended)) {
-        answer = Err(RunFault::Frame(FrameFault::Truncated));
-    }
-    let unkept = coming.unkept();
-    if unkept.is_some() {
-        answer = Ok(Finish::Closed);
-    }
-    let held = reader.held().len() as u64;
-    let leaving = Leaving {
-        untaken,
-        held,
-        unkept,
+    of.pool.end_reader(&rt, false);
+    of.relay.give_back(&rt, with.reader);
+}
+
+// Starts a reader.
+fn start_reader<
+    R: Threads + Wait + Clock + Copy + Send + 'static,
+    C: Connector + Send + Sync + 'static,
+    E: Sink + Drop + Send + 'static,
+>(rt: R, alloc: Global, of: &Shared<C, E>) -> Result<(), AllocError> {
+    let Ok(reader) = of.relay.reader(&rt, alloc, of.at.input) else {
+        return Err(AllocError);
     };
-    Ending {
-        end,
-        leaving,
-        answer,
+    let starting = Starting {
+        relay: Arc::try_clone(&of.relay)?,
+        serving: Arc::try_clone(&of.serving)?,
+        pool: Arc::try_clone(&of.pool)?,
+        sessions: Arc::try_clone(&of.sessions)?,
+        at: of.at,
+        reader,
+    };
+    match thread::spawn(&rt, move || read_all(rt, alloc, starting)) {
+        Ok(_thread) => Ok(()),
+        Err(_) => Err(AllocError),
+    }
+}
+
+/// Starts the readers of an input, each once it is wanted, until no connection is left and none comes.
+pub fn start_readers<
+    R: Threads + Wait + Clock + Copy + Send + 'static,
+    C: Connector + Send + Sync + 'static,
+    E: Sink + Drop + Send + 'static,
+>(rt: R, alloc: Global, of: Shared<C, E>) {
+    for _ in rt.forever() {
+        if !of.pool.wait_until_wanted(&rt) {
+            return;
+        }
+        if start_reader(rt, alloc, &of).is_err() {
+            of.pool.end_reader(&rt, true);
+            thread::sleep(&rt, Duration::from_millis(PAUSE));
+        }
     }
 }

@@ -1,25 +1,22 @@
-//! What the threads of a relay that is served share, and what each connection's does.
+//! What the threads of a relay that is served share.
 
 use crate::ending::remaining::Rest;
-use crate::listening::connections::Connections;
-use crate::listening::connector::Connector;
-use crate::listening::reading::{Ending, read_all, rest_of};
-use crate::listening::served_threads::EndedThreads;
+use crate::listening::connections::{Connections, Side};
+use crate::listening::incoming::Ending;
 use crate::listening::unread_file::UnreadFile;
-use crate::listening::unread_frames::Coming;
 use std::alloc::{AllocError, Global};
-use std::net::{Shutdown, SocketAddr, TcpStream};
+use std::os::fd::RawFd;
 use std::sync::atomic::{AtomicBool, Ordering};
 use std::sync::{Arc, Condvar, CondvarTimeouts, Mutex, Wait};
 use std::time::{Clock, Duration};
 use sy_log::at_port::append_at_port;
 use sy_log::log::Log;
-use sy_log::peers::{FirstUnread, PeerEnd};
+use sy_log::peers::PeerEnd;
 use sy_log::printer::Printer;
 use sy_log::printing::Printing;
 use sy_report::texts::parts::{Part, append_parts};
 use sy_report::texts::reason::Reason;
-use sy_runtime::{ConnEnd, Finish, RunFault};
+use sy_runtime::ConnEnd;
 use sy_watched::watch::Watch;
 use sy_wire::Sink;
 
@@ -207,27 +204,14 @@ impl<E: Sink + Drop> Serving<E> {
     }
 
     /// A place for a connection.
-    pub fn enter<R: Wait>(&self, rt: &R, stream: Arc<TcpStream>) -> Result<usize, AllocError> {
+    pub fn enter<R: Wait>(&self, rt: &R, stream: RawFd) -> Result<usize, AllocError> {
         self.connections.lock(rt).enter(stream)
     }
 
-    /// Frees a connection's place.
-    pub fn leave<R: Wait>(&self, rt: &R, place: usize) {
-        self.connections.lock(rt).leave(place);
-        self.ended.notify_all();
-    }
-
-    // Frees a connection's place, keeps what it counted, and what it leaves where the relay ended it, and notes how it ended, where there is
-    // something to say. A stop finds the place free once that is noted.
-    fn end<R: Wait>(
-        &self,
-        rt: &R,
-        input: u32,
-        place: usize,
-        end: ConnEnd,
-        rest: Option<Rest>,
-        noted: PeerEnd,
-    ) {
+    /// Frees a connection's place, keeps what it counted, and what it leaves where the relay ended it, and notes how it ended, where there is
+    /// something to say. A stop finds the place free once that is noted.
+    pub(crate) fn end<R: Wait>(&self, rt: &R, input: u32, place: usize, ending: Ending) {
+        let Ending { end, rest, noted } = ending;
         let mut connections = self.connections.lock(rt);
         connections.keep(end);
         if let Some(rest) = rest {
@@ -242,7 +226,7 @@ impl<E: Sink + Drop> Serving<E> {
     }
 
     /// Shuts this side down of each connection that is open.
-    pub fn shut_down<R: Wait>(&self, rt: &R, how: Shutdown) {
+    pub fn shut_down<R: Wait>(&self, rt: &R, how: Side) {
         self.connections.lock(rt).shut_down(how);
     }
 
@@ -279,65 +263,4 @@ impl<E: Sink + Drop> Serving<E> {
     pub fn refused<R: Wait>(&self, rt: &R) -> Option<(u16, Reason)> {
         *self.refused.lock(rt)
     }
-}
-
-/// A connection that was accepted.
-#[derive(Drop)]
-pub struct Connection<C: Drop, E: Drop> {
-    pub relay: Arc<C>,
-    pub serving: Arc<Serving<E>>,
-    pub at: Port,
-    pub peer: SocketAddr,
-    pub stream: Arc<TcpStream>,
-    /// its place among those that are open
-    pub place: usize,
-    /// the number of its thread among those of its input, and where it says that it ends
-    pub thread: usize,
-    pub ended: Arc<EndedThreads>,
-}
-
-// How a connection ended that counted so many frames without a message, of which that was the first.
-fn noted_end(
-    peer: SocketAddr,
-    unread: u64,
-    first: Option<FirstUnread>,
-    answer: Result<Finish, RunFault>,
-) -> PeerEnd {
-    let first = if unread > 0 { first } else { None };
-    PeerEnd {
-        peer,
-        unread,
-        first,
-        fault: answer.err(),
-    }
-}
-
-/// Serves a connection until it ends.
-pub fn serve_connection<R: Wait + Clock + Drop, C: Connector, E: Sink + Drop>(
-    rt: R,
-    alloc: Global,
-    connection: Connection<C, E>,
-) {
-    let Connection {
-        relay,
-        serving,
-        at,
-        peer,
-        stream,
-        place,
-        thread,
-        ended,
-    } = connection;
-    serving.watch().connection_begins(at.input);
-    let coming = Coming::new(&*serving, at, peer);
-    let Ending {
-        end,
-        leaving,
-        answer,
-    } = read_all(&rt, alloc, &*relay, at, &stream, &coming);
-    serving.watch().connection_ended(at.input);
-    let rest = rest_of(alloc, at.input, leaving, answer, &stream);
-    let noted = noted_end(peer, end.unread(), coming.first(), answer);
-    serving.end(&rt, at.input, place, end, rest, noted);
-    ended.push(&rt, thread);
 }

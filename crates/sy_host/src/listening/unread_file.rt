@@ -194,6 +194,11 @@ impl UnreadFile {
         true
     }
 
+    /// Writes what stands there of a frame, once; whether it was written.
+    pub fn keep_at_once<R: Wait>(&self, rt: &R, frame: &UnreadFrame<'_>) -> bool {
+        self.writing.lock(rt).try_once(frame)
+    }
+
     /// Writes what stands there of a frame, however long that takes. Where it can't be written it is tried again each second, until the relay ends.
     pub fn keep<R: Wait + Clock>(&self, rt: &R, frame: &UnreadFrame<'_>) -> Result<(), NotKept> {
         for _ in rt.forever() {

@@ -2,8 +2,9 @@
 
 use crate::ending::remaining::Unkept;
 use crate::listening::connector::Connector;
+use crate::listening::pool::Pool;
 use crate::listening::serving::{Port, Serving};
-use crate::listening::unread_file::UnreadFrame;
+use crate::listening::unread_file::{UnreadFile, UnreadFrame};
 use std::cell::Cell;
 use std::net::SocketAddr;
 use std::sync::Wait;
@@ -15,10 +16,54 @@ use sy_unread::Unframed;
 use sy_unread::skipping::{self, LongSink};
 use sy_wire::Sink;
 
-/// A connection, as who keeps what it sends knows it.
+/// What is known of what a connection sent that is no message.
+#[derive(Clone, Copy)]
+pub struct Notes {
+    long: u64,
+    is_full: bool,
+    unkept: Option<Unkept>,
+    first: Option<FirstUnread>,
+    is_reported: bool,
+}
+
+impl Notes {
+    /// It sent nothing yet.
+    pub fn new() -> Notes {
+        Notes {
+            long: 0,
+            is_full: false,
+            unkept: None,
+            first: None,
+            is_reported: false,
+        }
+    }
+
+    /// How many of its frames were too long.
+    pub fn long(&self) -> u64 {
+        self.long
+    }
+
+    /// Whether the relay couldn't count one of these, since its totals are full.
+    pub fn is_full(&self) -> bool {
+        self.is_full
+    }
+
+    /// One of these, or bytes that begin none, where the relay ended before they could be kept.
+    pub fn unkept(&self) -> Option<Unkept> {
+        self.unkept
+    }
+
+    /// The first of its frames that carried no message, where there was one.
+    pub fn first(&self) -> Option<FirstUnread> {
+        self.first
+    }
+}
+
+/// A connection, as who keeps what it sends knows it in a turn.
 #[derive(Drop)]
 pub struct Coming<'a, E: Drop> {
     serving: &'a Serving<E>,
+    pool: &'a Pool,
     at: Port,
     peer: SocketAddr,
     // how many of its frames were too long, of which its end counts none
@@ -34,17 +79,35 @@ pub struct Coming<'a, E: Drop> {
 }
 
 impl<'a, E: Sink + Drop> Coming<'a, E> {
-    /// That of this peer to that port.
-    pub fn new(serving: &'a Serving<E>, at: Port, peer: SocketAddr) -> Coming<'a, E> {
+    /// That of this peer to that port, of which that is known.
+    pub fn new(
+        serving: &'a Serving<E>,
+        pool: &'a Pool,
+        at: Port,
+        peer: SocketAddr,
+        notes: Notes,
+    ) -> Coming<'a, E> {
         Coming {
             serving,
+            pool,
             at,
             peer,
-            long: AtomicU64::new(0),
-            is_full: AtomicBool::new(false),
-            unkept: Cell::new(None),
-            first: Cell::new(None),
-            is_reported: AtomicBool::new(false),
+            long: AtomicU64::new(notes.long),
+            is_full: AtomicBool::new(notes.is_full),
+            unkept: Cell::new(notes.unkept),
+            first: Cell::new(notes.first),
+            is_reported: AtomicBool::new(notes.is_reported),
+        }
+    }
+
+    /// What is known of it then.
+    pub fn notes(&self) -> Notes {
+        Notes {
+            long: self.long.load(Ordering::SeqCst),
+            is_full: self.is_full.load(Ordering::SeqCst),
+            unkept: self.unkept.get(),
+            first: self.first.get(),
+            is_reported: self.is_reported.load(Ordering::SeqCst),
         }
     }
 
@@ -53,30 +116,31 @@ impl<'a, E: Sink + Drop> Coming<'a, E> {
         self.serving.unread_of(self.at.input).is_some()
     }
 
-    /// How many of its frames were too long.
-    pub fn long(&self) -> u64 {
+    // How many of its frames were too long.
+    fn long(&self) -> u64 {
         self.long.load(Ordering::SeqCst)
     }
 
-    /// Whether the relay couldn't count one of these, since its totals are full.
-    pub fn is_full(&self) -> bool {
-        self.is_full.load(Ordering::SeqCst)
-    }
-
-    /// One of these, or bytes that begin none, where the relay ended before they could be kept.
-    pub fn unkept(&self) -> Option<Unkept> {
-        self.unkept.get()
-    }
-
-    /// The first of its frames that carried no message, where there was one.
-    pub fn first(&self) -> Option<FirstUnread> {
-        self.first.get()
+    // Keeps it in that file. While that has to wait another reader serves the other connections.
+    fn keep_in<R: Wait + Clock>(
+        &self,
+        rt: &R,
+        file: &UnreadFile,
+        frame: &UnreadFrame<'_>,
+    ) -> Result<(), NotKept> {
+        if file.keep_at_once(rt, frame) {
+            return Ok(());
+        }
+        self.pool.begin_wait(rt);
+        let kept = file.keep(rt, frame);
+        self.pool.end_wait();
+        kept
     }
 
     // Keeps what it sent in its input's unread file, if there is one, and has the first of it told.
     fn keep<R: Wait + Clock>(&self, rt: &R, frame: &UnreadFrame<'_>) -> Result<(), NotKept> {
         if let Some(file) = self.serving.unread_of(self.at.input) {
-            file.keep(rt, frame)?;
+            self.keep_in(rt, file, frame)?;
         }
         let first = FirstUnread {
             what: frame.what,
