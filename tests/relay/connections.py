@@ -1,9 +1,9 @@
-"""More connections than hands, and senders that are slow, half-closed or reset."""
+"""Connections beside one another, and senders that are slow, half-closed or reset."""
 
 from peers import Pump, Sender, frame, frames, message, messages, places, send_all, send_side_by_side
 from room import Failure, imtcp, is_read, module, omfile, same, test, totals, until
 
-HANDS = 64
+AT_ONCE = 100
 
 
 def served(room, port, count):
@@ -14,62 +14,26 @@ def served(room, port, count):
 
 
 @test
-def one_connection_too_many(room):
-    relay, port = room.hub()
-    senders = served(room, port, HANDS)
-    Sender(port).is_ended()
-    relay.says(f"syc: 73 Hands at {port}")
-    for it, sender in enumerate(senders):
-        sender.send(message(1, connection=it))
-    room.has("audit.log", 2 * HANDS)
-    # (one that has ended leaves its hand to another)
-    senders.pop().end()
-    for _ in range(3):
-        send_all(port, [message(2)])
-    for it in senders:
-        it.end()
-    count = 2 * HANDS + 3
-    room.has("audit.log", count)
-    relay.stops_with(totals(count, 0, 0, ("audit", count, count, 0, 0)), [f"syc: 73 Hands at {port}"])
-    same("lines", len(room.lines("audit.log")), count)
-
-
-@test
-def what_comes_over_one_too_many_is_not_taken(room):
-    relay, port = room.hub()
-    senders = served(room, port, HANDS)
-    try:
-        late = Sender(port).send(message("late"))
-        late.is_ended()
-    except (BrokenPipeError, ConnectionResetError):
-        pass
-    relay.says(f"syc: 73 Hands at {port}")
-    for it in senders:
-        it.end()
-    relay.stops_with(totals(HANDS, 0, 0, ("audit", HANDS, HANDS, 0, 0)), [f"syc: 73 Hands at {port}"])
-    same("late lines", [it for it in room.lines("audit.log") if b"late" in it], [])
-
-
-@test
-def hands_of_each_input(room):
+def connections_of_another_input(room):
     ports = [room.port(), room.port()]
     room.site({"hub": module() + imtcp(ports[0]) + imtcp(ports[1]) + omfile("audit", "audit.log")},
               f"entry hub {ports[0]}", "protect auth.* hub audit")
     relay = room.start("hub", *ports)
-    senders = served(room, ports[0], HANDS)
+    senders = served(room, ports[0], AT_ONCE)
     send_all(ports[1], [message("other")])
-    room.has("audit.log", HANDS + 1)
+    count = AT_ONCE + 1
+    room.has("audit.log", count)
     for it in senders:
         it.end()
-    relay.stops_with(totals(HANDS + 1, 0, 0, ("audit", HANDS + 1, HANDS + 1, 0, 0)))
+    relay.stops_with(totals(count, 0, 0, ("audit", count, count, 0, 0)))
 
 
 @test
-def all_hands_at_once(room):
+def all_at_once(room):
     relay, port = room.hub()
-    lists = [messages(500, connection=it, text="a" * it) for it in range(HANDS)]
+    lists = [messages(500, connection=it, text="a" * it) for it in range(AT_ONCE)]
     send_side_by_side(port, lists)
-    count = 500 * HANDS
+    count = 500 * AT_ONCE
     room.has("audit.log", count)
     relay.stops_with(totals(count, 0, 0, ("audit", count, count, 0, 0)))
     lines = room.lines("audit.log")
@@ -118,8 +82,7 @@ def reset_at_once(room):
     room.holds("audit.log", messages(5))
     relay.rests(port)
     same("totals", relay.stop(), totals(5, 0, 0, ("audit", 5, 5, 0, 0)))
-    # (where the relay is slower than they come, more are open at once than there are hands)
-    same("faults", set(relay.faults()) <= {f"syc: 71 Read at {port}", f"syc: 73 Hands at {port}"}, True)
+    same("faults", set(relay.faults()) <= {f"syc: 71 Read at {port}"}, True)
 
 
 @test

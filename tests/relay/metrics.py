@@ -10,6 +10,7 @@ import urllib.error
 import urllib.request
 
 from control import asked, edge, printed
+from crowd import document
 from marks import stuck
 from peers import Pump, Receiver, Sender, frame, message, messages, send_all
 from room import Failure, LeftOut, imtcp, is_listening, main_queue, module, omfile, omfwd, same, test, totals, until
@@ -69,18 +70,6 @@ class Watched:
     def shows(self, name, value, **labels):
         """Waits until a number has this value."""
         until(f"{name} {labels} is {value}", lambda: self.number(name, **labels) == value, came=lambda: self.number(name, **labels))
-
-
-def document(relay):
-    """What it answers to `status json`."""
-    def lines():
-        return [it for it in relay.errors().splitlines(keepends=True) if it.startswith("{") and it.endswith("\n")]
-
-    before = len(lines())
-    relay.process.stdin.write(b"status json\n")
-    relay.process.stdin.flush()
-    until("the document comes", lambda: len(lines()) > before, came=relay.errors)
-    return json.loads(lines()[-1])
 
 
 def watched_hub(room, more="", words=()):

@@ -3,6 +3,7 @@
 import multiprocessing
 import os
 import random
+import re
 import shutil
 import signal
 import subprocess
@@ -24,7 +25,8 @@ def run_alone(test, program, folder, port, answer):
     signal.alarm(test.limit + 5)
     said = ""
     try:
-        test.body(Room(program, folder, port))
+        measured = test.body(Room(program, folder, port))
+        said = f"passed, {measured}" if measured else ""
     except LeftOut as reason:
         said = f"left out: {reason}"
     except Failure as failure:
@@ -74,7 +76,7 @@ class Running:
 def run_all(tests, program, jobs, name, first=FIRST_PORT, last=LAST_PORT):
     """Runs tests, some at once, on ports between two; answers how many passed and failed.
 
-    Each that failed or was left out is a line that begins with a name."""
+    Each that failed, was left out or measured something is a line that begins with a name."""
     counts = {"passed": 0, "failed": 0, "left out": 0}
     block = random.randrange((last - first) // PORTS)
     running, left = [], list(tests)
@@ -88,7 +90,7 @@ def run_all(tests, program, jobs, name, first=FIRST_PORT, last=LAST_PORT):
                 for it in [it for it in running if it.is_over()]:
                     running.remove(it)
                     said = it.end()
-                    counts[said.split(":")[0] or "passed"] += 1
+                    counts[re.split("[:,]", said)[0] or "passed"] += 1
                     if said:
                         print(f"{name}: {it.test.name}: {said}", flush=True)
         finally:

@@ -5,6 +5,7 @@ import socket
 import subprocess
 import threading
 
+from crowd import held_now
 from peers import PAUSE, Pump, Receiver, Sender, frame, message, messages, places, send_all
 from room import Failure, Relay, imtcp, main_queue, module, omfile, omfwd, same, test, totals, until
 
@@ -270,9 +271,10 @@ def while_a_receiver_takes_no_connection(room):
 def while_senders_are_held(room):
     relay, port, _ = forwarding(room, size=10, fullDelayMark=5, dequeueBatchSize=1)
     senders = [Sender(port).send(*messages(50, connection=it)) for it in range(20)]
-    relay.rests(port)
-    # one in the worker, five in the queue, one in each hand
-    same("totals", stopped(room, relay, port), (26, 0, 26, 0, 0))
+    relay.rests()
+    # one in the worker, five in the queue, one in the hand of each reader
+    count = 6 + held_now(relay)
+    same("totals", stopped(room, relay, port), (count, 0, count, 0, 0))
     for it in senders:
         it.is_ended()
 
@@ -281,8 +283,10 @@ def while_senders_are_held(room):
 def while_messages_wait_for_room(room):
     relay, port, _ = forwarding(room, flow="off", size=10, dequeueBatchSize=1, timeoutEnqueue=2_147_483_647)
     senders = [Sender(port).send(*messages(50, connection=it)) for it in range(5)]
-    relay.rests(port)
-    same("totals", stopped(room, relay, port), (16, 0, 16, 0, 0))
+    relay.rests()
+    # one in the worker, ten in the queue, one in the hand of each reader
+    count = 11 + held_now(relay)
+    same("totals", stopped(room, relay, port), (count, 0, count, 0, 0))
     for it in senders:
         it.is_ended()
 

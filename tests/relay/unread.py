@@ -4,9 +4,9 @@ import os
 import re
 
 from archives import lift, limited, with_a_small_disk
+from crowd import document
 from rotation import answer, asks
 from faults import MESSAGE_FAULTS
-from metrics import document
 from peers import Sender, frame, frames, message, messages, send_all, split
 from room import imtcp, module, omfile, same, test, totals, until
 from statuses import refuses

@@ -4,7 +4,7 @@ import os
 import re
 
 from archives import lift, limited
-from metrics import document
+from crowd import document
 from peers import Sender, frame, message, messages, send_all
 from room import module, omfile, same, test, totals, until
 from rotation import answer, asks
