@@ -232,24 +232,28 @@ def come_and_go(port, first, count):
     same("senders that failed", failures, [])
 
 
+ROUND, TURNS = 512, 8  # KiB that the connections of a turn may leave, and how many turns there are at most
+
+
 @test(limit=240)
 def thousands_that_come_and_go(room):
     """Connections that are opened, used and closed by thousands leave no descriptor, no thread and no memory."""
     relay, port = room.hub()
-    before, each = left_at_first(room, relay, port), 2_000
-    for turn in range(2):
+    before, each, turns, grown = left_at_first(room, relay, port), 2_000, 0, ROUND + 1
+    # (the first of them fill what each reader keeps for later ones; what connections leave behind, those of each turn do)
+    while turns < 2 or grown > ROUND and turns < TURNS:
         memory = relay.status_field("VmRSS")
-        come_and_go(port, 1 + turn * each, each)
-        room.has("audit.log", 1 + (turn + 1) * each * 2)
+        come_and_go(port, 1 + turns * each, each)
+        turns += 1
+        room.has("audit.log", 1 + turns * each * 2)
         settles(relay, before)
         relay.rests(port)
-    grown = relay.status_field("VmRSS") - memory
-    # (the first of them fill what is kept for later ones)
-    if grown > 512:
-        raise Failure(f"{each} more connections left {grown} KiB more resident, after {memory}")
-    relay.stops_with(taken(1 + 4 * each))
+        grown = relay.status_field("VmRSS") - memory
+    if grown > ROUND:
+        raise Failure(f"{each} more connections left {grown} KiB more resident, after {memory}, also in turn {turns}")
+    relay.stops_with(taken(1 + 2 * turns * each))
     same("what is told", said(relay), [])
-    arrived(room, "audit.log", [[message("first")], *(messages(2, connection=it) for it in range(1, 1 + 2 * each))])
+    arrived(room, "audit.log", [[message("first")], *(messages(2, connection=it) for it in range(1, 1 + turns * each))])
     return f"{each} more connections left {grown} KiB more resident"
 
 
